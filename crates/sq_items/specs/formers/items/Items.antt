@@ -1,0 +1,50 @@
+-- A type may reach itself through `Items`: the element type is mapped by mapping each element of the list.
+use mathlib.Core.Path.{◌≡◌, refl, sym}
+use mathlib.Core.List.{List, []}
+use mathlib.Core.Former.{Former, this, list, via, children}
+use base.Stored.{code_map}
+use denote.RattleType.{RattleType}
+use denote.HoleLaws.{Alike}
+use denote.HolePlaces.{Recodes, struct_places, laid}
+use denote.Hole.Carrier.{listed, list-listed}
+use denote.Hole.Fix.{over}
+use denote.Param.Weighed.{Weighed, w_list}
+use denote.Model.Placed.{view_places}
+use Rattle.std.specs.formers.vec.Vec as vec
+use Rattle.std.specs.declared.alloc.Global.{Global}
+use Rattle.std.specs.contracts.alloc.Global as heap
+use Rattle.std.specs.contracts.impls.GlobalAllocator.TheImpl.{ghosts}
+use Rattle.sq_items.specs.declared.items.Items.TheInside.{Inside}
+use Rattle.sq_items.specs.declared.items.Items.TheView.{view, invariant}
+use Rattle.sq_items.specs.contracts.items.Items as contracts
+use Rattle.sq_items.specs.contracts.items.Items.TheInside as inside
+
+abbrev pub the_former : Former {0} → Former {0}
+the_former element = list element
+
+abbrev pub the_weighed : {element : Former {0}} → Weighed element → Weighed (the_former element)
+the_weighed weight = w_list weight
+
+pub the_empty : List ⊥
+the_empty = []
+
+abbrev pub the_items : (X : Type 0) → List X → List X
+the_items X xs = xs
+
+pub the_items_listed : (X : Type 0) (xs : List X) → listed _ (children (the_former this) X xs) ≡ the_items X xs
+the_items_listed X xs = list-listed X xs
+
+-- the struct's one field, a vector
+abbrev fields : Former {0}
+fields = via (vec.the_former this Global) Inside (λ X a. a.items) (λ X v. record { items = v }) (λ X a. refl) (λ X v. refl)
+
+module _ (R S : RattleType) (h : R.Denot → S.Denot) where
+  pub the_places : Alike R S h → Alike (contracts.the_row R) (contracts.the_row S) ((the_former this).map R.Denot S.Denot h)
+  the_places alike =
+      view_places fields (list this) view (λ X Y k u. refl) (λ X u. refl) R.Denot S.Denot h (contracts.the_row R).coded (contracts.the_row S).coded
+      (invariant R.Denot) (invariant S.Denot) (λ u p q. refl) (λ u p q. refl) (λ u e. tt) (λ u e. tt)
+      (over (inside.the_row R)) (over (inside.the_row S))
+      (struct_places (inside.the_type R) (inside.the_type S) (vec.mapped h, tt) _ (λ d. refl) refl (laid _ _ _ (vec.the_places heap.the_row ghosts R S h alike), tt))
+
+  pub the_codes_placed : Recodes R S h → Recodes (contracts.the_row R) (contracts.the_row S) ((the_former this).map R.Denot S.Denot h)
+  the_codes_placed recoded xs = sym (code_map R.coded.code S.coded.code h (λ x. sym (recoded x)) xs)
