@@ -1,0 +1,11 @@
+//! Values of SQL and their operations: exact numbers, texts, truths, domains, storing and retrieving, LIKE, set
+//! functions and keys (ISO/IEC 9075:1992, clauses 4, 6, 8 and 9).
+#![tactic(auto)]
+
+mod decimal;
+mod text;
+mod value;
+
+pub use decimal::Decimal;
+pub use text::Text;
+pub use value::{Row, Value, copy_row};
