@@ -1,0 +1,123 @@
+use crate::expr::{Expr, SetQuantifier};
+use crate::list::CommaList;
+use crate::names::{ColumnReference, TableName};
+use sq_items::{Boxed, Items};
+use sq_lex::Name;
+
+/// A comparison operator.
+#[derive(Clone, Copy, Debug, PartialEq, Eq)]
+pub enum Comparison {
+    Equal,
+    NotEqual,
+    Less,
+    Greater,
+    LessOrEqual,
+    GreaterOrEqual,
+}
+
+/// The word between a comparison operator and its subquery.
+#[derive(Clone, Copy, Debug, PartialEq, Eq)]
+pub enum Quantifier {
+    All,
+    Any,
+    Some,
+}
+
+/// A correlation name: `[ AS ] name`.
+#[derive(Clone, Copy)]
+pub struct Correlation {
+    /// Whether the word AS is written.
+    pub as_word: bool,
+    pub name: Name,
+}
+
+/// A table reference: `table [ [ AS ] name ]`.
+#[derive(Clone, Copy)]
+pub struct TableReference {
+    pub table: TableName,
+    pub correlation: Option<Correlation>,
+}
+
+/// A select list.
+#[derive(Drop)]
+pub enum SelectList {
+    /// `*`.
+    Star,
+    Items(CommaList<Expr>),
+}
+
+/// A search condition: AND lists, with OR between each two.
+#[cycle(cond)]
+#[derive(Drop)]
+pub struct Cond {
+    pub first: Conj,
+    pub rest: Items<Conj>,
+}
+
+/// An AND list: tests, with AND between each two.
+#[cycle(cond)]
+#[derive(Drop)]
+pub struct Conj {
+    pub first: Test,
+    pub rest: Items<Test>,
+}
+
+/// A test: `[ NOT ] body`.
+#[cycle(cond)]
+#[derive(Drop)]
+pub struct Test {
+    /// Whether NOT is written.
+    pub negated: bool,
+    pub body: Body,
+}
+
+/// A predicate, or a search condition in brackets.
+#[cycle(cond)]
+#[derive(Drop)]
+pub enum Body {
+    /// A predicate that begins with an expression, and what follows that expression.
+    Predicate(Expr, Tail),
+    /// `EXISTS "(" spec ")"`.
+    Exists(Boxed<QuerySpecification>),
+    /// `"(" cond ")"`.
+    Bracketed(Boxed<Cond>),
+}
+
+/// What follows the left expression of a predicate. A `bool` says whether NOT is written.
+#[cycle(cond)]
+#[derive(Drop)]
+pub enum Tail {
+    /// `op expr`.
+    Compare(Comparison, Expr),
+    /// `op [ ALL | ANY | SOME ] "(" spec ")"`.
+    CompareQuery(Comparison, Option<Quantifier>, Boxed<QuerySpecification>),
+    /// `[ NOT ] BETWEEN expr AND expr`.
+    Between(bool, Expr, Expr),
+    /// `[ NOT ] IN "(" spec ")"`.
+    InQuery(bool, Boxed<QuerySpecification>),
+    /// `[ NOT ] IN "(" expr { "," expr } ")"`.
+    InList(bool, CommaList<Expr>),
+    /// `[ NOT ] LIKE expr [ ESCAPE expr ]`.
+    Like(bool, Expr, Option<Expr>),
+    /// `IS [ NOT ] NULL`.
+    Null(bool),
+}
+
+/// A table expression: `FROM .. [ WHERE .. ] [ GROUP BY .. ] [ HAVING .. ]`.
+#[cycle(cond)]
+#[derive(Drop)]
+pub struct TableExpression {
+    pub from: CommaList<TableReference>,
+    pub where_clause: Option<Cond>,
+    pub group_by: Option<CommaList<ColumnReference>>,
+    pub having: Option<Cond>,
+}
+
+/// A query specification: `SELECT [ ALL | DISTINCT ] list table`.
+#[cycle(cond)]
+#[derive(Drop)]
+pub struct QuerySpecification {
+    pub quantifier: Option<SetQuantifier>,
+    pub list: SelectList,
+    pub table: TableExpression,
+}

@@ -1,0 +1,40 @@
+use crate::expr::SignedNumber;
+use crate::list::CommaList;
+use sq_items::Items;
+use sq_lex::Name;
+
+/// A script text: items, each with a semicolon behind it.
+#[derive(Drop)]
+pub struct ScriptText {
+    pub items: Items<ScriptItem>,
+}
+
+/// A script item.
+#[derive(Drop)]
+pub enum ScriptItem {
+    /// `CALL module "." procedure arguments`.
+    Call(Name, Name, Arguments),
+    /// `TABLE schema "." table`.
+    Table(Name, Name),
+}
+
+/// The arguments of a call.
+#[derive(Drop)]
+pub enum Arguments {
+    /// No brackets are written.
+    Unwritten,
+    /// `"(" ")"`.
+    Empty,
+    /// `"(" argument { "," argument } ")"`.
+    Listed(CommaList<Argument>),
+}
+
+/// An argument of a call.
+#[derive(Drop)]
+pub enum Argument {
+    Number(SignedNumber),
+    /// The characters of a text literal.
+    Text(Items<u8>),
+    /// `*`: null.
+    Null,
+}
