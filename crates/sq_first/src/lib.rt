@@ -1,0 +1,15 @@
+//! The trees of the small language that the first path takes, their token lists, and their reader.
+//!
+//! The small language is one table of INTEGER columns, one module of cursors over that table and of procedures that
+//! insert, open, fetch and close, and whole scripts. It goes away when the whole grammar is read.
+#![tactic(auto)]
+
+mod module_text;
+mod schema;
+mod script;
+
+pub use module_text::{
+    Cursor, FetchStatement, Module, Names, Parameter, Parameters, Part, Procedure, Statement,
+};
+pub use schema::{Column, Columns, IntegerSpelling, Schema, TableDefinition};
+pub use script::{Argument, Arguments, Call, Item, Script, Sign, TableItem};
