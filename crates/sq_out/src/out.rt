@@ -1,0 +1,29 @@
+ghost use Rattle.std.specs.Prelude.{◌≡◌, ◌≤◌, ◌<◌, List, ℕ, Bool, Option, true, length, IfOk, OnErr};
+ghost use Rattle.std.specs.Io.KnownBytes.{WriteAppends};
+
+use thiserror::Error;
+
+/// An output could not take what it was given.
+#[derive(Clone, Copy, Debug, PartialEq, Eq, Error)]
+#[error("output fault")]
+pub struct OutFault;
+
+/// Where a report goes.
+///
+/// Its meaning is the bytes taken so far, where they are known, and whether it has failed: by an error, of which an
+/// interrupted write is one too, or by taking 0 bytes of at least one.
+pub trait Out {
+    ghost taken: { Self → Option (List ℕ) };
+
+    ghost failed: { Self → Bool };
+
+    /// Takes the first of the bytes and says how many.
+    fn write(&mut self, bytes: &[u8]) -> Result<usize, OutFault>
+        ensures bound { IfOk result (λ n. n ≤ length bytes.now) }
+        ensures taken { WriteAppends (taken self.old) (taken self.new) result bytes.now }
+
+        // An error is a failure, and so is taking nothing of something. What goes on leaves `failed` as it was.
+        ensures fails { OnErr result (failed self.new ≡ true) }
+        ensures stalls { result ≡ Ok 0 → 0 < length bytes.now → failed self.new ≡ true }
+        ensures goes_on { IfOk result (λ n. 0 < n → failed self.new ≡ failed self.old) };
+}

@@ -1,0 +1,29 @@
+ghost use Rattle.std.specs.Prelude.{◌≡◌, ◌≤◌, ◌<◌, false, true, length, take, IfErr, OnErr, OnOk};
+ghost use Rattle.std.specs.Io.KnownBytes.{Appends};
+
+use crate::out::Out;
+
+/// Writes all bytes. An error says how many of them were taken.
+///
+/// It goes on only while bytes are taken.
+#[tactic(auto, using(crate::proofs::Bytes::appends_further, crate::proofs::Bytes::appends_kept, crate::proofs::Bytes::appends_none, crate::proofs::Bytes::appends_rest))]
+pub fn write_whole<W: Out>(out: &mut W, bytes: &[u8]) -> Result<(), usize>
+    requires { W.failed out.old ≡ false }
+
+    ensures ok { OnOk result (Appends (W.taken out.old) (W.taken out.new) bytes.now) }
+    ensures still { OnOk result (W.failed out.new ≡ false) }
+
+    // A fault comes with fewer bytes taken than there are, and the first of them.
+    ensures within { IfErr result (λ count. count < length bytes.now) }
+    ensures fault { IfErr result (λ count. Appends (W.taken out.old) (W.taken out.new) (take count bytes.now)) }
+    ensures failed { OnErr result (W.failed out.new ≡ true) }
+{
+    let mut taken = 0;
+    while taken < bytes.len() {
+        match out.write(&bytes[taken..]) {
+            Ok(0) | Err(_) => return Err(taken),
+            Ok(count) => taken += count,
+        }
+    }
+    Ok(())
+}
