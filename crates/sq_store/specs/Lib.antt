@@ -1,0 +1,3 @@
+pub mod Content
+pub mod Meter
+pub mod Rising

@@ -1,0 +1,29 @@
+ghost use Rattle.std.specs.Prelude.{◌≡◌};
+
+use sq_value::Row;
+use std::alloc::AllocError;
+use thiserror::Error;
+
+/// A change of a table.
+#[derive(Debug, Drop)]
+pub enum Change {
+    /// A new row, under the next number.
+    Insert(Row),
+}
+
+/// Why none of some changes was made.
+#[derive(Debug, Drop, Error)]
+pub enum ApplyFault {
+    #[error("want of memory")]
+    NoMemory,
+}
+
+impl From<AllocError> for ApplyFault {
+    ghost use Rattle.sq_store.specs.declared.change.ApplyFault.TheVariants.{NoMemory};
+
+    ghost from_gives = { λ _ fault. fault ≡ NoMemory };
+
+    fn from(_: AllocError) -> ApplyFault {
+        ApplyFault::NoMemory
+    }
+}
