@@ -1,2 +1,5 @@
 pub mod Number
 pub mod Text
+pub mod Arithmetic
+pub mod Domain
+pub mod Storing

@@ -1,5 +1,6 @@
 -- Texts (4.2). Their codes and their greatest length are own rules.
-use Rattle.std.specs.Prelude.{ℕ, List, length, ◌≤◌, All}
+use Rattle.std.specs.Prelude.{ℕ, List, ◌++◌, length, take, drop, replicate, ◌≤◌, ◌-◌, ◌==◌, All, Bool}
+use Rattle.std.specs.List.{list_all}
 
 -- a printable character of ASCII, the blank among them
 abbrev pub IsCode : ℕ → Type 0
@@ -7,3 +8,11 @@ IsCode c = (32 ≤ c) × (c ≤ 126)
 
 abbrev pub IsText : List ℕ → Type 0
 IsText codes = (length codes ≤ 240) × All IsCode codes
+
+-- a text of exactly n codes: cut, or padded with blanks
+abbrev pub of_length : ℕ → List ℕ → List ℕ
+of_length n t = take n t ++ replicate (n - length t) 32
+
+-- no other code than blanks stands past the first n
+abbrev pub only_blanks_past : ℕ → List ℕ → Bool
+only_blanks_past n t = list_all (λ c. c == 32) (drop n t)

@@ -1,5 +1,9 @@
-ghost use Rattle.std.specs.Prelude.{◌≡◌, ◌≤◌, ◌<◌, ◌^◌, unsigned_abs};
+ghost use Rattle.std.specs.Prelude.{◌≡◌, ◌≤◌, ◌<◌, ◌^◌, ◌+◌, ◌-◌, max, unsigned_abs};
+ghost use Rattle.sq_value.specs.Arithmetic.{added, subtracted, multiplied, divided, negated, compared, at_scale, truncated};
 
+use crate::fault::ArithmeticFault;
+use crate::wide::{in_digits, power_of_ten, quotient, raised};
+use std::cmp::Ordering;
 use std::marker::Model;
 
 /// An exact number: `unscaled` divided by ten to the power of `scale`.
@@ -23,6 +27,7 @@ impl Model for Decimal {
     ghost inverse = { λ n. record { unscaled = n.unscaled; scale = n.scale } };
 }
 
+#[tactic(auto, using(crate::proofs::Casts::casts))]
 impl Decimal {
     /// The number of this unscaled value and scale.
     pub fn new(unscaled: i64, scale: u8) -> Decimal
@@ -48,5 +53,83 @@ impl Decimal {
         ensures places { result ≤ 18 }
     {
         self.scale
+    }
+
+    /// The sum, whose scale is the greater one.
+    pub fn add(self, other: Decimal) -> Result<Decimal, ArithmeticFault>
+        ensures { result ≡ added self other }
+    {
+        let scale = self.scale.max(other.scale);
+        in_digits(self.at_scale(scale) + other.at_scale(scale), scale)
+    }
+
+    /// The difference, whose scale is the greater one.
+    pub fn sub(self, other: Decimal) -> Result<Decimal, ArithmeticFault>
+        ensures { result ≡ subtracted self other }
+    {
+        let scale = self.scale.max(other.scale);
+        in_digits(self.at_scale(scale) - other.at_scale(scale), scale)
+    }
+
+    /// The product, whose scale is the sum of both.
+    pub fn mul(self, other: Decimal) -> Result<Decimal, ArithmeticFault>
+        requires { self.scale + other.scale ≤ 18 }
+        ensures { result ≡ multiplied self other }
+    {
+        in_digits(
+            self.unscaled as i128 * other.unscaled as i128,
+            self.scale + other.scale,
+        )
+    }
+
+    /// The quotient, truncated toward zero, whose scale is the greater one.
+    pub fn div(self, other: Decimal) -> Result<Decimal, ArithmeticFault>
+        requires { max self.scale other.scale + other.scale - self.scale ≤ 18 }
+        ensures { result ≡ divided self other }
+    {
+        if other.unscaled == 0 {
+            return Err(ArithmeticFault::ZeroDivisor);
+        }
+        let scale = self.scale.max(other.scale);
+        let dividend = raised(self.unscaled, scale + other.scale - self.scale);
+        in_digits(quotient(dividend, other.unscaled as i128), scale)
+    }
+
+    /// The number with the other sign.
+    pub fn neg(self) -> Decimal
+        ensures { result ≡ negated self }
+    {
+        Decimal {
+            unscaled: -self.unscaled,
+            scale: self.scale,
+        }
+    }
+
+    /// The order by value, whatever the scales.
+    pub fn cmp(self, other: Decimal) -> Ordering
+        ensures { result ≡ compared self other }
+    {
+        raised(self.unscaled, other.scale).cmp(&raised(other.unscaled, self.scale))
+    }
+
+    /// The unscaled value at another scale, truncated toward zero.
+    pub(crate) fn truncated(self, scale: u8) -> i128
+        requires { scale ≤ 18 }
+        ensures { result ≡ (truncated scale self).unscaled }
+    {
+        quotient(
+            raised(self.unscaled, scale),
+            power_of_ten(self.scale) as i128,
+        )
+    }
+
+    /// The unscaled value at a scale that is no smaller.
+    fn at_scale(self, scale: u8) -> i128
+        requires least { self.scale ≤ scale }
+        requires places { scale ≤ 18 }
+        ensures value { result ≡ at_scale scale self }
+        ensures bound { unsigned_abs result < 10 ^ 36 }
+    {
+        raised(self.unscaled, scale - self.scale)
     }
 }

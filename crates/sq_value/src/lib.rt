@@ -3,9 +3,16 @@
 #![tactic(auto)]
 
 mod decimal;
+mod domain;
+mod fault;
+mod storing;
 mod text;
 mod value;
+mod wide;
 
 pub use decimal::Decimal;
+pub use domain::Domain;
+pub use fault::{ArithmeticFault, ReadFault, StoreFault};
+pub use storing::store;
 pub use text::Text;
 pub use value::{Row, Value, copy_row};

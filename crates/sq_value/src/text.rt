@@ -1,5 +1,6 @@
-ghost use Rattle.std.specs.Prelude.{◌≡◌, IfOk};
-ghost use Rattle.sq_value.specs.Text.{IsText};
+ghost use Rattle.std.specs.Prelude.{◌≡◌, ◌≤◌, IfOk, ◌==◌, take};
+ghost use Rattle.std.specs.List.{list_all};
+ghost use Rattle.sq_value.specs.Text.{IsText, of_length, only_blanks_past};
 
 use sq_items::Items;
 use std::alloc::{AllocError, Global};
@@ -47,4 +48,53 @@ impl Text {
     {
         Text::new(alloc, self.codes())
     }
+
+    /// Whether no other code than blanks stands past the first `length`.
+    pub(crate) fn has_only_blanks_past(&self, length: u16) -> bool
+        ensures { result ≡ only_blanks_past length self.now }
+    {
+        only_blanks_past(self.codes(), length as usize)
+    }
+
+    /// The first `length` codes, padded with blanks to that length.
+    pub(crate) fn of_length(&self, alloc: Global, length: u16) -> Result<Text, AllocError>
+        requires { length ≤ 240 }
+        ensures { IfOk result (λ text. text ≡ of_length length self.now) }
+    {
+        let length = length as usize;
+        let mut padded = Vec::from_slice(alloc, self.first(length))?;
+        padded.resize(length, b' ')?;
+        Ok(Text {
+            codes: Items::from_vec(padded),
+        })
+    }
+
+    /// At most the first `length` codes.
+    fn first(&self, length: usize) -> &[u8]
+        ensures value { result.now ≡ take length self.now }
+        ensures codes { IsText result.now }
+    {
+        let codes = self.codes();
+        &codes[..codes.len().min(length)]
+    }
+
+    /// The first `length` codes, or all where there are fewer.
+    pub(crate) fn cut(&self, alloc: Global, length: u16) -> Result<Text, AllocError>
+        ensures { IfOk result (λ text. text ≡ take length self.now) }
+    {
+        Text::new(alloc, self.first(length as usize))
+    }
+}
+
+/// Whether no other code than blanks stands past the first `length`.
+fn only_blanks_past(codes: &[u8], length: usize) -> bool
+    ensures { result ≡ only_blanks_past length codes.now }
+{
+    codes.len() <= length || only_blanks(&codes[length..])
+}
+
+fn only_blanks(codes: &[u8]) -> bool
+    ensures { result ≡ list_all (λ c. c == 32) codes.now }
+{
+    codes.iter().all(|code| *code == b' ')
 }
