@@ -1,0 +1,11 @@
+pub mod Tree
+pub mod List
+pub mod Names
+pub mod Expr
+pub mod Cond
+pub mod Query
+pub mod DataType
+pub mod Statement
+pub mod Module
+pub mod Schema
+pub mod Script

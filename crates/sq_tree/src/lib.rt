@@ -14,6 +14,7 @@ mod query;
 mod schema;
 mod script;
 mod statement;
+mod tree;
 
 pub use cond::{
     Body, Comparison, Cond, Conj, Correlation, Quantifier, QuerySpecification, SelectList,
@@ -41,3 +42,4 @@ pub use statement::{
     Assignment, Delete, Fetch, FetchFrom, Insert, InsertSource, NewValue, Orientation, Position,
     Select, Statement, Update, Where,
 };
+pub use tree::{Tree, depth, token_count, write_tokens};

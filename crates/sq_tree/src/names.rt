@@ -1,4 +1,8 @@
-use sq_lex::Name;
+ghost use Rattle.sq_tree.specs.Names as spec;
+
+use crate::tree::{Measure, Tree, Writer};
+use sq_lex::{Name, Symbol, Word};
+use std::alloc::AllocError;
 
 /// A table name: `[ schema "." ] table`.
 #[derive(Clone, Copy)]
@@ -27,4 +31,91 @@ pub struct Indicator {
     /// Whether the word INDICATOR is written.
     pub word: bool,
     pub name: Name,
+}
+
+impl Tree for Name {
+    ghost tokens = { spec.name_tokens };
+
+    ghost brackets = { λ _. 0 };
+
+    fn write(&self, out: &mut Writer) -> Result<(), AllocError> {
+        out.name(*self)
+    }
+
+    fn measure(&self) -> Measure {
+        Measure::plain(1)
+    }
+}
+
+impl Tree for TableName {
+    ghost tokens = { spec.table_name_tokens };
+
+    ghost brackets = { λ _. 0 };
+
+    fn write(&self, out: &mut Writer) -> Result<(), AllocError> {
+        if let Some(schema) = self.schema {
+            out.name(schema)?;
+            out.symbol(Symbol::Dot)?;
+        }
+        out.name(self.table)
+    }
+
+    fn measure(&self) -> Measure {
+        Measure::plain(if self.schema.is_some() { 3 } else { 1 })
+    }
+}
+
+impl Tree for ColumnReference {
+    ghost tokens = { spec.column_reference_tokens };
+
+    ghost brackets = { λ _. 0 };
+
+    fn write(&self, out: &mut Writer) -> Result<(), AllocError> {
+        if let Some(qualifier) = &self.qualifier {
+            qualifier.write(out)?;
+            out.symbol(Symbol::Dot)?;
+        }
+        out.name(self.column)
+    }
+
+    fn measure(&self) -> Measure {
+        match &self.qualifier {
+            Some(qualifier) => qualifier.measure().then(Measure::plain(2)),
+            None => Measure::plain(1),
+        }
+    }
+}
+
+impl Tree for Indicator {
+    ghost tokens = { spec.indicator_tokens };
+
+    ghost brackets = { λ _. 0 };
+
+    fn write(&self, out: &mut Writer) -> Result<(), AllocError> {
+        if self.word {
+            out.word(Word::Indicator)?;
+        }
+        out.symbol(Symbol::Colon)?;
+        out.name(self.name)
+    }
+
+    fn measure(&self) -> Measure {
+        Measure::plain(if self.word { 3 } else { 2 })
+    }
+}
+
+impl Tree for Parameter {
+    ghost tokens = { spec.parameter_tokens };
+
+    ghost brackets = { λ _. 0 };
+
+    fn write(&self, out: &mut Writer) -> Result<(), AllocError> {
+        out.symbol(Symbol::Colon)?;
+        out.name(self.name)?;
+        self.indicator.write(out)
+    }
+
+    fn measure(&self) -> Measure {
+        Measure::plain(2).then(self.indicator.measure())
+    }
 }

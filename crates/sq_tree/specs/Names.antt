@@ -1,0 +1,45 @@
+-- Names of tables, columns and parameters.
+use Rattle.std.specs.Prelude.{[], ◌∷◌, ◌++◌}
+use Rattle.sq_lex.specs.declared.lexeme.Lexeme.TheVariants as lexeme
+use Rattle.sq_lex.specs.declared.symbol.Symbol.TheVariants as symbol
+use Rattle.sq_lex.specs.declared.word.Word.TheVariants as word
+use Rattle.sq_lex.specs.declared.name.Name.{Name}
+use Rattle.sq_tree.specs.Tree.{Tokens, said, optional, bracketed}
+use Rattle.sq_tree.specs.List.{comma_tokens}
+use Rattle.sq_tree.specs.declared.list.CommaList.{CommaList}
+use Rattle.sq_tree.specs.declared.names.TableName.{TableName}
+use Rattle.sq_tree.specs.declared.names.ColumnReference.{ColumnReference}
+use Rattle.sq_tree.specs.declared.names.Parameter.{Parameter}
+use Rattle.sq_tree.specs.declared.names.Indicator.{Indicator}
+
+-- name
+abbrev pub name_tokens : Name → Tokens
+name_tokens name = lexeme.Name name ∷ []
+
+-- name "."
+abbrev pub name_dot : Name → Tokens
+name_dot name = lexeme.Name name ∷ lexeme.Symbol symbol.Dot ∷ []
+
+-- tname = [ name "." ] name
+abbrev pub table_name_tokens : TableName → Tokens
+table_name_tokens t = optional name_dot t.schema ++ name_tokens t.table
+
+-- tname "."
+abbrev pub qualifier_dot : TableName → Tokens
+qualifier_dot q = table_name_tokens q ++ lexeme.Symbol symbol.Dot ∷ []
+
+-- colref = [ tname "." ] name
+abbrev pub column_reference_tokens : ColumnReference → Tokens
+column_reference_tokens c = optional qualifier_dot c.qualifier ++ name_tokens c.column
+
+-- [ INDICATOR ] ":" name
+abbrev pub indicator_tokens : Indicator → Tokens
+indicator_tokens i = said i.word (lexeme.Word word.Indicator ∷ []) ++ lexeme.Symbol symbol.Colon ∷ lexeme.Name i.name ∷ []
+
+-- param = ":" name [ [ INDICATOR ] ":" name ]
+abbrev pub parameter_tokens : Parameter → Tokens
+parameter_tokens p = lexeme.Symbol symbol.Colon ∷ lexeme.Name p.name ∷ optional indicator_tokens p.indicator
+
+-- cols = "(" name { "," name } ")"
+abbrev pub columns_tokens : CommaList Name → Tokens
+columns_tokens names = bracketed (comma_tokens name_tokens names)
