@@ -1,0 +1,5 @@
+mod Turns
+mod Joined
+mod Starts
+mod ScriptWhole
+mod NextItem

@@ -4,12 +4,19 @@
 //! insert, open, fetch and close, and whole scripts. It goes away when the whole grammar is read.
 #![tactic(auto)]
 
+mod fault;
 mod module_text;
+mod placed;
 mod schema;
 mod script;
+mod script_reader;
+mod terminals;
 
+pub use fault::ReadFault;
 pub use module_text::{
     Cursor, FetchStatement, Module, Names, Parameter, Parameters, Part, Procedure, Statement,
 };
+pub use placed::Placed;
 pub use schema::{Column, Columns, IntegerSpelling, Schema, TableDefinition};
 pub use script::{Argument, Arguments, Call, Item, Script, Sign, TableItem};
+pub use script_reader::read_script;
