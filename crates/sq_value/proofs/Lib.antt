@@ -1,2 +1,4 @@
 pub mod Powers
 pub mod Casts
+pub mod Digits
+pub mod Points

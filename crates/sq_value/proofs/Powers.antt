@@ -1,5 +1,5 @@
 -- Powers of ten.
-use Rattle.std.proofs.Common.{ℕ, ◌≤◌, ◌<◌, ◌^◌, arith}
+use Rattle.std.proofs.Common.{ℕ, ◌≤◌, ◌^◌, arith}
 use Rattle.std.proofs.Math.Nat.{pow-le-pow_right, one-le-pow}
 
 pub power_of_ten_le : (k : ℕ) → k ≤ 18 → 10 ^ k ≤ 10 ^ 18

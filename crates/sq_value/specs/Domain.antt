@@ -1,6 +1,6 @@
 -- Domains of columns and parameters (ISO/IEC 9075:1992, 6.1). The greatest precision and length, and the ranges of
 -- SMALLINT and INTEGER, are own rules.
-use Rattle.std.specs.Prelude.{ℕ, ℤ, pos, negsuc, ◌≡◌, ◌≤◌, ◌<◌, ◌^◌, ◌≤ℤ◌, length, unsigned_abs, ⊤, List, Bool, true, false, IsTrue, IsFalse}
+use Rattle.std.specs.Prelude.{ℕ, pos, negsuc, ◌≡◌, ◌≤◌, ◌<◌, ◌^◌, ◌≤ℤ◌, length, unsigned_abs, ⊤, List, Bool, true, false, IsTrue, IsFalse}
 use Rattle.sq_value.specs.Number.{Number}
 use Rattle.sq_value.specs.declared.domain.Domain.{Domain}
 use Rattle.sq_value.specs.declared.domain.Domain.TheVariants.{Small, Int, Numeric, Char, VarChar}

@@ -3,3 +3,4 @@ pub mod Text
 pub mod Arithmetic
 pub mod Domain
 pub mod Storing
+pub mod Spelling

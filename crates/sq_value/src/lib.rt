@@ -5,6 +5,7 @@
 mod decimal;
 mod domain;
 mod fault;
+mod spelling;
 mod storing;
 mod text;
 mod value;
