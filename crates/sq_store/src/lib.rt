@@ -12,3 +12,6 @@ pub use list_store::ListStore;
 pub use meter::Meter;
 pub use store::{MOST_ROW_NUMBERS, Store};
 pub use table::{Numbered, Table};
+
+#[cfg(test)]
+mod tests;
