@@ -1,0 +1,2 @@
+mod LiteralLemmas
+mod ReadingLemmas

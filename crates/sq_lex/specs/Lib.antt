@@ -1,4 +1,11 @@
+pub mod Characters
+pub mod Literal
 pub mod Name
 pub mod Number
+pub mod Piece
+pub mod Place
+pub mod Reading
+pub mod Reserved
+pub mod Symbol
 pub mod Token
 pub mod Word

@@ -1,0 +1,63 @@
+-- A reading, piece by piece.
+use Rattle.std.proofs.Common.{◌≡◌, ℕ, zero, suc, ◌+◌, ◌-◌, ◌<◌, ◌≤◌, List, [], ◌∷◌, ◌++◌, length, take, drop, refl, ap, sym, subst, ◌∙◌, arith, append_assoc, Result, Ok, Err}
+use Rattle.sq_lex.specs.declared.fault.LexError.{LexError}
+use Rattle.sq_lex.specs.declared.fault.LexError.TheVariants.{NoMemory, Fault}
+use Rattle.sq_lex.specs.declared.fault.LexFault.{LexFault}
+use Rattle.sq_lex.specs.declared.fault.LexFaultKind.{LexFaultKind}
+use Rattle.sq_lex.specs.declared.lexeme.Lexeme.{Lexeme}
+use Rattle.sq_lex.specs.declared.piece.Piece.{Piece}
+use Rattle.sq_lex.specs.declared.piece.Piece.TheVariants as piece
+use Rattle.sq_lex.specs.declared.place.Place.{Place}
+use Rattle.sq_lex.specs.declared.token.Token.{Token}
+use Rattle.sq_lex.specs.Piece.{first_piece, IsWithin}
+use Rattle.sq_lex.specs.Place.{next, past}
+use Rattle.sq_lex.specs.Reading.{followed, token_at, fault_at, with_piece, tokens_from, IsCause}
+
+pub followed-nil : (rest : Result (List Token) LexFault) → followed [] rest ≡ rest
+followed-nil (Ok more) = refl
+followed-nil (Err fault) = refl
+
+followed_more : (tokens : List Token) (token : Token) (rest : Result (List Token) LexFault) → followed (tokens ++ token ∷ []) rest ≡ followed tokens (followed (token ∷ []) rest)
+followed_more tokens token (Ok more) = ap Ok (append_assoc tokens (token ∷ []) more)
+followed_more tokens token (Err fault) = refl
+
+-- a token that was read joins those before it
+pub followed_push : (old new : List Token) (token : Token) (whole rest : Result (List Token) LexFault) → new ≡ old ++ token ∷ [] → whole ≡ followed (token ∷ []) rest → followed new rest ≡ followed old whole
+followed_push old new token whole rest pushed read = ap (λ tokens. followed tokens rest) pushed ∙ followed_more old token rest ∙ ap (followed old) (sym read)
+
+-- a fault of what is left is the whole's
+pub IsCause-followed : (tokens : List Token) (rest whole : Result (List Token) LexFault) (error : LexError) → followed tokens rest ≡ whole → IsCause rest error → IsCause whole error
+IsCause-followed tokens rest whole NoMemory joined cause = tt {0}
+IsCause-followed tokens rest whole (Fault fault) joined cause = sym joined ∙ ap (followed tokens) cause
+
+-- after the bytes of a piece the reading goes on at the next place
+tokens_from-drop : (place : Place) (n : ℕ) (bytes : List ℕ) → tokens_from place n bytes ≡ tokens_from (past place (take n bytes)) 0 (drop n bytes)
+tokens_from-drop place zero bytes = refl
+tokens_from-drop place (suc n) [] = refl
+tokens_from-drop place (suc n) (b ∷ bytes) = tokens_from-drop (next place b) n bytes
+
+-- the same, where the piece has this first byte
+rest_of_piece : (place : Place) (size b : ℕ) (bytes : List ℕ) → 0 < size → tokens_from (next place b) (size - 1) bytes ≡ tokens_from (past place (take size (b ∷ bytes))) 0 (drop size (b ∷ bytes))
+rest_of_piece place zero b bytes some = absurd (omega arith)
+rest_of_piece place (suc n) b bytes some =
+    let less : suc n - 1 ≡ n = omega arith in
+    ap (λ k. tokens_from (next place b) k bytes) less ∙ tokens_from-drop (next place b) n bytes
+
+-- a reading by its first piece
+module _ (place : Place) where
+  with_first : (b : ℕ) (bytes : List ℕ) (p : Piece) → first_piece (b ∷ bytes) ≡ p → tokens_from place 0 (b ∷ bytes) ≡ with_piece place (b ∷ bytes) p (λ n. tokens_from (next place b) (n - 1) bytes)
+  with_first b bytes p is = ap (λ q. with_piece place (b ∷ bytes) q (λ n. tokens_from (next place b) (n - 1) bytes)) is
+
+  pub tokens_from-separator : (bytes : List ℕ) (p : Piece) (size : ℕ) → 0 < length bytes → p ≡ first_piece bytes → p ≡ piece.Separator size → IsWithin (length bytes) p → tokens_from place 0 bytes ≡ tokens_from (past place (take size bytes)) 0 (drop size bytes)
+  tokens_from-separator [] p size some first is within = absurd (omega arith)
+  tokens_from-separator (b ∷ bytes) p size some first is within =
+      with_first b bytes _ (sym first ∙ is) ∙ rest_of_piece place size b bytes (subst (IsWithin (length (b ∷ bytes))) is within).0
+
+  pub tokens_from-token : (bytes : List ℕ) (p : Piece) (size : ℕ) (lexeme : Lexeme) → 0 < length bytes → p ≡ first_piece bytes → p ≡ piece.Token size lexeme → IsWithin (length bytes) p → tokens_from place 0 bytes ≡ followed (token_at place size lexeme ∷ []) (tokens_from (past place (take size bytes)) 0 (drop size bytes))
+  tokens_from-token [] p size lexeme some first is within = absurd (omega arith)
+  tokens_from-token (b ∷ bytes) p size lexeme some first is within =
+      with_first b bytes _ (sym first ∙ is) ∙ ap (followed (token_at place size lexeme ∷ [])) (rest_of_piece place size b bytes (subst (IsWithin (length (b ∷ bytes))) is within).0)
+
+  pub tokens_from-fault : (bytes : List ℕ) (p : Piece) (at : ℕ) (kind : LexFaultKind) → 0 < length bytes → p ≡ first_piece bytes → p ≡ piece.Fault at kind → tokens_from place 0 bytes ≡ Err (fault_at (past place (take at bytes)) kind)
+  tokens_from-fault [] p at kind some first is = absurd (omega arith)
+  tokens_from-fault (b ∷ bytes) p at kind some first is = with_first b bytes _ (sym first ∙ is)

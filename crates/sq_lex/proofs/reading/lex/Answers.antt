@@ -1,0 +1,13 @@
+use Rattle.std.proofs.Common.{rules, arith}
+use Rattle.sq_lex.specs.Reading.{reading}
+use Rattle.sq_lex.proofs.ReadingLemmas.{followed-nil}
+use Rattle.sq_lex.proofs.reading.lex.Goals as goal
+
+pub loop-rest-init : goal.loop-rest-init
+unfolding reading
+loop-rest-init c = record {
+  whole = search (rules, followed-nil);
+  byte = search rules;
+  line = search rules;
+  column = search rules;
+}

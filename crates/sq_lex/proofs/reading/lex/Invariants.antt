@@ -1,0 +1,15 @@
+use Rattle.std.proofs.Common.{◌≡◌, ◌+◌, ◌≤◌, length}
+use Rattle.sq_lex.specs.Reading.{tokens_from, followed, reading}
+use Rattle.sq_lex.proofs.reading.lex.Given as goal
+
+-- the tokens so far and those of what is left are the reading
+abbrev pub invariant-loop-rest : goal.invariant-loop-rest
+invariant-loop-rest l = record {
+  whole : followed l.tokens.items (tokens_from l.place 0 l.rest) ≡ reading l.text;
+  byte : l.place.byte + length l.rest ≡ length l.text;
+  line : l.place.line ≤ l.place.byte + 1;
+  column : l.place.column ≤ l.place.byte + 1;
+}
+
+abbrev pub decreases-loop-rest : goal.decreases-loop-rest
+decreases-loop-rest l = length l.rest

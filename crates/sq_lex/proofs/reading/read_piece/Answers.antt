@@ -1,0 +1,17 @@
+use Rattle.std.proofs.Common.{Err, sym, ap, ◌∙◌}
+use Rattle.sq_lex.specs.Reading.{followed, fault_at}
+use Rattle.sq_lex.proofs.ReadingLemmas.{followed_push, tokens_from-separator, tokens_from-token, tokens_from-fault}
+use Rattle.sq_lex.proofs.reading.read_piece.Goals as goal
+
+pub returns-in-Separator-clause-read : goal.returns-in-Separator-clause-read
+returns-in-Separator-clause-read c =
+    ap (followed c.args.tokens.now.items) (sym (tokens_from-separator c.args.place c.args.rest.now _ _ c.requires.some c.in_ok-size.ensures.value c.in-Separator.is c.in_ok-size.ensures.within))
+
+pub returns-in_ok-push-in-Token-clause-read : goal.returns-in_ok-push-in-Token-clause-read
+returns-in_ok-push-in-Token-clause-read c =
+    followed_push _ _ _ _ _ c.in_ok-push-in-Token.ensures.items (tokens_from-token c.args.place c.args.rest.now _ _ _ c.requires.some c.in_ok-size.ensures.value c.in-Token.is c.in_ok-size.ensures.within)
+
+pub returns-in-Fault-clause-fault : goal.returns-in-Fault-clause-fault
+returns-in-Fault-clause-fault c =
+    tokens_from-fault c.args.place c.args.rest.now _ _ _ c.requires.some c.in_ok-size.ensures.value c.in-Fault.is
+    ∙ ap (λ place. Err (fault_at place c.in-Fault.kind)) (sym c.past-line.ensures.value)

@@ -1,0 +1,23 @@
+-- Kinds of characters (ISO/IEC 9075:1992, 5.1 <SQL terminal character>, here the bytes 32 to 126 with tab, LF and CR).
+use Rattle.std.specs.Prelude.{ℕ, Bool, ◌&&◌, ◌||◌, ◌==◌, nat_le}
+use Rattle.std.specs.Char.{is_ascii_digit, is_ascii_alphabetic}
+use Rattle.sq_lex.specs.declared.characters.Class.{Class}
+use Rattle.sq_lex.specs.declared.characters.Class.TheVariants as class
+
+-- blank, tab, CR and LF
+abbrev pub is_white : ℕ → Bool
+is_white b = b == 32 || b == 9 || b == 13 || b == 10
+
+-- CR and LF
+abbrev pub is_line_end : ℕ → Bool
+is_line_end b = b == 13 || b == 10
+
+-- what may stand in a text literal
+abbrev pub is_printable : ℕ → Bool
+is_printable b = nat_le 32 b && nat_le b 126
+
+-- a word goes on with letters, digits and `_`; a comment may also have tabs and CR
+abbrev pub has : Class → ℕ → Bool
+has class.Word b = is_ascii_alphabetic b || is_ascii_digit b || b == 95
+has class.Digit b = is_ascii_digit b
+has class.Comment b = is_printable b || b == 9 || b == 13

@@ -1,0 +1,32 @@
+-- Text literals (ISO/IEC 9075:1992, 5.3 <character string literal>), from the byte after the opening quote on.
+use Rattle.std.specs.Prelude.{ℕ, ◌+◌, ◌<◌, ◌≤◌, List, [], ◌∷◌, if◌then◌else◌, ◌==◌}
+use Rattle.sq_lex.specs.declared.literal.Literal.{Literal}
+use Rattle.sq_lex.specs.declared.literal.Literal.TheVariants.{Closed, Open, BadByte}
+use Rattle.sq_lex.specs.Characters.{is_line_end, is_printable}
+
+-- a character that is spelled by so many bytes, before the rest of a literal
+abbrev pub with_character : ℕ → ℕ → Literal → Literal
+with_character character spelled (Closed characters size) = Closed (character ∷ characters) (spelled + size)
+with_character character spelled Open = Open
+with_character character spelled (BadByte at) = BadByte (spelled + at)
+
+abbrev mutual
+  -- the characters up to the closing quote, and how many bytes they take with it; no line ends in a literal
+  pub literal : List ℕ → Literal
+  literal [] = Open
+  literal (b ∷ bytes) =
+      if b == 39 then after_quote bytes
+      else (if is_line_end b then Open
+      else (if is_printable b then with_character b 1 (literal bytes)
+      else BadByte 0))
+
+  -- after a quote: a second one makes both a character, else the first one closes
+  pub after_quote : List ℕ → Literal
+  after_quote [] = Closed [] 1
+  after_quote (b ∷ bytes) = if b == 39 then with_character 39 2 (literal bytes) else Closed [] 1
+
+-- a literal ends within so many bytes
+abbrev pub IsWithin : ℕ → Literal → Type 0
+IsWithin n (Closed characters size) = (0 < size) × (size ≤ n)
+IsWithin n Open = Unit {0}
+IsWithin n (BadByte at) = at < n

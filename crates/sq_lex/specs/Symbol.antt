@@ -1,0 +1,29 @@
+-- The symbols and their spellings (ISO/IEC 9075:1992, 5.1 and 5.2, of which these are in the language).
+use Rattle.std.specs.Prelude.{ℕ, Option, Some, None, if◌then◌else◌, ◌==◌}
+use Rattle.sq_lex.specs.declared.symbol.Symbol.{Symbol}
+use Rattle.sq_lex.specs.declared.symbol.Symbol.TheVariants as symbol
+
+-- `<>` `<=` `>=`
+abbrev pub symbol_of_two : ℕ → ℕ → Option Symbol
+symbol_of_two a b =
+    if a == 60 then (if b == 62 then Some symbol.NotEqual else (if b == 61 then Some symbol.LessOrEqual else None))
+    else (if a == 62 then (if b == 61 then Some symbol.GreaterOrEqual else None)
+    else None)
+
+-- `(` `)` `,` `;` `.` `:` `*` `+` `-` `/` `=` `<` `>`
+abbrev pub symbol_of_one : ℕ → Option Symbol
+symbol_of_one a =
+    if a == 40 then Some symbol.Open
+    else (if a == 41 then Some symbol.Close
+    else (if a == 44 then Some symbol.Comma
+    else (if a == 59 then Some symbol.Semicolon
+    else (if a == 46 then Some symbol.Dot
+    else (if a == 58 then Some symbol.Colon
+    else (if a == 42 then Some symbol.Star
+    else (if a == 43 then Some symbol.Plus
+    else (if a == 45 then Some symbol.Minus
+    else (if a == 47 then Some symbol.Slash
+    else (if a == 61 then Some symbol.Equal
+    else (if a == 60 then Some symbol.Less
+    else (if a == 62 then Some symbol.Greater
+    else None))))))))))))
