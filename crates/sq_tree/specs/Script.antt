@@ -41,7 +41,8 @@ script_tokens s = row_tokens ended_item_tokens s.items
 
 abbrev pub arguments_depth : Arguments → ℕ
 arguments_depth Unwritten = 0
-arguments_depth _ = 1
+arguments_depth Empty = 1
+arguments_depth (Listed arguments) = 1
 
 abbrev pub script_item_depth : ScriptItem → ℕ
 script_item_depth (Call «module» procedure arguments) = arguments_depth arguments
