@@ -290,7 +290,7 @@ impl Tree for Test {
     #[cycle(measure_cond)]
     #[tactic(auto, using(crate::proofs::CondLaws::cond_tokens_levels, crate::proofs::CondLaws::cond_depth_levels, crate::proofs::Steps::measuring, std::proofs::lemmas::Grind::common_steps))]
     fn measure(&self) -> Measure {
-        Measure::plain(self.negated as usize).then(self.body.measure())
+        measure_not(self.negated).then(self.body.measure())
     }
 }
 
@@ -399,18 +399,18 @@ impl Tree for Tail {
             Tail::CompareQuery(_, quantifier, query) => Measure::plain(1)
                 .then(quantifier.measure())
                 .then(query.get().measure().bracketed()),
-            Tail::Between(negated, low, high) => Measure::plain(*negated as usize)
+            Tail::Between(negated, low, high) => measure_not(*negated)
                 .then(Measure::plain(2))
                 .then(low.measure())
                 .then(high.measure()),
-            Tail::InQuery(negated, query) => Measure::plain(*negated as usize)
+            Tail::InQuery(negated, query) => measure_not(*negated)
                 .then(Measure::plain(1))
                 .then(query.get().measure().bracketed()),
-            Tail::InList(negated, values) => Measure::plain(*negated as usize)
+            Tail::InList(negated, values) => measure_not(*negated)
                 .then(Measure::plain(1))
                 .then(values.measure().bracketed()),
             Tail::Like(negated, pattern, escape) => {
-                let front = Measure::plain(*negated as usize)
+                let front = measure_not(*negated)
                     .then(Measure::plain(1))
                     .then(pattern.measure());
                 match escape {
@@ -418,7 +418,7 @@ impl Tree for Tail {
                     None => front,
                 }
             }
-            Tail::Null(negated) => Measure::plain(*negated as usize).then(Measure::plain(2)),
+            Tail::Null(negated) => measure_not(*negated).then(Measure::plain(2)),
         }
     }
 }
@@ -481,6 +481,14 @@ fn write_not(negated: bool, out: &mut Writer) -> Result<(), AllocError>
         out.word(Word::Not)?;
     }
     Ok(())
+}
+
+/// The measure of NOT, where it is written.
+fn measure_not(negated: bool) -> Measure
+    ensures tokens { result.tokens ≡ length (spec.not_tokens negated) }
+    ensures depth { result.depth ≡ 0 }
+{
+    Measure::plain(if negated { 1 } else { 0 })
 }
 
 /// Writes a word and the condition behind it, where there is one.

@@ -1,4 +1,4 @@
-use Rattle.std.proofs.Common.{◌≡◌, ℕ, ◌+◌, ◌-◌, ◌^◌, min, max, map, length, take}
+use Rattle.std.proofs.Common.{◌≡◌, ◌+◌, ◌-◌, ◌^◌, min, max, map, length, take}
 use Rattle.std.specs.List.{flat_map}
 use Rattle.sq_tree.specs.Tree.{greatest}
 use Rattle.sq_tree.specs.Expr.{term_tokens, added_tokens, factor_tokens, scaled_tokens, term_depth, added_depth, factor_depth, scaled_depth}

@@ -1,4 +1,4 @@
-use Rattle.std.proofs.Common.{◌≡◌, ℕ, ◌+◌, ◌-◌, ◌^◌, min, max, map, length, take}
+use Rattle.std.proofs.Common.{◌≡◌, ◌+◌, ◌-◌, ◌^◌, min, max, map, length, take}
 use Rattle.std.specs.List.{flat_map}
 use Rattle.sq_tree.specs.Tree.{greatest}
 use Rattle.sq_tree.specs.Query.{query_term_tokens, union_term_tokens, query_term_depth, union_term_depth}
