@@ -1,8 +1,8 @@
 -- The steps by which lists of tokens and depths are joined.
-use Rattle.std.proofs.Common.{◌≡◌, ℕ, max, map, List, [], ◌∷◌, ◌++◌, refl, append_assoc, append-nil, take_all, arith, length-append}
+use Rattle.std.proofs.Common.{◌≡◌, ℕ, max, map, length, Bool, true, false, List, [], ◌∷◌, ◌++◌, refl, append_assoc, append-nil, take_all, arith, length-append}
 use Rattle.std.proofs.lemmas.List.Concat.{length-flat_map}
 use Rattle.std.proofs.lemmas.List.Folds.{length-flat_map-take}
-use Rattle.sq_tree.specs.Tree.{greatest}
+use Rattle.sq_tree.specs.Tree.{Tokens, said, count_if, greatest}
 
 pub greatest-append : (xs ys : List ℕ) → greatest (xs ++ ys) ≡ max (greatest xs) (greatest ys)
 greatest-append [] ys = omega arith
@@ -13,6 +13,10 @@ pub greatest-none : {A : Type 0} (xs : List A) → greatest (map (λ x. 0) xs) �
 greatest-none [] = refl
 greatest-none (x ∷ xs) = let ih = greatest-none xs in omega (arith, ih)
 
+pub length-said : (written : Bool) (ts : Tokens) → length (said written ts) ≡ count_if written (length ts)
+length-said true ts = refl
+length-said false ts = refl
+
 pub ruleset writing = (append_assoc, append-nil, take_all)
 
-pub ruleset measuring = (writing, greatest-append, greatest-none, length-append, length-flat_map, length-flat_map-take)
+pub ruleset measuring = (writing, greatest-append, greatest-none, length-append, length-flat_map, length-flat_map-take, length-said)

@@ -87,11 +87,14 @@ abbrev pub declarations_depth : Declarations → ℕ
 declarations_depth (Bracketed declarations) = comma_depth declaration_depth declarations + 1
 declarations_depth (Bare first rest) = max (declaration_depth first) (row_depth bare_declaration_depth rest)
 
+abbrev pub cursor_depth : Cursor → ℕ
+cursor_depth c = query_depth c.query
+
 abbrev pub procedure_depth : Procedure → ℕ
 procedure_depth p = max (declarations_depth p.declarations) (statement_depth p.statement)
 
 abbrev pub module_item_depth : ModuleItem → ℕ
-module_item_depth (item.Cursor cursor) = query_depth cursor.query
+module_item_depth (item.Cursor cursor) = cursor_depth cursor
 module_item_depth (item.Procedure procedure) = procedure_depth procedure
 
 abbrev pub module_depth : ModuleText → ℕ

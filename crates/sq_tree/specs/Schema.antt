@@ -9,6 +9,7 @@ use Rattle.sq_tree.specs.Names.{table_name_tokens, columns_tokens}
 use Rattle.sq_tree.specs.Expr.{signed_number_tokens}
 use Rattle.sq_tree.specs.DataType.{data_type_tokens, data_type_depth, bracket_depth}
 use Rattle.sq_tree.specs.Cond.{cond_tokens, cond_depth, query_specification_tokens, query_specification_depth}
+use Rattle.sq_tree.specs.declared.cond.Cond.{Cond}
 use Rattle.sq_tree.specs.declared.schema.SchemaText.{SchemaText}
 use Rattle.sq_tree.specs.declared.schema.SchemaDefinition.{SchemaDefinition}
 use Rattle.sq_tree.specs.declared.schema.SchemaElement.{SchemaElement}
@@ -51,13 +52,17 @@ default_tokens default.Null = lexeme.Word word.Null ∷ []
 abbrev pub default_clause_tokens : DefaultValue → Tokens
 default_clause_tokens value = lexeme.Word word.Default ∷ default_tokens value
 
+-- CHECK "(" cond ")"
+abbrev pub check_tokens : Cond → Tokens
+check_tokens cond = lexeme.Word word.Check ∷ bracketed (cond_tokens cond)
+
 -- colcon = NOT NULL | UNIQUE | PRIMARY KEY | ref | CHECK "(" cond ")"
 abbrev pub column_constraint_tokens : ColumnConstraint → Tokens
 column_constraint_tokens constraint.NotNull = lexeme.Word word.Not ∷ lexeme.Word word.Null ∷ []
 column_constraint_tokens constraint.Unique = lexeme.Word word.Unique ∷ []
 column_constraint_tokens constraint.PrimaryKey = lexeme.Word word.Primary ∷ lexeme.Word word.Key ∷ []
 column_constraint_tokens (constraint.References references) = references_tokens references
-column_constraint_tokens (constraint.Check cond) = lexeme.Word word.Check ∷ bracketed (cond_tokens cond)
+column_constraint_tokens (constraint.Check cond) = check_tokens cond
 
 -- column = name type [ DEFAULT default ] { colcon }
 abbrev pub column_definition_tokens : ColumnDefinition → Tokens
@@ -69,7 +74,7 @@ table_element_tokens (element.Column column) = column_definition_tokens column
 table_element_tokens (element.Unique columns) = lexeme.Word word.Unique ∷ columns_tokens columns
 table_element_tokens (element.PrimaryKey columns) = lexeme.Word word.Primary ∷ lexeme.Word word.Key ∷ columns_tokens columns
 table_element_tokens (element.ForeignKey key) = foreign_key_tokens key
-table_element_tokens (element.Check cond) = lexeme.Word word.Check ∷ bracketed (cond_tokens cond)
+table_element_tokens (element.Check cond) = check_tokens cond
 
 -- table = CREATE TABLE tname "(" item { "," item } ")"
 abbrev pub table_definition_tokens : TableDefinition → Tokens
@@ -118,6 +123,9 @@ schema_tokens s = schema_definition_tokens s.first ++ row_tokens schema_definiti
 abbrev pub references_depth : References → ℕ
 references_depth r = bracket_depth r.columns
 
+abbrev pub foreign_key_depth : ForeignKey → ℕ
+foreign_key_depth f = 1
+
 abbrev pub column_constraint_depth : ColumnConstraint → ℕ
 column_constraint_depth (constraint.References references) = references_depth references
 column_constraint_depth (constraint.Check cond) = cond_depth cond + 1
@@ -128,8 +136,10 @@ column_definition_depth c = max (data_type_depth c.data_type) (row_depth column_
 
 abbrev pub table_element_depth : TableElement → ℕ
 table_element_depth (element.Column column) = column_definition_depth column
+table_element_depth (element.Unique columns) = 1
+table_element_depth (element.PrimaryKey columns) = 1
+table_element_depth (element.ForeignKey key) = foreign_key_depth key
 table_element_depth (element.Check cond) = cond_depth cond + 1
-table_element_depth _ = 1
 
 abbrev pub table_definition_depth : TableDefinition → ℕ
 table_definition_depth t = comma_depth table_element_depth t.elements + 1
@@ -146,10 +156,13 @@ abbrev pub privileges_depth : Privileges → ℕ
 privileges_depth privileges.All = 0
 privileges_depth (privileges.Actions actions) = comma_depth action_depth actions
 
+abbrev pub grant_depth : GrantStatement → ℕ
+grant_depth g = privileges_depth g.privileges
+
 abbrev pub schema_element_depth : SchemaElement → ℕ
 schema_element_depth (Table table) = table_definition_depth table
 schema_element_depth (View view) = view_definition_depth view
-schema_element_depth (Grant grant) = privileges_depth grant.privileges
+schema_element_depth (Grant grant) = grant_depth grant
 
 abbrev pub schema_definition_depth : SchemaDefinition → ℕ
 schema_definition_depth s = row_depth schema_element_depth s.elements

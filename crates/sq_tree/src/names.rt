@@ -1,5 +1,9 @@
+ghost use Rattle.std.specs.Prelude.{◌≡◌, ◌++◌, min, length, OnOk};
+ghost use Rattle.sq_tree.specs.Tree.{optional};
+ghost use Rattle.sq_tree.specs.DataType.{bracket_depth};
 ghost use Rattle.sq_tree.specs.Names as spec;
 
+use crate::list::CommaList;
 use crate::tree::{Measure, Tree, Writer};
 use sq_lex::{Name, Symbol, Word};
 use std::alloc::AllocError;
@@ -117,5 +121,47 @@ impl Tree for Parameter {
 
     fn measure(&self) -> Measure {
         Measure::plain(2).then(self.indicator.measure())
+    }
+}
+
+/// Writes a list of columns in brackets.
+pub fn write_columns(columns: &CommaList<Name>, out: &mut Writer) -> Result<(), AllocError>
+    ensures { OnOk result (out.new.lexemes ≡ out.old.lexemes ++ spec.columns_tokens columns.now) }
+{
+    out.symbol(Symbol::Open)?;
+    columns.write(out)?;
+    out.symbol(Symbol::Close)
+}
+
+/// The measure of a list of columns in brackets.
+#[tactic(auto, using(crate::proofs::Steps::measuring, std::proofs::lemmas::Grind::common_steps))]
+pub fn measure_columns(columns: &CommaList<Name>) -> Measure
+    ensures tokens { result.tokens ≡ min (length (spec.columns_tokens columns.now)) usize.MAX }
+    ensures depth { result.depth ≡ 1 }
+{
+    columns.measure().bracketed()
+}
+
+/// Writes a list of columns in brackets, where there is one.
+pub fn write_some_columns(
+    columns: &Option<CommaList<Name>>,
+    out: &mut Writer,
+) -> Result<(), AllocError>
+    ensures { OnOk result (out.new.lexemes ≡ out.old.lexemes ++ optional spec.columns_tokens columns.now) }
+{
+    match columns {
+        Some(columns) => write_columns(columns, out),
+        None => Ok(()),
+    }
+}
+
+/// The measure of a list of columns in brackets, where there is one.
+pub fn measure_some_columns(columns: &Option<CommaList<Name>>) -> Measure
+    ensures tokens { result.tokens ≡ min (length (optional spec.columns_tokens columns.now)) usize.MAX }
+    ensures depth { result.depth ≡ bracket_depth columns.now }
+{
+    match columns {
+        Some(columns) => measure_columns(columns),
+        None => Measure::plain(0),
     }
 }

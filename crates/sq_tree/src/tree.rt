@@ -1,5 +1,5 @@
 ghost use Rattle.std.specs.Prelude.{◌≡◌, ◌≤◌, ◌+◌, ◌++◌, ◌∷◌, [], ℕ, min, max, length, map, IfOk, OnOk};
-ghost use Rattle.sq_tree.specs.Tree.{Tokens};
+ghost use Rattle.sq_tree.specs.Tree.{Tokens, said, count_if};
 ghost use Rattle.sq_lex.specs.declared.lexeme.Lexeme.TheVariants as lexeme;
 
 use sq_items::Items;
@@ -89,6 +89,26 @@ impl Writer {
         Ok(())
     }
 
+    /// Writes some reserved words, where they are written.
+    pub fn words_if(&mut self, written: bool, words: &[Word]) -> Result<(), AllocError>
+        ensures { OnOk result (self.new.lexemes ≡ self.old.lexemes ++ said written (map lexeme.Word words.now)) }
+    {
+        if written {
+            self.words(words)?;
+        }
+        Ok(())
+    }
+
+    /// Writes a symbol, where it is written.
+    pub fn symbol_if(&mut self, written: bool, symbol: Symbol) -> Result<(), AllocError>
+        ensures { OnOk result (self.new.lexemes ≡ self.old.lexemes ++ said written (lexeme.Symbol symbol ∷ [])) }
+    {
+        if written {
+            self.symbol(symbol)?;
+        }
+        Ok(())
+    }
+
     /// Writes a name.
     pub fn name(&mut self, name: Name) -> Result<(), AllocError>
         ensures { OnOk result (self.new.lexemes ≡ self.old.lexemes ++ lexeme.Name name ∷ []) }
@@ -133,6 +153,14 @@ impl Measure {
         ensures depth { result.depth ≡ 0 }
     {
         Measure { tokens, depth: 0 }
+    }
+
+    /// The measure of tokens that are no brackets, where they are written.
+    pub fn plain_if(written: bool, tokens: usize) -> Measure
+        ensures tokens { result.tokens ≡ count_if written tokens }
+        ensures depth { result.depth ≡ 0 }
+    {
+        Measure::plain(if written { tokens } else { 0 })
     }
 
     /// The measure of two parts, one behind the other.
