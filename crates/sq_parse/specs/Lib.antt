@@ -1,0 +1,4 @@
+pub mod Expr
+pub mod Names
+pub mod Nests
+pub mod Reading

@@ -1,0 +1,7 @@
+//! The parser: from the tokens of a text to its tree.
+#![tactic(auto)]
+
+mod expr;
+mod names;
+mod reader;
+mod stop;
