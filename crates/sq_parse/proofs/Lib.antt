@@ -1,1 +1,4 @@
 pub mod Many
+pub mod NamesSound
+pub mod Places
+pub mod Spells

@@ -4,4 +4,5 @@
 mod expr;
 mod names;
 mod reader;
+mod script;
 mod stop;
