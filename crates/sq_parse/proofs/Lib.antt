@@ -1,4 +1,6 @@
+pub mod Cut
 pub mod Many
 pub mod NamesSound
 pub mod Places
+pub mod ScriptSound
 pub mod Spells

@@ -1,9 +1,9 @@
 -- Reading items again and again.
-use Rattle.std.proofs.Common.{◌≡◌, ℕ, zero, suc, ◌+◌, ◌-◌, ◌<◌, Bool, true, false, cond, List, [], ◌∷◌, ◌++◌, length, Option, Some, None, Result, Ok, Err, nat_lt, refl, sym, ◌∙◌, ap, arith, append_assoc, append-nil, add-one}
+use Rattle.std.proofs.Common.{◌≡◌, ℕ, zero, suc, ◌+◌, ◌-◌, ◌<◌, Bool, true, false, cond, List, [], ◌∷◌, ◌++◌, length, Option, Some, None, Ok, Err, nat_lt, refl, sym, ◌∙◌, ap, arith, append_assoc, append-nil, add-one}
 use Rattle.std.proofs.lemmas.Bool.{ltb-true, lt-ltb}
 use Rattle.sq_parse.specs.Reading.{Tokens}
 use Rattle.sq_lex.specs.declared.lexeme.Lexeme.{Lexeme}
-use Rattle.sq_parse.specs.Reading.{Parser, Outcome, and_then, turn, many, all, with_front, behind, eat, comma, listed}
+use Rattle.sq_parse.specs.Reading.{Parser, Outcome, turn, many, all, with_front, behind, eat, comma, listed}
 
 cond-same : {A : Type 0} (b : Bool) (x y z : A) → (b ≡ true → x ≡ y) → cond b x z ≡ cond b y z
 cond-same true x y z h = h refl
@@ -50,8 +50,6 @@ front-err item xs ts r e read h = sym read ∙ ap (with_front xs) (all-err item 
 
 pub front-some : {A : Type 0} (item : Parser (Option A)) (xs : List A) (ts : Tokens) (r : Outcome (List A)) (x : A) (rest : Tokens) → with_front xs (all item ts) ≡ r → item ts ≡ Ok (Some x, rest) → length rest < length ts → with_front (xs ++ x ∷ []) (all item rest) ≡ r
 front-some item xs ts r x rest read h less = sym (with_front-front xs (x ∷ []) (all item rest)) ∙ ap (with_front xs) (sym (all-some item ts x rest h less)) ∙ read
-
-
 
 -- A loop that ends since the token before the next item does not come.
 pub all_ends : {A : Type 0} (token : Lexeme) (item : Parser A) (xs : List A) (now after : Tokens) (found : Bool) (r : Outcome (List A)) → with_front xs (all (behind token item) now) ≡ r → eat token now ≡ Ok (found, after) → found ≡ false → r ≡ Ok (xs, after)

@@ -1,5 +1,5 @@
 -- A word or a symbol is the one that has its place in the table.
-use Rattle.std.proofs.Common.{◌≡◌, ℕ, Bool, true, false, List, [], ◌∷◌, nat_eq, get_or, refl, sym, ◌∙◌, ap, cond}
+use Rattle.std.proofs.Common.{◌≡◌, true, List, [], ◌∷◌, get_or, refl, sym, ◌∙◌, ap}
 use Rattle.std.proofs.lemmas.Bool.{eqb-true}
 use Rattle.sq_lex.specs.declared.lexeme.Lexeme.{Lexeme}
 use Rattle.sq_lex.specs.declared.lexeme.Lexeme.TheVariants as lexeme

@@ -1,5 +1,5 @@
 -- What a parser has read is spelled by the tokens that it took, and opens no more brackets at once than it may.
-use Rattle.std.proofs.Common.{◌≡◌, ℕ, zero, suc, ◌+◌, ◌<◌, ◌≤◌, max, Bool, true, false, cond, List, [], ◌∷◌, ◌++◌, length, map, Option, Some, None, Result, Ok, Err, nat_lt, nat_eq, refl, sym, ◌∙◌, ap, subst, arith, append_assoc, append-nil, length-append}
+use Rattle.std.proofs.Common.{◌≡◌, ℕ, zero, suc, ◌+◌, ◌≤◌, max, Bool, true, false, cond, List, [], ◌∷◌, ◌++◌, length, map, Option, Some, None, Result, Ok, Err, nat_lt, nat_eq, refl, sym, ◌∙◌, ap, subst, arith, append_assoc, append-nil}
 use Rattle.std.specs.List.{flat_map}
 use Rattle.std.specs.Prelude.{◌⊎◌}
 use Rattle.std.proofs.Common.{inl, inr}
@@ -11,8 +11,7 @@ use Rattle.sq_lex.specs.declared.number.Number.{Number}
 use Rattle.sq_tree.specs.Tree.{optional, optional_depth, greatest, said}
 use Rattle.sq_tree.specs.List.{comma_tokens, comma_depth, comma_then}
 use Rattle.sq_tree.specs.Names.{name_tokens}
-use Rattle.sq_tree.specs.declared.list.CommaList.{CommaList}
-use Rattle.sq_parse.specs.Reading.{Tokens, Outcome, Parser, ◌>>=◌, and_then, pure, stuck, eat, expect, opened, sees, rest, is_token, one_of, one_if_any, first_of, taken, taken_if_any, name_of, number_of, text_of, name, number, behind, comma, listed, all, many, turn, with_front}
+use Rattle.sq_parse.specs.Reading.{Tokens, Outcome, Parser, ◌>>=◌, and_then, pure, stuck, eat, expect, opened, sees, rest, one_of, one_if_any, first_of, taken, taken_if_any, name_of, number_of, text_of, name, number, behind, comma, listed, all, many, turn, with_front, end_of, whole}
 use Rattle.sq_parse.proofs.Places.{is_token-is}
 
 -- text stands before the rest, with d for its depth
@@ -48,11 +47,11 @@ module _ {A : Type 0} {text : A → Tokens} {depth : A → ℕ} {left : ℕ} whe
   pub built : (x : A) (done : Tokens) (d : ℕ) → text x ≡ done → (d ≤ left → depth x ≤ left) → After done d left (pure x) text depth
   built x done d is fits = record {
     spells = λ ts y rest h e.
-      let p = ok_pair x y ts rest e in
-      record {
-        text_is = ap (λ ts'. ts' ++ ts) (sym is) ∙ ap (λ z. text z ++ ts) p.0 ∙ ap (λ r. text y ++ r) p.1;
-        shallow = subst (λ z. depth z ≤ left) p.0 (fits h);
-      };
+        let p = ok_pair x y ts rest e in
+        record {
+          text_is = ap (λ ts'. ts' ++ ts) (sym is) ∙ ap (λ z. text z ++ ts) p.0 ∙ ap (λ r. text y ++ r) p.1;
+          shallow = subst (λ z. depth z ≤ left) p.0 (fits h);
+        };
   }
 
   -- nothing is read
@@ -63,14 +62,14 @@ module _ {A : Type 0} {text : A → Tokens} {depth : A → ℕ} {left : ℕ} whe
   pub andthen : {B : Type 0} {part : B → Tokens} {deep : B → ℕ} (q : Parser B) (f : B → Parser A) {done : Tokens} {d : ℕ} → Sound q part deep left → ((x : B) → After (done ++ part x) (max d (deep x)) left (f x) text depth) → After done d left (q >>= f) text depth
   andthen {part = part} {deep = deep} q f {done = done} {d = d} s next = record {
     spells = λ ts y rest h e.
-      let b = bind_ok (q ts) f y rest e in
-      let here = s.spells ts b.0 b.1 b.2 in
-      let i = here.shallow in
-      let r = (next b.0).spells b.1 y rest (omega arith) b.3 in
-      record {
-        text_is = ap (λ us. done ++ us) here.text_is ∙ sym (append_assoc done (part b.0) b.1) ∙ r.text_is;
-        shallow = r.shallow;
-      };
+        let b = bind_ok (q ts) f y rest e in
+        let here = s.spells ts b.0 b.1 b.2 in
+        let i = here.shallow in
+        let r = (next b.0).spells b.1 y rest (omega arith) b.3 in
+        record {
+          text_is = ap (λ us. done ++ us) here.text_is ∙ sym (append_assoc done (part b.0) b.1) ∙ r.text_is;
+          shallow = r.shallow;
+        };
   }
 
 chosen : {A : Type 0} (b : Bool) (x y z : A) → cond b x y ≡ z → ((b ≡ true) × (x ≡ z)) ⊎ ((b ≡ false) × (y ≡ z))
@@ -254,3 +253,24 @@ maybe {B = B} {text = text} {depth = depth} {left = left} {part = part} {deep = 
     by : (o : Option B) → After (done ++ optional part o) (max d (deep o)) left (f o) text depth
     by None = record { spells = λ ts x rest h e. subst (λ us. Spells (us ++ ts) (text x) (depth x) left rest) (sym (append-nil done)) (none.spells ts x rest h e) }
     by (Some x) = some x
+
+-- a parser that goes on behind what is read, and then the others
+pub following : {A B : Type 0} {text : A → Tokens} {depth : A → ℕ} {left : ℕ} {part : B → Tokens} {deep : B → ℕ} (q : Parser B) (f : B → Parser A) {done : Tokens} {d : ℕ} → After done d left q part deep → ((x : B) → After (part x) (deep x) left (f x) text depth) → After done d left (q >>= f) text depth
+following q f a next = record {
+  spells = λ ts y rest h e.
+      let b = bind_ok (q ts) f y rest e in
+      let here = a.spells ts b.0 b.1 h b.2 in
+      let r = (next b.0).spells b.1 y rest here.shallow b.3 in
+      record { text_is = here.text_is ∙ r.text_is; shallow = r.shallow };
+}
+
+-- all of a text
+pub whole_is : {A : Type 0} {text : A → Tokens} {depth : A → ℕ} {left : ℕ} (p : Parser A) → Sound p text depth left → (ts : Tokens) (x : A) (rest : Tokens) → whole p ts ≡ Ok (x, rest) → (ts ≡ text x) × (depth x ≤ left)
+whole_is {A = A} {text = text} {depth = depth} {left = left} p s ts x rest e = by (bind_ok (p ts) end_of x rest e)
+  where
+    by : (y : A) × (after : Tokens) × (p ts ≡ Ok (y, after)) × (end_of y after ≡ Ok (x, rest)) → (ts ≡ text x) × (depth x ≤ left)
+    by (y, [], read, ended) =
+        let here = s.spells ts y [] read in
+        let p = ok_pair y x [] rest ended in
+        (here.text_is ∙ append-nil (text y) ∙ ap text p.0, subst (λ z. depth z ≤ left) p.0 here.shallow)
+    by (y, t ∷ after, read, ended) = cc

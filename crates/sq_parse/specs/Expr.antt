@@ -1,5 +1,5 @@
 -- Value expressions and set functions (ISO/IEC 9075:1992, 6.3, 6.5 and 6.11 to 6.13).
-use Rattle.std.specs.Prelude.{ℕ, zero, suc, Bool, true, false, List, [], ◌∷◌, Option, Some, None, if◌then◌else◌}
+use Rattle.std.specs.Prelude.{ℕ, zero, suc, Bool, true, false, List, [], ◌∷◌, Option, Some, None}
 use Rattle.sq_lex.specs.declared.lexeme.Lexeme.{Lexeme}
 use Rattle.sq_lex.specs.declared.lexeme.Lexeme.TheVariants as lexeme
 use Rattle.sq_lex.specs.declared.symbol.Symbol.TheVariants as symbol
@@ -20,7 +20,7 @@ use Rattle.sq_tree.specs.declared.expr.Term.{Term, roll-Term}
 use Rattle.sq_tree.specs.declared.expr.Factor.{Factor}
 use Rattle.sq_tree.specs.declared.expr.Added.{Added, roll-Added}
 use Rattle.sq_tree.specs.declared.expr.Scaled.{Scaled}
-use Rattle.sq_parse.specs.Reading.{Parser, ◌>>=◌, ◌>>◌, pure, stuck, and_then, eat, eat_symbol, eat_word, expect_symbol, opened, one_if_any, name_of, number_of, text_of, token_if_any, all}
+use Rattle.sq_parse.specs.Reading.{Parser, ◌>>=◌, ◌>>◌, pure, stuck, eat_symbol, eat_word, expect_symbol, opened, one_if_any, name_of, number_of, text_of, token_if_any, all}
 use Rattle.sq_parse.specs.Names.{sign_if_any, column_from, parameter_from}
 
 -- "*" | "/"

@@ -1,5 +1,5 @@
 -- Names of tables and columns, parameters and signed numbers (ISO/IEC 9075:1992, 5.4, 6.2 and 6.4).
-use Rattle.std.specs.Prelude.{ℕ, Bool, true, false, Option, Some, None, [], ◌∷◌, if◌then◌else◌}
+use Rattle.std.specs.Prelude.{Bool, true, false, Option, Some, None, [], ◌∷◌}
 use Rattle.sq_lex.specs.declared.lexeme.Lexeme.{Lexeme}
 use Rattle.sq_lex.specs.declared.lexeme.Lexeme.TheVariants as lexeme
 use Rattle.sq_lex.specs.declared.symbol.Symbol.TheVariants as symbol
@@ -13,7 +13,7 @@ use Rattle.sq_tree.specs.declared.names.Indicator.{Indicator}
 use Rattle.sq_tree.specs.declared.expr.Sign.{Sign}
 use Rattle.sq_tree.specs.declared.expr.Sign.TheVariants.{Plus, Minus}
 use Rattle.sq_tree.specs.declared.expr.SignedNumber.{SignedNumber}
-use Rattle.sq_parse.specs.Reading.{Parser, ◌>>=◌, ◌>>◌, pure, and_then, eat, eat_symbol, eat_word, expect_symbol, token_if_any, name, number, behind, listed, Tokens}
+use Rattle.sq_parse.specs.Reading.{Parser, ◌>>=◌, ◌>>◌, pure, eat_symbol, eat_word, expect_symbol, token_if_any, name, number, behind, listed}
 
 abbrev pub dot : Lexeme
 dot = lexeme.Symbol symbol.Dot
@@ -52,22 +52,21 @@ column_from first = do
 unfoldable pub column_reference : Parser ColumnReference
 column_reference = name >>= column_from
 
-abbrev pub colon_name : Parser Name
-colon_name = expect_symbol symbol.Colon >> name
+-- ":" name, whose colon is read already
+abbrev pub some_indicator : Bool → Parser (Option Indicator)
+some_indicator written = name >>= λ n. pure (Some (record { word = written; name = n }))
 
-abbrev pub some_indicator : Bool → Parser Name → Parser (Option Indicator)
-some_indicator written p = p >>= λ n. pure (Some (record { word = written; name = n }))
+abbrev pub by_colon : Bool → Parser (Option Indicator)
+by_colon true = some_indicator false
+by_colon false = pure None
 
-abbrev pub unworded_indicator : Parser (Option Indicator)
-unworded_indicator = do
-  found ← eat_symbol symbol.Colon
-  if found then some_indicator false name else pure None
+abbrev pub by_word : Bool → Parser (Option Indicator)
+by_word true = expect_symbol symbol.Colon >> some_indicator true
+by_word false = eat_symbol symbol.Colon >>= by_colon
 
 -- [ [ INDICATOR ] ":" name ]
 unfoldable pub indicator : Parser (Option Indicator)
-indicator = do
-  written ← eat_word word.Indicator
-  if written then some_indicator true colon_name else unworded_indicator
+indicator = eat_word word.Indicator >>= by_word
 
 -- param = ":" name [ [ INDICATOR ] ":" name ], whose colon is read already
 unfoldable pub parameter_from : Parser Parameter

@@ -6,7 +6,6 @@ use Rattle.sq_lex.specs.declared.lexeme.Lexeme.TheVariants as lexeme
 use Rattle.sq_lex.specs.declared.symbol.Symbol.{Symbol}
 use Rattle.sq_lex.specs.declared.symbol.Symbol.TheVariants as symbol
 use Rattle.sq_lex.specs.declared.word.Word.{Word}
-use Rattle.sq_lex.specs.declared.word.Word.TheVariants as word
 use Rattle.sq_lex.specs.declared.name.Name.{Name}
 use Rattle.sq_lex.specs.declared.number.Number.{Number}
 use Rattle.sq_lex.specs.Word.{same_word}
@@ -197,10 +196,14 @@ listed item = do
   rest ← all (behind comma item)
   pure (record { first = first; rest = rest })
 
--- the text ends here
+-- nothing may come next
 abbrev pub end_of : {A : Type 0} → A → Parser A
 end_of x [] = Ok (x, [])
 end_of x (t ∷ ts) = Err (length ts + 1)
+
+-- all of a text
+abbrev pub whole : {A : Type 0} → Parser A → Parser A
+whole p = p >>= end_of
 
 -- ---- what a function that reads ensures: the outcome, unless memory ran out
 

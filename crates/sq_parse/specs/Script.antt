@@ -1,5 +1,5 @@
 -- Script texts (own rule).
-use Rattle.std.specs.Prelude.{ℕ, Bool, true, false, List, [], ◌∷◌, Option, Some, None, Ok, Err, if◌then◌else◌, codes}
+use Rattle.std.specs.Prelude.{ℕ, Bool, true, false, List, Option, Some, None, if◌then◌else◌, codes}
 use Rattle.std.specs.Cmp.Lexicographic.{pointwise}
 use Rattle.std.specs.Prelude.{nat_eq}
 use Rattle.sq_lex.specs.declared.lexeme.Lexeme.{Lexeme}
@@ -7,7 +7,6 @@ use Rattle.sq_lex.specs.declared.lexeme.Lexeme.TheVariants as lexeme
 use Rattle.sq_lex.specs.declared.symbol.Symbol.TheVariants as symbol
 use Rattle.sq_lex.specs.declared.word.Word.TheVariants as word
 use Rattle.sq_lex.specs.declared.name.Name.{Name}
-use Rattle.sq_tree.specs.declared.list.CommaList.{CommaList}
 use Rattle.sq_tree.specs.declared.script.ScriptText.{ScriptText}
 use Rattle.sq_tree.specs.declared.script.ScriptItem.{ScriptItem}
 use Rattle.sq_tree.specs.declared.script.ScriptItem.TheVariants.{Call, Table}
@@ -15,7 +14,7 @@ use Rattle.sq_tree.specs.declared.script.Arguments.{Arguments}
 use Rattle.sq_tree.specs.declared.script.Arguments.TheVariants.{Unwritten, Empty, Listed}
 use Rattle.sq_tree.specs.declared.script.Argument.{Argument}
 use Rattle.sq_tree.specs.declared.script.Argument.TheVariants as value
-use Rattle.sq_parse.specs.Reading.{Parser, Tokens, ◌>>=◌, ◌>>◌, pure, stuck, and_then, eat, eat_symbol, eat_word, expect_symbol, one_if_any, text_of, name, listed, all, end_of, first_of, rest}
+use Rattle.sq_parse.specs.Reading.{Parser, ◌>>=◌, ◌>>◌, pure, eat_symbol, eat_word, expect_symbol, one_if_any, text_of, name, listed, all}
 use Rattle.sq_parse.specs.Names.{signed_number}
 
 abbrev pub by_text : Option (List ℕ) → Parser Argument
@@ -83,4 +82,4 @@ item = eat_word word.Table >>= by_table
 unfoldable pub script_text : Parser ScriptText
 script_text = do
   items ← all item
-  end_of (record { items = items })
+  pure (record { items = items })

@@ -1,7 +1,7 @@
 //! Script texts.
 
 ghost use Rattle.std.specs.Prelude.{◌≡◌, ◌<◌, ◌≤◌, length, IfOk, OnOk, OnSome};
-ghost use Rattle.sq_parse.specs.Reading.{Reads, all, behind, comma, one_if_any};
+ghost use Rattle.sq_parse.specs.Reading.{Reads, all, behind, comma, one_if_any, whole};
 ghost use Rattle.sq_parse.specs.Script as spec;
 
 use crate::names::signed_number;
@@ -125,7 +125,7 @@ fn items(alloc: Global, tokens: &mut Reader<'_>) -> Result<Items<ScriptItem>, St
 
 #[tactic(auto, unfolding(crate::specs::Script::script_text))]
 pub fn script_text(alloc: Global, tokens: &mut Reader<'_>) -> Result<ScriptText, Stop>
-    ensures { Reads (spec.script_text tokens.old) result tokens.new }
+    ensures { Reads (whole spec.script_text tokens.old) result tokens.new }
 {
     let items = items(alloc, tokens)?;
     tokens.end(ScriptText { items })

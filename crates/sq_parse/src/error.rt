@@ -1,0 +1,74 @@
+//! Why a text has no tree.
+
+ghost use Rattle.std.specs.Prelude.{◌≡◌, ◌+◌, ◌≤◌, length, nat_eq};
+ghost use Rattle.sq_lex.specs.Token.{lexemes};
+ghost use Rattle.sq_parse.specs.Refusal as spec;
+
+use crate::reader::Reader;
+use crate::stop::Stop;
+use sq_lex::{Lexeme, Symbol, Token};
+use thiserror::Error;
+
+/// Why a text has no tree. A token is named by its place in the text's list of tokens, from 0.
+#[derive(Clone, Copy, Debug, PartialEq, Eq, Error)]
+pub enum ParseError {
+    /// Memory ran out.
+    #[error("out of memory")]
+    NoMemory,
+    /// The first token that no text of the grammar has after those before it.
+    #[error("token {0} is unexpected")]
+    Unexpected(usize),
+    /// An opening bracket before which 32 round brackets are open.
+    #[error("token {0} opens too many brackets")]
+    TooDeep(usize),
+    /// The tokens end where no text of the grammar does.
+    #[error("the text ends too early")]
+    EndOfText,
+}
+
+/// How many round brackets may be open at once.
+pub const MAX_DEPTH: usize = 32;
+
+/// How many brackets the tokens leave open.
+fn open_brackets(tokens: &[Token]) -> usize
+    ensures value { result ≡ spec.open_brackets (lexemes tokens.now) }
+    ensures short { result ≤ length tokens.now }
+{
+    let mut open: usize = 0;
+    for token in tokens {
+        match &token.lexeme {
+            Lexeme::Symbol(Symbol::Open) => open += 1,
+            Lexeme::Symbol(Symbol::Close) => open = open.saturating_sub(1),
+            _ => {}
+        }
+    }
+    open
+}
+
+/// Whether the token at this place is an opening bracket before which 32 are open.
+fn is_too_deep(tokens: &[Token], place: usize) -> bool
+    requires { place ≤ length tokens.now }
+    ensures { result ≡ spec.is_too_deep (lexemes tokens.now) place }
+{
+    let opens = Reader::new(&tokens[place..]).sees(Symbol::Open);
+    let open = open_brackets(&tokens[..place]);
+    opens && open == MAX_DEPTH
+}
+
+/// The refusal at a stop.
+pub fn refusal(tokens: &[Token], stop: Stop) -> ParseError
+    ensures { spec.IsRefusal (lexemes tokens.now) result }
+{
+    let Stop::Unfit(left) = stop else {
+        return ParseError::NoMemory;
+    };
+    let place = tokens.len().saturating_sub(left);
+    if place == tokens.len() {
+        return ParseError::EndOfText;
+    }
+    if is_too_deep(tokens, place) {
+        ParseError::TooDeep(place)
+    } else {
+        ParseError::Unexpected(place)
+    }
+}
