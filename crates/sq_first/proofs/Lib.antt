@@ -2,4 +2,8 @@ mod Turns
 mod Joined
 mod Starts
 mod ScriptWhole
-mod NextItem
+mod NextPart
+mod Lists
+mod SameWord
+mod SchemaWhole
+mod ModuleWhole

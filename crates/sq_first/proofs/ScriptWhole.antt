@@ -13,10 +13,11 @@ use Rattle.sq_first.specs.declared.script.Sign.TheVariants.{Plus, Minus}
 use Rattle.sq_first.specs.Schema.{comma}
 use Rattle.sq_first.specs.Script.{argument_tokens, arguments_tokens, item_tokens, ended_item_tokens}
 use Rattle.sq_first.specs.Terminals.{symbol_at, name_at, number_at}
-use Rattle.sq_first.specs.Many.{Tokens, with_front, all}
+use Rattle.sq_first.specs.Many.{Tokens, with_front, all, after_comma, unless_ended}
 use Rattle.sq_first.specs.Fault.{IsNoScript}
-use Rattle.sq_first.specs.ScriptReader.{signed_at, argument_at, further_at, filled_at, bracketed_at, arguments_at, bracketed_by, call_at, table_at, item_at, ended_item_at, next_item_at}
+use Rattle.sq_first.specs.ScriptReader.{signed_at, argument_at, filled_at, bracketed_at, arguments_at, bracketed_by, call_at, table_at, item_at, ended_item_at}
 use Rattle.sq_first.proofs.Turns.{all-none, all-some}
+use Rattle.sq_first.proofs.Lists.{commas-read}
 
 argument-read : (a : Argument) (rest : Tokens) → argument_at (argument_tokens a ++ rest) ≡ Some (a, rest)
 unfolding argument_at signed_at number_at
@@ -38,20 +39,9 @@ argument-no_close (Text cs) rest = refl
 abbrev further : List Argument → Tokens
 further xs = flat_map (λ x. comma ++ argument_tokens x) xs
 
-further-one : (x : Argument) (rest : Tokens) → further_at (comma ++ argument_tokens x ++ rest) ≡ Some (Some (x, rest))
-unfolding further_at symbol_at
-further-one x rest = ap (λ r. Some r) (argument-read x rest)
-
-further-end : (rest : Tokens) → further_at (Symbol symbol.Close ∷ rest) ≡ None
-unfolding further_at symbol_at
-further-end rest = refl
-
-further-read : (xs : List Argument) (rest : Tokens) → all further_at (further xs ++ Symbol symbol.Close ∷ rest) ≡ Some (xs, Symbol symbol.Close ∷ rest)
-further-read [] rest = all-none further_at (Symbol symbol.Close ∷ rest) (further-end rest)
-further-read (x ∷ xs) rest =
-    let after : Tokens = further xs ++ Symbol symbol.Close ∷ rest in
-    let shorter : length after < length (comma ++ argument_tokens x ++ after) = simp length-append (omega arith) in
-    rw append_assoc (all-some further_at (comma ++ argument_tokens x ++ after) x after (further-one x after) shorter ∙ ap (with_front (x ∷ [])) (further-read xs rest))
+further-read : (xs : List Argument) (rest : Tokens) → all (after_comma argument_at) (further xs ++ Symbol symbol.Close ∷ rest) ≡ Some (xs, Symbol symbol.Close ∷ rest)
+unfolding symbol_at
+further-read xs rest = commas-read argument_at argument_tokens argument-read xs (Symbol symbol.Close ∷ rest) refl
 
 filled-read : (x : Argument) (xs : List Argument) (rest : Tokens) → filled_at (join_by argument_tokens comma (x ∷ xs) ++ Symbol symbol.Close ∷ rest) ≡ Some (Bracketed (x ∷ xs), rest)
 unfolding filled_at symbol_at
@@ -81,20 +71,20 @@ ended-read : (i : Item) (rest : Tokens) → ended_item_at (ended_item_tokens i +
 unfolding ended_item_at symbol_at
 ended-read i rest = rw (append_assoc, item-read) refl
 
-next-read : (i : Item) (rest : Tokens) → next_item_at (ended_item_tokens i ++ rest) ≡ Some (Some (i, rest))
+next-read : (i : Item) (rest : Tokens) → unless_ended ended_item_at (ended_item_tokens i ++ rest) ≡ Some (Some (i, rest))
 next-read (item.Call c) rest = ap (λ r. Some r) (ended-read (item.Call c) rest)
 next-read (item.Table t) rest = ap (λ r. Some r) (ended-read (item.Table t) rest)
 
 ended-longer : (i : Item) (rest : Tokens) → length rest < length (ended_item_tokens i ++ rest)
 ended-longer i rest = simp length-append (omega arith)
 
-script-read : (items : List Item) → all next_item_at (flat_map ended_item_tokens items) ≡ Some (items, [])
-script-read [] = all-none next_item_at [] refl
+script-read : (items : List Item) → all (unless_ended ended_item_at) (flat_map ended_item_tokens items) ≡ Some (items, [])
+script-read [] = all-none (unless_ended ended_item_at) [] refl
 script-read (i ∷ items) =
     let after : Tokens = flat_map ended_item_tokens items in
-    all-some next_item_at (ended_item_tokens i ++ after) i after (next-read i after) (ended-longer i after) ∙ ap (with_front (i ∷ [])) (script-read items)
+    all-some (unless_ended ended_item_at) (ended_item_tokens i ++ after) i after (next-read i after) (ended-longer i after) ∙ ap (with_front (i ∷ [])) (script-read items)
 
-pub no-script : (text : Tokens) → all next_item_at text ≡ None → IsNoScript text
+pub no-script : (text : Tokens) → all (unless_ended ended_item_at) text ≡ None → IsNoScript text
 no-script text none script e = let read = script-read script.items in cc
 
 pub ruleset wholes = (no-script)

@@ -2,8 +2,10 @@
 use Rattle.std.proofs.Common.{◌≡◌, ℕ, zero, suc, ◌+◌, ◌<◌, Bool, true, false, cond, List, [], ◌∷◌, ◌++◌, length, Option, Some, None, nat_lt, refl, sym, ◌∙◌, ap, arith, append_assoc, append-nil, add-one}
 use Rattle.std.proofs.lemmas.List.{length-map}
 use Rattle.std.proofs.lemmas.Bool.{ltb-true, lt-ltb}
-use Rattle.sq_first.specs.Terminals.{Read}
-use Rattle.sq_first.specs.Many.{Tokens, turn, many, all, with_front}
+use Rattle.sq_first.specs.Terminals.{Read, Fails}
+use Rattle.sq_first.specs.declared.fault.Stop.{Stop}
+use Rattle.sq_first.specs.declared.fault.Stop.TheVariants.{NoMemory, At}
+use Rattle.sq_first.specs.Many.{◌>>=◌, Tokens, turn, many, all, with_front}
 
 cond-same : {A : Type 0} (b : Bool) (x y z : A) → (b ≡ true → x ≡ y) → cond b x z ≡ cond b y z
 cond-same true x y z h = h refl
@@ -50,5 +52,10 @@ front-err item xs ts r read h = sym read ∙ ap (with_front xs) (all-err item ts
 
 pub front-some : {A : Type 0} (item : Tokens → Option (Read A)) (xs : List A) (ts : Tokens) (r : Read (List A)) (x : A) (rest : Tokens) → with_front xs (all item ts) ≡ r → item ts ≡ Some (Some (x, rest)) → length rest < length ts → with_front (xs ++ x ∷ []) (all item rest) ≡ r
 front-some item xs ts r x rest read h less = sym (with_front-front xs (x ∷ []) (all item rest)) ∙ ap (with_front xs) (sym (all-some item ts x rest h less)) ∙ read
+
+-- what is read from the start fails where its first part does
+pub fails-bind : {A B : Type 0} (stop : Stop) (read : Option A) (after : A → Option B) → Fails stop read → Fails stop (read >>= after)
+fails-bind NoMemory read after h = tt {0}
+fails-bind (At left) read after h = ap (λ r. r >>= after) h
 
 pub ruleset loops = (front-none, front-err, front-some, length-map)

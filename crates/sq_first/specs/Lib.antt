@@ -6,3 +6,6 @@ pub mod Many
 pub mod ScriptReader
 pub mod Placed
 pub mod Fault
+pub mod SchemaReader
+pub mod ModuleReader
+pub mod NotYet

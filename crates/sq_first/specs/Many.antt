@@ -1,7 +1,8 @@
 -- Reading an item again and again.
 use Rattle.std.specs.Prelude.{ℕ, zero, suc, ◌+◌, List, [], ◌∷◌, ◌++◌, length, Option, Some, None, nat_lt, if◌then◌else◌}
 use Rattle.sq_lex.specs.declared.lexeme.Lexeme.{Lexeme}
-use Rattle.sq_first.specs.Terminals.{Read}
+use Rattle.sq_lex.specs.declared.symbol.Symbol.TheVariants.{Comma}
+use Rattle.sq_first.specs.Terminals.{Read, symbol_at}
 
 abbrev pub Tokens : Type 0
 Tokens = List Lexeme
@@ -29,3 +30,16 @@ many (suc n) item ts = turn ts (many n item) (item ts)
 -- what `item` reads until none begins
 unfoldable pub all : {A : Type 0} → (Tokens → Option (Read A)) → Tokens → Read (List A)
 all item ts = many (length ts + 1) item ts
+
+abbrev pub after_comma_by : {A : Type 0} → (Tokens → Read A) → Option Tokens → Option (Read A)
+after_comma_by item None = None
+after_comma_by item (Some rest) = Some (item rest)
+
+-- an item after a comma
+unfoldable pub after_comma : {A : Type 0} → (Tokens → Read A) → Tokens → Option (Read A)
+after_comma item ts = after_comma_by item (symbol_at Comma ts)
+
+-- an item, where the text has not ended
+abbrev pub unless_ended : {A : Type 0} → (Tokens → Read A) → Tokens → Option (Read A)
+unless_ended item [] = None
+unless_ended item (t ∷ ts) = Some (item (t ∷ ts))

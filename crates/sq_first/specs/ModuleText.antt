@@ -26,19 +26,30 @@ names_of names = names.first ∷ names.rest
 abbrev pub parameters_of : Parameters → List Parameter
 parameters_of parameters = parameters.first ∷ parameters.rest
 
+abbrev pub column_tokens : name.Name → List Lexeme
+column_tokens name = Name name ∷ []
+
 -- column names between commas
 abbrev pub columns_tokens : Names → List Lexeme
-columns_tokens names = join_by (λ name. Name name ∷ []) comma (names_of names)
+columns_tokens names = join_by column_tokens comma (names_of names)
 
--- parameters of a statement between commas, each a colon and its name
+-- a parameter of a statement
+abbrev pub argument_tokens : name.Name → List Lexeme
+argument_tokens name = Symbol Colon ∷ Name name ∷ []
+
+-- parameters of a statement between commas
 abbrev pub arguments_tokens : Names → List Lexeme
-arguments_tokens names = join_by (λ name. Symbol Colon ∷ Name name ∷ []) comma (names_of names)
+arguments_tokens names = join_by argument_tokens comma (names_of names)
+
+-- the words between the name of a cursor and its column names
+abbrev pub select_tokens : List Lexeme
+select_tokens = Word word.Cursor ∷ Word word.For ∷ Word word.Select ∷ []
 
 -- the declaration of a cursor
 abbrev pub cursor_tokens : Cursor → List Lexeme
 cursor_tokens cursor =
-    Word word.Declare ∷ Name cursor.name ∷ Word word.Cursor ∷ Word word.For ∷ Word word.Select ∷ columns_tokens cursor.columns
-    ++ Word word.From ∷ Name cursor.table ∷ semicolon_tokens cursor.ended
+    Word word.Declare ∷ Name cursor.name ∷ select_tokens
+    ++ (columns_tokens cursor.columns ++ Word word.From ∷ Name cursor.table ∷ semicolon_tokens cursor.ended)
 
 abbrev pub parameter_tokens : Parameter → List Lexeme
 parameter_tokens parameter.Sqlcode = Word word.Sqlcode ∷ []
@@ -64,7 +75,7 @@ statement_tokens (statement.Close cursor) = Word word.Close ∷ Name cursor ∷ 
 abbrev pub procedure_tokens : Procedure → List Lexeme
 procedure_tokens procedure =
     Word word.Procedure ∷ Name procedure.name ∷ Symbol Open ∷ parameters_tokens procedure.parameters
-    ++ Symbol Close ∷ Symbol Semicolon ∷ statement_tokens procedure.statement ++ Symbol Semicolon ∷ []
+    ++ (Symbol Close ∷ Symbol Semicolon ∷ statement_tokens procedure.statement ++ Symbol Semicolon ∷ [])
 
 abbrev pub part_tokens : Part → List Lexeme
 part_tokens (part.Cursor cursor) = cursor_tokens cursor

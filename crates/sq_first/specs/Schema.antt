@@ -1,6 +1,7 @@
 -- The token list of a schema text of the small language (ISO/IEC 9075:1992, 11.1, 11.3 and 11.4, as far as it goes).
 use Rattle.std.specs.Prelude.{List, [], ◌∷◌, ◌++◌, Bool, true, false, Option, Some, None}
 use Rattle.std.specs.List.{join_by}
+use Rattle.sq_lex.specs.declared.name.Name as name
 use Rattle.sq_lex.specs.declared.lexeme.Lexeme.{Lexeme}
 use Rattle.sq_lex.specs.declared.lexeme.Lexeme.TheVariants.{Word, Name, Symbol}
 use Rattle.sq_lex.specs.declared.word.Word.TheVariants as word
@@ -40,5 +41,9 @@ abbrev pub optional_table_tokens : Option TableDefinition → List Lexeme
 optional_table_tokens None = []
 optional_table_tokens (Some table) = table_tokens table
 
+-- the tokens before the elements
+abbrev pub header_tokens : name.Name → List Lexeme
+header_tokens user = Word word.Create ∷ Word word.Schema ∷ Word word.Authorization ∷ Name user ∷ []
+
 abbrev pub schema_tokens : Schema → List Lexeme
-schema_tokens schema = Word word.Create ∷ Word word.Schema ∷ Word word.Authorization ∷ Name schema.user ∷ optional_table_tokens schema.table ++ semicolon_tokens schema.ended
+schema_tokens schema = header_tokens schema.user ++ (optional_table_tokens schema.table ++ semicolon_tokens schema.ended)

@@ -16,7 +16,7 @@ use Rattle.sq_first.specs.declared.script.Sign.{Sign}
 use Rattle.sq_first.specs.declared.script.Sign.TheVariants.{Plus, Minus}
 use Rattle.sq_first.specs.Script.{call_name}
 use Rattle.sq_first.specs.Terminals.{Read, symbol_at, name_at, number_at}
-use Rattle.sq_first.specs.Many.{Tokens, ◌>>=◌, with_front, all}
+use Rattle.sq_first.specs.Many.{Tokens, ◌>>=◌, with_front, all, after_comma}
 
 unfoldable pub signed_at : Sign → Tokens → Read Argument
 signed_at sign ts = number_at ts >>= λ x. Some (Number (Some sign) x.0, x.1)
@@ -33,19 +33,11 @@ unfoldable pub argument_at : Tokens → Read Argument
 argument_at [] = None
 argument_at (t ∷ ts) = argument_by ts t
 
-abbrev pub further_by : Option Tokens → Option (Read Argument)
-further_by None = None
-further_by (Some rest) = Some (argument_at rest)
-
--- a comma and an argument
-unfoldable pub further_at : Tokens → Option (Read Argument)
-further_at ts = further_by (symbol_at symbol.Comma ts)
-
 -- arguments up to the closing bracket
 unfoldable pub filled_at : Tokens → Read Arguments
 filled_at ts = do
   first ← argument_at ts
-  values ← with_front (first.0 ∷ []) (all further_at first.1)
+  values ← with_front (first.0 ∷ []) (all (after_comma argument_at) first.1)
   rest ← symbol_at symbol.Close values.1
   Some (Bracketed values.0, rest)
 
@@ -99,8 +91,3 @@ ended_item_at ts = do
   item ← item_at ts
   rest ← symbol_at symbol.Semicolon item.1
   Some (item.0, rest)
-
--- an item, unless the text has ended
-abbrev pub next_item_at : Tokens → Option (Read Item)
-next_item_at [] = None
-next_item_at (t ∷ ts) = Some (ended_item_at (t ∷ ts))

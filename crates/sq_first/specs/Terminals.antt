@@ -6,6 +6,8 @@ use Rattle.sq_lex.specs.declared.lexeme.Lexeme.{Lexeme}
 use Rattle.sq_lex.specs.declared.lexeme.Lexeme.TheVariants as lexeme
 use Rattle.sq_lex.specs.declared.symbol.Symbol.{Symbol}
 use Rattle.sq_lex.specs.declared.symbol.Symbol.TheVariants as symbol
+use Rattle.sq_lex.specs.declared.word.Word.{Word}
+use Rattle.sq_lex.specs.Word.{same_word}
 use Rattle.sq_lex.specs.Token.{lexemes}
 use Rattle.sq_first.specs.declared.terminals.Ahead.{Ahead}
 use Rattle.sq_first.specs.declared.fault.Stop.{Stop}
@@ -39,8 +41,12 @@ Took true before after read = read ≡ Some (lexemes_of after)
 Took false before after read = (read ≡ None) × (after.tokens ≡ before.tokens)
 
 abbrev pub TookSymbol : Bool → Ahead → Ahead → Symbol → Type 0
-TookSymbol true before after symbol = lexemes_of before ≡ lexeme.Symbol symbol ∷ lexemes_of after
-TookSymbol false before after symbol = Unit {0}
+TookSymbol true before after wanted = lexemes_of before ≡ lexeme.Symbol wanted ∷ lexemes_of after
+TookSymbol false before after wanted = Unit {0}
+
+abbrev pub TookWord : Bool → Ahead → Ahead → Word → Type 0
+TookWord true before after wanted = lexemes_of before ≡ lexeme.Word wanted ∷ lexemes_of after
+TookWord false before after wanted = Unit {0}
 
 abbrev pub IsShorter : Bool → Ahead → Ahead → Type 0
 IsShorter true before after = length after.tokens.now < length before.tokens.now
@@ -74,6 +80,14 @@ symbol_by wanted rest _ = None
 unfoldable pub symbol_at : Symbol → List Lexeme → Option (List Lexeme)
 symbol_at wanted [] = None
 symbol_at wanted (t ∷ ts) = symbol_by wanted ts t
+
+abbrev pub word_by : Word → List Lexeme → Lexeme → Option (List Lexeme)
+word_by wanted rest (lexeme.Word found) = if same_word found wanted then Some rest else None
+word_by wanted rest _ = None
+
+unfoldable pub word_at : Word → List Lexeme → Option (List Lexeme)
+word_at wanted [] = None
+word_at wanted (t ∷ ts) = word_by wanted ts t
 
 abbrev pub name_by : List Lexeme → Lexeme → Read name.Name
 name_by rest (lexeme.Name name) = Some (name, rest)

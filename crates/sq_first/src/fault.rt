@@ -1,6 +1,7 @@
 //! Why no tree was read.
 
 ghost use Rattle.std.specs.Prelude.{◌≡◌};
+ghost use Rattle.sq_first.specs.NotYet.{not_yet_at};
 
 use std::alloc::{AllocError, AllocFailed};
 use thiserror::Error;
@@ -30,6 +31,16 @@ pub enum Stop {
     At(usize),
 }
 
+impl From<AllocError> for ReadFault {
+    ghost use Rattle.sq_first.specs.declared.fault.ReadFault.TheVariants.{NoMemory};
+
+    ghost from_gives = { λ _ e. e ≡ NoMemory };
+
+    fn from(_error: AllocError) -> ReadFault {
+        ReadFault::NoMemory
+    }
+}
+
 impl From<AllocError> for Stop {
     ghost use Rattle.sq_first.specs.declared.fault.Stop.TheVariants.{NoMemory};
 
@@ -47,5 +58,15 @@ impl<T: Drop> From<AllocFailed<T>> for Stop {
 
     fn from(_error: AllocFailed<T>) -> Stop {
         Stop::NoMemory
+    }
+}
+
+/// The fault of an element of a schema or module text that begins at this token.
+pub fn not_yet(stop: Stop, place: usize) -> ReadFault
+    ensures { result ≡ not_yet_at stop place }
+{
+    match stop {
+        Stop::NoMemory => ReadFault::NoMemory,
+        Stop::At(_) => ReadFault::NotYet(place),
     }
 }

@@ -5,18 +5,22 @@
 #![tactic(auto)]
 
 mod fault;
+mod module_reader;
 mod module_text;
 mod placed;
 mod schema;
+mod schema_reader;
 mod script;
 mod script_reader;
 mod terminals;
 
 pub use fault::ReadFault;
+pub use module_reader::read_module;
 pub use module_text::{
     Cursor, FetchStatement, Module, Names, Parameter, Parameters, Part, Procedure, Statement,
 };
 pub use placed::Placed;
 pub use schema::{Column, Columns, IntegerSpelling, Schema, TableDefinition};
+pub use schema_reader::read_schema;
 pub use script::{Argument, Arguments, Call, Item, Script, Sign, TableItem};
 pub use script_reader::read_script;

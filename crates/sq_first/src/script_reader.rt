@@ -8,7 +8,7 @@ ghost use Rattle.sq_first.specs.Placed.{starts_from};
 ghost use Rattle.sq_first.specs.Schema.{comma};
 ghost use Rattle.sq_first.specs.Script.{call_name, sign_tokens, argument_tokens, arguments_tokens, item_tokens, ended_item_tokens, script_tokens};
 ghost use Rattle.sq_first.specs.Terminals.{lexemes_of, Gives, GivesAll};
-ghost use Rattle.sq_first.specs.Many.{with_front, all};
+ghost use Rattle.sq_first.specs.Many.{with_front, all, after_comma, unless_ended};
 ghost use Rattle.sq_first.specs.ScriptReader as spec;
 
 use crate::fault::{ReadFault, Stop};
@@ -60,9 +60,9 @@ fn argument(alloc: Global, ahead: &mut Ahead<'_>) -> Result<Argument, Stop>
 }
 
 /// The arguments of which the first is read already, up to what is no comma.
-#[tactic(auto, using(crate::proofs::Turns::loops, crate::proofs::Joined::joins), unfolding(crate::specs::ScriptReader::further_at))]
+#[tactic(auto, using(crate::proofs::Turns::loops, crate::proofs::Joined::joins), unfolding(crate::specs::Many::after_comma))]
 fn listed(alloc: Global, first: Argument, ahead: &mut Ahead<'_>) -> Result<Items<Argument>, Stop>
-    ensures value { Gives (λ x rest. (x, rest)) result ahead.new (with_front (first ∷ []) (all spec.further_at (lexemes_of ahead.old))) }
+    ensures value { Gives (λ x rest. (x, rest)) result ahead.new (with_front (first ∷ []) (all (after_comma spec.argument_at) (lexemes_of ahead.old))) }
     ensures read { IfOk result (λ x. argument_tokens first ++ lexemes_of ahead.old ≡ join_by argument_tokens comma x ++ lexemes_of ahead.new) }
     ensures shorter { OnOk result (length ahead.new.tokens.now ≤ length ahead.old.tokens.now) }
 {
@@ -188,9 +188,9 @@ fn ended_item(alloc: Global, ahead: &mut Ahead<'_>) -> Result<Item, Stop>
     Ok(item)
 }
 
-#[tactic(auto, using(crate::proofs::NextItem::next_items, crate::proofs::Starts::parts))]
+#[tactic(auto, using(crate::proofs::NextPart::next_parts, crate::proofs::Starts::parts))]
 fn items(alloc: Global, tokens: &[Token]) -> Result<Placed<Script>, Stop>
-    ensures value { GivesAll (λ read. read.tree.items) result (all spec.next_item_at (lexemes tokens.now)) }
+    ensures value { GivesAll (λ read. read.tree.items) result (all (unless_ended spec.ended_item_at) (lexemes tokens.now)) }
     ensures read { IfOk result (λ read. script_tokens read.tree ≡ lexemes tokens.now) }
     ensures starts { IfOk result (λ read. read.starts ≡ starts_from ended_item_tokens 0 read.tree.items) }
     ensures within { IfOk result (λ read. All (λ start. start < length tokens.now) read.starts) }

@@ -1,10 +1,11 @@
 //! Tokens read one by one.
 
 ghost use Rattle.std.specs.Prelude.{◌≡◌, ◌<◌, ◌∷◌, ◌↔◌, length, OnOk, IfOk, IsTrue};
-ghost use Rattle.sq_first.specs.Terminals.{lexemes_of, Gives, Took, TookSymbol, IsShorter, symbol_place, same_symbol, symbol_at, name_at, number_at};
+ghost use Rattle.sq_lex.specs.Word.{same_word};
+ghost use Rattle.sq_first.specs.Terminals.{lexemes_of, Gives, Took, TookSymbol, TookWord, IsShorter, symbol_place, same_symbol, symbol_at, word_at, name_at, number_at};
 
 use crate::fault::Stop;
-use sq_lex::{Lexeme, Name, Number, Symbol, Token};
+use sq_lex::{Lexeme, Name, Number, Symbol, Token, Word};
 
 /// The tokens that are still to be read.
 #[derive(Drop)]
@@ -19,11 +20,19 @@ fn place(symbol: Symbol) -> u8
     symbol as u8
 }
 
-fn is_same(one: Symbol, other: Symbol) -> bool
+fn is_same_symbol(one: Symbol, other: Symbol) -> bool
     ensures value { result ≡ same_symbol one other }
     ensures same { IsTrue result ↔ (one ≡ other) }
 {
     place(one) == place(other)
+}
+
+#[tactic(auto, using(crate::proofs::SameWord::words))]
+fn is_same_word(one: Word, other: Word) -> bool
+    ensures value { result ≡ same_word one other }
+    ensures same { IsTrue result → one ≡ other }
+{
+    one.is(other)
 }
 
 /// Why the next token cannot be read.
@@ -44,7 +53,7 @@ pub fn takes_symbol(ahead: &mut Ahead<'_>, symbol: Symbol) -> bool
         return false;
     };
     match &token.lexeme {
-        Lexeme::Symbol(found) if is_same(*found, symbol) => {
+        Lexeme::Symbol(found) if is_same_symbol(*found, symbol) => {
             ahead.tokens = rest;
             true
         }
@@ -59,6 +68,38 @@ pub fn read_symbol(ahead: &mut Ahead<'_>, symbol: Symbol) -> Result<(), Stop>
     ensures shorter { OnOk result (length ahead.new.tokens.now < length ahead.old.tokens.now) }
 {
     if takes_symbol(ahead, symbol) {
+        Ok(())
+    } else {
+        Err(refusal(ahead))
+    }
+}
+
+/// Whether this word comes next. If it does, it is read.
+#[tactic(auto, unfolding(crate::specs::Terminals::word_at))]
+pub fn takes_word(ahead: &mut Ahead<'_>, word: Word) -> bool
+    ensures value { Took result ahead.old ahead.new (word_at word (lexemes_of ahead.old)) }
+    ensures read { TookWord result ahead.old ahead.new word }
+    ensures shorter { IsShorter result ahead.old ahead.new }
+{
+    let Some((token, rest)) = ahead.tokens.split_first() else {
+        return false;
+    };
+    match &token.lexeme {
+        Lexeme::Word(found) if is_same_word(*found, word) => {
+            ahead.tokens = rest;
+            true
+        }
+        _ => false,
+    }
+}
+
+/// Reads this word.
+pub fn read_word(ahead: &mut Ahead<'_>, word: Word) -> Result<(), Stop>
+    ensures value { Gives (λ _ rest. rest) result ahead.new (word_at word (lexemes_of ahead.old)) }
+    ensures read { OnOk result (lexemes_of ahead.old ≡ Lexeme.Word word ∷ lexemes_of ahead.new) }
+    ensures shorter { OnOk result (length ahead.new.tokens.now < length ahead.old.tokens.now) }
+{
+    if takes_word(ahead, word) {
         Ok(())
     } else {
         Err(refusal(ahead))
