@@ -1,2 +1,3 @@
 mod LiteralLemmas
 mod ReadingLemmas
+pub mod WordLemmas

@@ -1,4 +1,4 @@
-ghost use Rattle.std.specs.Prelude.{◌≡◌};
+ghost use Rattle.std.specs.Prelude.{◌≡◌, ◌↔◌, IsTrue};
 ghost use Rattle.sq_lex.specs.Word as spec;
 
 /// A reserved word.
@@ -107,7 +107,8 @@ impl Word {
 
     /// Whether two words are the same.
     pub fn is(self, other: Word) -> bool
-        ensures { result ≡ spec.same_word self other }
+        ensures value { result ≡ spec.same_word self other }
+        ensures same { IsTrue result ↔ (self ≡ other) }
     {
         self.place() == other.place()
     }
