@@ -4,3 +4,5 @@ pub mod Arithmetic
 pub mod Domain
 pub mod Storing
 pub mod Spelling
+pub mod Truth
+pub mod Comparison

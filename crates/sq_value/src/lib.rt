@@ -2,12 +2,14 @@
 //! functions and keys (ISO/IEC 9075:1992, clauses 4, 6, 8 and 9).
 #![tactic(auto)]
 
+mod comparison;
 mod decimal;
 mod domain;
 mod fault;
 mod spelling;
 mod storing;
 mod text;
+mod truth;
 mod value;
 mod wide;
 
@@ -16,4 +18,5 @@ pub use domain::Domain;
 pub use fault::{ArithmeticFault, ReadFault, StoreFault};
 pub use storing::store;
 pub use text::Text;
+pub use truth::Truth;
 pub use value::{Row, Value, copy_row};

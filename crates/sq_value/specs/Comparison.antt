@@ -1,0 +1,45 @@
+-- Comparison of values (ISO/IEC 9075:1992, 8.2).
+use Rattle.std.specs.Prelude.{ℕ, ◌-◌, ◌&&◌, max, Bool, true, false, Option, Some, None, List, [], ◌∷◌, ◌++◌, length, replicate}
+use Rattle.std.specs.declared.cmp.Ordering.{Ordering}
+use Rattle.std.specs.Ordering.{nat_cmp, is_eq}
+use Rattle.std.specs.Cmp.Lexicographic.{slice_cmp}
+use Rattle.sq_value.specs.Arithmetic.{compared}
+use Rattle.sq_value.specs.declared.value.Value.{Value}
+use Rattle.sq_value.specs.declared.value.Value.TheVariants.{Null, Num, Chars}
+
+-- a text with blanks after it, up to a length
+abbrev pub padded : ℕ → List ℕ → List ℕ
+padded n t = t ++ replicate (n - length t) 32
+
+-- texts compare by code, the shorter one padded with blanks
+abbrev pub texts_compared : List ℕ → List ℕ → Ordering
+texts_compared s t = let n = max (length s) (length t) in slice_cmp nat_cmp (padded n s) (padded n t)
+
+-- none where one is null: the comparison is unknown. A number is never compared with a text
+abbrev pub values_compared : Value → Value → Option Ordering
+values_compared Null w = None
+values_compared (Num a) (Num b) = Some (compared a b)
+values_compared (Chars s) (Chars t) = Some (texts_compared s t)
+values_compared (Num a) Null = None
+values_compared (Num a) (Chars t) = None
+values_compared (Chars s) Null = None
+values_compared (Chars s) (Num b) = None
+
+-- not distinct (3.1): both null, or they compare equal
+abbrev pub is_same : Value → Value → Bool
+is_same Null Null = true
+is_same Null (Num b) = false
+is_same Null (Chars t) = false
+is_same (Num a) Null = false
+is_same (Num a) (Num b) = is_eq (compared a b)
+is_same (Num a) (Chars t) = false
+is_same (Chars s) Null = false
+is_same (Chars s) (Num b) = false
+is_same (Chars s) (Chars t) = is_eq (texts_compared s t)
+
+-- rows are the same in every place
+abbrev pub are_same : List Value → List Value → Bool
+are_same [] [] = true
+are_same [] (w ∷ ws) = false
+are_same (v ∷ vs) [] = false
+are_same (v ∷ vs) (w ∷ ws) = is_same v w && are_same vs ws

@@ -1,0 +1,39 @@
+-- Three-valued logic (ISO/IEC 9075:1992, 8.12, tables of AND, OR and NOT; 8.7, quantified comparisons).
+use Rattle.std.specs.Prelude.{Bool, true, false, List, [], ◌∷◌, map}
+use Rattle.sq_value.specs.declared.truth.Truth.{Truth}
+use Rattle.sq_value.specs.declared.truth.Truth.TheVariants.{False, Unknown, True}
+
+-- false where one is false, else unknown where one is unknown
+abbrev pub both : Truth → Truth → Truth
+both False q = False
+both Unknown False = False
+both Unknown Unknown = Unknown
+both Unknown True = Unknown
+both True q = q
+
+-- true where one is true, else unknown where one is unknown
+abbrev pub either : Truth → Truth → Truth
+either True q = True
+either Unknown True = True
+either Unknown Unknown = Unknown
+either Unknown False = Unknown
+either False q = q
+
+abbrev pub negation : Truth → Truth
+negation False = True
+negation Unknown = Unknown
+negation True = False
+
+-- the truth of what is known to hold or not
+abbrev pub known : Bool → Truth
+known true = True
+known false = False
+
+-- ALL over the truths of the comparisons: true on none, false where one is false, else unknown where one is unknown
+abbrev pub all_of : List Truth → Truth
+all_of [] = True
+all_of (p ∷ ps) = both p (all_of ps)
+
+-- ANY and SOME are the dual of ALL
+abbrev pub any_of : List Truth → Truth
+any_of ps = negation (all_of (map negation ps))

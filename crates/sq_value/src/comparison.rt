@@ -1,0 +1,45 @@
+ghost use Rattle.std.specs.Prelude.{◌≡◌, slice_index_or};
+ghost use Rattle.sq_value.specs.Comparison.{texts_compared, values_compared};
+
+use crate::value::Value;
+use std::cmp::Ordering;
+
+impl Value {
+    /// The order of two numbers or of two texts, and none where one is null: the comparison is then unknown.
+    ///
+    /// Numbers compare by value, texts by code, the shorter one as if padded with blanks. Nothing says how a number
+    /// compares with a text, and the answer there is none.
+    pub fn cmp3(&self, other: &Value) -> Option<Ordering>
+        ensures { result ≡ values_compared self.now other.now }
+    {
+        match (self, other) {
+            (Value::Num(left), Value::Num(right)) => Some(left.cmp(*right)),
+            (Value::Chars(left), Value::Chars(right)) => {
+                Some(compare_texts(left.codes(), right.codes()))
+            }
+            _ => None,
+        }
+    }
+}
+
+/// The order of the codes, the shorter list as if padded with blanks.
+#[tactic(auto, using(crate::proofs::Padding::padding))]
+fn compare_texts(left: &[u8], right: &[u8]) -> Ordering
+    ensures { result ≡ texts_compared left.now right.now }
+{
+    let length = left.len().max(right.len());
+    for place in 0..length {
+        let order = code_at(left, place).cmp(&code_at(right, place));
+        if order != Ordering::Equal {
+            return order;
+        }
+    }
+    Ordering::Equal
+}
+
+/// The code at a place, and a blank past the end.
+fn code_at(codes: &[u8], place: usize) -> u8
+    ensures { result ≡ slice_index_or codes.now place 32 }
+{
+    codes.get(place).copied().unwrap_or(b' ')
+}
