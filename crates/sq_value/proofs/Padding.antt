@@ -1,10 +1,10 @@
 -- Comparison of texts as if padded with blanks, code by code.
-use Rattle.std.proofs.Common.{◌≡◌, ℕ, zero, suc, ◌+◌, ◌-◌, ◌≤◌, ◌<◌, max, List, [], ◌∷◌, ◌++◌, length, drop, get_or, replicate, refl, sym, ap, ◌∙◌, arith, add-one, append-nil, inl, inr, ◌⊎◌}
+use Rattle.std.proofs.Common.{◌≡◌, ℕ, zero, suc, ◌+◌, ◌-◌, max, List, [], ◌∷◌, ◌++◌, length, drop, get_or, replicate, refl, sym, ap, ◌∙◌, arith, add-one, append-nil, inl, inr, ◌⊎◌}
 use Rattle.std.specs.declared.cmp.Ordering.{Ordering}
-use Rattle.std.specs.declared.cmp.Ordering.TheVariants.{Less, Equal, Greater}
+use Rattle.std.specs.declared.cmp.Ordering.TheVariants.{Equal}
 use Rattle.std.specs.Ordering.{nat_cmp, ordering_then}
 use Rattle.std.specs.Cmp.Lexicographic.{slice_cmp}
-use Rattle.sq_value.specs.Comparison.{padded, texts_compared}
+use Rattle.sq_value.specs.Comparison.{texts_compared}
 
 -- the comparison from the front, where a list that has ended goes on with blanks
 abbrev pub from_front : List ℕ → List ℕ → Ordering
@@ -44,15 +44,15 @@ at_place (x ∷ xs) (suc i) = at_place xs i
 
 one_step : (xs ys : List ℕ) (i : ℕ) → from_front (drop i xs) (drop i ys) ≡ ordering_then (nat_cmp (get_or xs i 32) (get_or ys i 32)) (from_front (drop (suc i) xs) (drop (suc i) ys))
 one_step xs ys i = elim (at_place xs i) [
-      inl p ↦ elim (at_place ys i) [
-          inl q ↦ (λ j. from_front (p j) (q j))
-        | inr q ↦ (λ j. from_front (p j) (q.0 j)) ∙ (λ j. ordering_then (nat_cmp (get_or xs i 32) (sym (q.1) j)) (from_front (drop (suc i) xs) (sym (q.2) j)))
-        ]
-    | inr p ↦ elim (at_place ys i) [
-          inl q ↦ (λ j. from_front (p.0 j) (q j)) ∙ (λ j. ordering_then (nat_cmp (sym (p.1) j) (get_or ys i 32)) (from_front (sym (p.2) j) (drop (suc i) ys)))
-        | inr q ↦ (λ j. from_front (p.0 j) (q.0 j)) ∙ (λ j. ordering_then (nat_cmp (sym (p.1) j) (sym (q.1) j)) (from_front (sym (p.2) j) (sym (q.2) j)))
-        ]
-    ]
+  | inl p ↦ elim (at_place ys i) [
+    | inl q ↦ (λ j. from_front (p j) (q j))
+    | inr q ↦ (λ j. from_front (p j) (q.0 j)) ∙ (λ j. ordering_then (nat_cmp (get_or xs i 32) (sym (q.1) j)) (from_front (drop (suc i) xs) (sym (q.2) j)))
+  ]
+  | inr p ↦ elim (at_place ys i) [
+    | inl q ↦ (λ j. from_front (p.0 j) (q j)) ∙ (λ j. ordering_then (nat_cmp (sym (p.1) j) (get_or ys i 32)) (from_front (sym (p.2) j) (drop (suc i) ys)))
+    | inr q ↦ (λ j. from_front (p.0 j) (q.0 j)) ∙ (λ j. ordering_then (nat_cmp (sym (p.1) j) (sym (q.1) j)) (from_front (sym (p.2) j) (sym (q.2) j)))
+  ]
+]
 
 pub front_step : (xs ys : List ℕ) (i : ℕ) → from_front (drop i xs) (drop i ys) ≡ ordering_then (nat_cmp (get_or xs i 32) (get_or ys i 32)) (from_front (drop (i + 1) xs) (drop (i + 1) ys))
 front_step xs ys i = one_step xs ys i ∙ (λ j. ordering_then (nat_cmp (get_or xs i 32) (get_or ys i 32)) (from_front (drop (sym (add-one i) j) xs) (drop (sym (add-one i) j) ys)))

@@ -1,9 +1,11 @@
 -- Domains of columns and parameters (ISO/IEC 9075:1992, 6.1). The greatest precision and length, and the ranges of
 -- SMALLINT and INTEGER, are own rules.
-use Rattle.std.specs.Prelude.{ℕ, pos, negsuc, ◌≡◌, ◌≤◌, ◌<◌, ◌^◌, ◌≤ℤ◌, length, unsigned_abs, ⊤, List, Bool, true, false, IsTrue, IsFalse}
+use Rattle.std.specs.Prelude.{ℕ, pos, negsuc, ◌≡◌, ◌≤◌, ◌<◌, ◌^◌, ◌≤ℤ◌, length, unsigned_abs, ⊤, List, Bool, true, false, IsTrue, IsFalse, [], replicate}
 use Rattle.sq_value.specs.Number.{Number}
 use Rattle.sq_value.specs.declared.domain.Domain.{Domain}
 use Rattle.sq_value.specs.declared.domain.Domain.TheVariants.{Small, Int, Numeric, Char, VarChar}
+use Rattle.sq_value.specs.declared.domain.Kind.{Kind}
+use Rattle.sq_value.specs.declared.domain.Kind.TheVariants.{Vary, Num as NumKind, Chars as CharsKind}
 use Rattle.sq_value.specs.declared.value.Value.{Value}
 use Rattle.sq_value.specs.declared.value.Value.TheVariants.{Null, Num, Chars}
 
@@ -49,3 +51,36 @@ abbrev pub FitsKind : Domain → Value → Type 0
 FitsKind d Null = ⊤
 FitsKind d (Num _) = IsTrue (is_of_numbers d)
 FitsKind d (Chars _) = IsFalse (is_of_numbers d)
+
+-- the length of a text of the domain, or its greatest length
+abbrev pub domain_length : Domain → ℕ
+domain_length Small = 0
+domain_length Int = 0
+domain_length (Numeric _ _) = 0
+domain_length (Char n) = n
+domain_length (VarChar n) = n
+
+-- what is known of an expression's values besides which they are: a scale, a length, or a greatest length
+abbrev pub kind_of : Domain → Kind
+kind_of Small = NumKind 0
+kind_of Int = NumKind 0
+kind_of (Numeric p s) = NumKind s
+kind_of (Char n) = CharsKind n
+kind_of (VarChar n) = Vary n
+
+abbrev pub IsOfKind : Kind → Value → Type 0
+IsOfKind k Null = ⊤
+IsOfKind (NumKind s) (Num n) = n.scale ≡ s
+IsOfKind (NumKind s) (Chars t) = ⊥
+IsOfKind (CharsKind n) (Num _) = ⊥
+IsOfKind (CharsKind n) (Chars t) = length t ≡ n
+IsOfKind (Vary n) (Num _) = ⊥
+IsOfKind (Vary n) (Chars t) = length t ≤ n
+
+-- what a parameter starts at that is handed null: zero, blanks, or the empty text (own rule)
+abbrev pub start_value : Domain → Value
+start_value Small = Num (record { unscaled = pos 0; scale = 0 })
+start_value Int = Num (record { unscaled = pos 0; scale = 0 })
+start_value (Numeric p s) = Num (record { unscaled = pos 0; scale = s })
+start_value (Char n) = Chars (replicate n 32)
+start_value (VarChar n) = Chars []

@@ -6,3 +6,6 @@ pub mod Storing
 pub mod Spelling
 pub mod Truth
 pub mod Comparison
+pub mod SetFunctions
+pub mod Retrieving
+pub mod Pattern

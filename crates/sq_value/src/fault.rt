@@ -45,3 +45,34 @@ impl From<AllocError> for StoreFault {
         StoreFault::NoMemory
     }
 }
+
+/// Why a value can't be retrieved into a parameter.
+#[derive(Clone, Copy, Debug, PartialEq, Eq, Error)]
+pub enum RetrieveFault {
+    /// Leading digits would be lost: SQLSTATE 22003.
+    #[error("the number is out of range")]
+    Range,
+    #[error("want of memory")]
+    NoMemory,
+}
+
+impl From<AllocError> for RetrieveFault {
+    ghost use Rattle.sq_value.specs.declared.fault.RetrieveFault.TheVariants.{NoMemory};
+
+    ghost from_gives = { λ _ fault. fault ≡ NoMemory };
+
+    fn from(_error: AllocError) -> RetrieveFault {
+        RetrieveFault::NoMemory
+    }
+}
+
+/// Why LIKE has no truth.
+#[derive(Clone, Copy, Debug, PartialEq, Eq, Error)]
+pub enum LikeFault {
+    /// The escape character is no text of one code: SQLSTATE 22019.
+    #[error("the escape character is not of length one")]
+    EscapeLength,
+    /// It stands before what needs no escape, or at the pattern's end: SQLSTATE 22025.
+    #[error("the escape character escapes nothing")]
+    EscapeSequence,
+}

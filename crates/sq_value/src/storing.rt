@@ -1,5 +1,5 @@
 ghost use Rattle.std.specs.Prelude.{◌≡◌, ◌≤◌, ◌≤ℤ◌, ◌<◌, ◌^◌, unsigned_abs, neg_ℤ, pos, IfOk};
-ghost use Rattle.sq_value.specs.Domain.{IsDomain, FitsKind, IsInDomain};
+ghost use Rattle.sq_value.specs.Domain.{IsDomain, FitsKind, IsInDomain, start_value};
 ghost use Rattle.sq_value.specs.Arithmetic.{truncated};
 ghost use Rattle.sq_value.specs.Storing.{stored, fitted, kept, if_between, if_of_digits, IsStored};
 
@@ -34,8 +34,23 @@ pub fn store(alloc: Global, value: &Value, domain: Domain) -> Result<Value, Stor
     }
 }
 
+/// What a parameter of the domain starts at when it is handed null: zero, blanks, or the empty text.
+#[tactic(auto, using(crate::proofs::Powers::power_of_ten_ge))]
+pub fn start_value(alloc: Global, domain: Domain) -> Result<Value, AllocError>
+    requires { IsDomain domain }
+    ensures value { IfOk result (λ v. v ≡ start_value domain) }
+    ensures in_domain { IfOk result (λ v. IsInDomain domain v) }
+{
+    match domain {
+        Domain::Small | Domain::Int => Ok(Value::Num(Decimal::new(0, 0))),
+        Domain::Numeric(_, scale) => Ok(Value::Num(Decimal::new(0, scale))),
+        Domain::Char(length) => Ok(Value::Chars(Text::blanks(alloc, length)?)),
+        Domain::VarChar(_) => Ok(Value::Chars(Text::new(alloc, &[])?)),
+    }
+}
+
 /// The number as a domain of numbers holds it, if it is in range.
-fn fitted(number: Decimal, domain: Domain) -> Option<Decimal>
+pub(crate) fn fitted(number: Decimal, domain: Domain) -> Option<Decimal>
     requires { IsDomain domain }
     ensures { result ≡ fitted domain number }
 {

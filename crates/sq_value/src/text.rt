@@ -1,4 +1,4 @@
-ghost use Rattle.std.specs.Prelude.{◌≡◌, ◌≤◌, IfOk, ◌==◌, take};
+ghost use Rattle.std.specs.Prelude.{◌≡◌, ◌≤◌, IfOk, ◌==◌, take, replicate};
 ghost use Rattle.std.specs.List.{list_all};
 ghost use Rattle.sq_value.specs.Text.{IsText, of_length, only_blanks_past};
 
@@ -66,6 +66,16 @@ impl Text {
         padded.resize(length, b' ')?;
         Ok(Text {
             codes: Items::from_vec(padded),
+        })
+    }
+
+    /// A text of so many blanks.
+    pub(crate) fn blanks(alloc: Global, length: u16) -> Result<Text, AllocError>
+        requires { length ≤ 240 }
+        ensures { IfOk result (λ text. text ≡ replicate length 32) }
+    {
+        Ok(Text {
+            codes: Items::from_vec(vec![in alloc; b' '; length as usize]?),
         })
     }
 

@@ -1,0 +1,6 @@
+use Rattle.std.proofs.Common.{◌≡◌, drop}
+use Rattle.sq_value.specs.SetFunctions.{first_scale, numbers}
+use Rattle.sq_value.proofs.set_functions.first_scale.Given as goal
+
+abbrev pub invariant-loop-value : goal.invariant-loop-value
+invariant-loop-value l = first_scale (numbers l.values) ≡ first_scale (numbers (drop l.value-index l.values))

@@ -1,0 +1,55 @@
+-- Set functions over the values of one expression (ISO/IEC 9075:1992, 6.5), which are of one kind: nulls are left out,
+-- and only the final result is tested for its range.
+use Rattle.std.specs.Prelude.{ℕ, ℤ, pos, ◌+ℤ◌, int_div, Option, Some, None, is_some, Bool, Result, Ok, Err, List, [], ◌∷◌, length, fold}
+use Rattle.std.specs.List.{filter_map}
+use Rattle.sq_value.specs.Number.{Number}
+use Rattle.sq_value.specs.Arithmetic.{in_range}
+use Rattle.sq_value.specs.declared.fault.ArithmeticFault.{ArithmeticFault}
+use Rattle.sq_value.specs.declared.value.Value.{Value}
+use Rattle.sq_value.specs.declared.value.Value.TheVariants.{Null, Num, Chars}
+
+abbrev pub number_in : Value → Option Number
+number_in Null = None
+number_in (Num n) = Some n
+number_in (Chars t) = None
+
+-- what a value adds to the sum of the unscaled values
+abbrev pub unscaled_of : Value → ℤ
+unscaled_of Null = pos 0
+unscaled_of (Num n) = n.unscaled
+unscaled_of (Chars t) = pos 0
+
+-- the numbers among the values
+abbrev pub numbers : List Value → List Number
+numbers vs = filter_map number_in vs
+
+abbrev pub first_scale : List Number → Option ℕ
+first_scale [] = None
+first_scale (n ∷ ns) = Some n.scale
+
+abbrev pub is_number : Value → Bool
+is_number v = is_some (number_in v)
+
+-- the sum of the unscaled values
+abbrev pub total : List Number → ℤ
+total ns = fold (λ sum n. sum +ℤ n.unscaled) (pos 0) ns
+
+abbrev pub number_or_fault : Result Number ArithmeticFault → Result Value ArithmeticFault
+number_or_fault (Ok n) = Ok (Num n)
+number_or_fault (Err fault) = Err fault
+
+-- the sum has the scale of its operands, and is null on nothing
+abbrev pub sum_of : List Number → Result Value ArithmeticFault
+sum_of [] = Ok Null
+sum_of (n ∷ ns) = number_or_fault (in_range n.scale (total (n ∷ ns)))
+
+-- the mean has it too, and is truncated toward zero (own rule)
+abbrev pub mean_of : List Number → Result Value ArithmeticFault
+mean_of [] = Ok Null
+mean_of (n ∷ ns) = number_or_fault (in_range n.scale (int_div (total (n ∷ ns)) (pos (length (n ∷ ns)))))
+
+abbrev pub summed : List Value → Result Value ArithmeticFault
+summed vs = sum_of (numbers vs)
+
+abbrev pub averaged : List Value → Result Value ArithmeticFault
+averaged vs = mean_of (numbers vs)

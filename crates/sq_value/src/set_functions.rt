@@ -1,0 +1,85 @@
+ghost use Rattle.std.specs.Prelude.{◌≡◌, ◌≤◌, ◌<◌, ◌^◌, length, unsigned_abs, IfSome};
+ghost use Rattle.sq_value.specs.SetFunctions.{numbers, total, summed, averaged, first_scale, is_number, unscaled_of};
+
+use crate::fault::ArithmeticFault;
+use crate::value::Value;
+use crate::wide::in_digits;
+
+/// SUM of the values that are not null, and null where there is none.
+///
+/// The values are numbers of one scale, or null. Only the sum itself is tested for its range: it is kept in 128 bits,
+/// and the sum of 2 to the 64 numbers of at most 18 digits is below 2 to the 124.
+#[tactic(auto, using(crate::proofs::Totals::numbers_steps))]
+pub fn sum(values: &[Value]) -> Result<Value, ArithmeticFault>
+    ensures { result ≡ summed values.now }
+{
+    match first_scale(values) {
+        None => Ok(Value::Null),
+        Some(scale) => Ok(Value::Num(in_digits(total(values), scale)?)),
+    }
+}
+
+/// AVG of the values that are not null, truncated toward zero, and null where there is none.
+///
+/// The values are numbers of one scale, or null.
+#[tactic(auto, using(crate::proofs::Totals::numbers_steps))]
+pub fn avg(values: &[Value]) -> Result<Value, ArithmeticFault>
+    ensures { result ≡ averaged values.now }
+{
+    match first_scale(values) {
+        None => Ok(Value::Null),
+        Some(scale) => {
+            let mean = total(values) / count_numbers(values) as i128;
+            Ok(Value::Num(in_digits(mean, scale)?))
+        }
+    }
+}
+
+/// The sum of the unscaled values.
+#[tactic(auto, using(crate::proofs::Totals::totals))]
+fn total(values: &[Value]) -> i128
+    ensures { result ≡ total (numbers values.now) }
+{
+    let mut total: i128 = 0;
+    for value in values {
+        total += unscaled_of(value) as i128;
+    }
+    total
+}
+
+fn unscaled_of(value: &Value) -> i64
+    ensures value { result ≡ unscaled_of value.now }
+    ensures digits { unsigned_abs result < 10 ^ 18 }
+{
+    match value {
+        Value::Num(number) => number.unscaled(),
+        _ => 0,
+    }
+}
+
+#[tactic(auto, using(crate::proofs::Totals::numbers_steps))]
+fn count_numbers(values: &[Value]) -> usize
+    ensures { result ≡ length (numbers values.now) }
+{
+    values.iter().filter(|value| is_number(value)).count()
+}
+
+fn is_number(value: &Value) -> bool
+    ensures { result ≡ is_number value.now }
+{
+    matches!(value, Value::Num(_))
+}
+
+/// The scale of the first number, if there is one.
+#[tactic(auto, using(crate::proofs::Totals::numbers_steps))]
+fn first_scale(values: &[Value]) -> Option<u8>
+    ensures scale { result ≡ first_scale (numbers values.now) }
+    ensures places { IfSome result (λ scale. scale ≤ 18) }
+{
+    for value in values {
+        if let Value::Num(number) = value {
+            return Some(number.scale());
+        }
+    }
+    None
+}
