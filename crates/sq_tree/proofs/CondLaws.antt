@@ -1,5 +1,5 @@
 -- The tokens and the depth of one level of a search condition or a query specification, by those of its parts.
-use Rattle.std.proofs.Common.{◌≡◌, ◌+◌, max, Bool, List, [], ◌∷◌, ◌++◌, Option, Some, None, length, refl, sym, ◌∙◌, ap, map, subst}
+use Rattle.std.proofs.Common.{◌≡◌, ◌+◌, max, Bool, List, [], ◌∷◌, ◌++◌, Option, Some, None, refl, sym, ◌∙◌, ap, map, subst}
 use Rattle.std.specs.List.{flat_map}
 use Rattle.std.proofs.lemmas.List.Folds.{flat_map-map}
 use Rattle.sq_lex.specs.declared.lexeme.Lexeme.TheVariants as lexeme
@@ -177,12 +177,7 @@ tail_depth-Null n = ap tail_depth (sym (tail.rolls-Null n)) ∙ fold-roll-Tail _
 
 pub ruleset cond_tokens_levels = (cond_tokens-out, conj_tokens-out, test_tokens-out, table_expression_tokens-out, query_specification_tokens-out, body_tokens-Predicate, body_tokens-Exists, body_tokens-Bracketed, tail_tokens-Compare, tail_tokens-CompareQuery, tail_tokens-Between, tail_tokens-InQuery, tail_tokens-InList, tail_tokens-Like, tail_tokens-Null)
 
--- WHERE and HAVING are each one token
-pub length-having : (o : Option Cond) → length (optional having_cond o) ≡ length (optional where_cond o)
-length-having None = refl
-length-having (Some c) = refl
-
-pub ruleset cond_depth_levels = (length-having, cond_depth-out, conj_depth-out, test_depth-out, table_expression_depth-out, query_specification_depth-out, body_depth-Predicate, body_depth-Exists, body_depth-Bracketed, tail_depth-Compare, tail_depth-CompareQuery, tail_depth-Between, tail_depth-InQuery, tail_depth-InList, tail_depth-Like, tail_depth-Null)
+pub ruleset cond_depth_levels = (cond_depth-out, conj_depth-out, test_depth-out, table_expression_depth-out, query_specification_depth-out, body_depth-Predicate, body_depth-Exists, body_depth-Bracketed, tail_depth-Compare, tail_depth-CompareQuery, tail_depth-Between, tail_depth-InQuery, tail_depth-InList, tail_depth-Like, tail_depth-Null)
 
 -- The same for a tree that is put together.
 

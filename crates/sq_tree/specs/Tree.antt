@@ -12,11 +12,6 @@ abbrev pub said : Bool → Tokens → Tokens
 said true ts = ts
 said false ts = []
 
--- how many tokens [ x ] has, where x has this many
-abbrev pub count_if : Bool → ℕ → ℕ
-count_if true n = n
-count_if false n = 0
-
 -- [ x ], where an Option holds the x that is written
 abbrev pub optional : {A : Type 0} → (A → Tokens) → Option A → Tokens
 optional tokens None = []

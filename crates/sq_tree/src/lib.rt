@@ -14,7 +14,6 @@ mod query;
 mod schema;
 mod script;
 mod statement;
-mod tree;
 
 pub use cond::{
     Body, Comparison, Cond, Conj, Correlation, Quantifier, QuerySpecification, SelectList,
@@ -42,4 +41,3 @@ pub use statement::{
     Assignment, Delete, Fetch, FetchFrom, Insert, InsertSource, NewValue, Orientation, Position,
     Select, Statement, Update, Where,
 };
-pub use tree::{Tree, depth, token_count, write_tokens};

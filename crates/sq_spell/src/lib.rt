@@ -1,0 +1,18 @@
+//! How trees are spelled: the list of a tree's tokens, how many they are, and how deep round brackets nest.
+#![tactic(auto)]
+
+mod cond;
+mod data_type;
+mod expr;
+mod list;
+mod measure;
+mod module;
+mod names;
+mod query;
+mod schema;
+mod script;
+mod statement;
+mod tree;
+mod writer;
+
+pub use tree::{Tree, depth, token_count, write_tokens};
