@@ -1,3 +1,5 @@
+//! Lexemes: what tokens say.
+
 ghost use Rattle.std.specs.Prelude.{◌≡◌, IfOk};
 
 use crate::name::Name;

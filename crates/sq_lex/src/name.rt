@@ -1,3 +1,5 @@
+//! Names, in place.
+
 ghost use Rattle.std.specs.Prelude.{◌≡◌, ◌≤◌, length, Some, refl, nat_eq};
 ghost use Rattle.std.specs.Ordering.{nat_cmp};
 ghost use Rattle.std.specs.Cmp.{on_equiv, on_total, on_po, on_per, partial_equiv_from_equiv};

@@ -1,3 +1,5 @@
+//! Symbols.
+
 ghost use Rattle.std.specs.Prelude.{◌≡◌};
 ghost use Rattle.sq_lex.specs.Symbol as spec;
 

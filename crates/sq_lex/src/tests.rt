@@ -183,7 +183,9 @@ fn knows_the_reserved_words(rt: HostRuntime) -> Result<(), Fail> {
     assert_eq!(rt; tokens.len(), 91);
     for (place, token) in tokens.iter().enumerate() {
         let copy = token.lexeme.copy(rt.alloc())?;
-        assert!(rt; matches!(copy, Lexeme::Word(word) if word.place() as usize == place));
+        assert!(rt;
+            matches!(copy, Lexeme::Word(word) if word.place() as usize == place && word.is(word))
+        );
     }
     Ok(())
 }

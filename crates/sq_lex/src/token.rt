@@ -1,3 +1,5 @@
+//! Tokens: lexemes and their places.
+
 use crate::lexeme::Lexeme;
 
 /// A lexeme and where it stands in the text.

@@ -1,3 +1,5 @@
+//! The reserved words.
+
 ghost use Rattle.std.specs.Prelude.{◌≡◌, ◌↔◌, IsTrue};
 ghost use Rattle.sq_lex.specs.Word as spec;
 
