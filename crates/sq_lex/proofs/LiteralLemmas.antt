@@ -1,9 +1,8 @@
 -- A literal of which some characters are read already.
-use Rattle.std.proofs.Common.{◌≡◌, ℕ, ◌+◌, ◌<◌, Bool, true, false, List, [], ◌∷◌, ◌++◌, length, get_or, drop, cond, refl, ap, sym, ◌∙◌, arith, append_assoc, add_assoc}
-use Rattle.std.proofs.lemmas.List.{at_drop_more, at_drop_all}
+use Rattle.std.proofs.Common.{◌≡◌, ℕ, ◌+◌, List, [], ◌∷◌, ◌++◌, refl, ap, sym, arith, append_assoc, add_assoc}
 use Rattle.sq_lex.specs.declared.literal.Literal.{Literal}
 use Rattle.sq_lex.specs.declared.literal.Literal.TheVariants.{Closed, Open, BadByte}
-use Rattle.sq_lex.specs.Literal.{literal, after_quote, with_character}
+use Rattle.sq_lex.specs.Literal.{with_character}
 
 -- characters of so many bytes before the rest of a literal
 abbrev pub joined : List ℕ → ℕ → Literal → Literal

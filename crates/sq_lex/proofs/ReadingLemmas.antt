@@ -1,5 +1,5 @@
 -- A reading, piece by piece.
-use Rattle.std.proofs.Common.{◌≡◌, ℕ, zero, suc, ◌+◌, ◌-◌, ◌<◌, ◌≤◌, List, [], ◌∷◌, ◌++◌, length, take, drop, refl, ap, sym, subst, ◌∙◌, arith, append_assoc, Result, Ok, Err}
+use Rattle.std.proofs.Common.{◌≡◌, ℕ, zero, suc, ◌-◌, ◌<◌, List, [], ◌∷◌, ◌++◌, length, take, drop, refl, ap, sym, subst, ◌∙◌, arith, append_assoc, Result, Ok, Err}
 use Rattle.sq_lex.specs.declared.fault.LexError.{LexError}
 use Rattle.sq_lex.specs.declared.fault.LexError.TheVariants.{NoMemory, Fault}
 use Rattle.sq_lex.specs.declared.fault.LexFault.{LexFault}

@@ -3,7 +3,6 @@ use Rattle.std.specs.Prelude.{ℕ, ◌+◌, ◌-◌, ◌<◌, ◌≤◌, Bool, �
 use Rattle.std.specs.Char.{is_ascii_digit, is_ascii_alphabetic, to_ascii_uppercase}
 use Rattle.std.specs.List.{prefix_len}
 use Rattle.sq_lex.specs.declared.characters.Class.TheVariants as class
-use Rattle.sq_lex.specs.declared.fault.LexFaultKind.{LexFaultKind}
 use Rattle.sq_lex.specs.declared.fault.LexFaultKind.TheVariants as fault
 use Rattle.sq_lex.specs.declared.lexeme.Lexeme.{Lexeme}
 use Rattle.sq_lex.specs.declared.lexeme.Lexeme.TheVariants as lexeme

@@ -1,4 +1,4 @@
-use Rattle.std.proofs.Common.{rules, arith}
+use Rattle.std.proofs.Common.{rules}
 use Rattle.sq_lex.specs.Reading.{reading}
 use Rattle.sq_lex.proofs.ReadingLemmas.{followed-nil}
 use Rattle.sq_lex.proofs.reading.lex.Goals as goal
