@@ -30,8 +30,7 @@ use Rattle.sq_first.specs.Terminals.{Read, Fails, symbol_at, word_at, name_at}
 use Rattle.sq_first.specs.Many.{Tokens, with_front, all, unless_ended}
 use Rattle.sq_first.specs.Fault.{IsNoModule, RefusesModule}
 use Rattle.sq_first.specs.NotYet.{not_yet_at}
-use Rattle.sq_first.specs.SchemaReader.{semicolon_at}
-use Rattle.sq_first.specs.ModuleReader.{columns_at, argument_at, arguments_at, parameter_at, parameters_at, select_at, cursor_at, insert_at, from_at, fetch_at, statement_at, procedure_at, part_at, module_header_at, module_of, GivesParts}
+use Rattle.sq_first.specs.ModuleReader.{columns_at, argument_at, arguments_at, parameter_at, parameters_at, select_at, is_part_end, cursor_end_at, cursor_at, insert_at, from_at, fetch_at, statement_at, procedure_at, part_at, module_header_at, module_of, GivesParts}
 use Rattle.sq_first.proofs.Turns.{all-none, all-some, fails-bind}
 use Rattle.sq_first.proofs.Lists.{commas-read}
 use Rattle.sq_first.proofs.SchemaWhole.{spelling-read}
@@ -61,16 +60,16 @@ parameters-read : (parameters : Parameters) (rest : Tokens) → symbol_at Comma 
 unfolding parameters_at
 parameters-read parameters rest h = let more = commas-read parameter_at parameter_tokens parameter-read parameters.rest rest h in rw (append_assoc, parameter-read, more) refl
 
-ended-read : (ended : Bool) (rest : Tokens) → symbol_at Semicolon rest ≡ None → semicolon_at (semicolon_tokens ended ++ rest) ≡ (ended, rest)
-unfolding semicolon_at
-ended-read false rest h = rw h refl
-ended-read true rest h = unfold symbol_at in refl
+end-read : (ended : Bool) (rest : Tokens) → symbol_at Semicolon rest ≡ None → is_part_end rest ≡ true → cursor_end_at (semicolon_tokens ended ++ rest) ≡ Some (ended, rest)
+unfolding cursor_end_at
+end-read false rest no_semicolon part_end = rw (no_semicolon, part_end) refl
+end-read true rest no_semicolon part_end = unfold symbol_at in refl
 
-cursor-read : (cursor : Cursor) (rest : Tokens) → symbol_at Semicolon rest ≡ None → part_at (cursor_tokens cursor ++ rest) ≡ Some (part.Cursor cursor, rest)
+cursor-read : (cursor : Cursor) (rest : Tokens) → symbol_at Semicolon rest ≡ None → is_part_end rest ≡ true → part_at (cursor_tokens cursor ++ rest) ≡ Some (part.Cursor cursor, rest)
 unfolding part_at cursor_at select_at word_at name_at symbol_at
-cursor-read cursor rest h =
+cursor-read cursor rest no_semicolon part_end =
     let columns = columns-read cursor.columns (Word word.From ∷ Name cursor.table ∷ (semicolon_tokens cursor.ended ++ rest)) refl in
-    let ended = ended-read cursor.ended rest h in
+    let ended = end-read cursor.ended rest no_semicolon part_end in
     rw (append_assoc, columns, ended) refl
 
 insert-read : (table : name.Name) (values : Names) (rest : Tokens) → statement_at (statement_tokens (statement.Insert table values) ++ rest) ≡ Some (statement.Insert table values, rest)
@@ -102,13 +101,13 @@ procedure-read procedure rest =
     ap (λ ts. part_at (Word word.Procedure ∷ Name procedure.name ∷ Symbol Open ∷ ts)) (append_assoc (parameters_tokens procedure.parameters) after rest)
     ∙ rw (parameters, append_assoc text (Symbol Semicolon ∷ []) rest, statement) refl
 
-part-read : (p : Part) (rest : Tokens) → symbol_at Semicolon rest ≡ None → part_at (part_tokens p ++ rest) ≡ Some (p, rest)
-part-read (part.Cursor cursor) rest h = cursor-read cursor rest h
-part-read (part.Procedure procedure) rest h = procedure-read procedure rest
+part-read : (p : Part) (rest : Tokens) → symbol_at Semicolon rest ≡ None → is_part_end rest ≡ true → part_at (part_tokens p ++ rest) ≡ Some (p, rest)
+part-read (part.Cursor cursor) rest no_semicolon part_end = cursor-read cursor rest no_semicolon part_end
+part-read (part.Procedure procedure) rest no_semicolon part_end = procedure-read procedure rest
 
-next-read : (p : Part) (rest : Tokens) → symbol_at Semicolon rest ≡ None → unless_ended part_at (part_tokens p ++ rest) ≡ Some (Some (p, rest))
-next-read (part.Cursor cursor) rest h = ap (λ r. Some r) (part-read (part.Cursor cursor) rest h)
-next-read (part.Procedure procedure) rest h = ap (λ r. Some r) (part-read (part.Procedure procedure) rest h)
+next-read : (p : Part) (rest : Tokens) → symbol_at Semicolon rest ≡ None → is_part_end rest ≡ true → unless_ended part_at (part_tokens p ++ rest) ≡ Some (Some (p, rest))
+next-read (part.Cursor cursor) rest no_semicolon part_end = ap (λ r. Some r) (part-read (part.Cursor cursor) rest no_semicolon part_end)
+next-read (part.Procedure procedure) rest no_semicolon part_end = ap (λ r. Some r) (part-read (part.Procedure procedure) rest no_semicolon part_end)
 
 -- no part begins with a semicolon
 no-semicolon : (parts : List Part) → symbol_at Semicolon (flat_map part_tokens parts) ≡ None
@@ -116,6 +115,11 @@ unfolding symbol_at
 no-semicolon [] = refl
 no-semicolon (part.Cursor cursor ∷ parts) = refl
 no-semicolon (part.Procedure procedure ∷ parts) = refl
+
+parts-end : (parts : List Part) → is_part_end (flat_map part_tokens parts) ≡ true
+parts-end [] = refl
+parts-end (part.Cursor cursor ∷ parts) = refl
+parts-end (part.Procedure procedure ∷ parts) = refl
 
 part-longer : (p : Part) (rest : Tokens) → length rest < length (part_tokens p ++ rest)
 part-longer (part.Cursor cursor) rest = simp length-append (omega arith)
@@ -125,7 +129,7 @@ parts-read : (parts : List Part) → all (unless_ended part_at) (flat_map part_t
 parts-read [] = all-none (unless_ended part_at) [] refl
 parts-read (p ∷ parts) =
     let after : Tokens = flat_map part_tokens parts in
-    all-some (unless_ended part_at) (part_tokens p ++ after) p after (next-read p after (no-semicolon parts)) (part-longer p after) ∙ ap (with_front (p ∷ [])) (parts-read parts)
+    all-some (unless_ended part_at) (part_tokens p ++ after) p after (next-read p after (no-semicolon parts) (parts-end parts)) (part-longer p after) ∙ ap (with_front (p ∷ [])) (parts-read parts)
 
 module-read : (tree : Module) → module_of (module_tokens tree) ≡ Some (tree, [])
 unfolding module_of module_header_at word_at name_at

@@ -1,5 +1,5 @@
 -- Reading a module text of the small language: what is read and the lexemes after it, or nothing.
-use Rattle.std.specs.Prelude.{◌≡◌, ◌<◌, ℕ, Result, Ok, Err, Bool, true, false, List, [], ◌∷◌, Option, Some, None}
+use Rattle.std.specs.Prelude.{◌≡◌, ◌<◌, ℕ, Result, Ok, Err, Bool, true, false, List, [], ◌∷◌, Option, Some, None, if◌then◌else◌}
 use Rattle.sq_lex.specs.declared.name.Name as name
 use Rattle.sq_lex.specs.declared.lexeme.Lexeme.{Lexeme}
 use Rattle.sq_lex.specs.declared.lexeme.Lexeme.TheVariants as lexeme
@@ -21,7 +21,7 @@ use Rattle.sq_first.specs.declared.module_text.Statement.{Statement}
 use Rattle.sq_first.specs.declared.module_text.Statement.TheVariants as statement
 use Rattle.sq_first.specs.Terminals.{Read, symbol_at, word_at, name_at}
 use Rattle.sq_first.specs.Many.{Tokens, ◌>>=◌, all, after_comma, unless_ended}
-use Rattle.sq_first.specs.SchemaReader.{spelling_at, semicolon_at}
+use Rattle.sq_first.specs.SchemaReader.{spelling_at}
 
 -- names between commas
 unfoldable pub columns_at : Tokens → Read Names
@@ -63,6 +63,24 @@ select_at ts = do
   for ← word_at word.For cursor
   word_at word.Select for
 
+abbrev pub begins_part : Lexeme → Bool
+begins_part (lexeme.Word word.Declare) = true
+begins_part (lexeme.Word word.Procedure) = true
+begins_part _ = false
+
+-- whether a part or nothing follows
+abbrev pub is_part_end : Tokens → Bool
+is_part_end [] = true
+is_part_end (t ∷ ts) = begins_part t
+
+abbrev pub cursor_end_by : Tokens → Option Tokens → Read Bool
+cursor_end_by ts (Some rest) = Some (true, rest)
+cursor_end_by ts None = if is_part_end ts then Some (false, ts) else None
+
+-- whether a semicolon ends a cursor; where none does, a part or nothing follows
+unfoldable pub cursor_end_at : Tokens → Read Bool
+cursor_end_at ts = cursor_end_by ts (symbol_at symbol.Semicolon ts)
+
 -- what follows the word DECLARE
 unfoldable pub cursor_at : Tokens → Read Cursor
 cursor_at ts = do
@@ -71,7 +89,8 @@ cursor_at ts = do
   columns ← columns_at select
   from ← word_at word.From columns.1
   table ← name_at from
-  Some (record { name = name.0; columns = columns.0; table = table.0; ended = (semicolon_at table.1).0 }, (semicolon_at table.1).1)
+  ended ← cursor_end_at table.1
+  Some (record { name = name.0; columns = columns.0; table = table.0; ended = ended.0 }, ended.1)
 
 -- what follows the word INSERT
 unfoldable pub insert_at : Tokens → Read Statement

@@ -24,3 +24,6 @@ pub use schema::{Column, Columns, IntegerSpelling, Schema, TableDefinition};
 pub use schema_reader::read_schema;
 pub use script::{Argument, Arguments, Call, Item, Script, Sign, TableItem};
 pub use script_reader::read_script;
+
+#[cfg(test)]
+mod tests;

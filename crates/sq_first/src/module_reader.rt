@@ -4,7 +4,7 @@ ghost use Rattle.std.specs.Prelude.{◌≡◌, ◌≤◌, ◌<◌, ◌∷◌, �
 ghost use Rattle.std.specs.List.{flat_map};
 ghost use Rattle.sq_lex.specs.Token.{lexemes};
 ghost use Rattle.sq_first.specs.Fault.{RefusesModule};
-ghost use Rattle.sq_first.specs.Schema.{comma};
+ghost use Rattle.sq_first.specs.Schema.{comma, semicolon_tokens};
 ghost use Rattle.sq_first.specs.ModuleText.{column_tokens, columns_tokens, argument_tokens, arguments_tokens, cursor_tokens, select_tokens, parameter_tokens, parameters_tokens, from_tokens, statement_tokens, procedure_tokens, part_tokens, header_tokens, module_tokens};
 ghost use Rattle.sq_first.specs.Placed.{starts_from};
 ghost use Rattle.sq_first.specs.Terminals.{lexemes_of, Gives, name_at};
@@ -16,7 +16,7 @@ use crate::module_text::{
     Cursor, FetchStatement, Module, Names, Parameter, Parameters, Part, Procedure, Statement,
 };
 use crate::placed::Placed;
-use crate::schema_reader::{spelling, takes_semicolon};
+use crate::schema_reader::spelling;
 use crate::terminals::{
     Ahead, read_name, read_symbol, read_word, refusal, takes_symbol, takes_word,
 };
@@ -136,6 +136,35 @@ fn read_select(ahead: &mut Ahead<'_>) -> Result<(), Stop>
     read_word(ahead, Word::Select)
 }
 
+/// Whether the next part or the end of the text follows.
+fn is_part_end(ahead: &Ahead<'_>) -> bool
+    ensures { result ≡ spec.is_part_end (lexemes_of ahead.now) }
+{
+    match ahead.tokens.split_first() {
+        Some((token, _)) => matches!(
+            &token.lexeme,
+            Lexeme::Word(Word::Declare) | Lexeme::Word(Word::Procedure)
+        ),
+        None => true,
+    }
+}
+
+/// Whether a semicolon ends a cursor. Where none does, the cursor goes on unless a part or nothing follows.
+#[tactic(auto, unfolding(crate::specs::ModuleReader::cursor_end_at))]
+fn cursor_end(ahead: &mut Ahead<'_>) -> Result<bool, Stop>
+    ensures value { Gives (λ x rest. (x, rest)) result ahead.new (spec.cursor_end_at (lexemes_of ahead.old)) }
+    ensures read { IfOk result (λ x. lexemes_of ahead.old ≡ semicolon_tokens x ++ lexemes_of ahead.new) }
+    ensures shorter { OnOk result (length ahead.new.tokens.now ≤ length ahead.old.tokens.now) }
+{
+    if takes_symbol(ahead, Symbol::Semicolon) {
+        Ok(true)
+    } else if is_part_end(ahead) {
+        Ok(false)
+    } else {
+        Err(refusal(ahead))
+    }
+}
+
 /// What follows the word DECLARE.
 #[tactic(auto, unfolding(crate::specs::ModuleReader::cursor_at))]
 fn cursor(alloc: Global, ahead: &mut Ahead<'_>) -> Result<Cursor, Stop>
@@ -148,7 +177,7 @@ fn cursor(alloc: Global, ahead: &mut Ahead<'_>) -> Result<Cursor, Stop>
     let columns = columns(alloc, ahead)?;
     read_word(ahead, Word::From)?;
     let table = read_name(ahead)?;
-    let ended = takes_semicolon(ahead);
+    let ended = cursor_end(ahead)?;
     Ok(Cursor {
         name,
         columns,

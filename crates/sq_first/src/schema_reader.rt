@@ -119,7 +119,7 @@ fn header(ahead: &mut Ahead<'_>) -> Result<Name, Stop>
 
 /// Whether a semicolon comes next. If it does, it is read.
 #[tactic(auto, unfolding(crate::specs::SchemaReader::semicolon_at))]
-pub fn takes_semicolon(ahead: &mut Ahead<'_>) -> bool
+fn takes_semicolon(ahead: &mut Ahead<'_>) -> bool
     ensures value { spec.semicolon_at (lexemes_of ahead.old) ≡ (result, lexemes_of ahead.new) }
     ensures read { lexemes_of ahead.old ≡ semicolon_tokens result ++ lexemes_of ahead.new }
     ensures shorter { length ahead.new.tokens.now ≤ length ahead.old.tokens.now }
