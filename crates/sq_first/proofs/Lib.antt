@@ -4,6 +4,5 @@ mod Starts
 mod ScriptWhole
 mod NextPart
 mod Lists
-mod SameWord
 mod SchemaWhole
 mod ModuleWhole

@@ -15,7 +15,7 @@ use Rattle.sq_first.specs.Script.{argument_tokens, arguments_tokens, item_tokens
 use Rattle.sq_first.specs.Terminals.{symbol_at, name_at, number_at}
 use Rattle.sq_first.specs.Many.{Tokens, with_front, all, after_comma, unless_ended}
 use Rattle.sq_first.specs.Fault.{IsNoScript}
-use Rattle.sq_first.specs.ScriptReader.{signed_at, argument_at, filled_at, bracketed_at, arguments_at, bracketed_by, call_at, table_at, item_at, ended_item_at}
+use Rattle.sq_first.specs.ScriptReader.{signed_at, argument_at, filled_at, listed_at, bracketed_at, arguments_at, bracketed_by, call_at, table_at, item_at, ended_item_at}
 use Rattle.sq_first.proofs.Turns.{all-none, all-some}
 use Rattle.sq_first.proofs.Lists.{commas-read}
 
@@ -44,7 +44,7 @@ unfolding symbol_at
 further-read xs rest = commas-read argument_at argument_tokens argument-read xs (Symbol symbol.Close ∷ rest) refl
 
 filled-read : (x : Argument) (xs : List Argument) (rest : Tokens) → filled_at (join_by argument_tokens comma (x ∷ xs) ++ Symbol symbol.Close ∷ rest) ≡ Some (Bracketed (x ∷ xs), rest)
-unfolding filled_at symbol_at
+unfolding filled_at listed_at symbol_at
 filled-read x xs rest = rw (append_assoc, argument-read, further-read) refl
 
 bracketed-read : (xs : List Argument) (rest : Tokens) → bracketed_at (join_by argument_tokens comma xs ++ Symbol symbol.Close ∷ rest) ≡ Some (Bracketed xs, rest)

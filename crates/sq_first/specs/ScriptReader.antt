@@ -1,5 +1,5 @@
 -- Reading a script: what is read and the lexemes after it, or nothing where the lexemes are no beginning of a script.
-use Rattle.std.specs.Prelude.{Bool, nat_eq, [], ◌∷◌, Option, Some, None, if◌then◌else◌}
+use Rattle.std.specs.Prelude.{Bool, List, nat_eq, [], ◌∷◌, Option, Some, None, if◌then◌else◌}
 use Rattle.std.specs.Cmp.Lexicographic.{pointwise}
 use Rattle.sq_lex.specs.declared.name.Name as name
 use Rattle.sq_lex.specs.declared.lexeme.Lexeme.{Lexeme}
@@ -33,11 +33,15 @@ unfoldable pub argument_at : Tokens → Read Argument
 argument_at [] = None
 argument_at (t ∷ ts) = argument_by ts t
 
+-- the first argument and those that follow it, each after a comma
+unfoldable pub listed_at : Argument → Tokens → Read (List Argument)
+listed_at first ts = with_front (first ∷ []) (all (after_comma argument_at) ts)
+
 -- arguments up to the closing bracket
 unfoldable pub filled_at : Tokens → Read Arguments
 filled_at ts = do
   first ← argument_at ts
-  values ← with_front (first.0 ∷ []) (all (after_comma argument_at) first.1)
+  values ← listed_at first.0 first.1
   rest ← symbol_at symbol.Close values.1
   Some (Bracketed values.0, rest)
 

@@ -1,5 +1,5 @@
 -- Reading single tokens: what is read and the lexemes after it, or nothing.
-use Rattle.std.specs.Prelude.{◌≡◌, ◌<◌, ℕ, Bool, true, false, nat_eq, length, List, [], ◌∷◌, Option, Some, None, Result, Ok, Err, if◌then◌else◌}
+use Rattle.std.specs.Prelude.{◌≡◌, ◌<◌, ◌≤◌, ◌++◌, ℕ, IfOk, OnOk, Bool, true, false, nat_eq, length, List, [], ◌∷◌, Option, Some, None, Result, Ok, Err, if◌then◌else◌}
 use Rattle.sq_lex.specs.declared.name.Name as name
 use Rattle.sq_lex.specs.declared.number.Number as number
 use Rattle.sq_lex.specs.declared.lexeme.Lexeme.{Lexeme}
@@ -29,6 +29,13 @@ Fails (At left) read = read ≡ None
 abbrev pub Gives : {X Y : Type 0} → (X → List Lexeme → Y) → Result X Stop → Ahead → Option Y → Type 0
 Gives view (Ok x) after read = read ≡ Some (view x (lexemes_of after))
 Gives view (Err stop) after read = Fails stop read
+
+-- A function that returned this read a tree behind the lexemes `front`: it is what `tree_at` reads, its token list is
+-- what was read, and no token comes back.
+pub record Reads {A : Type 0} (front : List Lexeme) (tokens : A → List Lexeme) (tree_at : List Lexeme → Read A) (before : Ahead) (result : Result A Stop) (after : Ahead) : Type 0 where
+  pub value : Gives (λ tree rest. (tree, rest)) result after (tree_at (lexemes_of before))
+  pub read : IfOk result (λ tree. front ++ lexemes_of before ≡ tokens tree ++ lexemes_of after)
+  pub within : OnOk result (length after.tokens.now ≤ length before.tokens.now)
 
 -- the same where all is read
 abbrev pub GivesAll : {X Y : Type 0} → (X → Y) → Result X Stop → Read Y → Type 0

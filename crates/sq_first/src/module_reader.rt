@@ -7,7 +7,7 @@ ghost use Rattle.sq_first.specs.Fault.{RefusesModule};
 ghost use Rattle.sq_first.specs.Schema.{comma, semicolon_tokens};
 ghost use Rattle.sq_first.specs.ModuleText.{column_tokens, columns_tokens, argument_tokens, arguments_tokens, cursor_tokens, select_tokens, parameter_tokens, parameters_tokens, from_tokens, statement_tokens, procedure_tokens, part_tokens, header_tokens, module_tokens};
 ghost use Rattle.sq_first.specs.Placed.{starts_from};
-ghost use Rattle.sq_first.specs.Terminals.{lexemes_of, Gives, name_at};
+ghost use Rattle.sq_first.specs.Terminals.{lexemes_of, Gives, Reads, name_at};
 ghost use Rattle.sq_first.specs.Many.{all, after_comma, unless_ended};
 ghost use Rattle.sq_first.specs.ModuleReader as spec;
 
@@ -27,9 +27,7 @@ use std::alloc::Global;
 /// Further column names, each after a comma.
 #[tactic(auto, using(crate::proofs::Turns::loops, crate::proofs::Joined::joins), unfolding(crate::specs::Many::after_comma))]
 fn further_columns(alloc: Global, ahead: &mut Ahead<'_>) -> Result<Items<Name>, Stop>
-    ensures value { Gives (λ x rest. (x, rest)) result ahead.new (all (after_comma name_at) (lexemes_of ahead.old)) }
-    ensures read { IfOk result (λ x. lexemes_of ahead.old ≡ flat_map (λ y. comma ++ column_tokens y) x ++ lexemes_of ahead.new) }
-    ensures shorter { OnOk result (length ahead.new.tokens.now ≤ length ahead.old.tokens.now) }
+    ensures { Reads [] (flat_map (λ y. comma ++ column_tokens y)) (all (after_comma name_at)) ahead.old result ahead.new }
 {
     let mut names = Items::new(alloc);
     'commas: while takes_symbol(ahead, Symbol::Comma) {
@@ -40,9 +38,7 @@ fn further_columns(alloc: Global, ahead: &mut Ahead<'_>) -> Result<Items<Name>, 
 
 #[tactic(auto, unfolding(crate::specs::ModuleReader::columns_at))]
 fn columns(alloc: Global, ahead: &mut Ahead<'_>) -> Result<Names, Stop>
-    ensures value { Gives (λ x rest. (x, rest)) result ahead.new (spec.columns_at (lexemes_of ahead.old)) }
-    ensures read { IfOk result (λ x. lexemes_of ahead.old ≡ columns_tokens x ++ lexemes_of ahead.new) }
-    ensures shorter { OnOk result (length ahead.new.tokens.now < length ahead.old.tokens.now) }
+    ensures { Reads [] columns_tokens spec.columns_at ahead.old result ahead.new }
 {
     let first = read_name(ahead)?;
     let rest = further_columns(alloc, ahead)?;
@@ -52,9 +48,7 @@ fn columns(alloc: Global, ahead: &mut Ahead<'_>) -> Result<Names, Stop>
 /// A colon and the name of a parameter.
 #[tactic(auto, unfolding(crate::specs::ModuleReader::argument_at))]
 fn argument(ahead: &mut Ahead<'_>) -> Result<Name, Stop>
-    ensures value { Gives (λ x rest. (x, rest)) result ahead.new (spec.argument_at (lexemes_of ahead.old)) }
-    ensures read { IfOk result (λ x. lexemes_of ahead.old ≡ argument_tokens x ++ lexemes_of ahead.new) }
-    ensures shorter { OnOk result (length ahead.new.tokens.now < length ahead.old.tokens.now) }
+    ensures { Reads [] argument_tokens spec.argument_at ahead.old result ahead.new }
 {
     read_symbol(ahead, Symbol::Colon)?;
     read_name(ahead)
@@ -63,9 +57,7 @@ fn argument(ahead: &mut Ahead<'_>) -> Result<Name, Stop>
 /// Further parameters of a statement, each after a comma.
 #[tactic(auto, using(crate::proofs::Turns::loops, crate::proofs::Joined::joins), unfolding(crate::specs::Many::after_comma))]
 fn further_arguments(alloc: Global, ahead: &mut Ahead<'_>) -> Result<Items<Name>, Stop>
-    ensures value { Gives (λ x rest. (x, rest)) result ahead.new (all (after_comma spec.argument_at) (lexemes_of ahead.old)) }
-    ensures read { IfOk result (λ x. lexemes_of ahead.old ≡ flat_map (λ y. comma ++ argument_tokens y) x ++ lexemes_of ahead.new) }
-    ensures shorter { OnOk result (length ahead.new.tokens.now ≤ length ahead.old.tokens.now) }
+    ensures { Reads [] (flat_map (λ y. comma ++ argument_tokens y)) (all (after_comma spec.argument_at)) ahead.old result ahead.new }
 {
     let mut names = Items::new(alloc);
     'commas: while takes_symbol(ahead, Symbol::Comma) {
@@ -76,9 +68,7 @@ fn further_arguments(alloc: Global, ahead: &mut Ahead<'_>) -> Result<Items<Name>
 
 #[tactic(auto, unfolding(crate::specs::ModuleReader::arguments_at))]
 fn arguments(alloc: Global, ahead: &mut Ahead<'_>) -> Result<Names, Stop>
-    ensures value { Gives (λ x rest. (x, rest)) result ahead.new (spec.arguments_at (lexemes_of ahead.old)) }
-    ensures read { IfOk result (λ x. lexemes_of ahead.old ≡ arguments_tokens x ++ lexemes_of ahead.new) }
-    ensures shorter { OnOk result (length ahead.new.tokens.now < length ahead.old.tokens.now) }
+    ensures { Reads [] arguments_tokens spec.arguments_at ahead.old result ahead.new }
 {
     let first = argument(ahead)?;
     let rest = further_arguments(alloc, ahead)?;
@@ -87,9 +77,7 @@ fn arguments(alloc: Global, ahead: &mut Ahead<'_>) -> Result<Names, Stop>
 
 #[tactic(auto, unfolding(crate::specs::ModuleReader::parameter_at))]
 fn parameter(ahead: &mut Ahead<'_>) -> Result<Parameter, Stop>
-    ensures value { Gives (λ x rest. (x, rest)) result ahead.new (spec.parameter_at (lexemes_of ahead.old)) }
-    ensures read { IfOk result (λ x. lexemes_of ahead.old ≡ parameter_tokens x ++ lexemes_of ahead.new) }
-    ensures shorter { OnOk result (length ahead.new.tokens.now < length ahead.old.tokens.now) }
+    ensures { Reads [] parameter_tokens spec.parameter_at ahead.old result ahead.new }
 {
     if takes_word(ahead, Word::Sqlcode) {
         return Ok(Parameter::Sqlcode);
@@ -102,9 +90,7 @@ fn parameter(ahead: &mut Ahead<'_>) -> Result<Parameter, Stop>
 /// Further declarations, each after a comma.
 #[tactic(auto, using(crate::proofs::Turns::loops, crate::proofs::Joined::joins), unfolding(crate::specs::Many::after_comma))]
 fn further_parameters(alloc: Global, ahead: &mut Ahead<'_>) -> Result<Items<Parameter>, Stop>
-    ensures value { Gives (λ x rest. (x, rest)) result ahead.new (all (after_comma spec.parameter_at) (lexemes_of ahead.old)) }
-    ensures read { IfOk result (λ x. lexemes_of ahead.old ≡ flat_map (λ y. comma ++ parameter_tokens y) x ++ lexemes_of ahead.new) }
-    ensures shorter { OnOk result (length ahead.new.tokens.now ≤ length ahead.old.tokens.now) }
+    ensures { Reads [] (flat_map (λ y. comma ++ parameter_tokens y)) (all (after_comma spec.parameter_at)) ahead.old result ahead.new }
 {
     let mut parameters = Items::new(alloc);
     'commas: while takes_symbol(ahead, Symbol::Comma) {
@@ -115,9 +101,7 @@ fn further_parameters(alloc: Global, ahead: &mut Ahead<'_>) -> Result<Items<Para
 
 #[tactic(auto, unfolding(crate::specs::ModuleReader::parameters_at))]
 fn parameters(alloc: Global, ahead: &mut Ahead<'_>) -> Result<Parameters, Stop>
-    ensures value { Gives (λ x rest. (x, rest)) result ahead.new (spec.parameters_at (lexemes_of ahead.old)) }
-    ensures read { IfOk result (λ x. lexemes_of ahead.old ≡ parameters_tokens x ++ lexemes_of ahead.new) }
-    ensures shorter { OnOk result (length ahead.new.tokens.now < length ahead.old.tokens.now) }
+    ensures { Reads [] parameters_tokens spec.parameters_at ahead.old result ahead.new }
 {
     let first = parameter(ahead)?;
     let rest = further_parameters(alloc, ahead)?;
@@ -152,9 +136,7 @@ fn is_part_end(ahead: &Ahead<'_>) -> bool
 /// Whether a semicolon ends a cursor. Where none does, the cursor goes on unless a part or nothing follows.
 #[tactic(auto, unfolding(crate::specs::ModuleReader::cursor_end_at))]
 fn cursor_end(ahead: &mut Ahead<'_>) -> Result<bool, Stop>
-    ensures value { Gives (λ x rest. (x, rest)) result ahead.new (spec.cursor_end_at (lexemes_of ahead.old)) }
-    ensures read { IfOk result (λ x. lexemes_of ahead.old ≡ semicolon_tokens x ++ lexemes_of ahead.new) }
-    ensures shorter { OnOk result (length ahead.new.tokens.now ≤ length ahead.old.tokens.now) }
+    ensures { Reads [] semicolon_tokens spec.cursor_end_at ahead.old result ahead.new }
 {
     if takes_symbol(ahead, Symbol::Semicolon) {
         Ok(true)
@@ -168,9 +150,7 @@ fn cursor_end(ahead: &mut Ahead<'_>) -> Result<bool, Stop>
 /// What follows the word DECLARE.
 #[tactic(auto, unfolding(crate::specs::ModuleReader::cursor_at))]
 fn cursor(alloc: Global, ahead: &mut Ahead<'_>) -> Result<Cursor, Stop>
-    ensures value { Gives (λ x rest. (x, rest)) result ahead.new (spec.cursor_at (lexemes_of ahead.old)) }
-    ensures read { IfOk result (λ x. Lexeme.Word Word.Declare ∷ lexemes_of ahead.old ≡ cursor_tokens x ++ lexemes_of ahead.new) }
-    ensures shorter { OnOk result (length ahead.new.tokens.now < length ahead.old.tokens.now) }
+    ensures { Reads (Lexeme.Word Word.Declare ∷ []) cursor_tokens spec.cursor_at ahead.old result ahead.new }
 {
     let name = read_name(ahead)?;
     read_select(ahead)?;
@@ -189,9 +169,7 @@ fn cursor(alloc: Global, ahead: &mut Ahead<'_>) -> Result<Cursor, Stop>
 /// What follows the word INSERT.
 #[tactic(auto, unfolding(crate::specs::ModuleReader::insert_at))]
 fn insert(alloc: Global, ahead: &mut Ahead<'_>) -> Result<Statement, Stop>
-    ensures value { Gives (λ x rest. (x, rest)) result ahead.new (spec.insert_at (lexemes_of ahead.old)) }
-    ensures read { IfOk result (λ x. Lexeme.Word Word.Insert ∷ lexemes_of ahead.old ≡ statement_tokens x ++ lexemes_of ahead.new) }
-    ensures shorter { OnOk result (length ahead.new.tokens.now < length ahead.old.tokens.now) }
+    ensures { Reads (Lexeme.Word Word.Insert ∷ []) statement_tokens spec.insert_at ahead.old result ahead.new }
 {
     read_word(ahead, Word::Into)?;
     let table = read_name(ahead)?;
@@ -215,9 +193,7 @@ fn takes_from(ahead: &mut Ahead<'_>) -> bool
 /// What follows the word FETCH.
 #[tactic(auto, unfolding(crate::specs::ModuleReader::fetch_at))]
 fn fetch(alloc: Global, ahead: &mut Ahead<'_>) -> Result<Statement, Stop>
-    ensures value { Gives (λ x rest. (x, rest)) result ahead.new (spec.fetch_at (lexemes_of ahead.old)) }
-    ensures read { IfOk result (λ x. Lexeme.Word Word.Fetch ∷ lexemes_of ahead.old ≡ statement_tokens x ++ lexemes_of ahead.new) }
-    ensures shorter { OnOk result (length ahead.new.tokens.now < length ahead.old.tokens.now) }
+    ensures { Reads (Lexeme.Word Word.Fetch ∷ []) statement_tokens spec.fetch_at ahead.old result ahead.new }
 {
     let from = takes_from(ahead);
     let cursor = read_name(ahead)?;
@@ -232,9 +208,7 @@ fn fetch(alloc: Global, ahead: &mut Ahead<'_>) -> Result<Statement, Stop>
 
 #[tactic(auto, unfolding(crate::specs::ModuleReader::statement_at))]
 fn statement(alloc: Global, ahead: &mut Ahead<'_>) -> Result<Statement, Stop>
-    ensures value { Gives (λ x rest. (x, rest)) result ahead.new (spec.statement_at (lexemes_of ahead.old)) }
-    ensures read { IfOk result (λ x. lexemes_of ahead.old ≡ statement_tokens x ++ lexemes_of ahead.new) }
-    ensures shorter { OnOk result (length ahead.new.tokens.now < length ahead.old.tokens.now) }
+    ensures { Reads [] statement_tokens spec.statement_at ahead.old result ahead.new }
 {
     let Some((token, rest)) = ahead.tokens.split_first() else {
         return Err(refusal(ahead));
@@ -265,9 +239,7 @@ fn statement(alloc: Global, ahead: &mut Ahead<'_>) -> Result<Statement, Stop>
 /// What follows the word PROCEDURE.
 #[tactic(auto, unfolding(crate::specs::ModuleReader::procedure_at))]
 fn procedure(alloc: Global, ahead: &mut Ahead<'_>) -> Result<Procedure, Stop>
-    ensures value { Gives (λ x rest. (x, rest)) result ahead.new (spec.procedure_at (lexemes_of ahead.old)) }
-    ensures read { IfOk result (λ x. Lexeme.Word Word.Procedure ∷ lexemes_of ahead.old ≡ procedure_tokens x ++ lexemes_of ahead.new) }
-    ensures shorter { OnOk result (length ahead.new.tokens.now < length ahead.old.tokens.now) }
+    ensures { Reads (Lexeme.Word Word.Procedure ∷ []) procedure_tokens spec.procedure_at ahead.old result ahead.new }
 {
     let name = read_name(ahead)?;
     read_symbol(ahead, Symbol::Open)?;
@@ -285,8 +257,7 @@ fn procedure(alloc: Global, ahead: &mut Ahead<'_>) -> Result<Procedure, Stop>
 
 #[tactic(auto, unfolding(crate::specs::ModuleReader::part_at))]
 fn part(alloc: Global, ahead: &mut Ahead<'_>) -> Result<Part, Stop>
-    ensures value { Gives (λ x rest. (x, rest)) result ahead.new (spec.part_at (lexemes_of ahead.old)) }
-    ensures read { IfOk result (λ x. lexemes_of ahead.old ≡ part_tokens x ++ lexemes_of ahead.new) }
+    ensures reads { Reads [] part_tokens spec.part_at ahead.old result ahead.new }
     ensures shorter { OnOk result (length ahead.new.tokens.now < length ahead.old.tokens.now) }
 {
     let Some((token, rest)) = ahead.tokens.split_first() else {
@@ -310,9 +281,7 @@ fn part(alloc: Global, ahead: &mut Ahead<'_>) -> Result<Part, Stop>
 /// A module text without its parts.
 #[tactic(auto, unfolding(crate::specs::ModuleReader::module_header_at))]
 fn header(alloc: Global, ahead: &mut Ahead<'_>) -> Result<Module, Stop>
-    ensures value { Gives (λ x rest. (x, rest)) result ahead.new (spec.module_header_at (lexemes_of ahead.old)) }
-    ensures read { IfOk result (λ x. lexemes_of ahead.old ≡ header_tokens x ++ lexemes_of ahead.new) }
-    ensures shorter { OnOk result (length ahead.new.tokens.now < length ahead.old.tokens.now) }
+    ensures { Reads [] header_tokens spec.module_header_at ahead.old result ahead.new }
 {
     read_word(ahead, Word::Module)?;
     let name = read_name(ahead)?;

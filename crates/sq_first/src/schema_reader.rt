@@ -5,7 +5,7 @@ ghost use Rattle.std.specs.List.{flat_map};
 ghost use Rattle.sq_lex.specs.Token.{lexemes};
 ghost use Rattle.sq_first.specs.Fault.{RefusesSchema};
 ghost use Rattle.sq_first.specs.Schema.{comma, spelling_token, semicolon_tokens, column_tokens, columns_tokens, table_tokens, optional_table_tokens, header_tokens, schema_tokens};
-ghost use Rattle.sq_first.specs.Terminals.{lexemes_of, Gives};
+ghost use Rattle.sq_first.specs.Terminals.{lexemes_of, Reads};
 ghost use Rattle.sq_first.specs.Many.{all, after_comma};
 ghost use Rattle.sq_first.specs.SchemaReader as spec;
 
@@ -21,9 +21,7 @@ use std::alloc::Global;
 /// The word that names the type INTEGER.
 #[tactic(auto, unfolding(crate::specs::SchemaReader::spelling_at))]
 pub fn spelling(ahead: &mut Ahead<'_>) -> Result<IntegerSpelling, Stop>
-    ensures value { Gives (λ x rest. (x, rest)) result ahead.new (spec.spelling_at (lexemes_of ahead.old)) }
-    ensures read { IfOk result (λ x. lexemes_of ahead.old ≡ spelling_token x ∷ lexemes_of ahead.new) }
-    ensures shorter { OnOk result (length ahead.new.tokens.now < length ahead.old.tokens.now) }
+    ensures { Reads [] (λ x. spelling_token x ∷ []) spec.spelling_at ahead.old result ahead.new }
 {
     let Some((token, rest)) = ahead.tokens.split_first() else {
         return Err(refusal(ahead));
@@ -39,9 +37,7 @@ pub fn spelling(ahead: &mut Ahead<'_>) -> Result<IntegerSpelling, Stop>
 
 #[tactic(auto, unfolding(crate::specs::SchemaReader::column_at))]
 fn column(ahead: &mut Ahead<'_>) -> Result<Column, Stop>
-    ensures value { Gives (λ x rest. (x, rest)) result ahead.new (spec.column_at (lexemes_of ahead.old)) }
-    ensures read { IfOk result (λ x. lexemes_of ahead.old ≡ column_tokens x ++ lexemes_of ahead.new) }
-    ensures shorter { OnOk result (length ahead.new.tokens.now < length ahead.old.tokens.now) }
+    ensures { Reads [] column_tokens spec.column_at ahead.old result ahead.new }
 {
     let name = read_name(ahead)?;
     let spelling = spelling(ahead)?;
@@ -51,9 +47,7 @@ fn column(ahead: &mut Ahead<'_>) -> Result<Column, Stop>
 /// Further columns, each after a comma.
 #[tactic(auto, using(crate::proofs::Turns::loops, crate::proofs::Joined::joins), unfolding(crate::specs::Many::after_comma))]
 fn further_columns(alloc: Global, ahead: &mut Ahead<'_>) -> Result<Items<Column>, Stop>
-    ensures value { Gives (λ x rest. (x, rest)) result ahead.new (all (after_comma spec.column_at) (lexemes_of ahead.old)) }
-    ensures read { IfOk result (λ x. lexemes_of ahead.old ≡ flat_map (λ y. comma ++ column_tokens y) x ++ lexemes_of ahead.new) }
-    ensures shorter { OnOk result (length ahead.new.tokens.now ≤ length ahead.old.tokens.now) }
+    ensures { Reads [] (flat_map (λ y. comma ++ column_tokens y)) (all (after_comma spec.column_at)) ahead.old result ahead.new }
 {
     let mut columns = Items::new(alloc);
     'commas: while takes_symbol(ahead, Symbol::Comma) {
@@ -64,9 +58,7 @@ fn further_columns(alloc: Global, ahead: &mut Ahead<'_>) -> Result<Items<Column>
 
 #[tactic(auto, unfolding(crate::specs::SchemaReader::columns_at))]
 fn columns(alloc: Global, ahead: &mut Ahead<'_>) -> Result<Columns, Stop>
-    ensures value { Gives (λ x rest. (x, rest)) result ahead.new (spec.columns_at (lexemes_of ahead.old)) }
-    ensures read { IfOk result (λ x. lexemes_of ahead.old ≡ columns_tokens x ++ lexemes_of ahead.new) }
-    ensures shorter { OnOk result (length ahead.new.tokens.now < length ahead.old.tokens.now) }
+    ensures { Reads [] columns_tokens spec.columns_at ahead.old result ahead.new }
 {
     let first = column(ahead)?;
     let rest = further_columns(alloc, ahead)?;
@@ -76,9 +68,7 @@ fn columns(alloc: Global, ahead: &mut Ahead<'_>) -> Result<Columns, Stop>
 /// What follows the word CREATE.
 #[tactic(auto, unfolding(crate::specs::SchemaReader::table_at))]
 fn table(alloc: Global, ahead: &mut Ahead<'_>) -> Result<TableDefinition, Stop>
-    ensures value { Gives (λ x rest. (x, rest)) result ahead.new (spec.table_at (lexemes_of ahead.old)) }
-    ensures read { IfOk result (λ x. Lexeme.Word Word.Create ∷ lexemes_of ahead.old ≡ table_tokens x ++ lexemes_of ahead.new) }
-    ensures shorter { OnOk result (length ahead.new.tokens.now < length ahead.old.tokens.now) }
+    ensures { Reads (Lexeme.Word Word.Create ∷ []) table_tokens spec.table_at ahead.old result ahead.new }
 {
     read_word(ahead, Word::Table)?;
     let name = read_name(ahead)?;
@@ -91,9 +81,7 @@ fn table(alloc: Global, ahead: &mut Ahead<'_>) -> Result<TableDefinition, Stop>
 /// The table, where the next word is CREATE.
 #[tactic(auto, unfolding(crate::specs::SchemaReader::optional_table_at))]
 fn optional_table(alloc: Global, ahead: &mut Ahead<'_>) -> Result<Option<TableDefinition>, Stop>
-    ensures value { Gives (λ x rest. (x, rest)) result ahead.new (spec.optional_table_at (lexemes_of ahead.old)) }
-    ensures read { IfOk result (λ x. lexemes_of ahead.old ≡ optional_table_tokens x ++ lexemes_of ahead.new) }
-    ensures shorter { OnOk result (length ahead.new.tokens.now ≤ length ahead.old.tokens.now) }
+    ensures reads { Reads [] optional_table_tokens spec.optional_table_at ahead.old result ahead.new }
     ensures nonempty { OnErr result (0 < length ahead.old.tokens.now) }
 {
     if takes_word(ahead, Word::Create) {
@@ -107,9 +95,7 @@ fn optional_table(alloc: Global, ahead: &mut Ahead<'_>) -> Result<Option<TableDe
 /// The words before the elements, and the schema's user.
 #[tactic(auto, unfolding(crate::specs::SchemaReader::schema_header_at))]
 fn header(ahead: &mut Ahead<'_>) -> Result<Name, Stop>
-    ensures value { Gives (λ x rest. (x, rest)) result ahead.new (spec.schema_header_at (lexemes_of ahead.old)) }
-    ensures read { IfOk result (λ x. lexemes_of ahead.old ≡ header_tokens x ++ lexemes_of ahead.new) }
-    ensures shorter { OnOk result (length ahead.new.tokens.now < length ahead.old.tokens.now) }
+    ensures { Reads [] header_tokens spec.schema_header_at ahead.old result ahead.new }
 {
     read_word(ahead, Word::Create)?;
     read_word(ahead, Word::Schema)?;

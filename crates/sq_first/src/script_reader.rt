@@ -7,7 +7,7 @@ ghost use Rattle.sq_first.specs.Fault.{RefusesScript};
 ghost use Rattle.sq_first.specs.Placed.{starts_from};
 ghost use Rattle.sq_first.specs.Schema.{comma};
 ghost use Rattle.sq_first.specs.Script.{call_name, sign_tokens, argument_tokens, arguments_tokens, item_tokens, ended_item_tokens, script_tokens};
-ghost use Rattle.sq_first.specs.Terminals.{lexemes_of, Gives, GivesAll};
+ghost use Rattle.sq_first.specs.Terminals.{Reads, GivesAll};
 ghost use Rattle.sq_first.specs.Many.{with_front, all, after_comma, unless_ended};
 ghost use Rattle.sq_first.specs.ScriptReader as spec;
 
@@ -22,9 +22,7 @@ use std::alloc::Global;
 /// The number that must follow a sign.
 #[tactic(auto, unfolding(crate::specs::ScriptReader::signed_at))]
 fn signed(sign: Sign, ahead: &mut Ahead<'_>) -> Result<Argument, Stop>
-    ensures value { Gives (λ x rest. (x, rest)) result ahead.new (spec.signed_at sign (lexemes_of ahead.old)) }
-    ensures read { IfOk result (λ x. sign_tokens (Some sign) ++ lexemes_of ahead.old ≡ argument_tokens x ++ lexemes_of ahead.new) }
-    ensures shorter { OnOk result (length ahead.new.tokens.now < length ahead.old.tokens.now) }
+    ensures { Reads (sign_tokens (Some sign)) argument_tokens (spec.signed_at sign) ahead.old result ahead.new }
 {
     let number = read_number(ahead)?;
     Ok(Argument::Number(Some(sign), number))
@@ -32,9 +30,7 @@ fn signed(sign: Sign, ahead: &mut Ahead<'_>) -> Result<Argument, Stop>
 
 #[tactic(auto, unfolding(crate::specs::ScriptReader::argument_at))]
 fn argument(alloc: Global, ahead: &mut Ahead<'_>) -> Result<Argument, Stop>
-    ensures value { Gives (λ x rest. (x, rest)) result ahead.new (spec.argument_at (lexemes_of ahead.old)) }
-    ensures read { IfOk result (λ x. lexemes_of ahead.old ≡ argument_tokens x ++ lexemes_of ahead.new) }
-    ensures shorter { OnOk result (length ahead.new.tokens.now < length ahead.old.tokens.now) }
+    ensures { Reads [] argument_tokens spec.argument_at ahead.old result ahead.new }
 {
     let Some((token, rest)) = ahead.tokens.split_first() else {
         return Err(refusal(ahead));
@@ -60,11 +56,9 @@ fn argument(alloc: Global, ahead: &mut Ahead<'_>) -> Result<Argument, Stop>
 }
 
 /// The arguments of which the first is read already, up to what is no comma.
-#[tactic(auto, using(crate::proofs::Turns::loops, crate::proofs::Joined::joins), unfolding(crate::specs::Many::after_comma))]
+#[tactic(auto, using(crate::proofs::Turns::loops, crate::proofs::Joined::joins), unfolding(crate::specs::ScriptReader::listed_at, crate::specs::Many::after_comma))]
 fn listed(alloc: Global, first: Argument, ahead: &mut Ahead<'_>) -> Result<Items<Argument>, Stop>
-    ensures value { Gives (λ x rest. (x, rest)) result ahead.new (with_front (first ∷ []) (all (after_comma spec.argument_at) (lexemes_of ahead.old))) }
-    ensures read { IfOk result (λ x. argument_tokens first ++ lexemes_of ahead.old ≡ join_by argument_tokens comma x ++ lexemes_of ahead.new) }
-    ensures shorter { OnOk result (length ahead.new.tokens.now ≤ length ahead.old.tokens.now) }
+    ensures { Reads (argument_tokens first) (join_by argument_tokens comma) (spec.listed_at first) ahead.old result ahead.new }
 {
     let mut values = Items::new(alloc);
     values.push(first)?;
@@ -78,9 +72,7 @@ fn listed(alloc: Global, first: Argument, ahead: &mut Ahead<'_>) -> Result<Items
 /// The arguments up to the closing bracket, of which there is one at least.
 #[tactic(auto, unfolding(crate::specs::ScriptReader::filled_at))]
 fn filled(alloc: Global, ahead: &mut Ahead<'_>) -> Result<Arguments, Stop>
-    ensures value { Gives (λ x rest. (x, rest)) result ahead.new (spec.filled_at (lexemes_of ahead.old)) }
-    ensures read { IfOk result (λ x. Lexeme.Symbol Symbol.Open ∷ lexemes_of ahead.old ≡ arguments_tokens x ++ lexemes_of ahead.new) }
-    ensures shorter { OnOk result (length ahead.new.tokens.now < length ahead.old.tokens.now) }
+    ensures { Reads (Lexeme.Symbol Symbol.Open ∷ []) arguments_tokens spec.filled_at ahead.old result ahead.new }
 {
     let first = argument(alloc, ahead)?;
     let values = listed(alloc, first, ahead)?;
@@ -91,9 +83,7 @@ fn filled(alloc: Global, ahead: &mut Ahead<'_>) -> Result<Arguments, Stop>
 /// What follows an opening bracket.
 #[tactic(auto, unfolding(crate::specs::ScriptReader::bracketed_at))]
 fn bracketed(alloc: Global, ahead: &mut Ahead<'_>) -> Result<Arguments, Stop>
-    ensures value { Gives (λ x rest. (x, rest)) result ahead.new (spec.bracketed_at (lexemes_of ahead.old)) }
-    ensures read { IfOk result (λ x. Lexeme.Symbol Symbol.Open ∷ lexemes_of ahead.old ≡ arguments_tokens x ++ lexemes_of ahead.new) }
-    ensures shorter { OnOk result (length ahead.new.tokens.now < length ahead.old.tokens.now) }
+    ensures { Reads (Lexeme.Symbol Symbol.Open ∷ []) arguments_tokens spec.bracketed_at ahead.old result ahead.new }
 {
     if takes_symbol(ahead, Symbol::Close) {
         Ok(Arguments::Bracketed(Items::new(alloc)))
@@ -104,9 +94,7 @@ fn bracketed(alloc: Global, ahead: &mut Ahead<'_>) -> Result<Arguments, Stop>
 
 #[tactic(auto, unfolding(crate::specs::ScriptReader::arguments_at))]
 fn arguments(alloc: Global, ahead: &mut Ahead<'_>) -> Result<Arguments, Stop>
-    ensures value { Gives (λ x rest. (x, rest)) result ahead.new (spec.arguments_at (lexemes_of ahead.old)) }
-    ensures read { IfOk result (λ x. lexemes_of ahead.old ≡ arguments_tokens x ++ lexemes_of ahead.new) }
-    ensures shorter { OnOk result (length ahead.new.tokens.now ≤ length ahead.old.tokens.now) }
+    ensures { Reads [] arguments_tokens spec.arguments_at ahead.old result ahead.new }
 {
     if takes_symbol(ahead, Symbol::Open) {
         bracketed(alloc, ahead)
@@ -118,9 +106,7 @@ fn arguments(alloc: Global, ahead: &mut Ahead<'_>) -> Result<Arguments, Stop>
 /// What follows the word CALL.
 #[tactic(auto, unfolding(crate::specs::ScriptReader::call_at))]
 fn call(alloc: Global, ahead: &mut Ahead<'_>) -> Result<Item, Stop>
-    ensures value { Gives (λ x rest. (x, rest)) result ahead.new (spec.call_at (lexemes_of ahead.old)) }
-    ensures read { IfOk result (λ x. Lexeme.Name call_name ∷ lexemes_of ahead.old ≡ item_tokens x ++ lexemes_of ahead.new) }
-    ensures shorter { OnOk result (length ahead.new.tokens.now < length ahead.old.tokens.now) }
+    ensures { Reads (Lexeme.Name call_name ∷ []) item_tokens spec.call_at ahead.old result ahead.new }
 {
     let module = read_name(ahead)?;
     read_symbol(ahead, Symbol::Dot)?;
@@ -136,9 +122,7 @@ fn call(alloc: Global, ahead: &mut Ahead<'_>) -> Result<Item, Stop>
 /// What follows the word TABLE.
 #[tactic(auto, unfolding(crate::specs::ScriptReader::table_at))]
 fn table(ahead: &mut Ahead<'_>) -> Result<Item, Stop>
-    ensures value { Gives (λ x rest. (x, rest)) result ahead.new (spec.table_at (lexemes_of ahead.old)) }
-    ensures read { IfOk result (λ x. Lexeme.Word Word.Table ∷ lexemes_of ahead.old ≡ item_tokens x ++ lexemes_of ahead.new) }
-    ensures shorter { OnOk result (length ahead.new.tokens.now < length ahead.old.tokens.now) }
+    ensures { Reads (Lexeme.Word Word.Table ∷ []) item_tokens spec.table_at ahead.old result ahead.new }
 {
     let user = read_name(ahead)?;
     read_symbol(ahead, Symbol::Dot)?;
@@ -156,9 +140,7 @@ fn is_call(name: Name) -> bool
 
 #[tactic(auto, unfolding(crate::specs::ScriptReader::item_at))]
 fn item(alloc: Global, ahead: &mut Ahead<'_>) -> Result<Item, Stop>
-    ensures value { Gives (λ x rest. (x, rest)) result ahead.new (spec.item_at (lexemes_of ahead.old)) }
-    ensures read { IfOk result (λ x. lexemes_of ahead.old ≡ item_tokens x ++ lexemes_of ahead.new) }
-    ensures shorter { OnOk result (length ahead.new.tokens.now < length ahead.old.tokens.now) }
+    ensures { Reads [] item_tokens spec.item_at ahead.old result ahead.new }
 {
     let Some((token, rest)) = ahead.tokens.split_first() else {
         return Err(refusal(ahead));
@@ -179,8 +161,7 @@ fn item(alloc: Global, ahead: &mut Ahead<'_>) -> Result<Item, Stop>
 /// An item and the semicolon after it.
 #[tactic(auto, unfolding(crate::specs::ScriptReader::ended_item_at))]
 fn ended_item(alloc: Global, ahead: &mut Ahead<'_>) -> Result<Item, Stop>
-    ensures value { Gives (λ x rest. (x, rest)) result ahead.new (spec.ended_item_at (lexemes_of ahead.old)) }
-    ensures read { IfOk result (λ x. lexemes_of ahead.old ≡ ended_item_tokens x ++ lexemes_of ahead.new) }
+    ensures reads { Reads [] ended_item_tokens spec.ended_item_at ahead.old result ahead.new }
     ensures shorter { OnOk result (length ahead.new.tokens.now < length ahead.old.tokens.now) }
 {
     let item = item(alloc, ahead)?;

@@ -1,7 +1,6 @@
 //! Tokens read one by one.
 
 ghost use Rattle.std.specs.Prelude.{◌≡◌, ◌<◌, ◌∷◌, ◌↔◌, length, OnOk, IfOk, IsTrue};
-ghost use Rattle.sq_lex.specs.Word.{same_word};
 ghost use Rattle.sq_first.specs.Terminals.{lexemes_of, Gives, Took, TookSymbol, TookWord, IsShorter, symbol_place, same_symbol, symbol_at, word_at, name_at, number_at};
 
 use crate::fault::Stop;
@@ -25,14 +24,6 @@ fn is_same_symbol(one: Symbol, other: Symbol) -> bool
     ensures same { IsTrue result ↔ (one ≡ other) }
 {
     place(one) == place(other)
-}
-
-#[tactic(auto, using(crate::proofs::SameWord::words))]
-fn is_same_word(one: Word, other: Word) -> bool
-    ensures value { result ≡ same_word one other }
-    ensures same { IsTrue result → one ≡ other }
-{
-    one.is(other)
 }
 
 /// Why the next token cannot be read.
@@ -85,7 +76,7 @@ pub fn takes_word(ahead: &mut Ahead<'_>, word: Word) -> bool
         return false;
     };
     match &token.lexeme {
-        Lexeme::Word(found) if is_same_word(*found, word) => {
+        Lexeme::Word(found) if found.is(word) => {
             ahead.tokens = rest;
             true
         }

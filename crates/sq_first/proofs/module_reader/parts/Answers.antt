@@ -10,7 +10,7 @@ pub parts-preserved : goal.parts-preserved
 parts-preserved c = record {
   value =
       rw c.in_ok-push.ensures.ok (part-some part_at c.parts.parts c.parts.ahead.tokens.now _ c.in-Ok.part c.part.new.ahead.tokens.now c.parts.invariant.value
-      c.in-Ok.ensures.value c.in-Ok.ensures.shorter);
+      c.in-Ok.ensures.reads.value c.in-Ok.ensures.shorter);
   read = grind (arith, common_steps, parts);
   starts = grind (arith, common_steps, parts);
   within = grind (arith, common_steps);
@@ -27,4 +27,4 @@ returns-in-Err-clause-value c =
     let some : 0 < length c.parts.ahead.tokens.now = search rules in
     let within : c.args.total - length c.parts.ahead.tokens.now < c.args.total = omega arith in
     rw c.not_yet.ensures
-    (part-refused _ c.in-Err.stop _ _ (part-fails part_at c.parts.parts c.parts.ahead.tokens.now _ c.in-Err.stop c.parts.invariant.value c.in-Err.ensures.value some) within)
+    (part-refused _ c.in-Err.stop _ _ (part-fails part_at c.parts.parts c.parts.ahead.tokens.now _ c.in-Err.stop c.parts.invariant.value c.in-Err.ensures.reads.value some) within)

@@ -9,7 +9,7 @@ pub items-preserved : goal.items-preserved
 items-preserved c = record {
   value =
       rw c.in_ok-push.ensures.ok (part-some ended_item_at c.items.items c.items.ahead.tokens.now _ c.in_ok-ended_item.field-0 c.ended_item.new.ahead.tokens.now c.items.invariant.value
-      c.in_ok-ended_item.ensures.value c.in_ok-ended_item.ensures.shorter);
+      c.in_ok-ended_item.ensures.reads.value c.in_ok-ended_item.ensures.shorter);
   read = grind (arith, common_steps, parts);
   starts = grind (arith, common_steps, parts);
   within = grind (arith, common_steps);
@@ -25,4 +25,4 @@ pub returns-in_err-ended_item-clause-value : goal.returns-in_err-ended_item-clau
 returns-in_err-ended_item-clause-value c =
     let some : 0 < length c.items.ahead.tokens.now = search rules in
     all-fails (λ read. read.tree.items) c.from_residual.result c.in_err-ended_item.field-0.0 _ c.from_residual.ensures.1
-    (part-fails ended_item_at c.items.items c.items.ahead.tokens.now _ c.in_err-ended_item.field-0.0 c.items.invariant.value c.in_err-ended_item.ensures.value some)
+    (part-fails ended_item_at c.items.items c.items.ahead.tokens.now _ c.in_err-ended_item.field-0.0 c.items.invariant.value c.in_err-ended_item.ensures.reads.value some)
