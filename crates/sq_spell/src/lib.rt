@@ -16,3 +16,6 @@ mod tree;
 mod writer;
 
 pub use tree::{Tree, depth, token_count, write_tokens};
+
+#[cfg(test)]
+mod tests;
