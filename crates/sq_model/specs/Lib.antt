@@ -1,0 +1,4 @@
+pub mod Program
+pub mod Machine
+pub mod Script
+pub mod Report

@@ -1,0 +1,5 @@
+pub mod Can
+pub mod Known
+pub mod Runs
+pub mod Walk
+pub mod Wrote

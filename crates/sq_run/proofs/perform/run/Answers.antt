@@ -1,0 +1,13 @@
+use Rattle.sq_run.specs.Run.{texts}
+use Rattle.sq_run.proofs.Wrote.{wrote_all, wrote_some}
+use Rattle.sq_run.proofs.perform.run.Goals as goal
+
+pub returns-clause-report : goal.returns-clause-report
+returns-clause-report g c =
+    wrote_all (texts c.args.schemas.now) (texts c.args.modules.now) c.args.script.now c.in_ok-prepared.prepared c.args.limits.row_numbers (g.W.Out.taken c.args.out.now) (g.W.Out.taken c.run_prepared.new.out)
+    c.run_prepared.result c.in_ok-prepared.ensures.prepared c.run_prepared.ensures.report
+
+pub returns-clause-stopped : goal.returns-clause-stopped
+returns-clause-stopped g c =
+    wrote_some (texts c.args.schemas.now) (texts c.args.modules.now) c.args.script.now c.in_ok-prepared.prepared c.args.limits.row_numbers (g.W.Out.taken c.args.out.now) (g.W.Out.taken c.run_prepared.new.out)
+    c.run_prepared.result c.in_ok-prepared.ensures.prepared c.run_prepared.ensures.stopped

@@ -1,0 +1,4 @@
+pub mod Lent
+pub mod Prepared
+pub mod Run
+pub mod Stop

@@ -1,0 +1,227 @@
+//! From texts to a program that can run.
+ghost use Rattle.std.specs.Prelude.{◌≡◌, Some, true, length, map, IfErr, IfOk};
+ghost use Rattle.std.specs.Option.{option_copied, option_map};
+ghost use Rattle.std.specs.List.{list_all};
+ghost use Rattle.sq_first.specs.Schema.{schema_tokens};
+ghost use Rattle.sq_first.specs.ModuleText.{module_tokens};
+ghost use Rattle.sq_model.specs.Script as model;
+ghost use Rattle.sq_model.specs.Script.{IsBound, all_among, can_perform, cursors_of, procedures_of, table_count, schema_table};
+ghost use Rattle.sq_first.specs.Script.{script_tokens};
+ghost use Rattle.sq_run.specs.Run.{Spells, SpellsAtMostOne, texts};
+ghost use Rattle.sq_run.specs.Prepared.{IsPrepared};
+ghost use Rattle.sq_run.specs.Stop.{is_early};
+
+use crate::bind::{column_names, table_of};
+use crate::items::{ItemFault, action_of};
+use crate::module::{MOST_NAMES, ModuleFault, are_distinct, bind_module};
+use crate::refusal::{RefusalName, RunFault};
+use crate::texts::{Text, TextFault, module_of, refused_at, schema_of, script_of};
+use sq_first::{Module, Placed, Schema, Script};
+use sq_items::Items;
+use sq_model::{Action, BoundModule, BoundProcedure};
+use std::alloc::{AllocError, Global};
+
+/// The trees of all texts, and what their names mean.
+#[derive(Debug, Drop)]
+pub(crate) struct Prepared {
+    pub schema: Option<Schema>,
+    pub module: Option<Module>,
+    pub script: Script,
+    pub bound: Option<BoundModule>,
+    pub actions: Items<Action>,
+}
+
+/// The first token of a CREATE TABLE, after the header of its schema.
+const TABLE_TOKEN: usize = 4;
+
+/// The schema, if there is a text of one.
+fn read_schemas(alloc: Global, schemas: &[Vec<u8>]) -> Result<Option<Schema>, TextFault>
+    ensures { IfOk result (λ schema. SpellsAtMostOne schema_tokens (texts schemas.now) schema) }
+{
+    match schemas {
+        [] => Ok(None),
+        [only] => {
+            let text = schema_of(alloc, only.as_slice())?;
+            check_columns(alloc, &text)?;
+            Ok(Some(text.tree))
+        }
+        [first, ..] => {
+            schema_of(alloc, first.as_slice())?;
+            Err(refused_at(&[], 1, 0, RefusalName::NotYet))
+        }
+    }
+}
+
+/// Checks that the table has no column twice and no more than 64.
+fn check_columns(alloc: Global, text: &Text<Schema>) -> Result<(), TextFault> {
+    if let Some(table) = &text.tree.table {
+        let names = column_names(alloc, table)?;
+        if names.len() > MOST_NAMES || !are_distinct(alloc, names.as_slice())? {
+            return Err(refused_at(text.tokens.as_slice(), 0, TABLE_TOKEN, RefusalName::NotYet));
+        }
+    }
+    Ok(())
+}
+
+/// The module, if there is a text of one.
+fn read_modules(
+    alloc: Global,
+    modules: &[Vec<u8>],
+) -> Result<Option<Text<Placed<Module>>>, TextFault>
+    ensures { IfOk result (λ text. SpellsAtMostOne module_tokens (texts modules.now) (option_map (λ t. t.tree.tree) text)) }
+{
+    match modules {
+        [] => Ok(None),
+        [only] => Ok(Some(module_of(alloc, only.as_slice())?)),
+        [first, ..] => {
+            module_of(alloc, first.as_slice())?;
+            Err(refused_at(&[], 1, 0, RefusalName::NotYet))
+        }
+    }
+}
+
+/// The module with its names looked up.
+fn bind_text(
+    alloc: Global,
+    schema: Option<&Schema>,
+    text: &Text<Placed<Module>>,
+) -> Result<BoundModule, TextFault>
+    ensures bound { IfOk result (λ bound. IsBound (option_copied schema.entry) (Some text.now.tree.tree) (Some bound)) }
+    ensures among { IfOk result (λ bound. all_among (table_count (schema_table (option_copied schema.entry))) (length bound.cursors) bound.procedures ≡ true) }
+{
+    let module = &text.tree.tree;
+    match bind_module(alloc, table_of(schema, module.user), module) {
+        Ok(bound) => Ok(bound),
+        Err(ModuleFault::NoMemory) => Err(TextFault::NoMemory),
+        Err(ModuleFault::NotYet(part)) => Err(refused_part(text, part, RefusalName::NotYet)),
+    }
+}
+
+/// A refusal at the first token of a part or an item.
+fn refused_part<T>(text: &Text<Placed<T>>, part: usize, what: RefusalName) -> TextFault {
+    let token = text.tree.starts.as_slice().get(part).copied().unwrap_or(0);
+    refused_at(text.tokens.as_slice(), 0, token, what)
+}
+
+/// The items of the script with their names looked up.
+fn actions_of(
+    alloc: Global,
+    schema: Option<&Schema>,
+    bound: Option<&BoundModule>,
+    text: &Text<Placed<Script>>,
+) -> Result<Items<Action>, TextFault>
+    requires { all_among (table_count (schema_table (option_copied schema))) (length (cursors_of (option_copied bound))) (procedures_of (option_copied bound)) ≡ true }
+    ensures actions { IfOk result (λ actions. map (model.action_of (option_copied schema.entry) (option_copied bound.entry)) text.now.tree.tree.items ≡ map Some actions) }
+    ensures can { IfOk result (λ actions. list_all (can_perform (table_count (schema_table (option_copied schema.entry))) (length (cursors_of (option_copied bound.entry))) (procedures_of (option_copied bound.entry))) actions ≡ true) }
+{
+    let mut actions = Items::new(alloc);
+    let items = text.tree.tree.items.as_slice();
+    for (place, item) in items.iter().enumerate() {
+        match action_of(alloc, schema, bound, item) {
+            Ok(action) => actions.push(action)?,
+            Err(ItemFault::NoMemory) => return Err(TextFault::NoMemory),
+            Err(ItemFault::Refused(what)) => return Err(refused_part(text, place, what)),
+        }
+    }
+    Ok(actions)
+}
+
+/// Reads all texts, schemas first and the script last, and looks up all names. The first refusal is answered.
+pub(crate) fn prepare(
+    alloc: Global,
+    schemas: &[Vec<u8>],
+    modules: &[Vec<u8>],
+    script: &[u8],
+) -> Result<Prepared, RunFault>
+    ensures prepared { IfOk result (IsPrepared (texts schemas.now) (texts modules.now) script.now) }
+    ensures early { IfErr result (λ fault. is_early fault ≡ true) }
+{
+    let schema = match read_schemas(alloc, schemas) {
+        Ok(schema) => schema,
+        Err(TextFault::NoMemory) => return Err(RunFault::NoMemory(0)),
+        Err(TextFault::Refused(refusal)) => return Err(RunFault::SchemaRefused(refusal)),
+    };
+    let (module, bound) = match read_program(alloc, schema.as_ref(), modules) {
+        Ok(read) => read,
+        Err(TextFault::NoMemory) => return Err(RunFault::NoMemory(0)),
+        Err(TextFault::Refused(refusal)) => return Err(RunFault::ModuleRefused(refusal)),
+    };
+    match read_items(alloc, schema.as_ref(), bound.as_ref(), script) {
+        Ok((script, actions)) => Ok(Prepared {
+            schema,
+            module,
+            script,
+            bound,
+            actions,
+        }),
+        Err(TextFault::NoMemory) => Err(RunFault::NoMemory(0)),
+        Err(TextFault::Refused(refusal)) => Err(RunFault::ScriptRefused(refusal)),
+    }
+}
+
+/// The module, if there is a text of one, and what its names mean.
+fn read_program(
+    alloc: Global,
+    schema: Option<&Schema>,
+    modules: &[Vec<u8>],
+) -> Result<(Option<Module>, Option<BoundModule>), TextFault>
+    ensures spelled { IfOk result (λ read. SpellsAtMostOne module_tokens (texts modules.now) read.0) }
+    ensures bound { IfOk result (λ read. IsBound (option_copied schema.entry) read.0 read.1) }
+    ensures among { IfOk result (λ read. all_among (table_count (schema_table (option_copied schema.entry))) (length (cursors_of read.1)) (procedures_of read.1) ≡ true) }
+{
+    match read_modules(alloc, modules)? {
+        Some(text) => {
+            let bound = bind_text(alloc, schema, &text)?;
+            Ok((Some(text.into_tree()), Some(bound)))
+        }
+        None => Ok((None, None)),
+    }
+}
+
+/// The script, and its items with their names looked up.
+fn read_items(
+    alloc: Global,
+    schema: Option<&Schema>,
+    bound: Option<&BoundModule>,
+    script: &[u8],
+) -> Result<(Script, Items<Action>), TextFault>
+    requires { all_among (table_count (schema_table (option_copied schema))) (length (cursors_of (option_copied bound))) (procedures_of (option_copied bound)) ≡ true }
+    ensures spelled { IfOk result (λ read. Spells script.now (script_tokens read.0)) }
+    ensures actions { IfOk result (λ read. map (model.action_of (option_copied schema.entry) (option_copied bound.entry)) read.0.items ≡ map Some read.1) }
+    ensures can { IfOk result (λ read. list_all (can_perform (table_count (schema_table (option_copied schema.entry))) (length (cursors_of (option_copied bound.entry))) (procedures_of (option_copied bound.entry))) read.1 ≡ true) }
+{
+    let text = script_of(alloc, script)?;
+    let actions = actions_of(alloc, schema, bound, &text)?;
+    Ok((text.into_tree(), actions))
+}
+
+impl Prepared {
+    /// How many tables there are.
+    pub(crate) fn tables(&self) -> usize
+        ensures { result ≡ table_count (schema_table self.now.schema) }
+    {
+        match &self.schema {
+            Some(schema) if schema.table.is_some() => 1,
+            _ => 0,
+        }
+    }
+
+    /// How many cursors there are.
+    pub(crate) fn cursors(&self) -> usize
+        ensures { result ≡ length (cursors_of self.now.bound) }
+    {
+        match &self.bound {
+            Some(module) => module.cursors.len(),
+            None => 0,
+        }
+    }
+
+    pub(crate) fn procedures(&self) -> &[BoundProcedure]
+        ensures { result.now ≡ procedures_of self.now.bound }
+    {
+        match &self.bound {
+            Some(module) => module.procedures.as_slice(),
+            None => &[],
+        }
+    }
+}

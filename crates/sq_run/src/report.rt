@@ -1,0 +1,126 @@
+//! The lines of the report.
+ghost use Rattle.std.specs.Prelude.{◌≡◌, ◌++◌, ◌<◌, length, map, OnOk, IfOk};
+ghost use Rattle.std.specs.List.{flat_map};
+ghost use Rattle.sq_store.specs.Content.{table_at};
+ghost use Rattle.sq_model.specs.Report as model;
+ghost use Rattle.sq_run.specs.Lent.{lent};
+
+use crate::session::rows_of;
+use sq_lex::Name;
+use sq_model::{CallAction, Output, Reply, Status};
+use sq_store::Store;
+use sq_value::{Row, Value};
+use std::alloc::{AllocError, Global};
+
+/// SQLSTATE and SQLCODE.
+fn status_codes(status: Status) -> &'static [u8]
+    ensures { result.now ≡ model.status_codes status }
+{
+    match status {
+        Status::SuccessfulCompletion => b"00000 0",
+        Status::NoData => b"02000 100",
+        Status::InvalidCursorState => b"24000 -2400",
+        Status::NoRowNumberLeft => b"S1L00 -9001",
+    }
+}
+
+/// Adds a value as it is spelled: digits, a quoted text or `NULL`.
+fn write_value(alloc: Global, value: &Value, line: &mut Vec<u8>) -> Result<(), AllocError>
+    ensures { OnOk result (line.new.items ≡ line.old.items ++ model.value_codes value.now) }
+{
+    match value {
+        Value::Null => line.extend_from_slice(b"NULL"),
+        Value::Num(number) => line.extend_from_slice(number.write(alloc)?.as_slice()),
+        Value::Chars(text) => write_text(text.codes(), line),
+    }
+}
+
+/// Adds a text in quotes; those inside it are written twice.
+fn write_text(text: &[u8], line: &mut Vec<u8>) -> Result<(), AllocError>
+    ensures { OnOk result (line.new.items ≡ line.old.items ++ model.quoted text.now) }
+{
+    line.push(b'\'')?;
+    for code in text {
+        if *code == b'\'' {
+            line.push(b'\'')?;
+        }
+        line.push(*code)?;
+    }
+    line.push(b'\'')?;
+    Ok(())
+}
+
+/// The line of a call.
+pub(crate) fn call_line(
+    alloc: Global,
+    call: &CallAction,
+    reply: &Reply,
+) -> Result<Vec<u8>, AllocError>
+    ensures { IfOk result (λ line. line.items ≡ model.call_line call.now reply.now) }
+{
+    let mut line = Vec::new(alloc);
+    line.extend_from_slice(call.module.codes())?;
+    line.push(b'.')?;
+    line.extend_from_slice(call.name.codes())?;
+    line.push(b' ')?;
+    line.extend_from_slice(status_codes(reply.status))?;
+    write_outputs(alloc, reply.outputs.as_slice(), &mut line)?;
+    line.push(b'\n')?;
+    Ok(line)
+}
+
+fn write_outputs(alloc: Global, outputs: &[Output], line: &mut Vec<u8>) -> Result<(), AllocError>
+    ensures { OnOk result (line.new.items ≡ line.old.items ++ flat_map model.output_codes outputs.now) }
+{
+    for output in outputs {
+        line.push(b' ')?;
+        line.extend_from_slice(output.name.codes())?;
+        line.push(b'=')?;
+        write_value(alloc, &output.value, line)?;
+    }
+    Ok(())
+}
+
+/// The lines of a table: its names, how many rows it has, and the rows.
+pub(crate) fn table_lines<S: Store>(
+    alloc: Global,
+    store: &S,
+    user: Name,
+    table: Name,
+) -> Result<Vec<u8>, AllocError>
+    requires { 0 < length (S.content_now store.now) }
+    ensures { IfOk result (λ lines. lines.items ≡ model.table_lines user table (table_at (S.content_now store.now) 0)) }
+{
+    let rows = rows_of(alloc, store)?;
+    let mut lines = Vec::from_slice(alloc, b"TABLE ")?;
+    lines.extend_from_slice(user.codes())?;
+    lines.push(b'.')?;
+    lines.extend_from_slice(table.codes())?;
+    lines.push(b' ')?;
+    lines.extend_from_slice(rows.len().to_string(alloc)?.as_bytes())?;
+    lines.push(b'\n')?;
+    write_rows(alloc, rows.as_slice(), &mut lines)?;
+    Ok(lines)
+}
+
+fn write_rows(alloc: Global, rows: &[(u64, &Row)], lines: &mut Vec<u8>) -> Result<(), AllocError>
+    ensures { OnOk result (lines.new.items ≡ lines.old.items ++ flat_map model.row_line (map lent rows.now)) }
+{
+    for row in rows {
+        lines.push(b' ')?;
+        write_row(alloc, row.1.as_slice(), lines)?;
+        lines.push(b'\n')?;
+    }
+    Ok(())
+}
+
+/// Adds the values of a row, each behind a blank.
+fn write_row(alloc: Global, row: &[Value], line: &mut Vec<u8>) -> Result<(), AllocError>
+    ensures { OnOk result (line.new.items ≡ line.old.items ++ flat_map model.blank_value row.now) }
+{
+    for value in row {
+        line.push(b' ')?;
+        write_value(alloc, value, line)?;
+    }
+    Ok(())
+}
