@@ -2,7 +2,9 @@ pub mod Powers
 pub mod Casts
 pub mod Digits
 pub mod Points
-pub mod Padding
 pub mod Totals
 pub mod Cutting
 pub mod Patterns
+pub mod Trim
+pub mod Extremes
+pub mod Keys

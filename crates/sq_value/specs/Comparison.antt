@@ -1,6 +1,7 @@
 -- Comparison of values (ISO/IEC 9075:1992, 8.2).
-use Rattle.std.specs.Prelude.{ℕ, ◌-◌, ◌&&◌, max, Bool, true, false, Option, Some, None, List, [], ◌∷◌, ◌++◌, length, replicate}
+use Rattle.std.specs.Prelude.{ℕ, ◌-◌, max, Bool, true, false, Option, Some, None, List, ◌++◌, length, replicate}
 use Rattle.std.specs.declared.cmp.Ordering.{Ordering}
+use Rattle.std.specs.declared.cmp.Ordering.TheVariants.{Less, Equal, Greater}
 use Rattle.std.specs.Ordering.{nat_cmp, is_eq}
 use Rattle.std.specs.Cmp.Lexicographic.{slice_cmp}
 use Rattle.sq_value.specs.Arithmetic.{compared}
@@ -37,9 +38,21 @@ is_same (Chars s) Null = false
 is_same (Chars s) (Num b) = false
 is_same (Chars s) (Chars t) = is_eq (texts_compared s t)
 
--- rows are the same in every place
-abbrev pub are_same : List Value → List Value → Bool
-are_same [] [] = true
-are_same [] (w ∷ ws) = false
-are_same (v ∷ vs) [] = false
-are_same (v ∷ vs) (w ∷ ws) = is_same v w && are_same vs ws
+-- the order of ORDER BY (13.1): null lowest (own rule). That numbers come before texts is never seen, since the values
+-- of one expression are of one kind
+abbrev pub ordered : Value → Value → Ordering
+ordered Null Null = Equal
+ordered Null (Num b) = Less
+ordered Null (Chars t) = Less
+ordered (Num a) Null = Greater
+ordered (Num a) (Num b) = compared a b
+ordered (Num a) (Chars t) = Less
+ordered (Chars s) Null = Greater
+ordered (Chars s) (Num b) = Greater
+ordered (Chars s) (Chars t) = texts_compared s t
+
+-- where a value stands among those of other kinds
+abbrev pub kind_rank : Value → ℕ
+kind_rank Null = 0
+kind_rank (Num n) = 1
+kind_rank (Chars t) = 2

@@ -9,3 +9,5 @@ pub mod Comparison
 pub mod SetFunctions
 pub mod Retrieving
 pub mod Pattern
+pub mod Key
+pub mod laws

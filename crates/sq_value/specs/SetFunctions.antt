@@ -1,7 +1,11 @@
 -- Set functions over the values of one expression (ISO/IEC 9075:1992, 6.5), which are of one kind: nulls are left out,
 -- and only the final result is tested for its range.
-use Rattle.std.specs.Prelude.{ℕ, ℤ, pos, ◌+ℤ◌, int_div, Option, Some, None, is_some, Bool, Result, Ok, Err, List, [], ◌∷◌, length, fold}
-use Rattle.std.specs.List.{filter_map}
+use Rattle.std.specs.Prelude.{ℕ, ℤ, pos, ◌+ℤ◌, int_div, Option, Some, None, is_some, Bool, Result, Ok, Err, List, [], ◌∷◌, length, fold, true, false, filter, not, find, unwrap_or, if◌then◌else◌}
+use Rattle.std.specs.List.{filter_map, list_all}
+use Rattle.std.specs.Ordering.{is_lt}
+use Rattle.sq_value.specs.Comparison.{ordered}
+use Rattle.sq_value.specs.declared.set_functions.Extreme.{Extreme}
+use Rattle.sq_value.specs.declared.set_functions.Extreme.TheVariants.{Least, Greatest}
 use Rattle.sq_value.specs.Number.{Number}
 use Rattle.sq_value.specs.Arithmetic.{in_range}
 use Rattle.sq_value.specs.declared.fault.ArithmeticFault.{ArithmeticFault}
@@ -53,3 +57,37 @@ summed vs = sum_of (numbers vs)
 
 abbrev pub averaged : List Value → Result Value ArithmeticFault
 averaged vs = mean_of (numbers vs)
+
+-- ---- extremes
+
+abbrev pub is_null : Value → Bool
+is_null Null = true
+is_null (Num n) = false
+is_null (Chars t) = false
+
+abbrev pub without_nulls : List Value → List Value
+without_nulls vs = filter (λ v. not (is_null v)) vs
+
+-- v is lesser than w, or greater
+abbrev pub surpasses : Extreme → Value → Value → Bool
+surpasses Least v w = is_lt (ordered v w)
+surpasses Greatest v w = is_lt (ordered w v)
+
+-- the first of the values that no other surpasses
+abbrev pub is_unsurpassed : Extreme → List Value → Value → Bool
+is_unsurpassed e vs v = list_all (λ w. not (surpasses e w v)) vs
+
+abbrev pub first_unsurpassed : Extreme → List Value → Option Value
+first_unsurpassed e vs = find (is_unsurpassed e vs) vs
+
+-- MIN and MAX: among equals the first (own rule), and null on nothing
+abbrev pub extreme : Extreme → List Value → Value
+extreme e vs = unwrap_or (first_unsurpassed e (without_nulls vs)) Null
+
+-- what the code keeps while it walks along the values
+abbrev pub better_of : Extreme → Option Value → Value → Option Value
+better_of e None v = Some v
+better_of e (Some best) v = if surpasses e v best then Some v else Some best
+
+abbrev pub kept_best : Extreme → Option Value → Value → Option Value
+kept_best e best v = if is_null v then best else better_of e best v

@@ -1,5 +1,5 @@
 -- Texts (4.2). Their codes and their greatest length are own rules.
-use Rattle.std.specs.Prelude.{ℕ, List, ◌++◌, length, take, drop, replicate, ◌≤◌, ◌-◌, ◌==◌, All, Bool}
+use Rattle.std.specs.Prelude.{ℕ, List, ◌++◌, length, take, drop, replicate, ◌≤◌, ◌-◌, ◌==◌, All, Bool, [], ◌∷◌, if◌then◌else◌}
 use Rattle.std.specs.List.{list_all}
 
 -- a printable character of ASCII, the blank among them
@@ -16,3 +16,13 @@ of_length n t = take n t ++ replicate (n - length t) 32
 -- no other code than blanks stands past the first n
 abbrev pub only_blanks_past : ℕ → List ℕ → Bool
 only_blanks_past n t = list_all (λ c. c == 32) (drop n t)
+
+-- a code in front of a text that has no blanks at its end
+abbrev pub trim_onto : ℕ → List ℕ → List ℕ
+trim_onto c [] = if c == 32 then [] else (c ∷ [])
+trim_onto c (d ∷ ds) = c ∷ (d ∷ ds)
+
+-- the text without the blanks at its end
+abbrev pub trimmed : List ℕ → List ℕ
+trimmed [] = []
+trimmed (c ∷ cs) = trim_onto c (trimmed cs)

@@ -1,5 +1,5 @@
 ghost use Rattle.std.specs.Prelude.{◌≡◌, slice_index_or};
-ghost use Rattle.sq_value.specs.Comparison.{texts_compared, values_compared};
+ghost use Rattle.sq_value.specs.Comparison.{texts_compared, values_compared, is_same, ordered, kind_rank};
 
 use crate::value::Value;
 use std::cmp::Ordering;
@@ -20,10 +20,48 @@ impl Value {
             _ => None,
         }
     }
+
+    /// Whether two values are not distinct: both null, or equal numbers, or equal texts.
+    pub fn is_same(&self, other: &Value) -> bool
+        ensures { result ≡ is_same self.now other.now }
+    {
+        match (self, other) {
+            (Value::Null, Value::Null) => true,
+            (Value::Num(left), Value::Num(right)) => left.cmp(*right) == Ordering::Equal,
+            (Value::Chars(left), Value::Chars(right)) => {
+                compare_texts(left.codes(), right.codes()) == Ordering::Equal
+            }
+            _ => false,
+        }
+    }
+
+    /// The order of ORDER BY: null lowest, then as the values compare.
+    pub fn order(&self, other: &Value) -> Ordering
+        ensures { result ≡ ordered self.now other.now }
+    {
+        match (self, other) {
+            (Value::Num(left), Value::Num(right)) => left.cmp(*right),
+            (Value::Chars(left), Value::Chars(right)) => {
+                compare_texts(left.codes(), right.codes())
+            }
+            _ => self.kind_rank().cmp(&other.kind_rank()),
+        }
+    }
+
+    /// Null before numbers before texts.
+    fn kind_rank(&self) -> u8
+        ensures { result ≡ kind_rank self.now }
+    {
+        match self {
+            Value::Null => 0,
+            Value::Num(_) => 1,
+            Value::Chars(_) => 2,
+        }
+    }
 }
 
 /// The order of the codes, the shorter list as if padded with blanks.
-#[tactic(auto, using(crate::proofs::Padding::padding))]
+#[tactic(auto, using(crate::specs::laws::Padding::padding))]
 fn compare_texts(left: &[u8], right: &[u8]) -> Ordering
     ensures { result ≡ texts_compared left.now right.now }
 {

@@ -123,6 +123,14 @@ impl Decimal {
         )
     }
 
+    /// The unscaled value at scale 18, which no number of this type is cut at.
+    #[tactic(auto, using(crate::specs::laws::ValueOrder::at_18_is))]
+    pub(crate) fn at_18(self) -> i128
+        ensures { result ≡ (truncated 18 self).unscaled }
+    {
+        self.at_scale(18)
+    }
+
     /// The unscaled value at a scale that is no smaller.
     fn at_scale(self, scale: u8) -> i128
         requires least { self.scale ≤ scale }

@@ -1,9 +1,12 @@
-ghost use Rattle.std.specs.Prelude.{◌≡◌, ◌≤◌, ◌<◌, ◌^◌, length, unsigned_abs, IfSome};
-ghost use Rattle.sq_value.specs.SetFunctions.{numbers, total, summed, averaged, first_scale, is_number, unscaled_of};
+ghost use Rattle.std.specs.Prelude.{◌≡◌, ◌≤◌, ◌<◌, ◌^◌, length, unsigned_abs, IfSome, IfOk};
+ghost use Rattle.std.specs.Option.{option_copied, unwrap_or};
+ghost use Rattle.sq_value.specs.SetFunctions.{numbers, total, summed, averaged, first_scale, is_number, unscaled_of, extreme, surpasses, first_unsurpassed, without_nulls, kept_best};
 
 use crate::fault::ArithmeticFault;
 use crate::value::Value;
 use crate::wide::in_digits;
+use std::alloc::{AllocError, Global};
+use std::cmp::Ordering;
 
 /// SUM of the values that are not null, and null where there is none.
 ///
@@ -32,6 +35,73 @@ pub fn avg(values: &[Value]) -> Result<Value, ArithmeticFault>
             let mean = total(values) / count_numbers(values) as i128;
             Ok(Value::Num(in_digits(mean, scale)?))
         }
+    }
+}
+
+/// MIN of the values that are not null: of equal ones the first, and null where there is none.
+pub fn least(alloc: Global, values: &[Value]) -> Result<Value, AllocError>
+    ensures { IfOk result (λ v. v ≡ extreme Extreme.Least values.now) }
+{
+    copy_of(alloc, best_of(Extreme::Least, values))
+}
+
+/// MAX of the values that are not null: of equal ones the first, and null where there is none.
+pub fn greatest(alloc: Global, values: &[Value]) -> Result<Value, AllocError>
+    ensures { IfOk result (λ v. v ≡ extreme Extreme.Greatest values.now) }
+{
+    copy_of(alloc, best_of(Extreme::Greatest, values))
+}
+
+/// Which end of an order.
+#[derive(Clone, Copy)]
+pub enum Extreme {
+    Least,
+    Greatest,
+}
+
+impl Extreme {
+    /// Whether the first value goes before the second one.
+    fn surpasses(self, value: &Value, other: &Value) -> bool
+        ensures { result ≡ surpasses self value.now other.now }
+    {
+        match self {
+            Extreme::Least => value.order(other) == Ordering::Less,
+            Extreme::Greatest => other.order(value) == Ordering::Less,
+        }
+    }
+}
+
+/// A copy of the value, or null.
+fn copy_of(alloc: Global, value: Option<&Value>) -> Result<Value, AllocError>
+    ensures { IfOk result (λ v. v ≡ unwrap_or (option_copied value.entry) Value.Null) }
+{
+    match value {
+        Some(value) => value.copy(alloc),
+        None => Ok(Value::Null),
+    }
+}
+
+/// The first value that no other surpasses, of those that are not null.
+#[tactic(auto, using(crate::proofs::Extremes::extremes))]
+fn best_of(extreme: Extreme, values: &[Value]) -> Option<&Value>
+    ensures { option_copied result ≡ first_unsurpassed extreme (without_nulls values.now) }
+{
+    let mut best = None;
+    for value in values {
+        best = kept_best(extreme, best, value);
+    }
+    best
+}
+
+fn kept_best<'a>(extreme: Extreme, best: Option<&'a Value>, value: &'a Value) -> Option<&'a Value>
+    ensures { option_copied result ≡ kept_best extreme (option_copied best.entry) value.now }
+{
+    if matches!(value, Value::Null) {
+        return best;
+    }
+    match best {
+        Some(best) if !extreme.surpasses(value, best) => Some(best),
+        _ => Some(value),
     }
 }
 

@@ -1,6 +1,6 @@
 ghost use Rattle.std.specs.Prelude.{◌≡◌, ◌≤◌, IfOk, ◌==◌, take, replicate};
 ghost use Rattle.std.specs.List.{list_all};
-ghost use Rattle.sq_value.specs.Text.{IsText, of_length, only_blanks_past};
+ghost use Rattle.sq_value.specs.Text.{IsText, of_length, only_blanks_past, trimmed};
 
 use sq_items::Items;
 use std::alloc::{AllocError, Global};
@@ -56,6 +56,13 @@ impl Text {
         only_blanks_past(self.codes(), length as usize)
     }
 
+    /// The codes without the blanks at their end.
+    pub(crate) fn without_blanks(&self) -> &[u8]
+        ensures { result.now ≡ trimmed self.now }
+    {
+        without_blanks(self.codes())
+    }
+
     /// The first `length` codes, padded with blanks to that length.
     pub(crate) fn of_length(&self, alloc: Global, length: u16) -> Result<Text, AllocError>
         requires { length ≤ 240 }
@@ -107,4 +114,20 @@ fn only_blanks(codes: &[u8]) -> bool
     ensures { result ≡ list_all (λ c. c == 32) codes.now }
 {
     codes.iter().all(|code| *code == b' ')
+}
+
+#[tactic(auto, using(crate::proofs::Trim::trimmed_blank, crate::proofs::Trim::trimmed_other))]
+fn without_blanks(codes: &[u8]) -> &[u8]
+    ensures { result.now ≡ trimmed codes.now }
+{
+    match codes.split_last() {
+        None => codes,
+        Some((last, front)) => {
+            if *last == b' ' {
+                without_blanks(front)
+            } else {
+                codes
+            }
+        }
+    }
 }

@@ -1,6 +1,6 @@
 use Rattle.std.proofs.Common.{◌≡◌, drop}
 use Rattle.sq_value.specs.Comparison.{texts_compared}
-use Rattle.sq_value.proofs.Padding.{from_front}
+use Rattle.sq_value.specs.laws.Padding.{from_front}
 use Rattle.sq_value.proofs.comparison.compare_texts.Given as goal
 
 abbrev pub invariant-loop-place : goal.invariant-loop-place

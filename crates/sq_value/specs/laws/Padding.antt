@@ -1,10 +1,10 @@
 -- Comparison of texts as if padded with blanks, code by code.
-use Rattle.std.proofs.Common.{◌≡◌, ℕ, zero, suc, ◌+◌, ◌-◌, max, List, [], ◌∷◌, ◌++◌, length, drop, get_or, replicate, refl, sym, ap, ◌∙◌, arith, add-one, append-nil, inl, inr, ◌⊎◌}
+use Rattle.std.proofs.Common.{◌≡◌, ℕ, zero, suc, ◌+◌, ◌-◌, max, List, [], ◌∷◌, ◌++◌, length, drop, get_or, replicate, refl, sym, ap, ◌∙◌, arith, add-one, inl, inr, ◌⊎◌, ◌≤◌}
 use Rattle.std.specs.declared.cmp.Ordering.{Ordering}
 use Rattle.std.specs.declared.cmp.Ordering.TheVariants.{Equal}
 use Rattle.std.specs.Ordering.{nat_cmp, ordering_then}
 use Rattle.std.specs.Cmp.Lexicographic.{slice_cmp}
-use Rattle.sq_value.specs.Comparison.{texts_compared}
+use Rattle.sq_value.specs.Comparison.{texts_compared, padded}
 
 -- the comparison from the front, where a list that has ended goes on with blanks
 abbrev pub from_front : List ℕ → List ℕ → Ordering
@@ -13,27 +13,24 @@ from_front [] (y ∷ ys) = ordering_then (nat_cmp 32 y) (from_front [] ys)
 from_front (x ∷ xs) [] = ordering_then (nat_cmp x 32) (from_front xs [])
 from_front (x ∷ xs) (y ∷ ys) = ordering_then (nat_cmp x y) (from_front xs ys)
 
-blanks_left : (ys : List ℕ) → slice_cmp nat_cmp (replicate (length ys) 32) ys ≡ from_front [] ys
-blanks_left [] = refl
-blanks_left (y ∷ ys) = ap (ordering_then (nat_cmp 32 y)) (blanks_left ys)
+blank_padded : (n : ℕ) → padded (suc n) [] ≡ 32 ∷ padded n []
+blank_padded n = let more : suc n - 0 ≡ suc (n - 0) = omega arith in ap (λ k. replicate k 32) more
 
-blanks_right : (xs : List ℕ) → slice_cmp nat_cmp xs (replicate (length xs) 32) ≡ from_front xs []
-blanks_right [] = refl
-blanks_right (x ∷ xs) = ap (ordering_then (nat_cmp x 32)) (blanks_right xs)
+code_padded : (n x : ℕ) (xs : List ℕ) → padded (suc n) (x ∷ xs) ≡ x ∷ padded n xs
+code_padded n x xs = let same : suc n - suc (length xs) ≡ n - length xs = omega arith in ap (λ k. x ∷ (xs ++ replicate k 32)) same
+
+-- to whatever length both are padded
+pub padded_is : (n : ℕ) (xs ys : List ℕ) → length xs ≤ n → length ys ≤ n → slice_cmp nat_cmp (padded n xs) (padded n ys) ≡ from_front xs ys
+padded_is zero [] [] p q = refl
+padded_is zero [] (y ∷ ys) p q = absurd (omega arith)
+padded_is zero (x ∷ xs) ys p q = absurd (omega arith)
+padded_is (suc n) [] [] p q = (λ i. slice_cmp nat_cmp (blank_padded n i) (blank_padded n i)) ∙ padded_is n [] [] (omega arith) (omega arith)
+padded_is (suc n) [] (y ∷ ys) p q = (λ i. slice_cmp nat_cmp (blank_padded n i) (code_padded n y ys i)) ∙ ap (ordering_then (nat_cmp 32 y)) (padded_is n [] ys (omega arith) (omega arith))
+padded_is (suc n) (x ∷ xs) [] p q = (λ i. slice_cmp nat_cmp (code_padded n x xs i) (blank_padded n i)) ∙ ap (ordering_then (nat_cmp x 32)) (padded_is n xs [] (omega arith) (omega arith))
+padded_is (suc n) (x ∷ xs) (y ∷ ys) p q = (λ i. slice_cmp nat_cmp (code_padded n x xs i) (code_padded n y ys i)) ∙ ap (ordering_then (nat_cmp x y)) (padded_is n xs ys (omega arith) (omega arith))
 
 pub front_is : (xs ys : List ℕ) → texts_compared xs ys ≡ from_front xs ys
-front_is [] ys =
-    let all : max 0 (length ys) - 0 ≡ length ys = omega arith in
-    let none : max 0 (length ys) - length ys ≡ 0 = omega arith in
-    (λ i. slice_cmp nat_cmp (replicate (all i) 32) (ys ++ replicate (none i) 32)) ∙ ap (slice_cmp nat_cmp (replicate (length ys) 32)) (append-nil ys) ∙ blanks_left ys
-front_is (x ∷ xs) [] =
-    let none : max (suc (length xs)) 0 - suc (length xs) ≡ 0 = omega arith in
-    let all : max (suc (length xs)) 0 - 0 ≡ suc (length xs) = omega arith in
-    (λ i. slice_cmp nat_cmp (x ∷ (xs ++ replicate (none i) 32)) (replicate (all i) 32)) ∙ ap (λ zs. slice_cmp nat_cmp (x ∷ zs) (replicate (suc (length xs)) 32)) (append-nil xs) ∙ blanks_right (x ∷ xs)
-front_is (x ∷ xs) (y ∷ ys) =
-    let left : max (suc (length xs)) (suc (length ys)) - suc (length xs) ≡ max (length xs) (length ys) - length xs = omega arith in
-    let right : max (suc (length xs)) (suc (length ys)) - suc (length ys) ≡ max (length xs) (length ys) - length ys = omega arith in
-    (λ i. ordering_then (nat_cmp x y) (slice_cmp nat_cmp (xs ++ replicate (left i) 32) (ys ++ replicate (right i) 32))) ∙ ap (ordering_then (nat_cmp x y)) (front_is xs ys)
+front_is xs ys = padded_is (max (length xs) (length ys)) xs ys (omega arith) (omega arith)
 
 -- what is left of a list from a place on, and what the code reads there
 at_place : (xs : List ℕ) (i : ℕ) → (drop i xs ≡ get_or xs i 32 ∷ drop (suc i) xs) ⊎ ((drop i xs ≡ []) × (get_or xs i 32 ≡ 32) × (drop (suc i) xs ≡ []))

@@ -1,0 +1,6 @@
+use Rattle.std.proofs.Common.{◌≡◌, take}
+use Rattle.sq_value.specs.Key.{in_columns}
+use Rattle.sq_value.proofs.key.Key.of_columns.Given as goal
+
+abbrev pub invariant-loop-column : goal.invariant-loop-column
+invariant-loop-column l = l.parts.items ≡ in_columns l.row (take l.column-index l.columns)

@@ -1,0 +1,4 @@
+pub mod Padding
+pub mod NumberOrder
+pub mod TextOrder
+pub mod ValueOrder
