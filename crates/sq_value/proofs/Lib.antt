@@ -8,3 +8,4 @@ pub mod Patterns
 pub mod Trim
 pub mod Extremes
 pub mod Keys
+pub mod Pieces

@@ -12,6 +12,8 @@ mod retrieving;
 mod set_functions;
 mod spelling;
 mod storing;
+#[cfg(test)]
+mod tests;
 mod text;
 mod truth;
 mod value;

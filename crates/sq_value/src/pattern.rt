@@ -1,6 +1,6 @@
-ghost use Rattle.std.specs.Prelude.{◌≡◌, ◌<◌, ◌+◌, ◌-◌, [], ◌&&◌, ◌||◌, ◌∷◌, ℕ, List, length, slice_index, slice_index_or, MatchResult, Ok, Err, false};
+ghost use Rattle.std.specs.Prelude.{◌≡◌, ◌<◌, ◌+◌, ◌-◌, [], ◌&&◌, ◌||◌, ◌∷◌, ℕ, List, length, slice_index, slice_index_or, MatchResult, IsTrue, ◌↔◌, Ok, Err, false};
 ghost use Rattle.std.specs.Option.{option_copied};
-ghost use Rattle.sq_value.specs.Pattern.{liked, one_code, may_be_escaped, is_escape, plain, pattern_items, takes, AreCuts, AreCutsAsRead, cut_as_read};
+ghost use Rattle.sq_value.specs.Pattern.{liked, one_code, may_be_escaped, is_escape, plain, pattern_items, takes, AreCuts, AreCutsAsRead, cut_as_read, can_be_cut, CanBeCut};
 
 use crate::fault::LikeFault;
 use crate::text::Text;
@@ -22,6 +22,13 @@ pub enum Item {
 ///
 /// It takes time bounded by the product of the two lengths, and no memory.
 pub fn like(text: &Value, pattern: &Value, escape: Option<&Value>) -> Result<Truth, LikeFault>
+    ensures answer { result ≡ liked text.now pattern.now (option_copied escape.entry) }
+    ensures cutting { (items : List Item) (codes : List ℕ) → IsTrue (can_be_cut items codes) ↔ CanBeCut items codes }
+{
+    liked(text, pattern, escape)
+}
+
+fn liked(text: &Value, pattern: &Value, escape: Option<&Value>) -> Result<Truth, LikeFault>
     ensures { result ≡ liked text.now pattern.now (option_copied escape.entry) }
 {
     let (Value::Chars(text), Value::Chars(pattern)) = (text, pattern) else {
