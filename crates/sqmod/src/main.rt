@@ -1,0 +1,98 @@
+//! The program `sqmod`: it reads a command line and the files that it names, runs the script over them, and ends with
+//! a status and, unless all was done, a text on standard error.
+#![tactic(auto)]
+
+ghost use Rattle.std.specs.Prelude.{◌≤◌};
+
+mod command_line;
+mod fault;
+mod session;
+mod texts;
+
+use clap::error::ErrorKind;
+use command_line::{Request, read_request};
+use fault::{Fault, NO_MEMORY, REFUSED};
+use sq_run::MOST_ROW_NUMBERS;
+use std::process::ExitCode;
+use std::rt::{Env, Files};
+use std::{env, io};
+
+fn main(rt: HostRuntime) -> ExitCode {
+    ExitCode::from(status(&rt))
+}
+
+/// Does what the command line asks and gives the status to end with.
+fn status<R: Env + Files + Print + Eprint + AllocGlobal>(rt: &R) -> u8 {
+    match words(rt) {
+        Ok(words) => status_of_words(rt, words.as_slice()),
+        Err(error) => refuse_unreadable_words(rt, &error),
+    }
+}
+
+/// The words of the command line, the program's name first.
+fn words<R: Env + AllocGlobal>(rt: &R) -> io::Result<Vec<String>> {
+    let words = env::args(rt)?.collect(rt.alloc())?;
+    Ok(words)
+}
+
+fn status_of_words<R: Files + Print + Eprint + AllocGlobal>(rt: &R, words: &[String]) -> u8 {
+    match read_request(rt.alloc(), words) {
+        Ok(request) => status_of_request(rt, &request),
+        Err(error) => refuse_words(rt, &error),
+    }
+}
+
+fn status_of_request<R: Files + Print + Eprint + AllocGlobal>(rt: &R, request: &Request<'_>) -> u8
+    requires { request.now.row_numbers ≤ MOST_ROW_NUMBERS }
+{
+    match session::run_request(rt, request) {
+        Ok(()) => 0,
+        Err(fault) => report(rt, request, fault),
+    }
+}
+
+/// Says what `clap` refused. Its want of memory is one after 0 items.
+fn refuse_words<R: Eprint>(rt: &R, error: &clap::Error) -> u8 {
+    if error.kind() == ErrorKind::OutOfMemory {
+        return refuse_for_memory(rt);
+    }
+    let _ = rt.eprint(error);
+    REFUSED
+}
+
+/// Says that the words could not be read: one is no text, or memory is wanting.
+fn refuse_unreadable_words<R: Eprint>(rt: &R, error: &io::Error) -> u8 {
+    if error.kind() == io::ErrorKind::OutOfMemory {
+        return refuse_for_memory(rt);
+    }
+    let _ = eprintln!(rt; "error: a word is not UTF-8");
+    REFUSED
+}
+
+fn refuse_for_memory<R: Eprint>(rt: &R) -> u8 {
+    let _ = eprintln!(rt; "sqmod: want of memory after 0 items");
+    NO_MEMORY
+}
+
+/// Says what went wrong and gives the status for it.
+fn report<R: Eprint>(rt: &R, request: &Request<'_>, fault: Fault) -> u8 {
+    let _ = match fault {
+        Fault::Unread(source) => {
+            let file = request.file(source);
+            eprintln!(rt; "sqmod: {file}: cannot be read")
+        }
+        Fault::Refused(source, refusal) => {
+            let file = request.file(source);
+            let line = refusal.line;
+            let column = refusal.column;
+            let what = refusal.what;
+            eprintln!(rt; "sqmod: {file}:{line}:{column}: {what}")
+        }
+        Fault::Output => eprintln!(rt; "sqmod: output fault"),
+        Fault::NoMemory(items) => eprintln!(rt; "sqmod: want of memory after {items} items"),
+    };
+    fault.status()
+}
+
+#[cfg(test)]
+mod tests;

@@ -1,0 +1,57 @@
+ghost use Rattle.std.specs.Prelude.{◌≤◌};
+
+use crate::command_line::Request;
+use crate::fault::{Fault, Source};
+use crate::texts::{Texts, read_texts};
+use sq_run::{Limits, ListStore, MOST_ROW_NUMBERS, OutOf, RunFault, run};
+use std::alloc::Global;
+use std::io::{self, BufWriter, Write};
+use std::rt::Files;
+
+/// Reads a request's files, runs the script and writes the report to standard output.
+pub(crate) fn run_request<R: Files + Print + AllocGlobal>(
+    rt: &R,
+    request: &Request<'_>,
+) -> Result<(), Fault>
+    requires { request.now.row_numbers ≤ MOST_ROW_NUMBERS }
+{
+    let texts = read_texts(rt, request)?;
+    let limits = Limits {
+        row_numbers: request.row_numbers,
+    };
+    let mut writer = BufWriter::new(rt.alloc(), io::writer(rt)).map_err(|_| Fault::NoMemory(0))?;
+    let ran = run_texts(rt.alloc(), &texts, limits, &mut writer);
+    let flushed = writer.flush().map_err(|_| Fault::Output);
+    ran.and(flushed)
+}
+
+fn run_texts<W: Write>(
+    alloc: Global,
+    texts: &Texts,
+    limits: Limits,
+    writer: &mut W,
+) -> Result<(), Fault>
+    requires { limits.row_numbers ≤ MOST_ROW_NUMBERS }
+{
+    let mut out = OutOf::new(writer);
+    run::<ListStore, OutOf<&mut W>>(
+        alloc,
+        texts.schemas.as_slice(),
+        texts.modules.as_slice(),
+        texts.script.as_slice(),
+        limits,
+        &mut out,
+    )
+    .map_err(fault_of)
+}
+
+/// What a fault of a run means for the program.
+fn fault_of(fault: RunFault) -> Fault {
+    match fault {
+        RunFault::SchemaRefused(refusal) => Fault::Refused(Source::Schema(refusal.text), refusal),
+        RunFault::ModuleRefused(refusal) => Fault::Refused(Source::Module(refusal.text), refusal),
+        RunFault::ScriptRefused(refusal) => Fault::Refused(Source::Script, refusal),
+        RunFault::Write(_) => Fault::Output,
+        RunFault::NoMemory(items) => Fault::NoMemory(items),
+    }
+}
