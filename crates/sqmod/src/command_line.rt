@@ -1,4 +1,5 @@
-ghost use Rattle.std.specs.Prelude.{◌≤◌, IfOk};
+ghost use Rattle.std.specs.Prelude.{◌≡◌, ◌≤◌, None, [], IfOk, codes, map, option_map, slice_get, unwrap_or};
+ghost use Rattle.clap.specs.Words.{found_of, matched_of, one_text, raw_values};
 
 use crate::fault::Source;
 use clap::error::ErrorKind;
@@ -29,7 +30,10 @@ impl<'a> Request<'a> {
     }
 }
 
-fn name_at<'a>(files: &[&'a str], place: usize) -> &'a str {
+/// The name at a place, or no name past the last.
+fn name_at<'a>(files: &[&'a str], place: usize) -> &'a str
+    ensures { result.now ≡ unwrap_or (option_map (λ file. file.now) (slice_get files.now place)) [] }
+{
     files.get(place).copied().unwrap_or("")
 }
 
@@ -58,7 +62,10 @@ fn files<'a>(
     alloc: Global,
     matches: &ArgMatches<'a>,
     option: &str,
-) -> Result<Vec<&'a str>, AllocError> {
+) -> Result<Vec<&'a str>, AllocError>
+    ensures { IfOk result (λ files. map (λ file. file.now) files.items
+        ≡ unwrap_or (option_map raw_values (matched_of (found_of matches.now) option.now)) []) }
+{
     match matches.get_strs(option) {
         Some(files) => Vec::from_slice(alloc, files),
         None => Ok(Vec::new(alloc)),
@@ -66,7 +73,8 @@ fn files<'a>(
 }
 
 fn row_numbers(matches: &ArgMatches<'_>) -> u64
-    ensures { result ≤ MOST_ROW_NUMBERS }
+    ensures limited { result ≤ MOST_ROW_NUMBERS }
+    ensures usual { one_text (found_of matches.now) (codes "rows") ≡ None → result ≡ USUAL_ROW_NUMBERS }
 {
     matches
         .get_one::<u64>("rows")
