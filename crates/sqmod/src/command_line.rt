@@ -4,7 +4,7 @@ ghost use Rattle.clap.specs.Words.{found_of, matched_of, one_text, raw_values};
 use crate::fault::Source;
 use clap::error::ErrorKind;
 use clap::{Arg, ArgAction, ArgMatches, Command, Error, value_parser};
-use sq_run::MOST_ROW_NUMBERS;
+use sq_store::MOST_ROW_NUMBERS;
 use std::alloc::{AllocError, Global};
 
 /// The row numbers of each table where `--rows` is left out.

@@ -12,7 +12,7 @@ mod texts;
 use clap::error::ErrorKind;
 use command_line::{Request, read_request};
 use fault::{Fault, NO_MEMORY, REFUSED};
-use sq_run::MOST_ROW_NUMBERS;
+use sq_store::MOST_ROW_NUMBERS;
 use std::process::ExitCode;
 use std::rt::{Env, Files};
 use std::{env, io};
