@@ -1,0 +1,4 @@
+mod Begins
+mod Levels
+mod Refusals
+mod Turns

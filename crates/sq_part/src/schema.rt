@@ -1,0 +1,107 @@
+//! From the tree of a schema text to the schema of the small language.
+
+ghost use Rattle.std.specs.Prelude.{◌≡◌, IfOk, IfErr};
+ghost use Rattle.sq_part.specs.Schema.{first_column, first_table_element, first_definition, first_element, first_schema};
+ghost use Rattle.sq_part.specs.Fault.{RefusesSchema};
+
+use crate::fault::TakeFault;
+use crate::module::{take_spelling, take_table};
+use crate::part::{Part, take_each};
+use sq_first::{Column, Columns, Schema, TableDefinition};
+use sq_tree::{ColumnDefinition, SchemaElement, SchemaText, TableElement};
+use std::alloc::{AllocError, Global};
+
+fn take_column(column: &ColumnDefinition) -> Option<Column>
+    ensures { result ≡ first_column column.now }
+{
+    if let Some(_) = &column.default {
+        return None;
+    }
+    if !column.constraints.is_empty() {
+        return None;
+    }
+    match take_spelling(column.data_type) {
+        Some(spelling) => Some(Column {
+            name: column.name,
+            spelling,
+        }),
+        None => None,
+    }
+}
+
+impl Part for TableElement {
+    type Small = Column;
+
+    ghost small = { first_table_element };
+
+    fn take(&self, _alloc: Global) -> Result<Option<Column>, AllocError> {
+        match self {
+            TableElement::Column(column) => Ok(take_column(column)),
+            _ => Ok(None),
+        }
+    }
+}
+
+fn take_definition(
+    alloc: Global,
+    table: &sq_tree::TableDefinition,
+) -> Result<Option<TableDefinition>, AllocError>
+    ensures { IfOk result (λ taken. taken ≡ first_definition table.now) }
+{
+    let Some(name) = take_table(table.name) else {
+        return Ok(None);
+    };
+    let Some(first) = table.elements.first.take(alloc)? else {
+        return Ok(None);
+    };
+    let Some(rest) = take_each(alloc, table.elements.rest.as_slice())? else {
+        return Ok(None);
+    };
+    Ok(Some(TableDefinition {
+        name,
+        columns: Columns { first, rest },
+    }))
+}
+
+fn take_element(
+    alloc: Global,
+    element: &SchemaElement,
+) -> Result<Option<TableDefinition>, AllocError>
+    ensures { IfOk result (λ taken. taken ≡ first_element element.now) }
+{
+    match element {
+        SchemaElement::Table(table) => take_definition(alloc, table),
+        SchemaElement::View(_) => Ok(None),
+        SchemaElement::Grant(_) => Ok(None),
+    }
+}
+
+/// The schema of the small language, where the text has one schema definition and it has no element or one table.
+///
+/// `NotYet` has the place of the first element that is not of the small language, and `SecondSchema` comes where there
+/// is none in the first schema definition, but a second definition.
+pub fn take_schema(alloc: Global, tree: &SchemaText) -> Result<Schema, TakeFault>
+    ensures taken { IfOk result (λ taken. first_schema tree.now ≡ Some taken) }
+    ensures refused { IfErr result (RefusesSchema tree.now) }
+{
+    let table = match tree.first.elements.as_slice() {
+        [] => None,
+        [element] => match take_element(alloc, element)? {
+            Some(table) => Some(table),
+            None => return Err(TakeFault::NotYet(0)),
+        },
+        [element, _, ..] => match take_element(alloc, element)? {
+            Some(_) => return Err(TakeFault::NotYet(1)),
+            None => return Err(TakeFault::NotYet(0)),
+        },
+    };
+    if tree.rest.is_empty() {
+        Ok(Schema {
+            user: tree.first.authorization,
+            table,
+            ended: tree.first.semicolon,
+        })
+    } else {
+        Err(TakeFault::SecondSchema)
+    }
+}
