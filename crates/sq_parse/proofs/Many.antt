@@ -3,7 +3,9 @@ use Rattle.std.proofs.Common.{◌≡◌, ℕ, zero, suc, ◌+◌, ◌-◌, ◌<�
 use Rattle.std.proofs.lemmas.Bool.{ltb-true, lt-ltb}
 use Rattle.sq_parse.specs.Reading.{Tokens}
 use Rattle.sq_lex.specs.declared.lexeme.Lexeme.{Lexeme}
-use Rattle.sq_parse.specs.Reading.{Parser, Outcome, turn, many, all, with_front, behind, eat, comma, listed}
+use Rattle.sq_parse.specs.declared.stop.Stop.{Stop}
+use Rattle.sq_parse.specs.declared.stop.Stop.TheVariants.{NoMemory, Unfit}
+use Rattle.sq_parse.specs.Reading.{Stops, Parser, Outcome, turn, many, all, with_front, behind, eat, comma, listed}
 
 cond-same : {A : Type 0} (b : Bool) (x y z : A) → (b ≡ true → x ≡ y) → cond b x z ≡ cond b y z
 cond-same true x y z h = h refl
@@ -73,3 +75,19 @@ pub ruleset loops = (front-none, front-err, front-some, all_ends, listed_ends, a
 pub deeper : {A : Type 0} (p : ℕ → A) (n : ℕ) → 0 < n → p n ≡ p (suc (n - 1))
 deeper p zero h = absurd (omega arith)
 deeper p (suc n) h = ap (λ m. p (suc m)) (omega arith)
+
+-- The steps of a list of items behind commas.
+pub front-nil : {A : Type 0} (r : Outcome (List A)) → with_front [] r ≡ r
+front-nil (Ok x) = refl
+front-nil (Err n) = refl
+
+pub more_stops : {A : Type 0} (parser : Parser A) (xs : List A) (now mid : Tokens) (found : Bool) (r : Outcome (List A)) (stop : Stop) → with_front xs (all (behind comma parser) now) ≡ r → eat comma now ≡ Ok (found, mid) → found ≡ true → Stops (parser mid) stop → Stops r stop
+more_stops parser xs now mid found r NoMemory read e there s = tt
+more_stops parser xs now mid found r (Unfit n) read e there s =
+    let h : eat comma now ≡ Ok (true, mid) = e ∙ ap (λ b. Ok (b, mid)) there in
+    front-err (behind comma parser) xs now r n read (rw h (rw s refl))
+
+pub more_reads : {A : Type 0} (parser : Parser A) (xs : List A) (now mid after : Tokens) (found : Bool) (x : A) (r : Outcome (List A)) → with_front xs (all (behind comma parser) now) ≡ r → eat comma now ≡ Ok (found, mid) → found ≡ true → parser mid ≡ Ok (x, after) → length after < length now → with_front (xs ++ x ∷ []) (all (behind comma parser) after) ≡ r
+more_reads parser xs now mid after found x r read e there s less =
+    let h : eat comma now ≡ Ok (true, mid) = e ∙ ap (λ b. Ok (b, mid)) there in
+    front-some (behind comma parser) xs now r x after read (rw h (rw s refl)) less

@@ -1,3 +1,4 @@
+pub mod Cond
 pub mod DataType
 pub mod Expr
 pub mod Names
@@ -5,3 +6,4 @@ pub mod Nests
 pub mod Reading
 pub mod Refusal
 pub mod Script
+pub mod Select

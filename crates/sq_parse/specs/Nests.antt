@@ -12,3 +12,12 @@ pub record Nests {A : Type 0} (inside : ℕ → Parser A) (left : ℕ) (pre : Gl
       → Reads (inside left old.now) r new.now
   pub shorter : (alloc : Global) (old new : MutBor Tokens) (r : Result A Stop) → post alloc old left r new
       → OnOk r (length new.now < length old.now)
+
+-- A function value that reads an item may always be called, and leaves fewer tokens.
+pub record Advances {A : Type 0} (pre : MutBor Tokens → Type 0) (post : MutBor Tokens → Result A Stop → MutBor Tokens → Type 0) : Type 0 where
+  pub callable : (old : MutBor Tokens) → pre old
+  pub shorter : (old new : MutBor Tokens) (r : Result A Stop) → post old r new → OnOk r (length new.now < length old.now)
+
+-- It reads what the parser does.
+pub record Follows {A : Type 0} (parser : Parser A) (post : MutBor Tokens → Result A Stop → MutBor Tokens → Type 0) : Type 0 where
+  pub value : (old new : MutBor Tokens) (r : Result A Stop) → post old r new → Reads (parser old.now) r new.now

@@ -251,7 +251,7 @@ impl<F: Fn(Global, &mut Reader<'_>, usize) -> Result<Expr, Stop>> Grammar<F> {
 }
 
 /// An expression behind a bracket, which is one of the `left` that could be opened before it.
-fn inner(alloc: Global, tokens: &mut Reader<'_>, left: usize) -> Result<Expr, Stop>
+pub fn inner(alloc: Global, tokens: &mut Reader<'_>, left: usize) -> Result<Expr, Stop>
     requires { 0 < left }
     ensures value { Reads (spec.inside left tokens.old) result tokens.new }
     ensures shorter { OnOk result (length tokens.new < length tokens.old) }

@@ -1,12 +1,16 @@
 //! The parser: from the tokens of a text to its tree.
 #![tactic(auto)]
 
+mod cond;
 mod data_type;
 mod error;
 mod expr;
+mod list;
 mod names;
+mod predicate;
 mod reader;
 mod script;
+mod select;
 mod stop;
 mod text;
 

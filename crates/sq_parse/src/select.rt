@@ -1,0 +1,215 @@
+//! Query specifications.
+
+ghost use Rattle.std.specs.Prelude.{◌≡◌, ◌<◌, ◌≤◌, ◌+◌, length, IfOk, OnOk, OnSome};
+ghost use Rattle.sq_parse.specs.Cond as conditions;
+ghost use Rattle.sq_parse.specs.Cond.{strictly};
+ghost use Rattle.sq_parse.specs.Expr as expressions;
+ghost use Rattle.sq_parse.specs.Nests.{Nests};
+ghost use Rattle.sq_parse.specs.Names.{column_reference};
+ghost use Rattle.sq_parse.specs.Reading.{Reads, all, behind, comma, listed};
+ghost use Rattle.sq_parse.specs.Select as spec;
+
+use crate::cond::{Grammar, Mixed, inner};
+use crate::expr::{inner as inner_expr, quantifier_if_any};
+use crate::list::comma_list;
+use crate::names::{column_reference, table_name};
+use crate::reader::Reader;
+use crate::stop::Stop;
+use sq_items::Items;
+use sq_lex::{Symbol, Word};
+use sq_tree::{
+    ColumnReference, CommaList, Cond, Correlation, Expr, QuerySpecification, SelectList,
+    TableExpression, TableReference,
+};
+use std::alloc::Global;
+
+#[tactic(auto, unfolding(crate::specs::Select::correlation))]
+fn correlation(tokens: &mut Reader<'_>) -> Result<Option<Correlation>, Stop>
+    ensures value { Reads (spec.correlation tokens.old) result tokens.new }
+    ensures no_longer { OnOk result (length tokens.new ≤ length tokens.old) }
+{
+    if tokens.eat_word(Word::As) {
+        let name = tokens.name()?;
+        return Ok(Some(Correlation {
+            as_word: true,
+            name,
+        }));
+    }
+    match tokens.name_if_any() {
+        Some(name) => Ok(Some(Correlation {
+            as_word: false,
+            name,
+        })),
+        None => Ok(None),
+    }
+}
+
+#[tactic(auto, unfolding(crate::specs::Select::table_reference))]
+fn table_reference(tokens: &mut Reader<'_>) -> Result<TableReference, Stop>
+    ensures value { Reads (spec.table_reference tokens.old) result tokens.new }
+    ensures shorter { OnOk result (length tokens.new < length tokens.old) }
+{
+    let table = table_name(tokens)?;
+    let correlation = correlation(tokens)?;
+    Ok(TableReference { table, correlation })
+}
+
+fn tables(alloc: Global, tokens: &mut Reader<'_>) -> Result<CommaList<TableReference>, Stop>
+    ensures value { Reads (listed spec.table_reference tokens.old) result tokens.new }
+    ensures shorter { OnOk result (length tokens.new < length tokens.old) }
+{
+    comma_list(alloc, tokens, table_reference)
+}
+
+#[tactic(auto, unfolding(crate::specs::Select::from_clause))]
+fn from_clause(alloc: Global, tokens: &mut Reader<'_>) -> Result<CommaList<TableReference>, Stop>
+    ensures value { Reads (spec.from_clause tokens.old) result tokens.new }
+    ensures shorter { OnOk result (length tokens.new < length tokens.old) }
+{
+    tokens.expect_word(Word::From)?;
+    tables(alloc, tokens)
+}
+
+fn grouping_columns(
+    alloc: Global,
+    tokens: &mut Reader<'_>,
+) -> Result<CommaList<ColumnReference>, Stop>
+    ensures value { Reads (listed column_reference tokens.old) result tokens.new }
+    ensures shorter { OnOk result (length tokens.new < length tokens.old) }
+{
+    comma_list(alloc, tokens, column_reference)
+}
+
+#[tactic(auto, unfolding(crate::specs::Select::group_by, crate::specs::Select::by_columns))]
+fn group_by(
+    alloc: Global,
+    tokens: &mut Reader<'_>,
+) -> Result<Option<CommaList<ColumnReference>>, Stop>
+    ensures value { Reads (spec.group_by tokens.old) result tokens.new }
+    ensures no_longer { OnOk result (length tokens.new ≤ length tokens.old) }
+{
+    if !tokens.eat_word(Word::Group) {
+        return Ok(None);
+    }
+    tokens.expect_word(Word::By)?;
+    let columns = grouping_columns(alloc, tokens)?;
+    Ok(Some(columns))
+}
+
+impl<F: Fn(Global, &mut Reader<'_>, usize) -> Result<Mixed<Cond>, Stop>> Grammar<F> {
+    /// The expressions behind the first of a list that stands behind a bracket.
+    #[tactic(auto, using(crate::proofs::Many::loops))]
+    fn more_exprs(&self, tokens: &mut Reader<'_>) -> Result<Items<Expr>, Stop>
+        requires { 0 < self.now.left }
+        ensures value { Reads (all (behind comma (expressions.inside self.now.left)) tokens.old) result tokens.new }
+        ensures no_longer { OnOk result (length tokens.new ≤ length tokens.old) }
+    {
+        let mut items = Items::new(self.alloc);
+        while tokens.eat(Symbol::Comma) {
+            let expr = inner_expr(self.alloc, tokens, self.left)?;
+            items.push(expr)?;
+        }
+        Ok(items)
+    }
+
+    /// A list of expressions behind a bracket.
+    pub fn inner_exprs(&self, tokens: &mut Reader<'_>) -> Result<CommaList<Expr>, Stop>
+        requires { 0 < self.now.left }
+        ensures value { Reads (listed (expressions.inside self.now.left) tokens.old) result tokens.new }
+        ensures shorter { OnOk result (length tokens.new < length tokens.old) }
+    {
+        let first = inner_expr(self.alloc, tokens, self.left)?;
+        let rest = self.more_exprs(tokens)?;
+        Ok(CommaList { first, rest })
+    }
+
+    #[tactic(auto, unfolding(crate::specs::Select::select_list))]
+    fn select_list(&self, tokens: &mut Reader<'_>) -> Result<SelectList, Stop>
+        requires { 0 < self.now.left }
+        ensures value { Reads (spec.select_list (expressions.inside self.now.left) tokens.old) result tokens.new }
+        ensures shorter { OnOk result (length tokens.new < length tokens.old) }
+    {
+        if tokens.eat(Symbol::Star) {
+            return Ok(SelectList::Star);
+        }
+        let items = self.inner_exprs(tokens)?;
+        Ok(SelectList::Items(items))
+    }
+
+    fn where_clause(&self, tokens: &mut Reader<'_>) -> Result<Option<Cond>, Stop>
+        requires nests { Nests conditions.inside self.now.left (F.pre self.now.inner) (F.post self.now.inner) }
+        requires some { 0 < self.now.left }
+        ensures value { Reads (spec.where_clause (strictly (conditions.inside self.now.left)) tokens.old) result tokens.new }
+        ensures no_longer { OnOk result (length tokens.new ≤ length tokens.old) }
+    {
+        if !tokens.eat_word(Word::Where) {
+            return Ok(None);
+        }
+        let cond = self.inner_cond(tokens)?;
+        Ok(Some(cond))
+    }
+
+    fn having_clause(&self, tokens: &mut Reader<'_>) -> Result<Option<Cond>, Stop>
+        requires nests { Nests conditions.inside self.now.left (F.pre self.now.inner) (F.post self.now.inner) }
+        requires some { 0 < self.now.left }
+        ensures value { Reads (spec.having_clause (strictly (conditions.inside self.now.left)) tokens.old) result tokens.new }
+        ensures no_longer { OnOk result (length tokens.new ≤ length tokens.old) }
+    {
+        if !tokens.eat_word(Word::Having) {
+            return Ok(None);
+        }
+        let cond = self.inner_cond(tokens)?;
+        Ok(Some(cond))
+    }
+
+    #[tactic(auto, unfolding(crate::specs::Select::table_expression))]
+    fn table_expression(&self, tokens: &mut Reader<'_>) -> Result<TableExpression, Stop>
+        requires nests { Nests conditions.inside self.now.left (F.pre self.now.inner) (F.post self.now.inner) }
+        requires some { 0 < self.now.left }
+        ensures value { Reads (spec.table_expression (strictly (conditions.inside self.now.left)) tokens.old) result tokens.new }
+        ensures shorter { OnOk result (length tokens.new < length tokens.old) }
+    {
+        let from = from_clause(self.alloc, tokens)?;
+        let where_clause = self.where_clause(tokens)?;
+        let group_by = group_by(self.alloc, tokens)?;
+        let having = self.having_clause(tokens)?;
+        Ok(TableExpression {
+            from,
+            where_clause,
+            group_by,
+            having,
+        })
+    }
+
+    /// A query specification behind a bracket.
+    #[tactic(auto, unfolding(crate::specs::Select::specification))]
+    pub fn inner_query(&self, tokens: &mut Reader<'_>) -> Result<QuerySpecification, Stop>
+        requires nests { Nests conditions.inside self.now.left (F.pre self.now.inner) (F.post self.now.inner) }
+        requires some { 0 < self.now.left }
+        ensures value { Reads (conditions.inner_query self.now.left (conditions.inside self.now.left) tokens.old) result tokens.new }
+        ensures shorter { OnOk result (length tokens.new < length tokens.old) }
+    {
+        tokens.expect_word(Word::Select)?;
+        let quantifier = quantifier_if_any(tokens);
+        let list = self.select_list(tokens)?;
+        let table = self.table_expression(tokens)?;
+        Ok(QuerySpecification {
+            quantifier,
+            list,
+            table,
+        })
+    }
+
+    /// `"(" spec ")"`.
+    #[tactic(auto, unfolding(crate::specs::Cond::subquery))]
+    pub fn subquery(&self, tokens: &mut Reader<'_>) -> Result<QuerySpecification, Stop>
+        requires { Nests conditions.inside self.now.left (F.pre self.now.inner) (F.post self.now.inner) }
+        ensures value { Reads (conditions.subquery self.now.left (conditions.inside self.now.left) tokens.old) result tokens.new }
+        ensures shorter { OnOk result (length tokens.new < length tokens.old) }
+    {
+        tokens.open(self.left)?;
+        let query = self.inner_query(tokens)?;
+        tokens.expect(Symbol::Close)?;
+        Ok(query)
+    }
+}
