@@ -1,4 +1,5 @@
 pub mod Cut
+pub mod Behind
 pub mod Many
 pub mod NamesSound
 pub mod Places

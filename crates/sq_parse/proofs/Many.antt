@@ -91,3 +91,7 @@ pub more_reads : {A : Type 0} (parser : Parser A) (xs : List A) (now mid after :
 more_reads parser xs now mid after found x r read e there s less =
     let h : eat comma now ≡ Ok (true, mid) = e ∙ ap (λ b. Ok (b, mid)) there in
     front-some (behind comma parser) xs now r x after read (rw h (rw s refl)) less
+
+pub item_stops : {A : Type 0} (parser : Parser (Option A)) (xs : List A) (now : Tokens) (r : Outcome (List A)) (stop : Stop) → with_front xs (all parser now) ≡ r → Stops (parser now) stop → Stops r stop
+item_stops parser xs now r NoMemory read s = tt
+item_stops parser xs now r (Unfit n) read s = front-err parser xs now r n read s

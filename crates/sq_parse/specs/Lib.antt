@@ -1,9 +1,12 @@
 pub mod Cond
 pub mod DataType
 pub mod Expr
+pub mod Module
 pub mod Names
 pub mod Nests
+pub mod Query
 pub mod Reading
 pub mod Refusal
 pub mod Script
 pub mod Select
+pub mod Statement

@@ -1,5 +1,5 @@
 -- A function value that reads what stands behind a bracket.
-use Rattle.std.specs.Prelude.{ℕ, Result, ◌<◌, length, OnOk}
+use Rattle.std.specs.Prelude.{ℕ, Result, Option, ◌<◌, ◌≤◌, length, OnOk, OnSome, IfOk}
 use Rattle.std.specs.declared.alloc.Global.{Global}
 use denote.Ref.{MutBor}
 use Rattle.sq_parse.specs.declared.stop.Stop.{Stop}
@@ -21,3 +21,9 @@ pub record Advances {A : Type 0} (pre : MutBor Tokens → Type 0) (post : MutBor
 -- It reads what the parser does.
 pub record Follows {A : Type 0} (parser : Parser A) (post : MutBor Tokens → Result A Stop → MutBor Tokens → Type 0) : Type 0 where
   pub value : (old new : MutBor Tokens) (r : Result A Stop) → post old r new → Reads (parser old.now) r new.now
+
+-- The same of one that reads an item only if one comes.
+pub record AdvancesIfAny {A : Type 0} (pre : MutBor Tokens → Type 0) (post : MutBor Tokens → Result (Option A) Stop → MutBor Tokens → Type 0) : Type 0 where
+  pub callable : (old : MutBor Tokens) → pre old
+  pub shorter : (old new : MutBor Tokens) (r : Result (Option A) Stop) → post old r new → IfOk r (λ item. OnSome item (length new.now < length old.now))
+  pub no_longer : (old new : MutBor Tokens) (r : Result (Option A) Stop) → post old r new → OnOk r (length new.now ≤ length old.now)

@@ -6,11 +6,14 @@ mod data_type;
 mod error;
 mod expr;
 mod list;
+mod module;
 mod names;
 mod predicate;
+mod query;
 mod reader;
 mod script;
 mod select;
+mod statement;
 mod stop;
 mod text;
 

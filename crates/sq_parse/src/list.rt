@@ -1,7 +1,7 @@
 //! Lists with commas, over what reads an item.
 
-ghost use Rattle.std.specs.Prelude.{◌≡◌, ◌<◌, ◌≤◌, length, OnOk};
-ghost use Rattle.sq_parse.specs.Nests.{Advances, Follows};
+ghost use Rattle.std.specs.Prelude.{◌≡◌, ◌<◌, ◌≤◌, Option, length, OnOk};
+ghost use Rattle.sq_parse.specs.Nests.{Advances, AdvancesIfAny, Follows};
 ghost use Rattle.sq_parse.specs.Reading.{Parser, Reads, all, behind, comma, listed};
 
 use crate::reader::Reader;
@@ -49,5 +49,26 @@ pub fn comma_list<T: Drop, P: Fn(&mut Reader<'_>) -> Result<T, Stop>>(
     match more(alloc, tokens, &item) {
         Ok(rest) => Ok(CommaList { first, rest }),
         Err(stop) => Err(stop),
+    }
+}
+
+/// Items again and again, until there is none.
+#[tactic(auto, using(crate::proofs::Many::loops))]
+pub fn items<T: Drop, P: Fn(&mut Reader<'_>) -> Result<Option<T>, Stop>>(
+    alloc: Global,
+    tokens: &mut Reader<'_>,
+    item: P,
+) -> Result<Items<T>, Stop>
+    requires { AdvancesIfAny (P.pre item) (P.post item) }
+    ensures value { (parser : Parser (Option T)) → Follows parser (P.post item) → Reads (all parser tokens.old) result tokens.new }
+    ensures no_longer { OnOk result (length tokens.new ≤ length tokens.old) }
+{
+    let mut items = Items::new(alloc);
+    loop {
+        match item(tokens) {
+            Ok(Some(next)) => items.push(next)?,
+            Ok(None) => return Ok(items),
+            Err(stop) => return Err(stop),
+        }
     }
 }

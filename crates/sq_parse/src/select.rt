@@ -213,3 +213,53 @@ impl<F: Fn(Global, &mut Reader<'_>, usize) -> Result<Mixed<Cond>, Stop>> Grammar
         Ok(query)
     }
 }
+
+/// A select list in which `left` brackets may be open at once.
+pub fn select_list(alloc: Global, tokens: &mut Reader<'_>, left: usize) -> Result<SelectList, Stop>
+    requires { left ≤ 32 }
+    ensures value { Reads (spec.select_list (expressions.expr left) tokens.old) result tokens.new }
+    ensures shorter { OnOk result (length tokens.new < length tokens.old) }
+{
+    Grammar {
+        alloc,
+        left: left + 1,
+        inner,
+    }
+    .select_list(tokens)
+}
+
+/// A table expression in which `left` brackets may be open at once.
+pub fn table_expression(
+    alloc: Global,
+    tokens: &mut Reader<'_>,
+    left: usize,
+) -> Result<TableExpression, Stop>
+    requires { left ≤ 32 }
+    ensures value { Reads (spec.table_expression (conditions.cond left) tokens.old) result tokens.new }
+    ensures shorter { OnOk result (length tokens.new < length tokens.old) }
+{
+    Grammar {
+        alloc,
+        left: left + 1,
+        inner,
+    }
+    .table_expression(tokens)
+}
+
+/// A query specification in which `left` brackets may be open at once.
+pub fn query_specification(
+    alloc: Global,
+    tokens: &mut Reader<'_>,
+    left: usize,
+) -> Result<QuerySpecification, Stop>
+    requires { left ≤ 32 }
+    ensures value { Reads (conditions.query_specification left tokens.old) result tokens.new }
+    ensures shorter { OnOk result (length tokens.new < length tokens.old) }
+{
+    Grammar {
+        alloc,
+        left: left + 1,
+        inner,
+    }
+    .inner_query(tokens)
+}

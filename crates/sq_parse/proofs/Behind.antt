@@ -1,0 +1,13 @@
+-- What stands behind a bracket that is one of `left + 1` is what stands outside, where `left` may be opened.
+use Rattle.std.proofs.Common.{◌≡◌, ℕ, ◌+◌, refl, add-one}
+use Rattle.sq_parse.specs.Expr as expressions
+use Rattle.sq_parse.specs.Cond as conditions
+use Rattle.sq_parse.specs.Cond.{strictly}
+
+pub expr-behind : (left : ℕ) → expressions.inside (left + 1) ≡ expressions.expr left
+unfolding expressions.inside
+expr-behind left = rw add-one refl
+
+pub cond-behind : (left : ℕ) → strictly (conditions.inside (left + 1)) ≡ conditions.cond left
+unfolding conditions.inside conditions.cond
+cond-behind left = rw add-one refl

@@ -1,0 +1,5 @@
+use Rattle.sq_parse.proofs.Many.{front-none}
+use Rattle.sq_parse.proofs.list.items.Goals as goal
+
+pub returns-in-Ok-None-clause-value : goal.returns-in-Ok-None-clause-value
+returns-in-Ok-None-clause-value g c = λ parser f. front-none parser _ _ _ _ (c.loop-next.invariant.read parser f) (rw c.in-Ok-None.is at (f.value _ _ _ c.item.ensures))

@@ -1,0 +1,51 @@
+-- Query expressions (ISO/IEC 9075:1992, 7.10).
+use Rattle.std.specs.Prelude.{ℕ, zero, suc, Bool, true, false, Option, Some, None, if◌then◌else◌}
+use Rattle.sq_lex.specs.declared.lexeme.Lexeme.TheVariants as lexeme
+use Rattle.sq_lex.specs.declared.symbol.Symbol.TheVariants as symbol
+use Rattle.sq_lex.specs.declared.word.Word.TheVariants as word
+use Rattle.sq_tree.specs.declared.query.QueryTerm.{QueryTerm}
+use Rattle.sq_tree.specs.declared.query.QueryTerm.TheVariants as terms
+use Rattle.sq_tree.specs.declared.query.UnionTerm.{UnionTerm}
+use Rattle.sq_tree.specs.declared.query.Query.{Query, roll-Query}
+use Rattle.sq_parse.specs.Reading.{Parser, ◌>>=◌, ◌>>◌, pure, stuck, and_then, eat_word, opened, sees, behind, all}
+use Rattle.sq_parse.specs.Expr.{close}
+use Rattle.sq_parse.specs.Cond.{query_specification}
+
+-- `inner` reads behind a bracket that is one of the `left` that may be opened
+module _ (left : ℕ) (inner : Parser Query) where
+  unfoldable pub bracketed : Parser QueryTerm
+  bracketed = do
+    opened left
+    q ← inner
+    close
+    pure (terms.Bracketed q)
+
+  abbrev pub alone : Parser QueryTerm
+  alone = query_specification left >>= λ s. pure (terms.Specification s)
+
+  -- qterm = spec | "(" qexpr ")"
+  unfoldable pub query_term : Parser QueryTerm
+  query_term = λ ts. (if sees (lexeme.Symbol symbol.Open) ts then bracketed else alone) ts
+
+  -- UNION [ ALL ] qterm, whose first word is read already
+  unfoldable pub union_term : Parser UnionTerm
+  union_term = do
+    every ← eat_word word.All
+    t ← query_term
+    pure (record { all = every; term = t })
+
+  -- qexpr = qterm { UNION [ ALL ] qterm }
+  unfoldable pub level : Parser Query
+  level = do
+    first ← query_term
+    rest ← all (behind (lexeme.Word word.Union) union_term)
+    pure (roll-Query (record { first = first; rest = rest }))
+
+-- behind a bracket that is one of the `left` that may be opened
+unfoldable pub inside : ℕ → Parser Query
+inside zero = stuck
+inside (suc left) = level left (inside left)
+
+-- a query expression in which `left` brackets may be open at once
+abbrev pub query : ℕ → Parser Query
+query left = level left (inside left)

@@ -1,0 +1,279 @@
+//! Module texts. In each rule `left` brackets may be open at once.
+
+ghost use Rattle.std.specs.Prelude.{◌≡◌, ◌<◌, ◌≤◌, length, IfOk, OnOk, OnSome};
+ghost use Rattle.sq_parse.specs.Module as spec;
+ghost use Rattle.sq_parse.specs.Reading.{Reads, all, listed, whole};
+
+use crate::data_type::data_type;
+use crate::list::{comma_list, items};
+use crate::query::query;
+use crate::reader::Reader;
+use crate::statement::statement;
+use crate::stop::Stop;
+use sq_items::Items;
+use sq_lex::{Symbol, Word};
+use sq_tree::{
+    BareDeclaration, CommaList, Cursor, Declaration, Declarations, ModuleItem, ModuleText,
+    Procedure, SortDirection, SortKey, SortSpecification,
+};
+use std::alloc::Global;
+
+#[tactic(auto, unfolding(crate::specs::Module::declaration_if_any))]
+fn declaration_if_any(tokens: &mut Reader<'_>) -> Result<Option<Declaration>, Stop>
+    ensures value { Reads (spec.declaration_if_any tokens.old) result tokens.new }
+    ensures shorter { IfOk result (λ item. OnSome item (length tokens.new < length tokens.old)) }
+    ensures no_longer { OnOk result (length tokens.new ≤ length tokens.old) }
+{
+    if tokens.eat(Symbol::Colon) {
+        let name = tokens.name()?;
+        let data_type = data_type(tokens)?;
+        return Ok(Some(Declaration::Parameter(name, data_type)));
+    }
+    if tokens.eat_word(Word::Sqlcode) {
+        return Ok(Some(Declaration::Sqlcode));
+    }
+    if tokens.eat_word(Word::Sqlstate) {
+        return Ok(Some(Declaration::Sqlstate));
+    }
+    Ok(None)
+}
+
+#[tactic(auto, unfolding(crate::specs::Module::declaration))]
+fn declaration(tokens: &mut Reader<'_>) -> Result<Declaration, Stop>
+    ensures value { Reads (spec.declaration tokens.old) result tokens.new }
+    ensures shorter { OnOk result (length tokens.new < length tokens.old) }
+{
+    match declaration_if_any(tokens)? {
+        Some(declaration) => Ok(declaration),
+        None => Err(tokens.stop()),
+    }
+}
+
+/// `[ "," ] decl`, if it comes.
+#[tactic(auto, unfolding(crate::specs::Module::bare_declaration))]
+fn bare_declaration(tokens: &mut Reader<'_>) -> Result<Option<BareDeclaration>, Stop>
+    ensures value { Reads (spec.bare_declaration tokens.old) result tokens.new }
+    ensures shorter { IfOk result (λ item. OnSome item (length tokens.new < length tokens.old)) }
+    ensures no_longer { OnOk result (length tokens.new ≤ length tokens.old) }
+{
+    if tokens.eat(Symbol::Comma) {
+        let declaration = declaration(tokens)?;
+        return Ok(Some(BareDeclaration {
+            comma: true,
+            declaration,
+        }));
+    }
+    match declaration_if_any(tokens)? {
+        Some(declaration) => Ok(Some(BareDeclaration {
+            comma: false,
+            declaration,
+        })),
+        None => Ok(None),
+    }
+}
+
+fn bracketed_declarations(
+    alloc: Global,
+    tokens: &mut Reader<'_>,
+) -> Result<CommaList<Declaration>, Stop>
+    ensures value { Reads (listed spec.declaration tokens.old) result tokens.new }
+    ensures shorter { OnOk result (length tokens.new < length tokens.old) }
+{
+    comma_list(alloc, tokens, declaration)
+}
+
+fn bare_declarations(
+    alloc: Global,
+    tokens: &mut Reader<'_>,
+) -> Result<Items<BareDeclaration>, Stop>
+    ensures value { Reads (all spec.bare_declaration tokens.old) result tokens.new }
+    ensures no_longer { OnOk result (length tokens.new ≤ length tokens.old) }
+{
+    items(alloc, tokens, bare_declaration)
+}
+
+#[tactic(auto, unfolding(crate::specs::Module::declarations))]
+fn declarations(alloc: Global, tokens: &mut Reader<'_>) -> Result<Declarations, Stop>
+    ensures value { Reads (spec.declarations tokens.old) result tokens.new }
+    ensures shorter { OnOk result (length tokens.new < length tokens.old) }
+{
+    if tokens.eat(Symbol::Open) {
+        let declarations = bracketed_declarations(alloc, tokens)?;
+        tokens.expect(Symbol::Close)?;
+        return Ok(Declarations::Bracketed(declarations));
+    }
+    let first = declaration(tokens)?;
+    let rest = bare_declarations(alloc, tokens)?;
+    Ok(Declarations::Bare(first, rest))
+}
+
+/// A procedure whose first word is read already.
+#[tactic(auto, unfolding(crate::specs::Module::procedure))]
+fn procedure(alloc: Global, tokens: &mut Reader<'_>, left: usize) -> Result<Procedure, Stop>
+    requires some { 0 < left }
+    requires small { left ≤ 32 }
+    ensures value { Reads (spec.procedure left tokens.old) result tokens.new }
+    ensures shorter { OnOk result (length tokens.new < length tokens.old) }
+{
+    let name = tokens.name()?;
+    let declarations = declarations(alloc, tokens)?;
+    tokens.expect(Symbol::Semicolon)?;
+    let statement = statement(alloc, tokens, left)?;
+    tokens.expect(Symbol::Semicolon)?;
+    Ok(Procedure {
+        name,
+        declarations,
+        statement,
+    })
+}
+
+#[tactic(auto, unfolding(crate::specs::Module::sort_key))]
+fn sort_key(tokens: &mut Reader<'_>) -> Result<SortKey, Stop>
+    ensures value { Reads (spec.sort_key tokens.old) result tokens.new }
+    ensures shorter { OnOk result (length tokens.new < length tokens.old) }
+{
+    if let Some(number) = tokens.number_if_any() {
+        return Ok(SortKey::Position(number));
+    }
+    let name = tokens.name()?;
+    Ok(SortKey::Column(name))
+}
+
+fn direction_if_any(tokens: &mut Reader<'_>) -> Option<SortDirection>
+    ensures value { spec.direction_if_any tokens.old ≡ Ok (result, tokens.new) }
+    ensures no_longer { length tokens.new ≤ length tokens.old }
+{
+    if tokens.eat_word(Word::Asc) {
+        return Some(SortDirection::Asc);
+    }
+    if tokens.eat_word(Word::Desc) {
+        return Some(SortDirection::Desc);
+    }
+    None
+}
+
+#[tactic(auto, unfolding(crate::specs::Module::sort_specification))]
+fn sort_specification(tokens: &mut Reader<'_>) -> Result<SortSpecification, Stop>
+    ensures value { Reads (spec.sort_specification tokens.old) result tokens.new }
+    ensures shorter { OnOk result (length tokens.new < length tokens.old) }
+{
+    let key = sort_key(tokens)?;
+    let direction = direction_if_any(tokens);
+    Ok(SortSpecification { key, direction })
+}
+
+fn sorts(alloc: Global, tokens: &mut Reader<'_>) -> Result<CommaList<SortSpecification>, Stop>
+    ensures value { Reads (listed spec.sort_specification tokens.old) result tokens.new }
+    ensures shorter { OnOk result (length tokens.new < length tokens.old) }
+{
+    comma_list(alloc, tokens, sort_specification)
+}
+
+#[tactic(auto, unfolding(crate::specs::Module::order_by, crate::specs::Module::by_sorts))]
+fn order_by(
+    alloc: Global,
+    tokens: &mut Reader<'_>,
+) -> Result<Option<CommaList<SortSpecification>>, Stop>
+    ensures value { Reads (spec.order_by tokens.old) result tokens.new }
+    ensures no_longer { OnOk result (length tokens.new ≤ length tokens.old) }
+{
+    if !tokens.eat_word(Word::Order) {
+        return Ok(None);
+    }
+    tokens.expect_word(Word::By)?;
+    let sorts = sorts(alloc, tokens)?;
+    Ok(Some(sorts))
+}
+
+/// A cursor whose first word is read already.
+#[tactic(auto, unfolding(crate::specs::Module::cursor))]
+fn cursor(alloc: Global, tokens: &mut Reader<'_>, left: usize) -> Result<Cursor, Stop>
+    requires { left ≤ 32 }
+    ensures value { Reads (spec.cursor left tokens.old) result tokens.new }
+    ensures shorter { OnOk result (length tokens.new < length tokens.old) }
+{
+    let name = tokens.name()?;
+    let insensitive = tokens.eat_word(Word::Insensitive);
+    let scroll = tokens.eat_word(Word::Scroll);
+    tokens.expect_word(Word::Cursor)?;
+    tokens.expect_word(Word::For)?;
+    let query = query(alloc, tokens, left)?;
+    let order_by = order_by(alloc, tokens)?;
+    let semicolon = tokens.eat(Symbol::Semicolon);
+    Ok(Cursor {
+        name,
+        insensitive,
+        scroll,
+        query,
+        order_by,
+        semicolon,
+    })
+}
+
+/// A cursor or a procedure, if one comes.
+#[tactic(auto, unfolding(crate::specs::Module::item))]
+fn item(alloc: Global, tokens: &mut Reader<'_>, left: usize) -> Result<Option<ModuleItem>, Stop>
+    requires some { 0 < left }
+    requires small { left ≤ 32 }
+    ensures value { Reads (spec.item left tokens.old) result tokens.new }
+    ensures shorter { IfOk result (λ item. OnSome item (length tokens.new < length tokens.old)) }
+    ensures no_longer { OnOk result (length tokens.new ≤ length tokens.old) }
+{
+    if tokens.eat_word(Word::Declare) {
+        let cursor = cursor(alloc, tokens, left)?;
+        return Ok(Some(ModuleItem::Cursor(cursor)));
+    }
+    if tokens.eat_word(Word::Procedure) {
+        let procedure = procedure(alloc, tokens, left)?;
+        return Ok(Some(ModuleItem::Procedure(procedure)));
+    }
+    Ok(None)
+}
+
+fn all_items(
+    alloc: Global,
+    tokens: &mut Reader<'_>,
+    left: usize,
+) -> Result<Items<ModuleItem>, Stop>
+    requires some { 0 < left }
+    requires small { left ≤ 32 }
+    ensures value { Reads (all (spec.item left) tokens.old) result tokens.new }
+    ensures no_longer { OnOk result (length tokens.new ≤ length tokens.old) }
+{
+    items(alloc, tokens, |tokens| item(alloc, tokens, left))
+}
+
+#[tactic(auto, unfolding(crate::specs::Module::module_text))]
+fn module_text(alloc: Global, tokens: &mut Reader<'_>, left: usize) -> Result<ModuleText, Stop>
+    requires some { 0 < left }
+    requires small { left ≤ 32 }
+    ensures { Reads (spec.module_text left tokens.old) result tokens.new }
+{
+    tokens.expect_word(Word::Module)?;
+    let name = tokens.name()?;
+    tokens.expect_word(Word::Language)?;
+    let language = tokens.name()?;
+    tokens.expect_word(Word::Authorization)?;
+    let authorization = tokens.name()?;
+    let items = all_items(alloc, tokens, left)?;
+    Ok(ModuleText {
+        name,
+        language,
+        authorization,
+        items,
+    })
+}
+
+/// All of a module text.
+pub fn whole_module(
+    alloc: Global,
+    tokens: &mut Reader<'_>,
+    left: usize,
+) -> Result<ModuleText, Stop>
+    requires some { 0 < left }
+    requires small { left ≤ 32 }
+    ensures { Reads (whole (spec.module_text left) tokens.old) result tokens.new }
+{
+    let text = module_text(alloc, tokens, left)?;
+    tokens.end(text)
+}
