@@ -5,7 +5,7 @@ use Rattle.sq_parse.specs.Reading.{Tokens}
 use Rattle.sq_lex.specs.declared.lexeme.Lexeme.{Lexeme}
 use Rattle.sq_parse.specs.declared.stop.Stop.{Stop}
 use Rattle.sq_parse.specs.declared.stop.Stop.TheVariants.{NoMemory, Unfit}
-use Rattle.sq_parse.specs.Reading.{Stops, Parser, Outcome, turn, many, all, with_front, behind, eat, comma, listed}
+use Rattle.sq_parse.specs.Reading.{◌>>=◌, and_then, Stops, Parser, Outcome, turn, many, all, with_front, behind, eat, comma, listed}
 
 cond-same : {A : Type 0} (b : Bool) (x y z : A) → (b ≡ true → x ≡ y) → cond b x z ≡ cond b y z
 cond-same true x y z h = h refl
@@ -95,3 +95,12 @@ more_reads parser xs now mid after found x r read e there s less =
 pub item_stops : {A : Type 0} (parser : Parser (Option A)) (xs : List A) (now : Tokens) (r : Outcome (List A)) (stop : Stop) → with_front xs (all parser now) ≡ r → Stops (parser now) stop → Stops r stop
 item_stops parser xs now r NoMemory read s = tt
 item_stops parser xs now r (Unfit n) read s = front-err parser xs now r n read s
+
+-- A stop at a later part, and at this one.
+pub stops_after : {A B : Type 0} (p : Parser A) (f : A → Parser B) (ts mid : Tokens) (x : A) (stop : Stop) → p ts ≡ Ok (x, mid) → Stops (f x mid) stop → Stops ((p >>= f) ts) stop
+stops_after p f ts mid x NoMemory e s = tt
+stops_after p f ts mid x (Unfit n) e s = ap (λ r. and_then r f) e ∙ s
+
+pub stops_here : {A B : Type 0} (p : Parser A) (f : A → Parser B) (ts : Tokens) (stop : Stop) → Stops (p ts) stop → Stops ((p >>= f) ts) stop
+stops_here p f ts NoMemory s = tt
+stops_here p f ts (Unfit n) s = ap (λ r. and_then r f) s

@@ -1,5 +1,5 @@
 -- What a parser has read is spelled by the tokens that it took, and opens no more brackets at once than it may.
-use Rattle.std.proofs.Common.{◌≡◌, ℕ, zero, suc, ◌+◌, ◌≤◌, max, Bool, true, false, cond, List, [], ◌∷◌, ◌++◌, length, map, Option, Some, None, Result, Ok, Err, nat_lt, nat_eq, refl, sym, ◌∙◌, ap, subst, arith, append_assoc, append-nil}
+use Rattle.std.proofs.Common.{◌≡◌, ℕ, zero, suc, ◌+◌, ◌-◌, ◌<◌, ◌≤◌, max, Bool, true, false, cond, List, [], ◌∷◌, ◌++◌, length, map, Option, Some, None, Result, Ok, Err, nat_lt, nat_eq, refl, sym, ◌∙◌, ap, subst, arith, append_assoc, append-nil}
 use Rattle.std.specs.List.{flat_map}
 use Rattle.std.specs.Prelude.{◌⊎◌}
 use Rattle.std.proofs.Common.{inl, inr}
@@ -11,6 +11,11 @@ use Rattle.sq_lex.specs.declared.number.Number.{Number}
 use Rattle.sq_tree.specs.Tree.{optional, optional_depth, greatest, said}
 use Rattle.sq_tree.specs.List.{comma_tokens, comma_depth, comma_then}
 use Rattle.sq_tree.specs.Names.{name_tokens}
+use Rattle.sq_tree.specs.declared.expr.Expr.{Expr}
+use Rattle.sq_tree.specs.Expr.{expr_tokens}
+use Rattle.sq_parse.specs.declared.cond.Mixed.{Mixed}
+use Rattle.sq_parse.specs.declared.cond.Mixed.TheVariants.{Whole, Bare}
+use Rattle.std.proofs.lemmas.Bool.{eqb-false}
 use Rattle.sq_parse.specs.Reading.{Tokens, Outcome, Parser, ◌>>=◌, and_then, pure, stuck, eat, expect, opened, sees, rest, one_of, one_if_any, first_of, taken, taken_if_any, name_of, number_of, text_of, name, number, behind, comma, listed, all, many, turn, with_front, end_of, whole}
 use Rattle.sq_parse.proofs.Places.{is_token-is}
 
@@ -242,9 +247,17 @@ eaten {text = text} {depth = depth} {left = left} token f {done = done} {d = d} 
 pub expected : {A : Type 0} {text : A → Tokens} {depth : A → ℕ} {left : ℕ} (token : Lexeme) (f : Unit {0} → Parser A) {done : Tokens} {d : ℕ} → After (done ++ token ∷ []) d left (f tt) text depth → After done d left (expect token >>= f) text depth
 expected {left = left} token f {d = d} next = andthen (expect token) f (expects token left) (λ x. record { spells = λ ts y rest h e. next.spells ts y rest (omega arith) e })
 
--- an opening bracket, and then the others
-pub openly : {A : Type 0} {text : A → Tokens} {depth : A → ℕ} {left : ℕ} (n : ℕ) (f : Unit {0} → Parser A) {done : Tokens} {d : ℕ} → After (done ++ lexeme.Symbol symbol.Open ∷ []) d left (f tt) text depth → After done d left (opened n >>= f) text depth
-openly {left = left} n f {d = d} next = andthen (opened n) f (opens n left) (λ x. record { spells = λ ts y rest h e. next.spells ts y rest (omega arith) e })
+-- an opening bracket, and then the others, which know that one may be opened
+pub openly : {A : Type 0} {text : A → Tokens} {depth : A → ℕ} {left : ℕ} (n : ℕ) (f : Unit {0} → Parser A) {done : Tokens} {d : ℕ} → (0 < n → After (done ++ lexeme.Symbol symbol.Open ∷ []) d left (f tt) text depth) → After done d left (opened n >>= f) text depth
+unfolding opened
+openly {A = A} {text = text} {depth = depth} {left = left} n f {done = done} {d = d} next = record { spells = λ ts y rest h e. by (nat_eq n 0) refl ts y rest h e }
+  where
+    by : (none : Bool) → nat_eq n 0 ≡ none → (ts : Tokens) (y : A) (rest : Tokens) → d ≤ left → and_then (cond none stuck (expect (lexeme.Symbol symbol.Open)) ts) f ≡ Ok (y, rest) → Spells (done ++ ts) (text y) (depth y) left rest
+    by true i ts y rest h e = cc
+    by false i ts y rest h e =
+        let p : n ≡ 0 → ⊥ = eqb-false n 0 i in
+        let a : After done d left (expect (lexeme.Symbol symbol.Open) >>= f) text depth = expected (lexeme.Symbol symbol.Open) f (next (omega arith)) in
+        a.spells ts y rest h e
 
 -- a choice by a part that may come
 pub maybe : {A B : Type 0} {text : A → Tokens} {depth : A → ℕ} {left : ℕ} {part : B → Tokens} {deep : Option B → ℕ} (q : Parser (Option B)) (f : Option B → Parser A) {done : Tokens} {d : ℕ} → Sound q (optional part) deep left → After done (max d (deep None)) left (f None) text depth → ((x : B) → After (done ++ part x) (max d (deep (Some x))) left (f (Some x)) text depth) → After done d left (q >>= f) text depth
@@ -274,3 +287,75 @@ whole_is {A = A} {text = text} {depth = depth} {left = left} p s ts x rest e = b
         let p = ok_pair y x [] rest ended in
         (here.text_is ∙ append-nil (text y) ∙ ap text p.0, subst (λ z. depth z ≤ left) p.0 here.shallow)
     by (y, t ∷ after, read, ended) = cc
+
+-- behind a bracket one more may be open
+pub raised : {A : Type 0} {text : A → Tokens} {depth : A → ℕ} {p : Parser A} (left : ℕ) → Sound p text depth left → Sound p text (λ x. depth x + 1) (suc left)
+raised left s = record { spells = λ ts x rest e. let here = s.spells ts x rest e in let h = here.shallow in record { text_is = here.text_is; shallow = omega arith } }
+
+-- a choice by what comes next
+pub either : {A : Type 0} {text : A → Tokens} {depth : A → ℕ} {left : ℕ} (test : Tokens → Bool) (p q : Parser A) {done : Tokens} {d : ℕ} → After done d left p text depth → After done d left q text depth → After done d left (λ ts. (cond (test ts) p q) ts) text depth
+either {A = A} {text = text} {depth = depth} {left = left} test p q {done = done} {d = d} a b = record { spells = λ ts x rest h e. by (test ts) ts x rest h e }
+  where
+    by : (t : Bool) (ts : Tokens) (x : A) (rest : Tokens) → d ≤ left → (cond t p q) ts ≡ Ok (x, rest) → Spells (done ++ ts) (text x) (depth x) left rest
+    by true ts x rest h e = a.spells ts x rest h e
+    by false ts x rest h e = b.spells ts x rest h e
+
+-- of a part of a condition, or of an expression alone
+abbrev pub mixed : {A B : Type 0} → (A → B) → (Expr → B) → Mixed A → B
+mixed whole bare (Whole x) = whole x
+mixed whole bare (Bare e) = bare e
+
+-- a choice by what was read where a condition may begin with an expression
+pub mixedly : {A B : Type 0} {text : A → Tokens} {depth : A → ℕ} {left : ℕ} {part : B → Tokens} {deep : Mixed B → ℕ} (q : Parser (Mixed B)) (f : Mixed B → Parser A) {done : Tokens} {d : ℕ} → Sound q (mixed part expr_tokens) deep left → ((x : B) → After (done ++ part x) (max d (deep (Whole x))) left (f (Whole x)) text depth) → ((e : Expr) → After (done ++ expr_tokens e) (max d (deep (Bare e))) left (f (Bare e)) text depth) → After done d left (q >>= f) text depth
+mixedly {B = B} {text = text} {depth = depth} {left = left} {part = part} {deep = deep} q f {done = done} {d = d} s whole bare = andthen q f s by
+  where
+    by : (m : Mixed B) → After (done ++ mixed part expr_tokens m) (max d (deep m)) left (f m) text depth
+    by (Whole x) = whole x
+    by (Bare e) = bare e
+
+-- a sound parser from the start
+pub unsound : {A : Type 0} {text : A → Tokens} {depth : A → ℕ} {left : ℕ} {p : Parser A} → Sound p text depth left → After [] 0 left p text depth
+unsound s = record { spells = λ ts x rest h e. s.spells ts x rest e }
+
+-- the last part
+pub finally : {A : Type 0} {text part : A → Tokens} {depth deep : A → ℕ} {left : ℕ} {done : Tokens} {d : ℕ} (p : Parser A) → Sound p part deep left → ((x : A) → text x ≡ done ++ part x) → ((x : A) → d ≤ left → deep x ≤ left → depth x ≤ left) → After done d left p text depth
+finally {part = part} {done = done} p s is fits = record {
+  spells = λ ts x rest h e.
+    let here = s.spells ts x rest e in
+    record {
+      text_is = ap (λ us. done ++ us) here.text_is ∙ sym (append_assoc done (part x) rest) ∙ ap (λ us. us ++ rest) (sym (is x));
+      shallow = fits x h here.shallow;
+    };
+}
+
+-- inside a bracket one less may be open, and outside one more
+pub lowered : {A : Type 0} {text : A → Tokens} {depth : A → ℕ} {p : Parser A} (left : ℕ) → Sound p text (λ x. depth x + 1) left → Sound p text depth (left - 1)
+lowered left s = record { spells = λ ts x rest e. let here = s.spells ts x rest e in let h = here.shallow in record { text_is = here.text_is; shallow = omega arith } }
+
+pub lifted : {A : Type 0} {text : A → Tokens} {depth : A → ℕ} {p : Parser A} (left : ℕ) → 0 < left → Sound p text depth (left - 1) → Sound p text (λ x. depth x + 1) left
+lifted left room s = record { spells = λ ts x rest e. let here = s.spells ts x rest e in let h = here.shallow in record { text_is = here.text_is; shallow = omega arith } }
+
+pub eased : {A : Type 0} {text : A → Tokens} {depth : A → ℕ} {left : ℕ} {done : Tokens} {d e : ℕ} {p : Parser A} → After done d left p text depth → (e ≤ left → d ≤ left) → After done e left p text depth
+eased a fits = record { spells = λ ts x rest h r. a.spells ts x rest (fits h) r }
+
+-- what stands behind a word or symbol, where the text of the part has it too
+pub behinds_with : {A : Type 0} {text : A → Tokens} {depth : A → ℕ} (token : Lexeme) (p : Parser A) (left : ℕ) → After (token ∷ []) 0 left p text depth → Sound (behind token p) (optional text) (optional_depth depth) left
+behinds_with token p left a = sound (eaten token _ (following p _ a (λ x. built (Some x) _ _ refl (λ h. h))) (built None _ _ refl (λ h. omega arith)))
+
+-- the same of tokens that are a text by themselves
+module _ {A : Type 0} (of : Lexeme → Option A) (text : A → Tokens) (is : (t : Lexeme) (x : A) → of t ≡ Some x → t ∷ [] ≡ text x) where
+  first_spelled : (ts : Tokens) (x : A) → first_of of ts ≡ Some x → ts ≡ text x ++ rest ts
+  first_spelled [] x e = cc
+  first_spelled (t ∷ ts) x e = ap (λ u. u ++ ts) (is t x e)
+
+  pub one_spelled : (left : ℕ) → Sound (one_if_any of) (optional text) (λ _. 0) left
+  unfolding one_if_any
+  one_spelled left = record { spells = λ ts x after e. by ts x after (first_of of ts) refl e }
+    where
+      by : (ts : Tokens) (x : Option A) (after : Tokens) (o : Option A) → first_of of ts ≡ o → taken_if_any o ts ≡ Ok (x, after) → Spells ts (optional text x) 0 left after
+      by ts x after None h e =
+          let p = ok_pair None x ts after e in
+          record { text_is = subst (λ z. ts ≡ optional text z ++ after) p.0 p.1; shallow = omega arith }
+      by ts x after (Some y) h e =
+          let p = ok_pair (Some y) x (rest ts) after e in
+          record { text_is = subst (λ z. ts ≡ optional text z ++ after) p.0 (first_spelled ts y h ∙ ap (λ r. text y ++ r) p.1); shallow = omega arith }

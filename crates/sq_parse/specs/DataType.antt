@@ -58,9 +58,9 @@ character_type w = eat_word word.Varying >>= by_varying w
 
 -- the word that a type begins with
 abbrev pub type_word_of : Lexeme → Option TypeWord
-type_word_of (lexeme.Word word.Smallint) = Some (first.Alone Smallint)
-type_word_of (lexeme.Word word.Integer) = Some (first.Alone Integer)
-type_word_of (lexeme.Word word.Int) = Some (first.Alone Int)
+type_word_of (lexeme.Word word.Smallint) = Some first.Smallint
+type_word_of (lexeme.Word word.Integer) = Some first.Integer
+type_word_of (lexeme.Word word.Int) = Some first.Int
 type_word_of (lexeme.Word word.Numeric) = Some (first.Exact Numeric)
 type_word_of (lexeme.Word word.Decimal) = Some (first.Exact Decimal)
 type_word_of (lexeme.Word word.Dec) = Some (first.Exact Dec)
@@ -71,7 +71,9 @@ type_word_of _ = None
 
 abbrev pub type_by : Option TypeWord → Parser DataType
 type_by None = stuck
-type_by (Some (first.Alone t)) = pure t
+type_by (Some first.Smallint) = pure Smallint
+type_by (Some first.Integer) = pure Integer
+type_by (Some first.Int) = pure Int
 type_by (Some (first.Exact w)) = precision >>= λ p. pure (Exact w p)
 type_by (Some (first.Character w)) = character_type w
 type_by (Some first.Varchar) = length_in >>= λ n. pure (Varying Varchar n)

@@ -7,6 +7,7 @@ pub mod Nests
 pub mod Query
 pub mod Reading
 pub mod Refusal
+pub mod Schema
 pub mod Script
 pub mod Select
 pub mod Statement

@@ -20,6 +20,7 @@ use Rattle.sq_tree.specs.declared.module.Declarations.TheVariants.{Bracketed, Ba
 use Rattle.sq_tree.specs.declared.module.BareDeclaration.{BareDeclaration}
 use Rattle.sq_tree.specs.declared.module.Declaration.{Declaration}
 use Rattle.sq_tree.specs.declared.module.Declaration.TheVariants.{Parameter, Sqlcode, Sqlstate}
+use Rattle.sq_tree.specs.declared.query.Query.{Query}
 use Rattle.sq_parse.specs.Reading.{Parser, ◌>>=◌, ◌>>◌, pure, stuck, and_then, eat, eat_symbol, eat_word, expect_word, expect_symbol, one_if_any, number_of, name, token_if_any, behind, listed, all}
 use Rattle.sq_parse.specs.DataType.{data_type}
 use Rattle.sq_parse.specs.Query.{query}
@@ -114,6 +115,13 @@ by_sorts = expect_word word.By >> listed sort_specification
 unfoldable pub order_by : Parser (Option (CommaList SortSpecification))
 order_by = behind (lexeme.Word word.Order) by_sorts
 
+-- qexpr [ ORDER BY sort { "," sort } ]
+unfoldable pub ordered_query : ℕ → Parser (Query × Option (CommaList SortSpecification))
+ordered_query left = do
+  q ← query left
+  o ← order_by
+  pure (q, o)
+
 -- DECLARE name [ INSENSITIVE ] [ SCROLL ] CURSOR FOR qexpr [ ORDER BY .. ] [ ";" ], whose first word is read already
 unfoldable pub cursor : ℕ → Parser Cursor
 cursor left = do
@@ -122,10 +130,9 @@ cursor left = do
   s ← eat_word word.Scroll
   expect_word word.Cursor
   expect_word word.For
-  q ← query left
-  o ← order_by
+  q ← ordered_query left
   e ← eat_symbol symbol.Semicolon
-  pure (record { name = n; insensitive = i; scroll = s; query = q; order_by = o; semicolon = e })
+  pure (record { name = n; insensitive = i; scroll = s; query = q.0; order_by = q.1; semicolon = e })
 
 abbrev pub by_procedure : ℕ → Bool → Parser (Option ModuleItem)
 by_procedure left true = procedure left >>= λ p. pure (Some (items.Procedure p))

@@ -13,19 +13,23 @@ use Rattle.sq_parse.specs.Cond.{query_specification}
 
 -- `inner` reads behind a bracket that is one of the `left` that may be opened
 module _ (left : ℕ) (inner : Parser Query) where
-  unfoldable pub bracketed : Parser QueryTerm
+  -- "(" qexpr ")"
+  unfoldable pub bracketed : Parser Query
   bracketed = do
     opened left
     q ← inner
     close
-    pure (terms.Bracketed q)
+    pure q
+
+  unfoldable pub bracketed_term : Parser QueryTerm
+  bracketed_term = bracketed >>= λ q. pure (terms.Bracketed q)
 
   abbrev pub alone : Parser QueryTerm
   alone = query_specification left >>= λ s. pure (terms.Specification s)
 
   -- qterm = spec | "(" qexpr ")"
   unfoldable pub query_term : Parser QueryTerm
-  query_term = λ ts. (if sees (lexeme.Symbol symbol.Open) ts then bracketed else alone) ts
+  query_term = λ ts. (if sees (lexeme.Symbol symbol.Open) ts then bracketed_term else alone) ts
 
   -- UNION [ ALL ] qterm, whose first word is read already
   unfoldable pub union_term : Parser UnionTerm

@@ -228,3 +228,12 @@ pub fn cond(alloc: Global, tokens: &mut Reader<'_>, left: usize) -> Result<Cond,
         Mixed::Bare(_) => Err(tokens.stop()),
     }
 }
+
+/// A condition behind a bracket, which is one of the `left` that could be opened before it.
+pub fn inner_cond(alloc: Global, tokens: &mut Reader<'_>, left: usize) -> Result<Cond, Stop>
+    requires { 0 < left }
+    ensures value { Reads (spec.strictly (spec.inside left) tokens.old) result tokens.new }
+    ensures shorter { OnOk result (length tokens.new < length tokens.old) }
+{
+    Grammar { alloc, left, inner }.inner_cond(tokens)
+}

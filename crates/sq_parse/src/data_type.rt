@@ -100,8 +100,9 @@ fn character_type(tokens: &mut Reader<'_>, word: CharacterWord) -> Result<DataTy
 /// The word that a type begins with.
 #[derive(Clone, Copy)]
 enum TypeWord {
-    /// The word is the type.
-    Alone(DataType),
+    Smallint,
+    Integer,
+    Int,
     Exact(ExactWord),
     Character(CharacterWord),
     Varchar,
@@ -111,9 +112,9 @@ fn type_word_of(lexeme: &Lexeme) -> Option<TypeWord>
     ensures { result ≡ spec.type_word_of lexeme.now }
 {
     match lexeme {
-        Lexeme::Word(Word::Smallint) => Some(TypeWord::Alone(DataType::Smallint)),
-        Lexeme::Word(Word::Integer) => Some(TypeWord::Alone(DataType::Integer)),
-        Lexeme::Word(Word::Int) => Some(TypeWord::Alone(DataType::Int)),
+        Lexeme::Word(Word::Smallint) => Some(TypeWord::Smallint),
+        Lexeme::Word(Word::Integer) => Some(TypeWord::Integer),
+        Lexeme::Word(Word::Int) => Some(TypeWord::Int),
         Lexeme::Word(Word::Numeric) => Some(TypeWord::Exact(ExactWord::Numeric)),
         Lexeme::Word(Word::Decimal) => Some(TypeWord::Exact(ExactWord::Decimal)),
         Lexeme::Word(Word::Dec) => Some(TypeWord::Exact(ExactWord::Dec)),
@@ -140,7 +141,9 @@ pub fn data_type(tokens: &mut Reader<'_>) -> Result<DataType, Stop>
     ensures shorter { OnOk result (length tokens.new < length tokens.old) }
 {
     match type_word_if_any(tokens) {
-        Some(TypeWord::Alone(data_type)) => Ok(data_type),
+        Some(TypeWord::Smallint) => Ok(DataType::Smallint),
+        Some(TypeWord::Integer) => Ok(DataType::Integer),
+        Some(TypeWord::Int) => Ok(DataType::Int),
         Some(TypeWord::Exact(word)) => {
             let precision = precision(tokens)?;
             Ok(DataType::Exact(word, precision))

@@ -11,6 +11,7 @@ mod names;
 mod predicate;
 mod query;
 mod reader;
+mod schema;
 mod script;
 mod select;
 mod statement;
@@ -18,4 +19,4 @@ mod stop;
 mod text;
 
 pub use error::ParseError;
-pub use text::parse_script;
+pub use text::{parse_module, parse_schema, parse_script};

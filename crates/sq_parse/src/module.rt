@@ -14,7 +14,7 @@ use sq_items::Items;
 use sq_lex::{Symbol, Word};
 use sq_tree::{
     BareDeclaration, CommaList, Cursor, Declaration, Declarations, ModuleItem, ModuleText,
-    Procedure, SortDirection, SortKey, SortSpecification,
+    Procedure, Query, SortDirection, SortKey, SortSpecification,
 };
 use std::alloc::Global;
 
@@ -185,6 +185,23 @@ fn order_by(
     Ok(Some(sorts))
 }
 
+#[tactic(auto, unfolding(crate::specs::Module::ordered_query))]
+fn ordered_query(
+    alloc: Global,
+    tokens: &mut Reader<'_>,
+    left: usize,
+) -> Result<(Query, Option<CommaList<SortSpecification>>), Stop>
+    requires { left ≤ 32 }
+    ensures value { Reads (spec.ordered_query left tokens.old) result tokens.new }
+    ensures shorter { OnOk result (length tokens.new < length tokens.old) }
+{
+    let query = query(alloc, tokens, left)?;
+    match order_by(alloc, tokens) {
+        Ok(order_by) => Ok((query, order_by)),
+        Err(stop) => Err(stop),
+    }
+}
+
 /// A cursor whose first word is read already.
 #[tactic(auto, unfolding(crate::specs::Module::cursor))]
 fn cursor(alloc: Global, tokens: &mut Reader<'_>, left: usize) -> Result<Cursor, Stop>
@@ -197,8 +214,7 @@ fn cursor(alloc: Global, tokens: &mut Reader<'_>, left: usize) -> Result<Cursor,
     let scroll = tokens.eat_word(Word::Scroll);
     tokens.expect_word(Word::Cursor)?;
     tokens.expect_word(Word::For)?;
-    let query = query(alloc, tokens, left)?;
-    let order_by = order_by(alloc, tokens)?;
+    let (query, order_by) = ordered_query(alloc, tokens, left)?;
     let semicolon = tokens.eat(Symbol::Semicolon);
     Ok(Cursor {
         name,

@@ -26,15 +26,37 @@ struct Grammar<F> {
 }
 
 impl<F: Fn(Global, &mut Reader<'_>, usize) -> Result<Query, Stop>> Grammar<F> {
+    /// A query expression behind a bracket.
+    fn inner_query(&self, tokens: &mut Reader<'_>) -> Result<Query, Stop>
+        requires nests { Nests spec.inside self.now.left (F.pre self.now.inner) (F.post self.now.inner) }
+        requires some { 0 < self.now.left }
+        ensures value { Reads (spec.inside self.now.left tokens.old) result tokens.new }
+        ensures shorter { OnOk result (length tokens.new < length tokens.old) }
+    {
+        (self.inner)(self.alloc, tokens, self.left)
+    }
+
     #[tactic(auto, unfolding(crate::specs::Query::bracketed))]
-    fn bracketed(&self, tokens: &mut Reader<'_>) -> Result<QueryTerm, Stop>
+    fn bracketed(&self, tokens: &mut Reader<'_>) -> Result<Query, Stop>
         requires { Nests spec.inside self.now.left (F.pre self.now.inner) (F.post self.now.inner) }
         ensures value { Reads (spec.bracketed self.now.left (spec.inside self.now.left) tokens.old) result tokens.new }
         ensures shorter { OnOk result (length tokens.new < length tokens.old) }
     {
         tokens.open(self.left)?;
-        let query = (self.inner)(self.alloc, tokens, self.left)?;
-        tokens.expect(Symbol::Close)?;
+        let query = self.inner_query(tokens)?;
+        match tokens.expect(Symbol::Close) {
+            Ok(()) => Ok(query),
+            Err(stop) => Err(stop),
+        }
+    }
+
+    #[tactic(auto, unfolding(crate::specs::Query::bracketed_term))]
+    fn bracketed_term(&self, tokens: &mut Reader<'_>) -> Result<QueryTerm, Stop>
+        requires { Nests spec.inside self.now.left (F.pre self.now.inner) (F.post self.now.inner) }
+        ensures value { Reads (spec.bracketed_term self.now.left (spec.inside self.now.left) tokens.old) result tokens.new }
+        ensures shorter { OnOk result (length tokens.new < length tokens.old) }
+    {
+        let query = self.bracketed(tokens)?;
         let query = Boxed::new(self.alloc, query)?;
         Ok(QueryTerm::Bracketed(query))
     }
@@ -47,7 +69,7 @@ impl<F: Fn(Global, &mut Reader<'_>, usize) -> Result<Query, Stop>> Grammar<F> {
         ensures shorter { OnOk result (length tokens.new < length tokens.old) }
     {
         if tokens.sees(Symbol::Open) {
-            return self.bracketed(tokens);
+            return self.bracketed_term(tokens);
         }
         let query = query_specification(self.alloc, tokens, self.left)?;
         Ok(QueryTerm::Specification(query))
@@ -89,8 +111,10 @@ impl<F: Fn(Global, &mut Reader<'_>, usize) -> Result<Query, Stop>> Grammar<F> {
         ensures shorter { OnOk result (length tokens.new < length tokens.old) }
     {
         let first = self.query_term(tokens)?;
-        let rest = self.more_terms(tokens)?;
-        Ok(Query { first, rest })
+        match self.more_terms(tokens) {
+            Ok(rest) => Ok(Query { first, rest }),
+            Err(stop) => Err(stop),
+        }
     }
 }
 

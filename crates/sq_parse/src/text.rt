@@ -2,14 +2,18 @@
 
 ghost use Rattle.std.specs.Prelude.{◌≡◌, ◌≤◌, IfErr, IfOk};
 ghost use Rattle.sq_lex.specs.Token.{lexemes};
+ghost use Rattle.sq_tree.specs.Module.{module_tokens, module_depth};
+ghost use Rattle.sq_tree.specs.Schema.{schema_tokens, schema_depth};
 ghost use Rattle.sq_tree.specs.Script.{script_tokens, script_depth};
 ghost use Rattle.sq_parse.specs.Refusal.{IsRefusal};
 
-use crate::error::{ParseError, refusal};
+use crate::error::{MAX_DEPTH, ParseError, refusal};
+use crate::module::whole_module;
 use crate::reader::Reader;
+use crate::schema::whole_schema;
 use crate::script::script_text;
 use sq_lex::Token;
-use sq_tree::ScriptText;
+use sq_tree::{ModuleText, SchemaText, ScriptText};
 use std::alloc::Global;
 
 /// The tree of a script text: items, each with a semicolon behind it (own rule).
@@ -19,6 +23,30 @@ pub fn parse_script(alloc: Global, tokens: &[Token]) -> Result<ScriptText, Parse
     ensures refused { IfErr result (IsRefusal (lexemes tokens.now)) }
 {
     match script_text(alloc, &mut Reader::new(tokens)) {
+        Ok(tree) => Ok(tree),
+        Err(stop) => Err(refusal(tokens, stop)),
+    }
+}
+
+/// The tree of a module text (ISO/IEC 9075:1992, 12.1).
+pub fn parse_module(alloc: Global, tokens: &[Token]) -> Result<ModuleText, ParseError>
+    ensures spelled { IfOk result (λ tree. lexemes tokens.now ≡ module_tokens tree) }
+    ensures shallow { IfOk result (λ tree. module_depth tree ≤ 32) }
+    ensures refused { IfErr result (IsRefusal (lexemes tokens.now)) }
+{
+    match whole_module(alloc, &mut Reader::new(tokens), MAX_DEPTH) {
+        Ok(tree) => Ok(tree),
+        Err(stop) => Err(refusal(tokens, stop)),
+    }
+}
+
+/// The tree of a schema text: one schema definition or more (ISO/IEC 9075:1992, 11.1).
+pub fn parse_schema(alloc: Global, tokens: &[Token]) -> Result<SchemaText, ParseError>
+    ensures spelled { IfOk result (λ tree. lexemes tokens.now ≡ schema_tokens tree) }
+    ensures shallow { IfOk result (λ tree. schema_depth tree ≤ 32) }
+    ensures refused { IfErr result (IsRefusal (lexemes tokens.now)) }
+{
+    match whole_schema(alloc, &mut Reader::new(tokens), MAX_DEPTH, MAX_DEPTH - 1) {
         Ok(tree) => Ok(tree),
         Err(stop) => Err(refusal(tokens, stop)),
     }

@@ -1,0 +1,10 @@
+use Rattle.std.proofs.Common.{lit≤}
+use Rattle.sq_parse.proofs.Spells.{whole_is}
+use Rattle.sq_parse.proofs.SchemaSound.{schema_sound}
+use Rattle.sq_parse.proofs.text.parse_schema.Goals as goal
+
+pub returns-in-Ok-clause-spelled : goal.returns-in-Ok-clause-spelled
+returns-in-Ok-clause-spelled c = (whole_is _ (schema_sound 32 (lit≤ tt)) _ _ _ (rw c.new.ensures at c.in-Ok.ensures)).0
+
+pub returns-in-Ok-clause-shallow : goal.returns-in-Ok-clause-shallow
+returns-in-Ok-clause-shallow c = (whole_is _ (schema_sound 32 (lit≤ tt)) _ _ _ c.in-Ok.ensures).1
