@@ -19,7 +19,7 @@ use Rattle.sq_parse.specs.DataType.{data_type}
 use Rattle.sq_parse.specs.Query.{query}
 use Rattle.sq_parse.specs.Statement.{statement}
 use Rattle.sq_parse.specs.Module.{declaration_if_any, declared, declaration, bare_declaration, declarations, procedure, sort_key, direction_if_any, sort_specification, by_sorts, order_by, ordered_query, cursor, item, module_text}
-use Rattle.sq_parse.proofs.Spells.{Sound, After, sound, unsound, built, never, andthen, eats, eaten, expected, maybe, following, finally, names, a_number, lists, rows, behinds}
+use Rattle.sq_parse.proofs.Spells.{Sound, After, sound, unsound, built, never, andthen, eats, eaten, expected, maybe, following, finally, names, a_number, lists, rows, behinds, lifted}
 use Rattle.sq_parse.proofs.DataTypeSound.{data_type_sound}
 use Rattle.sq_parse.proofs.QuerySound.{query_sound}
 use Rattle.sq_parse.proofs.StatementSound.{statement_sound}
@@ -86,11 +86,16 @@ ordered_sound : (left : ℕ) → Sound (ordered_query left) (λ p. query_tokens 
 unfolding ordered_query
 ordered_sound left = sound (andthen (query left) _ (query_sound left) (λ q. andthen order_by _ (order_by_sound left) (λ o. built (q, o) _ _ refl (λ h. omega arith))))
 
+cursor_text : (head q o e : Tokens) → (head ++ lexeme.Word word.Cursor ∷ lexeme.Word word.For ∷ q) ++ o ++ e ≡ (((head ++ lexeme.Word word.Cursor ∷ []) ++ lexeme.Word word.For ∷ []) ++ (q ++ o)) ++ e
+cursor_text head q o e =
+    let front : Tokens = (head ++ lexeme.Word word.Cursor ∷ []) ++ lexeme.Word word.For ∷ [] in
+    ap (λ u. u ++ o ++ e) (sym (append_assoc head (lexeme.Word word.Cursor ∷ []) (lexeme.Word word.For ∷ q)) ∙ sym (append_assoc (head ++ lexeme.Word word.Cursor ∷ []) (lexeme.Word word.For ∷ []) q)) ∙ ap (λ u. u ++ e) (append_assoc front q o)
+
 cursor_sound : (left : ℕ) → After (lexeme.Word word.Declare ∷ []) 0 left (cursor left) tree.cursor_tokens tree.cursor_depth
 unfolding cursor
 cursor_sound left = andthen name _ (names left) (λ n. andthen (eat (lexeme.Word word.Insensitive)) _ (eats (lexeme.Word word.Insensitive) left) (λ i. andthen (eat (lexeme.Word word.Scroll)) _ (eats (lexeme.Word word.Scroll) left) (λ s.
     expected (lexeme.Word word.Cursor) _ (expected (lexeme.Word word.For) _ (andthen (ordered_query left) _ (ordered_sound left) (λ q. andthen (eat (lexeme.Symbol symbol.Semicolon)) _ (eats (lexeme.Symbol symbol.Semicolon) left) (λ e.
-    built (record { name = n; insensitive = i; scroll = s; query = q.0; order_by = q.1; semicolon = e }) _ _ (simp append_assoc) (λ h. omega arith))))))))
+    built (record { name = n; insensitive = i; scroll = s; query = q.0; order_by = q.1; semicolon = e }) _ _ (cursor_text (lexeme.Word word.Declare ∷ lexeme.Name n ∷ said i (lexeme.Word word.Insensitive ∷ []) ++ said s (lexeme.Word word.Scroll ∷ [])) (query_tokens q.0) (optional tree.order_by_tokens q.1) (said e (lexeme.Symbol symbol.Semicolon ∷ []))) (λ h. omega arith))))))))
 
 item_sound : (left : ℕ) → 2 ≤ left → Sound (item left) (optional tree.module_item_tokens) (optional_depth tree.module_item_depth) left
 unfolding item

@@ -14,7 +14,7 @@ use Rattle.sq_tree.specs.declared.schema.Action.TheVariants as actions
 use Rattle.sq_tree.specs.declared.schema.Grantee.TheVariants as grantees
 use Rattle.sq_tree.specs.Tree.{Tokens, said, optional, optional_depth, greatest, bracketed}
 use Rattle.sq_tree.specs.List.{comma_tokens, comma_depth}
-use Rattle.sq_tree.specs.Names.{name_tokens}
+use Rattle.sq_tree.specs.Names.{name_tokens, table_name_tokens}
 use Rattle.sq_tree.specs.Cond.{cond_tokens, cond_depth}
 use Rattle.sq_tree.specs.Schema as tree
 use Rattle.sq_parse.specs.Reading.{Parser, eat, one_if_any, name_of, text_of, name, behind, listed, all}
@@ -139,11 +139,15 @@ grant_option_sound left = sound (eaten (lexeme.Word word.With) _
     (expected (lexeme.Word word.Grant) _ (expected (lexeme.Word word.Option) _ (built true _ _ refl (λ h. omega arith))))
     (built false _ _ refl (λ h. omega arith)))
 
+grant_text : (head w t gs o : Tokens) → (head ++ lexeme.Word word.On ∷ w) ++ t ++ lexeme.Word word.To ∷ gs ++ o ≡ ((((head ++ lexeme.Word word.On ∷ []) ++ w) ++ t) ++ lexeme.Word word.To ∷ []) ++ gs ++ o
+grant_text head w t gs o =
+    ap (λ u. u ++ t ++ lexeme.Word word.To ∷ gs ++ o) (sym (append_assoc head (lexeme.Word word.On ∷ []) w)) ∙ ap (λ u. u ++ o) (sym (append_assoc (((head ++ lexeme.Word word.On ∷ []) ++ w) ++ t) (lexeme.Word word.To ∷ []) gs))
+
 grant_sound : (left : ℕ) → 1 ≤ left → After (lexeme.Word word.Grant ∷ []) 0 left grant tree.grant_tokens (λ g. tree.privileges_depth g.privileges)
 unfolding grant
 grant_sound left room = andthen privileges _ (privileges_sound left room) (λ ps. expected (lexeme.Word word.On) _ (andthen (eat (lexeme.Word word.Table)) _ (eats (lexeme.Word word.Table) left) (λ w. andthen table_name _ (table_names left) (λ t.
     expected (lexeme.Word word.To) _ (andthen (listed grantee) _ (lists grantee left (grantee_sound left)) (λ gs. andthen grant_option _ (grant_option_sound left) (λ o.
-    built (record { privileges = ps; table_word = w; table = t; grantees = gs; grant_option = o }) _ _ (simp append_assoc) (λ h. omega arith))))))))
+    built (record { privileges = ps; table_word = w; table = t; grantees = gs; grant_option = o }) _ _ (grant_text (lexeme.Word word.Grant ∷ tree.privileges_tokens ps) (said w (lexeme.Word word.Table ∷ [])) (table_name_tokens t) (comma_tokens tree.grantee_tokens gs) (said o (lexeme.Word word.With ∷ lexeme.Word word.Grant ∷ lexeme.Word word.Option ∷ []))) (λ h. omega arith))))))))
 
 created_sound : (left : ℕ) → 2 ≤ left → Sound (created left (left - 1)) (optional tree.schema_element_tokens) (optional_depth tree.schema_element_depth) left
 unfolding created

@@ -321,11 +321,11 @@ unsound s = record { spells = λ ts x rest h e. s.spells ts x rest e }
 pub finally : {A : Type 0} {text part : A → Tokens} {depth deep : A → ℕ} {left : ℕ} {done : Tokens} {d : ℕ} (p : Parser A) → Sound p part deep left → ((x : A) → text x ≡ done ++ part x) → ((x : A) → d ≤ left → deep x ≤ left → depth x ≤ left) → After done d left p text depth
 finally {part = part} {done = done} p s is fits = record {
   spells = λ ts x rest h e.
-    let here = s.spells ts x rest e in
-    record {
-      text_is = ap (λ us. done ++ us) here.text_is ∙ sym (append_assoc done (part x) rest) ∙ ap (λ us. us ++ rest) (sym (is x));
-      shallow = fits x h here.shallow;
-    };
+      let here = s.spells ts x rest e in
+      record {
+        text_is = ap (λ us. done ++ us) here.text_is ∙ sym (append_assoc done (part x) rest) ∙ ap (λ us. us ++ rest) (sym (is x));
+        shallow = fits x h here.shallow;
+      };
 }
 
 -- inside a bracket one less may be open, and outside one more

@@ -15,7 +15,8 @@ use Rattle.sq_tree.specs.declared.statement.Where.TheVariants.{Condition, Curren
 use Rattle.sq_tree.specs.Tree.{Tokens, said, optional, optional_depth}
 use Rattle.sq_tree.specs.List.{comma_tokens, comma_depth}
 use Rattle.sq_tree.specs.Names.{name_tokens, parameter_tokens}
-use Rattle.sq_tree.specs.Expr.{expr_tokens, expr_depth}
+use Rattle.sq_tree.specs.Expr.{expr_tokens, expr_depth, quantifier_tokens}
+use Rattle.sq_tree.specs.Cond.{select_list_tokens, table_expression_tokens}
 use Rattle.sq_tree.specs.Statement.{position_tokens, orientation_tokens, fetch_from_tokens, fetch_tokens, select_tokens, new_value_tokens, insert_source_tokens, insert_tokens, target_tokens, assignment_tokens, update_tokens, delete_tokens, work_tokens, statement_tokens, select_depth, new_value_depth, insert_source_depth, insert_depth, target_depth, assignment_depth, update_depth, delete_depth, statement_depth}
 use Rattle.sq_parse.specs.declared.statement.Verb.{Verb}
 use Rattle.sq_parse.specs.declared.statement.Verb.TheVariants as verb
@@ -87,7 +88,7 @@ select_sound : (left : ℕ) → After (lexeme.Word word.Select ∷ []) 0 left (s
 unfolding select
 select_sound left = andthen quantifier_if_any _ (quantifiers left) (λ q. andthen (select_list (expr left)) _ (select_list_sound left (expr left) (expr_proof.expr_sound left)) (λ l.
     expected (lexeme.Word word.Into) _ (andthen (listed parameter) _ (lists parameter left (parameters left)) (λ ts. andthen (table_expression (cond left)) _ (table_expression_sound left (cond left) (cond_sound left)) (λ t.
-    built (record { quantifier = q; list = l; targets = ts; table = t }) _ _ (simp append_assoc) (λ h. omega arith))))))
+    built (record { quantifier = q; list = l; targets = ts; table = t }) _ _ (ap (λ u. u ++ table_expression_tokens t) (sym (append_assoc (lexeme.Word word.Select ∷ optional quantifier_tokens q ++ select_list_tokens l) (lexeme.Word word.Into ∷ []) (comma_tokens parameter_tokens ts)))) (λ h. omega arith))))))
 
 insert_source_sound : (left : ℕ) → 1 ≤ left → Sound (insert_source left) insert_source_tokens insert_source_depth left
 unfolding insert_source

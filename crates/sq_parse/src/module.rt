@@ -82,10 +82,7 @@ fn bracketed_declarations(
     comma_list(alloc, tokens, declaration)
 }
 
-fn bare_declarations(
-    alloc: Global,
-    tokens: &mut Reader<'_>,
-) -> Result<Items<BareDeclaration>, Stop>
+fn bare_declarations(alloc: Global, tokens: &mut Reader<'_>) -> Result<Items<BareDeclaration>, Stop>
     ensures value { Reads (all spec.bare_declaration tokens.old) result tokens.new }
     ensures no_longer { OnOk result (length tokens.new ≤ length tokens.old) }
 {
@@ -246,11 +243,7 @@ fn item(alloc: Global, tokens: &mut Reader<'_>, left: usize) -> Result<Option<Mo
     Ok(None)
 }
 
-fn all_items(
-    alloc: Global,
-    tokens: &mut Reader<'_>,
-    left: usize,
-) -> Result<Items<ModuleItem>, Stop>
+fn all_items(alloc: Global, tokens: &mut Reader<'_>, left: usize) -> Result<Items<ModuleItem>, Stop>
     requires some { 0 < left }
     requires small { left ≤ 32 }
     ensures value { Reads (all (spec.item left) tokens.old) result tokens.new }
@@ -281,11 +274,7 @@ fn module_text(alloc: Global, tokens: &mut Reader<'_>, left: usize) -> Result<Mo
 }
 
 /// All of a module text.
-pub fn whole_module(
-    alloc: Global,
-    tokens: &mut Reader<'_>,
-    left: usize,
-) -> Result<ModuleText, Stop>
+pub fn whole_module(alloc: Global, tokens: &mut Reader<'_>, left: usize) -> Result<ModuleText, Stop>
     requires some { 0 < left }
     requires small { left ≤ 32 }
     ensures { Reads (whole (spec.module_text left) tokens.old) result tokens.new }

@@ -116,7 +116,11 @@ fn column_constraints(
     ensures value { Reads (all (spec.column_constraint left) tokens.old) result tokens.new }
     ensures no_longer { OnOk result (length tokens.new ≤ length tokens.old) }
 {
-    items(alloc, tokens, |tokens| column_constraint(alloc, tokens, left))
+    items(
+        alloc,
+        tokens,
+        |tokens| column_constraint(alloc, tokens, left),
+    )
 }
 
 /// A column definition whose name is read already.
@@ -490,7 +494,11 @@ fn more_definitions(
     ensures value { Reads (all (spec.next_definition left inner) tokens.old) result tokens.new }
     ensures no_longer { OnOk result (length tokens.new ≤ length tokens.old) }
 {
-    items(alloc, tokens, |tokens| next_definition(alloc, tokens, left, inner))
+    items(
+        alloc,
+        tokens,
+        |tokens| next_definition(alloc, tokens, left, inner),
+    )
 }
 
 /// All of a schema text; `inner` brackets may be opened behind that of a table.
