@@ -2,7 +2,7 @@
 use crate::texts::{MODULE, SCHEMA, SCRIPT, ran};
 use sq_run::RefusalName::{
     BadArguments, BadByte, EndOfText, LongName, LongNumber, LongText, NotYet, NumberThenLetter,
-    OpenText, Unexpected, UnknownProcedure, UnknownTable,
+    OpenText, TooDeep, Unexpected, UnknownProcedure, UnknownTable,
 };
 use sq_run::{Refusal, RefusalName, RunFault};
 use std::alloc::{AllocError, Global};
@@ -11,10 +11,16 @@ use std::test::Fail;
 /// A text with the line and column at which it is refused, and the refusal's name.
 type Refused = (&'static str, usize, usize, RefusalName);
 
-const WHOLE_SCHEMAS: [Refused; 11] = [
-    ("", 1, 1, NotYet),
-    ("CREATE SCHEMA U", 1, 1, NotYet),
-    ("CREATE TABLE D (A INT)", 1, 1, NotYet),
+const WHOLE_SCHEMAS: [Refused; 12] = [
+    ("", 1, 1, EndOfText),
+    ("CREATE SCHEMA U", 1, 15, Unexpected),
+    ("CREATE TABLE D (A INT)", 1, 8, Unexpected),
+    (
+        "CREATE SCHEMA AUTHORIZATION U\nCREATE TABLE D",
+        2,
+        14,
+        EndOfText,
+    ),
     (
         "CREATE SCHEMA AUTHORIZATION U\r\n\tGRANT SELECT ON D TO PUBLIC",
         2,
@@ -56,7 +62,7 @@ const WHOLE_SCHEMAS: [Refused; 11] = [
 ];
 
 /// Elements that are not of the language, each in a line after the schema's header.
-const ELEMENTS: [&str; 9] = [
+const ELEMENTS: [&str; 8] = [
     "CREATE VIEW V AS SELECT A FROM D",
     "CREATE TABLE D (A INT, B SMALLINT)",
     "CREATE TABLE D (A CHAR(5), B INT)",
@@ -65,14 +71,13 @@ const ELEMENTS: [&str; 9] = [
     "CREATE TABLE D (A INT NOT NULL)",
     "CREATE TABLE D (A INT, CHECK (A > 0))",
     "CREATE TABLE D (A INT, B INT, a INT)",
-    "CREATE TABLE D",
 ];
 
 const WHOLE_MODULES: [Refused; 11] = [
-    ("", 1, 1, NotYet),
-    ("-- a comment alone", 1, 1, NotYet),
-    (" MODULE LANGUAGE C AUTHORIZATION U", 1, 2, NotYet),
-    ("PROCEDURE P (SQLCODE); CLOSE X;", 1, 1, NotYet),
+    ("", 1, 1, EndOfText),
+    ("-- a comment alone", 1, 1, EndOfText),
+    (" MODULE LANGUAGE C AUTHORIZATION U", 1, 9, Unexpected),
+    ("PROCEDURE P (SQLCODE); CLOSE X;", 1, 1, Unexpected),
     // Names are looked up among the module's user's tables.
     (
         "MODULE M LANGUAGE C AUTHORIZATION W
@@ -131,7 +136,7 @@ const BEFORE: &str = "MODULE M LANGUAGE C AUTHORIZATION U DECLARE X CURSOR FOR S
     PROCEDURE OPX (SQLCODE); OPEN X;";
 
 /// Cursors and procedures that are not of the language, each in a line of its own.
-const PARTS: [&str; 40] = [
+const PARTS: [&str; 38] = [
     "DECLARE Y CURSOR FOR SELECT A FROM D WHERE A = 1 PROCEDURE P (SQLCODE); OPEN Y;",
     "DECLARE Y CURSOR FOR SELECT A FROM D ORDER BY A PROCEDURE P (SQLCODE); OPEN Y;",
     "DECLARE Y CURSOR FOR SELECT * FROM D PROCEDURE P (SQLCODE); OPEN Y;",
@@ -148,7 +153,6 @@ const PARTS: [&str; 40] = [
     "PROCEDURE P (SQLCODE, :A CHAR); INSERT INTO D VALUES (:A, :A);",
     "PROCEDURE P SQLCODE :A INTEGER; INSERT INTO D VALUES (:A, :A);",
     "PROCEDURE P SQLCODE; CLOSE X;",
-    "PROCEDURE P (); CLOSE X;",
     // Names that are not there.
     "PROCEDURE P (SQLCODE, :A INTEGER); INSERT INTO D VALUES (:A, :B);",
     "PROCEDURE P (SQLCODE, :A INTEGER); INSERT INTO E VALUES (:A, :A);",
@@ -173,10 +177,32 @@ const PARTS: [&str; 40] = [
     "PROCEDURE P (SQLCODE); DELETE FROM D WHERE CURRENT OF X;",
     "PROCEDURE P (SQLCODE); COMMIT;",
     "PROCEDURE P (SQLCODE); ROLLBACK WORK;",
-    // What is no part of a module.
-    "PROCEDURE P (SQLCODE); CLOSE X",
-    "CLOSE X;",
-    "GRANT SELECT ON D TO PUBLIC",
+    // Conditions whose brackets are read either way, and as many brackets as may be open.
+    "PROCEDURE P (SQLCODE); DELETE FROM D WHERE ((A)) = 1;",
+    "PROCEDURE P (SQLCODE); DELETE FROM D WHERE ((A) = 1);",
+];
+
+/// What no module has after `BEFORE`, each in a line of its own, with its column.
+const MISPLACED: [(&str, usize, RefusalName); 7] = [
+    ("PROCEDURE P (); CLOSE X;", 14, Unexpected),
+    ("PROCEDURE P (SQLCODE); CLOSE X", 30, EndOfText),
+    ("CLOSE X;", 1, Unexpected),
+    ("GRANT SELECT ON D TO PUBLIC", 1, Unexpected),
+    (
+        "PROCEDURE P (SQLCODE); DELETE FROM D WHERE (A) B;",
+        48,
+        Unexpected,
+    ),
+    (
+        "PROCEDURE P (SQLCODE); DELETE FROM D WHERE (A;",
+        46,
+        Unexpected,
+    ),
+    (
+        "PROCEDURE P (SQLCODE); DELETE FROM D WHERE (A",
+        45,
+        EndOfText,
+    ),
 ];
 
 const SCRIPTS: [Refused; 22] = [
@@ -276,6 +302,29 @@ fn modules(rt: HostRuntime) -> Result<(), Fail> {
         let place = refusal(0, 2, 1, NotYet);
         assert_eq!(rt; fault, Some(RunFault::ModuleRefused(place)), "{part}");
     }
+    for (part, column, what) in MISPLACED {
+        let text = format!(in alloc; "{BEFORE}\n{part}")?;
+        let fault = fault_of(alloc, &[SCHEMA], &[text.as_str()], "")?;
+        let place = refusal(0, 2, column, what);
+        assert_eq!(rt; fault, Some(RunFault::ModuleRefused(place)), "{part}");
+    }
+    Ok(())
+}
+
+/// 32 open brackets are taken, and the 33rd is refused where it stands.
+#[test]
+fn brackets(rt: HostRuntime) -> Result<(), Fail> {
+    let alloc = rt.alloc();
+    for (count, column, what) in [(32, 1, NotYet), (33, 76, TooDeep)] {
+        let opened = "(".repeat(alloc, count)?;
+        let closed = ")".repeat(alloc, count)?;
+        let text = format!(in alloc;
+            "{BEFORE}\nPROCEDURE P (SQLCODE); DELETE FROM D WHERE {opened}A = 1{closed};"
+        )?;
+        let fault = fault_of(alloc, &[SCHEMA], &[text.as_str()], "")?;
+        let place = refusal(0, 2, column, what);
+        assert_eq!(rt; fault, Some(RunFault::ModuleRefused(place)));
+    }
     Ok(())
 }
 
@@ -293,7 +342,7 @@ fn scripts(rt: HostRuntime) -> Result<(), Fail> {
 #[test]
 fn order_of_texts(rt: HostRuntime) -> Result<(), Fail> {
     let alloc = rt.alloc();
-    let first = refusal(0, 1, 1, NotYet);
+    let first = refusal(0, 1, 1, EndOfText);
     let second = refusal(1, 1, 1, NotYet);
     let fault = fault_of(alloc, &[SCHEMA, SCHEMA], &[""], ";")?;
     assert_eq!(rt; fault, Some(RunFault::SchemaRefused(second)));
@@ -352,7 +401,7 @@ fn most_of_each(rt: HostRuntime) -> Result<(), Fail> {
     Ok(())
 }
 
-const NAMES: [(RefusalName, &str); 12] = [
+const NAMES: [(RefusalName, &str); 13] = [
     (BadByte, "BadByte"),
     (OpenText, "OpenText"),
     (LongName, "LongName"),
@@ -362,6 +411,7 @@ const NAMES: [(RefusalName, &str); 12] = [
     (Unexpected, "Unexpected"),
     (EndOfText, "EndOfText"),
     (NotYet, "NotYet"),
+    (TooDeep, "TooDeep"),
     (UnknownProcedure, "UnknownProcedure"),
     (UnknownTable, "UnknownTable"),
     (BadArguments, "BadArguments"),

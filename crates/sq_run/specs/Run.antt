@@ -4,9 +4,13 @@ use Rattle.std.specs.declared.alloc.Global.{Global}
 use Rattle.sq_lex.specs.declared.token.Token.{Token}
 use Rattle.sq_lex.specs.Token.{lexemes}
 use Rattle.sq_lex.specs.Reading.{reading}
-use Rattle.sq_first.specs.Schema.{schema_tokens}
-use Rattle.sq_first.specs.ModuleText.{module_tokens}
-use Rattle.sq_first.specs.Script.{script_tokens}
+use Rattle.sq_tree.specs.Schema.{schema_tokens}
+use Rattle.sq_tree.specs.Module.{module_tokens}
+use Rattle.sq_tree.specs.Script.{script_tokens}
+use Rattle.sq_tree.specs.declared.script.ScriptText.{ScriptText}
+use Rattle.sq_part.specs.Schema.{first_schema}
+use Rattle.sq_part.specs.Module.{first_module}
+use Rattle.sq_part.specs.Script.{first_script}
 use Rattle.sq_first.specs.declared.schema.Schema.{Schema}
 use Rattle.sq_first.specs.declared.module_text.Module.{Module}
 use Rattle.sq_first.specs.declared.script.Script.{Script}
@@ -27,20 +31,30 @@ pub record Spells (text : Bytes) (lexed : List Lexeme) : Type 0 where
   pub read : reading text ≡ Ok tokens
   pub same : lexemes tokens ≡ lexed
 
--- at most one text, which spells the tree
-abbrev pub SpellsAtMostOne : {A : Type 0} → (A → List Lexeme) → List Bytes → Option A → Type 0
-SpellsAtMostOne tokens [] None = ⊤
-SpellsAtMostOne tokens (text ∷ []) (Some tree) = Spells text (tokens tree)
-SpellsAtMostOne tokens _ _ = ⊥
+-- a text that spells a tree, out of which this part of the first language is taken
+pub record Says {A B : Type 0} (tokens : A → List Lexeme) (part : A → Option B) (text : Bytes) (said : B) : Type 0 where
+  pub tree : A
+  pub spelled : Spells text (tokens tree)
+  pub taken : part tree ≡ Some said
 
--- trees that the texts spell, and what their names mean
+-- at most one text, which says this
+abbrev pub SaysAtMostOne : {A B : Type 0} → (A → List Lexeme) → (A → Option B) → List Bytes → Option B → Type 0
+SaysAtMostOne tokens part [] None = ⊤
+SaysAtMostOne tokens part (text ∷ []) (Some said) = Says tokens part text said
+SaysAtMostOne tokens part _ _ = ⊥
+
+-- each script is of the first language
+abbrev pub some_script : ScriptText → Option Script
+some_script tree = Some (first_script tree)
+
+-- trees that the texts spell, what of the first language they say, and what the names mean
 pub record Run (schemas modules : List Bytes) (script : Bytes) : Type 0 where
   pub schema : Option Schema
   pub «module» : Option Module
   pub items : List Item
-  pub schema_spelled : SpellsAtMostOne schema_tokens schemas schema
-  pub module_spelled : SpellsAtMostOne module_tokens modules «module»
-  pub script_spelled : Spells script (script_tokens (record { items = items }))
+  pub schema_said : SaysAtMostOne schema_tokens first_schema schemas schema
+  pub module_said : SaysAtMostOne module_tokens first_module modules «module»
+  pub script_said : Says script_tokens some_script script (record { items = items })
   pub bound : Option BoundModule
   pub is_bound : IsBound schema «module» bound
   -- the items, each with its names looked up

@@ -2,12 +2,14 @@
 ghost use Rattle.std.specs.Prelude.{◌≡◌, Some, true, length, map, IfErr, IfOk};
 ghost use Rattle.std.specs.Option.{option_copied, option_map};
 ghost use Rattle.std.specs.List.{list_all};
-ghost use Rattle.sq_first.specs.Schema.{schema_tokens};
-ghost use Rattle.sq_first.specs.ModuleText.{module_tokens};
+ghost use Rattle.sq_tree.specs.Schema.{schema_tokens};
+ghost use Rattle.sq_tree.specs.Module.{module_tokens};
+ghost use Rattle.sq_part.specs.Schema.{first_schema};
+ghost use Rattle.sq_part.specs.Module.{first_module};
 ghost use Rattle.sq_model.specs.Script as model;
 ghost use Rattle.sq_model.specs.Script.{IsBound, all_among, can_perform, cursors_of, procedures_of, table_count, schema_table};
-ghost use Rattle.sq_first.specs.Script.{script_tokens};
-ghost use Rattle.sq_run.specs.Run.{Spells, SpellsAtMostOne, texts};
+ghost use Rattle.sq_tree.specs.Script.{script_tokens};
+ghost use Rattle.sq_run.specs.Run.{Says, SaysAtMostOne, some_script, texts};
 ghost use Rattle.sq_run.specs.Prepared.{IsPrepared};
 ghost use Rattle.sq_run.specs.Stop.{is_early};
 
@@ -16,7 +18,7 @@ use crate::items::{ItemFault, action_of};
 use crate::module::{MOST_NAMES, ModuleFault, are_distinct, bind_module};
 use crate::refusal::{RefusalName, RunFault};
 use crate::texts::{Text, TextFault, module_of, refused_at, schema_of, script_of};
-use sq_first::{Module, Placed, Schema, Script};
+use sq_first::{Module, Schema, Script};
 use sq_items::Items;
 use sq_model::{Action, BoundModule, BoundProcedure};
 use std::alloc::{AllocError, Global};
@@ -31,19 +33,16 @@ pub(crate) struct Prepared {
     pub actions: Items<Action>,
 }
 
-/// The first token of a CREATE TABLE, after the header of its schema.
-const TABLE_TOKEN: usize = 4;
-
 /// The schema, if there is a text of one.
 fn read_schemas(alloc: Global, schemas: &[Vec<u8>]) -> Result<Option<Schema>, TextFault>
-    ensures { IfOk result (λ schema. SpellsAtMostOne schema_tokens (texts schemas.now) schema) }
+    ensures { IfOk result (λ schema. SaysAtMostOne schema_tokens first_schema (texts schemas.now) schema) }
 {
     match schemas {
         [] => Ok(None),
         [only] => {
             let text = schema_of(alloc, only.as_slice())?;
             check_columns(alloc, &text)?;
-            Ok(Some(text.tree))
+            Ok(Some(text.into_said()))
         }
         [first, ..] => {
             schema_of(alloc, first.as_slice())?;
@@ -54,21 +53,18 @@ fn read_schemas(alloc: Global, schemas: &[Vec<u8>]) -> Result<Option<Schema>, Te
 
 /// Checks that the table has no column twice and no more than 64.
 fn check_columns(alloc: Global, text: &Text<Schema>) -> Result<(), TextFault> {
-    if let Some(table) = &text.tree.table {
+    if let Some(table) = &text.said.table {
         let names = column_names(alloc, table)?;
         if names.len() > MOST_NAMES || !are_distinct(alloc, names.as_slice())? {
-            return Err(refused_at(text.tokens.as_slice(), 0, TABLE_TOKEN, RefusalName::NotYet));
+            return Err(text.refused_part(0, RefusalName::NotYet));
         }
     }
     Ok(())
 }
 
 /// The module, if there is a text of one.
-fn read_modules(
-    alloc: Global,
-    modules: &[Vec<u8>],
-) -> Result<Option<Text<Placed<Module>>>, TextFault>
-    ensures { IfOk result (λ text. SpellsAtMostOne module_tokens (texts modules.now) (option_map (λ t. t.tree.tree) text)) }
+fn read_modules(alloc: Global, modules: &[Vec<u8>]) -> Result<Option<Text<Module>>, TextFault>
+    ensures { IfOk result (λ text. SaysAtMostOne module_tokens first_module (texts modules.now) (option_map (λ t. t.said) text)) }
 {
     match modules {
         [] => Ok(None),
@@ -84,23 +80,17 @@ fn read_modules(
 fn bind_text(
     alloc: Global,
     schema: Option<&Schema>,
-    text: &Text<Placed<Module>>,
+    text: &Text<Module>,
 ) -> Result<BoundModule, TextFault>
-    ensures bound { IfOk result (λ bound. IsBound (option_copied schema.entry) (Some text.now.tree.tree) (Some bound)) }
+    ensures bound { IfOk result (λ bound. IsBound (option_copied schema.entry) (Some text.now.said) (Some bound)) }
     ensures among { IfOk result (λ bound. all_among (table_count (schema_table (option_copied schema.entry))) (length bound.cursors) bound.procedures ≡ true) }
 {
-    let module = &text.tree.tree;
+    let module = &text.said;
     match bind_module(alloc, table_of(schema, module.user), module) {
         Ok(bound) => Ok(bound),
         Err(ModuleFault::NoMemory) => Err(TextFault::NoMemory),
-        Err(ModuleFault::NotYet(part)) => Err(refused_part(text, part, RefusalName::NotYet)),
+        Err(ModuleFault::NotYet(part)) => Err(text.refused_part(part, RefusalName::NotYet)),
     }
-}
-
-/// A refusal at the first token of a part or an item.
-fn refused_part<T>(text: &Text<Placed<T>>, part: usize, what: RefusalName) -> TextFault {
-    let token = text.tree.starts.as_slice().get(part).copied().unwrap_or(0);
-    refused_at(text.tokens.as_slice(), 0, token, what)
 }
 
 /// The items of the script with their names looked up.
@@ -108,19 +98,19 @@ fn actions_of(
     alloc: Global,
     schema: Option<&Schema>,
     bound: Option<&BoundModule>,
-    text: &Text<Placed<Script>>,
+    text: &Text<Script>,
 ) -> Result<Items<Action>, TextFault>
     requires { all_among (table_count (schema_table (option_copied schema))) (length (cursors_of (option_copied bound))) (procedures_of (option_copied bound)) ≡ true }
-    ensures actions { IfOk result (λ actions. map (model.action_of (option_copied schema.entry) (option_copied bound.entry)) text.now.tree.tree.items ≡ map Some actions) }
+    ensures actions { IfOk result (λ actions. map (model.action_of (option_copied schema.entry) (option_copied bound.entry)) text.now.said.items ≡ map Some actions) }
     ensures can { IfOk result (λ actions. list_all (can_perform (table_count (schema_table (option_copied schema.entry))) (length (cursors_of (option_copied bound.entry))) (procedures_of (option_copied bound.entry))) actions ≡ true) }
 {
     let mut actions = Items::new(alloc);
-    let items = text.tree.tree.items.as_slice();
+    let items = text.said.items.as_slice();
     for (place, item) in items.iter().enumerate() {
         match action_of(alloc, schema, bound, item) {
             Ok(action) => actions.push(action)?,
             Err(ItemFault::NoMemory) => return Err(TextFault::NoMemory),
-            Err(ItemFault::Refused(what)) => return Err(refused_part(text, place, what)),
+            Err(ItemFault::Refused(what)) => return Err(text.refused_part(place, what)),
         }
     }
     Ok(actions)
@@ -165,14 +155,14 @@ fn read_program(
     schema: Option<&Schema>,
     modules: &[Vec<u8>],
 ) -> Result<(Option<Module>, Option<BoundModule>), TextFault>
-    ensures spelled { IfOk result (λ read. SpellsAtMostOne module_tokens (texts modules.now) read.0) }
+    ensures spelled { IfOk result (λ read. SaysAtMostOne module_tokens first_module (texts modules.now) read.0) }
     ensures bound { IfOk result (λ read. IsBound (option_copied schema.entry) read.0 read.1) }
     ensures among { IfOk result (λ read. all_among (table_count (schema_table (option_copied schema.entry))) (length (cursors_of read.1)) (procedures_of read.1) ≡ true) }
 {
     match read_modules(alloc, modules)? {
         Some(text) => {
             let bound = bind_text(alloc, schema, &text)?;
-            Ok((Some(text.into_tree()), Some(bound)))
+            Ok((Some(text.into_said()), Some(bound)))
         }
         None => Ok((None, None)),
     }
@@ -186,13 +176,13 @@ fn read_items(
     script: &[u8],
 ) -> Result<(Script, Items<Action>), TextFault>
     requires { all_among (table_count (schema_table (option_copied schema))) (length (cursors_of (option_copied bound))) (procedures_of (option_copied bound)) ≡ true }
-    ensures spelled { IfOk result (λ read. Spells script.now (script_tokens read.0)) }
+    ensures spelled { IfOk result (λ read. Says script_tokens some_script script.now read.0) }
     ensures actions { IfOk result (λ read. map (model.action_of (option_copied schema.entry) (option_copied bound.entry)) read.0.items ≡ map Some read.1) }
     ensures can { IfOk result (λ read. list_all (can_perform (table_count (schema_table (option_copied schema.entry))) (length (cursors_of (option_copied bound.entry))) (procedures_of (option_copied bound.entry))) read.1 ≡ true) }
 {
     let text = script_of(alloc, script)?;
     let actions = actions_of(alloc, schema, bound, &text)?;
-    Ok((text.into_tree(), actions))
+    Ok((text.into_said(), actions))
 }
 
 impl Prepared {

@@ -54,9 +54,12 @@ pub enum RefusalName {
     /// A text literal of more than 240 characters.
     #[error("LongText")]
     LongText,
-    /// A token that no script has here.
+    /// The first token that no text of the grammar has after those before it.
     #[error("Unexpected")]
     Unexpected,
+    /// An opening bracket where 32 are open.
+    #[error("TooDeep")]
+    TooDeep,
     /// The text ends too early.
     #[error("EndOfText")]
     EndOfText,

@@ -1,34 +1,55 @@
-//! Reading texts into trees.
-ghost use Rattle.std.specs.Prelude.{◌≡◌, Ok, IfOk, true};
+//! Reading texts, and taking the first language out of their trees.
+ghost use Rattle.std.specs.Prelude.{◌≡◌, Ok, IfOk};
 ghost use Rattle.sq_lex.specs.Reading.{reading};
 ghost use Rattle.sq_lex.specs.Token.{lexemes};
-ghost use Rattle.sq_first.specs.Schema.{schema_tokens};
-ghost use Rattle.sq_first.specs.ModuleText.{module_tokens};
-ghost use Rattle.sq_first.specs.Script.{script_tokens};
-ghost use Rattle.sq_run.specs.Run.{Spells};
+ghost use Rattle.sq_tree.specs.Schema.{schema_tokens};
+ghost use Rattle.sq_tree.specs.Module.{module_tokens};
+ghost use Rattle.sq_tree.specs.Script.{script_tokens};
+ghost use Rattle.sq_part.specs.Schema.{first_schema};
+ghost use Rattle.sq_part.specs.Module.{first_module};
+ghost use Rattle.sq_run.specs.Run.{Says, some_script};
 
 use crate::refusal::{Refusal, RefusalName};
-use sq_first::{Module, Placed, ReadFault, Schema, Script, read_module, read_schema, read_script};
+use sq_first::{Module, Schema, Script};
+use sq_items::Items;
 use sq_lex::{LexError, LexFaultKind, Token, lex};
+use sq_parse::{ParseError, parse_module, parse_schema, parse_script};
+use sq_part::{
+    TakeFault, module_item_starts, schema_element_starts, script_item_starts, take_module,
+    take_schema, take_script,
+};
+use sq_tree::{ModuleText, SchemaText, ScriptText};
 use std::alloc::{AllocError, Global};
 
-/// A tree and the tokens that it was read from.
-#[derive(Debug, Drop)]
+/// What a text says, with what refusals need to name places: its tokens, and for each element, cursor, procedure or
+/// item the number of its first token.
+#[derive(Drop)]
 pub(crate) struct Text<T> {
     pub tokens: Vec<Token>,
-    pub tree: T,
+    pub starts: Items<usize>,
+    pub said: T,
 }
 
-impl<T: Drop> Text<Placed<T>> {
-    /// The tree alone.
-    pub(crate) fn into_tree(self) -> T
-        ensures { result ≡ self.tree.tree }
+impl<T: Drop> Text<T> {
+    /// What the text says, alone.
+    pub(crate) fn into_said(self) -> T
+        ensures { result ≡ self.said }
     {
-        let Text { tree, tokens } = self;
+        let Text {
+            tokens,
+            starts,
+            said,
+        } = self;
         drop(tokens);
-        let Placed { tree, starts } = tree;
         drop(starts);
-        tree
+        said
+    }
+}
+
+impl<T> Text<T> {
+    /// A refusal at the first token of an element, cursor, procedure or item.
+    pub(crate) fn refused_part(&self, part: usize, what: RefusalName) -> TextFault {
+        refused_part(self.tokens.as_slice(), self.starts.as_slice(), part, what)
     }
 }
 
@@ -96,44 +117,102 @@ pub(crate) fn refused_at(
     })
 }
 
-fn read_fault(tokens: &[Token], text: usize, fault: ReadFault) -> TextFault {
+fn refused_part(tokens: &[Token], starts: &[usize], part: usize, what: RefusalName) -> TextFault {
+    let token = starts.get(part).copied().unwrap_or(0);
+    refused_at(tokens, 0, token, what)
+}
+
+/// What a parse's fault means for a text. A text that ends too early is refused at its last token.
+fn parse_fault(tokens: &[Token], fault: ParseError) -> TextFault {
     match fault {
-        ReadFault::NoMemory => TextFault::NoMemory,
-        ReadFault::NotYet(token) => refused_at(tokens, text, token, RefusalName::NotYet),
-        ReadFault::Unexpected(token) => refused_at(tokens, text, token, RefusalName::Unexpected),
-        ReadFault::EndOfText => {
+        ParseError::NoMemory => TextFault::NoMemory,
+        ParseError::Unexpected(token) => refused_at(tokens, 0, token, RefusalName::Unexpected),
+        ParseError::TooDeep(token) => refused_at(tokens, 0, token, RefusalName::TooDeep),
+        ParseError::EndOfText => {
             let last = tokens.len().saturating_sub(1);
-            refused_at(tokens, text, last, RefusalName::EndOfText)
+            refused_at(tokens, 0, last, RefusalName::EndOfText)
         }
     }
 }
 
+/// What it means that a tree is not of the first language.
+fn take_fault(tokens: &[Token], starts: &[usize], fault: TakeFault) -> TextFault {
+    match fault {
+        TakeFault::NoMemory => TextFault::NoMemory,
+        TakeFault::NotYet(part) => refused_part(tokens, starts, part, RefusalName::NotYet),
+        TakeFault::SecondSchema => refused_at(tokens, 0, 0, RefusalName::NotYet),
+    }
+}
+
+fn schema_tree(alloc: Global, tokens: &[Token]) -> Result<SchemaText, TextFault>
+    ensures { IfOk result (λ tree. lexemes tokens.now ≡ schema_tokens tree) }
+{
+    match parse_schema(alloc, tokens) {
+        Ok(tree) => Ok(tree),
+        Err(fault) => Err(parse_fault(tokens, fault)),
+    }
+}
+
 pub(crate) fn schema_of(alloc: Global, bytes: &[u8]) -> Result<Text<Schema>, TextFault>
-    ensures { IfOk result (λ text. Spells bytes.now (schema_tokens text.tree)) }
+    ensures { IfOk result (λ text. Says schema_tokens first_schema bytes.now text.said) }
 {
     let tokens = tokens_of(alloc, 0, bytes)?;
-    match read_schema(alloc, tokens.as_slice()) {
-        Ok(tree) => Ok(Text { tokens, tree }),
-        Err(fault) => Err(read_fault(tokens.as_slice(), 0, fault)),
+    let tree = schema_tree(alloc, tokens.as_slice())?;
+    let starts = schema_element_starts(alloc, &tree)?;
+    match take_schema(alloc, &tree) {
+        Ok(said) => Ok(Text {
+            tokens,
+            starts,
+            said,
+        }),
+        Err(fault) => Err(take_fault(tokens.as_slice(), starts.as_slice(), fault)),
     }
 }
 
-pub(crate) fn module_of(alloc: Global, bytes: &[u8]) -> Result<Text<Placed<Module>>, TextFault>
-    ensures { IfOk result (λ text. Spells bytes.now (module_tokens text.tree.tree)) }
+fn module_tree(alloc: Global, tokens: &[Token]) -> Result<ModuleText, TextFault>
+    ensures { IfOk result (λ tree. lexemes tokens.now ≡ module_tokens tree) }
 {
-    let tokens = tokens_of(alloc, 0, bytes)?;
-    match read_module(alloc, tokens.as_slice()) {
-        Ok(tree) => Ok(Text { tokens, tree }),
-        Err(fault) => Err(read_fault(tokens.as_slice(), 0, fault)),
+    match parse_module(alloc, tokens) {
+        Ok(tree) => Ok(tree),
+        Err(fault) => Err(parse_fault(tokens, fault)),
     }
 }
 
-pub(crate) fn script_of(alloc: Global, bytes: &[u8]) -> Result<Text<Placed<Script>>, TextFault>
-    ensures { IfOk result (λ text. Spells bytes.now (script_tokens text.tree.tree)) }
+pub(crate) fn module_of(alloc: Global, bytes: &[u8]) -> Result<Text<Module>, TextFault>
+    ensures { IfOk result (λ text. Says module_tokens first_module bytes.now text.said) }
 {
     let tokens = tokens_of(alloc, 0, bytes)?;
-    match read_script(alloc, tokens.as_slice()) {
-        Ok(tree) => Ok(Text { tokens, tree }),
-        Err(fault) => Err(read_fault(tokens.as_slice(), 0, fault)),
+    let tree = module_tree(alloc, tokens.as_slice())?;
+    let starts = module_item_starts(alloc, &tree)?;
+    match take_module(alloc, &tree) {
+        Ok(said) => Ok(Text {
+            tokens,
+            starts,
+            said,
+        }),
+        Err(fault) => Err(take_fault(tokens.as_slice(), starts.as_slice(), fault)),
     }
+}
+
+fn script_tree(alloc: Global, tokens: &[Token]) -> Result<ScriptText, TextFault>
+    ensures { IfOk result (λ tree. lexemes tokens.now ≡ script_tokens tree) }
+{
+    match parse_script(alloc, tokens) {
+        Ok(tree) => Ok(tree),
+        Err(fault) => Err(parse_fault(tokens, fault)),
+    }
+}
+
+pub(crate) fn script_of(alloc: Global, bytes: &[u8]) -> Result<Text<Script>, TextFault>
+    ensures { IfOk result (λ text. Says script_tokens some_script bytes.now text.said) }
+{
+    let tokens = tokens_of(alloc, 0, bytes)?;
+    let tree = script_tree(alloc, tokens.as_slice())?;
+    let starts = script_item_starts(alloc, &tree)?;
+    let said = take_script(alloc, &tree)?;
+    Ok(Text {
+        tokens,
+        starts,
+        said,
+    })
 }
