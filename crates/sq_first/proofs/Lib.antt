@@ -1,8 +1,0 @@
-mod Turns
-mod Joined
-mod Starts
-mod ScriptWhole
-mod NextPart
-mod Lists
-mod SchemaWhole
-mod ModuleWhole

@@ -1,11 +1,2 @@
-pub mod Schema
 pub mod ModuleText
-pub mod Script
-pub mod Terminals
-pub mod Many
-pub mod ScriptReader
-pub mod Placed
-pub mod Fault
-pub mod SchemaReader
-pub mod ModuleReader
-pub mod NotYet
+pub mod Schema

@@ -13,13 +13,15 @@ use Rattle.sq_model.specs.declared.program.BoundProcedure.{BoundProcedure}
 use Rattle.sq_model.specs.declared.program.BoundStatement.{BoundStatement}
 use Rattle.sq_model.specs.declared.program.BoundStatement.TheVariants.{Insert, Open, Fetch, Close}
 
-
 abbrev procedures : List BoundProcedure
 procedures =
     record { name = codes "ADDROW"; parameters = 2; statement = Insert (0 ∷ 1 ∷ []) }
     ∷ record { name = codes "OPX"; parameters = 0; statement = Open 0 }
-    ∷ record { name = codes "NEXTROW"; parameters = 2;
-        statement = Fetch (record { cursor = 0; targets = record { name = codes "A"; column = 0 } ∷ record { name = codes "B"; column = 1 } ∷ [] }) }
+    ∷ record {
+      name = codes "NEXTROW";
+      parameters = 2;
+      statement = Fetch (record { cursor = 0; targets = record { name = codes "A"; column = 0 } ∷ record { name = codes "B"; column = 1 } ∷ [] });
+    }
     ∷ record { name = codes "CLX"; parameters = 0; statement = Close 0 } ∷ []
 
 abbrev call : ℕ → List ℕ → Values → Action

@@ -3,7 +3,7 @@ use Rattle.std.proofs.Common.{◌≡◌, ℕ, ◌+◌, ◌<◌, min, map, List, 
 use Rattle.std.specs.List.{flat_map}
 use Rattle.std.proofs.lemmas.List.{take_more, flat_map_more, map-append}
 use Rattle.sq_lex.specs.declared.lexeme.Lexeme.{Lexeme}
-use Rattle.sq_first.specs.Placed.{starts_from}
+use Rattle.sq_part.specs.Starts.{starts_from}
 use Rattle.sq_part.specs.Starts.{up_to_max, starts_up_to_max}
 
 starts-more : {A : Type 0} (tokens : A → List Lexeme) (before : ℕ) (xs : List A) (x : A) → starts_from tokens before (xs ++ x ∷ []) ≡ starts_from tokens before xs ++ (before + length (flat_map tokens xs)) ∷ []
