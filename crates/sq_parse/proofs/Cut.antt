@@ -6,8 +6,8 @@ use Rattle.sq_lex.specs.declared.lexeme.Lexeme.TheVariants as lexeme
 use Rattle.sq_lex.specs.declared.symbol.Symbol.TheVariants as symbol
 use Rattle.sq_lex.specs.declared.token.Token.{Token}
 use Rattle.sq_lex.specs.Token.{lexemes}
-use Rattle.sq_parse.specs.Reading.{Tokens, sees}
-use Rattle.sq_parse.specs.Refusal.{open_brackets, is_too_deep}
+use Rattle.sq_grammar.specs.Reading.{Tokens, sees}
+use Rattle.sq_grammar.specs.Brackets.{open_brackets, is_too_deep}
 
 pub too_deep : (tokens : List Token) (place open_now : ℕ) (seen : Bool) (rest : Tokens) → rest ≡ lexemes (take (length tokens - place) (drop place tokens)) → seen ≡ sees (lexeme.Symbol symbol.Open) rest → open_now ≡ open_brackets (lexemes (take place tokens)) → (seen && nat_eq open_now 32) ≡ is_too_deep (lexemes tokens) place
 too_deep tokens place open_now seen rest r s o =

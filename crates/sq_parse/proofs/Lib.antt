@@ -1,15 +1,2 @@
-pub mod Behind
-pub mod CondSound
 pub mod Cut
-pub mod DataTypeSound
-pub mod ExprSound
-pub mod Many
-pub mod ModuleSound
-pub mod NamesSound
-pub mod Places
-pub mod QuerySound
-pub mod SchemaSound
-pub mod ScriptSound
-pub mod SelectSound
-pub mod Spells
-pub mod StatementSound
+pub mod Stops

@@ -1,13 +1,3 @@
-pub mod Cond
-pub mod DataType
-pub mod Expr
-pub mod Module
-pub mod Names
 pub mod Nests
-pub mod Query
-pub mod Reading
+pub mod Reads
 pub mod Refusal
-pub mod Schema
-pub mod Script
-pub mod Select
-pub mod Statement

@@ -3,7 +3,8 @@ use Rattle.std.specs.Prelude.{ℕ, Result, Option, ◌<◌, ◌≤◌, length, O
 use Rattle.std.specs.declared.alloc.Global.{Global}
 use denote.Ref.{MutBor}
 use Rattle.sq_parse.specs.declared.stop.Stop.{Stop}
-use Rattle.sq_parse.specs.Reading.{Tokens, Parser, Reads}
+use Rattle.sq_grammar.specs.Reading.{Tokens, Parser}
+use Rattle.sq_parse.specs.Reads.{Reads}
 
 pub record Nests {A : Type 0} (inside : ℕ → Parser A) (left : ℕ) (pre : Global → MutBor Tokens → ℕ → Type 0)
     (post : Global → MutBor Tokens → ℕ → Result A Stop → MutBor Tokens → Type 0) : Type 0 where

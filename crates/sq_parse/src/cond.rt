@@ -3,24 +3,19 @@
 ghost use Rattle.std.specs.Prelude.{◌≡◌, ◌<◌, ◌≤◌, length, IfOk, OnOk, OnSome};
 ghost use Rattle.sq_lex.specs.declared.lexeme.Lexeme.TheVariants as lexeme;
 ghost use Rattle.sq_lex.specs.declared.word.Word.TheVariants as word;
-ghost use Rattle.sq_parse.specs.Cond as spec;
+ghost use Rattle.sq_grammar.specs.Cond as spec;
 ghost use Rattle.sq_parse.specs.Nests.{Nests};
-ghost use Rattle.sq_parse.specs.Reading.{Reads, all, behind};
+ghost use Rattle.sq_grammar.specs.Reading.{all, behind};
+ghost use Rattle.sq_parse.specs.Reads.{Reads};
 
 use crate::expr::{expr, expr_from};
 use crate::reader::Reader;
 use crate::stop::Stop;
 use sq_items::{Boxed, Items};
 use sq_lex::{Symbol, Word};
+use sq_grammar::Mixed;
 use sq_tree::{Body, Cond, Conj, Expr, Primary, Test};
 use std::alloc::Global;
-
-/// What was read where a condition may begin with an expression: a part of the condition, or the expression alone.
-#[derive(Drop)]
-pub enum Mixed<T> {
-    Whole(T),
-    Bare(Expr),
-}
 
 /// The rules of conditions.
 #[derive(Clone, Copy)]
@@ -47,7 +42,7 @@ impl<F: Fn(Global, &mut Reader<'_>, usize) -> Result<Mixed<Cond>, Stop>> Grammar
     }
 
     /// A predicate whose first expression is read already, or that expression alone.
-    #[tactic(auto, unfolding(crate::specs::Cond::predicate_from))]
+    #[tactic(auto, unfolding(sq_grammar::specs::Cond::predicate_from))]
     fn predicate_from(&self, tokens: &mut Reader<'_>, left: Expr) -> Result<Mixed<Body>, Stop>
         requires { Nests spec.inside self.now.left (F.pre self.now.inner) (F.post self.now.inner) }
         ensures value { Reads (spec.predicate_from self.now.left (spec.inside self.now.left) left tokens.old) result tokens.new }
@@ -59,7 +54,7 @@ impl<F: Fn(Global, &mut Reader<'_>, usize) -> Result<Mixed<Cond>, Stop>> Grammar
         }
     }
 
-    #[tactic(auto, unfolding(crate::specs::Cond::bracket))]
+    #[tactic(auto, unfolding(sq_grammar::specs::Cond::bracket))]
     fn bracket(&self, tokens: &mut Reader<'_>) -> Result<Mixed<Body>, Stop>
         requires { Nests spec.inside self.now.left (F.pre self.now.inner) (F.post self.now.inner) }
         ensures value { Reads (spec.bracket self.now.left (spec.inside self.now.left) tokens.old) result tokens.new }
@@ -81,7 +76,7 @@ impl<F: Fn(Global, &mut Reader<'_>, usize) -> Result<Mixed<Cond>, Stop>> Grammar
         }
     }
 
-    #[tactic(auto, unfolding(crate::specs::Cond::body))]
+    #[tactic(auto, unfolding(sq_grammar::specs::Cond::body))]
     fn body(&self, tokens: &mut Reader<'_>) -> Result<Mixed<Body>, Stop>
         requires { Nests spec.inside self.now.left (F.pre self.now.inner) (F.post self.now.inner) }
         ensures value { Reads (spec.body self.now.left (spec.inside self.now.left) tokens.old) result tokens.new }
@@ -99,7 +94,7 @@ impl<F: Fn(Global, &mut Reader<'_>, usize) -> Result<Mixed<Cond>, Stop>> Grammar
         self.predicate_from(tokens, left)
     }
 
-    #[tactic(auto, unfolding(crate::specs::Cond::test))]
+    #[tactic(auto, unfolding(sq_grammar::specs::Cond::test))]
     fn test(&self, tokens: &mut Reader<'_>) -> Result<Mixed<Test>, Stop>
         requires { Nests spec.inside self.now.left (F.pre self.now.inner) (F.post self.now.inner) }
         ensures value { Reads (spec.test self.now.left (spec.inside self.now.left) tokens.old) result tokens.new }
@@ -117,7 +112,7 @@ impl<F: Fn(Global, &mut Reader<'_>, usize) -> Result<Mixed<Cond>, Stop>> Grammar
         }
     }
 
-    #[tactic(auto, unfolding(crate::specs::Cond::strict_test))]
+    #[tactic(auto, unfolding(sq_grammar::specs::Cond::strict_test))]
     fn strict_test(&self, tokens: &mut Reader<'_>) -> Result<Test, Stop>
         requires { Nests spec.inside self.now.left (F.pre self.now.inner) (F.post self.now.inner) }
         ensures value { Reads (spec.strict_test self.now.left (spec.inside self.now.left) tokens.old) result tokens.new }
@@ -130,7 +125,7 @@ impl<F: Fn(Global, &mut Reader<'_>, usize) -> Result<Mixed<Cond>, Stop>> Grammar
     }
 
     /// The tests behind the first, each behind an AND.
-    #[tactic(auto, using(crate::proofs::Many::loops))]
+    #[tactic(auto, using(sq_grammar::proofs::Many::loops))]
     fn more_tests(&self, tokens: &mut Reader<'_>) -> Result<Items<Test>, Stop>
         requires { Nests spec.inside self.now.left (F.pre self.now.inner) (F.post self.now.inner) }
         ensures value { Reads (all (behind (lexeme.Word word.And) (spec.strict_test self.now.left (spec.inside self.now.left))) tokens.old) result tokens.new }
@@ -144,7 +139,7 @@ impl<F: Fn(Global, &mut Reader<'_>, usize) -> Result<Mixed<Cond>, Stop>> Grammar
         Ok(items)
     }
 
-    #[tactic(auto, unfolding(crate::specs::Cond::conj))]
+    #[tactic(auto, unfolding(sq_grammar::specs::Cond::conj))]
     fn conj(&self, tokens: &mut Reader<'_>) -> Result<Mixed<Conj>, Stop>
         requires { Nests spec.inside self.now.left (F.pre self.now.inner) (F.post self.now.inner) }
         ensures value { Reads (spec.conj self.now.left (spec.inside self.now.left) tokens.old) result tokens.new }
@@ -159,7 +154,7 @@ impl<F: Fn(Global, &mut Reader<'_>, usize) -> Result<Mixed<Cond>, Stop>> Grammar
         }
     }
 
-    #[tactic(auto, unfolding(crate::specs::Cond::strict_conj))]
+    #[tactic(auto, unfolding(sq_grammar::specs::Cond::strict_conj))]
     fn strict_conj(&self, tokens: &mut Reader<'_>) -> Result<Conj, Stop>
         requires { Nests spec.inside self.now.left (F.pre self.now.inner) (F.post self.now.inner) }
         ensures value { Reads (spec.strict_conj self.now.left (spec.inside self.now.left) tokens.old) result tokens.new }
@@ -172,7 +167,7 @@ impl<F: Fn(Global, &mut Reader<'_>, usize) -> Result<Mixed<Cond>, Stop>> Grammar
     }
 
     /// The AND lists behind the first, each behind an OR.
-    #[tactic(auto, using(crate::proofs::Many::loops))]
+    #[tactic(auto, using(sq_grammar::proofs::Many::loops))]
     fn more_conjs(&self, tokens: &mut Reader<'_>) -> Result<Items<Conj>, Stop>
         requires { Nests spec.inside self.now.left (F.pre self.now.inner) (F.post self.now.inner) }
         ensures value { Reads (all (behind (lexeme.Word word.Or) (spec.strict_conj self.now.left (spec.inside self.now.left))) tokens.old) result tokens.new }
@@ -187,7 +182,7 @@ impl<F: Fn(Global, &mut Reader<'_>, usize) -> Result<Mixed<Cond>, Stop>> Grammar
     }
 
     /// A condition, or an expression alone.
-    #[tactic(auto, unfolding(crate::specs::Cond::level))]
+    #[tactic(auto, unfolding(sq_grammar::specs::Cond::level))]
     fn mixed(&self, tokens: &mut Reader<'_>) -> Result<Mixed<Cond>, Stop>
         requires { Nests spec.inside self.now.left (F.pre self.now.inner) (F.post self.now.inner) }
         ensures value { Reads (spec.level self.now.left (spec.inside self.now.left) tokens.old) result tokens.new }
@@ -218,7 +213,7 @@ pub fn inner(alloc: Global, tokens: &mut Reader<'_>, left: usize) -> Result<Mixe
 }
 
 /// A condition in which `left` brackets may be open at once.
-#[tactic(auto, unfolding(crate::specs::Cond::cond))]
+#[tactic(auto, unfolding(sq_grammar::specs::Cond::cond))]
 pub fn cond(alloc: Global, tokens: &mut Reader<'_>, left: usize) -> Result<Cond, Stop>
     ensures value { Reads (spec.cond left tokens.old) result tokens.new }
     ensures shorter { OnOk result (length tokens.new < length tokens.old) }

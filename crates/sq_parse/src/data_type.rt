@@ -1,11 +1,13 @@
 //! Data types.
 
 ghost use Rattle.std.specs.Prelude.{◌≡◌, ◌<◌, ◌≤◌, length, OnOk, OnSome};
-ghost use Rattle.sq_parse.specs.DataType as spec;
-ghost use Rattle.sq_parse.specs.Reading.{Reads, behind, comma, number, one_if_any};
+ghost use Rattle.sq_grammar.specs.DataType as spec;
+ghost use Rattle.sq_grammar.specs.Reading.{behind, comma, number, one_if_any};
+ghost use Rattle.sq_parse.specs.Reads.{Reads};
 
 use crate::reader::Reader;
 use crate::stop::Stop;
+use sq_grammar::TypeWord;
 use sq_lex::{Lexeme, Number, Symbol, Word};
 use sq_tree::{CharacterWord, DataType, ExactWord, Precision, VaryingWord};
 
@@ -20,7 +22,7 @@ fn scale(tokens: &mut Reader<'_>) -> Result<Option<Number>, Stop>
     Ok(Some(scale))
 }
 
-#[tactic(auto, unfolding(crate::specs::DataType::precision_from))]
+#[tactic(auto, unfolding(sq_grammar::specs::DataType::precision_from))]
 fn precision_from(tokens: &mut Reader<'_>) -> Result<Precision, Stop>
     ensures value { Reads (spec.precision_from tokens.old) result tokens.new }
     ensures no_longer { OnOk result (length tokens.new ≤ length tokens.old) }
@@ -31,7 +33,7 @@ fn precision_from(tokens: &mut Reader<'_>) -> Result<Precision, Stop>
     Ok(Precision { precision, scale })
 }
 
-#[tactic(auto, unfolding(crate::specs::DataType::precision))]
+#[tactic(auto, unfolding(sq_grammar::specs::DataType::precision))]
 fn precision(tokens: &mut Reader<'_>) -> Result<Option<Precision>, Stop>
     ensures value { Reads (spec.precision tokens.old) result tokens.new }
     ensures no_longer { OnOk result (length tokens.new ≤ length tokens.old) }
@@ -43,7 +45,7 @@ fn precision(tokens: &mut Reader<'_>) -> Result<Option<Precision>, Stop>
     Ok(Some(precision))
 }
 
-#[tactic(auto, unfolding(crate::specs::DataType::length_from))]
+#[tactic(auto, unfolding(sq_grammar::specs::DataType::length_from))]
 fn length_from(tokens: &mut Reader<'_>) -> Result<Number, Stop>
     ensures value { Reads (spec.length_from tokens.old) result tokens.new }
     ensures no_longer { OnOk result (length tokens.new ≤ length tokens.old) }
@@ -53,7 +55,7 @@ fn length_from(tokens: &mut Reader<'_>) -> Result<Number, Stop>
     Ok(length)
 }
 
-#[tactic(auto, unfolding(crate::specs::DataType::length_in))]
+#[tactic(auto, unfolding(sq_grammar::specs::DataType::length_in))]
 fn length_in(tokens: &mut Reader<'_>) -> Result<Number, Stop>
     ensures value { Reads (spec.length_in tokens.old) result tokens.new }
     ensures no_longer { OnOk result (length tokens.new ≤ length tokens.old) }
@@ -62,7 +64,7 @@ fn length_in(tokens: &mut Reader<'_>) -> Result<Number, Stop>
     length_from(tokens)
 }
 
-#[tactic(auto, unfolding(crate::specs::DataType::length_if_any))]
+#[tactic(auto, unfolding(sq_grammar::specs::DataType::length_if_any))]
 fn length_if_any(tokens: &mut Reader<'_>) -> Result<Option<Number>, Stop>
     ensures value { Reads (spec.length_if_any tokens.old) result tokens.new }
     ensures no_longer { OnOk result (length tokens.new ≤ length tokens.old) }
@@ -84,7 +86,7 @@ fn varying_of(word: CharacterWord) -> VaryingWord
 }
 
 /// The type whose first word, CHARACTER or CHAR, is read already.
-#[tactic(auto, unfolding(crate::specs::DataType::character_type))]
+#[tactic(auto, unfolding(sq_grammar::specs::DataType::character_type))]
 fn character_type(tokens: &mut Reader<'_>, word: CharacterWord) -> Result<DataType, Stop>
     ensures value { Reads (spec.character_type word tokens.old) result tokens.new }
     ensures no_longer { OnOk result (length tokens.new ≤ length tokens.old) }
@@ -95,17 +97,6 @@ fn character_type(tokens: &mut Reader<'_>, word: CharacterWord) -> Result<DataTy
     }
     let length = length_if_any(tokens)?;
     Ok(DataType::Character(word, length))
-}
-
-/// The word that a type begins with.
-#[derive(Clone, Copy)]
-enum TypeWord {
-    Smallint,
-    Integer,
-    Int,
-    Exact(ExactWord),
-    Character(CharacterWord),
-    Varchar,
 }
 
 fn type_word_of(lexeme: &Lexeme) -> Option<TypeWord>
@@ -125,7 +116,7 @@ fn type_word_of(lexeme: &Lexeme) -> Option<TypeWord>
     }
 }
 
-#[tactic(auto, unfolding(crate::specs::Reading::one_if_any))]
+#[tactic(auto, unfolding(sq_grammar::specs::Reading::one_if_any))]
 fn type_word_if_any(tokens: &mut Reader<'_>) -> Option<TypeWord>
     ensures value { one_if_any spec.type_word_of tokens.old ≡ Ok (result, tokens.new) }
     ensures shorter { OnSome result (length tokens.new < length tokens.old) }
@@ -135,7 +126,7 @@ fn type_word_if_any(tokens: &mut Reader<'_>) -> Option<TypeWord>
     Some(word)
 }
 
-#[tactic(auto, unfolding(crate::specs::DataType::data_type))]
+#[tactic(auto, unfolding(sq_grammar::specs::DataType::data_type))]
 pub fn data_type(tokens: &mut Reader<'_>) -> Result<DataType, Stop>
     ensures value { Reads (spec.data_type tokens.old) result tokens.new }
     ensures shorter { OnOk result (length tokens.new < length tokens.old) }

@@ -1,9 +1,10 @@
 //! Value expressions, over a parser of what stands behind a bracket, so that each rule is proved by itself.
 
 ghost use Rattle.std.specs.Prelude.{◌≡◌, ◌<◌, ◌≤◌, length, IfOk, OnOk, OnSome};
-ghost use Rattle.sq_parse.specs.Expr as spec;
+ghost use Rattle.sq_grammar.specs.Expr as spec;
 ghost use Rattle.sq_parse.specs.Nests.{Nests};
-ghost use Rattle.sq_parse.specs.Reading.{Reads, all, one_if_any};
+ghost use Rattle.sq_grammar.specs.Reading.{all, one_if_any};
+ghost use Rattle.sq_parse.specs.Reads.{Reads};
 
 use crate::names::{column_from, parameter_from, sign_if_any};
 use crate::reader::Reader;
@@ -53,7 +54,7 @@ fn function_of(lexeme: &Lexeme) -> Option<SetFunction>
     }
 }
 
-#[tactic(auto, unfolding(crate::specs::Reading::one_if_any))]
+#[tactic(auto, unfolding(sq_grammar::specs::Reading::one_if_any))]
 fn function_if_any(tokens: &mut Reader<'_>) -> Option<SetFunction>
     ensures value { one_if_any spec.function_of tokens.old ≡ Ok (result, tokens.new) }
     ensures no_longer { length tokens.new ≤ length tokens.old }
@@ -84,7 +85,7 @@ pub struct Grammar<F> {
 }
 
 impl<F: Fn(Global, &mut Reader<'_>, usize) -> Result<Expr, Stop>> Grammar<F> {
-    #[tactic(auto, unfolding(crate::specs::Expr::set_function))]
+    #[tactic(auto, unfolding(sq_grammar::specs::Expr::set_function))]
     fn set_function(&self, tokens: &mut Reader<'_>, function: SetFunction) -> Result<Primary, Stop>
         requires { Nests spec.inside self.now.left (F.pre self.now.inner) (F.post self.now.inner) }
         ensures value { Reads (spec.set_function self.now.left (spec.inside self.now.left) function tokens.old) result tokens.new }
@@ -102,7 +103,7 @@ impl<F: Fn(Global, &mut Reader<'_>, usize) -> Result<Expr, Stop>> Grammar<F> {
         Ok(Primary::SetFunction(function, quantifier, argument))
     }
 
-    #[tactic(auto, unfolding(crate::specs::Expr::bracketed))]
+    #[tactic(auto, unfolding(sq_grammar::specs::Expr::bracketed))]
     fn bracketed(&self, tokens: &mut Reader<'_>) -> Result<Primary, Stop>
         requires { Nests spec.inside self.now.left (F.pre self.now.inner) (F.post self.now.inner) }
         ensures value { Reads (spec.bracketed self.now.left (spec.inside self.now.left) tokens.old) result tokens.new }
@@ -115,7 +116,7 @@ impl<F: Fn(Global, &mut Reader<'_>, usize) -> Result<Expr, Stop>> Grammar<F> {
         Ok(Primary::Bracketed(inner))
     }
 
-    #[tactic(auto, unfolding(crate::specs::Expr::primary_at))]
+    #[tactic(auto, unfolding(sq_grammar::specs::Expr::primary_at))]
     fn primary(&self, tokens: &mut Reader<'_>) -> Result<Primary, Stop>
         requires { Nests spec.inside self.now.left (F.pre self.now.inner) (F.post self.now.inner) }
         ensures value { Reads (spec.primary_at self.now.left (spec.inside self.now.left) tokens.old) result tokens.new }
@@ -144,7 +145,7 @@ impl<F: Fn(Global, &mut Reader<'_>, usize) -> Result<Expr, Stop>> Grammar<F> {
         }
     }
 
-    #[tactic(auto, unfolding(crate::specs::Expr::factor))]
+    #[tactic(auto, unfolding(sq_grammar::specs::Expr::factor))]
     fn factor(&self, tokens: &mut Reader<'_>) -> Result<Factor, Stop>
         requires { Nests spec.inside self.now.left (F.pre self.now.inner) (F.post self.now.inner) }
         ensures value { Reads (spec.factor self.now.left (spec.inside self.now.left) tokens.old) result tokens.new }
@@ -155,7 +156,7 @@ impl<F: Fn(Global, &mut Reader<'_>, usize) -> Result<Expr, Stop>> Grammar<F> {
         Ok(Factor { sign, primary })
     }
 
-    #[tactic(auto, unfolding(crate::specs::Expr::scaled))]
+    #[tactic(auto, unfolding(sq_grammar::specs::Expr::scaled))]
     fn scaled(&self, tokens: &mut Reader<'_>) -> Result<Option<Scaled>, Stop>
         requires { Nests spec.inside self.now.left (F.pre self.now.inner) (F.post self.now.inner) }
         ensures value { Reads (spec.scaled self.now.left (spec.inside self.now.left) tokens.old) result tokens.new }
@@ -169,7 +170,7 @@ impl<F: Fn(Global, &mut Reader<'_>, usize) -> Result<Expr, Stop>> Grammar<F> {
         Ok(Some(Scaled { sign, factor }))
     }
 
-    #[tactic(auto, using(crate::proofs::Many::loops))]
+    #[tactic(auto, using(sq_grammar::proofs::Many::loops))]
     fn all_scaled(&self, tokens: &mut Reader<'_>) -> Result<Items<Scaled>, Stop>
         requires { Nests spec.inside self.now.left (F.pre self.now.inner) (F.post self.now.inner) }
         ensures value { Reads (all (spec.scaled self.now.left (spec.inside self.now.left)) tokens.old) result tokens.new }
@@ -182,7 +183,7 @@ impl<F: Fn(Global, &mut Reader<'_>, usize) -> Result<Expr, Stop>> Grammar<F> {
         Ok(items)
     }
 
-    #[tactic(auto, unfolding(crate::specs::Expr::term))]
+    #[tactic(auto, unfolding(sq_grammar::specs::Expr::term))]
     fn term(&self, tokens: &mut Reader<'_>) -> Result<Term, Stop>
         requires { Nests spec.inside self.now.left (F.pre self.now.inner) (F.post self.now.inner) }
         ensures value { Reads (spec.term self.now.left (spec.inside self.now.left) tokens.old) result tokens.new }
@@ -193,7 +194,7 @@ impl<F: Fn(Global, &mut Reader<'_>, usize) -> Result<Expr, Stop>> Grammar<F> {
         Ok(Term { first, rest })
     }
 
-    #[tactic(auto, unfolding(crate::specs::Expr::added))]
+    #[tactic(auto, unfolding(sq_grammar::specs::Expr::added))]
     fn added(&self, tokens: &mut Reader<'_>) -> Result<Option<Added>, Stop>
         requires { Nests spec.inside self.now.left (F.pre self.now.inner) (F.post self.now.inner) }
         ensures value { Reads (spec.added self.now.left (spec.inside self.now.left) tokens.old) result tokens.new }
@@ -207,7 +208,7 @@ impl<F: Fn(Global, &mut Reader<'_>, usize) -> Result<Expr, Stop>> Grammar<F> {
         Ok(Some(Added { sign, term }))
     }
 
-    #[tactic(auto, using(crate::proofs::Many::loops))]
+    #[tactic(auto, using(sq_grammar::proofs::Many::loops))]
     fn all_added(&self, tokens: &mut Reader<'_>) -> Result<Items<Added>, Stop>
         requires { Nests spec.inside self.now.left (F.pre self.now.inner) (F.post self.now.inner) }
         ensures value { Reads (all (spec.added self.now.left (spec.inside self.now.left)) tokens.old) result tokens.new }
@@ -220,7 +221,7 @@ impl<F: Fn(Global, &mut Reader<'_>, usize) -> Result<Expr, Stop>> Grammar<F> {
         Ok(items)
     }
 
-    #[tactic(auto, unfolding(crate::specs::Expr::level))]
+    #[tactic(auto, unfolding(sq_grammar::specs::Expr::level))]
     fn expr(&self, tokens: &mut Reader<'_>) -> Result<Expr, Stop>
         requires { Nests spec.inside self.now.left (F.pre self.now.inner) (F.post self.now.inner) }
         ensures value { Reads (spec.level self.now.left (spec.inside self.now.left) tokens.old) result tokens.new }
@@ -231,7 +232,7 @@ impl<F: Fn(Global, &mut Reader<'_>, usize) -> Result<Expr, Stop>> Grammar<F> {
         Ok(Expr { first, rest })
     }
 
-    #[tactic(auto, unfolding(crate::specs::Expr::level_from))]
+    #[tactic(auto, unfolding(sq_grammar::specs::Expr::level_from))]
     fn expr_from(&self, tokens: &mut Reader<'_>, primary: Primary) -> Result<Expr, Stop>
         requires { Nests spec.inside self.now.left (F.pre self.now.inner) (F.post self.now.inner) }
         ensures value { Reads (spec.level_from self.now.left (spec.inside self.now.left) primary tokens.old) result tokens.new }

@@ -2,7 +2,8 @@
 
 ghost use Rattle.std.specs.Prelude.{◌≡◌, ◌<◌, ◌≤◌, Option, length, OnOk};
 ghost use Rattle.sq_parse.specs.Nests.{Advances, AdvancesIfAny, Follows};
-ghost use Rattle.sq_parse.specs.Reading.{Parser, Reads, all, behind, comma, listed};
+ghost use Rattle.sq_grammar.specs.Reading.{Parser, all, behind, comma, listed};
+ghost use Rattle.sq_parse.specs.Reads.{Reads};
 
 use crate::reader::Reader;
 use crate::stop::Stop;
@@ -12,7 +13,7 @@ use sq_tree::CommaList;
 use std::alloc::Global;
 
 /// Items, each behind a comma.
-#[tactic(auto, using(crate::proofs::Many::loops))]
+#[tactic(auto, using(sq_grammar::proofs::Many::loops))]
 fn more<T: Drop, P: Fn(&mut Reader<'_>) -> Result<T, Stop>>(
     alloc: Global,
     tokens: &mut Reader<'_>,
@@ -53,7 +54,7 @@ pub fn comma_list<T: Drop, P: Fn(&mut Reader<'_>) -> Result<T, Stop>>(
 }
 
 /// Items again and again, until there is none.
-#[tactic(auto, using(crate::proofs::Many::loops))]
+#[tactic(auto, using(sq_grammar::proofs::Many::loops))]
 pub fn items<T: Drop, P: Fn(&mut Reader<'_>) -> Result<Option<T>, Stop>>(
     alloc: Global,
     tokens: &mut Reader<'_>,

@@ -1,8 +1,9 @@
 //! Module texts. In each rule `left` brackets may be open at once.
 
 ghost use Rattle.std.specs.Prelude.{◌≡◌, ◌<◌, ◌≤◌, length, IfOk, OnOk, OnSome};
-ghost use Rattle.sq_parse.specs.Module as spec;
-ghost use Rattle.sq_parse.specs.Reading.{Reads, all, listed, whole};
+ghost use Rattle.sq_grammar.specs.Module as spec;
+ghost use Rattle.sq_grammar.specs.Reading.{all, listed, whole};
+ghost use Rattle.sq_parse.specs.Reads.{Reads};
 
 use crate::data_type::data_type;
 use crate::list::{comma_list, items};
@@ -18,7 +19,7 @@ use sq_tree::{
 };
 use std::alloc::Global;
 
-#[tactic(auto, unfolding(crate::specs::Module::declaration_if_any))]
+#[tactic(auto, unfolding(sq_grammar::specs::Module::declaration_if_any))]
 fn declaration_if_any(tokens: &mut Reader<'_>) -> Result<Option<Declaration>, Stop>
     ensures value { Reads (spec.declaration_if_any tokens.old) result tokens.new }
     ensures shorter { IfOk result (λ item. OnSome item (length tokens.new < length tokens.old)) }
@@ -38,7 +39,7 @@ fn declaration_if_any(tokens: &mut Reader<'_>) -> Result<Option<Declaration>, St
     Ok(None)
 }
 
-#[tactic(auto, unfolding(crate::specs::Module::declaration))]
+#[tactic(auto, unfolding(sq_grammar::specs::Module::declaration))]
 fn declaration(tokens: &mut Reader<'_>) -> Result<Declaration, Stop>
     ensures value { Reads (spec.declaration tokens.old) result tokens.new }
     ensures shorter { OnOk result (length tokens.new < length tokens.old) }
@@ -50,7 +51,7 @@ fn declaration(tokens: &mut Reader<'_>) -> Result<Declaration, Stop>
 }
 
 /// `[ "," ] decl`, if it comes.
-#[tactic(auto, unfolding(crate::specs::Module::bare_declaration))]
+#[tactic(auto, unfolding(sq_grammar::specs::Module::bare_declaration))]
 fn bare_declaration(tokens: &mut Reader<'_>) -> Result<Option<BareDeclaration>, Stop>
     ensures value { Reads (spec.bare_declaration tokens.old) result tokens.new }
     ensures shorter { IfOk result (λ item. OnSome item (length tokens.new < length tokens.old)) }
@@ -89,7 +90,7 @@ fn bare_declarations(alloc: Global, tokens: &mut Reader<'_>) -> Result<Items<Bar
     items(alloc, tokens, bare_declaration)
 }
 
-#[tactic(auto, unfolding(crate::specs::Module::declarations))]
+#[tactic(auto, unfolding(sq_grammar::specs::Module::declarations))]
 fn declarations(alloc: Global, tokens: &mut Reader<'_>) -> Result<Declarations, Stop>
     ensures value { Reads (spec.declarations tokens.old) result tokens.new }
     ensures shorter { OnOk result (length tokens.new < length tokens.old) }
@@ -105,7 +106,7 @@ fn declarations(alloc: Global, tokens: &mut Reader<'_>) -> Result<Declarations, 
 }
 
 /// A procedure whose first word is read already.
-#[tactic(auto, unfolding(crate::specs::Module::procedure))]
+#[tactic(auto, unfolding(sq_grammar::specs::Module::procedure))]
 fn procedure(alloc: Global, tokens: &mut Reader<'_>, left: usize) -> Result<Procedure, Stop>
     requires some { 0 < left }
     requires small { left ≤ 32 }
@@ -124,7 +125,7 @@ fn procedure(alloc: Global, tokens: &mut Reader<'_>, left: usize) -> Result<Proc
     })
 }
 
-#[tactic(auto, unfolding(crate::specs::Module::sort_key))]
+#[tactic(auto, unfolding(sq_grammar::specs::Module::sort_key))]
 fn sort_key(tokens: &mut Reader<'_>) -> Result<SortKey, Stop>
     ensures value { Reads (spec.sort_key tokens.old) result tokens.new }
     ensures shorter { OnOk result (length tokens.new < length tokens.old) }
@@ -149,7 +150,7 @@ fn direction_if_any(tokens: &mut Reader<'_>) -> Option<SortDirection>
     None
 }
 
-#[tactic(auto, unfolding(crate::specs::Module::sort_specification))]
+#[tactic(auto, unfolding(sq_grammar::specs::Module::sort_specification))]
 fn sort_specification(tokens: &mut Reader<'_>) -> Result<SortSpecification, Stop>
     ensures value { Reads (spec.sort_specification tokens.old) result tokens.new }
     ensures shorter { OnOk result (length tokens.new < length tokens.old) }
@@ -166,7 +167,7 @@ fn sorts(alloc: Global, tokens: &mut Reader<'_>) -> Result<CommaList<SortSpecifi
     comma_list(alloc, tokens, sort_specification)
 }
 
-#[tactic(auto, unfolding(crate::specs::Module::order_by, crate::specs::Module::by_sorts))]
+#[tactic(auto, unfolding(sq_grammar::specs::Module::order_by, sq_grammar::specs::Module::by_sorts))]
 fn order_by(
     alloc: Global,
     tokens: &mut Reader<'_>,
@@ -182,7 +183,7 @@ fn order_by(
     Ok(Some(sorts))
 }
 
-#[tactic(auto, unfolding(crate::specs::Module::ordered_query))]
+#[tactic(auto, unfolding(sq_grammar::specs::Module::ordered_query))]
 fn ordered_query(
     alloc: Global,
     tokens: &mut Reader<'_>,
@@ -200,7 +201,7 @@ fn ordered_query(
 }
 
 /// A cursor whose first word is read already.
-#[tactic(auto, unfolding(crate::specs::Module::cursor))]
+#[tactic(auto, unfolding(sq_grammar::specs::Module::cursor))]
 fn cursor(alloc: Global, tokens: &mut Reader<'_>, left: usize) -> Result<Cursor, Stop>
     requires { left ≤ 32 }
     ensures value { Reads (spec.cursor left tokens.old) result tokens.new }
@@ -224,7 +225,7 @@ fn cursor(alloc: Global, tokens: &mut Reader<'_>, left: usize) -> Result<Cursor,
 }
 
 /// A cursor or a procedure, if one comes.
-#[tactic(auto, unfolding(crate::specs::Module::item))]
+#[tactic(auto, unfolding(sq_grammar::specs::Module::item))]
 fn item(alloc: Global, tokens: &mut Reader<'_>, left: usize) -> Result<Option<ModuleItem>, Stop>
     requires some { 0 < left }
     requires small { left ≤ 32 }
@@ -252,7 +253,7 @@ fn all_items(alloc: Global, tokens: &mut Reader<'_>, left: usize) -> Result<Item
     items(alloc, tokens, |tokens| item(alloc, tokens, left))
 }
 
-#[tactic(auto, unfolding(crate::specs::Module::module_text))]
+#[tactic(auto, unfolding(sq_grammar::specs::Module::module_text))]
 fn module_text(alloc: Global, tokens: &mut Reader<'_>, left: usize) -> Result<ModuleText, Stop>
     requires some { 0 < left }
     requires small { left ≤ 32 }

@@ -1,8 +1,9 @@
 //! Names of tables and columns, parameters, signed numbers and lists of columns.
 
 ghost use Rattle.std.specs.Prelude.{◌≡◌, ◌<◌, ◌≤◌, length, OnOk, OnSome, IfOk};
-ghost use Rattle.sq_parse.specs.Names as spec;
-ghost use Rattle.sq_parse.specs.Reading.{Reads, listed, name};
+ghost use Rattle.sq_grammar.specs.Names as spec;
+ghost use Rattle.sq_grammar.specs.Reading.{listed, name};
+ghost use Rattle.sq_parse.specs.Reads.{Reads};
 
 use crate::reader::Reader;
 use crate::stop::Stop;
@@ -22,7 +23,7 @@ fn name_behind_dot(tokens: &mut Reader<'_>) -> Result<Option<Name>, Stop>
     Ok(Some(name))
 }
 
-#[tactic(auto, unfolding(crate::specs::Names::table_name))]
+#[tactic(auto, unfolding(sq_grammar::specs::Names::table_name))]
 pub fn table_name(tokens: &mut Reader<'_>) -> Result<TableName, Stop>
     ensures value { Reads (spec.table_name tokens.old) result tokens.new }
     ensures shorter { OnOk result (length tokens.new < length tokens.old) }
@@ -41,7 +42,7 @@ pub fn table_name(tokens: &mut Reader<'_>) -> Result<TableName, Stop>
 }
 
 /// A column reference whose first name is read already.
-#[tactic(auto, unfolding(crate::specs::Names::column_from))]
+#[tactic(auto, unfolding(sq_grammar::specs::Names::column_from))]
 pub fn column_from(tokens: &mut Reader<'_>, first: Name) -> Result<ColumnReference, Stop>
     ensures value { Reads (spec.column_from first tokens.old) result tokens.new }
     ensures no_longer { OnOk result (length tokens.new ≤ length tokens.old) }
@@ -74,7 +75,7 @@ pub fn column_from(tokens: &mut Reader<'_>, first: Name) -> Result<ColumnReferen
     })
 }
 
-#[tactic(auto, unfolding(crate::specs::Names::column_reference))]
+#[tactic(auto, unfolding(sq_grammar::specs::Names::column_reference))]
 pub fn column_reference(tokens: &mut Reader<'_>) -> Result<ColumnReference, Stop>
     ensures value { Reads (spec.column_reference tokens.old) result tokens.new }
     ensures shorter { OnOk result (length tokens.new < length tokens.old) }
@@ -83,7 +84,7 @@ pub fn column_reference(tokens: &mut Reader<'_>) -> Result<ColumnReference, Stop
     column_from(tokens, first)
 }
 
-#[tactic(auto, unfolding(crate::specs::Names::indicator))]
+#[tactic(auto, unfolding(sq_grammar::specs::Names::indicator))]
 fn indicator(tokens: &mut Reader<'_>) -> Result<Option<Indicator>, Stop>
     ensures value { Reads (spec.indicator tokens.old) result tokens.new }
     ensures no_longer { OnOk result (length tokens.new ≤ length tokens.old) }
@@ -101,7 +102,7 @@ fn indicator(tokens: &mut Reader<'_>) -> Result<Option<Indicator>, Stop>
 }
 
 /// A parameter whose colon is read already.
-#[tactic(auto, unfolding(crate::specs::Names::parameter_from))]
+#[tactic(auto, unfolding(sq_grammar::specs::Names::parameter_from))]
 pub fn parameter_from(tokens: &mut Reader<'_>) -> Result<Parameter, Stop>
     ensures value { Reads (spec.parameter_from tokens.old) result tokens.new }
     ensures shorter { OnOk result (length tokens.new < length tokens.old) }
@@ -111,7 +112,7 @@ pub fn parameter_from(tokens: &mut Reader<'_>) -> Result<Parameter, Stop>
     Ok(Parameter { name, indicator })
 }
 
-#[tactic(auto, unfolding(crate::specs::Names::parameter))]
+#[tactic(auto, unfolding(sq_grammar::specs::Names::parameter))]
 pub fn parameter(tokens: &mut Reader<'_>) -> Result<Parameter, Stop>
     ensures value { Reads (spec.parameter tokens.old) result tokens.new }
     ensures shorter { OnOk result (length tokens.new < length tokens.old) }
@@ -134,7 +135,7 @@ pub fn sign_if_any(tokens: &mut Reader<'_>) -> Option<Sign>
     None
 }
 
-#[tactic(auto, unfolding(crate::specs::Names::signed_number))]
+#[tactic(auto, unfolding(sq_grammar::specs::Names::signed_number))]
 pub fn signed_number(tokens: &mut Reader<'_>) -> Result<SignedNumber, Stop>
     ensures value { Reads (spec.signed_number tokens.old) result tokens.new }
     ensures shorter { OnOk result (length tokens.new < length tokens.old) }
@@ -144,7 +145,7 @@ pub fn signed_number(tokens: &mut Reader<'_>) -> Result<SignedNumber, Stop>
     Ok(SignedNumber { sign, number })
 }
 
-#[tactic(auto, using(crate::proofs::Many::loops))]
+#[tactic(auto, using(sq_grammar::proofs::Many::loops))]
 fn names(alloc: Global, tokens: &mut Reader<'_>) -> Result<CommaList<Name>, Stop>
     ensures value { Reads (listed name tokens.old) result tokens.new }
     ensures shorter { OnOk result (length tokens.new < length tokens.old) }
@@ -158,7 +159,7 @@ fn names(alloc: Global, tokens: &mut Reader<'_>) -> Result<CommaList<Name>, Stop
 }
 
 /// A list of columns whose opening bracket is read already.
-#[tactic(auto, unfolding(crate::specs::Names::columns_from))]
+#[tactic(auto, unfolding(sq_grammar::specs::Names::columns_from))]
 fn columns_from(alloc: Global, tokens: &mut Reader<'_>) -> Result<CommaList<Name>, Stop>
     ensures value { Reads (spec.columns_from tokens.old) result tokens.new }
     ensures shorter { OnOk result (length tokens.new < length tokens.old) }
@@ -168,7 +169,7 @@ fn columns_from(alloc: Global, tokens: &mut Reader<'_>) -> Result<CommaList<Name
     Ok(columns)
 }
 
-#[tactic(auto, unfolding(crate::specs::Names::columns))]
+#[tactic(auto, unfolding(sq_grammar::specs::Names::columns))]
 pub fn columns(alloc: Global, tokens: &mut Reader<'_>) -> Result<CommaList<Name>, Stop>
     ensures value { Reads (spec.columns tokens.old) result tokens.new }
     ensures shorter { OnOk result (length tokens.new < length tokens.old) }
@@ -177,7 +178,7 @@ pub fn columns(alloc: Global, tokens: &mut Reader<'_>) -> Result<CommaList<Name>
     columns_from(alloc, tokens)
 }
 
-#[tactic(auto, unfolding(crate::specs::Names::columns_if_any))]
+#[tactic(auto, unfolding(sq_grammar::specs::Names::columns_if_any))]
 pub fn columns_if_any(
     alloc: Global,
     tokens: &mut Reader<'_>,

@@ -3,15 +3,17 @@
 ghost use Rattle.std.specs.Prelude.{◌≡◌, ◌<◌, ◌≤◌, length, IfOk, OnOk, OnSome};
 ghost use Rattle.sq_lex.specs.declared.lexeme.Lexeme.TheVariants as lexeme;
 ghost use Rattle.sq_lex.specs.declared.word.Word.TheVariants as word;
-ghost use Rattle.sq_parse.specs.Cond as spec;
-ghost use Rattle.sq_parse.specs.Expr as expressions;
+ghost use Rattle.sq_grammar.specs.Cond as spec;
+ghost use Rattle.sq_grammar.specs.Expr as expressions;
 ghost use Rattle.sq_parse.specs.Nests.{Nests};
-ghost use Rattle.sq_parse.specs.Reading.{Reads, behind, one_if_any};
+ghost use Rattle.sq_grammar.specs.Reading.{behind, one_if_any};
+ghost use Rattle.sq_parse.specs.Reads.{Reads};
 
-use crate::cond::{Grammar, Mixed};
+use crate::cond::Grammar;
 use crate::expr::expr;
 use crate::reader::Reader;
 use crate::stop::Stop;
+use sq_grammar::Mixed;
 use sq_items::Boxed;
 use sq_lex::{Lexeme, Symbol, Word};
 use sq_tree::{Comparison, Cond, Expr, Quantifier, Tail};
@@ -31,7 +33,7 @@ fn comparison_of(lexeme: &Lexeme) -> Option<Comparison>
     }
 }
 
-#[tactic(auto, unfolding(crate::specs::Reading::one_if_any))]
+#[tactic(auto, unfolding(sq_grammar::specs::Reading::one_if_any))]
 fn comparison_if_any(tokens: &mut Reader<'_>) -> Option<Comparison>
     ensures value { one_if_any spec.comparison_of tokens.old ≡ Ok (result, tokens.new) }
     ensures shorter { OnSome result (length tokens.new < length tokens.old) }
@@ -66,7 +68,7 @@ fn sees_query(tokens: &Reader<'_>) -> bool
 }
 
 /// `IS [ NOT ] NULL`, whose IS is read already.
-#[tactic(auto, unfolding(crate::specs::Cond::null_tail))]
+#[tactic(auto, unfolding(sq_grammar::specs::Cond::null_tail))]
 fn null_tail(tokens: &mut Reader<'_>) -> Result<Tail, Stop>
     ensures value { Reads (spec.null_tail tokens.old) result tokens.new }
     ensures no_longer { OnOk result (length tokens.new ≤ length tokens.old) }
@@ -90,7 +92,7 @@ fn escape(alloc: Global, tokens: &mut Reader<'_>, left: usize) -> Result<Option<
 
 impl<F: Fn(Global, &mut Reader<'_>, usize) -> Result<Mixed<Cond>, Stop>> Grammar<F> {
     /// What follows a comparison operator.
-    #[tactic(auto, unfolding(crate::specs::Cond::comparison_tail))]
+    #[tactic(auto, unfolding(sq_grammar::specs::Cond::comparison_tail))]
     fn comparison_tail(&self, tokens: &mut Reader<'_>, comparison: Comparison) -> Result<Tail, Stop>
         requires { Nests spec.inside self.now.left (F.pre self.now.inner) (F.post self.now.inner) }
         ensures value { Reads (spec.comparison_tail self.now.left (spec.inside self.now.left) comparison tokens.old) result tokens.new }
@@ -107,7 +109,7 @@ impl<F: Fn(Global, &mut Reader<'_>, usize) -> Result<Mixed<Cond>, Stop>> Grammar
     }
 
     /// `BETWEEN expr AND expr`, whose first word is read already.
-    #[tactic(auto, unfolding(crate::specs::Cond::between_tail))]
+    #[tactic(auto, unfolding(sq_grammar::specs::Cond::between_tail))]
     fn between_tail(&self, tokens: &mut Reader<'_>, negated: bool) -> Result<Tail, Stop>
         ensures value { Reads (spec.between_tail self.now.left (spec.inside self.now.left) negated tokens.old) result tokens.new }
         ensures no_longer { OnOk result (length tokens.new ≤ length tokens.old) }
@@ -119,7 +121,7 @@ impl<F: Fn(Global, &mut Reader<'_>, usize) -> Result<Mixed<Cond>, Stop>> Grammar
     }
 
     /// What follows IN.
-    #[tactic(auto, unfolding(crate::specs::Cond::in_tail))]
+    #[tactic(auto, unfolding(sq_grammar::specs::Cond::in_tail))]
     fn in_tail(&self, tokens: &mut Reader<'_>, negated: bool) -> Result<Tail, Stop>
         requires { Nests spec.inside self.now.left (F.pre self.now.inner) (F.post self.now.inner) }
         ensures value { Reads (spec.in_tail self.now.left (spec.inside self.now.left) negated tokens.old) result tokens.new }
@@ -138,7 +140,7 @@ impl<F: Fn(Global, &mut Reader<'_>, usize) -> Result<Mixed<Cond>, Stop>> Grammar
     }
 
     /// `LIKE expr [ ESCAPE expr ]`, whose first word is read already.
-    #[tactic(auto, unfolding(crate::specs::Cond::like_tail))]
+    #[tactic(auto, unfolding(sq_grammar::specs::Cond::like_tail))]
     fn like_tail(&self, tokens: &mut Reader<'_>, negated: bool) -> Result<Tail, Stop>
         ensures value { Reads (spec.like_tail self.now.left (spec.inside self.now.left) negated tokens.old) result tokens.new }
         ensures no_longer { OnOk result (length tokens.new ≤ length tokens.old) }
@@ -149,7 +151,7 @@ impl<F: Fn(Global, &mut Reader<'_>, usize) -> Result<Mixed<Cond>, Stop>> Grammar
     }
 
     /// What may stand behind NOT.
-    #[tactic(auto, unfolding(crate::specs::Cond::negatable_tail))]
+    #[tactic(auto, unfolding(sq_grammar::specs::Cond::negatable_tail))]
     fn negatable_tail(&self, tokens: &mut Reader<'_>) -> Result<Option<Tail>, Stop>
         requires { Nests spec.inside self.now.left (F.pre self.now.inner) (F.post self.now.inner) }
         ensures value { Reads (spec.negatable_tail self.now.left (spec.inside self.now.left) tokens.old) result tokens.new }
@@ -175,7 +177,7 @@ impl<F: Fn(Global, &mut Reader<'_>, usize) -> Result<Mixed<Cond>, Stop>> Grammar
     }
 
     /// What follows the first expression of a predicate, if it comes.
-    #[tactic(auto, unfolding(crate::specs::Cond::tail))]
+    #[tactic(auto, unfolding(sq_grammar::specs::Cond::tail))]
     pub fn tail(&self, tokens: &mut Reader<'_>) -> Result<Option<Tail>, Stop>
         requires { Nests spec.inside self.now.left (F.pre self.now.inner) (F.post self.now.inner) }
         ensures value { Reads (spec.tail self.now.left (spec.inside self.now.left) tokens.old) result tokens.new }

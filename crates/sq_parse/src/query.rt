@@ -4,8 +4,9 @@ ghost use Rattle.std.specs.Prelude.{◌≡◌, ◌<◌, ◌≤◌, length, OnOk}
 ghost use Rattle.sq_lex.specs.declared.lexeme.Lexeme.TheVariants as lexeme;
 ghost use Rattle.sq_lex.specs.declared.word.Word.TheVariants as word;
 ghost use Rattle.sq_parse.specs.Nests.{Nests};
-ghost use Rattle.sq_parse.specs.Query as spec;
-ghost use Rattle.sq_parse.specs.Reading.{Reads, all, behind};
+ghost use Rattle.sq_grammar.specs.Query as spec;
+ghost use Rattle.sq_grammar.specs.Reading.{all, behind};
+ghost use Rattle.sq_parse.specs.Reads.{Reads};
 
 use crate::reader::Reader;
 use crate::select::query_specification;
@@ -36,7 +37,7 @@ impl<F: Fn(Global, &mut Reader<'_>, usize) -> Result<Query, Stop>> Grammar<F> {
         (self.inner)(self.alloc, tokens, self.left)
     }
 
-    #[tactic(auto, unfolding(crate::specs::Query::bracketed))]
+    #[tactic(auto, unfolding(sq_grammar::specs::Query::bracketed))]
     fn bracketed(&self, tokens: &mut Reader<'_>) -> Result<Query, Stop>
         requires { Nests spec.inside self.now.left (F.pre self.now.inner) (F.post self.now.inner) }
         ensures value { Reads (spec.bracketed self.now.left (spec.inside self.now.left) tokens.old) result tokens.new }
@@ -50,7 +51,7 @@ impl<F: Fn(Global, &mut Reader<'_>, usize) -> Result<Query, Stop>> Grammar<F> {
         }
     }
 
-    #[tactic(auto, unfolding(crate::specs::Query::bracketed_term))]
+    #[tactic(auto, unfolding(sq_grammar::specs::Query::bracketed_term))]
     fn bracketed_term(&self, tokens: &mut Reader<'_>) -> Result<QueryTerm, Stop>
         requires { Nests spec.inside self.now.left (F.pre self.now.inner) (F.post self.now.inner) }
         ensures value { Reads (spec.bracketed_term self.now.left (spec.inside self.now.left) tokens.old) result tokens.new }
@@ -61,7 +62,7 @@ impl<F: Fn(Global, &mut Reader<'_>, usize) -> Result<Query, Stop>> Grammar<F> {
         Ok(QueryTerm::Bracketed(query))
     }
 
-    #[tactic(auto, unfolding(crate::specs::Query::query_term))]
+    #[tactic(auto, unfolding(sq_grammar::specs::Query::query_term))]
     fn query_term(&self, tokens: &mut Reader<'_>) -> Result<QueryTerm, Stop>
         requires nests { Nests spec.inside self.now.left (F.pre self.now.inner) (F.post self.now.inner) }
         requires small { self.now.left ≤ 32 }
@@ -75,7 +76,7 @@ impl<F: Fn(Global, &mut Reader<'_>, usize) -> Result<Query, Stop>> Grammar<F> {
         Ok(QueryTerm::Specification(query))
     }
 
-    #[tactic(auto, unfolding(crate::specs::Query::union_term))]
+    #[tactic(auto, unfolding(sq_grammar::specs::Query::union_term))]
     fn union_term(&self, tokens: &mut Reader<'_>) -> Result<UnionTerm, Stop>
         requires nests { Nests spec.inside self.now.left (F.pre self.now.inner) (F.post self.now.inner) }
         requires small { self.now.left ≤ 32 }
@@ -88,7 +89,7 @@ impl<F: Fn(Global, &mut Reader<'_>, usize) -> Result<Query, Stop>> Grammar<F> {
     }
 
     /// The query terms behind the first, each behind a UNION.
-    #[tactic(auto, using(crate::proofs::Many::loops))]
+    #[tactic(auto, using(sq_grammar::proofs::Many::loops))]
     fn more_terms(&self, tokens: &mut Reader<'_>) -> Result<Items<UnionTerm>, Stop>
         requires nests { Nests spec.inside self.now.left (F.pre self.now.inner) (F.post self.now.inner) }
         requires small { self.now.left ≤ 32 }
@@ -103,7 +104,7 @@ impl<F: Fn(Global, &mut Reader<'_>, usize) -> Result<Query, Stop>> Grammar<F> {
         Ok(items)
     }
 
-    #[tactic(auto, unfolding(crate::specs::Query::level))]
+    #[tactic(auto, unfolding(sq_grammar::specs::Query::level))]
     fn query(&self, tokens: &mut Reader<'_>) -> Result<Query, Stop>
         requires nests { Nests spec.inside self.now.left (F.pre self.now.inner) (F.post self.now.inner) }
         requires small { self.now.left ≤ 32 }

@@ -3,8 +3,8 @@
 ghost use Rattle.std.specs.Prelude.{◌≡◌, ◌<◌, ◌≤◌, ◌+◌, Option, length, nat_eq, IsTrue, IfOk, IfSome, OnOk, OnSome};
 ghost use Rattle.std.specs.Option.{option_map};
 ghost use Rattle.sq_lex.specs.declared.lexeme.Lexeme.TheVariants as lexeme;
-ghost use Rattle.sq_parse.specs.Reading as spec;
-ghost use Rattle.sq_parse.specs.Reading.{Reads};
+ghost use Rattle.sq_grammar.specs.Reading as spec;
+ghost use Rattle.sq_parse.specs.Reads.{Reads};
 ghost use Rattle.sq_lex.specs.Token.{lexemes};
 
 use crate::stop::Stop;
@@ -20,7 +20,7 @@ pub struct Reader<'a> {
 }
 
 impl<'a> Model for Reader<'a> {
-    ghost use Rattle.sq_parse.specs.Reading.{Tokens};
+    ghost use Rattle.sq_grammar.specs.Reading.{Tokens};
     ghost use Rattle.sq_lex.specs.Token.{lexemes};
 
     ghost Value = { Tokens };
@@ -92,7 +92,7 @@ impl<'a> Reader<'a> {
     }
 
     /// Takes the symbol if it comes next, and says whether it did.
-    #[tactic(auto, unfolding(crate::specs::Reading::eat))]
+    #[tactic(auto, unfolding(sq_grammar::specs::Reading::eat))]
     pub fn eat(&mut self, symbol: Symbol) -> bool
         ensures value { spec.eat_symbol symbol self.old ≡ Ok (result, self.new) }
         ensures shorter { IsTrue result → length self.new < length self.old }
@@ -106,7 +106,7 @@ impl<'a> Reader<'a> {
     }
 
     /// Takes the word if it comes next, and says whether it did.
-    #[tactic(auto, unfolding(crate::specs::Reading::eat))]
+    #[tactic(auto, unfolding(sq_grammar::specs::Reading::eat))]
     pub fn eat_word(&mut self, word: Word) -> bool
         ensures value { spec.eat_word word self.old ≡ Ok (result, self.new) }
         ensures shorter { IsTrue result → length self.new < length self.old }
@@ -120,7 +120,7 @@ impl<'a> Reader<'a> {
     }
 
     /// Takes the symbol, which has to come next.
-    #[tactic(auto, unfolding(crate::specs::Reading::expect))]
+    #[tactic(auto, unfolding(sq_grammar::specs::Reading::expect))]
     pub fn expect(&mut self, symbol: Symbol) -> Result<(), Stop>
         ensures value { Reads (spec.expect_symbol symbol self.old) result self.new }
         ensures shorter { OnOk result (length self.new < length self.old) }
@@ -133,7 +133,7 @@ impl<'a> Reader<'a> {
     }
 
     /// Takes the word, which has to come next.
-    #[tactic(auto, unfolding(crate::specs::Reading::expect))]
+    #[tactic(auto, unfolding(sq_grammar::specs::Reading::expect))]
     pub fn expect_word(&mut self, word: Word) -> Result<(), Stop>
         ensures value { Reads (spec.expect_word word self.old) result self.new }
         ensures shorter { OnOk result (length self.new < length self.old) }
@@ -146,7 +146,7 @@ impl<'a> Reader<'a> {
     }
 
     /// Takes an opening bracket, of which `left` may still be opened.
-    #[tactic(auto, unfolding(crate::specs::Reading::opened))]
+    #[tactic(auto, unfolding(sq_grammar::specs::Reading::opened))]
     pub fn open(&mut self, left: usize) -> Result<(), Stop>
         ensures value { Reads (spec.opened left self.old) result self.new }
         ensures shorter { OnOk result (length self.new < length self.old) }
@@ -159,7 +159,7 @@ impl<'a> Reader<'a> {
     }
 
     /// Takes a name if one comes next.
-    #[tactic(auto, unfolding(crate::specs::Reading::one_if_any))]
+    #[tactic(auto, unfolding(sq_grammar::specs::Reading::one_if_any))]
     pub fn name_if_any(&mut self) -> Option<Name>
         ensures value { spec.one_if_any spec.name_of self.old ≡ Ok (result, self.new) }
         ensures shorter { OnSome result (length self.new < length self.old) }
@@ -176,7 +176,7 @@ impl<'a> Reader<'a> {
     }
 
     /// Takes a name, which has to come next.
-    #[tactic(auto, unfolding(crate::specs::Reading::one_of, crate::specs::Reading::one_if_any))]
+    #[tactic(auto, unfolding(sq_grammar::specs::Reading::one_of, sq_grammar::specs::Reading::one_if_any))]
     pub fn name(&mut self) -> Result<Name, Stop>
         ensures value { Reads (spec.name self.old) result self.new }
         ensures shorter { OnOk result (length self.new < length self.old) }
@@ -188,7 +188,7 @@ impl<'a> Reader<'a> {
     }
 
     /// Takes a number if one comes next.
-    #[tactic(auto, unfolding(crate::specs::Reading::one_if_any))]
+    #[tactic(auto, unfolding(sq_grammar::specs::Reading::one_if_any))]
     pub fn number_if_any(&mut self) -> Option<Number>
         ensures value { spec.one_if_any spec.number_of self.old ≡ Ok (result, self.new) }
         ensures shorter { OnSome result (length self.new < length self.old) }
@@ -205,7 +205,7 @@ impl<'a> Reader<'a> {
     }
 
     /// Takes a number, which has to come next.
-    #[tactic(auto, unfolding(crate::specs::Reading::one_of, crate::specs::Reading::one_if_any))]
+    #[tactic(auto, unfolding(sq_grammar::specs::Reading::one_of, sq_grammar::specs::Reading::one_if_any))]
     pub fn number(&mut self) -> Result<Number, Stop>
         ensures value { Reads (spec.number self.old) result self.new }
         ensures shorter { OnOk result (length self.new < length self.old) }
@@ -217,7 +217,7 @@ impl<'a> Reader<'a> {
     }
 
     /// Takes a text literal if one comes next, and copies its characters.
-    #[tactic(auto, unfolding(crate::specs::Reading::one_if_any))]
+    #[tactic(auto, unfolding(sq_grammar::specs::Reading::one_if_any))]
     pub fn text_if_any(&mut self, alloc: Global) -> Result<Option<Items<u8>>, Stop>
         ensures value { Reads (spec.one_if_any spec.text_of self.old) result self.new }
         ensures shorter { IfOk result (λ found. OnSome found (length self.new < length self.old)) }

@@ -1,8 +1,9 @@
 //! Schema texts. In each rule the words up to where the rules differ are read already.
 
 ghost use Rattle.std.specs.Prelude.{◌≡◌, ◌<◌, ◌≤◌, length, IfOk, OnOk, OnSome};
-ghost use Rattle.sq_parse.specs.Reading.{Reads, all, listed, whole};
-ghost use Rattle.sq_parse.specs.Schema as spec;
+ghost use Rattle.sq_grammar.specs.Reading.{all, listed, whole};
+ghost use Rattle.sq_parse.specs.Reads.{Reads};
+ghost use Rattle.sq_grammar.specs.Schema as spec;
 
 use crate::cond::inner_cond;
 use crate::data_type::data_type;
@@ -20,7 +21,7 @@ use sq_tree::{
 };
 use std::alloc::Global;
 
-#[tactic(auto, unfolding(crate::specs::Schema::references_from))]
+#[tactic(auto, unfolding(sq_grammar::specs::Schema::references_from))]
 fn references_from(alloc: Global, tokens: &mut Reader<'_>) -> Result<References, Stop>
     ensures value { Reads (spec.references_from tokens.old) result tokens.new }
     ensures shorter { OnOk result (length tokens.new < length tokens.old) }
@@ -30,7 +31,7 @@ fn references_from(alloc: Global, tokens: &mut Reader<'_>) -> Result<References,
     Ok(References { table, columns })
 }
 
-#[tactic(auto, unfolding(crate::specs::Schema::default_value))]
+#[tactic(auto, unfolding(sq_grammar::specs::Schema::default_value))]
 fn default_value(alloc: Global, tokens: &mut Reader<'_>) -> Result<DefaultValue, Stop>
     ensures value { Reads (spec.default_value tokens.old) result tokens.new }
     ensures no_longer { OnOk result (length tokens.new ≤ length tokens.old) }
@@ -48,7 +49,7 @@ fn default_value(alloc: Global, tokens: &mut Reader<'_>) -> Result<DefaultValue,
     Ok(DefaultValue::Number(number))
 }
 
-#[tactic(auto, unfolding(crate::specs::Schema::default_clause))]
+#[tactic(auto, unfolding(sq_grammar::specs::Schema::default_clause))]
 fn default_clause(alloc: Global, tokens: &mut Reader<'_>) -> Result<Option<DefaultValue>, Stop>
     ensures value { Reads (spec.default_clause tokens.old) result tokens.new }
     ensures no_longer { OnOk result (length tokens.new ≤ length tokens.old) }
@@ -61,7 +62,7 @@ fn default_clause(alloc: Global, tokens: &mut Reader<'_>) -> Result<Option<Defau
 }
 
 /// `CHECK "(" cond ")"`, in which the bracket is one of `left`.
-#[tactic(auto, unfolding(crate::specs::Schema::check))]
+#[tactic(auto, unfolding(sq_grammar::specs::Schema::check))]
 fn check(alloc: Global, tokens: &mut Reader<'_>, left: usize) -> Result<Cond, Stop>
     requires { 0 < left }
     ensures value { Reads (spec.check left tokens.old) result tokens.new }
@@ -74,7 +75,7 @@ fn check(alloc: Global, tokens: &mut Reader<'_>, left: usize) -> Result<Cond, St
 }
 
 /// A column constraint, if one comes.
-#[tactic(auto, unfolding(crate::specs::Schema::column_constraint))]
+#[tactic(auto, unfolding(sq_grammar::specs::Schema::column_constraint))]
 fn column_constraint(
     alloc: Global,
     tokens: &mut Reader<'_>,
@@ -124,7 +125,7 @@ fn column_constraints(
 }
 
 /// A column definition whose name is read already.
-#[tactic(auto, unfolding(crate::specs::Schema::column_definition))]
+#[tactic(auto, unfolding(sq_grammar::specs::Schema::column_definition))]
 fn column_definition(
     alloc: Global,
     tokens: &mut Reader<'_>,
@@ -146,7 +147,7 @@ fn column_definition(
     })
 }
 
-#[tactic(auto, unfolding(crate::specs::Schema::foreign_key, crate::specs::Schema::references))]
+#[tactic(auto, unfolding(sq_grammar::specs::Schema::foreign_key, sq_grammar::specs::Schema::references))]
 fn foreign_key(alloc: Global, tokens: &mut Reader<'_>) -> Result<ForeignKey, Stop>
     ensures value { Reads (spec.foreign_key tokens.old) result tokens.new }
     ensures no_longer { OnOk result (length tokens.new ≤ length tokens.old) }
@@ -161,7 +162,7 @@ fn foreign_key(alloc: Global, tokens: &mut Reader<'_>) -> Result<ForeignKey, Sto
     })
 }
 
-#[tactic(auto, unfolding(crate::specs::Schema::table_constraint))]
+#[tactic(auto, unfolding(sq_grammar::specs::Schema::table_constraint))]
 fn table_constraint(
     alloc: Global,
     tokens: &mut Reader<'_>,
@@ -189,7 +190,7 @@ fn table_constraint(
     Ok(TableElement::Check(cond))
 }
 
-#[tactic(auto, unfolding(crate::specs::Schema::table_element))]
+#[tactic(auto, unfolding(sq_grammar::specs::Schema::table_element))]
 fn table_element(alloc: Global, tokens: &mut Reader<'_>, left: usize) -> Result<TableElement, Stop>
     requires { 0 < left }
     ensures value { Reads (spec.table_element left tokens.old) result tokens.new }
@@ -217,7 +218,7 @@ fn table_elements(
 }
 
 /// A table definition; `left` brackets may be opened behind its own.
-#[tactic(auto, unfolding(crate::specs::Schema::table_definition))]
+#[tactic(auto, unfolding(sq_grammar::specs::Schema::table_definition))]
 fn table_definition(
     alloc: Global,
     tokens: &mut Reader<'_>,
@@ -235,7 +236,7 @@ fn table_definition(
 }
 
 /// `[ WITH CHECK OPTION ]`.
-#[tactic(auto, unfolding(crate::specs::Schema::check_option))]
+#[tactic(auto, unfolding(sq_grammar::specs::Schema::check_option))]
 fn check_option(tokens: &mut Reader<'_>) -> Result<bool, Stop>
     ensures value { Reads (spec.check_option tokens.old) result tokens.new }
     ensures no_longer { OnOk result (length tokens.new ≤ length tokens.old) }
@@ -248,7 +249,7 @@ fn check_option(tokens: &mut Reader<'_>) -> Result<bool, Stop>
     Ok(true)
 }
 
-#[tactic(auto, unfolding(crate::specs::Schema::view_definition))]
+#[tactic(auto, unfolding(sq_grammar::specs::Schema::view_definition))]
 fn view_definition(
     alloc: Global,
     tokens: &mut Reader<'_>,
@@ -271,7 +272,7 @@ fn view_definition(
     })
 }
 
-#[tactic(auto, unfolding(crate::specs::Schema::action))]
+#[tactic(auto, unfolding(sq_grammar::specs::Schema::action))]
 fn action(alloc: Global, tokens: &mut Reader<'_>) -> Result<Action, Stop>
     ensures value { Reads (spec.action tokens.old) result tokens.new }
     ensures shorter { OnOk result (length tokens.new < length tokens.old) }
@@ -301,7 +302,7 @@ fn actions(alloc: Global, tokens: &mut Reader<'_>) -> Result<CommaList<Action>, 
     comma_list(alloc, tokens, |tokens| action(alloc, tokens))
 }
 
-#[tactic(auto, unfolding(crate::specs::Schema::privileges))]
+#[tactic(auto, unfolding(sq_grammar::specs::Schema::privileges))]
 fn privileges(alloc: Global, tokens: &mut Reader<'_>) -> Result<Privileges, Stop>
     ensures value { Reads (spec.privileges tokens.old) result tokens.new }
     ensures shorter { OnOk result (length tokens.new < length tokens.old) }
@@ -314,7 +315,7 @@ fn privileges(alloc: Global, tokens: &mut Reader<'_>) -> Result<Privileges, Stop
     Ok(Privileges::Actions(actions))
 }
 
-#[tactic(auto, unfolding(crate::specs::Schema::grantee))]
+#[tactic(auto, unfolding(sq_grammar::specs::Schema::grantee))]
 fn grantee(tokens: &mut Reader<'_>) -> Result<Grantee, Stop>
     ensures value { Reads (spec.grantee tokens.old) result tokens.new }
     ensures shorter { OnOk result (length tokens.new < length tokens.old) }
@@ -334,7 +335,7 @@ fn grantees(alloc: Global, tokens: &mut Reader<'_>) -> Result<CommaList<Grantee>
 }
 
 /// `[ WITH GRANT OPTION ]`.
-#[tactic(auto, unfolding(crate::specs::Schema::grant_option))]
+#[tactic(auto, unfolding(sq_grammar::specs::Schema::grant_option))]
 fn grant_option(tokens: &mut Reader<'_>) -> Result<bool, Stop>
     ensures value { Reads (spec.grant_option tokens.old) result tokens.new }
     ensures no_longer { OnOk result (length tokens.new ≤ length tokens.old) }
@@ -347,7 +348,7 @@ fn grant_option(tokens: &mut Reader<'_>) -> Result<bool, Stop>
     Ok(true)
 }
 
-#[tactic(auto, unfolding(crate::specs::Schema::grant))]
+#[tactic(auto, unfolding(sq_grammar::specs::Schema::grant))]
 fn grant(alloc: Global, tokens: &mut Reader<'_>) -> Result<GrantStatement, Stop>
     ensures value { Reads (spec.grant tokens.old) result tokens.new }
     ensures shorter { OnOk result (length tokens.new < length tokens.old) }
@@ -378,7 +379,7 @@ fn sees_created(tokens: &Reader<'_>) -> bool
 }
 
 /// A table or a view, with its first word.
-#[tactic(auto, unfolding(crate::specs::Schema::created))]
+#[tactic(auto, unfolding(sq_grammar::specs::Schema::created))]
 fn created(
     alloc: Global,
     tokens: &mut Reader<'_>,
@@ -401,7 +402,7 @@ fn created(
 }
 
 /// A table, a view or a grant, if one comes; `inner` brackets may be opened behind that of a table.
-#[tactic(auto, unfolding(crate::specs::Schema::element))]
+#[tactic(auto, unfolding(sq_grammar::specs::Schema::element))]
 fn element(
     alloc: Global,
     tokens: &mut Reader<'_>,
@@ -439,7 +440,7 @@ fn elements(
 }
 
 /// A schema definition whose first word is read already.
-#[tactic(auto, unfolding(crate::specs::Schema::schema_definition))]
+#[tactic(auto, unfolding(sq_grammar::specs::Schema::schema_definition))]
 fn schema_definition(
     alloc: Global,
     tokens: &mut Reader<'_>,
@@ -502,7 +503,7 @@ fn more_definitions(
 }
 
 /// All of a schema text; `inner` brackets may be opened behind that of a table.
-#[tactic(auto, unfolding(crate::specs::Schema::schema_text))]
+#[tactic(auto, unfolding(sq_grammar::specs::Schema::schema_text))]
 pub fn whole_schema(
     alloc: Global,
     tokens: &mut Reader<'_>,

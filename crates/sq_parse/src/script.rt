@@ -1,8 +1,9 @@
 //! Script texts.
 
 ghost use Rattle.std.specs.Prelude.{◌≡◌, ◌<◌, ◌≤◌, length, IfOk, OnOk, OnSome};
-ghost use Rattle.sq_parse.specs.Reading.{Reads, all, behind, comma, one_if_any, whole};
-ghost use Rattle.sq_parse.specs.Script as spec;
+ghost use Rattle.sq_grammar.specs.Reading.{all, behind, comma, one_if_any, whole};
+ghost use Rattle.sq_parse.specs.Reads.{Reads};
+ghost use Rattle.sq_grammar.specs.Script as spec;
 
 use crate::names::signed_number;
 use crate::reader::Reader;
@@ -12,7 +13,7 @@ use sq_lex::{Lexeme, Name, Symbol, Word};
 use sq_tree::{Argument, Arguments, CommaList, ScriptItem, ScriptText};
 use std::alloc::Global;
 
-#[tactic(auto, unfolding(crate::specs::Script::argument))]
+#[tactic(auto, unfolding(sq_grammar::specs::Script::argument))]
 fn argument(alloc: Global, tokens: &mut Reader<'_>) -> Result<Argument, Stop>
     ensures value { Reads (spec.argument tokens.old) result tokens.new }
     ensures shorter { OnOk result (length tokens.new < length tokens.old) }
@@ -28,7 +29,7 @@ fn argument(alloc: Global, tokens: &mut Reader<'_>) -> Result<Argument, Stop>
 }
 
 /// The arguments behind the first.
-#[tactic(auto, using(crate::proofs::Many::loops))]
+#[tactic(auto, using(sq_grammar::proofs::Many::loops))]
 fn more_arguments(alloc: Global, tokens: &mut Reader<'_>) -> Result<Items<Argument>, Stop>
     ensures value { Reads (all (behind comma spec.argument) tokens.old) result tokens.new }
     ensures no_longer { OnOk result (length tokens.new ≤ length tokens.old) }
@@ -41,7 +42,7 @@ fn more_arguments(alloc: Global, tokens: &mut Reader<'_>) -> Result<Items<Argume
     Ok(items)
 }
 
-#[tactic(auto, unfolding(crate::specs::Script::arguments))]
+#[tactic(auto, unfolding(sq_grammar::specs::Script::arguments))]
 fn arguments(alloc: Global, tokens: &mut Reader<'_>) -> Result<Arguments, Stop>
     ensures value { Reads (spec.arguments tokens.old) result tokens.new }
     ensures no_longer { OnOk result (length tokens.new ≤ length tokens.old) }
@@ -58,7 +59,7 @@ fn arguments(alloc: Global, tokens: &mut Reader<'_>) -> Result<Arguments, Stop>
     Ok(Arguments::Listed(CommaList { first, rest }))
 }
 
-#[tactic(auto, unfolding(crate::specs::Script::two_names))]
+#[tactic(auto, unfolding(sq_grammar::specs::Script::two_names))]
 fn two_names(tokens: &mut Reader<'_>) -> Result<(Name, Name), Stop>
     ensures value { Reads (spec.two_names tokens.old) result tokens.new }
     ensures shorter { OnOk result (length tokens.new < length tokens.old) }
@@ -79,7 +80,7 @@ fn is_call(lexeme: &Lexeme) -> bool
 }
 
 /// Takes the name CALL if it comes next.
-#[tactic(auto, unfolding(crate::specs::Reading::one_if_any))]
+#[tactic(auto, unfolding(sq_grammar::specs::Reading::one_if_any))]
 fn call_if_any(tokens: &mut Reader<'_>) -> Option<()>
     ensures value { one_if_any spec.call_of tokens.old ≡ Ok (result, tokens.new) }
     ensures no_longer { length tokens.new ≤ length tokens.old }
@@ -91,7 +92,7 @@ fn call_if_any(tokens: &mut Reader<'_>) -> Option<()>
     Some(())
 }
 
-#[tactic(auto, unfolding(crate::specs::Script::item))]
+#[tactic(auto, unfolding(sq_grammar::specs::Script::item))]
 fn item(alloc: Global, tokens: &mut Reader<'_>) -> Result<Option<ScriptItem>, Stop>
     ensures value { Reads (spec.item tokens.old) result tokens.new }
     ensures shorter { IfOk result (λ item. OnSome item (length tokens.new < length tokens.old)) }
@@ -111,7 +112,7 @@ fn item(alloc: Global, tokens: &mut Reader<'_>) -> Result<Option<ScriptItem>, St
     Ok(Some(ScriptItem::Call(module, procedure, arguments)))
 }
 
-#[tactic(auto, using(crate::proofs::Many::loops))]
+#[tactic(auto, using(sq_grammar::proofs::Many::loops))]
 fn items(alloc: Global, tokens: &mut Reader<'_>) -> Result<Items<ScriptItem>, Stop>
     ensures value { Reads (all spec.item tokens.old) result tokens.new }
     ensures no_longer { OnOk result (length tokens.new ≤ length tokens.old) }
@@ -123,7 +124,7 @@ fn items(alloc: Global, tokens: &mut Reader<'_>) -> Result<Items<ScriptItem>, St
     Ok(items)
 }
 
-#[tactic(auto, unfolding(crate::specs::Script::script_text))]
+#[tactic(auto, unfolding(sq_grammar::specs::Script::script_text))]
 pub fn script_text(alloc: Global, tokens: &mut Reader<'_>) -> Result<ScriptText, Stop>
     ensures { Reads (whole spec.script_text tokens.old) result tokens.new }
 {

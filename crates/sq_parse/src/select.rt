@@ -1,20 +1,22 @@
 //! Query specifications.
 
 ghost use Rattle.std.specs.Prelude.{◌≡◌, ◌<◌, ◌≤◌, ◌+◌, length, IfOk, OnOk, OnSome};
-ghost use Rattle.sq_parse.specs.Cond as conditions;
-ghost use Rattle.sq_parse.specs.Cond.{strictly};
-ghost use Rattle.sq_parse.specs.Expr as expressions;
+ghost use Rattle.sq_grammar.specs.Cond as conditions;
+ghost use Rattle.sq_grammar.specs.Cond.{strictly};
+ghost use Rattle.sq_grammar.specs.Expr as expressions;
 ghost use Rattle.sq_parse.specs.Nests.{Nests};
-ghost use Rattle.sq_parse.specs.Names.{column_reference};
-ghost use Rattle.sq_parse.specs.Reading.{Reads, all, behind, comma, listed};
-ghost use Rattle.sq_parse.specs.Select as spec;
+ghost use Rattle.sq_grammar.specs.Names.{column_reference};
+ghost use Rattle.sq_grammar.specs.Reading.{all, behind, comma, listed};
+ghost use Rattle.sq_parse.specs.Reads.{Reads};
+ghost use Rattle.sq_grammar.specs.Select as spec;
 
-use crate::cond::{Grammar, Mixed, inner};
+use crate::cond::{Grammar, inner};
 use crate::expr::{inner as inner_expr, quantifier_if_any};
 use crate::list::comma_list;
 use crate::names::{column_reference, table_name};
 use crate::reader::Reader;
 use crate::stop::Stop;
+use sq_grammar::Mixed;
 use sq_items::Items;
 use sq_lex::{Symbol, Word};
 use sq_tree::{
@@ -23,7 +25,7 @@ use sq_tree::{
 };
 use std::alloc::Global;
 
-#[tactic(auto, unfolding(crate::specs::Select::correlation))]
+#[tactic(auto, unfolding(sq_grammar::specs::Select::correlation))]
 fn correlation(tokens: &mut Reader<'_>) -> Result<Option<Correlation>, Stop>
     ensures value { Reads (spec.correlation tokens.old) result tokens.new }
     ensures no_longer { OnOk result (length tokens.new ≤ length tokens.old) }
@@ -44,7 +46,7 @@ fn correlation(tokens: &mut Reader<'_>) -> Result<Option<Correlation>, Stop>
     }
 }
 
-#[tactic(auto, unfolding(crate::specs::Select::table_reference))]
+#[tactic(auto, unfolding(sq_grammar::specs::Select::table_reference))]
 fn table_reference(tokens: &mut Reader<'_>) -> Result<TableReference, Stop>
     ensures value { Reads (spec.table_reference tokens.old) result tokens.new }
     ensures shorter { OnOk result (length tokens.new < length tokens.old) }
@@ -61,7 +63,7 @@ fn tables(alloc: Global, tokens: &mut Reader<'_>) -> Result<CommaList<TableRefer
     comma_list(alloc, tokens, table_reference)
 }
 
-#[tactic(auto, unfolding(crate::specs::Select::from_clause))]
+#[tactic(auto, unfolding(sq_grammar::specs::Select::from_clause))]
 fn from_clause(alloc: Global, tokens: &mut Reader<'_>) -> Result<CommaList<TableReference>, Stop>
     ensures value { Reads (spec.from_clause tokens.old) result tokens.new }
     ensures shorter { OnOk result (length tokens.new < length tokens.old) }
@@ -80,7 +82,7 @@ fn grouping_columns(
     comma_list(alloc, tokens, column_reference)
 }
 
-#[tactic(auto, unfolding(crate::specs::Select::group_by, crate::specs::Select::by_columns))]
+#[tactic(auto, unfolding(sq_grammar::specs::Select::group_by, sq_grammar::specs::Select::by_columns))]
 fn group_by(
     alloc: Global,
     tokens: &mut Reader<'_>,
@@ -98,7 +100,7 @@ fn group_by(
 
 impl<F: Fn(Global, &mut Reader<'_>, usize) -> Result<Mixed<Cond>, Stop>> Grammar<F> {
     /// The expressions behind the first of a list that stands behind a bracket.
-    #[tactic(auto, using(crate::proofs::Many::loops))]
+    #[tactic(auto, using(sq_grammar::proofs::Many::loops))]
     fn more_exprs(&self, tokens: &mut Reader<'_>) -> Result<Items<Expr>, Stop>
         requires { 0 < self.now.left }
         ensures value { Reads (all (behind comma (expressions.inside self.now.left)) tokens.old) result tokens.new }
@@ -123,7 +125,7 @@ impl<F: Fn(Global, &mut Reader<'_>, usize) -> Result<Mixed<Cond>, Stop>> Grammar
         Ok(CommaList { first, rest })
     }
 
-    #[tactic(auto, unfolding(crate::specs::Select::select_list))]
+    #[tactic(auto, unfolding(sq_grammar::specs::Select::select_list))]
     fn select_list(&self, tokens: &mut Reader<'_>) -> Result<SelectList, Stop>
         requires { 0 < self.now.left }
         ensures value { Reads (spec.select_list (expressions.inside self.now.left) tokens.old) result tokens.new }
@@ -162,7 +164,7 @@ impl<F: Fn(Global, &mut Reader<'_>, usize) -> Result<Mixed<Cond>, Stop>> Grammar
         Ok(Some(cond))
     }
 
-    #[tactic(auto, unfolding(crate::specs::Select::table_expression))]
+    #[tactic(auto, unfolding(sq_grammar::specs::Select::table_expression))]
     fn table_expression(&self, tokens: &mut Reader<'_>) -> Result<TableExpression, Stop>
         requires nests { Nests conditions.inside self.now.left (F.pre self.now.inner) (F.post self.now.inner) }
         requires some { 0 < self.now.left }
@@ -182,7 +184,7 @@ impl<F: Fn(Global, &mut Reader<'_>, usize) -> Result<Mixed<Cond>, Stop>> Grammar
     }
 
     /// A query specification behind a bracket.
-    #[tactic(auto, unfolding(crate::specs::Select::specification))]
+    #[tactic(auto, unfolding(sq_grammar::specs::Select::specification))]
     pub fn inner_query(&self, tokens: &mut Reader<'_>) -> Result<QuerySpecification, Stop>
         requires nests { Nests conditions.inside self.now.left (F.pre self.now.inner) (F.post self.now.inner) }
         requires some { 0 < self.now.left }
@@ -201,7 +203,7 @@ impl<F: Fn(Global, &mut Reader<'_>, usize) -> Result<Mixed<Cond>, Stop>> Grammar
     }
 
     /// `"(" spec ")"`.
-    #[tactic(auto, unfolding(crate::specs::Cond::subquery))]
+    #[tactic(auto, unfolding(sq_grammar::specs::Cond::subquery))]
     pub fn subquery(&self, tokens: &mut Reader<'_>) -> Result<QuerySpecification, Stop>
         requires { Nests conditions.inside self.now.left (F.pre self.now.inner) (F.post self.now.inner) }
         ensures value { Reads (conditions.subquery self.now.left (conditions.inside self.now.left) tokens.old) result tokens.new }

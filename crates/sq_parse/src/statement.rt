@@ -1,10 +1,11 @@
 //! The statements of a procedure. In each rule `left` brackets may be open at once, and a statement's first word is read already.
 
 ghost use Rattle.std.specs.Prelude.{◌≡◌, ◌<◌, ◌≤◌, length, OnOk, OnSome};
-ghost use Rattle.sq_parse.specs.Expr as expressions;
-ghost use Rattle.sq_parse.specs.Names.{parameter};
-ghost use Rattle.sq_parse.specs.Reading.{Reads, listed, one_if_any};
-ghost use Rattle.sq_parse.specs.Statement as spec;
+ghost use Rattle.sq_grammar.specs.Expr as expressions;
+ghost use Rattle.sq_grammar.specs.Names.{parameter};
+ghost use Rattle.sq_grammar.specs.Reading.{listed, one_if_any};
+ghost use Rattle.sq_parse.specs.Reads.{Reads};
+ghost use Rattle.sq_grammar.specs.Statement as spec;
 
 use crate::cond::cond;
 use crate::expr::{expr, inner as inner_expr, quantifier_if_any};
@@ -13,6 +14,7 @@ use crate::names::{columns_if_any, parameter, signed_number, table_name};
 use crate::reader::Reader;
 use crate::select::{query_specification, select_list, table_expression};
 use crate::stop::Stop;
+use sq_grammar::Verb;
 use sq_lex::{Lexeme, Symbol, Word};
 use sq_tree::{
     Assignment, CommaList, Delete, Fetch, FetchFrom, Insert, InsertSource, NewValue, Orientation,
@@ -20,7 +22,7 @@ use sq_tree::{
 };
 use std::alloc::Global;
 
-#[tactic(auto, unfolding(crate::specs::Statement::position))]
+#[tactic(auto, unfolding(sq_grammar::specs::Statement::position))]
 fn position(tokens: &mut Reader<'_>) -> Result<Position, Stop>
     ensures value { Reads (spec.position tokens.old) result tokens.new }
     ensures shorter { OnOk result (length tokens.new < length tokens.old) }
@@ -46,7 +48,7 @@ fn orientation_of(lexeme: &Lexeme) -> Option<Orientation>
 }
 
 /// NEXT, PRIOR, FIRST or LAST, if one comes next.
-#[tactic(auto, unfolding(crate::specs::Reading::one_if_any))]
+#[tactic(auto, unfolding(sq_grammar::specs::Reading::one_if_any))]
 fn orientation_word(tokens: &mut Reader<'_>) -> Option<Orientation>
     ensures value { one_if_any spec.orientation_of tokens.old ≡ Ok (result, tokens.new) }
     ensures no_longer { length tokens.new ≤ length tokens.old }
@@ -56,7 +58,7 @@ fn orientation_word(tokens: &mut Reader<'_>) -> Option<Orientation>
     Some(orientation)
 }
 
-#[tactic(auto, unfolding(crate::specs::Statement::orientation))]
+#[tactic(auto, unfolding(sq_grammar::specs::Statement::orientation))]
 fn orientation(tokens: &mut Reader<'_>) -> Result<Option<Orientation>, Stop>
     ensures value { Reads (spec.orientation tokens.old) result tokens.new }
     ensures no_longer { OnOk result (length tokens.new ≤ length tokens.old) }
@@ -75,7 +77,7 @@ fn orientation(tokens: &mut Reader<'_>) -> Result<Option<Orientation>, Stop>
     Ok(None)
 }
 
-#[tactic(auto, unfolding(crate::specs::Statement::fetch_from))]
+#[tactic(auto, unfolding(sq_grammar::specs::Statement::fetch_from))]
 fn fetch_from(tokens: &mut Reader<'_>) -> Result<Option<FetchFrom>, Stop>
     ensures value { Reads (spec.fetch_from tokens.old) result tokens.new }
     ensures no_longer { OnOk result (length tokens.new ≤ length tokens.old) }
@@ -99,7 +101,7 @@ fn targets(alloc: Global, tokens: &mut Reader<'_>) -> Result<CommaList<Parameter
     comma_list(alloc, tokens, parameter)
 }
 
-#[tactic(auto, unfolding(crate::specs::Statement::fetch))]
+#[tactic(auto, unfolding(sq_grammar::specs::Statement::fetch))]
 fn fetch(alloc: Global, tokens: &mut Reader<'_>) -> Result<Fetch, Stop>
     ensures value { Reads (spec.fetch tokens.old) result tokens.new }
     ensures shorter { OnOk result (length tokens.new < length tokens.old) }
@@ -115,7 +117,7 @@ fn fetch(alloc: Global, tokens: &mut Reader<'_>) -> Result<Fetch, Stop>
     })
 }
 
-#[tactic(auto, unfolding(crate::specs::Statement::target))]
+#[tactic(auto, unfolding(sq_grammar::specs::Statement::target))]
 fn target(alloc: Global, tokens: &mut Reader<'_>, left: usize) -> Result<Option<Where>, Stop>
     ensures value { Reads (spec.target left tokens.old) result tokens.new }
     ensures no_longer { OnOk result (length tokens.new ≤ length tokens.old) }
@@ -132,7 +134,7 @@ fn target(alloc: Global, tokens: &mut Reader<'_>, left: usize) -> Result<Option<
     Ok(Some(Where::Condition(cond)))
 }
 
-#[tactic(auto, unfolding(crate::specs::Statement::select))]
+#[tactic(auto, unfolding(sq_grammar::specs::Statement::select))]
 fn select(alloc: Global, tokens: &mut Reader<'_>, left: usize) -> Result<Select, Stop>
     requires { left ≤ 32 }
     ensures value { Reads (spec.select left tokens.old) result tokens.new }
@@ -152,7 +154,7 @@ fn select(alloc: Global, tokens: &mut Reader<'_>, left: usize) -> Result<Select,
 }
 
 /// A value of a VALUES list, whose bracket is one of the `left` that could be opened before it.
-#[tactic(auto, unfolding(crate::specs::Statement::new_value))]
+#[tactic(auto, unfolding(sq_grammar::specs::Statement::new_value))]
 fn listed_value(alloc: Global, tokens: &mut Reader<'_>, left: usize) -> Result<NewValue, Stop>
     requires { 0 < left }
     ensures value { Reads (spec.new_value (expressions.inside left) tokens.old) result tokens.new }
@@ -177,7 +179,7 @@ fn listed_values(
     comma_list(alloc, tokens, |tokens| listed_value(alloc, tokens, left))
 }
 
-#[tactic(auto, unfolding(crate::specs::Statement::insert_source))]
+#[tactic(auto, unfolding(sq_grammar::specs::Statement::insert_source))]
 fn insert_source(alloc: Global, tokens: &mut Reader<'_>, left: usize) -> Result<InsertSource, Stop>
     requires some { 0 < left }
     requires small { left ≤ 32 }
@@ -194,7 +196,7 @@ fn insert_source(alloc: Global, tokens: &mut Reader<'_>, left: usize) -> Result<
     Ok(InsertSource::Query(query))
 }
 
-#[tactic(auto, unfolding(crate::specs::Statement::insert))]
+#[tactic(auto, unfolding(sq_grammar::specs::Statement::insert))]
 fn insert(alloc: Global, tokens: &mut Reader<'_>, left: usize) -> Result<Insert, Stop>
     requires some { 0 < left }
     requires small { left ≤ 32 }
@@ -212,7 +214,7 @@ fn insert(alloc: Global, tokens: &mut Reader<'_>, left: usize) -> Result<Insert,
     })
 }
 
-#[tactic(auto, unfolding(crate::specs::Statement::new_value))]
+#[tactic(auto, unfolding(sq_grammar::specs::Statement::new_value))]
 fn new_value(alloc: Global, tokens: &mut Reader<'_>, left: usize) -> Result<NewValue, Stop>
     ensures value { Reads (spec.new_value (expressions.expr left) tokens.old) result tokens.new }
     ensures shorter { OnOk result (length tokens.new < length tokens.old) }
@@ -224,7 +226,7 @@ fn new_value(alloc: Global, tokens: &mut Reader<'_>, left: usize) -> Result<NewV
     Ok(NewValue::Expr(value))
 }
 
-#[tactic(auto, unfolding(crate::specs::Statement::assignment))]
+#[tactic(auto, unfolding(sq_grammar::specs::Statement::assignment))]
 fn assignment(alloc: Global, tokens: &mut Reader<'_>, left: usize) -> Result<Assignment, Stop>
     ensures value { Reads (spec.assignment left tokens.old) result tokens.new }
     ensures shorter { OnOk result (length tokens.new < length tokens.old) }
@@ -246,7 +248,7 @@ fn assignments(
     comma_list(alloc, tokens, |tokens| assignment(alloc, tokens, left))
 }
 
-#[tactic(auto, unfolding(crate::specs::Statement::update))]
+#[tactic(auto, unfolding(sq_grammar::specs::Statement::update))]
 fn update(alloc: Global, tokens: &mut Reader<'_>, left: usize) -> Result<Update, Stop>
     ensures value { Reads (spec.update left tokens.old) result tokens.new }
     ensures shorter { OnOk result (length tokens.new < length tokens.old) }
@@ -262,7 +264,7 @@ fn update(alloc: Global, tokens: &mut Reader<'_>, left: usize) -> Result<Update,
     })
 }
 
-#[tactic(auto, unfolding(crate::specs::Statement::delete))]
+#[tactic(auto, unfolding(sq_grammar::specs::Statement::delete))]
 fn delete(alloc: Global, tokens: &mut Reader<'_>, left: usize) -> Result<Delete, Stop>
     ensures value { Reads (spec.delete left tokens.old) result tokens.new }
     ensures shorter { OnOk result (length tokens.new < length tokens.old) }
@@ -271,20 +273,6 @@ fn delete(alloc: Global, tokens: &mut Reader<'_>, left: usize) -> Result<Delete,
     let table = table_name(tokens)?;
     let target = target(alloc, tokens, left)?;
     Ok(Delete { table, target })
-}
-
-/// The word that a statement begins with.
-#[derive(Clone, Copy)]
-enum Verb {
-    Open,
-    Fetch,
-    Close,
-    Select,
-    Insert,
-    Update,
-    Delete,
-    Commit,
-    Rollback,
 }
 
 fn verb_of(lexeme: &Lexeme) -> Option<Verb>
@@ -304,7 +292,7 @@ fn verb_of(lexeme: &Lexeme) -> Option<Verb>
     }
 }
 
-#[tactic(auto, unfolding(crate::specs::Reading::one_if_any))]
+#[tactic(auto, unfolding(sq_grammar::specs::Reading::one_if_any))]
 fn verb_if_any(tokens: &mut Reader<'_>) -> Option<Verb>
     ensures value { one_if_any spec.verb_of tokens.old ≡ Ok (result, tokens.new) }
     ensures shorter { OnSome result (length tokens.new < length tokens.old) }
@@ -315,7 +303,7 @@ fn verb_if_any(tokens: &mut Reader<'_>) -> Option<Verb>
 }
 
 /// A statement with its first word.
-#[tactic(auto, unfolding(crate::specs::Statement::statement))]
+#[tactic(auto, unfolding(sq_grammar::specs::Statement::statement))]
 pub fn statement(alloc: Global, tokens: &mut Reader<'_>, left: usize) -> Result<Statement, Stop>
     requires some { 0 < left }
     requires small { left ≤ 32 }

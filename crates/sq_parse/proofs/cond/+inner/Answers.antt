@@ -1,6 +1,6 @@
 use Rattle.std.proofs.Common.{arith}
-use Rattle.sq_parse.specs.Cond.{inside}
-use Rattle.sq_parse.proofs.Many.{deeper}
+use Rattle.sq_grammar.specs.Cond.{inside}
+use Rattle.sq_grammar.proofs.Many.{deeper}
 use Rattle.sq_parse.proofs.cond.+inner.Goals as goal
 
 pub returns-clause-value : goal.returns-clause-value

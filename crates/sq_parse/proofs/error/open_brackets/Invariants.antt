@@ -1,6 +1,6 @@
 use Rattle.std.proofs.Common.{◌≡◌, ◌≤◌, take}
 use Rattle.sq_lex.specs.Token.{lexemes}
-use Rattle.sq_parse.specs.Refusal.{open_brackets}
+use Rattle.sq_grammar.specs.Brackets.{open_brackets}
 use Rattle.sq_parse.proofs.error.open_brackets.Given as goal
 
 abbrev pub invariant-loop-token : goal.invariant-loop-token

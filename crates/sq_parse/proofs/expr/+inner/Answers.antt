@@ -1,6 +1,6 @@
 use Rattle.std.proofs.Common.{arith}
-use Rattle.sq_parse.specs.Expr.{inside}
-use Rattle.sq_parse.proofs.Many.{deeper}
+use Rattle.sq_grammar.specs.Expr.{inside}
+use Rattle.sq_grammar.proofs.Many.{deeper}
 use Rattle.sq_parse.proofs.expr.+inner.Goals as goal
 
 pub returns-clause-value : goal.returns-clause-value

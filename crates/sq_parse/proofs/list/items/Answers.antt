@@ -1,4 +1,4 @@
-use Rattle.sq_parse.proofs.Many.{all_done}
+use Rattle.sq_grammar.proofs.Many.{all_done}
 use Rattle.sq_parse.proofs.list.items.Goals as goal
 
 pub returns-in-Ok-None-clause-value : goal.returns-in-Ok-None-clause-value

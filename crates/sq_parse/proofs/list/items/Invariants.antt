@@ -1,6 +1,6 @@
 use Rattle.std.proofs.Common.{◌≡◌, ◌≤◌, Option, length}
 use Rattle.sq_parse.specs.Nests.{Follows}
-use Rattle.sq_parse.specs.Reading.{Parser, with_front, all}
+use Rattle.sq_grammar.specs.Reading.{Parser, with_front, all}
 use Rattle.sq_parse.specs.contracts.list.items.P-Fn as called
 use Rattle.sq_parse.proofs.list.items.Given as goal
 

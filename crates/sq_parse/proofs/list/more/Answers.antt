@@ -1,6 +1,7 @@
 use Rattle.std.proofs.Common.{rules, arith, ◌≡◌, ◌<◌, ◌≤◌, length}
-use Rattle.sq_parse.specs.Reading.{behind, comma, all}
-use Rattle.sq_parse.proofs.Many.{front-nil, more_stops, more_reads, all_ends}
+use Rattle.sq_grammar.specs.Reading.{behind, comma, all}
+use Rattle.sq_grammar.proofs.Many.{front-nil, more_reads, all_ends}
+use Rattle.sq_parse.proofs.Stops.{more_stops}
 use Rattle.sq_parse.proofs.list.more.Goals as goal
 
 pub loop-tokens-init : goal.loop-tokens-init

@@ -1,6 +1,6 @@
 use Rattle.std.proofs.Common.{◌≡◌, ◌≤◌, length}
 use Rattle.sq_parse.specs.Nests.{Follows}
-use Rattle.sq_parse.specs.Reading.{Parser, with_front, all, behind, comma}
+use Rattle.sq_grammar.specs.Reading.{Parser, with_front, all, behind, comma}
 use Rattle.sq_parse.specs.contracts.list.more.P-Fn as called
 use Rattle.sq_parse.proofs.list.more.Given as goal
 

@@ -1,5 +1,5 @@
 use Rattle.std.proofs.Common.{rules}
-use Rattle.sq_parse.specs.Module.{item}
+use Rattle.sq_grammar.specs.Module.{item}
 use Rattle.sq_parse.proofs.module.all_items.Goals as goal
 
 pub returns-clause-value : goal.returns-clause-value

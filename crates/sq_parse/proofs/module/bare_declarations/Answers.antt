@@ -1,5 +1,5 @@
 use Rattle.std.proofs.Common.{rules}
-use Rattle.sq_parse.specs.Module.{bare_declaration}
+use Rattle.sq_grammar.specs.Module.{bare_declaration}
 use Rattle.sq_parse.proofs.module.bare_declarations.Goals as goal
 
 pub returns-clause-value : goal.returns-clause-value

@@ -1,5 +1,5 @@
 use Rattle.std.proofs.Common.{rules}
-use Rattle.sq_parse.specs.Module.{declaration}
+use Rattle.sq_grammar.specs.Module.{declaration}
 use Rattle.sq_parse.proofs.module.bracketed_declarations.Goals as goal
 
 pub returns-clause-value : goal.returns-clause-value

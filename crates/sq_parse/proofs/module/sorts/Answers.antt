@@ -1,5 +1,5 @@
 use Rattle.std.proofs.Common.{rules}
-use Rattle.sq_parse.specs.Module.{sort_specification}
+use Rattle.sq_grammar.specs.Module.{sort_specification}
 use Rattle.sq_parse.proofs.module.sorts.Goals as goal
 
 pub returns-clause-value : goal.returns-clause-value

@@ -1,5 +1,5 @@
-use Rattle.sq_parse.specs.Reading.{name}
-use Rattle.sq_parse.proofs.Many.{listed_ends}
+use Rattle.sq_grammar.specs.Reading.{name}
+use Rattle.sq_grammar.proofs.Many.{listed_ends}
 use Rattle.sq_parse.proofs.names.names.Goals as goal
 
 pub returns-clause-value : goal.returns-clause-value

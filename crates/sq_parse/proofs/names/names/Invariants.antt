@@ -1,5 +1,5 @@
 use Rattle.std.proofs.Common.{◌≡◌, ◌≤◌, length}
-use Rattle.sq_parse.specs.Reading.{with_front, all, behind, comma, name}
+use Rattle.sq_grammar.specs.Reading.{with_front, all, behind, comma, name}
 use Rattle.sq_parse.proofs.names.names.Given as goal
 
 abbrev pub invariant-loop-rest : goal.invariant-loop-rest

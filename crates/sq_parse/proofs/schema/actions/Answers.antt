@@ -1,5 +1,5 @@
 use Rattle.std.proofs.Common.{rules}
-use Rattle.sq_parse.specs.Schema.{action}
+use Rattle.sq_grammar.specs.Schema.{action}
 use Rattle.sq_parse.proofs.schema.actions.Goals as goal
 
 pub returns-clause-value : goal.returns-clause-value

@@ -1,5 +1,5 @@
 use Rattle.std.proofs.Common.{rules}
-use Rattle.sq_parse.specs.Schema.{column_constraint}
+use Rattle.sq_grammar.specs.Schema.{column_constraint}
 use Rattle.sq_parse.proofs.schema.column_constraints.Goals as goal
 
 pub returns-clause-value : goal.returns-clause-value

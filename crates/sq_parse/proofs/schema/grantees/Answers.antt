@@ -1,5 +1,5 @@
 use Rattle.std.proofs.Common.{rules}
-use Rattle.sq_parse.specs.Schema.{grantee}
+use Rattle.sq_grammar.specs.Schema.{grantee}
 use Rattle.sq_parse.proofs.schema.grantees.Goals as goal
 
 pub returns-clause-value : goal.returns-clause-value

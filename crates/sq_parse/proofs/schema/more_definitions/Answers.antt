@@ -1,5 +1,5 @@
 use Rattle.std.proofs.Common.{rules}
-use Rattle.sq_parse.specs.Schema.{next_definition}
+use Rattle.sq_grammar.specs.Schema.{next_definition}
 use Rattle.sq_parse.proofs.schema.more_definitions.Goals as goal
 
 pub returns-clause-value : goal.returns-clause-value

@@ -1,5 +1,5 @@
 use Rattle.std.proofs.Common.{rules}
-use Rattle.sq_parse.specs.Schema.{table_element}
+use Rattle.sq_grammar.specs.Schema.{table_element}
 use Rattle.sq_parse.proofs.schema.table_elements.Goals as goal
 
 pub returns-clause-value : goal.returns-clause-value

@@ -1,5 +1,5 @@
 use Rattle.std.proofs.Common.{rules}
-use Rattle.sq_parse.specs.Names.{column_reference}
+use Rattle.sq_grammar.specs.Names.{column_reference}
 use Rattle.sq_parse.proofs.select.grouping_columns.Goals as goal
 
 pub returns-clause-value : goal.returns-clause-value

@@ -1,4 +1,4 @@
-use Rattle.sq_parse.proofs.Behind.{expr-behind}
+use Rattle.sq_grammar.proofs.Behind.{expr-behind}
 use Rattle.sq_parse.proofs.select.select_list.Goals as goal
 
 pub returns-clause-value : goal.returns-clause-value

@@ -1,4 +1,4 @@
-use Rattle.sq_parse.proofs.Behind.{cond-behind}
+use Rattle.sq_grammar.proofs.Behind.{cond-behind}
 use Rattle.sq_parse.proofs.select.table_expression.Goals as goal
 
 pub returns-clause-value : goal.returns-clause-value

@@ -1,5 +1,5 @@
 use Rattle.std.proofs.Common.{rules}
-use Rattle.sq_parse.specs.Select.{table_reference}
+use Rattle.sq_grammar.specs.Select.{table_reference}
 use Rattle.sq_parse.proofs.select.tables.Goals as goal
 
 pub returns-clause-value : goal.returns-clause-value

@@ -1,5 +1,5 @@
 use Rattle.std.proofs.Common.{rules}
-use Rattle.sq_parse.specs.Statement.{assignment}
+use Rattle.sq_grammar.specs.Statement.{assignment}
 use Rattle.sq_parse.proofs.statement.assignments.Goals as goal
 
 pub returns-clause-value : goal.returns-clause-value

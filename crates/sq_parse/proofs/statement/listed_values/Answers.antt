@@ -1,6 +1,6 @@
 use Rattle.std.proofs.Common.{rules}
-use Rattle.sq_parse.specs.Expr.{inside}
-use Rattle.sq_parse.specs.Statement.{new_value}
+use Rattle.sq_grammar.specs.Expr.{inside}
+use Rattle.sq_grammar.specs.Statement.{new_value}
 use Rattle.sq_parse.proofs.statement.listed_values.Goals as goal
 
 pub returns-clause-value : goal.returns-clause-value

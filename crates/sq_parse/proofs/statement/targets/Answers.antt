@@ -1,5 +1,5 @@
 use Rattle.std.proofs.Common.{rules}
-use Rattle.sq_parse.specs.Names.{parameter}
+use Rattle.sq_grammar.specs.Names.{parameter}
 use Rattle.sq_parse.proofs.statement.targets.Goals as goal
 
 pub returns-clause-value : goal.returns-clause-value

@@ -1,6 +1,6 @@
 use Rattle.std.proofs.Common.{lit≤}
-use Rattle.sq_parse.proofs.Spells.{whole_is}
-use Rattle.sq_parse.proofs.SchemaSound.{schema_sound}
+use Rattle.sq_grammar.proofs.Spells.{whole_is}
+use Rattle.sq_grammar.proofs.SchemaSound.{schema_sound}
 use Rattle.sq_parse.proofs.text.parse_schema.Goals as goal
 
 pub returns-in-Ok-clause-spelled : goal.returns-in-Ok-clause-spelled

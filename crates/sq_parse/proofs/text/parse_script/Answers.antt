@@ -1,6 +1,6 @@
 use Rattle.std.proofs.Common.{lit≤}
-use Rattle.sq_parse.proofs.Spells.{whole_is}
-use Rattle.sq_parse.proofs.ScriptSound.{script_sound}
+use Rattle.sq_grammar.proofs.Spells.{whole_is}
+use Rattle.sq_grammar.proofs.ScriptSound.{script_sound}
 use Rattle.sq_parse.proofs.text.parse_script.Goals as goal
 
 pub returns-in-Ok-clause-spelled : goal.returns-in-Ok-clause-spelled

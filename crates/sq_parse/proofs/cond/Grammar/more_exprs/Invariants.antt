@@ -1,6 +1,6 @@
 use Rattle.std.proofs.Common.{◌≡◌, ◌≤◌, length}
-use Rattle.sq_parse.specs.Reading.{with_front, all, behind, comma}
-use Rattle.sq_parse.specs.Expr.{inside}
+use Rattle.sq_grammar.specs.Reading.{with_front, all, behind, comma}
+use Rattle.sq_grammar.specs.Expr.{inside}
 use Rattle.sq_parse.proofs.cond.Grammar.more_exprs.Given as goal
 
 abbrev pub invariant-loop-tokens : goal.invariant-loop-tokens

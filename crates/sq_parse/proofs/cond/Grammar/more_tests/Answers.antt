@@ -1,4 +1,4 @@
-use Rattle.sq_parse.proofs.Many.{all_ends}
+use Rattle.sq_grammar.proofs.Many.{all_ends}
 use Rattle.sq_parse.proofs.cond.Grammar.more_tests.Goals as goal
 
 pub returns-clause-value : goal.returns-clause-value

@@ -1,6 +1,6 @@
 use Rattle.std.proofs.Common.{◌≡◌, ◌≤◌, length}
-use Rattle.sq_parse.specs.Reading.{with_front, all}
-use Rattle.sq_parse.specs.Expr.{inside, added}
+use Rattle.sq_grammar.specs.Reading.{with_front, all}
+use Rattle.sq_grammar.specs.Expr.{inside, added}
 use Rattle.sq_parse.proofs.expr.Grammar.all_added.Given as goal
 
 abbrev pub invariant-loop-items : goal.invariant-loop-items

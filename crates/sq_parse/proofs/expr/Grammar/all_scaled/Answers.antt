@@ -1,4 +1,4 @@
-use Rattle.sq_parse.proofs.Many.{all_done}
+use Rattle.sq_grammar.proofs.Many.{all_done}
 use Rattle.sq_parse.proofs.expr.Grammar.all_scaled.Goals as goal
 
 pub returns-clause-value : goal.returns-clause-value

@@ -1,7 +1,7 @@
-use Rattle.sq_parse.specs.Reading.{opened}
-use Rattle.sq_parse.specs.Expr.{close}
-use Rattle.sq_parse.specs.Query.{bracketed, inside}
-use Rattle.sq_parse.proofs.Many.{stops_after, stops_here}
+use Rattle.sq_grammar.specs.Reading.{opened}
+use Rattle.sq_grammar.specs.Expr.{close}
+use Rattle.sq_grammar.specs.Query.{bracketed, inside}
+use Rattle.sq_parse.proofs.Stops.{stops_after, stops_here}
 use Rattle.sq_parse.proofs.query.Grammar.bracketed.Goals as goal
 
 pub returns-in-Err-clause-value : goal.returns-in-Err-clause-value

@@ -1,8 +1,8 @@
 use Rattle.sq_lex.specs.declared.lexeme.Lexeme.TheVariants as lexeme
 use Rattle.sq_lex.specs.declared.word.Word.TheVariants as word
-use Rattle.sq_parse.specs.Reading.{all, behind}
-use Rattle.sq_parse.specs.Query.{level, query_term, union_term, inside}
-use Rattle.sq_parse.proofs.Many.{stops_after, stops_here}
+use Rattle.sq_grammar.specs.Reading.{all, behind}
+use Rattle.sq_grammar.specs.Query.{level, query_term, union_term, inside}
+use Rattle.sq_parse.proofs.Stops.{stops_after, stops_here}
 use Rattle.sq_parse.proofs.query.Grammar.query.Goals as goal
 
 pub returns-in-Err-clause-value : goal.returns-in-Err-clause-value

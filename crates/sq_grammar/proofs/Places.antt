@@ -8,7 +8,7 @@ use Rattle.sq_lex.specs.declared.symbol.Symbol.TheVariants as symbol
 use Rattle.sq_lex.specs.declared.word.Word.{Word}
 use Rattle.sq_lex.specs.declared.word.Word.TheVariants as word
 use Rattle.sq_lex.specs.Word.{place, same_word}
-use Rattle.sq_parse.specs.Reading.{symbol_place, same_symbol, is_word, is_symbol, is_token}
+use Rattle.sq_grammar.specs.Reading.{symbol_place, same_symbol, is_word, is_symbol, is_token}
 
 abbrev words : List Word
 words = word.Absolute ∷ word.All ∷ word.And ∷ word.Any ∷ word.As ∷ word.Asc ∷ word.Authorization ∷ word.Avg ∷ word.Between ∷ word.By ∷ word.Char ∷ word.Character ∷ word.Check ∷ word.Close ∷ word.Commit ∷ word.Count ∷ word.Create ∷ word.Current ∷ word.Cursor ∷ word.Dec ∷ word.Decimal ∷ word.Declare ∷ word.Default ∷ word.Delete ∷ word.Desc ∷ word.Distinct ∷ word.Escape ∷ word.Exists ∷ word.Fetch ∷ word.First ∷ word.For ∷ word.Foreign ∷ word.From ∷ word.Grant ∷ word.Group ∷ word.Having ∷ word.In ∷ word.Indicator ∷ word.Insensitive ∷ word.Insert ∷ word.Int ∷ word.Integer ∷ word.Into ∷ word.Is ∷ word.Key ∷ word.Language ∷ word.Last ∷ word.Like ∷ word.Max ∷ word.Min ∷ word.Module ∷ word.Next ∷ word.Not ∷ word.Null ∷ word.Numeric ∷ word.Of ∷ word.On ∷ word.Open ∷ word.Option ∷ word.Or ∷ word.Order ∷ word.Primary ∷ word.Prior ∷ word.Privileges ∷ word.Procedure ∷ word.Public ∷ word.References ∷ word.Relative ∷ word.Rollback ∷ word.Schema ∷ word.Scroll ∷ word.Select ∷ word.Set ∷ word.Smallint ∷ word.Some ∷ word.Sqlcode ∷ word.Sqlstate ∷ word.Sum ∷ word.Table ∷ word.To ∷ word.Union ∷ word.Unique ∷ word.Update ∷ word.User ∷ word.Values ∷ word.Varchar ∷ word.Varying ∷ word.View ∷ word.Where ∷ word.With ∷ word.Work ∷ []

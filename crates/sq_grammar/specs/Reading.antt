@@ -10,8 +10,6 @@ use Rattle.sq_lex.specs.declared.name.Name.{Name}
 use Rattle.sq_lex.specs.declared.number.Number.{Number}
 use Rattle.sq_lex.specs.Word.{same_word}
 use Rattle.sq_tree.specs.declared.list.CommaList.{CommaList}
-use Rattle.sq_parse.specs.declared.stop.Stop.{Stop}
-use Rattle.sq_parse.specs.declared.stop.Stop.TheVariants.{NoMemory, Unfit}
 
 abbrev pub Tokens : Type 0
 Tokens = List Lexeme
@@ -204,13 +202,3 @@ end_of x (t ∷ ts) = Err (length ts + 1)
 -- all of a text
 abbrev pub whole : {A : Type 0} → Parser A → Parser A
 whole p = p >>= end_of
-
--- ---- what a function that reads ensures: the outcome, unless memory ran out
-
-abbrev pub Stops : {A : Type 0} → Outcome A → Stop → Type 0
-Stops outcome NoMemory = Unit {0}
-Stops outcome (Unfit n) = outcome ≡ Err n
-
-abbrev pub Reads : {A : Type 0} → Outcome A → Result A Stop → Tokens → Type 0
-Reads outcome (Ok x) new = outcome ≡ Ok (x, new)
-Reads outcome (Err e) new = Stops outcome e

@@ -14,15 +14,15 @@ use Rattle.sq_tree.specs.List.{comma_tokens, comma_depth}
 use Rattle.sq_tree.specs.DataType.{data_type_tokens, data_type_depth}
 use Rattle.sq_tree.specs.Query.{query_tokens, query_depth}
 use Rattle.sq_tree.specs.Module as tree
-use Rattle.sq_parse.specs.Reading.{Parser, eat, one_if_any, number_of, name, behind, listed, all}
-use Rattle.sq_parse.specs.DataType.{data_type}
-use Rattle.sq_parse.specs.Query.{query}
-use Rattle.sq_parse.specs.Statement.{statement}
-use Rattle.sq_parse.specs.Module.{declaration_if_any, declared, declaration, bare_declaration, declarations, procedure, sort_key, direction_if_any, sort_specification, by_sorts, order_by, ordered_query, cursor, item, module_text}
-use Rattle.sq_parse.proofs.Spells.{Sound, After, sound, unsound, built, never, andthen, eats, eaten, expected, maybe, following, finally, names, a_number, lists, rows, behinds, lifted}
-use Rattle.sq_parse.proofs.DataTypeSound.{data_type_sound}
-use Rattle.sq_parse.proofs.QuerySound.{query_sound}
-use Rattle.sq_parse.proofs.StatementSound.{statement_sound}
+use Rattle.sq_grammar.specs.Reading.{Parser, eat, one_if_any, number_of, name, behind, listed, all}
+use Rattle.sq_grammar.specs.DataType.{data_type}
+use Rattle.sq_grammar.specs.Query.{query}
+use Rattle.sq_grammar.specs.Statement.{statement}
+use Rattle.sq_grammar.specs.Module.{declaration_if_any, declared, declaration, bare_declaration, declarations, procedure, sort_key, direction_if_any, sort_specification, by_sorts, order_by, ordered_query, cursor, item, module_text}
+use Rattle.sq_grammar.proofs.Spells.{Sound, After, sound, unsound, built, never, andthen, eats, eaten, expected, maybe, following, finally, names, a_number, lists, rows, behinds, lifted}
+use Rattle.sq_grammar.proofs.DataTypeSound.{data_type_sound}
+use Rattle.sq_grammar.proofs.QuerySound.{query_sound}
+use Rattle.sq_grammar.proofs.StatementSound.{statement_sound}
 
 declaration_if_any_sound : (left : ℕ) → 1 ≤ left → Sound declaration_if_any (optional tree.declaration_tokens) (optional_depth tree.declaration_depth) left
 unfolding declaration_if_any

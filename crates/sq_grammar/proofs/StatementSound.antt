@@ -18,21 +18,21 @@ use Rattle.sq_tree.specs.Names.{name_tokens, parameter_tokens}
 use Rattle.sq_tree.specs.Expr.{expr_tokens, expr_depth, quantifier_tokens}
 use Rattle.sq_tree.specs.Cond.{select_list_tokens, table_expression_tokens}
 use Rattle.sq_tree.specs.Statement.{position_tokens, orientation_tokens, fetch_from_tokens, fetch_tokens, select_tokens, new_value_tokens, insert_source_tokens, insert_tokens, target_tokens, assignment_tokens, update_tokens, delete_tokens, work_tokens, statement_tokens, select_depth, new_value_depth, insert_source_depth, insert_depth, target_depth, assignment_depth, update_depth, delete_depth, statement_depth}
-use Rattle.sq_parse.specs.declared.statement.Verb.{Verb}
-use Rattle.sq_parse.specs.declared.statement.Verb.TheVariants as verb
-use Rattle.sq_parse.specs.Reading.{Parser, eat, one_if_any, name, listed}
-use Rattle.sq_parse.specs.Names.{table_name, parameter, signed_number, columns_if_any}
-use Rattle.sq_parse.specs.Expr as expressions
-use Rattle.sq_parse.specs.Expr.{expr, quantifier_if_any}
-use Rattle.sq_parse.specs.Cond.{cond, query_specification}
-use Rattle.sq_parse.specs.Select.{select_list, table_expression}
-use Rattle.sq_parse.specs.Statement.{position, orientation_of, orientation, fetch_from, fetch, new_value, target, select, insert_source, insert, assignment, update, delete, verb_of, by_verb, statement}
-use Rattle.sq_parse.proofs.Spells.{Sound, After, sound, unsound, built, never, andthen, eats, eaten, expected, maybe, following, names, lists, one_maybe, one_spelled, some_is, lowered, lifted}
-use Rattle.sq_parse.proofs.NamesSound.{table_names, parameters, signed_numbers, a_column_list}
-use Rattle.sq_parse.proofs.ExprSound as expr_proof
-use Rattle.sq_parse.proofs.ExprSound.{quantifiers}
-use Rattle.sq_parse.proofs.SelectSound.{select_list_sound, table_expression_sound}
-use Rattle.sq_parse.proofs.CondSound.{cond_sound, query_specification_sound}
+use Rattle.sq_grammar.specs.declared.verb.Verb.{Verb}
+use Rattle.sq_grammar.specs.declared.verb.Verb.TheVariants as verb
+use Rattle.sq_grammar.specs.Reading.{Parser, eat, one_if_any, name, listed}
+use Rattle.sq_grammar.specs.Names.{table_name, parameter, signed_number, columns_if_any}
+use Rattle.sq_grammar.specs.Expr as expressions
+use Rattle.sq_grammar.specs.Expr.{expr, quantifier_if_any}
+use Rattle.sq_grammar.specs.Cond.{cond, query_specification}
+use Rattle.sq_grammar.specs.Select.{select_list, table_expression}
+use Rattle.sq_grammar.specs.Statement.{position, orientation_of, orientation, fetch_from, fetch, new_value, target, select, insert_source, insert, assignment, update, delete, verb_of, by_verb, statement}
+use Rattle.sq_grammar.proofs.Spells.{Sound, After, sound, unsound, built, never, andthen, eats, eaten, expected, maybe, following, names, lists, one_maybe, one_spelled, some_is, lowered, lifted}
+use Rattle.sq_grammar.proofs.NamesSound.{table_names, parameters, signed_numbers, a_column_list}
+use Rattle.sq_grammar.proofs.ExprSound as expr_proof
+use Rattle.sq_grammar.proofs.ExprSound.{quantifiers}
+use Rattle.sq_grammar.proofs.SelectSound.{select_list_sound, table_expression_sound}
+use Rattle.sq_grammar.proofs.CondSound.{cond_sound, query_specification_sound}
 
 positions_sound : (left : ℕ) → Sound position position_tokens (λ _. 0) left
 unfolding position

@@ -13,7 +13,7 @@ use Rattle.sq_tree.specs.declared.names.Indicator.{Indicator}
 use Rattle.sq_tree.specs.declared.expr.Sign.{Sign}
 use Rattle.sq_tree.specs.declared.expr.Sign.TheVariants.{Plus, Minus}
 use Rattle.sq_tree.specs.declared.expr.SignedNumber.{SignedNumber}
-use Rattle.sq_parse.specs.Reading.{Parser, ◌>>=◌, ◌>>◌, pure, eat_symbol, eat_word, expect_symbol, token_if_any, name, number, behind, listed}
+use Rattle.sq_grammar.specs.Reading.{Parser, ◌>>=◌, ◌>>◌, pure, eat_symbol, eat_word, expect_symbol, token_if_any, name, number, behind, listed}
 
 abbrev pub dot : Lexeme
 dot = lexeme.Symbol symbol.Dot

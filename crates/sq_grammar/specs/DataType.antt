@@ -13,9 +13,9 @@ use Rattle.sq_tree.specs.declared.data_type.CharacterWord.TheVariants as fixed
 use Rattle.sq_tree.specs.declared.data_type.VaryingWord.{VaryingWord}
 use Rattle.sq_tree.specs.declared.data_type.VaryingWord.TheVariants.{CharacterVarying, CharVarying, Varchar}
 use Rattle.sq_tree.specs.declared.data_type.Precision.{Precision}
-use Rattle.sq_parse.specs.declared.data_type.TypeWord.{TypeWord}
-use Rattle.sq_parse.specs.declared.data_type.TypeWord.TheVariants as first
-use Rattle.sq_parse.specs.Reading.{Parser, ◌>>=◌, ◌>>◌, pure, stuck, eat_word, expect_symbol, one_if_any, number, behind, comma}
+use Rattle.sq_grammar.specs.declared.type_word.TypeWord.{TypeWord}
+use Rattle.sq_grammar.specs.declared.type_word.TypeWord.TheVariants as first
+use Rattle.sq_grammar.specs.Reading.{Parser, ◌>>=◌, ◌>>◌, pure, stuck, eat_word, expect_symbol, one_if_any, number, behind, comma}
 
 -- number [ "," number ] ")", where the bracket is read already
 unfoldable pub precision_from : Parser Precision

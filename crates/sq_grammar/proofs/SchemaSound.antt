@@ -17,16 +17,16 @@ use Rattle.sq_tree.specs.List.{comma_tokens, comma_depth}
 use Rattle.sq_tree.specs.Names.{name_tokens, table_name_tokens}
 use Rattle.sq_tree.specs.Cond.{cond_tokens, cond_depth}
 use Rattle.sq_tree.specs.Schema as tree
-use Rattle.sq_parse.specs.Reading.{Parser, eat, one_if_any, name_of, text_of, name, behind, listed, all}
-use Rattle.sq_parse.specs.Names.{table_name, signed_number, columns, columns_if_any}
-use Rattle.sq_parse.specs.DataType.{data_type}
-use Rattle.sq_parse.specs.Cond as conditions
-use Rattle.sq_parse.specs.Cond.{strictly, query_specification}
-use Rattle.sq_parse.specs.Schema.{references_from, references, default_value, default_clause, check, column_constraint, column_definition, foreign_key, table_constraint, table_element, table_definition, check_option, view_definition, action, privileges, grantee, grant_option, grant, sees_created, created, element, schema_definition, next_definition, schema_text}
-use Rattle.sq_parse.proofs.Spells.{Sound, After, sound, unsound, built, never, andthen, eats, eaten, expected, maybe, following, finally, either, names, a_name, a_text, lists, rows, behinds, behinds_with, lowered, lifted}
-use Rattle.sq_parse.proofs.NamesSound.{table_names, signed_numbers, column_lists, a_column_list}
-use Rattle.sq_parse.proofs.DataTypeSound.{data_type_sound}
-use Rattle.sq_parse.proofs.CondSound.{inner_cond_sound, query_specification_sound}
+use Rattle.sq_grammar.specs.Reading.{Parser, eat, one_if_any, name_of, text_of, name, behind, listed, all}
+use Rattle.sq_grammar.specs.Names.{table_name, signed_number, columns, columns_if_any}
+use Rattle.sq_grammar.specs.DataType.{data_type}
+use Rattle.sq_grammar.specs.Cond as conditions
+use Rattle.sq_grammar.specs.Cond.{strictly, query_specification}
+use Rattle.sq_grammar.specs.Schema.{references_from, references, default_value, default_clause, check, column_constraint, column_definition, foreign_key, table_constraint, table_element, table_definition, check_option, view_definition, action, privileges, grantee, grant_option, grant, sees_created, created, element, schema_definition, next_definition, schema_text}
+use Rattle.sq_grammar.proofs.Spells.{Sound, After, sound, unsound, built, never, andthen, eats, eaten, expected, maybe, following, finally, either, names, a_name, a_text, lists, rows, behinds, behinds_with, lowered, lifted}
+use Rattle.sq_grammar.proofs.NamesSound.{table_names, signed_numbers, column_lists, a_column_list}
+use Rattle.sq_grammar.proofs.DataTypeSound.{data_type_sound}
+use Rattle.sq_grammar.proofs.CondSound.{inner_cond_sound, query_specification_sound}
 
 references_behind : (left : ℕ) → 1 ≤ left → After (lexeme.Word word.References ∷ []) 0 left references_from tree.references_tokens tree.references_depth
 unfolding references_from

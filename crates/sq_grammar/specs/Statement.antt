@@ -24,14 +24,14 @@ use Rattle.sq_tree.specs.declared.statement.Assignment.{Assignment}
 use Rattle.sq_tree.specs.declared.statement.Delete.{Delete}
 use Rattle.sq_tree.specs.declared.statement.Where.{Where}
 use Rattle.sq_tree.specs.declared.statement.Where.TheVariants.{Condition, CurrentOf}
-use Rattle.sq_parse.specs.declared.statement.Verb.{Verb}
-use Rattle.sq_parse.specs.declared.statement.Verb.TheVariants as verb
-use Rattle.sq_parse.specs.Reading.{Parser, ◌>>=◌, ◌>>◌, pure, stuck, and_then, eat, eat_symbol, eat_word, expect_word, expect_symbol, one_if_any, name, listed}
-use Rattle.sq_parse.specs.Names.{table_name, parameter, signed_number, columns_if_any}
-use Rattle.sq_parse.specs.Expr as expressions
-use Rattle.sq_parse.specs.Expr.{expr, quantifier_if_any}
-use Rattle.sq_parse.specs.Cond.{cond, query_specification}
-use Rattle.sq_parse.specs.Select.{select_list, table_expression}
+use Rattle.sq_grammar.specs.declared.verb.Verb.{Verb}
+use Rattle.sq_grammar.specs.declared.verb.Verb.TheVariants as verb
+use Rattle.sq_grammar.specs.Reading.{Parser, ◌>>=◌, ◌>>◌, pure, stuck, and_then, eat, eat_symbol, eat_word, expect_word, expect_symbol, one_if_any, name, listed}
+use Rattle.sq_grammar.specs.Names.{table_name, parameter, signed_number, columns_if_any}
+use Rattle.sq_grammar.specs.Expr as expressions
+use Rattle.sq_grammar.specs.Expr.{expr, quantifier_if_any}
+use Rattle.sq_grammar.specs.Cond.{cond, query_specification}
+use Rattle.sq_grammar.specs.Select.{select_list, table_expression}
 
 abbrev pub by_colon : Bool → Parser Position
 by_colon true = name >>= λ n. pure (positions.Parameter n)

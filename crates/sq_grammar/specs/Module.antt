@@ -21,10 +21,10 @@ use Rattle.sq_tree.specs.declared.module.BareDeclaration.{BareDeclaration}
 use Rattle.sq_tree.specs.declared.module.Declaration.{Declaration}
 use Rattle.sq_tree.specs.declared.module.Declaration.TheVariants.{Parameter, Sqlcode, Sqlstate}
 use Rattle.sq_tree.specs.declared.query.Query.{Query}
-use Rattle.sq_parse.specs.Reading.{Parser, ◌>>=◌, ◌>>◌, pure, stuck, and_then, eat, eat_symbol, eat_word, expect_word, expect_symbol, one_if_any, number_of, name, token_if_any, behind, listed, all}
-use Rattle.sq_parse.specs.DataType.{data_type}
-use Rattle.sq_parse.specs.Query.{query}
-use Rattle.sq_parse.specs.Statement.{statement}
+use Rattle.sq_grammar.specs.Reading.{Parser, ◌>>=◌, ◌>>◌, pure, stuck, and_then, eat, eat_symbol, eat_word, expect_word, expect_symbol, one_if_any, number_of, name, token_if_any, behind, listed, all}
+use Rattle.sq_grammar.specs.DataType.{data_type}
+use Rattle.sq_grammar.specs.Query.{query}
+use Rattle.sq_grammar.specs.Statement.{statement}
 
 abbrev pub by_sqlstate : Bool → Parser (Option Declaration)
 by_sqlstate true = pure (Some Sqlstate)

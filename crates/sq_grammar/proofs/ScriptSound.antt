@@ -10,11 +10,11 @@ use Rattle.sq_tree.specs.declared.script.Argument.TheVariants as value
 use Rattle.sq_tree.specs.declared.script.ScriptItem.TheVariants.{Call, Table}
 use Rattle.sq_tree.specs.Tree.{optional, optional_depth}
 use Rattle.sq_tree.specs.Script.{argument_tokens, arguments_tokens, ended_item_tokens, script_tokens, arguments_depth, script_item_depth, script_depth}
-use Rattle.sq_parse.specs.Reading.{name, one_if_any, text_of, listed, all}
-use Rattle.sq_parse.specs.Names.{signed_number}
-use Rattle.sq_parse.specs.Script.{argument, arguments, two_names, call_of, item, script_text}
-use Rattle.sq_parse.proofs.Spells.{Sound, sound, built, andthen, eaten, expected, maybe, names, a_text, lists, rows, one_maybe}
-use Rattle.sq_parse.proofs.NamesSound.{signed_numbers}
+use Rattle.sq_grammar.specs.Reading.{name, one_if_any, text_of, listed, all}
+use Rattle.sq_grammar.specs.Names.{signed_number}
+use Rattle.sq_grammar.specs.Script.{argument, arguments, two_names, call_of, item, script_text}
+use Rattle.sq_grammar.proofs.Spells.{Sound, sound, built, andthen, eaten, expected, maybe, names, a_text, lists, rows, one_maybe}
+use Rattle.sq_grammar.proofs.NamesSound.{signed_numbers}
 
 argument_sound : (left : ℕ) → Sound argument argument_tokens (λ _. 0) left
 unfolding argument

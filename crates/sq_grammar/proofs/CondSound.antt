@@ -26,16 +26,16 @@ use Rattle.sq_tree.specs.Cond.{comparison_token, compared_tokens, not_tokens, es
 use Rattle.sq_tree.proofs.CondLaws as law
 use Rattle.sq_tree.proofs.CondLaws.{and_test, or_conj}
 use Rattle.sq_tree.proofs.ExprLaws as exprs
-use Rattle.sq_parse.specs.declared.cond.Mixed.{Mixed}
-use Rattle.sq_parse.specs.declared.cond.Mixed.TheVariants.{Whole, Bare}
-use Rattle.sq_parse.specs.Reading.{Parser, eat, sees, one_if_any, behind, listed, all, pure, ◌>>=◌}
-use Rattle.sq_parse.specs.Expr as expressions
-use Rattle.sq_parse.specs.Expr.{expr, expr_from}
-use Rattle.sq_parse.specs.Select.{specification}
-use Rattle.sq_parse.specs.Cond.{comparison_of, compared_if_any, sees_query, strict, strictly, null_tail, inner_query, subquery, compared_expr, compared_query, by_compared, comparison_tail, between_tail, in_query, in_list, in_tail, like_tail, by_between, negatable_tail, tail, tailed, predicate_from, bracket, body, tested, test, strict_test, conj, strict_conj, level, inside, cond, query_specification}
-use Rattle.sq_parse.proofs.Spells.{Sound, After, sound, unsound, built, never, andthen, eats, eaten, expected, openly, maybe, following, either, mixed, mixedly, raised, rows, behinds, lists, one_maybe, some_is, lowered, lifted, finally, eased}
-use Rattle.sq_parse.proofs.ExprSound as expr_proof
-use Rattle.sq_parse.proofs.SelectSound.{specifications}
+use Rattle.sq_grammar.specs.declared.mixed.Mixed.{Mixed}
+use Rattle.sq_grammar.specs.declared.mixed.Mixed.TheVariants.{Whole, Bare}
+use Rattle.sq_grammar.specs.Reading.{Parser, eat, sees, one_if_any, behind, listed, all, pure, ◌>>=◌}
+use Rattle.sq_grammar.specs.Expr as expressions
+use Rattle.sq_grammar.specs.Expr.{expr, expr_from}
+use Rattle.sq_grammar.specs.Select.{specification}
+use Rattle.sq_grammar.specs.Cond.{comparison_of, compared_if_any, sees_query, strict, strictly, null_tail, inner_query, subquery, compared_expr, compared_query, by_compared, comparison_tail, between_tail, in_query, in_list, in_tail, like_tail, by_between, negatable_tail, tail, tailed, predicate_from, bracket, body, tested, test, strict_test, conj, strict_conj, level, inside, cond, query_specification}
+use Rattle.sq_grammar.proofs.Spells.{Sound, After, sound, unsound, built, never, andthen, eats, eaten, expected, openly, maybe, following, either, mixed, mixedly, raised, rows, behinds, lists, one_maybe, some_is, lowered, lifted, finally, eased}
+use Rattle.sq_grammar.proofs.ExprSound as expr_proof
+use Rattle.sq_grammar.proofs.SelectSound.{specifications}
 
 comparison_is : (t : Lexeme) (c : Comparison) → comparison_of t ≡ Some c → t ≡ comparison_token c
 comparison_is (lexeme.Symbol symbol.Equal) c e = ap comparison_token (some_is comparison.Equal c e)

@@ -7,9 +7,9 @@ use Rattle.sq_tree.specs.declared.query.QueryTerm.{QueryTerm}
 use Rattle.sq_tree.specs.declared.query.QueryTerm.TheVariants as terms
 use Rattle.sq_tree.specs.declared.query.UnionTerm.{UnionTerm}
 use Rattle.sq_tree.specs.declared.query.Query.{Query, roll-Query}
-use Rattle.sq_parse.specs.Reading.{Parser, ◌>>=◌, ◌>>◌, pure, stuck, and_then, eat_word, opened, sees, behind, all}
-use Rattle.sq_parse.specs.Expr.{close}
-use Rattle.sq_parse.specs.Cond.{query_specification}
+use Rattle.sq_grammar.specs.Reading.{Parser, ◌>>=◌, ◌>>◌, pure, stuck, and_then, eat_word, opened, sees, behind, all}
+use Rattle.sq_grammar.specs.Expr.{close}
+use Rattle.sq_grammar.specs.Cond.{query_specification}
 
 -- `inner` reads behind a bracket that is one of the `left` that may be opened
 module _ (left : ℕ) (inner : Parser Query) where

@@ -9,9 +9,9 @@ use Rattle.sq_tree.specs.Names.{name_tokens, table_name_tokens, column_reference
 use Rattle.sq_tree.specs.Expr.{sign_tokens, signed_number_tokens}
 use Rattle.sq_tree.specs.DataType.{bracket_depth}
 use Rattle.sq_tree.specs.declared.expr.Sign.TheVariants.{Plus, Minus}
-use Rattle.sq_parse.specs.Reading.{name, number, listed}
-use Rattle.sq_parse.specs.Names.{dot, name_behind_dot, table_of, table_name, column_of, column_from, column_reference, indicator, parameter_from, parameter, sign_if_any, signed_number, columns_from, columns, columns_if_any}
-use Rattle.sq_parse.proofs.Spells.{Sound, After, sound, built, andthen, eaten, expected, maybe, following, names, numbers, lists}
+use Rattle.sq_grammar.specs.Reading.{name, number, listed}
+use Rattle.sq_grammar.specs.Names.{dot, name_behind_dot, table_of, table_name, column_of, column_from, column_reference, indicator, parameter_from, parameter, sign_if_any, signed_number, columns_from, columns, columns_if_any}
+use Rattle.sq_grammar.proofs.Spells.{Sound, After, sound, built, andthen, eaten, expected, maybe, following, names, numbers, lists}
 
 dot_names : (left : ℕ) → Sound name_behind_dot (optional (λ n. dot ∷ name_tokens n)) (λ _. 0) left
 dot_names left = sound (eaten dot _

@@ -14,9 +14,9 @@ use Rattle.sq_tree.specs.declared.cond.SelectList.TheVariants as list
 use Rattle.sq_tree.specs.declared.cond.Cond.{Cond}
 use Rattle.sq_tree.specs.declared.cond.TableExpression.{TableExpression, roll-TableExpression}
 use Rattle.sq_tree.specs.declared.cond.QuerySpecification.{QuerySpecification, roll-QuerySpecification}
-use Rattle.sq_parse.specs.Reading.{Parser, ◌>>=◌, ◌>>◌, pure, and_then, eat, eat_symbol, eat_word, expect_word, one_if_any, name_of, name, behind, listed}
-use Rattle.sq_parse.specs.Names.{table_name, column_reference}
-use Rattle.sq_parse.specs.Expr.{quantifier_if_any}
+use Rattle.sq_grammar.specs.Reading.{Parser, ◌>>=◌, ◌>>◌, pure, and_then, eat, eat_symbol, eat_word, expect_word, one_if_any, name_of, name, behind, listed}
+use Rattle.sq_grammar.specs.Names.{table_name, column_reference}
+use Rattle.sq_grammar.specs.Expr.{quantifier_if_any}
 
 abbrev pub correlated : Bool → Name → Parser (Option Correlation)
 correlated written n = pure (Some (record { as_word = written; name = n }))

@@ -20,8 +20,8 @@ use Rattle.sq_tree.specs.declared.expr.Term.{Term, roll-Term}
 use Rattle.sq_tree.specs.declared.expr.Factor.{Factor}
 use Rattle.sq_tree.specs.declared.expr.Added.{Added, roll-Added}
 use Rattle.sq_tree.specs.declared.expr.Scaled.{Scaled}
-use Rattle.sq_parse.specs.Reading.{Parser, ◌>>=◌, ◌>>◌, pure, stuck, eat_symbol, eat_word, expect_symbol, opened, one_if_any, name_of, number_of, text_of, token_if_any, all}
-use Rattle.sq_parse.specs.Names.{sign_if_any, column_from, parameter_from}
+use Rattle.sq_grammar.specs.Reading.{Parser, ◌>>=◌, ◌>>◌, pure, stuck, eat_symbol, eat_word, expect_symbol, opened, one_if_any, name_of, number_of, text_of, token_if_any, all}
+use Rattle.sq_grammar.specs.Names.{sign_if_any, column_from, parameter_from}
 
 -- "*" | "/"
 abbrev pub times_if_any : Parser (Option TimesSign)

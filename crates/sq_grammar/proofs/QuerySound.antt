@@ -10,11 +10,11 @@ use Rattle.sq_tree.specs.Tree.{Tokens}
 use Rattle.sq_tree.specs.Tree as tree
 use Rattle.sq_tree.specs.Query.{query_tokens, query_depth, query_term_tokens, query_term_depth, union_term_tokens, union_term_depth}
 use Rattle.sq_tree.proofs.QueryLaws as law
-use Rattle.sq_parse.specs.Reading.{Parser, eat, sees, behind, all}
-use Rattle.sq_parse.specs.Cond.{query_specification}
-use Rattle.sq_parse.specs.Query.{bracketed, bracketed_term, query_term, union_term, level, inside, query}
-use Rattle.sq_parse.proofs.Spells.{Sound, After, sound, unsound, built, andthen, eats, eaten, expected, openly, following, either, raised, rows, behinds_with}
-use Rattle.sq_parse.proofs.CondSound.{query_specification_sound}
+use Rattle.sq_grammar.specs.Reading.{Parser, eat, sees, behind, all}
+use Rattle.sq_grammar.specs.Cond.{query_specification}
+use Rattle.sq_grammar.specs.Query.{bracketed, bracketed_term, query_term, union_term, level, inside, query}
+use Rattle.sq_grammar.proofs.Spells.{Sound, After, sound, unsound, built, andthen, eats, eaten, expected, openly, following, either, raised, rows, behinds_with}
+use Rattle.sq_grammar.proofs.CondSound.{query_specification_sound}
 
 module _ (left : ℕ) (inner : Parser Query) (s : Sound inner query_tokens (λ q. query_depth q + 1) left) where
   inner_sound : Sound (bracketed left inner) (λ q. tree.bracketed (query_tokens q)) (λ q. query_depth q + 1) left

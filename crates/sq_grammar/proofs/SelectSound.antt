@@ -16,13 +16,13 @@ use Rattle.sq_tree.specs.Names.{name_tokens, column_reference_tokens}
 use Rattle.sq_tree.specs.Expr.{expr_tokens, expr_depth}
 use Rattle.sq_tree.specs.Cond.{correlation_tokens, table_reference_tokens, select_list_tokens, select_list_depth, group_by_tokens, cond_tokens, cond_depth, table_expression_tokens, table_expression_depth, query_specification_tokens, query_specification_depth}
 use Rattle.sq_tree.proofs.CondLaws as law
-use Rattle.sq_parse.specs.Reading.{Parser, name, name_of, one_if_any, behind, listed}
-use Rattle.sq_parse.specs.Names.{table_name, column_reference}
-use Rattle.sq_parse.specs.Expr.{quantifier_if_any}
-use Rattle.sq_parse.specs.Select.{correlation, table_reference, from_clause, by_columns, group_by, select_list, table_expression, specification}
-use Rattle.sq_parse.proofs.Spells.{Sound, After, sound, built, never, andthen, eaten, expected, maybe, following, names, a_name, behinds, lists, finally}
-use Rattle.sq_parse.proofs.NamesSound.{table_names, column_references}
-use Rattle.sq_parse.proofs.ExprSound.{quantifiers}
+use Rattle.sq_grammar.specs.Reading.{Parser, name, name_of, one_if_any, behind, listed}
+use Rattle.sq_grammar.specs.Names.{table_name, column_reference}
+use Rattle.sq_grammar.specs.Expr.{quantifier_if_any}
+use Rattle.sq_grammar.specs.Select.{correlation, table_reference, from_clause, by_columns, group_by, select_list, table_expression, specification}
+use Rattle.sq_grammar.proofs.Spells.{Sound, After, sound, built, never, andthen, eaten, expected, maybe, following, names, a_name, behinds, lists, finally}
+use Rattle.sq_grammar.proofs.NamesSound.{table_names, column_references}
+use Rattle.sq_grammar.proofs.ExprSound.{quantifiers}
 
 correlations : (left : ℕ) → Sound correlation (optional correlation_tokens) (λ _. 0) left
 unfolding correlation

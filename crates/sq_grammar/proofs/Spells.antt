@@ -13,11 +13,11 @@ use Rattle.sq_tree.specs.List.{comma_tokens, comma_depth, comma_then}
 use Rattle.sq_tree.specs.Names.{name_tokens}
 use Rattle.sq_tree.specs.declared.expr.Expr.{Expr}
 use Rattle.sq_tree.specs.Expr.{expr_tokens}
-use Rattle.sq_parse.specs.declared.cond.Mixed.{Mixed}
-use Rattle.sq_parse.specs.declared.cond.Mixed.TheVariants.{Whole, Bare}
+use Rattle.sq_grammar.specs.declared.mixed.Mixed.{Mixed}
+use Rattle.sq_grammar.specs.declared.mixed.Mixed.TheVariants.{Whole, Bare}
 use Rattle.std.proofs.lemmas.Bool.{eqb-false}
-use Rattle.sq_parse.specs.Reading.{Tokens, Outcome, Parser, ◌>>=◌, and_then, pure, stuck, eat, expect, opened, sees, rest, one_of, one_if_any, first_of, taken, taken_if_any, name_of, number_of, text_of, name, number, behind, comma, listed, all, many, turn, with_front, end_of, whole}
-use Rattle.sq_parse.proofs.Places.{is_token-is}
+use Rattle.sq_grammar.specs.Reading.{Tokens, Outcome, Parser, ◌>>=◌, and_then, pure, stuck, eat, expect, opened, sees, rest, one_of, one_if_any, first_of, taken, taken_if_any, name_of, number_of, text_of, name, number, behind, comma, listed, all, many, turn, with_front, end_of, whole}
+use Rattle.sq_grammar.proofs.Places.{is_token-is}
 
 -- text stands before the rest, with d for its depth
 pub record Spells (ts text : Tokens) (d left : ℕ) (rest : Tokens) : Type 0 where

@@ -14,8 +14,8 @@ use Rattle.sq_tree.specs.declared.script.Arguments.{Arguments}
 use Rattle.sq_tree.specs.declared.script.Arguments.TheVariants.{Unwritten, Empty, Listed}
 use Rattle.sq_tree.specs.declared.script.Argument.{Argument}
 use Rattle.sq_tree.specs.declared.script.Argument.TheVariants as value
-use Rattle.sq_parse.specs.Reading.{Parser, ◌>>=◌, ◌>>◌, pure, eat_symbol, eat_word, expect_symbol, one_if_any, text_of, name, listed, all}
-use Rattle.sq_parse.specs.Names.{signed_number}
+use Rattle.sq_grammar.specs.Reading.{Parser, ◌>>=◌, ◌>>◌, pure, eat_symbol, eat_word, expect_symbol, one_if_any, text_of, name, listed, all}
+use Rattle.sq_grammar.specs.Names.{signed_number}
 
 abbrev pub by_text : Option (List ℕ) → Parser Argument
 by_text None = signed_number >>= λ n. pure (value.Number n)

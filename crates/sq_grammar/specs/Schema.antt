@@ -28,11 +28,11 @@ use Rattle.sq_tree.specs.declared.schema.Action.{Action}
 use Rattle.sq_tree.specs.declared.schema.Action.TheVariants as actions
 use Rattle.sq_tree.specs.declared.schema.Grantee.{Grantee}
 use Rattle.sq_tree.specs.declared.schema.Grantee.TheVariants as grantees
-use Rattle.sq_parse.specs.Reading.{Parser, Tokens, ◌>>=◌, ◌>>◌, pure, stuck, and_then, eat, eat_symbol, eat_word, expect_word, expect_symbol, sees, rest, one_if_any, name_of, text_of, name, behind, listed, all}
-use Rattle.sq_parse.specs.Names.{table_name, signed_number, columns, columns_if_any}
-use Rattle.sq_parse.specs.DataType.{data_type}
-use Rattle.sq_parse.specs.Cond as conditions
-use Rattle.sq_parse.specs.Cond.{strictly, query_specification}
+use Rattle.sq_grammar.specs.Reading.{Parser, Tokens, ◌>>=◌, ◌>>◌, pure, stuck, and_then, eat, eat_symbol, eat_word, expect_word, expect_symbol, sees, rest, one_if_any, name_of, text_of, name, behind, listed, all}
+use Rattle.sq_grammar.specs.Names.{table_name, signed_number, columns, columns_if_any}
+use Rattle.sq_grammar.specs.DataType.{data_type}
+use Rattle.sq_grammar.specs.Cond as conditions
+use Rattle.sq_grammar.specs.Cond.{strictly, query_specification}
 
 -- In what follows the first words of a rule, up to where the rules differ, are read already.
 

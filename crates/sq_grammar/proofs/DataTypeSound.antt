@@ -12,11 +12,11 @@ use Rattle.sq_tree.specs.declared.data_type.CharacterWord.TheVariants as fixed
 use Rattle.sq_tree.specs.declared.data_type.VaryingWord.TheVariants.{Varchar}
 use Rattle.sq_tree.specs.Tree.{Tokens, optional}
 use Rattle.sq_tree.specs.DataType.{precision_tokens, scale_tokens, length_tokens, exact_word_tokens, character_word_tokens, varying_word_tokens, data_type_tokens, data_type_depth, bracket_depth}
-use Rattle.sq_parse.specs.declared.data_type.TypeWord.{TypeWord}
-use Rattle.sq_parse.specs.declared.data_type.TypeWord.TheVariants as first
-use Rattle.sq_parse.specs.Reading.{Parser, one_if_any, number, behind, comma}
-use Rattle.sq_parse.specs.DataType.{precision_from, precision, length_from, length_in, length_if_any, varying_of, by_varying, character_type, type_word_of, type_by, data_type}
-use Rattle.sq_parse.proofs.Spells.{Sound, After, sound, built, never, andthen, eaten, expected, maybe, following, numbers, behinds, one_maybe, some_is}
+use Rattle.sq_grammar.specs.declared.type_word.TypeWord.{TypeWord}
+use Rattle.sq_grammar.specs.declared.type_word.TypeWord.TheVariants as first
+use Rattle.sq_grammar.specs.Reading.{Parser, one_if_any, number, behind, comma}
+use Rattle.sq_grammar.specs.DataType.{precision_from, precision, length_from, length_in, length_if_any, varying_of, by_varying, character_type, type_word_of, type_by, data_type}
+use Rattle.sq_grammar.proofs.Spells.{Sound, After, sound, built, never, andthen, eaten, expected, maybe, following, numbers, behinds, one_maybe, some_is}
 
 precision_behind : (left : ℕ) → 1 ≤ left → After (lexeme.Symbol symbol.Open ∷ []) 0 left precision_from precision_tokens (λ _. 1)
 unfolding precision_from

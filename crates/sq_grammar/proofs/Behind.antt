@@ -1,8 +1,8 @@
 -- What stands behind a bracket that is one of `left + 1` is what stands outside, where `left` may be opened.
 use Rattle.std.proofs.Common.{◌≡◌, ℕ, ◌+◌, refl, add-one}
-use Rattle.sq_parse.specs.Expr as expressions
-use Rattle.sq_parse.specs.Cond as conditions
-use Rattle.sq_parse.specs.Cond.{strictly}
+use Rattle.sq_grammar.specs.Expr as expressions
+use Rattle.sq_grammar.specs.Cond as conditions
+use Rattle.sq_grammar.specs.Cond.{strictly}
 
 pub expr-behind : (left : ℕ) → expressions.inside (left + 1) ≡ expressions.expr left
 unfolding expressions.inside

@@ -19,12 +19,12 @@ use Rattle.sq_tree.specs.declared.cond.Test.{Test}
 use Rattle.sq_tree.specs.declared.cond.Conj.{Conj, roll-Conj}
 use Rattle.sq_tree.specs.declared.cond.Cond.{Cond, roll-Cond}
 use Rattle.sq_tree.specs.declared.cond.QuerySpecification.{QuerySpecification}
-use Rattle.sq_parse.specs.declared.cond.Mixed.{Mixed}
-use Rattle.sq_parse.specs.declared.cond.Mixed.TheVariants.{Whole, Bare}
-use Rattle.sq_parse.specs.Reading.{Parser, Tokens, ◌>>=◌, ◌>>◌, pure, stuck, and_then, eat, eat_symbol, eat_word, expect_word, expect_symbol, opened, sees, rest, one_if_any, token_if_any, behind, listed, all}
-use Rattle.sq_parse.specs.Expr as expressions
-use Rattle.sq_parse.specs.Expr.{expr, expr_from, close}
-use Rattle.sq_parse.specs.Select.{specification}
+use Rattle.sq_grammar.specs.declared.mixed.Mixed.{Mixed}
+use Rattle.sq_grammar.specs.declared.mixed.Mixed.TheVariants.{Whole, Bare}
+use Rattle.sq_grammar.specs.Reading.{Parser, Tokens, ◌>>=◌, ◌>>◌, pure, stuck, and_then, eat, eat_symbol, eat_word, expect_word, expect_symbol, opened, sees, rest, one_if_any, token_if_any, behind, listed, all}
+use Rattle.sq_grammar.specs.Expr as expressions
+use Rattle.sq_grammar.specs.Expr.{expr, expr_from, close}
+use Rattle.sq_grammar.specs.Select.{specification}
 
 -- op = "=" | "<>" | "<" | ">" | "<=" | ">="
 abbrev pub comparison_of : Lexeme → Option Comparison

@@ -1,0 +1,12 @@
+pub mod Reading
+pub mod Brackets
+pub mod Names
+pub mod Expr
+pub mod DataType
+pub mod Select
+pub mod Query
+pub mod Cond
+pub mod Statement
+pub mod Module
+pub mod Schema
+pub mod Script

@@ -1,0 +1,10 @@
+//! A condition or an expression.
+
+use sq_tree::Expr;
+
+/// What was read where a condition may begin with an expression: a part of the condition, or the expression alone.
+#[derive(Drop)]
+pub enum Mixed<T> {
+    Whole(T),
+    Bare(Expr),
+}
