@@ -1,5 +1,5 @@
 -- Where reading stops: at an item of a list, at a later part, or at this one.
-use Rattle.std.proofs.Common.{◌≡◌, true, List, Ok, Err, ◌∙◌, ap, Option, refl}
+use Rattle.std.proofs.Common.{◌≡◌, Bool, true, List, Ok, Err, ◌∙◌, ap, Option, refl}
 use Rattle.sq_lex.specs.declared.lexeme.Lexeme.{Lexeme}
 use Rattle.sq_grammar.specs.Reading.{Tokens, Parser, Outcome, ◌>>=◌, and_then, all, with_front, behind, eat, comma}
 use Rattle.sq_grammar.proofs.Many.{front-err}
