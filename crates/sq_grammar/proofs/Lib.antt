@@ -2,9 +2,11 @@ pub mod Behind
 pub mod CondSound
 pub mod DataTypeSound
 pub mod ExprSound
+pub mod Follows
 pub mod Many
 pub mod ModuleSound
 pub mod NamesSound
+pub mod NamesTakes
 pub mod Places
 pub mod QuerySound
 pub mod SchemaSound
@@ -12,3 +14,4 @@ pub mod ScriptSound
 pub mod SelectSound
 pub mod Spells
 pub mod StatementSound
+pub mod Takes
