@@ -15,3 +15,4 @@ pub mod SelectSound
 pub mod Spells
 pub mod StatementSound
 pub mod Takes
+pub mod ExprTakes
