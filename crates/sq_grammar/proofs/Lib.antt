@@ -2,6 +2,7 @@ pub mod Behind
 pub mod CondSound
 pub mod DataTypeSound
 pub mod ExprSound
+pub mod ExprTakes
 pub mod Follows
 pub mod Many
 pub mod ModuleSound
@@ -12,7 +13,7 @@ pub mod QuerySound
 pub mod SchemaSound
 pub mod ScriptSound
 pub mod SelectSound
+pub mod SelectTakes
 pub mod Spells
 pub mod StatementSound
 pub mod Takes
-pub mod ExprTakes
