@@ -1,5 +1,6 @@
 pub mod Behind
 pub mod CondSound
+pub mod CondTakes
 pub mod DataTypeSound
 pub mod ExprSound
 pub mod ExprTakes
