@@ -1,6 +1,7 @@
 pub mod Behind
 pub mod CondSound
 pub mod DataTypeSound
+pub mod DataTypeTakes
 pub mod ExprSound
 pub mod Follows
 pub mod Many
