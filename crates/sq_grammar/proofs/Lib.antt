@@ -12,6 +12,7 @@ pub mod Places
 pub mod QuerySound
 pub mod SchemaSound
 pub mod ScriptSound
+pub mod ScriptTakes
 pub mod SelectSound
 pub mod Spells
 pub mod StatementSound
