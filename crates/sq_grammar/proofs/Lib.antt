@@ -6,6 +6,7 @@ pub mod ExprSound
 pub mod Follows
 pub mod Many
 pub mod ModuleSound
+pub mod ModuleTakes
 pub mod NamesSound
 pub mod NamesTakes
 pub mod Places
