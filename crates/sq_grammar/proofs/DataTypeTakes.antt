@@ -1,6 +1,5 @@
 -- The tokens of a data type are read as it.
-use Rattle.std.proofs.Common.{◌≡◌, ℕ, suc, ◌≤◌, ◌<◌, Bool, true, false, List, [], ◌∷◌, ◌++◌, Option, Some, None, refl, arith}
-use Rattle.sq_lex.specs.declared.lexeme.Lexeme.{Lexeme}
+use Rattle.std.proofs.Common.{◌≡◌, ℕ, suc, ◌≤◌, false, [], ◌∷◌, ◌++◌, Option, Some, None, refl, arith}
 use Rattle.sq_lex.specs.declared.lexeme.Lexeme.TheVariants as lexeme
 use Rattle.sq_lex.specs.declared.symbol.Symbol.TheVariants as symbol
 use Rattle.sq_lex.specs.declared.word.Word.TheVariants as word
@@ -11,15 +10,14 @@ use Rattle.sq_tree.specs.declared.data_type.ExactWord.{ExactWord}
 use Rattle.sq_tree.specs.declared.data_type.ExactWord.TheVariants.{Numeric, Decimal, Dec}
 use Rattle.sq_tree.specs.declared.data_type.CharacterWord.{CharacterWord}
 use Rattle.sq_tree.specs.declared.data_type.CharacterWord.TheVariants as fixed
-use Rattle.sq_tree.specs.declared.data_type.VaryingWord.{VaryingWord}
 use Rattle.sq_tree.specs.declared.data_type.VaryingWord.TheVariants.{CharacterVarying, CharVarying, Varchar}
 use Rattle.sq_tree.specs.declared.data_type.Precision.{Precision}
 use Rattle.sq_tree.specs.Tree.{optional}
 use Rattle.sq_tree.specs.DataType.{scale_tokens, precision_tokens, length_tokens, data_type_tokens, data_type_depth}
 use Rattle.sq_grammar.specs.declared.type_word.TypeWord.TheVariants as first
 use Rattle.sq_grammar.specs.Reading.{Tokens, sees, number, number_of, behind, comma}
-use Rattle.sq_grammar.specs.DataType.{precision_from, precision, length_from, length_in, length_if_any, varying_of, by_varying, character_type, type_word_of, type_by, data_type}
-use Rattle.sq_grammar.proofs.Takes.{Takes, done, fits, plainly, mapped, word, mark, opening, closing, expected, eaten, uneaten, behind_it, perhaps, one, met, numbered}
+use Rattle.sq_grammar.specs.DataType.{precision_from, precision, length_from, length_in, length_if_any, varying_of, character_type, type_word_of, type_by, data_type}
+use Rattle.sq_grammar.proofs.Takes.{Takes, done, fits, plainly, mapped, word, mark, opening, closing, expected, eaten, uneaten, behind_it, one, met, numbered}
 
 -- a type could go on with a bracket, and CHARACTER with VARYING
 pub record EndsType (rest : Tokens) : Type 0 where

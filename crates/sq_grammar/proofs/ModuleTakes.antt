@@ -1,12 +1,10 @@
 -- The tokens of a module text are read as it.
 use Rattle.std.proofs.Common.{◌≡◌, ℕ, zero, suc, ◌≤◌, ◌<◌, Bool, true, false, List, [], ◌∷◌, ◌++◌, length, Option, Some, None, Ok, refl, sym, subst, arith, append_assoc}
-use Rattle.std.specs.List.{flat_map}
 use Rattle.sq_lex.specs.declared.lexeme.Lexeme.TheVariants as lexeme
 use Rattle.sq_lex.specs.declared.symbol.Symbol.TheVariants as symbol
 use Rattle.sq_lex.specs.declared.word.Word.TheVariants as word
-use Rattle.sq_lex.specs.declared.name.Name.{Name}
 use Rattle.sq_tree.specs.Tree.{optional, said}
-use Rattle.sq_tree.specs.List.{comma_tokens, comma_depth}
+use Rattle.sq_tree.specs.List.{comma_tokens}
 use Rattle.sq_tree.specs.Query.{query_tokens, query_depth}
 use Rattle.sq_tree.specs.Statement.{statement_tokens, statement_depth}
 use Rattle.sq_tree.specs.Module as tree
@@ -28,7 +26,7 @@ use Rattle.sq_tree.specs.declared.module.Declaration.{Declaration}
 use Rattle.sq_tree.specs.declared.module.Declaration.TheVariants.{Parameter, Sqlcode, Sqlstate}
 use Rattle.sq_tree.specs.declared.query.Query.{Query}
 use Rattle.sq_tree.specs.declared.statement.Statement.{Statement}
-use Rattle.sq_grammar.specs.Reading.{Tokens, Parser, ◌>>=◌, pure, eat, sees, first_of, name_of, number_of, comma, listed, all}
+use Rattle.sq_grammar.specs.Reading.{Tokens, Parser, ◌>>=◌, eat, sees, first_of, name_of, number_of, comma, listed, all}
 use Rattle.sq_grammar.specs.DataType.{data_type}
 use Rattle.sq_grammar.specs.Query.{query}
 use Rattle.sq_grammar.specs.Statement.{statement}
@@ -159,7 +157,6 @@ pub record EndsCursor (rest : Tokens) : Type 0 where
   pub sort : EndsSort rest
   pub semicolon : sees (lexeme.Symbol symbol.Semicolon) rest ≡ false
 
-
 module _ {rest : Tokens} where
   -- each token that would go on with a query
   query_ends : sees (lexeme.Symbol symbol.Dot) rest ≡ false → sees (lexeme.Symbol symbol.Colon) rest ≡ false → sees (lexeme.Word word.Indicator) rest ≡ false
@@ -232,8 +229,8 @@ module _
       let same = cursor_text c.insensitive c.scroll (query_tokens c.query) (optional tree.order_by_tokens c.order_by) (said c.semicolon (lexeme.Symbol symbol.Semicolon ∷ [])) in
       let ordered = ordered_query_takes left c.query c.order_by c.semicolon rest ends in
       subst (λ ts. Takes (cursor left) (lexeme.Name c.name ∷ ts) 0 0 (tree.cursor_depth c) left c rest) same (named c.name _
-          (either (word word.Insensitive) c.insensitive _ (no_insensitive c.scroll _ rest) (either (word word.Scroll) c.scroll _ refl (expected (word word.Cursor) _ (expected (word word.For) _
-          (fits (λ h. omega arith) (λ h. omega arith) (andthen (ordered_query left) _ (c.query, c.order_by) ordered (semicolon_takes _ c.semicolon ends done))))))))
+      (either (word word.Insensitive) c.insensitive _ (no_insensitive c.scroll _ rest) (either (word word.Scroll) c.scroll _ refl (expected (word word.Cursor) _ (expected (word word.For) _
+      (fits (λ h. omega arith) (λ h. omega arith) (andthen (ordered_query left) _ (c.query, c.order_by) ordered (semicolon_takes _ c.semicolon ends done))))))))
 
   -- behind PROCEDURE
   pub procedure_takes : (left : ℕ) → 2 ≤ left → (p : Procedure) (rest : Tokens)
@@ -243,7 +240,7 @@ module _
       let same = append_assoc (tree.declarations_tokens p.declarations) (lexeme.Symbol symbol.Semicolon ∷ statement_tokens p.statement) (lexeme.Symbol symbol.Semicolon ∷ []) in
       let ended = andthen (statement left) _ p.statement (statement_takes left (omega arith) p.statement rest) (expected a_semicolon _ done) in
       subst (λ ts. Takes (procedure left) (lexeme.Name p.name ∷ ts) 0 0 (tree.procedure_depth p) left p rest) (sym same) (named p.name _
-          (fits (λ h. omega arith) (λ h. omega arith) (andthen declarations _ p.declarations (declarations_takes left room p.declarations _) (expected a_semicolon _ ended))))
+      (fits (λ h. omega arith) (λ h. omega arith) (andthen declarations _ p.declarations (declarations_takes left room p.declarations _) (expected a_semicolon _ ended))))
 
   -- ---- items
 
