@@ -13,6 +13,7 @@ pub mod NamesSound
 pub mod NamesTakes
 pub mod Places
 pub mod QuerySound
+pub mod QueryTakes
 pub mod SchemaSound
 pub mod ScriptSound
 pub mod ScriptTakes

@@ -101,7 +101,7 @@ escape_ends ts = record { term = record { factor = record { dot = refl; colon = 
 pub close_ends_cond : (ts : Tokens) → EndsCond (lexeme.Symbol symbol.Close ∷ ts)
 close_ends_cond ts = record { conj = record { test = record { expr = close_ends ts; escape = refl }; and = refl }; or = refl }
 
-close_ends_table : (ts : Tokens) → EndsTable (lexeme.Symbol symbol.Close ∷ ts)
+pub close_ends_table : (ts : Tokens) → EndsTable (lexeme.Symbol symbol.Close ∷ ts)
 close_ends_table ts = record { cond = close_ends_cond ts; comma = refl; as_word = refl; name = refl; where_word = refl; group = refl; having = refl }
 
 -- IS [ NOT ] NULL, whose IS is read already
