@@ -16,4 +16,5 @@ pub mod SelectSound
 pub mod SelectTakes
 pub mod Spells
 pub mod StatementSound
+pub mod StatementTakes
 pub mod Takes
