@@ -3,6 +3,7 @@ use Rattle.std.proofs.Common.{◌≡◌, ℕ, zero, suc, ◌+◌, ◌<◌, ◌�
 use Rattle.std.specs.List.{flat_map}
 use Rattle.sq_lex.specs.declared.lexeme.Lexeme.{Lexeme}
 use Rattle.sq_lex.specs.declared.lexeme.Lexeme.TheVariants as lexeme
+use Rattle.sq_lex.specs.declared.symbol.Symbol.{Symbol}
 use Rattle.sq_lex.specs.declared.symbol.Symbol.TheVariants as symbol
 use Rattle.sq_lex.specs.declared.word.Word.{Word}
 use Rattle.sq_lex.specs.declared.word.Word.TheVariants as word
@@ -101,3 +102,181 @@ targets_takes targets {a = a} {left = left} {rest = rest} ends none =
 pub fetch_takes : (f : Fetch) {a left : ℕ} {rest : Tokens} → EndsFactor rest → sees comma rest ≡ false → Takes fetch (optional fetch_from_tokens f.from ++ lexeme.Name f.cursor ∷ lexeme.Word word.Into ∷ comma_tokens parameter_tokens f.targets) a a 0 left f rest
 unfolding fetch
 fetch_takes f ends none = plainly fetch_from _ f.from (fetch_from_takes f.from f.cursor) (named f.cursor _ (expected (word word.Into) _ (mapped (listed parameter) _ f.targets (targets_takes f.targets ends none) refl)))
+
+-- ---- what may follow
+
+comma_ends : (rest : Tokens) → EndsExpr (comma ∷ rest)
+comma_ends rest = record { term = record { factor = record { dot = refl; colon = refl; indicator = refl }; star = refl; slash = refl }; plus = refl; minus = refl }
+
+close_ends : (rest : Tokens) → EndsExpr (lexeme.Symbol symbol.Close ∷ rest)
+close_ends rest = record { term = record { factor = record { dot = refl; colon = refl; indicator = refl }; star = refl; slash = refl }; plus = refl; minus = refl }
+
+into_ends : (rest : Tokens) → EndsExpr (lexeme.Word word.Into ∷ rest)
+into_ends rest = record { term = record { factor = record { dot = refl; colon = refl; indicator = refl }; star = refl; slash = refl }; plus = refl; minus = refl }
+
+where_ends : (rest : Tokens) → EndsExpr (lexeme.Word word.Where ∷ rest)
+where_ends rest = record { term = record { factor = record { dot = refl; colon = refl; indicator = refl }; star = refl; slash = refl }; plus = refl; minus = refl }
+
+-- a statement has a semicolon behind it
+semicolon_ends : (rest : Tokens) → EndsTable (lexeme.Symbol symbol.Semicolon ∷ rest)
+semicolon_ends rest = record {
+  cond = record { conj = record { test = record { expr = expr_ends; escape = refl }; and = refl }; or = refl };
+  comma = refl;
+  as_word = refl;
+  name = refl;
+  where_word = refl;
+  group = refl;
+  having = refl;
+}
+  where
+    expr_ends : EndsExpr (lexeme.Symbol symbol.Semicolon ∷ rest)
+    expr_ends = record { term = record { factor = record { dot = refl; colon = refl; indicator = refl }; star = refl; slash = refl }; plus = refl; minus = refl }
+
+table_expr_ends : {rest : Tokens} → EndsTable rest → EndsExpr rest
+table_expr_ends e = e.cond.conj.test.expr
+
+-- a table expression begins with FROM
+from_ends : (t : TableExpression) (rest : Tokens) → EndsFactor (table_expression_tokens t ++ rest)
+from_ends t rest = subst (λ ts. EndsFactor (ts ++ rest)) (sym (table_expression_tokens-out t)) (record { dot = refl; colon = refl; indicator = refl })
+
+no_comma_from : (t : TableExpression) (rest : Tokens) → sees comma (table_expression_tokens t ++ rest) ≡ false
+no_comma_from t rest = ap (λ ts. sees comma (ts ++ rest)) (table_expression_tokens-out t)
+
+-- a source begins with VALUES or SELECT
+source_starts : (s : Symbol) (source : InsertSource) (rest : Tokens) → sees (lexeme.Symbol s) (insert_source_tokens source ++ rest) ≡ false
+source_starts s (sources.Values values) rest = refl
+source_starts s (sources.Query q) rest = ap (λ ts. sees (lexeme.Symbol s) (ts ++ rest)) (query_specification_tokens-out q)
+
+no_dot_before_source : (columns : Option (CommaList Name)) (source : InsertSource) (rest : Tokens) → sees dot ((optional columns_tokens columns ++ insert_source_tokens source) ++ rest) ≡ false
+no_dot_before_source None source rest = source_starts symbol.Dot source rest
+no_dot_before_source (Some c) source rest = refl
+
+no_values : (q : QuerySpecification) (rest : Tokens) → sees (lexeme.Word word.Values) (query_specification_tokens q ++ rest) ≡ false
+no_values q rest = ap (λ ts. sees (lexeme.Word word.Values) (ts ++ rest)) (query_specification_tokens-out q)
+
+target_ends : (t : Option Where) (rest : Tokens) → EndsExpr rest → EndsExpr (optional target_tokens t ++ rest)
+target_ends None rest e = e
+target_ends (Some (Condition c)) rest e = where_ends _
+target_ends (Some (CurrentOf c)) rest e = where_ends _
+
+target_starts : (s : Symbol) (t : Option Where) (rest : Tokens) → sees (lexeme.Symbol s) rest ≡ false → sees (lexeme.Symbol s) (optional target_tokens t ++ rest) ≡ false
+target_starts s None rest e = e
+target_starts s (Some (Condition c)) rest e = refl
+target_starts s (Some (CurrentOf c)) rest e = refl
+
+-- ---- parts of statements
+
+-- the same tokens, grouped otherwise
+spelled : {A : Type 0} {p : Parser A} {s t : Tokens} {a b d left : ℕ} {x : A} {rest : Tokens} → t ≡ s → Takes p s a b d left x rest → Takes p t a b d left x rest
+spelled {p = p} {a = a} {b = b} {d = d} {left = left} {x = x} {rest = rest} e s = subst (λ ts. Takes p ts a b d left x rest) (sym e) s
+
+-- [ ALL | DISTINCT ]
+quantifier_takes : (q : Option SetQuantifier) {a left : ℕ} {rest : Tokens} → sees (lexeme.Word word.All) rest ≡ false → sees (lexeme.Word word.Distinct) rest ≡ false → Takes quantifier_if_any (optional quantifier_tokens q) a a 0 left q rest
+quantifier_takes None no_all no_distinct = uneaten (lexeme.Word word.All) _ no_all (uneaten (lexeme.Word word.Distinct) _ no_distinct done)
+quantifier_takes (Some All) no_all no_distinct = eaten (word word.All) _ done
+quantifier_takes (Some Distinct) no_all no_distinct = uneaten (lexeme.Word word.All) _ refl (eaten (word word.Distinct) _ done)
+
+-- a word that begins no expression begins no select list
+list_starts : (w : Word) → ((e : Expr) (rest : Tokens) → sees (lexeme.Word w) (expr_tokens e ++ rest) ≡ false) → (l : SelectList) (more rest : Tokens) → sees (lexeme.Word w) ((select_list_tokens l ++ more) ++ rest) ≡ false
+list_starts w starts Star more rest = refl
+list_starts w starts (Items items) more rest =
+    let others : Tokens = flat_map (comma_then expr_tokens) items.rest in
+    let same : expr_tokens items.first ++ (others ++ (more ++ rest)) ≡ (comma_tokens expr_tokens items ++ more) ++ rest = sym (append_assoc (comma_tokens expr_tokens items) more rest ∙ append_assoc (expr_tokens items.first) others (more ++ rest)) in
+    subst (λ ts. sees (lexeme.Word w) ts ≡ false) same (starts items.first (others ++ (more ++ rest)))
+
+module _
+    (expr_takes : (left : ℕ) (e : Expr) (rest : Tokens) → EndsExpr rest → Takes (expr left) (expr_tokens e) 0 0 (expr_depth e) left e rest)
+    (inside_takes : (left : ℕ) (e : Expr) (rest : Tokens) → 0 < left → EndsExpr rest → Takes (expressions.inside left) (expr_tokens e) 1 1 (suc (expr_depth e)) left e rest)
+    (cond_takes : (left : ℕ) (c : Cond) (rest : Tokens) → EndsCond rest → Takes (cond left) (cond_tokens c) 0 0 (cond_depth c) left c rest)
+    (specification_takes : (left : ℕ) (q : QuerySpecification) (rest : Tokens) → EndsTable rest → Takes (query_specification left) (query_specification_tokens q) 0 0 (query_specification_depth q) left q rest)
+    (table_expression_takes : (left : ℕ) (t : TableExpression) (rest : Tokens) → EndsTable rest → Takes (table_expression (cond left)) (table_expression_tokens t) 0 0 (table_expression_depth t) left t rest)
+    (select_list_takes : (left : ℕ) (l : SelectList) (rest : Tokens) → EndsExpr rest → sees comma rest ≡ false → Takes (select_list (expr left)) (select_list_tokens l) 0 0 (select_list_depth l) left l rest)
+    (no_null : (e : Expr) (rest : Tokens) → sees (lexeme.Word word.Null) (expr_tokens e ++ rest) ≡ false)
+    (no_all : (e : Expr) (rest : Tokens) → sees (lexeme.Word word.All) (expr_tokens e ++ rest) ≡ false)
+    (no_distinct : (e : Expr) (rest : Tokens) → sees (lexeme.Word word.Distinct) (expr_tokens e ++ rest) ≡ false)
+    (no_current : (c : Cond) (rest : Tokens) → sees (lexeme.Word word.Current) (cond_tokens c ++ rest) ≡ false) where
+
+  -- over a parser of expressions that are `deeper` by what is open before them
+  pub new_value_takes : (exprs : Parser Expr) (deeper : ℕ → ℕ) {a left : ℕ} → deeper 0 ≤ left → ((e : Expr) (rest : Tokens) → EndsExpr rest → Takes exprs (expr_tokens e) a a (deeper (expr_depth e)) left e rest) → (v : NewValue) (rest : Tokens) → EndsExpr rest → Takes (new_value exprs) (new_value_tokens v) a a (deeper (new_value_depth v)) left v rest
+  unfolding new_value
+  new_value_takes exprs deeper room each (values.Expr e) rest ends = uneaten (lexeme.Word word.Null) _ (no_null e rest) (mapped exprs _ e (each e rest ends) refl)
+  new_value_takes exprs deeper room each values.Null rest ends = fits (λ h. omega arith) (λ h. absurd (omega arith)) (eaten (word word.Null) _ done)
+
+  pub assignment_takes : (left : ℕ) (x : Assignment) (rest : Tokens) → EndsExpr rest → Takes (assignment left) (assignment_tokens x) 0 0 (assignment_depth x) left x rest
+  unfolding assignment
+  assignment_takes left x rest ends = named x.column _ (expected (mark symbol.Equal (λ n. refl)) _ (mapped (new_value (expr left)) _ x.value (new_value_takes (expr left) (λ n. n) (omega arith) (expr_takes left) x.value rest ends) refl))
+
+  -- [ WHERE cond | WHERE CURRENT OF name ]
+  pub target_takes : (left : ℕ) (t : Option Where) (rest : Tokens) → EndsCond rest → sees (lexeme.Word word.Where) rest ≡ false → Takes (target left) (optional target_tokens t) 0 0 (optional_depth target_depth t) left t rest
+  unfolding target
+  target_takes left None rest ends none = uneaten (lexeme.Word word.Where) _ none done
+  target_takes left (Some (Condition c)) rest ends none = eaten (word word.Where) _ (uneaten (lexeme.Word word.Current) _ (no_current c rest) (mapped (cond left) _ c (cond_takes left c rest ends) refl))
+  target_takes left (Some (CurrentOf c)) rest ends none = eaten (word word.Where) _ (eaten (word word.Current) _ (expected (word word.Of) _ (named c _ done)))
+
+  -- VALUES ( .. ), whose word is read already: a bracket is open before its values
+  values_takes : (left : ℕ) → 1 ≤ left → (vs : CommaList NewValue) (rest : Tokens) → Takes (listed (new_value (expressions.inside left))) (comma_tokens new_value_tokens vs) 1 1 (comma_depth new_value_depth vs + 1) left vs (lexeme.Symbol symbol.Close ∷ rest)
+  values_takes left room vs rest =
+      let each = new_value_takes (expressions.inside left) (λ n. suc n) {a = 1} {left = left} room (λ e r ends. inside_takes left e r room ends) in
+      let same = deeper_commas new_value_depth vs in
+      fits (λ h. omega arith) (λ h. omega arith) (commas (new_value (expressions.inside left)) new_value_tokens (λ v. suc (new_value_depth v)) 1 left EndsExpr each comma_ends vs _ (close_ends rest) refl)
+
+  pub insert_source_takes : (left : ℕ) → 1 ≤ left → (s : InsertSource) (rest : Tokens) → EndsTable rest → Takes (insert_source left) (insert_source_tokens s) 0 0 (insert_source_depth s) left s rest
+  unfolding insert_source
+  insert_source_takes left room (sources.Values vs) rest ends = fits (λ h. omega arith) (λ h. omega arith) (eaten (word word.Values) _ (expected opening _ (andthen (listed (new_value (expressions.inside left))) _ vs (values_takes left room vs rest) (expected closing _ done))))
+  insert_source_takes left room (sources.Query q) rest ends = uneaten (lexeme.Word word.Values) _ (no_values q rest) (mapped (query_specification left) _ q (specification_takes left q rest ends) refl)
+
+  -- ---- the statements, whose first words are read already
+
+  pub select_takes : (left : ℕ) (s : Select) (rest : Tokens) → EndsTable rest → Takes (select left) (optional quantifier_tokens s.quantifier ++ select_list_tokens s.list ++ lexeme.Word word.Into ∷ comma_tokens parameter_tokens s.targets ++ table_expression_tokens s.table) 0 0 (select_depth s) left s rest
+  unfolding select
+  select_takes left s rest ends =
+      let more : Tokens = lexeme.Word word.Into ∷ comma_tokens parameter_tokens s.targets ++ table_expression_tokens s.table in
+      let first : Tokens = optional quantifier_tokens s.quantifier in
+      spelled (append_assoc (first ++ select_list_tokens s.list) (lexeme.Word word.Into ∷ comma_tokens parameter_tokens s.targets) (table_expression_tokens s.table) ∙ append_assoc first (select_list_tokens s.list) more)
+      (plainly quantifier_if_any _ s.quantifier (quantifier_takes s.quantifier (list_starts word.All no_all s.list _ rest) (list_starts word.Distinct no_distinct s.list _ rest))
+      (andthen (select_list (expr left)) _ s.list (select_list_takes left s.list _ (into_ends _) refl) (expected (word word.Into) _
+      (plainly (listed parameter) _ s.targets (targets_takes s.targets (from_ends s.table rest) (no_comma_from s.table rest))
+      (mapped (table_expression (cond left)) _ s.table (table_expression_takes left s.table rest ends) refl)))))
+
+  pub insert_takes : (left : ℕ) → 1 ≤ left → (i : Insert) (rest : Tokens) → EndsTable rest → Takes (insert left) (lexeme.Word word.Into ∷ table_name_tokens i.table ++ optional columns_tokens i.columns ++ insert_source_tokens i.source) 0 0 (insert_depth i) left i rest
+  unfolding insert
+  insert_takes left room i rest ends =
+      fits (λ h. omega arith) (λ h. by i.columns h)
+      (expected (word word.Into) _ (spelled (append_assoc (table_name_tokens i.table) (optional columns_tokens i.columns) (insert_source_tokens i.source))
+      (plainly table_name _ i.table (table_takes i.table (no_dot_before_source i.columns i.source rest))
+      (plainly columns_if_any _ i.columns (columns_if_any_takes i.columns (source_starts symbol.Open i.source rest))
+      (mapped (insert_source left) _ i.source (insert_source_takes left room i.source rest ends) refl)))))
+    where
+      by : (columns : Option (CommaList Name)) → left < max (bracket_depth columns) (insert_source_depth i.source) → left < insert_source_depth i.source
+      by None h = omega arith
+      by (Some c) h = omega arith
+
+  pub update_takes : (left : ℕ) (u : Update) (rest : Tokens) → EndsTable rest → Takes (update left) (table_name_tokens u.table ++ lexeme.Word word.Set ∷ comma_tokens assignment_tokens u.assignments ++ optional target_tokens u.target) 0 0 (update_depth u) left u rest
+  unfolding update
+  update_takes left u rest ends =
+      let sets = commas (assignment left) assignment_tokens assignment_depth 0 left EndsExpr (assignment_takes left) comma_ends u.assignments (optional target_tokens u.target ++ rest) (target_ends u.target rest (table_expr_ends ends)) (target_starts symbol.Comma u.target rest ends.comma) in
+      spelled (append_assoc (table_name_tokens u.table) (lexeme.Word word.Set ∷ comma_tokens assignment_tokens u.assignments) (optional target_tokens u.target))
+      (plainly table_name _ u.table (table_takes u.table refl) (expected (word word.Set) _
+      (andthen (listed (assignment left)) _ u.assignments sets
+      (mapped (target left) _ u.target (target_takes left u.target rest ends.cond ends.where_word) refl))))
+
+  pub delete_takes : (left : ℕ) (d : Delete) (rest : Tokens) → EndsTable rest → Takes (delete left) (lexeme.Word word.From ∷ table_name_tokens d.table ++ optional target_tokens d.target) 0 0 (delete_depth d) left d rest
+  unfolding delete
+  delete_takes left d rest ends =
+      expected (word word.From) _ (plainly table_name _ d.table (table_takes d.table (target_starts symbol.Dot d.target rest (table_expr_ends ends).term.factor.dot))
+      (mapped (target left) _ d.target (target_takes left d.target rest ends.cond ends.where_word) refl))
+
+  -- a statement, which has a semicolon behind it
+  pub statement_takes : (left : ℕ) → 1 ≤ left → (s : Statement) (rest : Tokens) → Takes (statement left) (statement_tokens s) 0 0 (statement_depth s) left s (lexeme.Symbol symbol.Semicolon ∷ rest)
+  unfolding statement
+  statement_takes left room (statements.Open c) rest = met verb_of (lexeme.Word word.Open) verb.Open refl (λ n. refl) _ (named c _ done)
+  statement_takes left room (statements.Fetch f) rest = met verb_of (lexeme.Word word.Fetch) verb.Fetch refl (λ n. refl) _ (mapped fetch _ f (fetch_takes f (table_expr_ends (semicolon_ends rest)).term.factor refl) refl)
+  statement_takes left room (statements.Close c) rest = met verb_of (lexeme.Word word.Close) verb.Close refl (λ n. refl) _ (named c _ done)
+  statement_takes left room (statements.Select s) rest = met verb_of (lexeme.Word word.Select) verb.Select refl (λ n. refl) _ (mapped (select left) _ s (select_takes left s _ (semicolon_ends rest)) refl)
+  statement_takes left room (statements.Insert i) rest = met verb_of (lexeme.Word word.Insert) verb.Insert refl (λ n. refl) _ (mapped (insert left) _ i (insert_takes left room i _ (semicolon_ends rest)) refl)
+  statement_takes left room (statements.Update u) rest = met verb_of (lexeme.Word word.Update) verb.Update refl (λ n. refl) _ (mapped (update left) _ u (update_takes left u _ (semicolon_ends rest)) refl)
+  statement_takes left room (statements.Delete d) rest = met verb_of (lexeme.Word word.Delete) verb.Delete refl (λ n. refl) _ (mapped (delete left) _ d (delete_takes left d _ (semicolon_ends rest)) refl)
+  statement_takes left room (statements.Commit true) rest = met verb_of (lexeme.Word word.Commit) verb.Commit refl (λ n. refl) _ (eaten (word word.Work) _ done)
+  statement_takes left room (statements.Commit false) rest = met verb_of (lexeme.Word word.Commit) verb.Commit refl (λ n. refl) _ (uneaten (lexeme.Word word.Work) _ refl done)
+  statement_takes left room (statements.Rollback true) rest = met verb_of (lexeme.Word word.Rollback) verb.Rollback refl (λ n. refl) _ (eaten (word word.Work) _ done)
+  statement_takes left room (statements.Rollback false) rest = met verb_of (lexeme.Word word.Rollback) verb.Rollback refl (λ n. refl) _ (uneaten (lexeme.Word word.Work) _ refl done)
