@@ -17,7 +17,10 @@ use Rattle.sq_tree.specs.declared.expr.Sign.{Sign}
 use Rattle.sq_tree.specs.declared.expr.Sign.TheVariants.{Plus, Minus}
 use Rattle.sq_tree.specs.declared.expr.SetQuantifier.{SetQuantifier}
 use Rattle.sq_tree.specs.declared.expr.SetQuantifier.TheVariants.{All, Distinct}
-use Rattle.sq_tree.specs.declared.cond.Cond.{Cond}
+use Rattle.sq_tree.specs.declared.cond.Body.{Body}
+use Rattle.sq_tree.specs.declared.cond.Test.{Test}
+use Rattle.sq_tree.specs.declared.cond.Conj.{Conj, out-Conj}
+use Rattle.sq_tree.specs.declared.cond.Cond.{Cond, out-Cond}
 use Rattle.sq_tree.specs.declared.cond.SelectList.{SelectList}
 use Rattle.sq_tree.specs.declared.cond.SelectList.TheVariants.{Star, Items}
 use Rattle.sq_tree.specs.declared.cond.TableExpression.{TableExpression}
@@ -45,10 +48,11 @@ use Rattle.sq_tree.specs.Tree.{optional, optional_depth, said}
 use Rattle.sq_tree.specs.List.{comma_tokens, comma_depth, comma_then}
 use Rattle.sq_tree.specs.Names.{table_name_tokens, parameter_tokens, columns_tokens}
 use Rattle.sq_tree.specs.Expr.{expr_tokens, expr_depth, quantifier_tokens, signed_number_tokens}
-use Rattle.sq_tree.specs.Cond.{cond_tokens, cond_depth, select_list_tokens, select_list_depth, table_expression_tokens, table_expression_depth, query_specification_tokens, query_specification_depth}
+use Rattle.sq_tree.specs.Cond.{not_tokens, body_tokens, test_tokens, conj_tokens, cond_tokens, cond_depth, select_list_tokens, select_list_depth, table_expression_tokens, table_expression_depth, query_specification_tokens, query_specification_depth}
 use Rattle.sq_tree.specs.DataType.{bracket_depth}
 use Rattle.sq_tree.specs.Statement.{position_tokens, orientation_tokens, fetch_from_tokens, fetch_tokens, select_tokens, new_value_tokens, insert_source_tokens, insert_tokens, target_tokens, assignment_tokens, update_tokens, delete_tokens, work_tokens, statement_tokens, select_depth, new_value_depth, insert_source_depth, insert_depth, target_depth, assignment_depth, update_depth, delete_depth, statement_depth}
-use Rattle.sq_tree.proofs.CondLaws.{table_expression_tokens-out, query_specification_tokens-out}
+use Rattle.sq_tree.proofs.CondLaws as law
+use Rattle.sq_tree.proofs.CondLaws.{body_cases}
 use Rattle.sq_grammar.specs.declared.verb.Verb.TheVariants as verb
 use Rattle.sq_grammar.specs.Reading.{Tokens, Parser, pure, sees, first_of, name, comma, listed}
 use Rattle.sq_grammar.specs.Names.{dot, table_name, parameter, signed_number, columns_if_any}
@@ -59,6 +63,7 @@ use Rattle.sq_grammar.specs.Select.{select_list, table_expression}
 use Rattle.sq_grammar.specs.Statement.{position, orientation_of, orientation, fetch_from, fetch, new_value, target, select, insert_source, insert, assignment, update, delete, verb_of, by_verb, statement}
 use Rattle.sq_grammar.proofs.Takes.{Takes, done, fits, andthen, plainly, mapped, word, mark, opening, closing, expected, eaten, uneaten, either, behind_it, met, unmet, named, commas, flat_commas, deeper_commas}
 use Rattle.sq_grammar.proofs.Follows.{EndsFactor, EndsTerm, EndsExpr, EndsTest, EndsConj, EndsCond, EndsTable}
+use Rattle.sq_grammar.proofs.ExprTakes.{quantifier_takes, expr_starts, foreign, not_all, not_distinct, close_ends, expr_takes, inside_takes}
 use Rattle.sq_grammar.proofs.NamesTakes.{a_colon, table_takes, parameter_takes, signed_takes, columns_if_any_takes}
 
 -- ---- FETCH
@@ -108,9 +113,6 @@ fetch_takes f ends none = plainly fetch_from _ f.from (fetch_from_takes f.from f
 comma_ends : (rest : Tokens) → EndsExpr (comma ∷ rest)
 comma_ends rest = record { term = record { factor = record { dot = refl; colon = refl; indicator = refl }; star = refl; slash = refl }; plus = refl; minus = refl }
 
-close_ends : (rest : Tokens) → EndsExpr (lexeme.Symbol symbol.Close ∷ rest)
-close_ends rest = record { term = record { factor = record { dot = refl; colon = refl; indicator = refl }; star = refl; slash = refl }; plus = refl; minus = refl }
-
 into_ends : (rest : Tokens) → EndsExpr (lexeme.Word word.Into ∷ rest)
 into_ends rest = record { term = record { factor = record { dot = refl; colon = refl; indicator = refl }; star = refl; slash = refl }; plus = refl; minus = refl }
 
@@ -137,22 +139,22 @@ table_expr_ends e = e.cond.conj.test.expr
 
 -- a table expression begins with FROM
 from_ends : (t : TableExpression) (rest : Tokens) → EndsFactor (table_expression_tokens t ++ rest)
-from_ends t rest = subst (λ ts. EndsFactor (ts ++ rest)) (sym (table_expression_tokens-out t)) (record { dot = refl; colon = refl; indicator = refl })
+from_ends t rest = subst (λ ts. EndsFactor (ts ++ rest)) (sym (law.table_expression_tokens-out t)) (record { dot = refl; colon = refl; indicator = refl })
 
 no_comma_from : (t : TableExpression) (rest : Tokens) → sees comma (table_expression_tokens t ++ rest) ≡ false
-no_comma_from t rest = ap (λ ts. sees comma (ts ++ rest)) (table_expression_tokens-out t)
+no_comma_from t rest = ap (λ ts. sees comma (ts ++ rest)) (law.table_expression_tokens-out t)
 
 -- a source begins with VALUES or SELECT
 source_starts : (s : Symbol) (source : InsertSource) (rest : Tokens) → sees (lexeme.Symbol s) (insert_source_tokens source ++ rest) ≡ false
 source_starts s (sources.Values values) rest = refl
-source_starts s (sources.Query q) rest = ap (λ ts. sees (lexeme.Symbol s) (ts ++ rest)) (query_specification_tokens-out q)
+source_starts s (sources.Query q) rest = ap (λ ts. sees (lexeme.Symbol s) (ts ++ rest)) (law.query_specification_tokens-out q)
 
 no_dot_before_source : (columns : Option (CommaList Name)) (source : InsertSource) (rest : Tokens) → sees dot ((optional columns_tokens columns ++ insert_source_tokens source) ++ rest) ≡ false
 no_dot_before_source None source rest = source_starts symbol.Dot source rest
 no_dot_before_source (Some c) source rest = refl
 
 no_values : (q : QuerySpecification) (rest : Tokens) → sees (lexeme.Word word.Values) (query_specification_tokens q ++ rest) ≡ false
-no_values q rest = ap (λ ts. sees (lexeme.Word word.Values) (ts ++ rest)) (query_specification_tokens-out q)
+no_values q rest = ap (λ ts. sees (lexeme.Word word.Values) (ts ++ rest)) (law.query_specification_tokens-out q)
 
 target_ends : (t : Option Where) (rest : Tokens) → EndsExpr rest → EndsExpr (optional target_tokens t ++ rest)
 target_ends None rest e = e
@@ -164,17 +166,37 @@ target_starts s None rest e = e
 target_starts s (Some (Condition c)) rest e = refl
 target_starts s (Some (CurrentOf c)) rest e = refl
 
+-- ---- what may not come first
+
+-- NULL begins no expression
+no_null : (e : Expr) (rest : Tokens) → sees (lexeme.Word word.Null) (expr_tokens e ++ rest) ≡ false
+no_null = expr_starts _ (foreign word.Null refl refl refl refl refl refl)
+
+-- CURRENT begins no condition
+current_no_body : (b : Body) (rest : Tokens) → sees (lexeme.Word word.Current) (body_tokens b ++ rest) ≡ false
+current_no_body b rest = body_cases (λ c. sees (lexeme.Word word.Current) (body_tokens c ++ rest) ≡ false)
+    (λ e t. rw (law.body_tokens-Predicate e t, append_assoc (expr_tokens e)) (expr_starts _ (foreign word.Current refl refl refl refl refl refl) e _))
+    (λ q. rw (law.body_tokens-Exists q) refl)
+    (λ c. rw (law.body_tokens-Bracketed c) refl) b
+
+current_no_test : (t : Test) (rest : Tokens) → sees (lexeme.Word word.Current) (test_tokens t ++ rest) ≡ false
+current_no_test t rest = rw (law.test_tokens-out t) (by t.negated t.body)
+  where
+    by : (negated : Bool) (b : Body) → sees (lexeme.Word word.Current) ((not_tokens negated ++ body_tokens b) ++ rest) ≡ false
+    by true b = refl
+    by false b = current_no_body b rest
+
+current_no_conj : (c : Conj) (rest : Tokens) → sees (lexeme.Word word.Current) (conj_tokens c ++ rest) ≡ false
+current_no_conj c rest = rw (law.conj_tokens-out c, append_assoc (test_tokens (out-Conj c).first)) (current_no_test (out-Conj c).first _)
+
+no_current : (c : Cond) (rest : Tokens) → sees (lexeme.Word word.Current) (cond_tokens c ++ rest) ≡ false
+no_current c rest = rw (law.cond_tokens-out c, append_assoc (conj_tokens (out-Cond c).first)) (current_no_conj (out-Cond c).first _)
+
 -- ---- parts of statements
 
 -- the same tokens, grouped otherwise
 spelled : {A : Type 0} {p : Parser A} {s t : Tokens} {a b d left : ℕ} {x : A} {rest : Tokens} → t ≡ s → Takes p s a b d left x rest → Takes p t a b d left x rest
 spelled {p = p} {a = a} {b = b} {d = d} {left = left} {x = x} {rest = rest} e s = subst (λ ts. Takes p ts a b d left x rest) (sym e) s
-
--- [ ALL | DISTINCT ]
-quantifier_takes : (q : Option SetQuantifier) {a left : ℕ} {rest : Tokens} → sees (lexeme.Word word.All) rest ≡ false → sees (lexeme.Word word.Distinct) rest ≡ false → Takes quantifier_if_any (optional quantifier_tokens q) a a 0 left q rest
-quantifier_takes None no_all no_distinct = uneaten (lexeme.Word word.All) _ no_all (uneaten (lexeme.Word word.Distinct) _ no_distinct done)
-quantifier_takes (Some All) no_all no_distinct = eaten (word word.All) _ done
-quantifier_takes (Some Distinct) no_all no_distinct = uneaten (lexeme.Word word.All) _ refl (eaten (word word.Distinct) _ done)
 
 -- a word that begins no expression begins no select list
 list_starts : (w : Word) → ((e : Expr) (rest : Tokens) → sees (lexeme.Word w) (expr_tokens e ++ rest) ≡ false) → (l : SelectList) (more rest : Tokens) → sees (lexeme.Word w) ((select_list_tokens l ++ more) ++ rest) ≡ false
@@ -185,17 +207,10 @@ list_starts w starts (Items items) more rest =
     subst (λ ts. sees (lexeme.Word w) ts ≡ false) same (starts items.first (others ++ (more ++ rest)))
 
 module _
-    (expr_takes : (left : ℕ) (e : Expr) (rest : Tokens) → EndsExpr rest → Takes (expr left) (expr_tokens e) 0 0 (expr_depth e) left e rest)
-    (inside_takes : (left : ℕ) (e : Expr) (rest : Tokens) → 0 < left → EndsExpr rest → Takes (expressions.inside left) (expr_tokens e) 1 1 (suc (expr_depth e)) left e rest)
     (cond_takes : (left : ℕ) (c : Cond) (rest : Tokens) → EndsCond rest → Takes (cond left) (cond_tokens c) 0 0 (cond_depth c) left c rest)
     (specification_takes : (left : ℕ) (q : QuerySpecification) (rest : Tokens) → EndsTable rest → Takes (query_specification left) (query_specification_tokens q) 0 0 (query_specification_depth q) left q rest)
     (table_expression_takes : (left : ℕ) (t : TableExpression) (rest : Tokens) → EndsTable rest → Takes (table_expression (cond left)) (table_expression_tokens t) 0 0 (table_expression_depth t) left t rest)
-    (select_list_takes : (left : ℕ) (l : SelectList) (rest : Tokens) → EndsExpr rest → sees comma rest ≡ false → Takes (select_list (expr left)) (select_list_tokens l) 0 0 (select_list_depth l) left l rest)
-    (no_null : (e : Expr) (rest : Tokens) → sees (lexeme.Word word.Null) (expr_tokens e ++ rest) ≡ false)
-    (no_all : (e : Expr) (rest : Tokens) → sees (lexeme.Word word.All) (expr_tokens e ++ rest) ≡ false)
-    (no_distinct : (e : Expr) (rest : Tokens) → sees (lexeme.Word word.Distinct) (expr_tokens e ++ rest) ≡ false)
-    (no_current : (c : Cond) (rest : Tokens) → sees (lexeme.Word word.Current) (cond_tokens c ++ rest) ≡ false) where
-
+    (select_list_takes : (left : ℕ) (l : SelectList) (rest : Tokens) → EndsExpr rest → sees comma rest ≡ false → Takes (select_list (expr left)) (select_list_tokens l) 0 0 (select_list_depth l) left l rest) where
   -- over a parser of expressions that are `deeper` by what is open before them
   pub new_value_takes : (exprs : Parser Expr) (deeper : ℕ → ℕ) {a left : ℕ} → deeper 0 ≤ left → ((e : Expr) (rest : Tokens) → EndsExpr rest → Takes exprs (expr_tokens e) a a (deeper (expr_depth e)) left e rest) → (v : NewValue) (rest : Tokens) → EndsExpr rest → Takes (new_value exprs) (new_value_tokens v) a a (deeper (new_value_depth v)) left v rest
   unfolding new_value
@@ -233,7 +248,7 @@ module _
       let more : Tokens = lexeme.Word word.Into ∷ comma_tokens parameter_tokens s.targets ++ table_expression_tokens s.table in
       let first : Tokens = optional quantifier_tokens s.quantifier in
       spelled (append_assoc (first ++ select_list_tokens s.list) (lexeme.Word word.Into ∷ comma_tokens parameter_tokens s.targets) (table_expression_tokens s.table) ∙ append_assoc first (select_list_tokens s.list) more)
-      (plainly quantifier_if_any _ s.quantifier (quantifier_takes s.quantifier (list_starts word.All no_all s.list _ rest) (list_starts word.Distinct no_distinct s.list _ rest))
+      (plainly quantifier_if_any _ s.quantifier (quantifier_takes s.quantifier (list_starts word.All not_all s.list _ rest) (list_starts word.Distinct not_distinct s.list _ rest))
       (andthen (select_list (expr left)) _ s.list (select_list_takes left s.list _ (into_ends _) refl) (expected (word word.Into) _
       (plainly (listed parameter) _ s.targets (targets_takes s.targets (from_ends s.table rest) (no_comma_from s.table rest))
       (mapped (table_expression (cond left)) _ s.table (table_expression_takes left s.table rest ends) refl)))))
