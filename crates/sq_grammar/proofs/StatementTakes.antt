@@ -1,7 +1,6 @@
 -- The tokens of a statement are read as it.
-use Rattle.std.proofs.Common.{◌≡◌, ℕ, zero, suc, ◌+◌, ◌<◌, ◌≤◌, max, Bool, true, false, List, [], ◌∷◌, ◌++◌, Option, Some, None, Ok, refl, sym, ◌∙◌, ap, subst, arith, append_assoc}
+use Rattle.std.proofs.Common.{◌≡◌, ℕ, suc, ◌+◌, ◌<◌, ◌≤◌, max, Bool, true, false, [], ◌∷◌, ◌++◌, Option, Some, None, refl, sym, ◌∙◌, ap, subst, arith, append_assoc}
 use Rattle.std.specs.List.{flat_map}
-use Rattle.sq_lex.specs.declared.lexeme.Lexeme.{Lexeme}
 use Rattle.sq_lex.specs.declared.lexeme.Lexeme.TheVariants as lexeme
 use Rattle.sq_lex.specs.declared.symbol.Symbol.{Symbol}
 use Rattle.sq_lex.specs.declared.symbol.Symbol.TheVariants as symbol
@@ -10,13 +9,10 @@ use Rattle.sq_lex.specs.declared.word.Word.TheVariants as word
 use Rattle.sq_lex.specs.declared.name.Name.{Name}
 use Rattle.sq_lex.specs.declared.number.Number.{Number}
 use Rattle.sq_tree.specs.declared.list.CommaList.{CommaList}
-use Rattle.sq_tree.specs.declared.names.TableName.{TableName}
 use Rattle.sq_tree.specs.declared.names.Parameter.{Parameter}
 use Rattle.sq_tree.specs.declared.expr.Expr.{Expr}
 use Rattle.sq_tree.specs.declared.expr.Sign.{Sign}
 use Rattle.sq_tree.specs.declared.expr.Sign.TheVariants.{Plus, Minus}
-use Rattle.sq_tree.specs.declared.expr.SetQuantifier.{SetQuantifier}
-use Rattle.sq_tree.specs.declared.expr.SetQuantifier.TheVariants.{All, Distinct}
 use Rattle.sq_tree.specs.declared.cond.Body.{Body}
 use Rattle.sq_tree.specs.declared.cond.Test.{Test}
 use Rattle.sq_tree.specs.declared.cond.Conj.{Conj, out-Conj}
@@ -44,25 +40,25 @@ use Rattle.sq_tree.specs.declared.statement.Assignment.{Assignment}
 use Rattle.sq_tree.specs.declared.statement.Delete.{Delete}
 use Rattle.sq_tree.specs.declared.statement.Where.{Where}
 use Rattle.sq_tree.specs.declared.statement.Where.TheVariants.{Condition, CurrentOf}
-use Rattle.sq_tree.specs.Tree.{optional, optional_depth, said}
+use Rattle.sq_tree.specs.Tree.{optional, optional_depth}
 use Rattle.sq_tree.specs.List.{comma_tokens, comma_depth, comma_then}
 use Rattle.sq_tree.specs.Names.{table_name_tokens, parameter_tokens, columns_tokens}
 use Rattle.sq_tree.specs.Expr.{expr_tokens, expr_depth, quantifier_tokens, signed_number_tokens}
 use Rattle.sq_tree.specs.Cond.{not_tokens, body_tokens, test_tokens, conj_tokens, cond_tokens, cond_depth, select_list_tokens, select_list_depth, table_expression_tokens, table_expression_depth, query_specification_tokens, query_specification_depth}
 use Rattle.sq_tree.specs.DataType.{bracket_depth}
-use Rattle.sq_tree.specs.Statement.{position_tokens, orientation_tokens, fetch_from_tokens, fetch_tokens, select_tokens, new_value_tokens, insert_source_tokens, insert_tokens, target_tokens, assignment_tokens, update_tokens, delete_tokens, work_tokens, statement_tokens, select_depth, new_value_depth, insert_source_depth, insert_depth, target_depth, assignment_depth, update_depth, delete_depth, statement_depth}
+use Rattle.sq_tree.specs.Statement.{position_tokens, orientation_tokens, fetch_from_tokens, new_value_tokens, insert_source_tokens, target_tokens, assignment_tokens, statement_tokens, select_depth, new_value_depth, insert_source_depth, insert_depth, target_depth, assignment_depth, update_depth, delete_depth, statement_depth}
 use Rattle.sq_tree.proofs.CondLaws as law
 use Rattle.sq_tree.proofs.CondLaws.{body_cases}
 use Rattle.sq_grammar.specs.declared.verb.Verb.TheVariants as verb
-use Rattle.sq_grammar.specs.Reading.{Tokens, Parser, pure, sees, first_of, name, comma, listed}
+use Rattle.sq_grammar.specs.Reading.{Tokens, Parser, sees, first_of, comma, listed}
 use Rattle.sq_grammar.specs.Names.{dot, table_name, parameter, signed_number, columns_if_any}
 use Rattle.sq_grammar.specs.Expr as expressions
 use Rattle.sq_grammar.specs.Expr.{expr, quantifier_if_any}
 use Rattle.sq_grammar.specs.Cond.{cond, query_specification}
 use Rattle.sq_grammar.specs.Select.{select_list, table_expression}
-use Rattle.sq_grammar.specs.Statement.{position, orientation_of, orientation, fetch_from, fetch, new_value, target, select, insert_source, insert, assignment, update, delete, verb_of, by_verb, statement}
-use Rattle.sq_grammar.proofs.Takes.{Takes, done, fits, andthen, plainly, mapped, word, mark, opening, closing, expected, eaten, uneaten, either, behind_it, met, unmet, named, commas, flat_commas, deeper_commas}
-use Rattle.sq_grammar.proofs.Follows.{EndsFactor, EndsTerm, EndsExpr, EndsTest, EndsConj, EndsCond, EndsTable}
+use Rattle.sq_grammar.specs.Statement.{position, orientation_of, orientation, fetch_from, fetch, new_value, target, select, insert_source, insert, assignment, update, delete, verb_of, statement}
+use Rattle.sq_grammar.proofs.Takes.{Takes, done, fits, andthen, plainly, mapped, word, mark, opening, closing, expected, eaten, uneaten, met, unmet, named, commas, flat_commas, deeper_commas}
+use Rattle.sq_grammar.proofs.Follows.{EndsFactor, EndsExpr, EndsCond, EndsTable}
 use Rattle.sq_grammar.proofs.ExprTakes.{quantifier_takes, expr_starts, foreign, not_all, not_distinct, close_ends, expr_takes, inside_takes}
 use Rattle.sq_grammar.proofs.NamesTakes.{a_colon, table_takes, parameter_takes, signed_takes, columns_if_any_takes}
 
