@@ -135,22 +135,22 @@ table_expr_ends e = e.cond.conj.test.expr
 
 -- a table expression begins with FROM
 from_ends : (t : TableExpression) (rest : Tokens) → EndsFactor (table_expression_tokens t ++ rest)
-from_ends t rest = subst (λ ts. EndsFactor (ts ++ rest)) (sym (law.table_expression_tokens-out t)) (record { dot = refl; colon = refl; indicator = refl })
+from_ends t rest = rw (law.table_expression_tokens-out t) (record { dot = refl; colon = refl; indicator = refl })
 
 no_comma_from : (t : TableExpression) (rest : Tokens) → sees comma (table_expression_tokens t ++ rest) ≡ false
-no_comma_from t rest = ap (λ ts. sees comma (ts ++ rest)) (law.table_expression_tokens-out t)
+no_comma_from t rest = rw (law.table_expression_tokens-out t) refl
 
 -- a source begins with VALUES or SELECT
 source_starts : (s : Symbol) (source : InsertSource) (rest : Tokens) → sees (lexeme.Symbol s) (insert_source_tokens source ++ rest) ≡ false
 source_starts s (sources.Values values) rest = refl
-source_starts s (sources.Query q) rest = ap (λ ts. sees (lexeme.Symbol s) (ts ++ rest)) (law.query_specification_tokens-out q)
+source_starts s (sources.Query q) rest = rw (law.query_specification_tokens-out q) refl
 
 no_dot_before_source : (columns : Option (CommaList Name)) (source : InsertSource) (rest : Tokens) → sees dot ((optional columns_tokens columns ++ insert_source_tokens source) ++ rest) ≡ false
 no_dot_before_source None source rest = source_starts symbol.Dot source rest
 no_dot_before_source (Some c) source rest = refl
 
 no_values : (q : QuerySpecification) (rest : Tokens) → sees (lexeme.Word word.Values) (query_specification_tokens q ++ rest) ≡ false
-no_values q rest = ap (λ ts. sees (lexeme.Word word.Values) (ts ++ rest)) (law.query_specification_tokens-out q)
+no_values q rest = rw (law.query_specification_tokens-out q) refl
 
 target_ends : (t : Option Where) (rest : Tokens) → EndsExpr rest → EndsExpr (optional target_tokens t ++ rest)
 target_ends None rest e = e
@@ -190,17 +190,11 @@ no_current c rest = rw (law.cond_tokens-out c, append_assoc (conj_tokens (out-Co
 
 -- ---- parts of statements
 
--- the same tokens, grouped otherwise
-spelled : {A : Type 0} {p : Parser A} {s t : Tokens} {a b d left : ℕ} {x : A} {rest : Tokens} → t ≡ s → Takes p s a b d left x rest → Takes p t a b d left x rest
-spelled {p = p} {a = a} {b = b} {d = d} {left = left} {x = x} {rest = rest} e s = subst (λ ts. Takes p ts a b d left x rest) (sym e) s
-
 -- a word that begins no expression begins no select list
 list_starts : (w : Word) → ((e : Expr) (rest : Tokens) → sees (lexeme.Word w) (expr_tokens e ++ rest) ≡ false) → (l : SelectList) (more rest : Tokens) → sees (lexeme.Word w) ((select_list_tokens l ++ more) ++ rest) ≡ false
 list_starts w starts Star more rest = refl
 list_starts w starts (Items items) more rest =
-    let others : Tokens = flat_map (comma_then expr_tokens) items.rest in
-    let same : expr_tokens items.first ++ (others ++ (more ++ rest)) ≡ (comma_tokens expr_tokens items ++ more) ++ rest = sym (append_assoc (comma_tokens expr_tokens items) more rest ∙ append_assoc (expr_tokens items.first) others (more ++ rest)) in
-    subst (λ ts. sees (lexeme.Word w) ts ≡ false) same (starts items.first (others ++ (more ++ rest)))
+    rw (append_assoc (comma_tokens expr_tokens items) more rest, append_assoc (expr_tokens items.first)) (starts items.first _)
 
 module _
     (cond_takes : (left : ℕ) (c : Cond) (rest : Tokens) → EndsCond rest → Takes (cond left) (cond_tokens c) 0 0 (cond_depth c) left c rest)
@@ -241,9 +235,8 @@ module _
   pub select_takes : (left : ℕ) (s : Select) (rest : Tokens) → EndsTable rest → Takes (select left) (optional quantifier_tokens s.quantifier ++ select_list_tokens s.list ++ lexeme.Word word.Into ∷ comma_tokens parameter_tokens s.targets ++ table_expression_tokens s.table) 0 0 (select_depth s) left s rest
   unfolding select
   select_takes left s rest ends =
-      let more : Tokens = lexeme.Word word.Into ∷ comma_tokens parameter_tokens s.targets ++ table_expression_tokens s.table in
       let first : Tokens = optional quantifier_tokens s.quantifier in
-      spelled (append_assoc (first ++ select_list_tokens s.list) (lexeme.Word word.Into ∷ comma_tokens parameter_tokens s.targets) (table_expression_tokens s.table) ∙ append_assoc first (select_list_tokens s.list) more)
+      rw (append_assoc (first ++ select_list_tokens s.list), append_assoc first (select_list_tokens s.list))
       (plainly quantifier_if_any _ s.quantifier (quantifier_takes s.quantifier (list_starts word.All not_all s.list _ rest) (list_starts word.Distinct not_distinct s.list _ rest))
       (andthen (select_list (expr left)) _ s.list (select_list_takes left s.list _ (into_ends _) refl) (expected (word word.Into) _
       (plainly (listed parameter) _ s.targets (targets_takes s.targets (from_ends s.table rest) (no_comma_from s.table rest))
@@ -253,7 +246,7 @@ module _
   unfolding insert
   insert_takes left room i rest ends =
       fits (λ h. omega arith) (λ h. by i.columns h)
-      (expected (word word.Into) _ (spelled (append_assoc (table_name_tokens i.table) (optional columns_tokens i.columns) (insert_source_tokens i.source))
+      (expected (word word.Into) _ (rw (append_assoc (table_name_tokens i.table) (optional columns_tokens i.columns) (insert_source_tokens i.source))
       (plainly table_name _ i.table (table_takes i.table (no_dot_before_source i.columns i.source rest))
       (plainly columns_if_any _ i.columns (columns_if_any_takes i.columns (source_starts symbol.Open i.source rest))
       (mapped (insert_source left) _ i.source (insert_source_takes left room i.source rest ends) refl)))))
@@ -266,7 +259,7 @@ module _
   unfolding update
   update_takes left u rest ends =
       let sets = commas (assignment left) assignment_tokens assignment_depth 0 left EndsExpr (assignment_takes left) comma_ends u.assignments (optional target_tokens u.target ++ rest) (target_ends u.target rest (table_expr_ends ends)) (target_starts symbol.Comma u.target rest ends.comma) in
-      spelled (append_assoc (table_name_tokens u.table) (lexeme.Word word.Set ∷ comma_tokens assignment_tokens u.assignments) (optional target_tokens u.target))
+      rw (append_assoc (table_name_tokens u.table) (lexeme.Word word.Set ∷ comma_tokens assignment_tokens u.assignments) (optional target_tokens u.target))
       (plainly table_name _ u.table (table_takes u.table refl) (expected (word word.Set) _
       (andthen (listed (assignment left)) _ u.assignments sets
       (mapped (target left) _ u.target (target_takes left u.target rest ends.cond ends.where_word) refl))))
