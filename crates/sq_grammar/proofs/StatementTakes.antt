@@ -1,6 +1,5 @@
 -- The tokens of a statement are read as it.
-use Rattle.std.proofs.Common.{◌≡◌, ℕ, suc, ◌+◌, ◌<◌, ◌≤◌, max, Bool, true, false, [], ◌∷◌, ◌++◌, Option, Some, None, refl, sym, ◌∙◌, ap, subst, arith, append_assoc}
-use Rattle.std.specs.List.{flat_map}
+use Rattle.std.proofs.Common.{◌≡◌, ℕ, suc, ◌+◌, ◌<◌, ◌≤◌, max, Bool, true, false, [], ◌∷◌, ◌++◌, Option, Some, None, refl, arith, append_assoc}
 use Rattle.sq_lex.specs.declared.lexeme.Lexeme.TheVariants as lexeme
 use Rattle.sq_lex.specs.declared.symbol.Symbol.{Symbol}
 use Rattle.sq_lex.specs.declared.symbol.Symbol.TheVariants as symbol
@@ -41,7 +40,7 @@ use Rattle.sq_tree.specs.declared.statement.Delete.{Delete}
 use Rattle.sq_tree.specs.declared.statement.Where.{Where}
 use Rattle.sq_tree.specs.declared.statement.Where.TheVariants.{Condition, CurrentOf}
 use Rattle.sq_tree.specs.Tree.{optional, optional_depth}
-use Rattle.sq_tree.specs.List.{comma_tokens, comma_depth, comma_then}
+use Rattle.sq_tree.specs.List.{comma_tokens, comma_depth}
 use Rattle.sq_tree.specs.Names.{table_name_tokens, parameter_tokens, columns_tokens}
 use Rattle.sq_tree.specs.Expr.{expr_tokens, expr_depth, quantifier_tokens, signed_number_tokens}
 use Rattle.sq_tree.specs.Cond.{not_tokens, body_tokens, test_tokens, conj_tokens, cond_tokens, cond_depth, select_list_tokens, select_list_depth, table_expression_tokens, table_expression_depth, query_specification_tokens, query_specification_depth}
@@ -196,34 +195,34 @@ list_starts w starts Star more rest = refl
 list_starts w starts (Items items) more rest =
     rw (append_assoc (comma_tokens expr_tokens items) more rest, append_assoc (expr_tokens items.first)) (starts items.first _)
 
+-- over a parser of expressions that are `deeper` by what is open before them
+pub new_value_takes : (exprs : Parser Expr) (deeper : ℕ → ℕ) {a left : ℕ} → deeper 0 ≤ left → ((e : Expr) (rest : Tokens) → EndsExpr rest → Takes exprs (expr_tokens e) a a (deeper (expr_depth e)) left e rest) → (v : NewValue) (rest : Tokens) → EndsExpr rest → Takes (new_value exprs) (new_value_tokens v) a a (deeper (new_value_depth v)) left v rest
+unfolding new_value
+new_value_takes exprs deeper room each (values.Expr e) rest ends = uneaten (lexeme.Word word.Null) _ (no_null e rest) (mapped exprs _ e (each e rest ends) refl)
+new_value_takes exprs deeper room each values.Null rest ends = fits (λ h. omega arith) (λ h. absurd (omega arith)) (eaten (word word.Null) _ done)
+
+pub assignment_takes : (left : ℕ) (x : Assignment) (rest : Tokens) → EndsExpr rest → Takes (assignment left) (assignment_tokens x) 0 0 (assignment_depth x) left x rest
+unfolding assignment
+assignment_takes left x rest ends = named x.column _ (expected (mark symbol.Equal (λ n. refl)) _ (mapped (new_value (expr left)) _ x.value (new_value_takes (expr left) (λ n. n) (omega arith) (expr_takes left) x.value rest ends) refl))
+
+-- VALUES ( .. ), whose word is read already: a bracket is open before its values
+values_takes : (left : ℕ) → 1 ≤ left → (vs : CommaList NewValue) (rest : Tokens) → Takes (listed (new_value (expressions.inside left))) (comma_tokens new_value_tokens vs) 1 1 (comma_depth new_value_depth vs + 1) left vs (lexeme.Symbol symbol.Close ∷ rest)
+values_takes left room vs rest =
+    let each = new_value_takes (expressions.inside left) (λ n. suc n) {a = 1} {left = left} room (λ e r ends. inside_takes left e r room ends) in
+    let same = deeper_commas new_value_depth vs in
+    fits (λ h. omega arith) (λ h. omega arith) (commas (new_value (expressions.inside left)) new_value_tokens (λ v. suc (new_value_depth v)) 1 left EndsExpr each comma_ends vs _ (close_ends rest) refl)
+
 module _
     (cond_takes : (left : ℕ) (c : Cond) (rest : Tokens) → EndsCond rest → Takes (cond left) (cond_tokens c) 0 0 (cond_depth c) left c rest)
     (specification_takes : (left : ℕ) (q : QuerySpecification) (rest : Tokens) → EndsTable rest → Takes (query_specification left) (query_specification_tokens q) 0 0 (query_specification_depth q) left q rest)
     (table_expression_takes : (left : ℕ) (t : TableExpression) (rest : Tokens) → EndsTable rest → Takes (table_expression (cond left)) (table_expression_tokens t) 0 0 (table_expression_depth t) left t rest)
     (select_list_takes : (left : ℕ) (l : SelectList) (rest : Tokens) → EndsExpr rest → sees comma rest ≡ false → Takes (select_list (expr left)) (select_list_tokens l) 0 0 (select_list_depth l) left l rest) where
-  -- over a parser of expressions that are `deeper` by what is open before them
-  pub new_value_takes : (exprs : Parser Expr) (deeper : ℕ → ℕ) {a left : ℕ} → deeper 0 ≤ left → ((e : Expr) (rest : Tokens) → EndsExpr rest → Takes exprs (expr_tokens e) a a (deeper (expr_depth e)) left e rest) → (v : NewValue) (rest : Tokens) → EndsExpr rest → Takes (new_value exprs) (new_value_tokens v) a a (deeper (new_value_depth v)) left v rest
-  unfolding new_value
-  new_value_takes exprs deeper room each (values.Expr e) rest ends = uneaten (lexeme.Word word.Null) _ (no_null e rest) (mapped exprs _ e (each e rest ends) refl)
-  new_value_takes exprs deeper room each values.Null rest ends = fits (λ h. omega arith) (λ h. absurd (omega arith)) (eaten (word word.Null) _ done)
-
-  pub assignment_takes : (left : ℕ) (x : Assignment) (rest : Tokens) → EndsExpr rest → Takes (assignment left) (assignment_tokens x) 0 0 (assignment_depth x) left x rest
-  unfolding assignment
-  assignment_takes left x rest ends = named x.column _ (expected (mark symbol.Equal (λ n. refl)) _ (mapped (new_value (expr left)) _ x.value (new_value_takes (expr left) (λ n. n) (omega arith) (expr_takes left) x.value rest ends) refl))
-
   -- [ WHERE cond | WHERE CURRENT OF name ]
   pub target_takes : (left : ℕ) (t : Option Where) (rest : Tokens) → EndsCond rest → sees (lexeme.Word word.Where) rest ≡ false → Takes (target left) (optional target_tokens t) 0 0 (optional_depth target_depth t) left t rest
   unfolding target
   target_takes left None rest ends none = uneaten (lexeme.Word word.Where) _ none done
   target_takes left (Some (Condition c)) rest ends none = eaten (word word.Where) _ (uneaten (lexeme.Word word.Current) _ (no_current c rest) (mapped (cond left) _ c (cond_takes left c rest ends) refl))
   target_takes left (Some (CurrentOf c)) rest ends none = eaten (word word.Where) _ (eaten (word word.Current) _ (expected (word word.Of) _ (named c _ done)))
-
-  -- VALUES ( .. ), whose word is read already: a bracket is open before its values
-  values_takes : (left : ℕ) → 1 ≤ left → (vs : CommaList NewValue) (rest : Tokens) → Takes (listed (new_value (expressions.inside left))) (comma_tokens new_value_tokens vs) 1 1 (comma_depth new_value_depth vs + 1) left vs (lexeme.Symbol symbol.Close ∷ rest)
-  values_takes left room vs rest =
-      let each = new_value_takes (expressions.inside left) (λ n. suc n) {a = 1} {left = left} room (λ e r ends. inside_takes left e r room ends) in
-      let same = deeper_commas new_value_depth vs in
-      fits (λ h. omega arith) (λ h. omega arith) (commas (new_value (expressions.inside left)) new_value_tokens (λ v. suc (new_value_depth v)) 1 left EndsExpr each comma_ends vs _ (close_ends rest) refl)
 
   pub insert_source_takes : (left : ℕ) → 1 ≤ left → (s : InsertSource) (rest : Tokens) → EndsTable rest → Takes (insert_source left) (insert_source_tokens s) 0 0 (insert_source_depth s) left s rest
   unfolding insert_source
