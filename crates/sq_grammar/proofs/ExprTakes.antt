@@ -63,7 +63,7 @@ pub record StartsPrimary (P : Tokens → Type 0) : Type 0 where
   pub user : (ts : Tokens) → P (lexeme.Word word.User ∷ ts)
   pub name : (n : Name) (ts : Tokens) → P (lexeme.Name n ∷ ts)
   pub function : (f : SetFunction) (ts : Tokens) → P (function_token f ∷ ts)
-  pub bracket : (ts : Tokens) → P (lexeme.Symbol symbol.Open ∷ ts)
+  pub bracket : (e : Expr) (ts : Tokens) → P (lexeme.Symbol symbol.Open ∷ (expr_tokens e ++ ts))
 
 pub record Starts (P : Tokens → Type 0) : Type 0 where
   pub primary : StartsPrimary P
@@ -82,7 +82,7 @@ module _ (P : Tokens → Type 0) (starts : StartsPrimary P) where
       (λ c. rw (law.primary_tokens-Column c) (column_starts c rest))
       (rw law.primary_tokens-CountRows (starts.function function.Count _))
       (λ f q e. rw (law.primary_tokens-SetFunction f q e) (starts.function f _))
-      (λ e. rw (law.primary_tokens-Bracketed e) (starts.bracket _)) p
+      (λ e. rw (law.primary_tokens-Bracketed e, append_assoc (expr_tokens e)) (starts.bracket e _)) p
 
 module _ (P : Tokens → Type 0) (starts : Starts P) where
   factor_starts : (f : Factor) (rest : Tokens) → P (factor_tokens f ++ rest)
@@ -107,15 +107,15 @@ function_no_sign function.Max ts = (refl, refl)
 
 -- a primary begins with no sign
 primary_no_plus : StartsPrimary (λ ts. sees (lexeme.Symbol symbol.Plus) ts ≡ false)
-primary_no_plus = record { number = λ n ts. refl; text = λ t ts. refl; colon = λ ts. refl; user = λ ts. refl; name = λ n ts. refl; function = λ f ts. (function_no_sign f ts).0; bracket = λ ts. refl }
+primary_no_plus = record { number = λ n ts. refl; text = λ t ts. refl; colon = λ ts. refl; user = λ ts. refl; name = λ n ts. refl; function = λ f ts. (function_no_sign f ts).0; bracket = λ e ts. refl }
 
 primary_no_minus : StartsPrimary (λ ts. sees (lexeme.Symbol symbol.Minus) ts ≡ false)
-primary_no_minus = record { number = λ n ts. refl; text = λ t ts. refl; colon = λ ts. refl; user = λ ts. refl; name = λ n ts. refl; function = λ f ts. (function_no_sign f ts).1; bracket = λ ts. refl }
+primary_no_minus = record { number = λ n ts. refl; text = λ t ts. refl; colon = λ ts. refl; user = λ ts. refl; name = λ n ts. refl; function = λ f ts. (function_no_sign f ts).1; bracket = λ e ts. refl }
 
 -- A word begins no expression if it is neither USER nor a set function's.
 pub foreign : (w : Word) → same_word word.User w ≡ false → same_word word.Count w ≡ false → same_word word.Sum w ≡ false → same_word word.Avg w ≡ false → same_word word.Min w ≡ false → same_word word.Max w ≡ false → Starts (λ ts. sees (lexeme.Word w) ts ≡ false)
 foreign w user count sum avg min max = record {
-  primary = record { number = λ n ts. refl; text = λ t ts. refl; colon = λ ts. refl; user = λ ts. user; name = λ n ts. refl; function = by; bracket = λ ts. refl };
+  primary = record { number = λ n ts. refl; text = λ t ts. refl; colon = λ ts. refl; user = λ ts. user; name = λ n ts. refl; function = by; bracket = λ e ts. refl };
   sign = signs;
 }
   where
@@ -132,7 +132,7 @@ foreign w user count sum avg min max = record {
 -- nor does a star
 pub no_star : Starts (λ ts. sees (lexeme.Symbol symbol.Star) ts ≡ false)
 no_star = record {
-  primary = record { number = λ n ts. refl; text = λ t ts. refl; colon = λ ts. refl; user = λ ts. refl; name = λ n ts. refl; function = by; bracket = λ ts. refl };
+  primary = record { number = λ n ts. refl; text = λ t ts. refl; colon = λ ts. refl; user = λ ts. refl; name = λ n ts. refl; function = by; bracket = λ e ts. refl };
   sign = signs;
 }
   where
@@ -320,6 +320,16 @@ module _ (left : ℕ) (inner : Parser Expr) (inner_takes : 0 < left → (e : Exp
       let others : List Added = (out-Expr e).rest in
       rw (law.expr_tokens-out e, law.expr_depth-out e) (andthen (term left inner) _ first (term_takes first _ (behind_added others rest ends.term)) (mapped (all (added left inner)) _ others (all_added others rest ends) (ap pure (roll-out-Expr e))))
 
+  -- an expression in its parts
+  abbrev pub built : Option Sign → Primary → List Scaled → List Added → Expr
+  built s p xs ys = roll-Expr (record { first = roll-Term (record { first = record { sign = s; primary = p }; rest = xs }); rest = ys })
+
+  -- what follows the first primary
+  pub level_from_takes : (p : Primary) (xs : List Scaled) (ys : List Added) (rest : Tokens) → EndsExpr rest → Takes (level_from left inner p) (flat_map scaled_tokens xs ++ flat_map added_tokens ys) 0 0 (max (greatest (map scaled_depth xs)) (greatest (map added_depth ys))) left (built None p xs ys) rest
+  unfolding level_from
+  level_from_takes p xs ys rest ends =
+      andthen (all (scaled left inner)) _ xs (all_scaled xs _ (behind_added ys rest ends.term)) (mapped (all (added left inner)) _ ys (all_added ys rest ends) refl)
+
 -- behind a bracket that is one of `left`
 pub inside_takes : (left : ℕ) (e : Expr) (rest : Tokens) → 0 < left → EndsExpr rest → Takes (inside left) (expr_tokens e) 1 1 (suc (expr_depth e)) left e rest
 unfolding inside
@@ -328,3 +338,6 @@ inside_takes (suc left) e rest room ends = lifted (level_takes left (inside left
 
 pub expr_takes : (left : ℕ) (e : Expr) (rest : Tokens) → EndsExpr rest → Takes (expr left) (expr_tokens e) 0 0 (expr_depth e) left e rest
 expr_takes left = level_takes left (inside left) (λ h x r f. inside_takes left x r h f)
+
+pub expr_from_takes : (left : ℕ) (p : Primary) (xs : List Scaled) (ys : List Added) (rest : Tokens) → EndsExpr rest → Takes (expr_from left p) (flat_map scaled_tokens xs ++ flat_map added_tokens ys) 0 0 (max (greatest (map scaled_depth xs)) (greatest (map added_depth ys))) left (roll-Expr (record { first = roll-Term (record { first = record { sign = None; primary = p }; rest = xs }); rest = ys })) rest
+expr_from_takes left = level_from_takes left (inside left) (λ h x r f. inside_takes left x r h f)

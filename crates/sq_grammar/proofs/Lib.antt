@@ -17,4 +17,5 @@ pub mod SelectTakes
 pub mod Spells
 pub mod StatementSound
 pub mod StatementTakes
+pub mod TailTakes
 pub mod Takes

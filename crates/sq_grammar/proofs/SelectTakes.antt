@@ -85,7 +85,7 @@ before : (P : Tokens → Type 0) {X : Type 0} (t : Lexeme) (text : X → Tokens)
 before P t text None more rest some none = none
 before P t text (Some x) more rest some none = some _
 
-before_last : (P : Tokens → Type 0) {X : Type 0} (t : Lexeme) (text : X → Tokens) (o : Option X) (rest : Tokens) → ((ts : Tokens) → P (t ∷ ts)) → P rest → P (optional (λ x. t ∷ text x) o ++ rest)
+pub before_last : (P : Tokens → Type 0) {X : Type 0} (t : Lexeme) (text : X → Tokens) (o : Option X) (rest : Tokens) → ((ts : Tokens) → P (t ∷ ts)) → P rest → P (optional (λ x. t ∷ text x) o ++ rest)
 before_last P t text None rest some none = none
 before_last P t text (Some x) rest some none = some _
 
@@ -102,7 +102,7 @@ having_ends : (ts : Tokens) → EndsCond (lexeme.Word word.Having ∷ ts)
 having_ends ts = record { conj = record { test = record { expr = record { term = record { factor = record { dot = refl; colon = refl; indicator = refl }; star = refl; slash = refl }; plus = refl; minus = refl }; escape = refl }; and = refl }; or = refl }
 from_ends : (ts : Tokens) → EndsExpr (lexeme.Word word.From ∷ ts)
 from_ends ts = record { term = record { factor = record { dot = refl; colon = refl; indicator = refl }; star = refl; slash = refl }; plus = refl; minus = refl }
-comma_ends : (ts : Tokens) → EndsExpr (comma ∷ ts)
+pub comma_ends : (ts : Tokens) → EndsExpr (comma ∷ ts)
 comma_ends ts = record { term = record { factor = record { dot = refl; colon = refl; indicator = refl }; star = refl; slash = refl }; plus = refl; minus = refl }
 
 -- depths behind `a` more brackets
