@@ -21,5 +21,6 @@ pub mod SelectSound
 pub mod SelectTakes
 pub mod Spells
 pub mod StatementSound
+pub mod StatementTakes
 pub mod TailTakes
 pub mod Takes
