@@ -14,4 +14,5 @@ pub mod ScriptSound
 pub mod SelectSound
 pub mod Spells
 pub mod StatementSound
+pub mod TableTakes
 pub mod Takes
