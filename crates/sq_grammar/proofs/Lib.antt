@@ -10,6 +10,7 @@ pub mod NamesTakes
 pub mod Places
 pub mod QuerySound
 pub mod SchemaSound
+pub mod SchemaTakes
 pub mod ScriptSound
 pub mod SelectSound
 pub mod Spells

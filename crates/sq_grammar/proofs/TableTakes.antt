@@ -38,18 +38,18 @@ use Rattle.sq_grammar.proofs.Takes.{Takes, done, fits, lifted, andthen, plainly,
 use Rattle.sq_grammar.proofs.Follows.{EndsCond}
 use Rattle.sq_grammar.proofs.NamesTakes.{table_takes, signed_takes, columns_takes, columns_if_any_takes}
 
--- the same tokens in other groups
+-- the tokens of three parts, grouped from the left
 pub grouped : {A : Type 0} {p : Parser A} (s t u : Tokens) {a b d left : ℕ} {x : A} {rest : Tokens} → Takes p (s ++ (t ++ u)) a b d left x rest → Takes p ((s ++ t) ++ u) a b d left x rest
 grouped {p = p} s t u {a = a} {b = b} {d = d} {left = left} {x = x} {rest = rest} h = subst (λ ts. Takes p ts a b d left x rest) (sym (append_assoc s t u)) h
 
--- what a data type, a default or a column constraint would go on with, or what would stand before the constraint
+-- what may not follow a data type, a default or a constraint
 pub record EndsConstraint (rest : Tokens) : Type 0 where
   pub dot : sees (lexeme.Symbol symbol.Dot) rest ≡ false
   pub bracket : sees (lexeme.Symbol symbol.Open) rest ≡ false
   pub varying : sees (lexeme.Word word.Varying) rest ≡ false
   pub default : sees (lexeme.Word word.Default) rest ≡ false
 
--- a column definition, which may have more constraints
+-- what may not follow a column definition, which may have more constraints
 pub record EndsColumn (rest : Tokens) : Type 0 where
   pub constraint : EndsConstraint rest
   pub not : sees (lexeme.Word word.Not) rest ≡ false
@@ -71,7 +71,7 @@ type_low (types.Character w n) = bracket_low n
 type_low (types.Varying w n) = omega arith
 
 -- no list of columns starts with a dot
-pub no_dot : (o : Option (CommaList Name)) (rest : Tokens) → sees dot rest ≡ false → sees dot (optional columns_tokens o ++ rest) ≡ false
+no_dot : (o : Option (CommaList Name)) (rest : Tokens) → sees dot rest ≡ false → sees dot (optional columns_tokens o ++ rest) ≡ false
 no_dot None rest none = none
 no_dot (Some c) rest none = refl
 
@@ -113,7 +113,7 @@ unfolding default_clause
 default_clause_takes None none = uneaten _ _ none done
 default_clause_takes (Some v) none = behind_it (word word.Default) default_value (default_value_takes v)
 
--- ---- what is not of conditions
+-- ---- constraints
 
 pub foreign_key_takes : (k : ForeignKey) {a left : ℕ} {rest : Tokens} → sees dot rest ≡ false → sees (lexeme.Symbol symbol.Open) rest ≡ false → Takes foreign_key (lexeme.Word word.Key ∷ columns_tokens k.columns ++ tree.references_tokens k.references) a a 0 left k rest
 unfolding foreign_key
