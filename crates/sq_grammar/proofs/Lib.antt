@@ -2,6 +2,7 @@ pub mod Behind
 pub mod CondSound
 pub mod DataTypeSound
 pub mod ExprSound
+pub mod ExprTakes
 pub mod Follows
 pub mod Many
 pub mod ModuleSound
@@ -13,7 +14,9 @@ pub mod SchemaSound
 pub mod SchemaTakes
 pub mod ScriptSound
 pub mod SelectSound
+pub mod SelectTakes
 pub mod Spells
 pub mod StatementSound
 pub mod TableTakes
+pub mod TailTakes
 pub mod Takes

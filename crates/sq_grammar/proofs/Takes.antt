@@ -119,6 +119,10 @@ module _ {A B : Type 0} where
     deep = λ h. deep-then _ f (s.deep h);
   }
 
+-- the same of another way to write the tokens
+pub respelled : {A : Type 0} {p : Parser A} {t u : Tokens} {a b d left : ℕ} {x : A} {rest : Tokens} → t ≡ u → Takes p t a b d left x rest → Takes p u a b d left x rest
+respelled {p = p} {a = a} {b = b} {d = d} {left = left} {x = x} {rest = rest} e s = subst (λ ts. Takes p ts a b d left x rest) e s
+
 -- the same tokens, read otherwise
 pub alike : {A : Type 0} {p q : Parser A} {text : Tokens} {a b d left : ℕ} {y : A} {rest : Tokens} → p (text ++ rest) ≡ q (text ++ rest) → Takes q text a b d left y rest → Takes p text a b d left y rest
 alike {text = text} {a = a} {left = left} {rest = rest} e s = record {
