@@ -15,6 +15,7 @@ pub mod Places
 pub mod QuerySound
 pub mod QueryTakes
 pub mod SchemaSound
+pub mod SchemaTakes
 pub mod ScriptSound
 pub mod ScriptTakes
 pub mod SelectSound
@@ -22,5 +23,6 @@ pub mod SelectTakes
 pub mod Spells
 pub mod StatementSound
 pub mod StatementTakes
+pub mod TableTakes
 pub mod TailTakes
 pub mod Takes
