@@ -115,7 +115,7 @@ module _ (left : ℕ) (inner : Parser (Mixed Cond))
       let whole : Expr = built None (primary.Bracketed e) xs ys in
       let others : Tokens = flat_map scaled_tokens xs ++ flat_map added_tokens ys in
       let spelled : lexeme.Symbol symbol.Open ∷ (expr_tokens e ++ (lexeme.Symbol symbol.Close ∷ (others ++ more))) ≡ expr_tokens whole ++ more =
-          sym (built_tokens None (primary.Bracketed e) xs ys more ∙ ap (λ ts. ts ++ (others ++ more)) (exprs.primary_tokens-Bracketed e) ∙ ap (λ ts. lexeme.Symbol symbol.Open ∷ ts) (append_assoc (expr_tokens e) (lexeme.Symbol symbol.Close ∷ []) (others ++ more))) in
+      sym (built_tokens None (primary.Bracketed e) xs ys more ∙ ap (λ ts. ts ++ (others ++ more)) (exprs.primary_tokens-Bracketed e) ∙ ap (λ ts. lexeme.Symbol symbol.Open ∷ ts) (append_assoc (expr_tokens e) (lexeme.Symbol symbol.Close ∷ []) (others ++ more))) in
       let depth = built_depth None (primary.Bracketed e) xs ys in
       let of_bracket = exprs.primary_depth-Bracketed e in
       respelled spelled (seeing (sees (lexeme.Symbol symbol.Open)) _ _ refl
@@ -177,8 +177,10 @@ module _ (left : ℕ) (inner : Parser (Mixed Cond))
       operator_ends comparison.Greater us = record { term = record { factor = record { dot = refl; colon = refl; indicator = refl }; star = refl; slash = refl }; plus = refl; minus = refl }
       operator_ends comparison.LessOrEqual us = record { term = record { factor = record { dot = refl; colon = refl; indicator = refl }; star = refl; slash = refl }; plus = refl; minus = refl }
       operator_ends comparison.GreaterOrEqual us = record { term = record { factor = record { dot = refl; colon = refl; indicator = refl }; star = refl; slash = refl }; plus = refl; minus = refl }
+
       plain_ends : (w : Word) (us : Tokens) → same_word w word.Indicator ≡ false → EndsExpr (lexeme.Word w ∷ us)
       plain_ends w us other = record { term = record { factor = record { dot = refl; colon = refl; indicator = other }; star = refl; slash = refl }; plus = refl; minus = refl }
+
       word_ends : (n : Bool) (w : Word) (text us : Tokens) → same_word w word.Indicator ≡ false → EndsExpr ((not_tokens n ++ (lexeme.Word w ∷ text)) ++ us)
       word_ends true w text us other = plain_ends word.Not _ refl
       word_ends false w text us other = plain_ends w _ other

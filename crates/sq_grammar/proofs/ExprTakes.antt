@@ -125,6 +125,7 @@ foreign w user count sum avg min max = record {
     by function.Avg ts = avg
     by function.Min ts = min
     by function.Max ts = max
+
     signs : (s : Sign) (ts : Tokens) → sees (lexeme.Word w) (sign_token s ∷ ts) ≡ false
     signs Plus ts = refl
     signs Minus ts = refl
@@ -142,6 +143,7 @@ no_star = record {
     by function.Avg ts = refl
     by function.Min ts = refl
     by function.Max ts = refl
+
     signs : (s : Sign) (ts : Tokens) → sees (lexeme.Symbol symbol.Star) (sign_token s ∷ ts) ≡ false
     signs Plus ts = refl
     signs Minus ts = refl

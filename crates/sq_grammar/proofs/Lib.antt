@@ -11,6 +11,8 @@ pub mod ModuleSound
 pub mod ModuleTakes
 pub mod NamesSound
 pub mod NamesTakes
+pub mod OneExpr
+pub mod OneTree
 pub mod Places
 pub mod QuerySound
 pub mod QueryTakes

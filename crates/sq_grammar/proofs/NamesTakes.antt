@@ -60,6 +60,7 @@ column_cases P one two three c = by c.qualifier c.column
     by_schema : (schema : Option Name) (table column : Name) → P (record { qualifier = Some (record { schema = schema; table = table }); column = column })
     by_schema None table column = two table column
     by_schema (Some s) table column = three s table column
+
     by : (qualifier : Option TableName) (column : Name) → P (record { qualifier = qualifier; column = column })
     by None column = one column
     by (Some q) column = by_schema q.schema q.table column

@@ -56,7 +56,7 @@ module _ (left : ℕ) (inner : Parser Query)
   term_takes t rest ends = law.query_term_cases (λ u. Takes (query_term left inner) (query_term_tokens u) 0 0 (query_term_depth u) left u rest)
       (λ s. rw (law.query_term_tokens-Specification s, law.query_term_depth-Specification s) (unseeing (sees (lexeme.Symbol symbol.Open)) _ _ (rw (specifications.query_specification_tokens-out s) refl) (mapped (query_specification left) _ s (specification_takes left s rest ends) refl)))
       (λ q. rw (law.query_term_tokens-Bracketed q, law.query_term_depth-Bracketed q) (seeing (sees (lexeme.Symbol symbol.Open)) _ _ refl
-          (mapped (spec.bracketed left inner) _ q (openly _ (omega arith) (λ room. fits (λ h. omega arith) (λ h. omega arith) (andthen inner _ q (inner_takes room q _ (record { table = close_ends_table rest; union = refl })) (expected closing _ done)))) refl))) t
+      (mapped (spec.bracketed left inner) _ q (openly _ (omega arith) (λ room. fits (λ h. omega arith) (λ h. omega arith) (andthen inner _ q (inner_takes room q _ (record { table = close_ends_table rest; union = refl })) (expected closing _ done)))) refl))) t
 
   -- what a query term begins with
   lacks_all : (t : QueryTerm) (ts : Tokens) → sees (lexeme.Word word.All) (query_term_tokens t ++ ts) ≡ false
@@ -74,7 +74,12 @@ module _ (left : ℕ) (inner : Parser Query)
   union_starts : (u : UnionTerm) (rest : Tokens) → EndsTable (union_term_tokens u ++ rest)
   union_starts u rest = rw (law.union_term_tokens-out u) (record {
     cond = record { conj = record { test = record { expr = record { term = record { factor = record { dot = refl; colon = refl; indicator = refl }; star = refl; slash = refl }; plus = refl; minus = refl }; escape = refl }; and = refl }; or = refl };
-    comma = refl; as_word = refl; name = refl; where_word = refl; group = refl; having = refl;
+    comma = refl;
+    as_word = refl;
+    name = refl;
+    where_word = refl;
+    group = refl;
+    having = refl;
   })
 
   union_long : (u : UnionTerm) → 0 < length (union_term_tokens u)

@@ -61,6 +61,7 @@ reference_takes t rest ends = plainly table_name _ t.table (table_takes t.table 
     written : (w : Bool) (n : Name) → sees dot ((said w (lexeme.Word word.As ∷ []) ++ lexeme.Name n ∷ []) ++ rest) ≡ false
     written true n = refl
     written false n = refl
+
     no_dot : (c : Option Correlation) → sees dot (optional correlation_tokens c ++ rest) ≡ false
     no_dot None = ends.dot
     no_dot (Some c) = written c.as_word c.name
@@ -91,17 +92,22 @@ before_last P t text (Some x) rest some none = some _
 
 word_ends_from : (ts : Tokens) → EndsFrom (lexeme.Word word.Where ∷ ts)
 word_ends_from ts = record { reference = record { dot = refl; as_word = refl; name = refl }; comma = refl }
+
 group_ends_from : (ts : Tokens) → EndsFrom (lexeme.Word word.Group ∷ ts)
 group_ends_from ts = record { reference = record { dot = refl; as_word = refl; name = refl }; comma = refl }
+
 having_ends_from : (ts : Tokens) → EndsFrom (lexeme.Word word.Having ∷ ts)
 having_ends_from ts = record { reference = record { dot = refl; as_word = refl; name = refl }; comma = refl }
 
 group_ends : (ts : Tokens) → EndsCond (lexeme.Word word.Group ∷ ts)
 group_ends ts = record { conj = record { test = record { expr = record { term = record { factor = record { dot = refl; colon = refl; indicator = refl }; star = refl; slash = refl }; plus = refl; minus = refl }; escape = refl }; and = refl }; or = refl }
+
 having_ends : (ts : Tokens) → EndsCond (lexeme.Word word.Having ∷ ts)
 having_ends ts = record { conj = record { test = record { expr = record { term = record { factor = record { dot = refl; colon = refl; indicator = refl }; star = refl; slash = refl }; plus = refl; minus = refl }; escape = refl }; and = refl }; or = refl }
+
 from_ends : (ts : Tokens) → EndsExpr (lexeme.Word word.From ∷ ts)
 from_ends ts = record { term = record { factor = record { dot = refl; colon = refl; indicator = refl }; star = refl; slash = refl }; plus = refl; minus = refl }
+
 pub comma_ends : (ts : Tokens) → EndsExpr (comma ∷ ts)
 comma_ends ts = record { term = record { factor = record { dot = refl; colon = refl; indicator = refl }; star = refl; slash = refl }; plus = refl; minus = refl }
 
@@ -159,6 +165,7 @@ module _ (a left : ℕ) (exprs : Parser Expr) (conds : Parser Cond) (room : a �
       list_lacks_all : (l : SelectList) (ts : Tokens) → sees (lexeme.Word word.All) ((select_list_tokens l ++ ts) ++ rest) ≡ false
       list_lacks_all list.Star ts = refl
       list_lacks_all (list.Items items) ts = rw (append_assoc (comma_tokens expr_tokens items) ts rest, append_assoc (expr_tokens items.first)) (not_all items.first _)
+
       list_lacks_distinct : (l : SelectList) (ts : Tokens) → sees (lexeme.Word word.Distinct) ((select_list_tokens l ++ ts) ++ rest) ≡ false
       list_lacks_distinct list.Star ts = refl
       list_lacks_distinct (list.Items items) ts = rw (append_assoc (comma_tokens expr_tokens items) ts rest, append_assoc (expr_tokens items.first)) (not_distinct items.first _)

@@ -85,6 +85,7 @@ no_query = record {
     by function.Avg ts = refl
     by function.Min ts = refl
     by function.Max ts = refl
+
     signs : (s : Sign) (ts : Tokens) → sees_query (sign_token s ∷ ts) ≡ false
     signs Plus ts = refl
     signs Minus ts = refl
