@@ -4,6 +4,7 @@
 //! Here are only the types that both the definitions and the parser speak of.
 #![tactic(auto)]
 
+pub mod laws;
 mod mixed;
 mod type_word;
 mod verb;
