@@ -16,6 +16,7 @@ pub mod OneTree
 pub mod Places
 pub mod QuerySound
 pub mod QueryTakes
+pub mod Refused
 pub mod SchemaSound
 pub mod SchemaTakes
 pub mod ScriptSound
@@ -28,3 +29,4 @@ pub mod StatementTakes
 pub mod TableTakes
 pub mod TailTakes
 pub mod Takes
+pub mod TextTakes

@@ -3,7 +3,7 @@
 ghost use Rattle.std.specs.Prelude.{◌≡◌, ◌+◌, ◌≤◌, length, nat_eq};
 ghost use Rattle.sq_lex.specs.Token.{lexemes};
 ghost use Rattle.sq_grammar.specs.Brackets as spec;
-ghost use Rattle.sq_parse.specs.Refusal.{IsRefusal};
+ghost use Rattle.sq_parse.specs.Refusal as refusals;
 
 use crate::reader::Reader;
 use crate::stop::Stop;
@@ -58,7 +58,7 @@ fn is_too_deep(tokens: &[Token], place: usize) -> bool
 
 /// The refusal at a stop.
 pub fn refusal(tokens: &[Token], stop: Stop) -> ParseError
-    ensures { IsRefusal (lexemes tokens.now) result }
+    ensures { result ≡ refusals.refusal (lexemes tokens.now) stop }
 {
     let Stop::Unfit(left) = stop else {
         return ParseError::NoMemory;

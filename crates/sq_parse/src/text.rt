@@ -5,7 +5,7 @@ ghost use Rattle.sq_lex.specs.Token.{lexemes};
 ghost use Rattle.sq_tree.specs.Module.{module_tokens, module_depth};
 ghost use Rattle.sq_tree.specs.Schema.{schema_tokens, schema_depth};
 ghost use Rattle.sq_tree.specs.Script.{script_tokens, script_depth};
-ghost use Rattle.sq_parse.specs.Refusal.{IsRefusal};
+ghost use Rattle.sq_parse.specs.Refusal.{HasNoTree, IsRefusal};
 
 use crate::error::{MAX_DEPTH, ParseError, refusal};
 use crate::module::whole_module;
@@ -21,6 +21,7 @@ pub fn parse_script(alloc: Global, tokens: &[Token]) -> Result<ScriptText, Parse
     ensures spelled { IfOk result (λ tree. lexemes tokens.now ≡ script_tokens tree) }
     ensures shallow { IfOk result (λ tree. script_depth tree ≤ 32) }
     ensures refused { IfErr result (IsRefusal (lexemes tokens.now)) }
+    ensures no_tree { IfErr result (HasNoTree script_tokens script_depth (lexemes tokens.now)) }
 {
     match script_text(alloc, &mut Reader::new(tokens)) {
         Ok(tree) => Ok(tree),
@@ -33,6 +34,7 @@ pub fn parse_module(alloc: Global, tokens: &[Token]) -> Result<ModuleText, Parse
     ensures spelled { IfOk result (λ tree. lexemes tokens.now ≡ module_tokens tree) }
     ensures shallow { IfOk result (λ tree. module_depth tree ≤ 32) }
     ensures refused { IfErr result (IsRefusal (lexemes tokens.now)) }
+    ensures no_tree { IfErr result (HasNoTree module_tokens module_depth (lexemes tokens.now)) }
 {
     match whole_module(alloc, &mut Reader::new(tokens), MAX_DEPTH) {
         Ok(tree) => Ok(tree),
@@ -45,6 +47,7 @@ pub fn parse_schema(alloc: Global, tokens: &[Token]) -> Result<SchemaText, Parse
     ensures spelled { IfOk result (λ tree. lexemes tokens.now ≡ schema_tokens tree) }
     ensures shallow { IfOk result (λ tree. schema_depth tree ≤ 32) }
     ensures refused { IfErr result (IsRefusal (lexemes tokens.now)) }
+    ensures no_tree { IfErr result (HasNoTree schema_tokens schema_depth (lexemes tokens.now)) }
 {
     match whole_schema(alloc, &mut Reader::new(tokens), MAX_DEPTH, MAX_DEPTH - 1) {
         Ok(tree) => Ok(tree),

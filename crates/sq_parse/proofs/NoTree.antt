@@ -1,0 +1,37 @@
+-- A text that is refused has no tree of the grammar that is at most 32 brackets deep.
+use Rattle.std.proofs.Common.{◌≡◌, ℕ, ◌-◌, ◌<◌, ◌≤◌, Bool, true, false, cond, [], length, Err, nat_lt, refl, sym, ◌∙◌, subst, arith}
+use Rattle.std.proofs.lemmas.Bool.{ltb-true, ltb-false}
+use Rattle.sq_grammar.specs.Reading.{Tokens, Parser, whole}
+use Rattle.sq_grammar.specs.Brackets.{is_too_deep}
+use Rattle.sq_grammar.proofs.Takes.{Takes}
+use Rattle.sq_grammar.proofs.Refused.{refused_deep}
+use Rattle.sq_parse.specs.declared.error.ParseError.{ParseError}
+use Rattle.sq_parse.specs.declared.error.ParseError.TheVariants.{NoMemory, Unexpected, TooDeep, EndOfText}
+use Rattle.sq_parse.specs.declared.stop.Stop.{Stop}
+use Rattle.sq_parse.specs.declared.stop.Stop.TheVariants as stop
+use Rattle.sq_parse.specs.Reads.{Stops}
+use Rattle.sq_parse.specs.Refusal.{IsRefusal, HasNoTree, refusal_at, refusal}
+
+-- what the refusal says of the tokens
+pub is_refusal : (ts : Tokens) (s : Stop) → IsRefusal ts (refusal ts s)
+is_refusal ts stop.NoMemory = tt
+is_refusal ts (stop.Unfit left) = by (nat_lt (length ts - left) (length ts)) (is_too_deep ts (length ts - left)) refl refl
+  where
+    by : (inside deep : Bool) → nat_lt (length ts - left) (length ts) ≡ inside → is_too_deep ts (length ts - left) ≡ deep → IsRefusal ts (cond inside (cond deep (TooDeep (length ts - left)) (Unexpected (length ts - left))) EndOfText)
+    by true true i d = d
+    by true false i d = (ltb-true _ _ i, d)
+    by false deep i d = tt
+
+-- what it says of the trees, each of which the parser takes, but for its depth
+pub no_tree : {T : Type 0} (p : Parser T) (tokens_of : T → Tokens) (depth_of : T → ℕ) → ((tree : T) → Takes p (tokens_of tree) 0 0 (depth_of tree) 32 tree []) → (ts : Tokens) (s : Stop) → Stops (whole p ts) s → HasNoTree tokens_of depth_of ts (refusal ts s)
+no_tree p tokens_of depth_of takes ts stop.NoMemory stops = tt
+no_tree {T = T} p tokens_of depth_of takes ts (stop.Unfit left) stops = by (nat_lt (length ts - left) (length ts)) (is_too_deep ts (length ts - left)) refl refl
+  where
+    by : (inside deep : Bool) → nat_lt (length ts - left) (length ts) ≡ inside → is_too_deep ts (length ts - left) ≡ deep → HasNoTree tokens_of depth_of ts (cond inside (cond deep (TooDeep (length ts - left)) (Unexpected (length ts - left))) EndOfText)
+    by true true i d = λ tree same. (refused_deep p ts (tokens_of tree) (depth_of tree) tree left (takes tree) same stops).deeper
+    by true false i d = λ tree same. let r = refused_deep p ts (tokens_of tree) (depth_of tree) tree left (takes tree) same stops in let t = r.too_deep in cc
+    by false deep i d = λ tree same.
+        let r = refused_deep p ts (tokens_of tree) (depth_of tree) tree left (takes tree) same stops in
+        let h = r.inside in
+        let k = ltb-false _ _ i in
+        absurd (omega arith)
