@@ -11,7 +11,10 @@ pub mod ModuleSound
 pub mod ModuleTakes
 pub mod NamesSound
 pub mod NamesTakes
+pub mod OneCond
 pub mod OneExpr
+pub mod OneName
+pub mod OneQuery
 pub mod OneTree
 pub mod Places
 pub mod QuerySound
