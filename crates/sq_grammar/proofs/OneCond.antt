@@ -1,6 +1,5 @@
 -- Two search conditions with one list of tokens are one, and so for their parts and for query specifications.
-use Rattle.std.proofs.Common.{◌≡◌, ℕ, ◌≤◌, max, List, [], ◌∷◌, ◌++◌, Option, Some, arith, refl}
-use Rattle.sq_lex.specs.declared.lexeme.Lexeme.{Lexeme}
+use Rattle.std.proofs.Common.{◌≡◌, ℕ, max, [], ◌∷◌, Some, arith, refl}
 use Rattle.sq_tree.specs.declared.cond.Comparison.{Comparison}
 use Rattle.sq_tree.specs.declared.cond.Quantifier.{Quantifier}
 use Rattle.sq_tree.specs.declared.cond.Correlation.{Correlation}
@@ -14,7 +13,6 @@ use Rattle.sq_tree.specs.declared.cond.Tail.{Tail}
 use Rattle.sq_tree.specs.declared.cond.TableExpression.{TableExpression}
 use Rattle.sq_tree.specs.declared.cond.QuerySpecification.{QuerySpecification}
 use Rattle.sq_tree.specs.Cond.{comparison_token, compared_token, correlation_tokens, table_reference_tokens, select_list_tokens, select_list_depth, cond_tokens, cond_depth, conj_tokens, conj_depth, test_tokens, test_depth, body_tokens, body_depth, tail_tokens, tail_depth, table_expression_tokens, table_expression_depth, query_specification_tokens, query_specification_depth}
-use Rattle.sq_grammar.specs.declared.mixed.Mixed.{Mixed}
 use Rattle.sq_grammar.specs.declared.mixed.Mixed.TheVariants.{Whole}
 use Rattle.sq_grammar.specs.Cond.{comparison_of, inside}
 use Rattle.sq_grammar.proofs.Spells.{some_is}
@@ -24,7 +22,7 @@ use Rattle.sq_grammar.proofs.SelectTakes.{correlation_takes, reference_takes}
 use Rattle.sq_grammar.proofs.TailTakes.{comparison_is, compared_takes, tail_takes}
 use Rattle.sq_grammar.proofs.CondTakes.{body_takes, test_takes, conj_takes, inside_takes, cond_takes}
 use Rattle.sq_grammar.proofs.QueryTakes.{select_list_takes, table_expression_takes, specification_takes}
-use Rattle.sq_grammar.proofs.Follows.{EndsTest, EndsConj, EndsCond, EndsTable}
+use Rattle.sq_grammar.proofs.Follows.{EndsTable}
 
 pub one_comparison : (a b : Comparison) → comparison_token a ∷ [] ≡ comparison_token b ∷ [] → a ≡ b
 one_comparison = one_token comparison_of comparison_token comparison_is

@@ -1,6 +1,5 @@
 -- Two value expressions with one list of tokens are one, and so for their parts.
-use Rattle.std.proofs.Common.{◌≡◌, ℕ, max, List, [], ◌∷◌, ◌++◌, Option, Some, arith, refl}
-use Rattle.sq_lex.specs.declared.lexeme.Lexeme.{Lexeme}
+use Rattle.std.proofs.Common.{◌≡◌, ℕ, max, [], ◌∷◌, Some, arith, refl}
 use Rattle.sq_tree.specs.declared.expr.Sign.{Sign}
 use Rattle.sq_tree.specs.declared.expr.TimesSign.{TimesSign}
 use Rattle.sq_tree.specs.declared.expr.SetQuantifier.{SetQuantifier}

@@ -1,5 +1,5 @@
 -- Two names, references or parameters with one list of tokens are one.
-use Rattle.std.proofs.Common.{◌≡◌, ℕ, List, [], ◌∷◌, Option, Some, arith, refl}
+use Rattle.std.proofs.Common.{◌≡◌, Some, arith, refl}
 use Rattle.sq_lex.specs.declared.lexeme.Lexeme.TheVariants as lexeme
 use Rattle.sq_lex.specs.declared.name.Name.{Name}
 use Rattle.sq_tree.specs.declared.names.TableName.{TableName}
