@@ -15,6 +15,7 @@ pub mod OneCond
 pub mod OneExpr
 pub mod OneName
 pub mod OneQuery
+pub mod OneToken
 pub mod OneTree
 pub mod Places
 pub mod QuerySound

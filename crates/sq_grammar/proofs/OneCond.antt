@@ -16,7 +16,8 @@ use Rattle.sq_tree.specs.Cond.{comparison_token, compared_token, correlation_tok
 use Rattle.sq_grammar.specs.declared.mixed.Mixed.TheVariants.{Whole}
 use Rattle.sq_grammar.specs.Cond.{comparison_of, inside}
 use Rattle.sq_grammar.proofs.Spells.{some_is}
-use Rattle.sq_grammar.proofs.OneTree.{one_tree, one_token}
+use Rattle.sq_grammar.proofs.OneTree.{one_tree}
+use Rattle.sq_grammar.proofs.OneToken.{one_token}
 use Rattle.sq_grammar.proofs.OneExpr.{end_of_expr}
 use Rattle.sq_grammar.proofs.SelectTakes.{correlation_takes, reference_takes}
 use Rattle.sq_grammar.proofs.TailTakes.{comparison_is, compared_takes, tail_takes}
@@ -28,10 +29,10 @@ pub one_comparison : (a b : Comparison) → comparison_token a ∷ [] ≡ compar
 one_comparison = one_token comparison_of comparison_token comparison_is
 
 pub one_quantifier : (a b : Quantifier) → compared_token a ∷ [] ≡ compared_token b ∷ [] → a ≡ b
-one_quantifier a b same = some_is a b (one_tree (compared_takes (Some a) {a = 0} {left = 0} refl refl refl) (compared_takes (Some b) {a = 0} refl refl refl) (omega arith) (omega arith) same)
+one_quantifier a b same = some_is a b (one_tree (compared_takes (Some a) {a = 0} {left = 0} {rest = []} refl refl refl) (compared_takes (Some b) {a = 0} {rest = []} refl refl refl) (omega arith) (omega arith) same)
 
 pub one_correlation : (a b : Correlation) → correlation_tokens a ≡ correlation_tokens b → a ≡ b
-one_correlation a b same = some_is a b (one_tree (correlation_takes (Some a) {a = 0} {left = 0} refl refl) (correlation_takes (Some b) {a = 0} refl refl) (omega arith) (omega arith) same)
+one_correlation a b same = some_is a b (one_tree (correlation_takes (Some a) {a = 0} {left = 0} {rest = []} refl refl) (correlation_takes (Some b) {a = 0} {rest = []} refl refl) (omega arith) (omega arith) same)
 
 pub one_table_reference : (a b : TableReference) → table_reference_tokens a ≡ table_reference_tokens b → a ≡ b
 one_table_reference a b same =

@@ -15,19 +15,20 @@ use Rattle.sq_tree.specs.declared.expr.Expr.{Expr}
 use Rattle.sq_tree.specs.Expr.{sign_token, times_token, quantifier_token, function_token, signed_number_tokens, primary_tokens, primary_depth, factor_tokens, factor_depth, scaled_tokens, scaled_depth, term_tokens, term_depth, added_tokens, added_depth, expr_tokens, expr_depth}
 use Rattle.sq_grammar.specs.Expr.{function_of, inside}
 use Rattle.sq_grammar.proofs.Spells.{some_is}
-use Rattle.sq_grammar.proofs.OneTree.{one_tree, one_token}
+use Rattle.sq_grammar.proofs.OneTree.{one_tree}
+use Rattle.sq_grammar.proofs.OneToken.{one_token}
 use Rattle.sq_grammar.proofs.NamesTakes.{sign_takes, signed_takes}
 use Rattle.sq_grammar.proofs.ExprTakes.{times_takes, quantifier_takes, primary_takes, factor_takes, scaled_each, term_takes, added_each, expr_takes, inside_takes}
 use Rattle.sq_grammar.proofs.Follows.{EndsExpr}
 
 pub one_sign : (a b : Sign) → sign_token a ∷ [] ≡ sign_token b ∷ [] → a ≡ b
-one_sign a b same = some_is a b (one_tree (sign_takes (Some a) {a = 0} {left = 0} refl refl) (sign_takes (Some b) {a = 0} refl refl) (omega arith) (omega arith) same)
+one_sign a b same = some_is a b (one_tree (sign_takes (Some a) {a = 0} {left = 0} {rest = []} refl refl) (sign_takes (Some b) {a = 0} {rest = []} refl refl) (omega arith) (omega arith) same)
 
 pub one_times_sign : (a b : TimesSign) → times_token a ∷ [] ≡ times_token b ∷ [] → a ≡ b
-one_times_sign a b same = some_is a b (one_tree (times_takes a {a = 0} {left = 0}) (times_takes b {a = 0}) (omega arith) (omega arith) same)
+one_times_sign a b same = some_is a b (one_tree (times_takes a {a = 0} {left = 0} {rest = []}) (times_takes b {a = 0} {rest = []}) (omega arith) (omega arith) same)
 
 pub one_set_quantifier : (a b : SetQuantifier) → quantifier_token a ∷ [] ≡ quantifier_token b ∷ [] → a ≡ b
-one_set_quantifier a b same = some_is a b (one_tree (quantifier_takes (Some a) {a = 0} {left = 0} refl refl) (quantifier_takes (Some b) {a = 0} refl refl) (omega arith) (omega arith) same)
+one_set_quantifier a b same = some_is a b (one_tree (quantifier_takes (Some a) {a = 0} {left = 0} {rest = []} refl refl) (quantifier_takes (Some b) {a = 0} {rest = []} refl refl) (omega arith) (omega arith) same)
 
 function_is : (f : SetFunction) → function_of (function_token f) ≡ Some f
 function_is Count = refl
@@ -40,7 +41,7 @@ pub one_set_function : (a b : SetFunction) → function_token a ∷ [] ≡ funct
 one_set_function = one_token function_of function_token function_is
 
 pub one_signed_number : (a b : SignedNumber) → signed_number_tokens a ≡ signed_number_tokens b → a ≡ b
-one_signed_number a b same = one_tree (signed_takes a {a = 0} {left = 0}) (signed_takes b {a = 0}) (omega arith) (omega arith) same
+one_signed_number a b same = one_tree (signed_takes a {a = 0} {left = 0} {rest = []}) (signed_takes b {a = 0} {rest = []}) (omega arith) (omega arith) same
 
 pub end_of_expr : EndsExpr []
 end_of_expr = record { term = record { factor = record { dot = refl; colon = refl; indicator = refl }; star = refl; slash = refl }; plus = refl; minus = refl }
