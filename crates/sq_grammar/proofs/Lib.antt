@@ -28,3 +28,4 @@ pub mod StatementTakes
 pub mod TableTakes
 pub mod TailTakes
 pub mod Takes
+pub mod TextTakes
