@@ -12,7 +12,12 @@ pub mod ModuleTakes
 pub mod NamesSound
 pub mod NamesTakes
 pub mod OneExpr
+pub mod OneModule
+pub mod OneSchema
+pub mod OneScript
+pub mod OneStatement
 pub mod OneTree
+pub mod OneType
 pub mod Places
 pub mod QuerySound
 pub mod QueryTakes
