@@ -13,10 +13,15 @@ pub mod NamesSound
 pub mod NamesTakes
 pub mod OneCond
 pub mod OneExpr
+pub mod OneModule
 pub mod OneName
 pub mod OneQuery
+pub mod OneSchema
+pub mod OneScript
+pub mod OneStatement
 pub mod OneToken
 pub mod OneTree
+pub mod OneType
 pub mod Places
 pub mod QuerySound
 pub mod QueryTakes
@@ -32,3 +37,4 @@ pub mod StatementTakes
 pub mod TableTakes
 pub mod TailTakes
 pub mod Takes
+pub mod TextTakes
