@@ -207,10 +207,10 @@ module _ (left : ℕ) (inner : Parser (Mixed Cond))
       (uneaten (lexeme.Word word.Exists) _ refl (seeing (sees (lexeme.Symbol symbol.Open)) _ _ refl
       (openly _ (omega arith) (λ room. fits (λ h. omega arith) (λ h. omega arith) (andthen inner _ (Whole c) (whole_takes room c _ (close_ends_cond rest)) (expected closing _ done))))))
 
-  body_takes : (b : Body) (rest : Tokens) → EndsTest rest → Takes (body left inner) (body_tokens b) 0 0 (body_depth b) left (Whole b) rest
+  pub body_takes : (b : Body) (rest : Tokens) → EndsTest rest → Takes (body left inner) (body_tokens b) 0 0 (body_depth b) left (Whole b) rest
   body_takes b rest ends = body_cases (λ x. Takes (body left inner) (body_tokens x) 0 0 (body_depth x) left (Whole x) rest) (λ e t. predicate_takes e t rest ends) (λ q. exists_takes q rest) (λ c. bracketed_takes c rest) b
 
-  test_takes : (t : Test) (rest : Tokens) → EndsTest rest → Takes (test left inner) (test_tokens t) 0 0 (test_depth t) left (Whole t) rest
+  pub test_takes : (t : Test) (rest : Tokens) → EndsTest rest → Takes (test left inner) (test_tokens t) 0 0 (test_depth t) left (Whole t) rest
   unfolding test
   test_takes t rest ends = rw (law.test_tokens-out t, law.test_depth-out t) (either (word word.Not) t.negated _ (body_starts word.Not (foreign word.Not refl refl refl refl refl refl) refl t.body rest) (mapped (body left inner) _ (Whole t.body) (body_takes t.body rest ends) (by t.negated t.body)))
     where
@@ -231,7 +231,7 @@ module _ (left : ℕ) (inner : Parser (Mixed Cond))
   and_long : (t : Test) → 0 < length (and_test t)
   and_long t = omega arith
 
-  conj_takes : (c : Conj) (rest : Tokens) → EndsConj rest → Takes (conj left inner) (conj_tokens c) 0 0 (conj_depth c) left (Whole c) rest
+  pub conj_takes : (c : Conj) (rest : Tokens) → EndsConj rest → Takes (conj left inner) (conj_tokens c) 0 0 (conj_depth c) left (Whole c) rest
   unfolding conj
   conj_takes c rest ends =
       let first : Test = (out-Conj c).first in
@@ -268,11 +268,11 @@ module _ (left : ℕ) (inner : Parser (Mixed Cond))
   level_bare e rest ends = mapped (conj left inner) _ (Bare e) (conj_bare e rest ends) refl
 
 -- behind a bracket that is one of `left`
-record Inside (left : ℕ) : Type 0 where
-  whole : 0 < left → (c : Cond) (rest : Tokens) → EndsCond rest → Takes (inside left) (cond_tokens c) 1 1 (suc (cond_depth c)) left (Whole c) rest
-  bare : 0 < left → (e : Expr) (rest : Tokens) → EndsBare rest → Takes (inside left) (expr_tokens e) 1 1 (suc (expr_depth e)) left (Bare e) rest
+pub record Inside (left : ℕ) : Type 0 where
+  pub whole : 0 < left → (c : Cond) (rest : Tokens) → EndsCond rest → Takes (inside left) (cond_tokens c) 1 1 (suc (cond_depth c)) left (Whole c) rest
+  pub bare : 0 < left → (e : Expr) (rest : Tokens) → EndsBare rest → Takes (inside left) (expr_tokens e) 1 1 (suc (expr_depth e)) left (Bare e) rest
 
-inside_takes : (left : ℕ) → Inside left
+pub inside_takes : (left : ℕ) → Inside left
 unfolding inside
 inside_takes zero = record { whole = λ room c rest ends. absurd (omega arith); bare = λ room e rest ends. absurd (omega arith) }
 inside_takes (suc left) =

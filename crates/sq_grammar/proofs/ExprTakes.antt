@@ -40,7 +40,7 @@ use Rattle.sq_grammar.proofs.NamesTakes.{a_dot, a_colon, column_cases, column_1,
 use Rattle.sq_grammar.proofs.Follows.{EndsFactor, EndsTerm, EndsExpr}
 
 -- "*" | "/"
-times_takes : (s : TimesSign) {a left : ℕ} {rest : Tokens} → Takes times_if_any (times_token s ∷ []) a a 0 left (Some s) rest
+pub times_takes : (s : TimesSign) {a left : ℕ} {rest : Tokens} → Takes times_if_any (times_token s ∷ []) a a 0 left (Some s) rest
 times_takes Times = eaten (mark symbol.Star (λ n. refl)) _ done
 times_takes Over = uneaten (lexeme.Symbol symbol.Star) _ refl (eaten (mark symbol.Slash (λ n. refl)) _ done)
 
@@ -256,7 +256,7 @@ module _ (left : ℕ) (inner : Parser Expr) (inner_takes : 0 < left → (e : Exp
       (plainly sign_if_any _ f.sign (sign_takes f.sign (primary_starts _ primary_no_plus f.primary rest) (primary_starts _ primary_no_minus f.primary rest)) (mapped (primary_at left inner) _ f.primary (primary_takes f.primary rest ends) refl))
 
   -- ( "*" | "/" ) factor
-  scaled_each : (s : Scaled) (rest : Tokens) → EndsFactor rest → Takes (scaled left inner) (scaled_tokens s) 0 0 (scaled_depth s) left (Some s) rest
+  pub scaled_each : (s : Scaled) (rest : Tokens) → EndsFactor rest → Takes (scaled left inner) (scaled_tokens s) 0 0 (scaled_depth s) left (Some s) rest
   unfolding scaled
   scaled_each s rest ends = rw (law.scaled_tokens-out s, law.scaled_depth-out s) (plainly times_if_any _ (Some s.sign) {tx = times_token s.sign ∷ []} (times_takes s.sign) (mapped (factor left inner) _ s.factor (factor_takes s.factor rest ends) refl))
 
@@ -286,7 +286,7 @@ module _ (left : ℕ) (inner : Parser Expr) (inner_takes : 0 < left → (e : Exp
       rw (law.term_tokens-out t, law.term_depth-out t) (andthen (factor left inner) _ first (factor_takes first _ (behind_scaled others rest ends.factor)) (mapped (all (scaled left inner)) _ others (all_scaled others rest ends) (ap pure (roll-out-Term t))))
 
   -- ( "+" | "-" ) term
-  added_each : (s : Added) (rest : Tokens) → EndsTerm rest → Takes (added left inner) (added_tokens s) 0 0 (added_depth s) left (Some s) rest
+  pub added_each : (s : Added) (rest : Tokens) → EndsTerm rest → Takes (added left inner) (added_tokens s) 0 0 (added_depth s) left (Some s) rest
   unfolding added
   added_each s rest ends =
       let sign : Sign = (out-Added s).sign in

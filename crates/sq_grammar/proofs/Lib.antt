@@ -11,8 +11,17 @@ pub mod ModuleSound
 pub mod ModuleTakes
 pub mod NamesSound
 pub mod NamesTakes
+pub mod OneCond
 pub mod OneExpr
+pub mod OneModule
+pub mod OneName
+pub mod OneQuery
+pub mod OneSchema
+pub mod OneScript
+pub mod OneStatement
+pub mod OneToken
 pub mod OneTree
+pub mod OneType
 pub mod Places
 pub mod QuerySound
 pub mod QueryTakes

@@ -129,7 +129,7 @@ unfolding sort_key
 sort_key_takes (Column n) = unmet number_of by_number refl (named n _ done)
 sort_key_takes (Position n) = met number_of (lexeme.Number n) n refl (λ k. refl) by_number done
 
-direction_takes : (d : Option SortDirection) {a left : ℕ} {rest : Tokens} → EndsSort rest → Takes direction_if_any (optional tree.direction_tokens d) a a 0 left d rest
+pub direction_takes : (d : Option SortDirection) {a left : ℕ} {rest : Tokens} → EndsSort rest → Takes direction_if_any (optional tree.direction_tokens d) a a 0 left d rest
 direction_takes None ends = uneaten (lexeme.Word word.Asc) _ ends.asc (uneaten (lexeme.Word word.Desc) _ ends.desc done)
 direction_takes (Some Asc) ends = eaten (word word.Asc) _ done
 direction_takes (Some Desc) ends = uneaten (lexeme.Word word.Asc) _ refl (eaten (word word.Desc) _ done)

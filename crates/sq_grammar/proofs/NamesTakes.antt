@@ -88,7 +88,7 @@ column_takes c {a = a} {left = left} {rest = rest} none = column_cases (λ d. Ta
 -- ---- parameters
 
 -- [ [ INDICATOR ] ":" name ]
-indicator_takes : (i : Option Indicator) {a left : ℕ} {rest : Tokens} → sees (lexeme.Word word.Indicator) rest ≡ false → sees (lexeme.Symbol symbol.Colon) rest ≡ false → Takes indicator (optional indicator_tokens i) a a 0 left i rest
+pub indicator_takes : (i : Option Indicator) {a left : ℕ} {rest : Tokens} → sees (lexeme.Word word.Indicator) rest ≡ false → sees (lexeme.Symbol symbol.Colon) rest ≡ false → Takes indicator (optional indicator_tokens i) a a 0 left i rest
 unfolding indicator
 indicator_takes None no_word no_colon = uneaten (lexeme.Word word.Indicator) _ no_word (uneaten (lexeme.Symbol symbol.Colon) _ no_colon done)
 indicator_takes (Some i) {a = a} {left = left} {rest = rest} no_word no_colon = by i.word i.name

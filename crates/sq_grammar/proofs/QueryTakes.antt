@@ -51,7 +51,7 @@ select_list_takes left l rest ends no_comma = fits (λ h. omega arith) (λ h. om
 
 module _ (left : ℕ) (inner : Parser Query)
     (inner_takes : 0 < left → (q : Query) (rest : Tokens) → EndsQuery rest → Takes inner (query_tokens q) 1 1 (suc (query_depth q)) left q rest) where
-  term_takes : (t : QueryTerm) (rest : Tokens) → EndsTable rest → Takes (query_term left inner) (query_term_tokens t) 0 0 (query_term_depth t) left t rest
+  pub term_takes : (t : QueryTerm) (rest : Tokens) → EndsTable rest → Takes (query_term left inner) (query_term_tokens t) 0 0 (query_term_depth t) left t rest
   unfolding query_term spec.bracketed_term spec.bracketed
   term_takes t rest ends = law.query_term_cases (λ u. Takes (query_term left inner) (query_term_tokens u) 0 0 (query_term_depth u) left u rest)
       (λ s. rw (law.query_term_tokens-Specification s, law.query_term_depth-Specification s) (unseeing (sees (lexeme.Symbol symbol.Open)) _ _ (rw (specifications.query_specification_tokens-out s) refl) (mapped (query_specification left) _ s (specification_takes left s rest ends) refl)))
@@ -68,7 +68,7 @@ module _ (left : ℕ) (inner : Parser Query)
   unfolding union_term
   union_takes u rest ends = either (word word.All) u.all _ (lacks_all u.term rest) (mapped (query_term left inner) _ u.term (term_takes u.term rest ends) refl)
 
-  union_each : (u : UnionTerm) (rest : Tokens) → EndsTable rest → Takes (behind (lexeme.Word word.Union) (union_term left inner)) (union_term_tokens u) 0 0 (union_term_depth u) left (Some u) rest
+  pub union_each : (u : UnionTerm) (rest : Tokens) → EndsTable rest → Takes (behind (lexeme.Word word.Union) (union_term left inner)) (union_term_tokens u) 0 0 (union_term_depth u) left (Some u) rest
   union_each u rest ends = rw (law.union_term_tokens-out u, law.union_term_depth-out u) (behind_it (word word.Union) (union_term left inner) (union_takes u rest ends))
 
   union_starts : (u : UnionTerm) (rest : Tokens) → EndsTable (union_term_tokens u ++ rest)
@@ -94,7 +94,7 @@ module _ (left : ℕ) (inner : Parser Query)
       rw (law.query_tokens-out q, law.query_depth-out q) (andthen (query_term left inner) _ first (term_takes first _ (follows item union_term_tokens union_term_depth 0 left EndsTable union_each union_starts union_long others rest ends.table))
       (mapped (all item) _ others (rows item union_term_tokens union_term_depth 0 left EndsTable union_each union_starts union_long others rest ends.table (none_behind (lexeme.Word word.Union) (union_term left inner) rest ends.union)) (ap pure (roll-out-Query q))))
 
-inside_takes : (left : ℕ) (q : Query) (rest : Tokens) → 0 < left → EndsQuery rest → Takes (inside left) (query_tokens q) 1 1 (suc (query_depth q)) left q rest
+pub inside_takes : (left : ℕ) (q : Query) (rest : Tokens) → 0 < left → EndsQuery rest → Takes (inside left) (query_tokens q) 1 1 (suc (query_depth q)) left q rest
 unfolding inside
 inside_takes zero q rest room ends = absurd (omega arith)
 inside_takes (suc left) q rest room ends = lifted (level_takes left (inside left) (λ h x r f. inside_takes left x r h f) q rest ends)

@@ -35,7 +35,7 @@ use Rattle.sq_grammar.proofs.ExprTakes.{quantifier_takes, not_all, not_distinct,
 use Rattle.sq_grammar.proofs.Follows.{EndsExpr, EndsCond, EndsTable}
 
 -- [ [ AS ] name ]
-correlation_takes : (c : Option Correlation) {a left : ℕ} {rest : Tokens} → sees (lexeme.Word word.As) rest ≡ false → first_of name_of rest ≡ None → Takes correlation (optional correlation_tokens c) a a 0 left c rest
+pub correlation_takes : (c : Option Correlation) {a left : ℕ} {rest : Tokens} → sees (lexeme.Word word.As) rest ≡ false → first_of name_of rest ≡ None → Takes correlation (optional correlation_tokens c) a a 0 left c rest
 unfolding correlation
 correlation_takes None no_word no_name = uneaten (lexeme.Word word.As) _ no_word (unmet name_of _ no_name done)
 correlation_takes (Some c) {a = a} {left = left} {rest = rest} no_word no_name = by c.as_word c.name
@@ -45,16 +45,16 @@ correlation_takes (Some c) {a = a} {left = left} {rest = rest} no_word no_name =
     by false n = uneaten (lexeme.Word word.As) _ refl (met name_of (lexeme.Name n) n refl (λ k. refl) _ done)
 
 -- what may not follow a table reference, and a FROM clause
-record EndsReference (rest : Tokens) : Type 0 where
-  dot : sees (lexeme.Symbol symbol.Dot) rest ≡ false
-  as_word : sees (lexeme.Word word.As) rest ≡ false
-  name : first_of name_of rest ≡ None
+pub record EndsReference (rest : Tokens) : Type 0 where
+  pub dot : sees (lexeme.Symbol symbol.Dot) rest ≡ false
+  pub as_word : sees (lexeme.Word word.As) rest ≡ false
+  pub name : first_of name_of rest ≡ None
 
 record EndsFrom (rest : Tokens) : Type 0 where
   reference : EndsReference rest
   comma : sees (lexeme.Symbol symbol.Comma) rest ≡ false
 
-reference_takes : (t : TableReference) {a left : ℕ} (rest : Tokens) → EndsReference rest → Takes table_reference (table_reference_tokens t) a a 0 left t rest
+pub reference_takes : (t : TableReference) {a left : ℕ} (rest : Tokens) → EndsReference rest → Takes table_reference (table_reference_tokens t) a a 0 left t rest
 unfolding table_reference
 reference_takes t rest ends = plainly table_name _ t.table (table_takes t.table (no_dot t.correlation)) (mapped correlation _ t.correlation (correlation_takes t.correlation ends.as_word ends.name) refl)
   where

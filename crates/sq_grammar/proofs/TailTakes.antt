@@ -37,7 +37,7 @@ use Rattle.sq_grammar.proofs.ExprTakes.{Starts, StartsPrimary, expr_starts, fore
 use Rattle.sq_grammar.proofs.SelectTakes.{specification_takes_a, comma_ends, before_last}
 use Rattle.sq_grammar.proofs.Follows.{EndsExpr, EndsBare, EndsTest, EndsCond, EndsTable}
 
-comparison_is : (c : Comparison) → comparison_of (comparison_token c) ≡ Some c
+pub comparison_is : (c : Comparison) → comparison_of (comparison_token c) ≡ Some c
 comparison_is comparison.Equal = refl
 comparison_is comparison.NotEqual = refl
 comparison_is comparison.Less = refl
@@ -54,7 +54,7 @@ comparison_still comparison.LessOrEqual n = refl
 comparison_still comparison.GreaterOrEqual n = refl
 
 -- [ ALL | ANY | SOME ]
-compared_takes : (q : Option Quantifier) {a left : ℕ} {rest : Tokens} → sees (lexeme.Word word.All) rest ≡ false → sees (lexeme.Word word.Any) rest ≡ false → sees (lexeme.Word word.Some) rest ≡ false → Takes compared_if_any (optional compared_tokens q) a a 0 left q rest
+pub compared_takes : (q : Option Quantifier) {a left : ℕ} {rest : Tokens} → sees (lexeme.Word word.All) rest ≡ false → sees (lexeme.Word word.Any) rest ≡ false → sees (lexeme.Word word.Some) rest ≡ false → Takes compared_if_any (optional compared_tokens q) a a 0 left q rest
 compared_takes None no_all no_any no_some = uneaten (lexeme.Word word.All) _ no_all (uneaten (lexeme.Word word.Any) _ no_any (uneaten (lexeme.Word word.Some) _ no_some done))
 compared_takes (Some quantifier.All) no_all no_any no_some = eaten (word word.All) _ done
 compared_takes (Some quantifier.Any) no_all no_any no_some = uneaten (lexeme.Word word.All) _ refl (eaten (word word.Any) _ done)

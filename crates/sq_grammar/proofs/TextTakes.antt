@@ -1,5 +1,5 @@
 -- The tokens of a statement and of a whole text are read as it: the laws of the parts, put together.
-use Rattle.std.proofs.Common.{◌≡◌, ℕ, zero, suc, ◌≤◌, ◌<◌, false, [], ◌∷◌, ◌++◌, arith}
+use Rattle.std.proofs.Common.{◌≡◌, ℕ, zero, suc, ◌≤◌, ◌<◌, false, [], ◌∷◌, ◌++◌, refl}
 use Rattle.sq_lex.specs.declared.lexeme.Lexeme.TheVariants as lexeme
 use Rattle.sq_lex.specs.declared.symbol.Symbol.TheVariants as symbol
 use Rattle.sq_lex.specs.declared.word.Word.TheVariants as word
@@ -20,6 +20,7 @@ use Rattle.sq_grammar.specs.Module.{module_text}
 use Rattle.sq_grammar.specs.Schema.{schema_text}
 use Rattle.sq_grammar.specs.Script.{script_text}
 use Rattle.sq_grammar.proofs.Takes.{Takes}
+use Rattle.sq_grammar.proofs.Follows.{EndsQuery}
 use Rattle.sq_grammar.proofs.DataTypeTakes.{flat_type_takes}
 use Rattle.sq_grammar.proofs.CondTakes.{cond_takes, inner_cond_takes}
 use Rattle.sq_grammar.proofs.QueryTakes.{specification_takes, table_expression_takes, select_list_takes, query_takes}
@@ -27,6 +28,21 @@ use Rattle.sq_grammar.proofs.StatementTakes.{statement_takes}
 use Rattle.sq_grammar.proofs.ModuleTakes.{module_takes}
 use Rattle.sq_grammar.proofs.SchemaTakes.{schema_takes}
 use Rattle.sq_grammar.proofs.ScriptTakes.{script_takes}
+
+-- nothing follows
+pub end_of_query : EndsQuery []
+end_of_query = record {
+  table = record {
+    cond = record { conj = record { test = record { expr = record { term = record { factor = record { dot = refl; colon = refl; indicator = refl }; star = refl; slash = refl }; plus = refl; minus = refl }; escape = refl }; and = refl }; or = refl };
+    comma = refl;
+    as_word = refl;
+    name = refl;
+    where_word = refl;
+    group = refl;
+    having = refl;
+  };
+  union = refl;
+}
 
 -- a data type, in the form that the laws of tables ask for
 pub type_taken : (t : DataType) (a left : ℕ) (rest : Tokens) → sees (lexeme.Symbol symbol.Open) rest ≡ false → sees (lexeme.Word word.Varying) rest ≡ false → Takes data_type (data_type_tokens t) a a 0 left t rest
