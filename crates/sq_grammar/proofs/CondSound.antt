@@ -1,6 +1,5 @@
 -- Search conditions are spelled by what was read.
-use Rattle.std.proofs.Common.{◌≡◌, ℕ, zero, suc, ◌+◌, ◌-◌, ◌<◌, ◌≤◌, max, Bool, true, false, List, [], ◌∷◌, ◌++◌, map, Option, Some, None, Ok, refl, sym, ◌∙◌, ap, arith, append_assoc, append-nil}
-use Rattle.std.specs.List.{flat_map}
+use Rattle.std.proofs.Common.{◌≡◌, ℕ, zero, suc, ◌+◌, ◌-◌, ◌<◌, Bool, true, false, [], ◌∷◌, ◌++◌, Option, Some, None, refl, ◌∙◌, ap, arith, append_assoc}
 use Rattle.sq_lex.specs.declared.lexeme.Lexeme.{Lexeme}
 use Rattle.sq_lex.specs.declared.lexeme.Lexeme.TheVariants as lexeme
 use Rattle.sq_lex.specs.declared.symbol.Symbol.TheVariants as symbol
@@ -16,13 +15,11 @@ use Rattle.sq_tree.specs.declared.cond.Tail.TheVariants as tails
 use Rattle.sq_tree.specs.declared.cond.Body.{Body}
 use Rattle.sq_tree.specs.declared.cond.Body.TheVariants as bodies
 use Rattle.sq_tree.specs.declared.cond.Test.{Test}
-use Rattle.sq_tree.specs.declared.cond.Conj.{Conj, roll-Conj}
+use Rattle.sq_tree.specs.declared.cond.Conj.{roll-Conj}
 use Rattle.sq_tree.specs.declared.cond.Cond.{Cond, roll-Cond}
-use Rattle.sq_tree.specs.declared.cond.QuerySpecification.{QuerySpecification}
-use Rattle.sq_tree.specs.Tree.{Tokens, said, optional, optional_depth, greatest, bracketed}
-use Rattle.sq_tree.specs.List.{comma_tokens, comma_depth}
+use Rattle.sq_tree.specs.Tree.{Tokens, optional, optional_depth, bracketed}
 use Rattle.sq_tree.specs.Expr.{expr_tokens, expr_depth}
-use Rattle.sq_tree.specs.Cond.{comparison_token, compared_tokens, not_tokens, escape_tokens, cond_tokens, cond_depth, conj_tokens, conj_depth, test_tokens, test_depth, body_tokens, body_depth, tail_tokens, tail_depth, query_specification_tokens, query_specification_depth}
+use Rattle.sq_tree.specs.Cond.{comparison_token, compared_tokens, not_tokens, cond_tokens, cond_depth, conj_tokens, conj_depth, test_tokens, test_depth, body_tokens, body_depth, tail_tokens, tail_depth, query_specification_tokens, query_specification_depth}
 use Rattle.sq_tree.proofs.CondLaws as law
 use Rattle.sq_tree.proofs.CondLaws.{and_test, or_conj}
 use Rattle.sq_tree.proofs.ExprLaws as exprs
@@ -31,9 +28,8 @@ use Rattle.sq_grammar.specs.declared.mixed.Mixed.TheVariants.{Whole, Bare}
 use Rattle.sq_grammar.specs.Reading.{Parser, eat, sees, one_if_any, behind, listed, all, pure, ◌>>=◌}
 use Rattle.sq_grammar.specs.Expr as expressions
 use Rattle.sq_grammar.specs.Expr.{expr, expr_from}
-use Rattle.sq_grammar.specs.Select.{specification}
-use Rattle.sq_grammar.specs.Cond.{comparison_of, compared_if_any, sees_query, strict, strictly, null_tail, inner_query, subquery, compared_expr, compared_query, by_compared, comparison_tail, between_tail, in_query, in_list, in_tail, like_tail, by_between, negatable_tail, tail, tailed, predicate_from, bracket, body, tested, test, strict_test, conj, strict_conj, level, inside, cond, query_specification}
-use Rattle.sq_grammar.proofs.Spells.{Sound, After, sound, unsound, built, never, andthen, eats, eaten, expected, openly, maybe, following, either, mixed, mixedly, raised, rows, behinds, lists, one_maybe, some_is, lowered, lifted, finally, eased}
+use Rattle.sq_grammar.specs.Cond.{comparison_of, compared_if_any, sees_query, strict, strictly, null_tail, inner_query, subquery, compared_query, comparison_tail, between_tail, in_tail, like_tail, by_between, negatable_tail, tail, predicate_from, bracket, body, tested, test, strict_test, conj, strict_conj, level, inside, cond, query_specification}
+use Rattle.sq_grammar.proofs.Spells.{Sound, After, sound, unsound, built, never, andthen, eats, eaten, expected, openly, maybe, following, either, mixed, mixedly, raised, rows, behinds, lists, one_maybe, some_is, lowered, lifted, eased}
 use Rattle.sq_grammar.proofs.ExprSound as expr_proof
 use Rattle.sq_grammar.proofs.SelectSound.{specifications}
 

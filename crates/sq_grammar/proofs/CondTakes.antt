@@ -1,26 +1,20 @@
 -- The tokens of a search condition are read as it, and those of an expression, where a condition may begin with one, as that.
-use Rattle.std.proofs.Common.{◌≡◌, ℕ, zero, suc, ◌+◌, ◌<◌, ◌≤◌, max, Bool, true, false, List, [], ◌∷◌, ◌++◌, length, map, Option, Some, None, Ok, refl, sym, ◌∙◌, ap, subst, arith, append_assoc, append-nil}
+use Rattle.std.proofs.Common.{◌≡◌, ℕ, zero, suc, ◌<◌, max, Bool, true, false, List, [], ◌∷◌, ◌++◌, length, map, Option, Some, None, refl, sym, ◌∙◌, ap, subst, arith, append_assoc, append-nil}
 use Rattle.std.specs.List.{flat_map}
-use Rattle.sq_lex.specs.declared.lexeme.Lexeme.{Lexeme}
 use Rattle.sq_lex.specs.declared.lexeme.Lexeme.TheVariants as lexeme
 use Rattle.sq_lex.specs.declared.symbol.Symbol.TheVariants as symbol
 use Rattle.sq_lex.specs.declared.word.Word.{Word}
 use Rattle.sq_lex.specs.declared.word.Word.TheVariants as word
 use Rattle.sq_lex.specs.Word.{same_word}
-use Rattle.sq_lex.specs.declared.name.Name.{Name}
-use Rattle.sq_lex.specs.declared.number.Number.{Number}
 use Rattle.sq_tree.specs.declared.names.ColumnReference.{ColumnReference}
-use Rattle.sq_tree.specs.declared.names.Parameter.{Parameter}
 use Rattle.sq_tree.specs.declared.expr.Sign.{Sign}
 use Rattle.sq_tree.specs.declared.expr.Sign.TheVariants.{Plus, Minus}
 use Rattle.sq_tree.specs.declared.expr.SetFunction.{SetFunction}
 use Rattle.sq_tree.specs.declared.expr.SetFunction.TheVariants as function
-use Rattle.sq_tree.specs.declared.expr.SetQuantifier.{SetQuantifier}
 use Rattle.sq_tree.specs.declared.expr.Primary.{Primary}
 use Rattle.sq_tree.specs.declared.expr.Primary.TheVariants as primary
 use Rattle.sq_tree.specs.declared.expr.Expr.{Expr, out-Expr, roll-Expr, roll-out-Expr}
 use Rattle.sq_tree.specs.declared.expr.Term.{Term, out-Term, roll-Term, roll-out-Term}
-use Rattle.sq_tree.specs.declared.expr.Factor.{Factor}
 use Rattle.sq_tree.specs.declared.expr.Added.{Added}
 use Rattle.sq_tree.specs.declared.expr.Scaled.{Scaled}
 use Rattle.sq_tree.specs.declared.cond.Comparison.{Comparison}
@@ -29,13 +23,13 @@ use Rattle.sq_tree.specs.declared.cond.Body.{Body}
 use Rattle.sq_tree.specs.declared.cond.Body.TheVariants as bodies
 use Rattle.sq_tree.specs.declared.cond.Tail.{Tail}
 use Rattle.sq_tree.specs.declared.cond.Test.{Test}
-use Rattle.sq_tree.specs.declared.cond.Conj.{Conj, out-Conj, roll-Conj, roll-out-Conj}
-use Rattle.sq_tree.specs.declared.cond.Cond.{Cond, out-Cond, roll-Cond, roll-out-Cond}
+use Rattle.sq_tree.specs.declared.cond.Conj.{Conj, out-Conj, roll-out-Conj}
+use Rattle.sq_tree.specs.declared.cond.Cond.{Cond, out-Cond, roll-out-Cond}
 use Rattle.sq_tree.specs.declared.cond.QuerySpecification.{QuerySpecification}
-use Rattle.sq_tree.specs.Tree.{optional, bracketed, greatest, said}
-use Rattle.sq_tree.specs.Names.{parameter_tokens, column_reference_tokens}
-use Rattle.sq_tree.specs.Expr.{sign_token, sign_tokens, function_token, quantifier_tokens, primary_tokens, primary_depth, scaled_tokens, scaled_depth, added_tokens, added_depth, expr_tokens, expr_depth}
-use Rattle.sq_tree.specs.Cond.{comparison_token, not_tokens, cond_tokens, cond_depth, conj_tokens, conj_depth, test_tokens, test_depth, body_tokens, body_depth, tail_tokens, tail_depth, query_specification_tokens, query_specification_depth}
+use Rattle.sq_tree.specs.Tree.{optional, greatest}
+use Rattle.sq_tree.specs.Names.{column_reference_tokens}
+use Rattle.sq_tree.specs.Expr.{sign_tokens, function_token, primary_tokens, primary_depth, scaled_tokens, scaled_depth, added_tokens, added_depth, expr_tokens, expr_depth}
+use Rattle.sq_tree.specs.Cond.{comparison_token, not_tokens, cond_tokens, cond_depth, conj_tokens, conj_depth, test_tokens, test_depth, body_tokens, body_depth, tail_tokens, tail_depth}
 use Rattle.sq_tree.proofs.ExprLaws as exprs
 use Rattle.sq_tree.proofs.ExprLaws.{primary_cases}
 use Rattle.sq_tree.proofs.CondLaws as law
@@ -45,7 +39,7 @@ use Rattle.sq_grammar.specs.declared.mixed.Mixed.TheVariants.{Whole, Bare}
 use Rattle.sq_grammar.specs.Reading.{Tokens, Parser, sees, behind, all, pure}
 use Rattle.sq_grammar.specs.Expr.{expr, expr_from}
 use Rattle.sq_grammar.specs.Cond.{strict, strictly, subquery, tail, predicate_from, bracket, by_open, body, tested, test, strict_test, conj, strict_conj, level, inside, cond}
-use Rattle.sq_grammar.proofs.Takes.{Takes, done, fits, lifted, respelled, andthen, plainly, mapped, word, closing, expected, eaten, uneaten, either, behind_it, openly, seeing, unseeing, rows, follows, none_behind}
+use Rattle.sq_grammar.proofs.Takes.{Takes, done, fits, lifted, respelled, andthen, mapped, word, closing, expected, eaten, uneaten, either, behind_it, openly, seeing, unseeing, rows, follows, none_behind}
 use Rattle.sq_grammar.proofs.NamesTakes.{column_cases}
 use Rattle.sq_grammar.proofs.ExprTakes.{Starts, expr_starts, foreign, expr_takes, expr_from_takes, close_ends}
 use Rattle.sq_grammar.proofs.TailTakes.{subquery_takes, tail_takes, no_tail, close_ends_cond}

@@ -1,21 +1,20 @@
 -- Data types are spelled by what was read.
-use Rattle.std.proofs.Common.{◌≡◌, ℕ, ◌+◌, ◌≤◌, max, Bool, true, false, List, [], ◌∷◌, ◌++◌, Option, Some, None, refl, sym, ap, arith}
+use Rattle.std.proofs.Common.{◌≡◌, ℕ, ◌≤◌, [], ◌∷◌, Some, None, refl, ap, arith}
 use Rattle.sq_lex.specs.declared.lexeme.Lexeme.{Lexeme}
 use Rattle.sq_lex.specs.declared.lexeme.Lexeme.TheVariants as lexeme
 use Rattle.sq_lex.specs.declared.symbol.Symbol.TheVariants as symbol
 use Rattle.sq_lex.specs.declared.word.Word.TheVariants as word
-use Rattle.sq_lex.specs.declared.number.Number.{Number}
 use Rattle.sq_tree.specs.declared.data_type.DataType.TheVariants.{Smallint, Integer, Int, Exact, Character, Varying}
 use Rattle.sq_tree.specs.declared.data_type.ExactWord.TheVariants.{Numeric, Decimal, Dec}
 use Rattle.sq_tree.specs.declared.data_type.CharacterWord.{CharacterWord}
 use Rattle.sq_tree.specs.declared.data_type.CharacterWord.TheVariants as fixed
 use Rattle.sq_tree.specs.declared.data_type.VaryingWord.TheVariants.{Varchar}
-use Rattle.sq_tree.specs.Tree.{Tokens, optional}
-use Rattle.sq_tree.specs.DataType.{precision_tokens, scale_tokens, length_tokens, exact_word_tokens, character_word_tokens, varying_word_tokens, data_type_tokens, data_type_depth, bracket_depth}
+use Rattle.sq_tree.specs.Tree.{optional}
+use Rattle.sq_tree.specs.DataType.{precision_tokens, length_tokens, character_word_tokens, data_type_tokens, data_type_depth, bracket_depth}
 use Rattle.sq_grammar.specs.declared.type_word.TypeWord.{TypeWord}
 use Rattle.sq_grammar.specs.declared.type_word.TypeWord.TheVariants as first
-use Rattle.sq_grammar.specs.Reading.{Parser, one_if_any, number, behind, comma}
-use Rattle.sq_grammar.specs.DataType.{precision_from, precision, length_from, length_in, length_if_any, varying_of, by_varying, character_type, type_word_of, type_by, data_type}
+use Rattle.sq_grammar.specs.Reading.{one_if_any, number, behind, comma}
+use Rattle.sq_grammar.specs.DataType.{precision_from, precision, length_from, length_in, length_if_any, varying_of, character_type, type_word_of, type_by, data_type}
 use Rattle.sq_grammar.proofs.Spells.{Sound, After, sound, built, never, andthen, eaten, expected, maybe, following, numbers, behinds, one_maybe, some_is}
 
 precision_behind : (left : ℕ) → 1 ≤ left → After (lexeme.Symbol symbol.Open ∷ []) 0 left precision_from precision_tokens (λ _. 1)

@@ -1,5 +1,5 @@
 -- Value expressions are spelled by what was read.
-use Rattle.std.proofs.Common.{◌≡◌, ℕ, zero, suc, ◌+◌, ◌≤◌, max, Bool, true, false, List, [], ◌∷◌, ◌++◌, map, Option, Some, None, Ok, refl, sym, ◌∙◌, ap, arith, append_assoc, append-nil}
+use Rattle.std.proofs.Common.{◌≡◌, ℕ, zero, suc, ◌+◌, max, false, List, [], ◌∷◌, ◌++◌, map, Some, None, refl, ◌∙◌, ap, arith}
 use Rattle.std.specs.List.{flat_map}
 use Rattle.sq_lex.specs.declared.lexeme.Lexeme.{Lexeme}
 use Rattle.sq_lex.specs.declared.lexeme.Lexeme.TheVariants as lexeme
@@ -15,15 +15,13 @@ use Rattle.sq_tree.specs.declared.expr.Expr.{Expr, roll-Expr}
 use Rattle.sq_tree.specs.declared.expr.Term.{roll-Term}
 use Rattle.sq_tree.specs.declared.expr.Added.{Added, roll-Added}
 use Rattle.sq_tree.specs.declared.expr.Scaled.{Scaled}
-use Rattle.sq_tree.specs.declared.expr.Factor.{Factor}
-use Rattle.sq_tree.specs.Tree.{Tokens, optional, optional_depth, greatest}
-use Rattle.sq_tree.specs.Names.{name_tokens}
+use Rattle.sq_tree.specs.Tree.{optional, optional_depth, greatest}
 use Rattle.sq_tree.specs.Expr.{times_token, quantifier_tokens, function_token, primary_tokens, primary_depth, factor_tokens, factor_depth, scaled_tokens, scaled_depth, term_tokens, term_depth, added_tokens, added_depth, expr_tokens, expr_depth}
 use Rattle.sq_tree.proofs.ExprLaws as law
-use Rattle.sq_grammar.specs.Reading.{Parser, one_if_any, number_of, text_of, name_of, all, pure}
+use Rattle.sq_grammar.specs.Reading.{Parser, one_if_any, number_of, text_of, name_of, all}
 use Rattle.sq_grammar.specs.Names.{sign_if_any, column_from, parameter_from}
-use Rattle.sq_grammar.specs.Expr.{times_if_any, quantifier_if_any, function_of, star_of, argument_of, set_function, bracketed, by_function, primary_at, factor, scaled, term, added, level, level_from, inside, expr, expr_from}
-use Rattle.sq_grammar.proofs.Spells.{Sound, After, sound, unsound, built, never, andthen, eaten, expected, openly, maybe, following, a_number, a_text, a_name, rows, one_maybe, some_is, raised}
+use Rattle.sq_grammar.specs.Expr.{times_if_any, quantifier_if_any, function_of, argument_of, set_function, bracketed, primary_at, factor, scaled, term, added, level, level_from, inside, expr, expr_from}
+use Rattle.sq_grammar.proofs.Spells.{Sound, After, sound, unsound, built, andthen, eaten, expected, openly, maybe, following, a_number, a_text, a_name, rows, one_maybe, some_is, raised}
 use Rattle.sq_grammar.proofs.NamesSound.{signs, columns_behind, parameters_behind}
 
 times : (left : ℕ) → Sound times_if_any (optional (λ s. times_token s ∷ [])) (λ _. 0) left

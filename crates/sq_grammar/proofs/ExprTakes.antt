@@ -1,7 +1,6 @@
 -- The tokens of a value expression are read as it.
-use Rattle.std.proofs.Common.{◌≡◌, ℕ, zero, suc, ◌+◌, ◌<◌, ◌≤◌, max, Bool, true, false, List, [], ◌∷◌, ◌++◌, length, map, Option, Some, None, Ok, refl, sym, ◌∙◌, ap, subst, arith, append_assoc}
+use Rattle.std.proofs.Common.{◌≡◌, ℕ, zero, suc, ◌<◌, max, false, List, [], ◌∷◌, ◌++◌, length, map, Option, Some, None, Ok, refl, ap, arith, append_assoc}
 use Rattle.std.specs.List.{flat_map}
-use Rattle.sq_lex.specs.declared.lexeme.Lexeme.{Lexeme}
 use Rattle.sq_lex.specs.declared.lexeme.Lexeme.TheVariants as lexeme
 use Rattle.sq_lex.specs.declared.symbol.Symbol.TheVariants as symbol
 use Rattle.sq_lex.specs.declared.word.Word.{Word}
@@ -23,20 +22,20 @@ use Rattle.sq_tree.specs.declared.expr.Primary.{Primary}
 use Rattle.sq_tree.specs.declared.expr.Primary.TheVariants as primary
 use Rattle.sq_tree.specs.declared.expr.Expr.{Expr, out-Expr, roll-Expr, roll-out-Expr}
 use Rattle.sq_tree.specs.declared.expr.Term.{Term, out-Term, roll-Term, roll-out-Term}
-use Rattle.sq_tree.specs.declared.expr.Added.{Added, out-Added, roll-Added, roll-out-Added}
+use Rattle.sq_tree.specs.declared.expr.Added.{Added, out-Added, roll-out-Added}
 use Rattle.sq_tree.specs.declared.expr.Scaled.{Scaled}
 use Rattle.sq_tree.specs.declared.expr.Factor.{Factor}
 use Rattle.sq_tree.specs.Tree.{optional, bracketed, greatest}
-use Rattle.sq_tree.specs.Names.{column_reference_tokens, parameter_tokens, indicator_tokens}
+use Rattle.sq_tree.specs.Names.{column_reference_tokens}
 use Rattle.sq_tree.specs.Expr.{sign_token, sign_tokens, times_token, quantifier_tokens, function_token, primary_tokens, primary_depth, factor_tokens, factor_depth, scaled_tokens, scaled_depth, term_tokens, term_depth, added_tokens, added_depth, expr_tokens, expr_depth}
 use Rattle.sq_tree.proofs.ExprLaws as law
 use Rattle.sq_tree.proofs.ExprLaws.{primary_cases}
-use Rattle.sq_grammar.specs.Reading.{Tokens, Parser, sees, first_of, one_if_any, number_of, text_of, name_of, all, pure, stuck}
-use Rattle.sq_grammar.specs.Names.{dot, sign_if_any, column_from, parameter_from}
+use Rattle.sq_grammar.specs.Reading.{Tokens, Parser, sees, number_of, text_of, name_of, all, pure}
+use Rattle.sq_grammar.specs.Names.{sign_if_any, column_from, parameter_from}
 use Rattle.sq_grammar.specs.Expr.{times_if_any, quantifier_if_any, function_of, star_of, argument_of, set_function, primary_at, factor, scaled, term, added, level, level_from, inside, expr, expr_from}
 use Rattle.sq_grammar.specs.Expr as spec
-use Rattle.sq_grammar.proofs.Takes.{Takes, Token, done, fits, lifted, andthen, plainly, mapped, alike, word, mark, closing, expected, eaten, uneaten, met, unmet, openly, rows, follows}
-use Rattle.sq_grammar.proofs.NamesTakes.{a_dot, a_colon, column_cases, column_1, column_2, column_3, column_from_1, column_from_2, column_from_3, parameter_from_takes, sign_takes}
+use Rattle.sq_grammar.proofs.Takes.{Takes, done, fits, lifted, andthen, plainly, mapped, word, mark, closing, expected, eaten, uneaten, met, unmet, openly, rows, follows}
+use Rattle.sq_grammar.proofs.NamesTakes.{a_colon, column_cases, column_1, column_2, column_3, column_from_1, column_from_2, column_from_3, parameter_from_takes, sign_takes}
 use Rattle.sq_grammar.proofs.Follows.{EndsFactor, EndsTerm, EndsExpr}
 
 -- "*" | "/"

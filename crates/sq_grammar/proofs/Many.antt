@@ -3,7 +3,7 @@ use Rattle.std.proofs.Common.{◌≡◌, ℕ, zero, suc, ◌+◌, ◌-◌, ◌<�
 use Rattle.std.proofs.lemmas.Bool.{ltb-true, lt-ltb}
 use Rattle.sq_grammar.specs.Reading.{Tokens}
 use Rattle.sq_lex.specs.declared.lexeme.Lexeme.{Lexeme}
-use Rattle.sq_grammar.specs.Reading.{◌>>=◌, and_then, Parser, Outcome, turn, many, all, with_front, behind, eat, comma, listed}
+use Rattle.sq_grammar.specs.Reading.{Parser, Outcome, turn, many, all, with_front, behind, eat, comma, listed}
 
 cond-same : {A : Type 0} (b : Bool) (x y z : A) → (b ≡ true → x ≡ y) → cond b x z ≡ cond b y z
 cond-same true x y z h = h refl

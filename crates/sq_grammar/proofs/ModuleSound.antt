@@ -1,6 +1,5 @@
 -- Module texts are spelled by what was read.
-use Rattle.std.proofs.Common.{◌≡◌, ℕ, zero, suc, ◌+◌, ◌-◌, ◌<◌, ◌≤◌, max, Bool, true, false, List, [], ◌∷◌, ◌++◌, map, Option, Some, None, Ok, refl, sym, ◌∙◌, ap, arith, append_assoc}
-use Rattle.std.specs.List.{flat_map}
+use Rattle.std.proofs.Common.{◌≡◌, ℕ, ◌-◌, ◌≤◌, true, false, [], ◌∷◌, ◌++◌, Some, None, refl, sym, ◌∙◌, ap, arith, append_assoc}
 use Rattle.sq_lex.specs.declared.lexeme.Lexeme.TheVariants as lexeme
 use Rattle.sq_lex.specs.declared.symbol.Symbol.TheVariants as symbol
 use Rattle.sq_lex.specs.declared.word.Word.TheVariants as word
@@ -9,17 +8,16 @@ use Rattle.sq_tree.specs.declared.module.SortKey.TheVariants.{Column, Position}
 use Rattle.sq_tree.specs.declared.module.SortDirection.TheVariants.{Asc, Desc}
 use Rattle.sq_tree.specs.declared.module.Declarations.TheVariants.{Bracketed, Bare}
 use Rattle.sq_tree.specs.declared.module.Declaration.TheVariants.{Parameter, Sqlcode, Sqlstate}
-use Rattle.sq_tree.specs.Tree.{Tokens, said, optional, optional_depth, greatest}
+use Rattle.sq_tree.specs.Tree.{Tokens, said, optional, optional_depth}
 use Rattle.sq_tree.specs.List.{comma_tokens, comma_depth}
-use Rattle.sq_tree.specs.DataType.{data_type_tokens, data_type_depth}
 use Rattle.sq_tree.specs.Query.{query_tokens, query_depth}
 use Rattle.sq_tree.specs.Module as tree
-use Rattle.sq_grammar.specs.Reading.{Parser, eat, one_if_any, number_of, name, behind, listed, all}
+use Rattle.sq_grammar.specs.Reading.{eat, one_if_any, number_of, name, listed, all}
 use Rattle.sq_grammar.specs.DataType.{data_type}
 use Rattle.sq_grammar.specs.Query.{query}
 use Rattle.sq_grammar.specs.Statement.{statement}
-use Rattle.sq_grammar.specs.Module.{declaration_if_any, declared, declaration, bare_declaration, declarations, procedure, sort_key, direction_if_any, sort_specification, by_sorts, order_by, ordered_query, cursor, item, module_text}
-use Rattle.sq_grammar.proofs.Spells.{Sound, After, sound, unsound, built, never, andthen, eats, eaten, expected, maybe, following, finally, names, a_number, lists, rows, behinds, lifted}
+use Rattle.sq_grammar.specs.Module.{declaration_if_any, declaration, bare_declaration, declarations, procedure, sort_key, direction_if_any, sort_specification, by_sorts, order_by, ordered_query, cursor, item, module_text}
+use Rattle.sq_grammar.proofs.Spells.{Sound, After, sound, built, never, andthen, eats, eaten, expected, maybe, following, finally, names, a_number, lists, rows, behinds, lifted}
 use Rattle.sq_grammar.proofs.DataTypeSound.{data_type_sound}
 use Rattle.sq_grammar.proofs.QuerySound.{query_sound}
 use Rattle.sq_grammar.proofs.StatementSound.{statement_sound}

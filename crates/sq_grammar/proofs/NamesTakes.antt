@@ -1,14 +1,11 @@
 -- The tokens of names, parameters, signed numbers and lists of columns are read as them.
-use Rattle.std.proofs.Common.{◌≡◌, ℕ, suc, ◌≤◌, ◌<◌, Bool, true, false, List, [], ◌∷◌, ◌++◌, Option, Some, None, Ok, refl, sym, ◌∙◌, ap, arith}
-use Rattle.sq_lex.specs.declared.lexeme.Lexeme.{Lexeme}
+use Rattle.std.proofs.Common.{◌≡◌, ℕ, suc, Bool, true, false, [], ◌∷◌, ◌++◌, Option, Some, None, refl}
 use Rattle.sq_lex.specs.declared.lexeme.Lexeme.TheVariants as lexeme
-use Rattle.sq_lex.specs.declared.symbol.Symbol.{Symbol}
 use Rattle.sq_lex.specs.declared.symbol.Symbol.TheVariants as symbol
 use Rattle.sq_lex.specs.declared.word.Word.TheVariants as word
 use Rattle.sq_lex.specs.declared.name.Name.{Name}
-use Rattle.sq_lex.specs.declared.number.Number.{Number}
 use Rattle.sq_tree.specs.Tree.{optional, said}
-use Rattle.sq_tree.specs.List.{comma_tokens, comma_depth}
+use Rattle.sq_tree.specs.List.{comma_tokens}
 use Rattle.sq_tree.specs.Names.{name_tokens, table_name_tokens, column_reference_tokens, parameter_tokens, indicator_tokens, columns_tokens}
 use Rattle.sq_tree.specs.Expr.{sign_tokens, signed_number_tokens}
 use Rattle.sq_tree.specs.declared.list.CommaList.{CommaList}
@@ -19,10 +16,9 @@ use Rattle.sq_tree.specs.declared.names.Indicator.{Indicator}
 use Rattle.sq_tree.specs.declared.expr.Sign.{Sign}
 use Rattle.sq_tree.specs.declared.expr.Sign.TheVariants.{Plus, Minus}
 use Rattle.sq_tree.specs.declared.expr.SignedNumber.{SignedNumber}
-use Rattle.sq_grammar.specs.Reading.{Tokens, Parser, pure, sees, name, number, behind, comma, listed, name_of, number_of}
-use Rattle.sq_grammar.specs.Names.{dot, name_behind_dot, table_of, table_name, column_of, column_by, column_from, column_reference, by_word, some_indicator, indicator, parameter_from, parameter, sign_if_any, signed_number, columns_from, columns, columns_if_any}
-use Rattle.sq_grammar.specs.Names as names
-use Rattle.sq_grammar.proofs.Takes.{Takes, Token, done, fits, andthen, plainly, mapped, alike, word, mark, opening, closing, expected, eaten, uneaten, either, behind_it, perhaps, one, picked, met, unmet, a_name, named, numbered, flat_commas}
+use Rattle.sq_grammar.specs.Reading.{Tokens, sees, name, listed}
+use Rattle.sq_grammar.specs.Names.{dot, name_behind_dot, table_name, column_from, column_reference, indicator, parameter_from, parameter, sign_if_any, signed_number, columns_from, columns, columns_if_any}
+use Rattle.sq_grammar.proofs.Takes.{Takes, Token, done, plainly, mapped, word, mark, opening, closing, expected, eaten, uneaten, behind_it, one, a_name, named, numbered, flat_commas}
 
 pub a_dot : {a : ℕ} → Token dot a a
 a_dot = mark symbol.Dot (λ n. refl)

@@ -1,6 +1,5 @@
 -- Two module texts with one list of tokens are one, and so for their parts.
-use Rattle.std.proofs.Common.{◌≡◌, ℕ, suc, max, [], ◌∷◌, ◌++◌, Some, refl, arith, ap}
-use Rattle.sq_lex.specs.declared.number.Number.{Number}
+use Rattle.std.proofs.Common.{◌≡◌, ℕ, suc, max, [], Some, refl, arith}
 use Rattle.sq_tree.specs.declared.module.ModuleText.{ModuleText}
 use Rattle.sq_tree.specs.declared.module.ModuleItem.{ModuleItem}
 use Rattle.sq_tree.specs.declared.module.Cursor.{Cursor}

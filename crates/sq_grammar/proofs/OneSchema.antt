@@ -1,5 +1,5 @@
 -- Two schema texts with one list of tokens are one, and so for their parts.
-use Rattle.std.proofs.Common.{◌≡◌, ℕ, suc, max, ◌<◌, [], ◌∷◌, ◌++◌, Some, refl, arith}
+use Rattle.std.proofs.Common.{◌≡◌, ℕ, suc, max, ◌<◌, [], Some, refl, arith}
 use Rattle.sq_tree.specs.declared.schema.SchemaText.{SchemaText}
 use Rattle.sq_tree.specs.declared.schema.SchemaDefinition.{SchemaDefinition}
 use Rattle.sq_tree.specs.declared.schema.SchemaElement.{SchemaElement}

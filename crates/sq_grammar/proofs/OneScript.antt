@@ -1,5 +1,5 @@
 -- Two script texts with one list of tokens are one, and so for their parts.
-use Rattle.std.proofs.Common.{◌≡◌, ℕ, suc, max, [], ◌++◌, Some, refl, arith}
+use Rattle.std.proofs.Common.{◌≡◌, ℕ, suc, max, [], refl, arith}
 use Rattle.sq_tree.specs.declared.script.ScriptText.{ScriptText}
 use Rattle.sq_tree.specs.declared.script.ScriptItem.{ScriptItem}
 use Rattle.sq_tree.specs.declared.script.Arguments.{Arguments}

@@ -1,5 +1,5 @@
 -- Two statements with one list of tokens are one, and so for their parts.
-use Rattle.std.proofs.Common.{◌≡◌, ℕ, suc, max, [], ◌∷◌, ◌++◌, Some, refl, arith, codes}
+use Rattle.std.proofs.Common.{◌≡◌, ℕ, suc, max, [], Some, refl, arith, codes}
 use Rattle.sq_tree.specs.declared.statement.Statement.{Statement}
 use Rattle.sq_tree.specs.declared.statement.Fetch.{Fetch}
 use Rattle.sq_tree.specs.declared.statement.FetchFrom.{FetchFrom}
@@ -16,7 +16,6 @@ use Rattle.sq_tree.specs.declared.statement.Where.{Where}
 use Rattle.sq_tree.specs.Statement.{position_tokens, orientation_tokens, fetch_from_tokens, fetch_tokens, select_tokens, new_value_tokens, insert_source_tokens, insert_tokens, target_tokens, assignment_tokens, update_tokens, delete_tokens, statement_tokens, select_depth, new_value_depth, insert_source_depth, insert_depth, target_depth, assignment_depth, update_depth, delete_depth, statement_depth}
 use Rattle.sq_grammar.specs.Expr.{expr}
 use Rattle.sq_grammar.proofs.Spells.{some_is}
-use Rattle.sq_grammar.proofs.Takes.{Takes}
 use Rattle.sq_grammar.proofs.Follows.{EndsExpr, EndsTable}
 use Rattle.sq_grammar.proofs.ExprTakes.{expr_takes}
 use Rattle.sq_grammar.proofs.CondTakes.{cond_takes}

@@ -1,5 +1,5 @@
 -- Two trees with one list of tokens are one, since a parser takes each of them on that list.
-use Rattle.std.proofs.Common.{◌≡◌, ℕ, ◌≤◌, List, [], ◌∷◌, ◌++◌, Ok, sym, ◌∙◌, ap, Option, Some}
+use Rattle.std.proofs.Common.{◌≡◌, ℕ, ◌≤◌, ◌∷◌, ◌++◌, sym, ◌∙◌, ap}
 use Rattle.sq_lex.specs.declared.lexeme.Lexeme.{Lexeme}
 use Rattle.sq_grammar.specs.Reading.{Tokens, Parser}
 use Rattle.sq_grammar.proofs.Spells.{ok_pair}

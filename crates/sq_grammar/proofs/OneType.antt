@@ -1,5 +1,5 @@
 -- Two data types with one list of tokens are one, and so for their parts.
-use Rattle.std.proofs.Common.{◌≡◌, [], ◌++◌, Option, Some, None, refl, arith, ap}
+use Rattle.std.proofs.Common.{◌≡◌, [], ◌++◌, Some, None, refl, arith, ap}
 use Rattle.sq_tree.specs.declared.data_type.DataType.{DataType}
 use Rattle.sq_tree.specs.declared.data_type.DataType.TheVariants.{Exact, Character}
 use Rattle.sq_tree.specs.declared.data_type.ExactWord.{ExactWord}

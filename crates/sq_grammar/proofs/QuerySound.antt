@@ -1,6 +1,5 @@
 -- Query expressions are spelled by what was read.
-use Rattle.std.proofs.Common.{◌≡◌, ℕ, zero, suc, ◌+◌, ◌≤◌, max, Bool, true, false, List, [], ◌∷◌, ◌++◌, map, Option, Some, None, Ok, refl, sym, ◌∙◌, ap, arith, append_assoc}
-use Rattle.std.specs.List.{flat_map}
+use Rattle.std.proofs.Common.{ℕ, zero, suc, ◌+◌, [], ◌∷◌, refl, arith}
 use Rattle.sq_lex.specs.declared.lexeme.Lexeme.TheVariants as lexeme
 use Rattle.sq_lex.specs.declared.symbol.Symbol.TheVariants as symbol
 use Rattle.sq_lex.specs.declared.word.Word.TheVariants as word
@@ -13,7 +12,7 @@ use Rattle.sq_tree.proofs.QueryLaws as law
 use Rattle.sq_grammar.specs.Reading.{Parser, eat, sees, behind, all}
 use Rattle.sq_grammar.specs.Cond.{query_specification}
 use Rattle.sq_grammar.specs.Query.{bracketed, bracketed_term, query_term, union_term, level, inside, query}
-use Rattle.sq_grammar.proofs.Spells.{Sound, After, sound, unsound, built, andthen, eats, eaten, expected, openly, following, either, raised, rows, behinds_with}
+use Rattle.sq_grammar.proofs.Spells.{Sound, After, sound, unsound, built, andthen, eats, expected, openly, either, raised, rows, behinds_with}
 use Rattle.sq_grammar.proofs.CondSound.{query_specification_sound}
 
 module _ (left : ℕ) (inner : Parser Query) (s : Sound inner query_tokens (λ q. query_depth q + 1) left) where

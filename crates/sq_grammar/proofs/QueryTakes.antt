@@ -1,22 +1,16 @@
 -- The tokens of a query expression are read as it.
-use Rattle.std.proofs.Common.{◌≡◌, ℕ, zero, suc, ◌+◌, ◌<◌, ◌≤◌, max, Bool, true, false, List, [], ◌∷◌, ◌++◌, length, map, Option, Some, None, Ok, refl, sym, ◌∙◌, ap, subst, arith, append_assoc}
-use Rattle.std.specs.List.{flat_map}
-use Rattle.sq_lex.specs.declared.lexeme.Lexeme.{Lexeme}
+use Rattle.std.proofs.Common.{◌≡◌, ℕ, zero, suc, ◌<◌, false, List, [], ◌∷◌, ◌++◌, length, Option, Some, refl, ap, arith}
 use Rattle.sq_lex.specs.declared.lexeme.Lexeme.TheVariants as lexeme
 use Rattle.sq_lex.specs.declared.symbol.Symbol.TheVariants as symbol
 use Rattle.sq_lex.specs.declared.word.Word.TheVariants as word
-use Rattle.sq_tree.specs.declared.expr.Expr.{Expr}
-use Rattle.sq_tree.specs.declared.cond.Cond.{Cond}
 use Rattle.sq_tree.specs.declared.cond.SelectList.{SelectList}
 use Rattle.sq_tree.specs.declared.cond.TableExpression.{TableExpression}
 use Rattle.sq_tree.specs.declared.cond.QuerySpecification.{QuerySpecification}
 use Rattle.sq_tree.specs.declared.query.QueryTerm.{QueryTerm}
-use Rattle.sq_tree.specs.declared.query.QueryTerm.TheVariants as terms
 use Rattle.sq_tree.specs.declared.query.UnionTerm.{UnionTerm}
-use Rattle.sq_tree.specs.declared.query.Query.{Query, out-Query, roll-Query, roll-out-Query}
-use Rattle.sq_tree.specs.Tree.{bracketed, greatest, said}
-use Rattle.sq_tree.specs.Expr.{expr_tokens, expr_depth}
-use Rattle.sq_tree.specs.Cond.{cond_tokens, cond_depth, select_list_tokens, select_list_depth, table_expression_tokens, table_expression_depth, query_specification_tokens, query_specification_depth}
+use Rattle.sq_tree.specs.declared.query.Query.{Query, out-Query, roll-out-Query}
+use Rattle.sq_tree.specs.Tree.{said}
+use Rattle.sq_tree.specs.Cond.{select_list_tokens, select_list_depth, table_expression_tokens, table_expression_depth, query_specification_tokens, query_specification_depth}
 use Rattle.sq_tree.specs.Query.{query_tokens, query_depth, query_term_tokens, query_term_depth, union_term_tokens, union_term_depth}
 use Rattle.sq_tree.proofs.CondLaws as specifications
 use Rattle.sq_tree.proofs.QueryLaws as law
@@ -26,7 +20,7 @@ use Rattle.sq_grammar.specs.Cond.{cond, query_specification}
 use Rattle.sq_grammar.specs.Select.{select_list, table_expression}
 use Rattle.sq_grammar.specs.Query.{query_term, union_term, level, inside, query}
 use Rattle.sq_grammar.specs.Query as spec
-use Rattle.sq_grammar.proofs.Takes.{Takes, done, fits, lifted, andthen, plainly, mapped, word, closing, expected, either, behind_it, openly, seeing, unseeing, rows, follows, none_behind}
+use Rattle.sq_grammar.proofs.Takes.{Takes, done, fits, lifted, andthen, mapped, word, closing, expected, either, behind_it, openly, seeing, unseeing, rows, follows, none_behind}
 use Rattle.sq_grammar.proofs.ExprTakes.{expr_takes}
 use Rattle.sq_grammar.proofs.CondTakes.{cond_takes}
 use Rattle.sq_grammar.proofs.SelectTakes.{list_takes, table_takes_a, specification_takes_a}

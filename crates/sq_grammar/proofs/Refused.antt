@@ -1,12 +1,11 @@
 -- A text that is refused has no tree, or only trees that are too deep; and then it is refused at the bracket that is one too many.
-use Rattle.std.proofs.Common.{◌≡◌, ℕ, zero, suc, ◌+◌, ◌-◌, ◌<◌, ◌≤◌, Bool, true, false, ◌&&◌, List, [], ◌∷◌, ◌++◌, length, take, drop, Ok, Err, nat_lt, nat_eq, refl, sym, ◌∙◌, ap, subst, arith, append-nil, length-append}
-use Rattle.std.specs.List.{fold}
+use Rattle.std.proofs.Common.{◌≡◌, ℕ, ◌-◌, ◌<◌, Bool, true, false, ◌&&◌, [], ◌∷◌, ◌++◌, length, take, drop, Ok, Err, nat_lt, nat_eq, refl, sym, ◌∙◌, ap, subst, arith, append-nil, length-append}
 use Rattle.std.proofs.lemmas.Bool.{ltb-true, ltb-false}
 use Rattle.std.proofs.Math.Seq.{take-append_seam, drop-append_seam}
 use Rattle.sq_lex.specs.declared.lexeme.Lexeme.TheVariants as lexeme
 use Rattle.sq_lex.specs.declared.symbol.Symbol.TheVariants as symbol
-use Rattle.sq_grammar.specs.Reading.{Tokens, Outcome, Parser, ◌>>=◌, and_then, sees, whole, end_of}
-use Rattle.sq_grammar.specs.Brackets.{open_after, open_brackets, is_too_deep}
+use Rattle.sq_grammar.specs.Reading.{Tokens, Outcome, Parser, and_then, sees, whole, end_of}
+use Rattle.sq_grammar.specs.Brackets.{open_brackets, is_too_deep}
 use Rattle.sq_grammar.proofs.Takes.{Takes, Deep, Moves}
 
 -- the place where so many tokens are left has a bracket before which 32 are open
@@ -38,6 +37,7 @@ refused_deep {A = A} p ts text d x n s same refused = by (nat_lt 32 d) refl
   where
     text_is : text ++ [] ≡ ts
     text_is = append-nil text ∙ same
+
     by : (deeper : Bool) → nat_lt 32 d ≡ deeper → Deepens ts n d
     by false is =
         let read : p ts ≡ Ok (x, []) = ap p (sym text_is) ∙ s.taken (ltb-false _ _ is) in

@@ -1,6 +1,5 @@
 -- Schema texts are spelled by what was read.
-use Rattle.std.proofs.Common.{◌≡◌, ℕ, zero, suc, ◌+◌, ◌-◌, ◌<◌, ◌≤◌, max, Bool, true, false, List, [], ◌∷◌, ◌++◌, map, Option, Some, None, Ok, refl, sym, ◌∙◌, ap, arith, append_assoc}
-use Rattle.std.specs.List.{flat_map}
+use Rattle.std.proofs.Common.{◌≡◌, ℕ, ◌+◌, ◌-◌, ◌≤◌, true, false, [], ◌∷◌, ◌++◌, Some, None, refl, sym, ◌∙◌, ap, arith, append_assoc}
 use Rattle.sq_lex.specs.declared.lexeme.Lexeme.TheVariants as lexeme
 use Rattle.sq_lex.specs.declared.symbol.Symbol.TheVariants as symbol
 use Rattle.sq_lex.specs.declared.word.Word.TheVariants as word
@@ -12,18 +11,18 @@ use Rattle.sq_tree.specs.declared.schema.ColumnConstraint.TheVariants as constra
 use Rattle.sq_tree.specs.declared.schema.Privileges.TheVariants as privilege
 use Rattle.sq_tree.specs.declared.schema.Action.TheVariants as actions
 use Rattle.sq_tree.specs.declared.schema.Grantee.TheVariants as grantees
-use Rattle.sq_tree.specs.Tree.{Tokens, said, optional, optional_depth, greatest, bracketed}
-use Rattle.sq_tree.specs.List.{comma_tokens, comma_depth}
+use Rattle.sq_tree.specs.Tree.{Tokens, said, optional, optional_depth, bracketed}
+use Rattle.sq_tree.specs.List.{comma_tokens}
 use Rattle.sq_tree.specs.Names.{name_tokens, table_name_tokens}
 use Rattle.sq_tree.specs.Cond.{cond_tokens, cond_depth}
 use Rattle.sq_tree.specs.Schema as tree
-use Rattle.sq_grammar.specs.Reading.{Parser, eat, one_if_any, name_of, text_of, name, behind, listed, all}
+use Rattle.sq_grammar.specs.Reading.{eat, one_if_any, name_of, text_of, name, listed, all}
 use Rattle.sq_grammar.specs.Names.{table_name, signed_number, columns, columns_if_any}
 use Rattle.sq_grammar.specs.DataType.{data_type}
 use Rattle.sq_grammar.specs.Cond as conditions
 use Rattle.sq_grammar.specs.Cond.{strictly, query_specification}
 use Rattle.sq_grammar.specs.Schema.{references_from, references, default_value, default_clause, check, column_constraint, column_definition, foreign_key, table_constraint, table_element, table_definition, check_option, view_definition, action, privileges, grantee, grant_option, grant, sees_created, created, element, schema_definition, next_definition, schema_text}
-use Rattle.sq_grammar.proofs.Spells.{Sound, After, sound, unsound, built, never, andthen, eats, eaten, expected, maybe, following, finally, either, names, a_name, a_text, lists, rows, behinds, behinds_with, lowered, lifted}
+use Rattle.sq_grammar.proofs.Spells.{Sound, After, sound, unsound, built, andthen, eats, eaten, expected, maybe, following, either, names, a_name, a_text, lists, rows, behinds, behinds_with, lifted}
 use Rattle.sq_grammar.proofs.NamesSound.{table_names, signed_numbers, column_lists, a_column_list}
 use Rattle.sq_grammar.proofs.DataTypeSound.{data_type_sound}
 use Rattle.sq_grammar.proofs.CondSound.{inner_cond_sound, query_specification_sound}

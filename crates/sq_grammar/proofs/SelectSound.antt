@@ -1,18 +1,16 @@
 -- Query specifications are spelled by what was read, if their expressions and conditions are.
-use Rattle.std.proofs.Common.{◌≡◌, ℕ, ◌+◌, ◌≤◌, max, Bool, true, false, List, [], ◌∷◌, ◌++◌, Option, Some, None, refl, sym, ◌∙◌, ap, arith, append_assoc}
+use Rattle.std.proofs.Common.{ℕ, true, false, ◌∷◌, Some, None, refl, arith}
 use Rattle.sq_lex.specs.declared.lexeme.Lexeme.TheVariants as lexeme
 use Rattle.sq_lex.specs.declared.symbol.Symbol.TheVariants as symbol
 use Rattle.sq_lex.specs.declared.word.Word.TheVariants as word
-use Rattle.sq_tree.specs.declared.list.CommaList.{CommaList}
-use Rattle.sq_tree.specs.declared.names.ColumnReference.{ColumnReference}
 use Rattle.sq_tree.specs.declared.expr.Expr.{Expr}
 use Rattle.sq_tree.specs.declared.cond.Cond.{Cond}
 use Rattle.sq_tree.specs.declared.cond.SelectList.TheVariants as list
 use Rattle.sq_tree.specs.declared.cond.TableExpression.{roll-TableExpression}
 use Rattle.sq_tree.specs.declared.cond.QuerySpecification.{roll-QuerySpecification}
-use Rattle.sq_tree.specs.Tree.{Tokens, optional, optional_depth}
+use Rattle.sq_tree.specs.Tree.{optional, optional_depth}
 use Rattle.sq_tree.specs.List.{comma_tokens, comma_depth}
-use Rattle.sq_tree.specs.Names.{name_tokens, column_reference_tokens}
+use Rattle.sq_tree.specs.Names.{column_reference_tokens}
 use Rattle.sq_tree.specs.Expr.{expr_tokens, expr_depth}
 use Rattle.sq_tree.specs.Cond.{correlation_tokens, table_reference_tokens, select_list_tokens, select_list_depth, group_by_tokens, cond_tokens, cond_depth, table_expression_tokens, table_expression_depth, query_specification_tokens, query_specification_depth}
 use Rattle.sq_tree.proofs.CondLaws as law
@@ -20,7 +18,7 @@ use Rattle.sq_grammar.specs.Reading.{Parser, name, name_of, one_if_any, behind, 
 use Rattle.sq_grammar.specs.Names.{table_name, column_reference}
 use Rattle.sq_grammar.specs.Expr.{quantifier_if_any}
 use Rattle.sq_grammar.specs.Select.{correlation, table_reference, from_clause, by_columns, group_by, select_list, table_expression, specification}
-use Rattle.sq_grammar.proofs.Spells.{Sound, After, sound, built, never, andthen, eaten, expected, maybe, following, names, a_name, behinds, lists, finally}
+use Rattle.sq_grammar.proofs.Spells.{Sound, sound, built, andthen, eaten, expected, maybe, names, a_name, behinds, lists, finally}
 use Rattle.sq_grammar.proofs.NamesSound.{table_names, column_references}
 use Rattle.sq_grammar.proofs.ExprSound.{quantifiers}
 

@@ -1,5 +1,5 @@
 -- The tokens of a query specification are read as it, over what reads its expressions and its conditions.
-use Rattle.std.proofs.Common.{◌≡◌, ℕ, zero, suc, ◌+◌, ◌<◌, ◌≤◌, max, Bool, true, false, List, [], ◌∷◌, ◌++◌, map, Option, Some, None, Ok, refl, sym, ◌∙◌, ap, subst, arith, append_assoc}
+use Rattle.std.proofs.Common.{◌≡◌, ℕ, ◌+◌, ◌≤◌, max, Bool, true, false, List, [], ◌∷◌, ◌++◌, map, Option, Some, None, refl, subst, arith, append_assoc}
 use Rattle.sq_lex.specs.declared.lexeme.Lexeme.{Lexeme}
 use Rattle.sq_lex.specs.declared.lexeme.Lexeme.TheVariants as lexeme
 use Rattle.sq_lex.specs.declared.symbol.Symbol.TheVariants as symbol
@@ -7,10 +7,8 @@ use Rattle.sq_lex.specs.declared.word.Word.TheVariants as word
 use Rattle.sq_lex.specs.declared.name.Name.{Name}
 use Rattle.sq_tree.specs.declared.list.CommaList.{CommaList}
 use Rattle.sq_tree.specs.declared.names.ColumnReference.{ColumnReference}
-use Rattle.sq_tree.specs.declared.names.TableName.{TableName}
 use Rattle.sq_tree.specs.declared.expr.Expr.{Expr}
 use Rattle.sq_tree.specs.declared.expr.SetQuantifier.{SetQuantifier}
-use Rattle.sq_tree.specs.declared.expr.SetQuantifier.TheVariants.{All, Distinct}
 use Rattle.sq_tree.specs.declared.cond.Correlation.{Correlation}
 use Rattle.sq_tree.specs.declared.cond.TableReference.{TableReference}
 use Rattle.sq_tree.specs.declared.cond.SelectList.{SelectList}
@@ -19,17 +17,17 @@ use Rattle.sq_tree.specs.declared.cond.Cond.{Cond}
 use Rattle.sq_tree.specs.declared.cond.TableExpression.{TableExpression, out-TableExpression, roll-TableExpression, roll-out-TableExpression}
 use Rattle.sq_tree.specs.declared.cond.QuerySpecification.{QuerySpecification, out-QuerySpecification, roll-QuerySpecification, roll-out-QuerySpecification}
 use Rattle.sq_tree.specs.Tree.{optional, optional_depth, greatest, said}
-use Rattle.sq_tree.specs.List.{comma_tokens, comma_depth}
-use Rattle.sq_tree.specs.Names.{table_name_tokens, column_reference_tokens}
+use Rattle.sq_tree.specs.List.{comma_tokens}
+use Rattle.sq_tree.specs.Names.{column_reference_tokens}
 use Rattle.sq_tree.specs.Expr.{expr_tokens, expr_depth, quantifier_tokens}
 use Rattle.sq_tree.specs.Cond.{correlation_tokens, table_reference_tokens, select_list_tokens, select_list_depth, group_by_tokens, cond_tokens, cond_depth, table_expression_tokens, table_expression_depth, query_specification_tokens, query_specification_depth}
 use Rattle.sq_tree.proofs.CondLaws as law
 use Rattle.sq_tree.proofs.CondLaws.{where_cond, having_cond}
-use Rattle.sq_grammar.specs.Reading.{Tokens, Parser, sees, first_of, name_of, name, comma, behind, listed, pure}
+use Rattle.sq_grammar.specs.Reading.{Tokens, Parser, sees, first_of, name_of, comma, listed}
 use Rattle.sq_grammar.specs.Names.{dot, table_name, column_reference}
 use Rattle.sq_grammar.specs.Expr.{quantifier_if_any}
 use Rattle.sq_grammar.specs.Select.{correlation, table_reference, from_clause, by_columns, group_by, select_list, where_clause, having_clause, table_expression, specification}
-use Rattle.sq_grammar.proofs.Takes.{Takes, done, fits, respelled, andthen, plainly, mapped, word, mark, expected, eaten, uneaten, either, behind_it, perhaps, met, unmet, a_name, named, commas, flat_commas}
+use Rattle.sq_grammar.proofs.Takes.{Takes, done, fits, respelled, andthen, plainly, mapped, word, mark, expected, eaten, uneaten, behind_it, perhaps, met, unmet, named, commas, flat_commas}
 use Rattle.sq_grammar.proofs.NamesTakes.{table_takes, column_takes}
 use Rattle.sq_grammar.proofs.ExprTakes.{quantifier_takes, not_all, not_distinct, not_star}
 use Rattle.sq_grammar.proofs.Follows.{EndsExpr, EndsCond, EndsTable}

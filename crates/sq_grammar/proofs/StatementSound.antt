@@ -1,5 +1,5 @@
 -- Statements are spelled by what was read.
-use Rattle.std.proofs.Common.{◌≡◌, ℕ, zero, suc, ◌+◌, ◌-◌, ◌<◌, ◌≤◌, max, Bool, true, false, List, [], ◌∷◌, ◌++◌, map, Option, Some, None, Ok, refl, sym, ◌∙◌, ap, arith, append_assoc}
+use Rattle.std.proofs.Common.{◌≡◌, ℕ, ◌-◌, ◌≤◌, [], ◌∷◌, ◌++◌, Some, None, refl, sym, ap, arith, append_assoc}
 use Rattle.sq_lex.specs.declared.lexeme.Lexeme.{Lexeme}
 use Rattle.sq_lex.specs.declared.lexeme.Lexeme.TheVariants as lexeme
 use Rattle.sq_lex.specs.declared.symbol.Symbol.TheVariants as symbol
@@ -12,12 +12,12 @@ use Rattle.sq_tree.specs.declared.statement.Position.TheVariants as positions
 use Rattle.sq_tree.specs.declared.statement.InsertSource.TheVariants as sources
 use Rattle.sq_tree.specs.declared.statement.NewValue.TheVariants as values
 use Rattle.sq_tree.specs.declared.statement.Where.TheVariants.{Condition, CurrentOf}
-use Rattle.sq_tree.specs.Tree.{Tokens, said, optional, optional_depth}
-use Rattle.sq_tree.specs.List.{comma_tokens, comma_depth}
-use Rattle.sq_tree.specs.Names.{name_tokens, parameter_tokens}
+use Rattle.sq_tree.specs.Tree.{optional, optional_depth}
+use Rattle.sq_tree.specs.List.{comma_tokens}
+use Rattle.sq_tree.specs.Names.{parameter_tokens}
 use Rattle.sq_tree.specs.Expr.{expr_tokens, expr_depth, quantifier_tokens}
 use Rattle.sq_tree.specs.Cond.{select_list_tokens, table_expression_tokens}
-use Rattle.sq_tree.specs.Statement.{position_tokens, orientation_tokens, fetch_from_tokens, fetch_tokens, select_tokens, new_value_tokens, insert_source_tokens, insert_tokens, target_tokens, assignment_tokens, update_tokens, delete_tokens, work_tokens, statement_tokens, select_depth, new_value_depth, insert_source_depth, insert_depth, target_depth, assignment_depth, update_depth, delete_depth, statement_depth}
+use Rattle.sq_tree.specs.Statement.{position_tokens, orientation_tokens, fetch_from_tokens, fetch_tokens, select_tokens, new_value_tokens, insert_source_tokens, insert_tokens, target_tokens, assignment_tokens, update_tokens, delete_tokens, statement_tokens, select_depth, new_value_depth, insert_source_depth, insert_depth, target_depth, assignment_depth, update_depth, delete_depth, statement_depth}
 use Rattle.sq_grammar.specs.declared.verb.Verb.{Verb}
 use Rattle.sq_grammar.specs.declared.verb.Verb.TheVariants as verb
 use Rattle.sq_grammar.specs.Reading.{Parser, eat, one_if_any, name, listed}
@@ -27,7 +27,7 @@ use Rattle.sq_grammar.specs.Expr.{expr, quantifier_if_any}
 use Rattle.sq_grammar.specs.Cond.{cond, query_specification}
 use Rattle.sq_grammar.specs.Select.{select_list, table_expression}
 use Rattle.sq_grammar.specs.Statement.{position, orientation_of, orientation, fetch_from, fetch, new_value, target, select, insert_source, insert, assignment, update, delete, verb_of, by_verb, statement}
-use Rattle.sq_grammar.proofs.Spells.{Sound, After, sound, unsound, built, never, andthen, eats, eaten, expected, maybe, following, names, lists, one_maybe, one_spelled, some_is, lowered, lifted}
+use Rattle.sq_grammar.proofs.Spells.{Sound, After, sound, built, never, andthen, eats, eaten, expected, maybe, following, names, lists, one_maybe, one_spelled, some_is, lowered, lifted}
 use Rattle.sq_grammar.proofs.NamesSound.{table_names, parameters, signed_numbers, a_column_list}
 use Rattle.sq_grammar.proofs.ExprSound as expr_proof
 use Rattle.sq_grammar.proofs.ExprSound.{quantifiers}

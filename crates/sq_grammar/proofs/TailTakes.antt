@@ -1,11 +1,8 @@
 -- The tokens of a predicate behind its first expression are read as it, over what reads behind a bracket.
-use Rattle.std.proofs.Common.{◌≡◌, ℕ, zero, suc, ◌+◌, ◌<◌, ◌≤◌, max, Bool, true, false, ◌&&◌, List, [], ◌∷◌, ◌++◌, map, Option, Some, None, Ok, refl, sym, ◌∙◌, ap, subst, arith, append_assoc}
-use Rattle.sq_lex.specs.declared.lexeme.Lexeme.{Lexeme}
+use Rattle.std.proofs.Common.{◌≡◌, ℕ, suc, ◌<◌, max, Bool, true, false, [], ◌∷◌, ◌++◌, Option, Some, None, refl, arith, append_assoc}
 use Rattle.sq_lex.specs.declared.lexeme.Lexeme.TheVariants as lexeme
 use Rattle.sq_lex.specs.declared.symbol.Symbol.TheVariants as symbol
 use Rattle.sq_lex.specs.declared.word.Word.TheVariants as word
-use Rattle.sq_lex.specs.declared.name.Name.{Name}
-use Rattle.sq_lex.specs.declared.number.Number.{Number}
 use Rattle.sq_tree.specs.declared.list.CommaList.{CommaList}
 use Rattle.sq_tree.specs.declared.expr.Expr.{Expr}
 use Rattle.sq_tree.specs.declared.expr.Sign.{Sign}
@@ -20,20 +17,20 @@ use Rattle.sq_tree.specs.declared.cond.Cond.{Cond}
 use Rattle.sq_tree.specs.declared.cond.Tail.{Tail}
 use Rattle.sq_tree.specs.declared.cond.Tail.TheVariants as tails
 use Rattle.sq_tree.specs.declared.cond.QuerySpecification.{QuerySpecification}
-use Rattle.sq_tree.specs.Tree.{optional, optional_depth, bracketed, said}
+use Rattle.sq_tree.specs.Tree.{optional, optional_depth, bracketed}
 use Rattle.sq_tree.specs.List.{comma_tokens, comma_depth}
 use Rattle.sq_tree.specs.Expr.{expr_tokens, expr_depth, function_token, sign_token}
 use Rattle.sq_tree.specs.Cond.{comparison_token, compared_tokens, not_tokens, escape_tokens, cond_tokens, cond_depth, tail_tokens, tail_depth, query_specification_tokens, query_specification_depth}
 use Rattle.sq_tree.proofs.CondLaws as law
 use Rattle.sq_grammar.specs.declared.mixed.Mixed.{Mixed}
-use Rattle.sq_grammar.specs.declared.mixed.Mixed.TheVariants.{Whole, Bare}
-use Rattle.sq_grammar.specs.Reading.{Tokens, Parser, sees, rest, first_of, comma, behind, listed, pure, ◌>>=◌, opened}
+use Rattle.sq_grammar.specs.declared.mixed.Mixed.TheVariants.{Whole}
+use Rattle.sq_grammar.specs.Reading.{Tokens, Parser, sees, rest, behind, listed}
 use Rattle.sq_grammar.specs.Brackets.{open_after}
 use Rattle.sq_grammar.specs.Expr as expressions
 use Rattle.sq_grammar.specs.Expr.{expr}
-use Rattle.sq_grammar.specs.Cond.{comparison_of, compared_if_any, sees_query, strict, strictly, null_tail, inner_query, subquery, by_compared, comparison_tail, between_tail, in_by, in_tail, in_query, in_list, like_tail, found, negatable_tail, tail}
-use Rattle.sq_grammar.proofs.Takes.{Takes, done, fits, respelled, andthen, plainly, mapped, word, mark, closing, expected, eaten, uneaten, either, behind_it, perhaps, met, unmet, openly, seeing, unseeing, commas, deeper_commas}
-use Rattle.sq_grammar.proofs.ExprTakes.{Starts, StartsPrimary, expr_starts, foreign, expr_takes, inside_takes, close_ends}
+use Rattle.sq_grammar.specs.Cond.{comparison_of, compared_if_any, sees_query, strict, strictly, null_tail, inner_query, subquery, by_compared, comparison_tail, between_tail, in_tail, like_tail, negatable_tail, tail}
+use Rattle.sq_grammar.proofs.Takes.{Takes, done, fits, respelled, andthen, plainly, mapped, word, closing, expected, eaten, uneaten, either, perhaps, met, unmet, openly, seeing, unseeing, commas, deeper_commas}
+use Rattle.sq_grammar.proofs.ExprTakes.{Starts, expr_starts, foreign, expr_takes, inside_takes, close_ends}
 use Rattle.sq_grammar.proofs.SelectTakes.{specification_takes_a, comma_ends, before_last}
 use Rattle.sq_grammar.proofs.Follows.{EndsExpr, EndsBare, EndsTest, EndsCond, EndsTable}
 

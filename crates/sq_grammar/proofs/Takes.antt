@@ -1,6 +1,6 @@
 -- What a parser makes of the tokens that spell a tree: it takes the tree, or it stops at the first bracket that is one too many.
 -- So no text of the grammar is refused but for its depth, and no two trees have one list of tokens.
-use Rattle.std.proofs.Common.{◌≡◌, ℕ, zero, suc, ◌+◌, ◌<◌, ◌≤◌, max, Bool, true, false, cond, List, [], ◌∷◌, ◌++◌, length, map, Option, Some, None, Result, Ok, Err, nat_lt, nat_eq, refl, sym, ◌∙◌, ap, subst, arith, append_assoc, append-nil, length-append}
+use Rattle.std.proofs.Common.{◌≡◌, ℕ, zero, suc, ◌+◌, ◌<◌, ◌≤◌, max, Bool, true, false, cond, List, [], ◌∷◌, ◌++◌, length, map, Option, Some, None, Ok, Err, nat_lt, nat_eq, refl, sym, ◌∙◌, ap, subst, arith, append_assoc, length-append}
 use Rattle.std.specs.List.{fold, flat_map}
 use Rattle.std.proofs.lemmas.List.Sums.{fold-append}
 use Rattle.std.proofs.lemmas.Bool.{ltb-true, ltb-false, eq-eqb}
@@ -16,7 +16,7 @@ use Rattle.sq_lex.specs.Word.{place}
 use Rattle.sq_tree.specs.Tree.{optional, optional_depth, greatest, said}
 use Rattle.sq_tree.specs.List.{comma_tokens, comma_depth, comma_then}
 use Rattle.sq_tree.specs.declared.list.CommaList.{CommaList}
-use Rattle.sq_grammar.specs.Reading.{Tokens, Outcome, Parser, ◌>>=◌, and_then, pure, stuck, eat, expect, opened, sees, rest, one_of, one_if_any, first_of, taken, taken_if_any, name_of, number_of, name, number, behind, comma, listed, all, end_of, whole, symbol_place}
+use Rattle.sq_grammar.specs.Reading.{Tokens, Outcome, Parser, ◌>>=◌, and_then, pure, stuck, eat, expect, opened, sees, rest, one_of, one_if_any, first_of, taken, taken_if_any, name_of, number_of, name, number, behind, comma, listed, all, symbol_place}
 use Rattle.sq_grammar.specs.Brackets.{open_after}
 use Rattle.sq_grammar.proofs.Many.{all-none, all-err, all-some}
 

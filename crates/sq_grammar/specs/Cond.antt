@@ -1,6 +1,6 @@
 -- Search conditions (ISO/IEC 9075:1992, 8). A bracket at the start of a test may open a condition or an expression, so what stands
 -- behind it is read once, as either, and what came out decides how to go on.
-use Rattle.std.specs.Prelude.{ℕ, zero, suc, Bool, true, false, ◌&&◌, List, [], ◌∷◌, Option, Some, None, if◌then◌else◌}
+use Rattle.std.specs.Prelude.{ℕ, zero, suc, Bool, true, false, ◌&&◌, [], ◌∷◌, Option, Some, None, if◌then◌else◌}
 use Rattle.sq_lex.specs.declared.lexeme.Lexeme.{Lexeme}
 use Rattle.sq_lex.specs.declared.lexeme.Lexeme.TheVariants as lexeme
 use Rattle.sq_lex.specs.declared.symbol.Symbol.TheVariants as symbol
@@ -21,7 +21,7 @@ use Rattle.sq_tree.specs.declared.cond.Cond.{Cond, roll-Cond}
 use Rattle.sq_tree.specs.declared.cond.QuerySpecification.{QuerySpecification}
 use Rattle.sq_grammar.specs.declared.mixed.Mixed.{Mixed}
 use Rattle.sq_grammar.specs.declared.mixed.Mixed.TheVariants.{Whole, Bare}
-use Rattle.sq_grammar.specs.Reading.{Parser, Tokens, ◌>>=◌, ◌>>◌, pure, stuck, and_then, eat, eat_symbol, eat_word, expect_word, expect_symbol, opened, sees, rest, one_if_any, token_if_any, behind, listed, all}
+use Rattle.sq_grammar.specs.Reading.{Parser, Tokens, ◌>>=◌, ◌>>◌, pure, stuck, eat_word, expect_word, opened, sees, rest, one_if_any, token_if_any, behind, listed, all}
 use Rattle.sq_grammar.specs.Expr as expressions
 use Rattle.sq_grammar.specs.Expr.{expr, expr_from, close}
 use Rattle.sq_grammar.specs.Select.{specification}

@@ -1,5 +1,5 @@
 -- Module texts (ISO/IEC 9075:1992, 12 and 13.1).
-use Rattle.std.specs.Prelude.{ℕ, Bool, true, false, List, [], ◌∷◌, Option, Some, None, if◌then◌else◌}
+use Rattle.std.specs.Prelude.{ℕ, Bool, true, false, [], ◌∷◌, Option, Some, None}
 use Rattle.sq_lex.specs.declared.lexeme.Lexeme.TheVariants as lexeme
 use Rattle.sq_lex.specs.declared.symbol.Symbol.TheVariants as symbol
 use Rattle.sq_lex.specs.declared.word.Word.TheVariants as word
@@ -21,7 +21,7 @@ use Rattle.sq_tree.specs.declared.module.BareDeclaration.{BareDeclaration}
 use Rattle.sq_tree.specs.declared.module.Declaration.{Declaration}
 use Rattle.sq_tree.specs.declared.module.Declaration.TheVariants.{Parameter, Sqlcode, Sqlstate}
 use Rattle.sq_tree.specs.declared.query.Query.{Query}
-use Rattle.sq_grammar.specs.Reading.{Parser, ◌>>=◌, ◌>>◌, pure, stuck, and_then, eat, eat_symbol, eat_word, expect_word, expect_symbol, one_if_any, number_of, name, token_if_any, behind, listed, all}
+use Rattle.sq_grammar.specs.Reading.{Parser, ◌>>=◌, ◌>>◌, pure, stuck, eat_symbol, eat_word, expect_word, expect_symbol, one_if_any, number_of, name, token_if_any, behind, listed, all}
 use Rattle.sq_grammar.specs.DataType.{data_type}
 use Rattle.sq_grammar.specs.Query.{query}
 use Rattle.sq_grammar.specs.Statement.{statement}

@@ -1,5 +1,5 @@
 -- Query expressions (ISO/IEC 9075:1992, 7.10).
-use Rattle.std.specs.Prelude.{ℕ, zero, suc, Bool, true, false, Option, Some, None, if◌then◌else◌}
+use Rattle.std.specs.Prelude.{ℕ, zero, suc, if◌then◌else◌}
 use Rattle.sq_lex.specs.declared.lexeme.Lexeme.TheVariants as lexeme
 use Rattle.sq_lex.specs.declared.symbol.Symbol.TheVariants as symbol
 use Rattle.sq_lex.specs.declared.word.Word.TheVariants as word
@@ -7,7 +7,7 @@ use Rattle.sq_tree.specs.declared.query.QueryTerm.{QueryTerm}
 use Rattle.sq_tree.specs.declared.query.QueryTerm.TheVariants as terms
 use Rattle.sq_tree.specs.declared.query.UnionTerm.{UnionTerm}
 use Rattle.sq_tree.specs.declared.query.Query.{Query, roll-Query}
-use Rattle.sq_grammar.specs.Reading.{Parser, ◌>>=◌, ◌>>◌, pure, stuck, and_then, eat_word, opened, sees, behind, all}
+use Rattle.sq_grammar.specs.Reading.{Parser, ◌>>=◌, ◌>>◌, pure, stuck, eat_word, opened, sees, behind, all}
 use Rattle.sq_grammar.specs.Expr.{close}
 use Rattle.sq_grammar.specs.Cond.{query_specification}
 

@@ -1,10 +1,9 @@
 -- Schema texts (ISO/IEC 9075:1992, 11.1 to 11.9, 11.19 and 11.36).
-use Rattle.std.specs.Prelude.{ℕ, Bool, true, false, ◌&&◌, ◌||◌, List, [], ◌∷◌, Option, Some, None, if◌then◌else◌}
+use Rattle.std.specs.Prelude.{ℕ, Bool, true, false, ◌&&◌, ◌||◌, List, Option, Some, None, if◌then◌else◌}
 use Rattle.sq_lex.specs.declared.lexeme.Lexeme.TheVariants as lexeme
 use Rattle.sq_lex.specs.declared.symbol.Symbol.TheVariants as symbol
 use Rattle.sq_lex.specs.declared.word.Word.TheVariants as word
 use Rattle.sq_lex.specs.declared.name.Name.{Name}
-use Rattle.sq_tree.specs.declared.list.CommaList.{CommaList}
 use Rattle.sq_tree.specs.declared.cond.Cond.{Cond}
 use Rattle.sq_tree.specs.declared.schema.SchemaText.{SchemaText}
 use Rattle.sq_tree.specs.declared.schema.SchemaDefinition.{SchemaDefinition}
@@ -28,7 +27,7 @@ use Rattle.sq_tree.specs.declared.schema.Action.{Action}
 use Rattle.sq_tree.specs.declared.schema.Action.TheVariants as actions
 use Rattle.sq_tree.specs.declared.schema.Grantee.{Grantee}
 use Rattle.sq_tree.specs.declared.schema.Grantee.TheVariants as grantees
-use Rattle.sq_grammar.specs.Reading.{Parser, Tokens, ◌>>=◌, ◌>>◌, pure, stuck, and_then, eat, eat_symbol, eat_word, expect_word, expect_symbol, sees, rest, one_if_any, name_of, text_of, name, behind, listed, all}
+use Rattle.sq_grammar.specs.Reading.{Parser, Tokens, ◌>>=◌, ◌>>◌, pure, eat_symbol, eat_word, expect_word, expect_symbol, sees, rest, one_if_any, name_of, text_of, name, behind, listed, all}
 use Rattle.sq_grammar.specs.Names.{table_name, signed_number, columns, columns_if_any}
 use Rattle.sq_grammar.specs.DataType.{data_type}
 use Rattle.sq_grammar.specs.Cond as conditions

@@ -1,5 +1,5 @@
 -- The statements of a procedure (ISO/IEC 9075:1992, 13 and 14.1, 14.2).
-use Rattle.std.specs.Prelude.{ℕ, Bool, true, false, List, [], ◌∷◌, Option, Some, None, if◌then◌else◌}
+use Rattle.std.specs.Prelude.{ℕ, Bool, true, false, Option, Some, None}
 use Rattle.sq_lex.specs.declared.lexeme.Lexeme.{Lexeme}
 use Rattle.sq_lex.specs.declared.lexeme.Lexeme.TheVariants as lexeme
 use Rattle.sq_lex.specs.declared.symbol.Symbol.TheVariants as symbol
@@ -26,7 +26,7 @@ use Rattle.sq_tree.specs.declared.statement.Where.{Where}
 use Rattle.sq_tree.specs.declared.statement.Where.TheVariants.{Condition, CurrentOf}
 use Rattle.sq_grammar.specs.declared.verb.Verb.{Verb}
 use Rattle.sq_grammar.specs.declared.verb.Verb.TheVariants as verb
-use Rattle.sq_grammar.specs.Reading.{Parser, ◌>>=◌, ◌>>◌, pure, stuck, and_then, eat, eat_symbol, eat_word, expect_word, expect_symbol, one_if_any, name, listed}
+use Rattle.sq_grammar.specs.Reading.{Parser, ◌>>=◌, ◌>>◌, pure, stuck, eat_symbol, eat_word, expect_word, expect_symbol, one_if_any, name, listed}
 use Rattle.sq_grammar.specs.Names.{table_name, parameter, signed_number, columns_if_any}
 use Rattle.sq_grammar.specs.Expr as expressions
 use Rattle.sq_grammar.specs.Expr.{expr, quantifier_if_any}

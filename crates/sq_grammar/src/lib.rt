@@ -1,7 +1,8 @@
 //! The grammar as reading: each rule is a function from tokens to a tree and the tokens after it.
 //!
-//! The definitions stand in `specs/`, and the laws about them in `proofs/`: what is read is spelled by its tokens.
-//! Here are only the types that both the definitions and the parser speak of.
+//! The definitions stand in `specs/`. Of them it is proved (`proofs/`) that what is read is spelled by its tokens, that the
+//! tokens of every tree are read as it unless it is too deep, and so that no two trees of one kind have one list of tokens
+//! ([`laws`]). Here are only those laws and the types that both the definitions and the parser speak of.
 #![tactic(auto)]
 
 pub mod laws;

@@ -1,4 +1,3 @@
-use Rattle.std.proofs.Common.{◌≡◌}
 use Rattle.sq_grammar.proofs.OneModule.{one_bare_declaration}
 use Rattle.sq_grammar.proofs.laws.module_text.one_bare_declaration.Goals as goal
 
