@@ -1,19 +1,24 @@
 -- Two module texts with one list of tokens are one, and so for their parts.
-use Rattle.std.proofs.Common.{◌≡◌, ℕ, suc, max, [], Some, refl, arith}
+use Rattle.std.proofs.Common.{◌≡◌, ℕ, suc, max, [], ◌∷◌, Option, Some, None, refl, arith}
+use Rattle.sq_lex.specs.declared.lexeme.Lexeme.{Lexeme}
+use Rattle.sq_lex.specs.declared.lexeme.Lexeme.TheVariants as lexeme
 use Rattle.sq_tree.specs.declared.module.ModuleText.{ModuleText}
 use Rattle.sq_tree.specs.declared.module.ModuleItem.{ModuleItem}
 use Rattle.sq_tree.specs.declared.module.Cursor.{Cursor}
 use Rattle.sq_tree.specs.declared.module.SortSpecification.{SortSpecification}
 use Rattle.sq_tree.specs.declared.module.SortDirection.{SortDirection}
+use Rattle.sq_tree.specs.declared.module.SortKey.{SortKey}
+use Rattle.sq_tree.specs.declared.module.SortKey.TheVariants.{Column, Position}
 use Rattle.sq_tree.specs.declared.module.Procedure.{Procedure}
 use Rattle.sq_tree.specs.declared.module.Declarations.{Declarations}
 use Rattle.sq_tree.specs.declared.module.BareDeclaration.{BareDeclaration}
 use Rattle.sq_tree.specs.declared.module.Declaration.{Declaration}
-use Rattle.sq_tree.specs.Module.{direction_tokens, sort_specification_tokens, cursor_tokens, declaration_tokens, bare_declaration_tokens, declarations_tokens, procedure_tokens, module_item_tokens, module_tokens, declaration_depth, bare_declaration_depth, declarations_depth, cursor_depth, procedure_depth, module_item_depth, module_depth}
+use Rattle.sq_tree.specs.Module.{direction_tokens, sort_key_token, sort_specification_tokens, cursor_tokens, declaration_tokens, bare_declaration_tokens, declarations_tokens, procedure_tokens, module_item_tokens, module_tokens, declaration_depth, bare_declaration_depth, declarations_depth, cursor_depth, procedure_depth, module_item_depth, module_depth}
 use Rattle.sq_grammar.proofs.Spells.{some_is}
 use Rattle.sq_grammar.proofs.QueryTakes.{query_takes}
 use Rattle.sq_grammar.proofs.ModuleTakes.{EndsSort, EndsCursor, declaration_takes, bare_declaration_takes, declarations_takes, direction_takes, sort_specification_takes, cursor_takes, procedure_takes, item_takes}
 use Rattle.sq_grammar.proofs.TextTakes.{end_of_query, statement_taken, module_taken}
+use Rattle.sq_grammar.proofs.OneToken.{one_token}
 use Rattle.sq_grammar.proofs.OneTree.{one_tree, behind_first}
 use Rattle.sq_grammar.proofs.OneType.{end_of_type}
 
@@ -45,6 +50,18 @@ one_declarations a b same =
 
 pub one_sort_direction : (a b : SortDirection) → direction_tokens a ≡ direction_tokens b → a ≡ b
 one_sort_direction a b same = some_is a b (one_tree (direction_takes (Some a) {a = 0} {left = 0} end_of_sort) (direction_takes (Some b) end_of_sort) (omega arith) (omega arith) same)
+
+key_of : Lexeme → Option SortKey
+key_of (lexeme.Name n) = Some (Column n)
+key_of (lexeme.Number n) = Some (Position n)
+key_of _ = None
+
+key_is : (k : SortKey) → key_of (sort_key_token k) ≡ Some k
+key_is (Column n) = refl
+key_is (Position n) = refl
+
+pub one_sort_key : (a b : SortKey) → sort_key_token a ∷ [] ≡ sort_key_token b ∷ [] → a ≡ b
+one_sort_key a b same = one_token key_of sort_key_token key_is a b same
 
 pub one_sort_specification : (a b : SortSpecification) → sort_specification_tokens a ≡ sort_specification_tokens b → a ≡ b
 one_sort_specification a b same = one_tree (sort_specification_takes a {a = 0} {left = 0} end_of_sort) (sort_specification_takes b end_of_sort) (omega arith) (omega arith) same

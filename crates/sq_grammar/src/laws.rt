@@ -24,7 +24,7 @@ pub use expr::{
 };
 pub use module_text::{
     one_bare_declaration, one_cursor, one_declaration, one_declarations, one_module_item,
-    one_module_text, one_procedure, one_sort_direction, one_sort_specification,
+    one_module_text, one_procedure, one_sort_direction, one_sort_key, one_sort_specification,
 };
 pub use names::{one_column_reference, one_indicator, one_name, one_parameter, one_table_name};
 pub use query::{one_query, one_query_term, one_union_term};

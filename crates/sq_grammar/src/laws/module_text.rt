@@ -1,11 +1,11 @@
 //! Module texts and their parts.
 
-ghost use Rattle.std.specs.Prelude.{◌≡◌};
+ghost use Rattle.std.specs.Prelude.{◌≡◌, ◌∷◌, []};
 ghost use Rattle.sq_tree.specs.Module as spec;
 
 use sq_tree::{
     BareDeclaration, Cursor, Declaration, Declarations, ModuleItem, ModuleText, Procedure,
-    SortDirection, SortSpecification,
+    SortDirection, SortKey, SortSpecification,
 };
 
 /// Two module texts with one list of tokens are one.
@@ -30,6 +30,12 @@ pub fn one_cursor(a: &Cursor, b: &Cursor)
 #[tactic(auto, using(crate::proofs::OneModule::one_sort_specification))]
 pub fn one_sort_specification(a: &SortSpecification, b: &SortSpecification)
     ensures { spec.sort_specification_tokens a.now ≡ spec.sort_specification_tokens b.now → a.now ≡ b.now }
+{}
+
+/// Two keys of a sort with one list of tokens are one.
+#[tactic(auto, using(crate::proofs::OneModule::one_sort_key))]
+pub fn one_sort_key(a: &SortKey, b: &SortKey)
+    ensures { spec.sort_key_token a.now ∷ [] ≡ spec.sort_key_token b.now ∷ [] → a.now ≡ b.now }
 {}
 
 /// Two directions of a sort with one list of tokens are one.
