@@ -43,7 +43,7 @@ use Rattle.sq_grammar.proofs.Takes.{Takes, done, fits, lifted, respelled, andthe
 use Rattle.sq_grammar.proofs.NamesTakes.{column_cases}
 use Rattle.sq_grammar.proofs.ExprTakes.{Starts, expr_starts, foreign, expr_takes, expr_from_takes, close_ends}
 use Rattle.sq_grammar.proofs.TailTakes.{subquery_takes, tail_takes, no_tail, close_ends_cond}
-use Rattle.sq_grammar.proofs.Follows.{EndsExpr, EndsBare, EndsTest, EndsConj, EndsCond}
+use Rattle.sq_grammar.proofs.Follows.{EndsExpr, EndsBare, EndsTest, EndsConj, EndsCond, ends_expr}
 
 -- ---- an expression in its parts
 
@@ -165,12 +165,12 @@ module _ (left : ℕ) (inner : Parser (Mixed Cond))
       (λ n. rw (law.tail_tokens-Null n) (plain_ends word.Is _ refl)) t
     where
       operator_ends : (op : Comparison) (us : Tokens) → EndsExpr (comparison_token op ∷ us)
-      operator_ends comparison.Equal us = record { term = record { factor = record { dot = refl; colon = refl; indicator = refl }; star = refl; slash = refl }; plus = refl; minus = refl }
-      operator_ends comparison.NotEqual us = record { term = record { factor = record { dot = refl; colon = refl; indicator = refl }; star = refl; slash = refl }; plus = refl; minus = refl }
-      operator_ends comparison.Less us = record { term = record { factor = record { dot = refl; colon = refl; indicator = refl }; star = refl; slash = refl }; plus = refl; minus = refl }
-      operator_ends comparison.Greater us = record { term = record { factor = record { dot = refl; colon = refl; indicator = refl }; star = refl; slash = refl }; plus = refl; minus = refl }
-      operator_ends comparison.LessOrEqual us = record { term = record { factor = record { dot = refl; colon = refl; indicator = refl }; star = refl; slash = refl }; plus = refl; minus = refl }
-      operator_ends comparison.GreaterOrEqual us = record { term = record { factor = record { dot = refl; colon = refl; indicator = refl }; star = refl; slash = refl }; plus = refl; minus = refl }
+      operator_ends comparison.Equal us = ends_expr _ refl
+      operator_ends comparison.NotEqual us = ends_expr _ refl
+      operator_ends comparison.Less us = ends_expr _ refl
+      operator_ends comparison.Greater us = ends_expr _ refl
+      operator_ends comparison.LessOrEqual us = ends_expr _ refl
+      operator_ends comparison.GreaterOrEqual us = ends_expr _ refl
 
       plain_ends : (w : Word) (us : Tokens) → same_word w word.Indicator ≡ false → EndsExpr (lexeme.Word w ∷ us)
       plain_ends w us other = record { term = record { factor = record { dot = refl; colon = refl; indicator = other }; star = refl; slash = refl }; plus = refl; minus = refl }
@@ -220,7 +220,7 @@ module _ (left : ℕ) (inner : Parser (Mixed Cond))
   and_each t rest ends = behind_it (word word.And) (strict_test left inner) (mapped (test left inner) strict (Whole t) (test_takes t rest ends) refl)
 
   and_starts : (t : Test) (rest : Tokens) → EndsTest (and_test t ++ rest)
-  and_starts t rest = record { expr = record { term = record { factor = record { dot = refl; colon = refl; indicator = refl }; star = refl; slash = refl }; plus = refl; minus = refl }; escape = refl }
+  and_starts t rest = record { expr = ends_expr _ refl; escape = refl }
 
   and_long : (t : Test) → 0 < length (and_test t)
   and_long t = omega arith
@@ -243,7 +243,7 @@ module _ (left : ℕ) (inner : Parser (Mixed Cond))
   or_each c rest ends = behind_it (word word.Or) (strict_conj left inner) (mapped (conj left inner) strict (Whole c) (conj_takes c rest ends) refl)
 
   or_starts : (c : Conj) (rest : Tokens) → EndsConj (or_conj c ++ rest)
-  or_starts c rest = record { test = record { expr = record { term = record { factor = record { dot = refl; colon = refl; indicator = refl }; star = refl; slash = refl }; plus = refl; minus = refl }; escape = refl }; and = refl }
+  or_starts c rest = record { test = record { expr = ends_expr _ refl; escape = refl }; and = refl }
 
   or_long : (c : Conj) → 0 < length (or_conj c)
   or_long c = omega arith

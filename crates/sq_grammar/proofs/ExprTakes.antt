@@ -36,7 +36,7 @@ use Rattle.sq_grammar.specs.Expr.{times_if_any, quantifier_if_any, function_of, 
 use Rattle.sq_grammar.specs.Expr as spec
 use Rattle.sq_grammar.proofs.Takes.{Takes, done, fits, lifted, andthen, plainly, mapped, word, mark, closing, expected, eaten, uneaten, met, unmet, openly, rows, follows}
 use Rattle.sq_grammar.proofs.NamesTakes.{a_colon, column_cases, column_1, column_2, column_3, column_from_1, column_from_2, column_from_3, parameter_from_takes, sign_takes}
-use Rattle.sq_grammar.proofs.Follows.{EndsFactor, EndsTerm, EndsExpr}
+use Rattle.sq_grammar.proofs.Follows.{EndsFactor, EndsTerm, EndsExpr, ends_expr}
 
 -- "*" | "/"
 pub times_takes : (s : TimesSign) {a left : ℕ} {rest : Tokens} → Takes times_if_any (times_token s ∷ []) a a 0 left (Some s) rest
@@ -160,7 +160,7 @@ not_star = expr_starts _ no_star
 
 -- a closing bracket ends an expression
 pub close_ends : (ts : Tokens) → EndsExpr (lexeme.Symbol symbol.Close ∷ ts)
-close_ends ts = record { term = record { factor = record { dot = refl; colon = refl; indicator = refl }; star = refl; slash = refl }; plus = refl; minus = refl }
+close_ends ts = ends_expr _ refl
 
 sign_ends : (s : Sign) (ts : Tokens) → EndsTerm (sign_token s ∷ ts)
 sign_ends Plus ts = record { factor = record { dot = refl; colon = refl; indicator = refl }; star = refl; slash = refl }

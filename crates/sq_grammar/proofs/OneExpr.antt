@@ -19,7 +19,7 @@ use Rattle.sq_grammar.proofs.OneTree.{one_tree}
 use Rattle.sq_grammar.proofs.OneToken.{one_token}
 use Rattle.sq_grammar.proofs.NamesTakes.{sign_takes, signed_takes}
 use Rattle.sq_grammar.proofs.ExprTakes.{times_takes, quantifier_takes, primary_takes, factor_takes, scaled_each, term_takes, added_each, expr_takes, inside_takes}
-use Rattle.sq_grammar.proofs.Follows.{EndsExpr}
+use Rattle.sq_grammar.proofs.Follows.{EndsExpr, ends_expr}
 
 pub one_sign : (a b : Sign) → sign_token a ∷ [] ≡ sign_token b ∷ [] → a ≡ b
 one_sign a b same = some_is a b (one_tree (sign_takes (Some a) {a = 0} {left = 0} {rest = []} refl refl) (sign_takes (Some b) {a = 0} {rest = []} refl refl) (omega arith) (omega arith) same)
@@ -44,7 +44,7 @@ pub one_signed_number : (a b : SignedNumber) → signed_number_tokens a ≡ sign
 one_signed_number a b same = one_tree (signed_takes a {a = 0} {left = 0} {rest = []}) (signed_takes b {a = 0} {rest = []}) (omega arith) (omega arith) same
 
 pub end_of_expr : EndsExpr []
-end_of_expr = record { term = record { factor = record { dot = refl; colon = refl; indicator = refl }; star = refl; slash = refl }; plus = refl; minus = refl }
+end_of_expr = ends_expr _ refl
 
 pub one_primary : (a b : Primary) → primary_tokens a ≡ primary_tokens b → a ≡ b
 one_primary a b same =

@@ -51,7 +51,7 @@ one_declarations a b same =
 pub one_sort_direction : (a b : SortDirection) → direction_tokens a ≡ direction_tokens b → a ≡ b
 one_sort_direction a b same = some_is a b (one_tree (direction_takes (Some a) {a = 0} {left = 0} end_of_sort) (direction_takes (Some b) end_of_sort) (omega arith) (omega arith) same)
 
-key_of : Lexeme → Option SortKey
+abbrev key_of : Lexeme → Option SortKey
 key_of (lexeme.Name n) = Some (Column n)
 key_of (lexeme.Number n) = Some (Position n)
 key_of _ = None

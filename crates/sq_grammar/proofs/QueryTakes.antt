@@ -25,7 +25,7 @@ use Rattle.sq_grammar.proofs.ExprTakes.{expr_takes}
 use Rattle.sq_grammar.proofs.CondTakes.{cond_takes}
 use Rattle.sq_grammar.proofs.SelectTakes.{list_takes, table_takes_a, specification_takes_a}
 use Rattle.sq_grammar.proofs.TailTakes.{close_ends_table}
-use Rattle.sq_grammar.proofs.Follows.{EndsExpr, EndsTable, EndsQuery}
+use Rattle.sq_grammar.proofs.Follows.{EndsExpr, EndsTable, EndsQuery, ends_table}
 
 -- ---- query specifications, in which `left` brackets may be open
 
@@ -66,15 +66,7 @@ module _ (left : ℕ) (inner : Parser Query)
   union_each u rest ends = rw (law.union_term_tokens-out u, law.union_term_depth-out u) (behind_it (word word.Union) (union_term left inner) (union_takes u rest ends))
 
   union_starts : (u : UnionTerm) (rest : Tokens) → EndsTable (union_term_tokens u ++ rest)
-  union_starts u rest = rw (law.union_term_tokens-out u) (record {
-    cond = record { conj = record { test = record { expr = record { term = record { factor = record { dot = refl; colon = refl; indicator = refl }; star = refl; slash = refl }; plus = refl; minus = refl }; escape = refl }; and = refl }; or = refl };
-    comma = refl;
-    as_word = refl;
-    name = refl;
-    where_word = refl;
-    group = refl;
-    having = refl;
-  })
+  union_starts u rest = rw (law.union_term_tokens-out u) (ends_table _ refl refl)
 
   union_long : (u : UnionTerm) → 0 < length (union_term_tokens u)
   union_long u = rw (law.union_term_tokens-out u) (omega arith)

@@ -34,7 +34,7 @@ use Rattle.sq_grammar.specs.Cond as conditions
 use Rattle.sq_grammar.specs.Cond.{strictly, query_specification}
 use Rattle.sq_grammar.specs.Schema.{table_definition, check_option, view_definition, action, privileges, grantee, grant_option, grant, sees_created, created, nothing, element, schema_definition, next_definition, schema_text}
 use Rattle.sq_grammar.proofs.Takes.{Takes, done, fits, andthen, plainly, mapped, word, mark, expected, eaten, uneaten, either, behind_it, a_name, named, seeing, unseeing, rows, follows, none_behind, commas, flat_commas}
-use Rattle.sq_grammar.proofs.Follows.{EndsCond, EndsTable}
+use Rattle.sq_grammar.proofs.Follows.{EndsCond, EndsTable, ends_table}
 use Rattle.sq_grammar.proofs.NamesTakes.{table_takes, columns_if_any_takes}
 use Rattle.sq_grammar.proofs.TableTakes.{grouped, bracket_low, table_definition_takes}
 
@@ -52,19 +52,19 @@ pub record EndsDefinition (rest : Tokens) : Type 0 where
 
 -- the tokens that end a query, a view, a table or a grant
 with_ends : (rest : Tokens) → EndsTable (lexeme.Word word.With ∷ rest)
-with_ends rest = record { cond = record { conj = record { test = record { expr = record { term = record { factor = record { dot = refl; colon = refl; indicator = refl }; star = refl; slash = refl }; plus = refl; minus = refl }; escape = refl }; and = refl }; or = refl }; comma = refl; as_word = refl; name = refl; where_word = refl; group = refl; having = refl }
+with_ends rest = ends_table _ refl refl
 
 create_ends : (rest : Tokens) → EndsElement (lexeme.Word word.Create ∷ rest)
-create_ends rest = record { table = record { cond = record { conj = record { test = record { expr = record { term = record { factor = record { dot = refl; colon = refl; indicator = refl }; star = refl; slash = refl }; plus = refl; minus = refl }; escape = refl }; and = refl }; or = refl }; comma = refl; as_word = refl; name = refl; where_word = refl; group = refl; having = refl }; with_word = refl }
+create_ends rest = record { table = ends_table _ refl refl; with_word = refl }
 
 grant_ends : (rest : Tokens) → EndsElement (lexeme.Word word.Grant ∷ rest)
-grant_ends rest = record { table = record { cond = record { conj = record { test = record { expr = record { term = record { factor = record { dot = refl; colon = refl; indicator = refl }; star = refl; slash = refl }; plus = refl; minus = refl }; escape = refl }; and = refl }; or = refl }; comma = refl; as_word = refl; name = refl; where_word = refl; group = refl; having = refl }; with_word = refl }
+grant_ends rest = record { table = ends_table _ refl refl; with_word = refl }
 
 semicolon_ends : (rest : Tokens) → EndsElement (lexeme.Symbol symbol.Semicolon ∷ rest)
-semicolon_ends rest = record { table = record { cond = record { conj = record { test = record { expr = record { term = record { factor = record { dot = refl; colon = refl; indicator = refl }; star = refl; slash = refl }; plus = refl; minus = refl }; escape = refl }; and = refl }; or = refl }; comma = refl; as_word = refl; name = refl; where_word = refl; group = refl; having = refl }; with_word = refl }
+semicolon_ends rest = record { table = ends_table _ refl refl; with_word = refl }
 
 text_ends : EndsElement []
-text_ends = record { table = record { cond = record { conj = record { test = record { expr = record { term = record { factor = record { dot = refl; colon = refl; indicator = refl }; star = refl; slash = refl }; plus = refl; minus = refl }; escape = refl }; and = refl }; or = refl }; comma = refl; as_word = refl; name = refl; where_word = refl; group = refl; having = refl }; with_word = refl }
+text_ends = record { table = ends_table _ refl refl; with_word = refl }
 
 abbrev check_words : Tokens
 check_words = lexeme.Word word.With ∷ lexeme.Word word.Check ∷ lexeme.Word word.Option ∷ []

@@ -30,7 +30,7 @@ use Rattle.sq_grammar.specs.Select.{correlation, table_reference, from_clause, b
 use Rattle.sq_grammar.proofs.Takes.{Takes, done, fits, respelled, andthen, plainly, mapped, word, mark, expected, eaten, uneaten, behind_it, perhaps, met, unmet, named, commas, flat_commas}
 use Rattle.sq_grammar.proofs.NamesTakes.{table_takes, column_takes}
 use Rattle.sq_grammar.proofs.ExprTakes.{quantifier_takes, not_all, not_distinct, not_star}
-use Rattle.sq_grammar.proofs.Follows.{EndsExpr, EndsCond, EndsTable}
+use Rattle.sq_grammar.proofs.Follows.{EndsExpr, EndsCond, EndsTable, ends_expr, ends_cond}
 
 -- [ [ AS ] name ]
 pub correlation_takes : (c : Option Correlation) {a left : ℕ} {rest : Tokens} → sees (lexeme.Word word.As) rest ≡ false → first_of name_of rest ≡ None → Takes correlation (optional correlation_tokens c) a a 0 left c rest
@@ -98,16 +98,16 @@ having_ends_from : (ts : Tokens) → EndsFrom (lexeme.Word word.Having ∷ ts)
 having_ends_from ts = record { reference = record { dot = refl; as_word = refl; name = refl }; comma = refl }
 
 group_ends : (ts : Tokens) → EndsCond (lexeme.Word word.Group ∷ ts)
-group_ends ts = record { conj = record { test = record { expr = record { term = record { factor = record { dot = refl; colon = refl; indicator = refl }; star = refl; slash = refl }; plus = refl; minus = refl }; escape = refl }; and = refl }; or = refl }
+group_ends ts = ends_cond _ refl
 
 having_ends : (ts : Tokens) → EndsCond (lexeme.Word word.Having ∷ ts)
-having_ends ts = record { conj = record { test = record { expr = record { term = record { factor = record { dot = refl; colon = refl; indicator = refl }; star = refl; slash = refl }; plus = refl; minus = refl }; escape = refl }; and = refl }; or = refl }
+having_ends ts = ends_cond _ refl
 
 from_ends : (ts : Tokens) → EndsExpr (lexeme.Word word.From ∷ ts)
-from_ends ts = record { term = record { factor = record { dot = refl; colon = refl; indicator = refl }; star = refl; slash = refl }; plus = refl; minus = refl }
+from_ends ts = ends_expr _ refl
 
 pub comma_ends : (ts : Tokens) → EndsExpr (comma ∷ ts)
-comma_ends ts = record { term = record { factor = record { dot = refl; colon = refl; indicator = refl }; star = refl; slash = refl }; plus = refl; minus = refl }
+comma_ends ts = ends_expr _ refl
 
 -- depths behind `a` more brackets
 raised_optional : {X : Type 0} (a : ℕ) (depth : X → ℕ) (o : Option X) → max a (optional_depth (λ x. a + depth x) o) ≡ a + optional_depth depth o

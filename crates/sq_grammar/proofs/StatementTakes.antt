@@ -57,7 +57,7 @@ use Rattle.sq_grammar.specs.Cond.{cond, query_specification}
 use Rattle.sq_grammar.specs.Select.{select_list, table_expression}
 use Rattle.sq_grammar.specs.Statement.{position, orientation_of, orientation, fetch_from, fetch, new_value, target, select, insert_source, insert, assignment, update, delete, verb_of, statement}
 use Rattle.sq_grammar.proofs.Takes.{Takes, done, fits, andthen, plainly, mapped, word, mark, opening, closing, expected, eaten, uneaten, met, unmet, named, commas, flat_commas, deeper_commas}
-use Rattle.sq_grammar.proofs.Follows.{EndsFactor, EndsExpr, EndsCond, EndsTable}
+use Rattle.sq_grammar.proofs.Follows.{EndsFactor, EndsExpr, EndsCond, EndsTable, ends_expr}
 use Rattle.sq_grammar.proofs.ExprTakes.{quantifier_takes, expr_starts, foreign, not_all, not_distinct, close_ends, expr_takes, inside_takes}
 use Rattle.sq_grammar.proofs.NamesTakes.{a_colon, table_takes, parameter_takes, signed_takes, columns_if_any_takes}
 
@@ -106,13 +106,13 @@ fetch_takes f ends none = plainly fetch_from _ f.from (fetch_from_takes f.from f
 -- ---- what may follow
 
 comma_ends : (rest : Tokens) → EndsExpr (comma ∷ rest)
-comma_ends rest = record { term = record { factor = record { dot = refl; colon = refl; indicator = refl }; star = refl; slash = refl }; plus = refl; minus = refl }
+comma_ends rest = ends_expr _ refl
 
 into_ends : (rest : Tokens) → EndsExpr (lexeme.Word word.Into ∷ rest)
-into_ends rest = record { term = record { factor = record { dot = refl; colon = refl; indicator = refl }; star = refl; slash = refl }; plus = refl; minus = refl }
+into_ends rest = ends_expr _ refl
 
 where_ends : (rest : Tokens) → EndsExpr (lexeme.Word word.Where ∷ rest)
-where_ends rest = record { term = record { factor = record { dot = refl; colon = refl; indicator = refl }; star = refl; slash = refl }; plus = refl; minus = refl }
+where_ends rest = ends_expr _ refl
 
 -- a statement has a semicolon behind it
 semicolon_ends : (rest : Tokens) → EndsTable (lexeme.Symbol symbol.Semicolon ∷ rest)
@@ -127,7 +127,7 @@ semicolon_ends rest = record {
 }
   where
     expr_ends : EndsExpr (lexeme.Symbol symbol.Semicolon ∷ rest)
-    expr_ends = record { term = record { factor = record { dot = refl; colon = refl; indicator = refl }; star = refl; slash = refl }; plus = refl; minus = refl }
+    expr_ends = ends_expr _ refl
 
 table_expr_ends : {rest : Tokens} → EndsTable rest → EndsExpr rest
 table_expr_ends e = e.cond.conj.test.expr

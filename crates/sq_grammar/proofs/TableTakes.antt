@@ -35,7 +35,7 @@ use Rattle.sq_grammar.specs.Cond as conditions
 use Rattle.sq_grammar.specs.Cond.{strictly}
 use Rattle.sq_grammar.specs.Schema.{references_from, references, default_value, default_clause, check, column_constraint, column_definition, foreign_key, table_constraint, table_element, table_definition}
 use Rattle.sq_grammar.proofs.Takes.{Takes, done, fits, lifted, andthen, plainly, mapped, word, opening, closing, expected, eaten, uneaten, behind_it, met, unmet, rows, follows, commas}
-use Rattle.sq_grammar.proofs.Follows.{EndsCond}
+use Rattle.sq_grammar.proofs.Follows.{EndsCond, ends_cond}
 use Rattle.sq_grammar.proofs.NamesTakes.{table_takes, signed_takes, columns_takes, columns_if_any_takes}
 
 -- the tokens of three parts, grouped from the left
@@ -146,7 +146,7 @@ column_close : (rest : Tokens) → EndsColumn (lexeme.Symbol symbol.Close ∷ re
 column_close rest = record { constraint = record { dot = refl; bracket = refl; varying = refl; default = refl }; not = refl; unique = refl; primary = refl; references = refl; check = refl }
 
 cond_close : (rest : Tokens) → EndsCond (lexeme.Symbol symbol.Close ∷ rest)
-cond_close rest = record { conj = record { test = record { expr = record { term = record { factor = record { dot = refl; colon = refl; indicator = refl }; star = refl; slash = refl }; plus = refl; minus = refl }; escape = refl }; and = refl }; or = refl }
+cond_close rest = ends_cond _ refl
 
 module _ (data_type_takes : (t : DataType) (a left : ℕ) (rest : Tokens) → sees (lexeme.Symbol symbol.Open) rest ≡ false → sees (lexeme.Word word.Varying) rest ≡ false → Takes data_type (data_type_tokens t) a a 0 left t rest)
     (inner_cond_takes : (left : ℕ) (c : Cond) (rest : Tokens) → 0 < left → EndsCond rest → Takes (strictly (conditions.inside left)) (cond_tokens c) 1 1 (suc (cond_depth c)) left c rest) where

@@ -32,7 +32,7 @@ use Rattle.sq_grammar.specs.Cond.{comparison_of, compared_if_any, sees_query, st
 use Rattle.sq_grammar.proofs.Takes.{Takes, done, fits, respelled, andthen, plainly, mapped, word, closing, expected, eaten, uneaten, either, perhaps, met, unmet, openly, seeing, unseeing, commas, deeper_commas}
 use Rattle.sq_grammar.proofs.ExprTakes.{Starts, expr_starts, foreign, expr_takes, inside_takes, close_ends}
 use Rattle.sq_grammar.proofs.SelectTakes.{specification_takes_a, comma_ends, before_last}
-use Rattle.sq_grammar.proofs.Follows.{EndsExpr, EndsBare, EndsTest, EndsCond, EndsTable}
+use Rattle.sq_grammar.proofs.Follows.{EndsExpr, EndsBare, EndsTest, EndsCond, EndsTable, ends_expr}
 
 pub comparison_is : (c : Comparison) → comparison_of (comparison_token c) ≡ Some c
 comparison_is comparison.Equal = refl
@@ -91,10 +91,10 @@ lacks_query : (e : Expr) (ts : Tokens) → sees_query (expr_tokens e ++ ts) ≡ 
 lacks_query = expr_starts _ no_query
 
 and_ends : (ts : Tokens) → EndsExpr (lexeme.Word word.And ∷ ts)
-and_ends ts = record { term = record { factor = record { dot = refl; colon = refl; indicator = refl }; star = refl; slash = refl }; plus = refl; minus = refl }
+and_ends ts = ends_expr _ refl
 
 escape_ends : (ts : Tokens) → EndsExpr (lexeme.Word word.Escape ∷ ts)
-escape_ends ts = record { term = record { factor = record { dot = refl; colon = refl; indicator = refl }; star = refl; slash = refl }; plus = refl; minus = refl }
+escape_ends ts = ends_expr _ refl
 
 pub close_ends_cond : (ts : Tokens) → EndsCond (lexeme.Symbol symbol.Close ∷ ts)
 close_ends_cond ts = record { conj = record { test = record { expr = close_ends ts; escape = refl }; and = refl }; or = refl }

@@ -20,7 +20,7 @@ use Rattle.sq_grammar.specs.Module.{module_text}
 use Rattle.sq_grammar.specs.Schema.{schema_text}
 use Rattle.sq_grammar.specs.Script.{script_text}
 use Rattle.sq_grammar.proofs.Takes.{Takes}
-use Rattle.sq_grammar.proofs.Follows.{EndsQuery}
+use Rattle.sq_grammar.proofs.Follows.{EndsQuery, ends_table}
 use Rattle.sq_grammar.proofs.DataTypeTakes.{flat_type_takes}
 use Rattle.sq_grammar.proofs.CondTakes.{cond_takes, inner_cond_takes}
 use Rattle.sq_grammar.proofs.QueryTakes.{specification_takes, table_expression_takes, select_list_takes, query_takes}
@@ -32,15 +32,7 @@ use Rattle.sq_grammar.proofs.ScriptTakes.{script_takes}
 -- nothing follows
 pub end_of_query : EndsQuery []
 end_of_query = record {
-  table = record {
-    cond = record { conj = record { test = record { expr = record { term = record { factor = record { dot = refl; colon = refl; indicator = refl }; star = refl; slash = refl }; plus = refl; minus = refl }; escape = refl }; and = refl }; or = refl };
-    comma = refl;
-    as_word = refl;
-    name = refl;
-    where_word = refl;
-    group = refl;
-    having = refl;
-  };
+  table = ends_table _ refl refl;
   union = refl;
 }
 
