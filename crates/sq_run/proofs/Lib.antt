@@ -1,5 +1,6 @@
 pub mod Can
 pub mod Known
+pub mod Refused
 pub mod Runs
 pub mod Walk
 pub mod Wrote

@@ -1,4 +1,6 @@
+pub mod Fault
 pub mod Lent
 pub mod Prepared
+pub mod Refused
 pub mod Run
 pub mod Stop

@@ -1,11 +1,12 @@
 //! Looking up the names of a script's items.
-ghost use Rattle.std.specs.Prelude.{◌≡◌, ◌<◌, Some, true, length, map, IfOk, IfSome};
+ghost use Rattle.std.specs.Prelude.{◌≡◌, ◌<◌, Some, true, length, map, IfErr, IfOk, IfSome};
 ghost use Rattle.std.specs.List.{list_all};
 ghost use Rattle.std.specs.Option.{option_copied};
 ghost use Rattle.sq_model.specs.Script as model;
 ghost use Rattle.sq_model.specs.Program.{each_known};
 ghost use Rattle.std.specs.Result.{result_ok};
 ghost use Rattle.sq_value.specs.Storing as spec;
+ghost use Rattle.sq_run.specs.Fault.{IsItemMeaning};
 
 use crate::bind::{named, table_of};
 use crate::refusal::RefusalName;
@@ -110,7 +111,8 @@ fn called_at(
     place: usize,
     procedure: &BoundProcedure,
 ) -> Result<Action, ItemFault>
-    ensures { IfOk result (λ action. model.called_at call.now place procedure.now ≡ Some action) }
+    ensures action { IfOk result (λ action. model.called_at call.now place procedure.now ≡ Some action) }
+    ensures of_meaning { IfErr result IsItemMeaning }
 {
     let Some(values) = started_values(alloc, arguments_of(&call.values))? else {
         return Err(ItemFault::Refused(RefusalName::BadArguments));
@@ -135,7 +137,8 @@ fn procedure_place(procedures: &[BoundProcedure], name: Name) -> Option<usize>
 
 /// A call with its procedure's place among these and its values.
 fn called_in(alloc: Global, procedures: &[BoundProcedure], call: &Call) -> Result<Action, ItemFault>
-    ensures { IfOk result (λ action. model.called_in procedures.now call.now ≡ Some action) }
+    ensures action { IfOk result (λ action. model.called_in procedures.now call.now ≡ Some action) }
+    ensures of_meaning { IfErr result IsItemMeaning }
 {
     match procedure_place(procedures, call.procedure) {
         Some(place) => called_at(alloc, call, place, &procedures[place]),
@@ -144,7 +147,8 @@ fn called_in(alloc: Global, procedures: &[BoundProcedure], call: &Call) -> Resul
 }
 
 fn called(alloc: Global, bound: Option<&BoundModule>, call: &Call) -> Result<Action, ItemFault>
-    ensures { IfOk result (λ action. model.called (option_copied bound.entry) call.now ≡ Some action) }
+    ensures action { IfOk result (λ action. model.called (option_copied bound.entry) call.now ≡ Some action) }
+    ensures of_meaning { IfErr result IsItemMeaning }
 {
     match bound {
         Some(module) if module.name == call.module => {
@@ -157,6 +161,7 @@ fn called(alloc: Global, bound: Option<&BoundModule>, call: &Call) -> Result<Act
 /// The showing of a table.
 fn shown(schema: Option<&Schema>, item: &TableItem) -> Result<Action, ItemFault>
     ensures action { IfOk result (λ action. model.shown (option_copied schema.entry) item.now ≡ Some action) }
+    ensures of_meaning { IfErr result IsItemMeaning }
 {
     match named(table_of(schema, item.user), item.table) {
         Some(_) => Ok(Action::Show(item.user, item.table)),
@@ -172,6 +177,7 @@ pub(crate) fn action_of(
     item: &Item,
 ) -> Result<Action, ItemFault>
     ensures action { IfOk result (λ action. model.action_of (option_copied schema.entry) (option_copied bound.entry) item.now ≡ Some action) }
+    ensures of_meaning { IfErr result IsItemMeaning }
 {
     match item {
         Item::Call(call) => called(alloc, bound, call),

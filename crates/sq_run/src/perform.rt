@@ -4,6 +4,7 @@ ghost use Rattle.std.specs.Io.KnownBytes.{Appends};
 ghost use Rattle.sq_model.specs.Script.{performed, can_perform, cursors_of, procedures_of, table_count, schema_table, first_state};
 ghost use Rattle.sq_model.specs.Report.{action_lines, report};
 ghost use Rattle.sq_run.specs.Prepared.{IsPrepared};
+ghost use Rattle.sq_run.specs.Refused.{RefusedText};
 ghost use Rattle.sq_run.specs.Run.{Run, report_of, texts};
 ghost use Rattle.sq_run.specs.Stop.{StoppedAt, Wrote, is_write};
 
@@ -46,6 +47,9 @@ pub fn run<S: Store, W: Out>(
     // first bytes of the report. Only an output that has failed gives an output fault.
     ensures stopped { IfErr result (Wrote (texts schemas.now) (texts modules.now) script.now limits.row_numbers (W.taken out.old) (W.taken out.new)) }
     ensures failed { IfErr result (λ fault. is_write fault ≡ true → W.failed out.new ≡ true) }
+
+    // A text is refused for its tokens or its grammar only where no tree of depth at most 32 spells it.
+    ensures unspelled { IfErr result (RefusedText (texts schemas.now) (texts modules.now) script.now) }
 {
     let prepared = prepare(alloc, schemas, modules, script)?;
     run_prepared::<S, W>(alloc, &prepared, limits, out)

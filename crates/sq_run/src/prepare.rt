@@ -2,14 +2,16 @@
 ghost use Rattle.std.specs.Prelude.{◌≡◌, Some, true, length, map, IfErr, IfOk};
 ghost use Rattle.std.specs.Option.{option_copied, option_map};
 ghost use Rattle.std.specs.List.{list_all};
-ghost use Rattle.sq_tree.specs.Schema.{schema_tokens};
-ghost use Rattle.sq_tree.specs.Module.{module_tokens};
+ghost use Rattle.sq_tree.specs.Schema.{schema_tokens, schema_depth};
+ghost use Rattle.sq_tree.specs.Module.{module_tokens, module_depth};
 ghost use Rattle.sq_part.specs.Schema.{first_schema};
 ghost use Rattle.sq_part.specs.Module.{first_module};
 ghost use Rattle.sq_model.specs.Script as model;
 ghost use Rattle.sq_model.specs.Script.{IsBound, all_among, can_perform, cursors_of, procedures_of, table_count, schema_table};
-ghost use Rattle.sq_tree.specs.Script.{script_tokens};
-ghost use Rattle.sq_run.specs.Run.{Says, SaysAtMostOne, some_script, texts};
+ghost use Rattle.sq_tree.specs.Script.{script_tokens, script_depth};
+ghost use Rattle.sq_run.specs.Fault.{IsOfMeaning, FirstRefused, SomeRefused};
+ghost use Rattle.sq_run.specs.Refused.{RefusedText};
+ghost use Rattle.sq_run.specs.Run.{Says, SaysAtMostOne, Spells, some_script, texts};
 ghost use Rattle.sq_run.specs.Prepared.{IsPrepared};
 ghost use Rattle.sq_run.specs.Stop.{is_early};
 
@@ -35,7 +37,8 @@ pub(crate) struct Prepared {
 
 /// The schema, if there is a text of one.
 fn read_schemas(alloc: Global, schemas: &[Vec<u8>]) -> Result<Option<Schema>, TextFault>
-    ensures { IfOk result (λ schema. SaysAtMostOne schema_tokens first_schema (texts schemas.now) schema) }
+    ensures spelled { IfOk result (λ schema. SaysAtMostOne schema_tokens first_schema (texts schemas.now) schema) }
+    ensures no_tree { IfErr result (SomeRefused schema_tokens schema_depth (texts schemas.now)) }
 {
     match schemas {
         [] => Ok(None),
@@ -44,7 +47,7 @@ fn read_schemas(alloc: Global, schemas: &[Vec<u8>]) -> Result<Option<Schema>, Te
             check_columns(alloc, &text)?;
             Ok(Some(text.into_said()))
         }
-        [first, ..] => {
+        [first, _, ..] => {
             schema_of(alloc, first.as_slice())?;
             Err(refused_at(&[], 1, 0, RefusalName::NotYet))
         }
@@ -52,7 +55,9 @@ fn read_schemas(alloc: Global, schemas: &[Vec<u8>]) -> Result<Option<Schema>, Te
 }
 
 /// Checks that the table has no column twice and no more than 64.
-fn check_columns(alloc: Global, text: &Text<Schema>) -> Result<(), TextFault> {
+fn check_columns(alloc: Global, text: &Text<Schema>) -> Result<(), TextFault>
+    ensures { IfErr result IsOfMeaning }
+{
     if let Some(table) = &text.said.table {
         let names = column_names(alloc, table)?;
         if names.len() > MOST_NAMES || !are_distinct(alloc, names.as_slice())? {
@@ -64,12 +69,13 @@ fn check_columns(alloc: Global, text: &Text<Schema>) -> Result<(), TextFault> {
 
 /// The module, if there is a text of one.
 fn read_modules(alloc: Global, modules: &[Vec<u8>]) -> Result<Option<Text<Module>>, TextFault>
-    ensures { IfOk result (λ text. SaysAtMostOne module_tokens first_module (texts modules.now) (option_map (λ t. t.said) text)) }
+    ensures spelled { IfOk result (λ text. SaysAtMostOne module_tokens first_module (texts modules.now) (option_map (λ t. t.said) text)) }
+    ensures no_tree { IfErr result (SomeRefused module_tokens module_depth (texts modules.now)) }
 {
     match modules {
         [] => Ok(None),
         [only] => Ok(Some(module_of(alloc, only.as_slice())?)),
-        [first, ..] => {
+        [first, _, ..] => {
             module_of(alloc, first.as_slice())?;
             Err(refused_at(&[], 1, 0, RefusalName::NotYet))
         }
@@ -84,6 +90,7 @@ fn bind_text(
 ) -> Result<BoundModule, TextFault>
     ensures bound { IfOk result (λ bound. IsBound (option_copied schema.entry) (Some text.now.said) (Some bound)) }
     ensures among { IfOk result (λ bound. all_among (table_count (schema_table (option_copied schema.entry))) (length bound.cursors) bound.procedures ≡ true) }
+    ensures of_meaning { IfErr result IsOfMeaning }
 {
     let module = &text.said;
     match bind_module(alloc, table_of(schema, module.user), module) {
@@ -103,6 +110,7 @@ fn actions_of(
     requires { all_among (table_count (schema_table (option_copied schema))) (length (cursors_of (option_copied bound))) (procedures_of (option_copied bound)) ≡ true }
     ensures actions { IfOk result (λ actions. map (model.action_of (option_copied schema.entry) (option_copied bound.entry)) text.now.said.items ≡ map Some actions) }
     ensures can { IfOk result (λ actions. list_all (can_perform (table_count (schema_table (option_copied schema.entry))) (length (cursors_of (option_copied bound.entry))) (procedures_of (option_copied bound.entry))) actions ≡ true) }
+    ensures of_meaning { IfErr result IsOfMeaning }
 {
     let mut actions = Items::new(alloc);
     let items = text.said.items.as_slice();
@@ -125,6 +133,7 @@ pub(crate) fn prepare(
 ) -> Result<Prepared, RunFault>
     ensures prepared { IfOk result (IsPrepared (texts schemas.now) (texts modules.now) script.now) }
     ensures early { IfErr result (λ fault. is_early fault ≡ true) }
+    ensures unspelled { IfErr result (RefusedText (texts schemas.now) (texts modules.now) script.now) }
 {
     let schema = match read_schemas(alloc, schemas) {
         Ok(schema) => schema,
@@ -158,6 +167,7 @@ fn read_program(
     ensures spelled { IfOk result (λ read. SaysAtMostOne module_tokens first_module (texts modules.now) read.0) }
     ensures bound { IfOk result (λ read. IsBound (option_copied schema.entry) read.0 read.1) }
     ensures among { IfOk result (λ read. all_among (table_count (schema_table (option_copied schema.entry))) (length (cursors_of read.1)) (procedures_of read.1) ≡ true) }
+    ensures no_tree { IfErr result (SomeRefused module_tokens module_depth (texts modules.now)) }
 {
     match read_modules(alloc, modules)? {
         Some(text) => {
@@ -179,6 +189,7 @@ fn read_items(
     ensures spelled { IfOk result (λ read. Says script_tokens some_script script.now read.0) }
     ensures actions { IfOk result (λ read. map (model.action_of (option_copied schema.entry) (option_copied bound.entry)) read.0.items ≡ map Some read.1) }
     ensures can { IfOk result (λ read. list_all (can_perform (table_count (schema_table (option_copied schema.entry))) (length (cursors_of (option_copied bound.entry))) (procedures_of (option_copied bound.entry))) read.1 ≡ true) }
+    ensures no_tree { IfErr result (FirstRefused (λ tree. Spells script.now (script_tokens tree)) script_depth) }
 {
     let text = script_of(alloc, script)?;
     let actions = actions_of(alloc, schema, bound, &text)?;

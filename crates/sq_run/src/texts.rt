@@ -1,13 +1,15 @@
 //! Reading texts, and taking the first language out of their trees.
-ghost use Rattle.std.specs.Prelude.{◌≡◌, Ok, IfOk};
+ghost use Rattle.std.specs.Prelude.{◌≡◌, Ok, IfErr, IfOk};
 ghost use Rattle.sq_lex.specs.Reading.{reading};
 ghost use Rattle.sq_lex.specs.Token.{lexemes};
-ghost use Rattle.sq_tree.specs.Schema.{schema_tokens};
-ghost use Rattle.sq_tree.specs.Module.{module_tokens};
-ghost use Rattle.sq_tree.specs.Script.{script_tokens};
+ghost use Rattle.sq_tree.specs.Schema.{schema_tokens, schema_depth};
+ghost use Rattle.sq_tree.specs.Module.{module_tokens, module_depth};
+ghost use Rattle.sq_tree.specs.Script.{script_tokens, script_depth};
 ghost use Rattle.sq_part.specs.Schema.{first_schema};
 ghost use Rattle.sq_part.specs.Module.{first_module};
-ghost use Rattle.sq_run.specs.Run.{Says, some_script};
+ghost use Rattle.sq_run.specs.Fault.{IsRefusal, IsParseFault, IsUnread, IsOfMeaning, FirstRefused};
+ghost use Rattle.sq_run.specs.Refused.{Grammar, matter};
+ghost use Rattle.sq_run.specs.Run.{Says, Spells, some_script};
 
 use crate::refusal::{Refusal, RefusalName};
 use sq_first::{Module, Schema, Script};
@@ -48,7 +50,9 @@ impl<T: Drop> Text<T> {
 
 impl<T> Text<T> {
     /// A refusal at the first token of an element, cursor, procedure or item.
-    pub(crate) fn refused_part(&self, part: usize, what: RefusalName) -> TextFault {
+    pub(crate) fn refused_part(&self, part: usize, what: RefusalName) -> TextFault
+        ensures { IsRefusal 0 what result }
+    {
         refused_part(self.tokens.as_slice(), self.starts.as_slice(), part, what)
     }
 }
@@ -73,7 +77,8 @@ impl From<AllocError> for TextFault {
 
 /// The tokens of the text at this place among those of its kind.
 fn tokens_of(alloc: Global, text: usize, bytes: &[u8]) -> Result<Vec<Token>, TextFault>
-    ensures { IfOk result (λ tokens. reading bytes.now ≡ Ok tokens.items) }
+    ensures read { IfOk result (λ tokens. reading bytes.now ≡ Ok tokens.items) }
+    ensures unread { IfErr result (IsUnread text bytes.now) }
 {
     match lex(alloc, bytes) {
         Ok(tokens) => Ok(tokens),
@@ -87,7 +92,9 @@ fn tokens_of(alloc: Global, text: usize, bytes: &[u8]) -> Result<Vec<Token>, Tex
     }
 }
 
-fn lexical_name(kind: LexFaultKind) -> RefusalName {
+fn lexical_name(kind: LexFaultKind) -> RefusalName
+    ensures { matter result ≡ Grammar }
+{
     match kind {
         LexFaultKind::BadByte => RefusalName::BadByte,
         LexFaultKind::OpenText => RefusalName::OpenText,
@@ -104,7 +111,9 @@ pub(crate) fn refused_at(
     text: usize,
     token: usize,
     what: RefusalName,
-) -> TextFault {
+) -> TextFault
+    ensures { IsRefusal text what result }
+{
     let (line, column) = match tokens.get(token) {
         Some(token) => (token.line, token.column),
         None => (1, 1),
@@ -117,13 +126,17 @@ pub(crate) fn refused_at(
     })
 }
 
-fn refused_part(tokens: &[Token], starts: &[usize], part: usize, what: RefusalName) -> TextFault {
+fn refused_part(tokens: &[Token], starts: &[usize], part: usize, what: RefusalName) -> TextFault
+    ensures { IsRefusal 0 what result }
+{
     let token = starts.get(part).copied().unwrap_or(0);
     refused_at(tokens, 0, token, what)
 }
 
 /// What a parse's fault means for a text. A text that ends too early is refused at its last token.
-fn parse_fault(tokens: &[Token], fault: ParseError) -> TextFault {
+fn parse_fault(tokens: &[Token], fault: ParseError) -> TextFault
+    ensures { IsParseFault fault result }
+{
     match fault {
         ParseError::NoMemory => TextFault::NoMemory,
         ParseError::Unexpected(token) => refused_at(tokens, 0, token, RefusalName::Unexpected),
@@ -136,7 +149,9 @@ fn parse_fault(tokens: &[Token], fault: ParseError) -> TextFault {
 }
 
 /// What it means that a tree is not of the first language.
-fn take_fault(tokens: &[Token], starts: &[usize], fault: TakeFault) -> TextFault {
+fn take_fault(tokens: &[Token], starts: &[usize], fault: TakeFault) -> TextFault
+    ensures { IsOfMeaning result }
+{
     match fault {
         TakeFault::NoMemory => TextFault::NoMemory,
         TakeFault::NotYet(part) => refused_part(tokens, starts, part, RefusalName::NotYet),
@@ -145,7 +160,8 @@ fn take_fault(tokens: &[Token], starts: &[usize], fault: TakeFault) -> TextFault
 }
 
 fn schema_tree(alloc: Global, tokens: &[Token]) -> Result<SchemaText, TextFault>
-    ensures { IfOk result (λ tree. lexemes tokens.now ≡ schema_tokens tree) }
+    ensures spelled { IfOk result (λ tree. lexemes tokens.now ≡ schema_tokens tree) }
+    ensures no_tree { IfErr result (FirstRefused (λ tree. schema_tokens tree ≡ lexemes tokens.now) schema_depth) }
 {
     match parse_schema(alloc, tokens) {
         Ok(tree) => Ok(tree),
@@ -154,7 +170,8 @@ fn schema_tree(alloc: Global, tokens: &[Token]) -> Result<SchemaText, TextFault>
 }
 
 pub(crate) fn schema_of(alloc: Global, bytes: &[u8]) -> Result<Text<Schema>, TextFault>
-    ensures { IfOk result (λ text. Says schema_tokens first_schema bytes.now text.said) }
+    ensures said { IfOk result (λ text. Says schema_tokens first_schema bytes.now text.said) }
+    ensures no_tree { IfErr result (FirstRefused (λ tree. Spells bytes.now (schema_tokens tree)) schema_depth) }
 {
     let tokens = tokens_of(alloc, 0, bytes)?;
     let tree = schema_tree(alloc, tokens.as_slice())?;
@@ -170,7 +187,8 @@ pub(crate) fn schema_of(alloc: Global, bytes: &[u8]) -> Result<Text<Schema>, Tex
 }
 
 fn module_tree(alloc: Global, tokens: &[Token]) -> Result<ModuleText, TextFault>
-    ensures { IfOk result (λ tree. lexemes tokens.now ≡ module_tokens tree) }
+    ensures spelled { IfOk result (λ tree. lexemes tokens.now ≡ module_tokens tree) }
+    ensures no_tree { IfErr result (FirstRefused (λ tree. module_tokens tree ≡ lexemes tokens.now) module_depth) }
 {
     match parse_module(alloc, tokens) {
         Ok(tree) => Ok(tree),
@@ -179,7 +197,8 @@ fn module_tree(alloc: Global, tokens: &[Token]) -> Result<ModuleText, TextFault>
 }
 
 pub(crate) fn module_of(alloc: Global, bytes: &[u8]) -> Result<Text<Module>, TextFault>
-    ensures { IfOk result (λ text. Says module_tokens first_module bytes.now text.said) }
+    ensures said { IfOk result (λ text. Says module_tokens first_module bytes.now text.said) }
+    ensures no_tree { IfErr result (FirstRefused (λ tree. Spells bytes.now (module_tokens tree)) module_depth) }
 {
     let tokens = tokens_of(alloc, 0, bytes)?;
     let tree = module_tree(alloc, tokens.as_slice())?;
@@ -195,7 +214,8 @@ pub(crate) fn module_of(alloc: Global, bytes: &[u8]) -> Result<Text<Module>, Tex
 }
 
 fn script_tree(alloc: Global, tokens: &[Token]) -> Result<ScriptText, TextFault>
-    ensures { IfOk result (λ tree. lexemes tokens.now ≡ script_tokens tree) }
+    ensures spelled { IfOk result (λ tree. lexemes tokens.now ≡ script_tokens tree) }
+    ensures no_tree { IfErr result (FirstRefused (λ tree. script_tokens tree ≡ lexemes tokens.now) script_depth) }
 {
     match parse_script(alloc, tokens) {
         Ok(tree) => Ok(tree),
@@ -204,7 +224,8 @@ fn script_tree(alloc: Global, tokens: &[Token]) -> Result<ScriptText, TextFault>
 }
 
 pub(crate) fn script_of(alloc: Global, bytes: &[u8]) -> Result<Text<Script>, TextFault>
-    ensures { IfOk result (λ text. Says script_tokens some_script bytes.now text.said) }
+    ensures said { IfOk result (λ text. Says script_tokens some_script bytes.now text.said) }
+    ensures no_tree { IfErr result (FirstRefused (λ tree. Spells bytes.now (script_tokens tree)) script_depth) }
 {
     let tokens = tokens_of(alloc, 0, bytes)?;
     let tree = script_tree(alloc, tokens.as_slice())?;

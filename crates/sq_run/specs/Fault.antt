@@ -1,0 +1,51 @@
+-- What the faults of a text and of an item say.
+use Rattle.std.specs.Prelude.{◌≡◌, ℕ, List, Ok, ⊤}
+use Rattle.sq_lex.specs.declared.lexeme.Lexeme.{Lexeme}
+use Rattle.sq_lex.specs.declared.token.Token.{Token}
+use Rattle.sq_lex.specs.Reading.{reading}
+use Rattle.sq_model.specs.Report.{Bytes}
+use Rattle.sq_parse.specs.declared.error.ParseError.{ParseError}
+use Rattle.sq_parse.specs.declared.error.ParseError.TheVariants as parse
+use Rattle.sq_run.specs.declared.items.ItemFault.{ItemFault}
+use Rattle.sq_run.specs.declared.items.ItemFault.TheVariants as item
+use Rattle.sq_run.specs.declared.refusal.RefusalName.{RefusalName}
+use Rattle.sq_run.specs.declared.refusal.RefusalName.TheVariants.{Unexpected, TooDeep, EndOfText}
+use Rattle.sq_run.specs.declared.texts.TextFault.{TextFault}
+use Rattle.sq_run.specs.declared.texts.TextFault.TheVariants.{NoMemory, Refused}
+use Rattle.sq_run.specs.Refused.{Grammar, Meaning, matter, HasNoTree, OneRefused}
+
+-- a refusal of the text at this place, by this name
+abbrev pub IsRefusal : ℕ → RefusalName → TextFault → Type 0
+IsRefusal text what NoMemory = ⊥
+IsRefusal text what (Refused refusal) = (refusal.text ≡ text) × (refusal.what ≡ what)
+
+-- what a parse's fault means for a text
+abbrev pub IsParseFault : ParseError → TextFault → Type 0
+IsParseFault parse.NoMemory fault = fault ≡ NoMemory
+IsParseFault (parse.Unexpected token) fault = IsRefusal 0 Unexpected fault
+IsParseFault (parse.TooDeep token) fault = IsRefusal 0 TooDeep fault
+IsParseFault parse.EndOfText fault = IsRefusal 0 EndOfText fault
+
+-- a text at this place that has no reading
+abbrev pub IsUnread : ℕ → Bytes → TextFault → Type 0
+IsUnread text bytes NoMemory = ⊤
+IsUnread text bytes (Refused refusal) = (refusal.text ≡ text) × (matter refusal.what ≡ Grammar) × ((tokens : List Token) → reading bytes ≡ Ok tokens → ⊥)
+
+-- the first text is refused for what it means
+abbrev pub IsOfMeaning : TextFault → Type 0
+IsOfMeaning NoMemory = ⊤
+IsOfMeaning (Refused refusal) = (refusal.text ≡ 0) × (matter refusal.what ≡ Meaning)
+
+abbrev pub IsItemMeaning : ItemFault → Type 0
+IsItemMeaning item.NoMemory = ⊤
+IsItemMeaning (item.Refused what) = matter what ≡ Meaning
+
+-- what a fault of the first text says of the trees that are spelled
+abbrev pub FirstRefused : {T : Type 0} → (T → Type 0) → (T → ℕ) → TextFault → Type 0
+FirstRefused IsSpelled depth_of NoMemory = ⊤
+FirstRefused IsSpelled depth_of (Refused refusal) = (refusal.text ≡ 0) × HasNoTree IsSpelled depth_of (matter refusal.what)
+
+-- what a fault of one of these texts says of the trees that it spells
+abbrev pub SomeRefused : {T : Type 0} → (T → List Lexeme) → (T → ℕ) → List Bytes → TextFault → Type 0
+SomeRefused tokens_of depth_of all NoMemory = ⊤
+SomeRefused tokens_of depth_of all (Refused refusal) = OneRefused tokens_of depth_of all refusal
