@@ -11,9 +11,9 @@ ghost use Rattle.sq_parse.specs.Reads.{Reads};
 use crate::expr::{expr, expr_from};
 use crate::reader::Reader;
 use crate::stop::Stop;
+use sq_grammar::Mixed;
 use sq_items::{Boxed, Items};
 use sq_lex::{Symbol, Word};
-use sq_grammar::Mixed;
 use sq_tree::{Body, Cond, Conj, Expr, Primary, Test};
 use std::alloc::Global;
 
