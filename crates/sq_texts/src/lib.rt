@@ -1,4 +1,4 @@
-//! Tests of texts: what the grammar takes and where it refuses.
+//! Tests of texts: what the grammar takes and where it refuses, and trees that are spelled and read again.
 #![tactic(auto)]
 
 #[cfg(test)]
@@ -6,11 +6,35 @@ mod bracket_places;
 #[cfg(test)]
 mod case;
 #[cfg(test)]
+mod choices;
+#[cfg(test)]
 mod condition_places;
 #[cfg(test)]
 mod cursor_places;
 #[cfg(test)]
 mod expression_places;
+#[cfg(test)]
+mod generated;
+#[cfg(test)]
+mod lexemes;
+#[cfg(test)]
+mod make_cond;
+#[cfg(test)]
+mod make_expr;
+#[cfg(test)]
+mod make_module;
+#[cfg(test)]
+mod make_names;
+#[cfg(test)]
+mod make_schema;
+#[cfg(test)]
+mod make_script;
+#[cfg(test)]
+mod make_select;
+#[cfg(test)]
+mod make_statement;
+#[cfg(test)]
+mod make_test;
 #[cfg(test)]
 mod module_places;
 #[cfg(test)]
