@@ -75,7 +75,8 @@ pub enum Answer {
 #[derive(Clone, Copy)]
 pub struct Case(pub Kind, pub &'static str, pub Answer);
 
-fn parsed(alloc: Global, kind: Kind, tokens: &[Token]) -> Option<ParseError> {
+/// The refusal of tokens that are read as a text of the kind, if they are refused.
+pub fn parsed(alloc: Global, kind: Kind, tokens: &[Token]) -> Option<ParseError> {
     match kind {
         Kind::Schema | Kind::Element | Kind::TableElement => parse_schema(alloc, tokens).err(),
         Kind::Script => parse_script(alloc, tokens).err(),
@@ -84,7 +85,7 @@ fn parsed(alloc: Global, kind: Kind, tokens: &[Token]) -> Option<ParseError> {
 }
 
 /// The answer to a case of which so many tokens are not its own.
-fn answer(refused: Option<ParseError>, before: usize) -> Result<Answer, Fail> {
+fn counted_from(refused: Option<ParseError>, before: usize) -> Result<Answer, Fail> {
     match refused {
         None => Ok(Answer::Taken),
         Some(ParseError::EndOfText) => Ok(Answer::EndOfText),
@@ -103,7 +104,7 @@ pub fn answered(alloc: Global, kind: Kind, words: &str) -> Result<Answer, Fail> 
     let (before, count) = kind.before();
     let text = format!(in alloc; "{before}{words}")?;
     let tokens = lex(alloc, text.as_str().as_bytes())?;
-    answer(parsed(alloc, kind, tokens.as_slice()), count)
+    counted_from(parsed(alloc, kind, tokens.as_slice()), count)
 }
 
 /// The parser answers to each case what the grammar says.

@@ -1,4 +1,5 @@
-//! Tests of texts: what the grammar takes and where it refuses, and trees that are spelled and read again.
+//! Tests of texts: what the grammar takes and where it refuses, trees that are spelled and read again, and hostile
+//! texts.
 #![tactic(auto)]
 
 #[cfg(test)]
@@ -16,7 +17,13 @@ mod expression_places;
 #[cfg(test)]
 mod generated;
 #[cfg(test)]
+mod hostile;
+#[cfg(test)]
+mod kit;
+#[cfg(test)]
 mod lexemes;
+#[cfg(test)]
+mod limits;
 #[cfg(test)]
 mod make_cond;
 #[cfg(test)]
