@@ -137,7 +137,8 @@ fn put(bytes: &mut Vec<u8>, at: usize, byte: u8) {
     }
 }
 
-fn fault_of(alloc: Global, text: &[u8]) -> Option<LexFault> {
+/// The fault of a text, if the lexer finds one.
+pub fn fault_of(alloc: Global, text: &[u8]) -> Option<LexFault> {
     match lex(alloc, text) {
         Err(LexError::Fault(fault)) => Some(fault),
         _ => None,

@@ -1,9 +1,11 @@
 //! Texts at a limit and beyond it by one, long lists, and whole texts that their trees spell.
 use crate::case::Answer::{EndOfText, Taken, Unexpected};
+use crate::case::Kind::{Condition, Expression, Item, Query, Script, TableElement};
 use crate::case::{Kind, answered};
+use crate::hostile::fault_of;
 use crate::kit::{MODULE, SCHEMA, SCRIPT, SCROLLING, SECOND_MODULE, VARYING};
 use crate::lexemes::have_lexemes;
-use sq_lex::{LexError, LexFault, LexFaultKind, Token, lex};
+use sq_lex::{LexFault, LexFaultKind, Token, lex};
 use sq_parse::{ParseError, parse_module, parse_schema, parse_script};
 use sq_spell::{Tree, token_count, write_tokens};
 use std::alloc::Global;
@@ -18,20 +20,20 @@ fn argument_is(
     fault: Option<LexFaultKind>,
 ) -> Result<(), Fail> {
     let text = format!(in alloc; "CALL M.P ({argument});")?;
-    match (lex(alloc, text.as_str().as_bytes()), fault) {
-        (Ok(tokens), None) => {
-            let script = parse_script(alloc, tokens.as_slice())?;
-            assert_eq!(rt; token_count(&script), 8);
+    match fault {
+        None => {
+            let given = answered(alloc, Script, text.as_str())?;
+            assert_eq!(rt; given, Taken, "{argument}");
         }
-        (Err(LexError::Fault(found)), Some(kind)) => {
+        Some(kind) => {
             let expected = LexFault {
                 kind,
                 line: 1,
                 column: 11,
             };
-            assert_eq!(rt; found, expected);
+            let given = fault_of(alloc, text.as_str().as_bytes());
+            assert_eq!(rt; given, Some(expected), "{argument}");
         }
-        _ => return Err("another answer".into()),
     }
     Ok(())
 }
@@ -39,129 +41,101 @@ fn argument_is(
 #[test]
 fn names(rt: HostRuntime) -> Result<(), Fail> {
     let alloc = rt.alloc();
-    let most = "M2345678901234567_";
-    for (name, column) in [(most, None), ("M2345678901234567_9", Some(6))] {
-        let text = format!(in alloc; "CALL {name}.P;")?;
-        let fault = match lex(alloc, text.as_str().as_bytes()) {
-            Err(LexError::Fault(fault)) => Some(fault),
-            _ => None,
-        };
-        let expected = match column {
-            Some(column) => Some(LexFault {
-                kind: LexFaultKind::LongName,
-                line: 1,
-                column,
-            }),
-            None => None,
-        };
-        assert_eq!(rt; fault, expected);
-    }
-    let text = format!(in alloc; "CALL {most}.{most};")?;
-    assert_eq!(rt; answered(alloc, Kind::Script, text.as_str())?, Taken);
+    let given = answered(alloc, Script, "CALL M2345678901234567_.M2345678901234567_;")?;
+    assert_eq!(rt; given, Taken);
+    let expected = LexFault {
+        kind: LexFaultKind::LongName,
+        line: 1,
+        column: 6,
+    };
+    let given = fault_of(alloc, b"CALL M2345678901234567_9.P;");
+    assert_eq!(rt; given, Some(expected));
     Ok(())
 }
 
+/// Numbers of 18 digits and of 19, leading zeros counted.
 #[test]
 fn numbers(rt: HostRuntime) -> Result<(), Fail> {
-    let alloc = rt.alloc();
     let long = Some(LexFaultKind::LongNumber);
-    argument_is(&rt, alloc, "123456789012345678", None)?;
-    argument_is(&rt, alloc, "000000000000000001", None)?;
-    argument_is(&rt, alloc, "123456789012345678.", None)?;
-    argument_is(&rt, alloc, ".123456789012345678", None)?;
-    argument_is(&rt, alloc, "1.23456789012345678", None)?;
-    argument_is(&rt, alloc, "1234567890123456789", long)?;
-    argument_is(&rt, alloc, "0000000000000000001", long)?;
-    argument_is(&rt, alloc, "1234567890123456789.", long)?;
-    argument_is(&rt, alloc, ".1234567890123456789", long)?;
-    argument_is(&rt, alloc, "1.234567890123456789", long)?;
-    argument_is(&rt, alloc, "1234567890123456789E", long)?;
-    argument_is(
-        &rt,
-        alloc,
-        "123456789012345678E",
-        Some(LexFaultKind::NumberThenLetter),
-    )
+    for (number, fault) in [
+        ("123456789012345678", None),
+        ("000000000000000001", None),
+        ("123456789012345678.", None),
+        (".123456789012345678", None),
+        ("1.23456789012345678", None),
+        ("1234567890123456789", long),
+        ("0000000000000000001", long),
+        ("1234567890123456789.", long),
+        (".1234567890123456789", long),
+        ("1.234567890123456789", long),
+        ("1234567890123456789E", long),
+        ("123456789012345678E", Some(LexFaultKind::NumberThenLetter)),
+    ] {
+        argument_is(&rt, rt.alloc(), number, fault)?;
+    }
+    Ok(())
 }
 
+/// Literals of 240 characters and of 241, a doubled quote counted once.
 #[test]
 fn literals(rt: HostRuntime) -> Result<(), Fail> {
     let alloc = rt.alloc();
     let letters = "A".repeat(alloc, 239)?;
     let long = Some(LexFaultKind::LongText);
-    argument_is(
-        &rt,
-        alloc,
-        format!(in alloc; "'{letters}B'")?.as_str(),
-        None,
-    )?;
-    argument_is(
-        &rt,
-        alloc,
-        format!(in alloc; "'{letters}'''")?.as_str(),
-        None,
-    )?;
-    argument_is(
-        &rt,
-        alloc,
-        format!(in alloc; "'{letters}BC'")?.as_str(),
-        long,
-    )?;
-    argument_is(
-        &rt,
-        alloc,
-        format!(in alloc; "'{letters}B'''")?.as_str(),
-        long,
-    )?;
-    argument_is(
-        &rt,
-        alloc,
-        format!(in alloc; "'{letters}'''''")?.as_str(),
-        long,
-    )
+    for (end, fault) in [
+        ("B'", None),
+        ("'''", None),
+        ("BC'", long),
+        ("B'''", long),
+        ("'''''", long),
+    ] {
+        let literal = format!(in alloc; "'{letters}{end}")?;
+        argument_is(&rt, alloc, literal.as_str(), fault)?;
+    }
+    Ok(())
 }
 
-/// How many tests, terms, columns or procedures the long lists have.
-const MANY: usize = 5_000;
+/// A kind, an item that stands 4,999 times, the last item, how it ends, and the place behind those 4,999.
+#[derive(Clone, Copy)]
+struct LongList(Kind, &'static str, &'static str, &'static str, usize);
+
+const LONG_LISTS: [LongList; 9] = [
+    LongList(Condition, "A = 1 AND ", "A = 1", ";", 19_996),
+    LongList(Condition, "NOT (A) = 1 OR ", "B IN (1)", ";", 34_993),
+    LongList(Condition, "A IN (1) AND ", "A IS NULL", ";", 29_994),
+    LongList(Expression, "1 + ", "2", ";", 9_998),
+    LongList(Expression, "A * ", "2", ";", 9_998),
+    LongList(TableElement, "A INT, ", "B INT", ")", 14_997),
+    LongList(
+        Query,
+        "SELECT * FROM T UNION ",
+        "SELECT * FROM",
+        " T",
+        24_995,
+    ),
+    LongList(
+        Item,
+        "PROCEDURE P SQLCODE; COMMIT; ",
+        "PROCEDURE P SQLCODE; COMMIT",
+        ";",
+        29_994,
+    ),
+    LongList(Script, "CALL M.P; ", "TABLE U.T", ";", 24_995),
+];
 
 #[test]
 fn long_lists(rt: HostRuntime) -> Result<(), Fail> {
     let alloc = rt.alloc();
-    for (kind, item, last, taken, tokens) in [
-        (Kind::Condition, "A = 1 AND ", "A = 1", ";", 4),
-        (Kind::Condition, "NOT (A) = 1 OR ", "B IN (1)", ";", 7),
-        (Kind::Expression, "1 + ", "2", ";", 2),
-        (Kind::Expression, "A * ", "2", ";", 2),
-        (Kind::Condition, "A IN (1) AND ", "A IS NULL", ";", 6),
-        (Kind::TableElement, "A INT, ", "B INT", ")", 3),
-        (
-            Kind::Query,
-            "SELECT * FROM T UNION ",
-            "SELECT * FROM",
-            " T",
-            5,
-        ),
-        (
-            Kind::Item,
-            "PROCEDURE P SQLCODE; COMMIT; ",
-            "PROCEDURE P SQLCODE; COMMIT",
-            ";",
-            6,
-        ),
-        (Kind::Script, "CALL M.P; ", "TABLE U.T", ";", 5),
-    ] {
-        let items = item.repeat(alloc, MANY - 1)?;
+    for list in LONG_LISTS {
+        let LongList(kind, item, last, end, place) = list;
+        let items = item.repeat(alloc, 4_999)?;
         let early = format!(in alloc; "{items}{last}")?;
         assert_eq!(rt; answered(alloc, kind, early.as_str())?, EndOfText, "{item}");
-        let whole = format!(in alloc; "{items}{last}{taken}")?;
+        let whole = format!(in alloc; "{items}{last}{end}")?;
         assert_eq!(rt; answered(alloc, kind, whole.as_str())?, Taken, "{item}");
-        let doubled = format!(in alloc; "{items};{last}{taken}")?;
-        let place = (MANY - 1) * tokens;
-        assert_eq!(rt;
-            answered(alloc, kind, doubled.as_str())?,
-            Unexpected(place),
-            "{item}"
-        );
+        let broken = format!(in alloc; "{items};{last}{end}")?;
+        let given = answered(alloc, kind, broken.as_str())?;
+        assert_eq!(rt; given, Unexpected(place), "{item}");
     }
     Ok(())
 }

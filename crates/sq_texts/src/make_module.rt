@@ -79,12 +79,16 @@ fn bracketed_declarations(choices: &mut Choices) -> Result<CommaList<Declaration
     Ok(CommaList { first, rest })
 }
 
+fn bare_declaration(choices: &mut Choices) -> BareDeclaration {
+    let comma = choices.flag(Rule::DeclarationComma);
+    let declaration = declaration(choices);
+    BareDeclaration { comma, declaration }
+}
+
 fn bare_declarations(choices: &mut Choices) -> Result<Items<BareDeclaration>, AllocError> {
     let mut rest = Items::new(choices.alloc);
     for _ in 0..choices.pick(Rule::MoreBareDeclarations) {
-        let comma = choices.flag(Rule::DeclarationComma);
-        let declaration = declaration(choices);
-        rest.push(BareDeclaration { comma, declaration })?;
+        rest.push(bare_declaration(choices))?;
     }
     Ok(rest)
 }
