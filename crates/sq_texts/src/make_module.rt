@@ -85,12 +85,16 @@ fn bare_declaration(choices: &mut Choices) -> BareDeclaration {
     BareDeclaration { comma, declaration }
 }
 
+/// None, one or two.
 fn bare_declarations(choices: &mut Choices) -> Result<Items<BareDeclaration>, AllocError> {
-    let mut rest = Items::new(choices.alloc);
-    for _ in 0..choices.pick(Rule::MoreBareDeclarations) {
-        rest.push(bare_declaration(choices))?;
+    let alloc = choices.alloc;
+    let count = choices.pick(Rule::MoreBareDeclarations);
+    let both = [bare_declaration(choices), bare_declaration(choices)];
+    match count {
+        0 => Ok(Items::new(alloc)),
+        1 => Items::from_slice(alloc, &both[..1]),
+        _ => Items::from_slice(alloc, &both),
     }
-    Ok(rest)
 }
 
 fn declarations(choices: &mut Choices) -> Result<Declarations, AllocError> {
