@@ -85,16 +85,24 @@ fn bare_declaration(choices: &mut Choices) -> BareDeclaration {
     BareDeclaration { comma, declaration }
 }
 
-/// None, one or two.
-fn bare_declarations(choices: &mut Choices) -> Result<Items<BareDeclaration>, AllocError> {
-    let alloc = choices.alloc;
-    let count = choices.pick(Rule::MoreBareDeclarations);
-    let both = [bare_declaration(choices), bare_declaration(choices)];
-    match count {
-        0 => Ok(Items::new(alloc)),
-        1 => Items::from_slice(alloc, &both[..1]),
-        _ => Items::from_slice(alloc, &both),
+/// So many parts, made one after another.
+fn made<T: Drop, F: Fn(&mut Choices) -> T>(
+    choices: &mut Choices,
+    count: usize,
+    make: F,
+) -> Result<Items<T>, AllocError>
+    requires { F.IsAlwaysCallable make }
+{
+    let mut items = Items::new(choices.alloc);
+    for _ in 0..count {
+        items.push(make(choices))?;
     }
+    Ok(items)
+}
+
+fn bare_declarations(choices: &mut Choices) -> Result<Items<BareDeclaration>, AllocError> {
+    let count = choices.pick(Rule::MoreBareDeclarations);
+    made(choices, count, bare_declaration)
 }
 
 fn declarations(choices: &mut Choices) -> Result<Declarations, AllocError> {
