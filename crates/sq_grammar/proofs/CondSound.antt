@@ -28,7 +28,7 @@ use Rattle.sq_grammar.specs.declared.mixed.Mixed.TheVariants.{Whole, Bare}
 use Rattle.sq_grammar.specs.Reading.{Parser, eat, sees, one_if_any, behind, listed, all, pure, ◌>>=◌}
 use Rattle.sq_grammar.specs.Expr as expressions
 use Rattle.sq_grammar.specs.Expr.{expr, expr_from}
-use Rattle.sq_grammar.specs.Cond.{comparison_of, compared_if_any, sees_query, strict, strictly, null_tail, inner_query, subquery, compared_query, comparison_tail, between_tail, in_tail, like_tail, by_between, negatable_tail, tail, predicate_from, bracket, body, tested, test, strict_test, conj, strict_conj, level, inside, cond, query_specification}
+use Rattle.sq_grammar.specs.Cond.{comparison_of, compared_if_any, sees_query, strict, strictly, null_tail, inner_query, subquery, compared_query, comparison_tail, between_tail, in_tail, like_tail, by_between, negatable_tail, tail, predicate_from, bracket, body, tested, test_at, strict_test, conj, strict_conj, level, inside, cond, query_specification}
 use Rattle.sq_grammar.proofs.Spells.{Sound, After, sound, unsound, built, never, andthen, eats, eaten, expected, openly, maybe, following, either, mixed, mixedly, raised, rows, behinds, lists, one_maybe, some_is, lowered, lifted, eased}
 use Rattle.sq_grammar.proofs.ExprSound as expr_proof
 use Rattle.sq_grammar.proofs.SelectSound.{specifications}
@@ -158,17 +158,17 @@ module _ (left : ℕ) (inner : Parser (Mixed Cond)) (s : Sound inner (mixed cond
       (λ b. built (Whole (record { negated = false; body = b })) _ _ (law.test_tokens-out _) (λ h. rw (law.test_depth-out (record { negated = false; body = b })) (omega arith)))
       (λ e. built (Bare e) _ _ refl (λ h. omega arith))
 
-  test_sound : Sound (test left inner) test_text test_height left
-  unfolding test
+  test_sound : Sound (test_at left inner) test_text test_height left
+  unfolding test_at
   test_sound = sound (andthen (eat (lexeme.Word word.Not)) _ (eats (lexeme.Word word.Not) left) tested_sound)
 
   strict_test_sound : Sound (strict_test left inner) test_tokens test_depth left
   unfolding strict_test
-  strict_test_sound = strictly_sound left (test left inner) test_sound
+  strict_test_sound = strictly_sound left (test_at left inner) test_sound
 
   conj_sound : Sound (conj left inner) (mixed conj_tokens expr_tokens) (mixed conj_depth expr_depth) left
   unfolding conj
-  conj_sound = sound (mixedly (test left inner) _ test_sound
+  conj_sound = sound (mixedly (test_at left inner) _ test_sound
       (λ t. andthen (all (behind (lexeme.Word word.And) (strict_test left inner))) _ (rows (behind (lexeme.Word word.And) (strict_test left inner)) and_test test_depth left (behinds (lexeme.Word word.And) (strict_test left inner) left strict_test_sound)) (λ more.
       built (Whole (roll-Conj (record { first = t; rest = more }))) _ _ (law.conj_tokens-roll t more) (λ h. rw (law.conj_depth-roll t more) (omega arith))))
       (λ e. built (Bare e) _ _ refl (λ h. omega arith)))

@@ -38,7 +38,7 @@ use Rattle.sq_grammar.specs.declared.mixed.Mixed.{Mixed}
 use Rattle.sq_grammar.specs.declared.mixed.Mixed.TheVariants.{Whole, Bare}
 use Rattle.sq_grammar.specs.Reading.{Tokens, Parser, sees, behind, all, pure}
 use Rattle.sq_grammar.specs.Expr.{expr, expr_from}
-use Rattle.sq_grammar.specs.Cond.{strict, strictly, subquery, tail, predicate_from, bracket, by_open, body, tested, test, strict_test, conj, strict_conj, level, inside, cond}
+use Rattle.sq_grammar.specs.Cond.{strict, strictly, subquery, tail, predicate_from, bracket, by_open, body, tested, test_at, strict_test, conj, strict_conj, level, inside, cond}
 use Rattle.sq_grammar.proofs.Takes.{Takes, done, fits, lifted, respelled, andthen, mapped, word, closing, expected, eaten, uneaten, either, behind_it, openly, seeing, unseeing, rows, follows, none_behind}
 use Rattle.sq_grammar.proofs.NamesTakes.{column_cases}
 use Rattle.sq_grammar.proofs.ExprTakes.{Starts, expr_starts, foreign, expr_takes, expr_from_takes, close_ends}
@@ -204,20 +204,20 @@ module _ (left : ℕ) (inner : Parser (Mixed Cond))
   pub body_takes : (b : Body) (rest : Tokens) → EndsTest rest → Takes (body left inner) (body_tokens b) 0 0 (body_depth b) left (Whole b) rest
   body_takes b rest ends = body_cases (λ x. Takes (body left inner) (body_tokens x) 0 0 (body_depth x) left (Whole x) rest) (λ e t. predicate_takes e t rest ends) (λ q. exists_takes q rest) (λ c. bracketed_takes c rest) b
 
-  pub test_takes : (t : Test) (rest : Tokens) → EndsTest rest → Takes (test left inner) (test_tokens t) 0 0 (test_depth t) left (Whole t) rest
-  unfolding test
+  pub test_takes : (t : Test) (rest : Tokens) → EndsTest rest → Takes (test_at left inner) (test_tokens t) 0 0 (test_depth t) left (Whole t) rest
+  unfolding test_at
   test_takes t rest ends = rw (law.test_tokens-out t, law.test_depth-out t) (either (word word.Not) t.negated _ (body_starts word.Not (foreign word.Not refl refl refl refl refl refl) refl t.body rest) (mapped (body left inner) _ (Whole t.body) (body_takes t.body rest ends) (by t.negated t.body)))
     where
       by : (n : Bool) (b : Body) → tested left inner n (Whole b) ≡ pure (Whole (record { negated = n; body = b }))
       by n b = refl
 
-  test_bare : (e : Expr) (rest : Tokens) → EndsBare rest → Takes (test left inner) (expr_tokens e) 0 0 (expr_depth e) left (Bare e) rest
-  unfolding test
+  test_bare : (e : Expr) (rest : Tokens) → EndsBare rest → Takes (test_at left inner) (expr_tokens e) 0 0 (expr_depth e) left (Bare e) rest
+  unfolding test_at
   test_bare e rest ends = uneaten (lexeme.Word word.Not) _ (lacks_not e rest) (mapped (body left inner) _ (Bare e) (body_bare e rest ends) refl)
 
   and_each : (t : Test) (rest : Tokens) → EndsTest rest → Takes (behind (lexeme.Word word.And) (strict_test left inner)) (and_test t) 0 0 (test_depth t) left (Some t) rest
   unfolding strict_test
-  and_each t rest ends = behind_it (word word.And) (strict_test left inner) (mapped (test left inner) strict (Whole t) (test_takes t rest ends) refl)
+  and_each t rest ends = behind_it (word word.And) (strict_test left inner) (mapped (test_at left inner) strict (Whole t) (test_takes t rest ends) refl)
 
   and_starts : (t : Test) (rest : Tokens) → EndsTest (and_test t ++ rest)
   and_starts t rest = record { expr = ends_expr _ refl; escape = refl }
@@ -231,12 +231,12 @@ module _ (left : ℕ) (inner : Parser (Mixed Cond))
       let first : Test = (out-Conj c).first in
       let others : List Test = (out-Conj c).rest in
       let item : Parser (Option Test) = behind (lexeme.Word word.And) (strict_test left inner) in
-      rw (law.conj_tokens-out c, law.conj_depth-out c) (andthen (test left inner) _ (Whole first) (test_takes first _ (follows item and_test test_depth 0 left EndsTest and_each and_starts and_long others rest ends.test))
+      rw (law.conj_tokens-out c, law.conj_depth-out c) (andthen (test_at left inner) _ (Whole first) (test_takes first _ (follows item and_test test_depth 0 left EndsTest and_each and_starts and_long others rest ends.test))
       (mapped (all item) _ others (rows item and_test test_depth 0 left EndsTest and_each and_starts and_long others rest ends.test (none_behind (lexeme.Word word.And) (strict_test left inner) rest ends.and)) (ap (λ x. pure (Whole x)) (roll-out-Conj c))))
 
   conj_bare : (e : Expr) (rest : Tokens) → EndsBare rest → Takes (conj left inner) (expr_tokens e) 0 0 (expr_depth e) left (Bare e) rest
   unfolding conj
-  conj_bare e rest ends = mapped (test left inner) _ (Bare e) (test_bare e rest ends) refl
+  conj_bare e rest ends = mapped (test_at left inner) _ (Bare e) (test_bare e rest ends) refl
 
   or_each : (c : Conj) (rest : Tokens) → EndsConj rest → Takes (behind (lexeme.Word word.Or) (strict_conj left inner)) (or_conj c) 0 0 (conj_depth c) left (Some c) rest
   unfolding strict_conj

@@ -195,14 +195,14 @@ module _ (left : ℕ) (inner : Parser (Mixed Cond)) where
   tested false (Bare e) = pure (Bare e)
 
   -- test = [ NOT ] ( pred | "(" cond ")" ), or an expression
-  unfoldable pub test : Parser (Mixed Test)
-  test = do
+  unfoldable pub test_at : Parser (Mixed Test)
+  test_at = do
     negated ← eat_word word.Not
     b ← body
     tested negated b
 
   unfoldable pub strict_test : Parser Test
-  strict_test = strictly test
+  strict_test = strictly test_at
 
   abbrev pub conjoined : Mixed Test → Parser (Mixed Conj)
   conjoined (Whole t) = all (behind (lexeme.Word word.And) strict_test) >>= λ ts. pure (Whole (roll-Conj (record { first = t; rest = ts })))
@@ -210,7 +210,7 @@ module _ (left : ℕ) (inner : Parser (Mixed Cond)) where
 
   -- conj = test { AND test }, or an expression
   unfoldable pub conj : Parser (Mixed Conj)
-  conj = test >>= conjoined
+  conj = test_at >>= conjoined
 
   unfoldable pub strict_conj : Parser Conj
   strict_conj = strictly conj

@@ -94,10 +94,10 @@ impl<F: Fn(Global, &mut Reader<'_>, usize) -> Result<Mixed<Cond>, Stop>> Grammar
         self.predicate_from(tokens, left)
     }
 
-    #[tactic(auto, unfolding(sq_grammar::specs::Cond::test))]
+    #[tactic(auto, unfolding(sq_grammar::specs::Cond::test_at))]
     fn test(&self, tokens: &mut Reader<'_>) -> Result<Mixed<Test>, Stop>
         requires { Nests spec.inside self.now.left (F.pre self.now.inner) (F.post self.now.inner) }
-        ensures value { Reads (spec.test self.now.left (spec.inside self.now.left) tokens.old) result tokens.new }
+        ensures value { Reads (spec.test_at self.now.left (spec.inside self.now.left) tokens.old) result tokens.new }
         ensures shorter { OnOk result (length tokens.new < length tokens.old) }
     {
         let negated = tokens.eat_word(Word::Not);

@@ -20,6 +20,3 @@ mod text;
 
 pub use error::ParseError;
 pub use text::{parse_module, parse_schema, parse_script};
-
-#[cfg(test)]
-mod tests;
