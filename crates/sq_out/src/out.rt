@@ -1,5 +1,6 @@
-ghost use Rattle.std.specs.Prelude.{◌≡◌, ◌≤◌, ◌<◌, List, ℕ, Bool, Option, true, length, IfOk, OnErr};
+ghost use Rattle.std.specs.Prelude.{◌≡◌, ◌≤◌, ◌||◌, List, ℕ, Bool, Option, length, IfOk};
 ghost use Rattle.std.specs.Io.KnownBytes.{WriteAppends};
+ghost use Rattle.sq_out.specs.Fault.{is_fault};
 
 use thiserror::Error;
 
@@ -22,8 +23,6 @@ pub trait Out {
         ensures bound { IfOk result (λ n. n ≤ length bytes.now) }
         ensures taken { WriteAppends (taken self.old) (taken self.new) result bytes.now }
 
-        // An error is a failure, and so is taking nothing of something. What goes on leaves `failed` as it was.
-        ensures fails { OnErr result (failed self.new ≡ true) }
-        ensures stalls { result ≡ Ok 0 → 0 < length bytes.now → failed self.new ≡ true }
-        ensures goes_on { IfOk result (λ n. 0 < n → failed self.new ≡ failed self.old) };
+        // A failure stays, and nothing but a fault is one.
+        ensures failed { failed self.new ≡ (failed self.old || is_fault result (length bytes.now)) };
 }

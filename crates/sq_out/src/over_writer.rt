@@ -1,5 +1,5 @@
-ghost use Rattle.std.specs.Prelude.{◌≡◌, ◌<◌, ◌≤◌, ◌||◌, false, length, IsErr, MatchResult};
-ghost use Rattle.sq_out.specs.OverWriter.{is_fault};
+ghost use Rattle.std.specs.Prelude.{◌≡◌, ◌≤◌, ◌||◌, false, length, IsErr, MatchResult};
+ghost use Rattle.sq_out.specs.Fault.{is_fault};
 
 use crate::out::{Out, OutFault};
 use std::io::{self, Write};
@@ -36,7 +36,7 @@ impl<W> OutOf<W> {
 
     /// Notes a writer's answer to so many bytes, and gives it on.
     fn noted(&mut self, answer: io::Result<usize>, offered: usize) -> Result<usize, OutFault>
-        ensures noted { self.new ≡ record self.old { failed = self.old.failed || is_fault answer offered } }
+        ensures noted { self.new ≡ record self.old { failed = self.old.failed || is_fault result offered } }
         ensures answer { MatchResult answer (λ count. result ≡ Ok count) (λ _. IsErr result) }
     {
         match answer {

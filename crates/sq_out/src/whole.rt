@@ -6,7 +6,7 @@ use crate::out::Out;
 /// Writes all bytes. An error says how many of them were taken.
 ///
 /// It goes on only while bytes are taken.
-#[tactic(auto, using(crate::proofs::Bytes::appends_further, crate::proofs::Bytes::appends_kept, crate::proofs::Bytes::appends_none, crate::proofs::Bytes::appends_rest))]
+#[tactic(auto, using(crate::proofs::Bytes::appends_further, std::proofs::lemmas::List::take_rest))]
 pub fn write_whole<W: Out>(out: &mut W, bytes: &[u8]) -> Result<(), usize>
     requires { W.failed out.old ≡ false }
 
