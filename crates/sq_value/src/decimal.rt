@@ -1,3 +1,5 @@
+//! Exact numbers.
+
 ghost use Rattle.std.specs.Prelude.{◌≡◌, ◌≤◌, ◌<◌, ◌^◌, ◌+◌, ◌-◌, max, unsigned_abs};
 ghost use Rattle.sq_value.specs.Arithmetic.{added, subtracted, multiplied, divided, negated, compared, at_scale, truncated};
 
@@ -44,7 +46,8 @@ impl Decimal {
         ensures value { result ≡ self.unscaled }
         ensures digits { unsigned_abs result < 10 ^ 18 }
     {
-        self.unscaled
+        let Decimal { unscaled, .. } = self;
+        unscaled
     }
 
     /// How many digits stand after the point.
@@ -52,10 +55,11 @@ impl Decimal {
         ensures value { result ≡ self.scale }
         ensures places { result ≤ 18 }
     {
-        self.scale
+        let Decimal { scale, .. } = self;
+        scale
     }
 
-    /// The sum, whose scale is the greater one.
+    /// The sum (ISO/IEC 9075:1992, 6.12), whose scale is the greater one; `Range` where it has more than 18 digits.
     pub fn add(self, other: Decimal) -> Result<Decimal, ArithmeticFault>
         ensures { result ≡ added self other }
     {
@@ -63,7 +67,7 @@ impl Decimal {
         in_digits(self.at_scale(scale) + other.at_scale(scale), scale)
     }
 
-    /// The difference, whose scale is the greater one.
+    /// The difference (6.12), whose scale is the greater one; `Range` where it has more than 18 digits.
     pub fn sub(self, other: Decimal) -> Result<Decimal, ArithmeticFault>
         ensures { result ≡ subtracted self other }
     {
@@ -71,7 +75,7 @@ impl Decimal {
         in_digits(self.at_scale(scale) - other.at_scale(scale), scale)
     }
 
-    /// The product, whose scale is the sum of both.
+    /// The product (6.12), whose scale is the sum of both; `Range` where it has more than 18 digits.
     pub fn mul(self, other: Decimal) -> Result<Decimal, ArithmeticFault>
         requires { self.scale + other.scale ≤ 18 }
         ensures { result ≡ multiplied self other }
@@ -82,7 +86,8 @@ impl Decimal {
         )
     }
 
-    /// The quotient, truncated toward zero, whose scale is the greater one.
+    /// The quotient (6.12), truncated toward zero, whose scale is the greater one: `ZeroDivisor` where the divisor is zero,
+    /// and else `Range` where the quotient has more than 18 digits.
     pub fn div(self, other: Decimal) -> Result<Decimal, ArithmeticFault>
         requires { max self.scale other.scale + other.scale - self.scale ≤ 18 }
         ensures { result ≡ divided self other }
