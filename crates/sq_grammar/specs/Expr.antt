@@ -1,4 +1,4 @@
--- Value expressions and set functions (ISO/IEC 9075:1992, 6.3, 6.5 and 6.11 to 6.13).
+-- Value expressions and set functions (ISO/IEC 9075:1992, 6.2, 6.4, 6.5 and 6.11 to 6.13).
 use Rattle.std.specs.Prelude.{ℕ, zero, suc, Bool, true, false, List, [], ◌∷◌, Option, Some, None}
 use Rattle.sq_lex.specs.declared.lexeme.Lexeme.{Lexeme}
 use Rattle.sq_lex.specs.declared.lexeme.Lexeme.TheVariants as lexeme

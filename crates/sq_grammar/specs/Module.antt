@@ -1,4 +1,4 @@
--- Module texts (ISO/IEC 9075:1992, 12 and 13.1).
+-- Module texts (ISO/IEC 9075:1992, 12.1, 12.3 and 13.1).
 use Rattle.std.specs.Prelude.{ℕ, Bool, true, false, [], ◌∷◌, Option, Some, None}
 use Rattle.sq_lex.specs.declared.lexeme.Lexeme.TheVariants as lexeme
 use Rattle.sq_lex.specs.declared.symbol.Symbol.TheVariants as symbol

@@ -1,4 +1,4 @@
--- Names of tables and columns, parameters and signed numbers (ISO/IEC 9075:1992, 5.4, 6.2 and 6.4).
+-- Names of tables and columns, parameters and signed numbers (ISO/IEC 9075:1992, 5.3, 5.4, 6.2 and 6.4).
 use Rattle.std.specs.Prelude.{Bool, true, false, Option, Some, None, [], ◌∷◌}
 use Rattle.sq_lex.specs.declared.lexeme.Lexeme.{Lexeme}
 use Rattle.sq_lex.specs.declared.lexeme.Lexeme.TheVariants as lexeme

@@ -1,4 +1,4 @@
--- The statements of a procedure (ISO/IEC 9075:1992, 13 and 14.1, 14.2).
+-- The statements of a procedure (ISO/IEC 9075:1992, 13.2 to 13.10, 14.3 and 14.4).
 use Rattle.std.specs.Prelude.{ℕ, Bool, true, false, Option, Some, None}
 use Rattle.sq_lex.specs.declared.lexeme.Lexeme.{Lexeme}
 use Rattle.sq_lex.specs.declared.lexeme.Lexeme.TheVariants as lexeme

@@ -1,3 +1,5 @@
+//! The spelling of search conditions and query specifications.
+
 ghost use Rattle.std.specs.Prelude.{◌≡◌, ◌++◌, ◌∷◌, [], min, length, OnOk};
 ghost use Rattle.sq_lex.specs.declared.lexeme.Lexeme.TheVariants as lexeme;
 ghost use Rattle.sq_lex.specs.declared.word.Word.TheVariants as word;

@@ -1,3 +1,5 @@
+//! The spelling of data types.
+
 ghost use Rattle.std.specs.Prelude.{◌≡◌, ◌++◌, OnOk};
 ghost use Rattle.sq_tree.specs.DataType as spec;
 

@@ -1,3 +1,5 @@
+//! The spelling of value expressions.
+
 ghost use Rattle.std.specs.Prelude.{◌∷◌, []};
 ghost use Rattle.sq_tree.specs.Expr as spec;
 

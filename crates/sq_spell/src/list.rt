@@ -1,3 +1,5 @@
+//! The spelling of lists with commas, of rows without, and of parts that a text may lack.
+
 ghost use Rattle.sq_tree.specs.List as spec;
 
 use crate::measure::Measure;

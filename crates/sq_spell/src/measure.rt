@@ -1,3 +1,5 @@
+//! How many tokens are counted, and how deep round brackets nest in them.
+
 ghost use Rattle.std.specs.Prelude.{◌≡◌, ◌+◌, min, max};
 ghost use Rattle.sq_spell.specs.Measure.{count_if};
 

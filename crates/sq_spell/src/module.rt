@@ -1,3 +1,5 @@
+//! The spelling of module texts.
+
 ghost use Rattle.std.specs.Prelude.{◌≡◌, ◌++◌, min, length, OnOk};
 ghost use Rattle.sq_tree.specs.Tree.{optional};
 ghost use Rattle.sq_tree.specs.Module as spec;

@@ -1,3 +1,5 @@
+//! The spelling of query expressions.
+
 ghost use Rattle.sq_tree.specs.Query as spec;
 
 use crate::measure::Measure;

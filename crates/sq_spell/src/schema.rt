@@ -1,3 +1,5 @@
+//! The spelling of schema texts.
+
 ghost use Rattle.std.specs.Prelude.{◌≡◌, ◌+◌, ◌++◌, min, length, OnOk};
 ghost use Rattle.sq_tree.specs.Cond.{cond_depth};
 ghost use Rattle.sq_tree.specs.Schema as spec;

@@ -1,3 +1,5 @@
+//! The spelling of script texts.
+
 ghost use Rattle.sq_tree.specs.Script as spec;
 
 use crate::measure::Measure;

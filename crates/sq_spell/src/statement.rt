@@ -1,3 +1,5 @@
+//! The spelling of statements.
+
 ghost use Rattle.sq_tree.specs.Statement as spec;
 
 use crate::measure::Measure;

@@ -1,3 +1,5 @@
+//! What a tree can do: write its tokens, and measure how many and how deep they are.
+
 ghost use Rattle.std.specs.Prelude.{◌≡◌, ◌++◌, ℕ, min, length, IfOk, OnOk};
 ghost use Rattle.sq_tree.specs.Tree.{Tokens};
 

@@ -1,3 +1,5 @@
+//! A list of tokens that grows at its end.
+
 ghost use Rattle.std.specs.Prelude.{◌≡◌, ◌++◌, ◌∷◌, [], map, OnOk};
 ghost use Rattle.sq_lex.specs.declared.lexeme.Lexeme.TheVariants as lexeme;
 ghost use Rattle.sq_tree.specs.Tree.{said};

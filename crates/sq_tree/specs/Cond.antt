@@ -1,4 +1,4 @@
--- Search conditions and query specifications (ISO/IEC 9075:1992, 7.3 to 7.9 and 8): their tokens and their depth.
+-- Search conditions and query specifications (ISO/IEC 9075:1992, 6.3, 7.3 to 7.9, 7.11 and 8): their tokens and their depth.
 use Rattle.std.specs.Prelude.{ℕ, ◌+◌, max, Bool, [], ◌∷◌, ◌++◌}
 use Rattle.std.specs.List.{flat_map}
 use Rattle.sq_lex.specs.declared.lexeme.Lexeme.{Lexeme}

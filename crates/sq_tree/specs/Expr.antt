@@ -1,4 +1,4 @@
--- Value expressions (ISO/IEC 9075:1992, 6.11 to 6.13): their tokens and their depth.
+-- Value expressions, signed numbers and set functions (ISO/IEC 9075:1992, 5.3, 6.2, 6.5 and 6.11 to 6.13): their tokens and their depth.
 use Rattle.std.specs.Prelude.{ℕ, ◌+◌, max, [], ◌∷◌, ◌++◌}
 use Rattle.std.specs.List.{flat_map}
 use Rattle.sq_lex.specs.declared.lexeme.Lexeme.{Lexeme}

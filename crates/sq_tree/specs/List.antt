@@ -1,4 +1,4 @@
--- Lists with commas.
+-- Lists with commas and rows without: their tokens and their depth.
 use Rattle.std.specs.Prelude.{ℕ, max, List, ◌∷◌, ◌++◌, map}
 use Rattle.std.specs.List.{flat_map}
 use Rattle.sq_lex.specs.declared.lexeme.Lexeme.TheVariants as lexeme

@@ -1,4 +1,4 @@
--- Module texts (ISO/IEC 9075:1992, 12 and 13.1): their tokens and their depth.
+-- Module texts (ISO/IEC 9075:1992, 12.1, 12.3 and 13.1): their tokens and their depth.
 use Rattle.std.specs.Prelude.{ℕ, ◌+◌, max, [], ◌∷◌, ◌++◌}
 use Rattle.sq_lex.specs.declared.lexeme.Lexeme.{Lexeme}
 use Rattle.sq_lex.specs.declared.lexeme.Lexeme.TheVariants as lexeme

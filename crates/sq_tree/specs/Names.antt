@@ -1,4 +1,4 @@
--- Names of tables, columns and parameters.
+-- Names of tables and columns, and parameters (ISO/IEC 9075:1992, 5.4, 6.2 and 6.4): their tokens.
 use Rattle.std.specs.Prelude.{[], ◌∷◌, ◌++◌}
 use Rattle.sq_lex.specs.declared.lexeme.Lexeme.TheVariants as lexeme
 use Rattle.sq_lex.specs.declared.symbol.Symbol.TheVariants as symbol

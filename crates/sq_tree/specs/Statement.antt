@@ -1,4 +1,4 @@
--- The statements of a procedure (ISO/IEC 9075:1992, 13 and 14.1, 14.2): their tokens and their depth.
+-- The statements of a procedure (ISO/IEC 9075:1992, 13.2 to 13.10, 14.3 and 14.4): their tokens and their depth.
 use Rattle.std.specs.Prelude.{ℕ, ◌+◌, max, Bool, [], ◌∷◌, ◌++◌}
 use Rattle.sq_lex.specs.declared.lexeme.Lexeme.TheVariants as lexeme
 use Rattle.sq_lex.specs.declared.symbol.Symbol.TheVariants as symbol

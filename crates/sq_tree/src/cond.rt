@@ -1,3 +1,5 @@
+//! Search conditions and query specifications (ISO/IEC 9075:1992, 6.3, 7.3 to 7.9, 7.11 and 8).
+
 use crate::expr::{Expr, SetQuantifier};
 use crate::list::CommaList;
 use crate::names::{ColumnReference, TableName};
@@ -46,7 +48,7 @@ pub enum SelectList {
     Items(CommaList<Expr>),
 }
 
-/// A search condition: AND lists, with OR between each two.
+/// A search condition: boolean terms, with OR between each two.
 #[cycle(cond)]
 #[derive(Drop)]
 pub struct Cond {
@@ -54,7 +56,7 @@ pub struct Cond {
     pub rest: Items<Conj>,
 }
 
-/// An AND list: tests, with AND between each two.
+/// A boolean term: boolean factors, with AND between each two.
 #[cycle(cond)]
 #[derive(Drop)]
 pub struct Conj {
@@ -62,7 +64,7 @@ pub struct Conj {
     pub rest: Items<Test>,
 }
 
-/// A test: `[ NOT ] body`.
+/// A boolean factor: `[ NOT ] body`.
 #[cycle(cond)]
 #[derive(Drop)]
 pub struct Test {
@@ -71,7 +73,7 @@ pub struct Test {
     pub body: Body,
 }
 
-/// A predicate, or a search condition in brackets.
+/// A boolean primary: a predicate, or a search condition in brackets.
 #[cycle(cond)]
 #[derive(Drop)]
 pub enum Body {

@@ -1,3 +1,5 @@
+//! Data types (ISO/IEC 9075:1992, 6.1).
+
 use sq_lex::Number;
 
 /// A data type, as it is spelled.

@@ -1,3 +1,5 @@
+//! Value expressions, signed numbers and set functions (ISO/IEC 9075:1992, 5.3, 6.2, 6.5 and 6.11 to 6.13).
+
 use crate::names::{ColumnReference, Parameter};
 use sq_items::{Boxed, Items};
 use sq_lex::Number;

@@ -1,3 +1,5 @@
+//! Lists with commas.
+
 use sq_items::Items;
 
 /// One item or more, with a comma between each two.

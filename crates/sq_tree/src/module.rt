@@ -1,3 +1,5 @@
+//! Module texts: cursors and procedures (ISO/IEC 9075:1992, 12.1, 12.3 and 13.1).
+
 use crate::data_type::DataType;
 use crate::list::CommaList;
 use crate::query::Query;

@@ -1,3 +1,5 @@
+//! Names of tables and columns, and parameters (ISO/IEC 9075:1992, 5.4, 6.2 and 6.4).
+
 use sq_lex::Name;
 
 /// A table name: `[ schema "." ] table`.

@@ -1,3 +1,5 @@
+//! Query expressions (ISO/IEC 9075:1992, 7.10).
+
 use crate::cond::QuerySpecification;
 use sq_items::{Boxed, Items};
 

@@ -1,3 +1,5 @@
+//! Schema texts: tables, views and grants (ISO/IEC 9075:1992, 10.3, 11.1, 11.3 to 11.9, 11.19 and 11.36).
+
 use crate::cond::{Cond, QuerySpecification};
 use crate::data_type::DataType;
 use crate::expr::SignedNumber;

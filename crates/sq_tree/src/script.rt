@@ -1,3 +1,5 @@
+//! Script texts: calls, and tables to be shown (own rule).
+
 use crate::expr::SignedNumber;
 use crate::list::CommaList;
 use sq_items::Items;

@@ -1,3 +1,5 @@
+//! The statements of a procedure (ISO/IEC 9075:1992, 13.2 to 13.10, 14.3 and 14.4).
+
 use crate::cond::{Cond, QuerySpecification, SelectList, TableExpression};
 use crate::expr::{Expr, SetQuantifier, SignedNumber};
 use crate::list::CommaList;
