@@ -16,6 +16,3 @@ mod tree;
 mod writer;
 
 pub use tree::{Tree, depth, token_count, write_tokens};
-
-#[cfg(test)]
-mod tests;

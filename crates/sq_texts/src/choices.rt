@@ -52,6 +52,7 @@ pub enum Rule {
     GroupBy,
     MoreGroups,
     Having,
+    QueryTerm,
     UnionPlace,
     UnionAll,
     ModuleItems,
@@ -116,7 +117,7 @@ pub enum Rule {
 }
 
 /// The rules in the order of their declaration, each with the number of its alternatives.
-pub static RULES: [(Rule, usize); 108] = [
+pub static RULES: [(Rule, usize); 109] = [
     (Rule::Name, 5),
     (Rule::Number, 5),
     (Rule::Text, 4),
@@ -164,6 +165,7 @@ pub static RULES: [(Rule, usize); 108] = [
     (Rule::GroupBy, 2),
     (Rule::MoreGroups, 3),
     (Rule::Having, 2),
+    (Rule::QueryTerm, 2),
     (Rule::UnionPlace, 3),
     (Rule::UnionAll, 2),
     (Rule::ModuleItems, 9),
@@ -279,7 +281,8 @@ impl Choices {
         }
     }
 
-    fn count(&mut self, rule: Rule, alternative: usize) {
+    /// Counts an alternative of the rule that was chosen otherwise.
+    pub fn count(&mut self, rule: Rule, alternative: usize) {
         let at = place(rule, alternative);
         if at < self.taken.len() {
             self.taken[at] = self.taken[at].saturating_add(1);

@@ -51,6 +51,8 @@ mod schema_places;
 #[cfg(test)]
 mod script_places;
 #[cfg(test)]
+mod spelled;
+#[cfg(test)]
 mod statement_places;
 #[cfg(test)]
 mod table_places;

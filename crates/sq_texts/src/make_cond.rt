@@ -95,9 +95,18 @@ pub fn specification(choices: &mut Choices, left: usize) -> Result<QuerySpecific
     })
 }
 
-fn leaf_term(choices: &mut Choices) -> Result<QueryTerm, AllocError> {
-    let specification = specification(choices, 3)?;
+/// A query term without brackets, whose specification has at most `left`, of which there are three.
+fn specification_term(choices: &mut Choices, left: usize) -> Result<QueryTerm, AllocError> {
+    choices.count(Rule::QueryTerm, 0);
+    let specification = specification(choices, left)?;
     Ok(QueryTerm::Specification(specification))
+}
+
+/// A query term with this query in its brackets.
+fn bracketed_term(choices: &mut Choices, query: Query) -> Result<QueryTerm, AllocError> {
+    choices.count(Rule::QueryTerm, 1);
+    let query = Boxed::new(choices.alloc, query)?;
+    Ok(QueryTerm::Bracketed(query))
 }
 
 /// A query with this term and one more before or behind it, or alone.
@@ -107,12 +116,12 @@ fn query_of(choices: &mut Choices, term: QueryTerm) -> Result<Query, AllocError>
         0 => Ok(Query { first: term, rest }),
         1 => {
             let all = choices.flag(Rule::UnionAll);
-            let other = leaf_term(choices)?;
+            let other = specification_term(choices, 3)?;
             rest.push(UnionTerm { all, term: other })?;
             Ok(Query { first: term, rest })
         }
         _ => {
-            let first = leaf_term(choices)?;
+            let first = specification_term(choices, 3)?;
             let all = choices.flag(Rule::UnionAll);
             rest.push(UnionTerm { all, term })?;
             Ok(Query { first, rest })
@@ -123,11 +132,11 @@ fn query_of(choices: &mut Choices, term: QueryTerm) -> Result<Query, AllocError>
 /// A query of at most `left` brackets, of which there are three.
 pub fn query(choices: &mut Choices, left: usize) -> Result<Query, AllocError> {
     let count = levels(choices, left.saturating_sub(3));
-    let specification = specification(choices, left.saturating_sub(count))?;
-    let mut query = query_of(choices, QueryTerm::Specification(specification))?;
+    let term = specification_term(choices, left.saturating_sub(count))?;
+    let mut query = query_of(choices, term)?;
     for _ in 0..count {
-        let inner = Boxed::new(choices.alloc, query)?;
-        query = query_of(choices, QueryTerm::Bracketed(inner))?;
+        let term = bracketed_term(choices, query)?;
+        query = query_of(choices, term)?;
     }
     Ok(query)
 }

@@ -1,6 +1,7 @@
-use super::*;
+//! Trees that are spelled, counted and measured: a script, a module and a schema.
 use sq_items::{Boxed, Items};
 use sq_lex::{Lexeme, Name, Number};
+use sq_spell::{depth, token_count, write_tokens};
 use sq_tree::{
     Argument, Arguments, Body, CharacterWord, ColumnDefinition, ColumnReference, CommaList,
     Comparison, Cond, Conj, DataType, Declaration, Declarations, Delete, Expr, Factor, ModuleItem,
