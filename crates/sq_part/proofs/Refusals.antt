@@ -1,4 +1,4 @@
--- What a module text is, one item of which is not of the small language.
+-- What a module text is, one item of which is not of the first language.
 use Rattle.std.proofs.Common.{◌≡◌, ℕ, ◌<◌, List, length, get_or, take, Option, Some, None, refl}
 use Rattle.std.specs.Prelude.{IsSome}
 use Rattle.sq_tree.specs.declared.module.ModuleText.{ModuleText}

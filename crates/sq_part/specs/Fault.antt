@@ -8,7 +8,7 @@ use Rattle.sq_part.specs.Each.{each}
 use Rattle.sq_part.specs.Module.{first_part, first_module}
 use Rattle.sq_part.specs.Schema.{first_elements, first_schema}
 
--- The parts before this place are of the small language together, and with the one at this place they are not.
+-- The parts before this place are of the first language together, and with the one at this place they are not.
 abbrev pub IsFirstOther : {A B : Type 0} → (List A → Option B) → List A → ℕ → Type 0
 IsFirstOther taken parts place = (place < length parts) × IsSome (taken (take place parts)) × (taken (take (place + 1) parts) ≡ None)
 

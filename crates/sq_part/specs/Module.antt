@@ -1,4 +1,4 @@
--- The module of the small language that a module text says (ISO/IEC 9075:1992, 12.1, 12.3, 13.1 to 13.4 and 13.8), if it says one.
+-- The module of the first language that a module text says (ISO/IEC 9075:1992, 12.1, 12.3, 13.1 to 13.4 and 13.8), if it says one.
 use Rattle.std.specs.Prelude.{Bool, true, false, Option, Some, None}
 use Rattle.sq_lex.specs.declared.name.Name.{Name}
 use Rattle.sq_tree.specs.declared.list.CommaList.{CommaList}
@@ -53,9 +53,9 @@ use Rattle.sq_first.specs.declared.module_text.Parameters.{Parameters}
 use Rattle.sq_first.specs.declared.module_text.Parameter.{Parameter}
 use Rattle.sq_first.specs.declared.module_text.Parameter.TheVariants.{Sqlcode, Named}
 use Rattle.sq_first.specs.declared.module_text.Statement.{Statement}
-use Rattle.sq_first.specs.declared.module_text.Statement.TheVariants as small
+use Rattle.sq_first.specs.declared.module_text.Statement.TheVariants as first_language
 use Rattle.sq_first.specs.declared.module_text.FetchStatement.{FetchStatement}
-use Rattle.sq_part.specs.Each.{◌>>=◌, unless, without, without_any, each}
+use Rattle.sq_part.specs.Each.{◌>>=◌, unless, without, without_any, each, first_and_rest}
 
 -- INTEGER or INT
 abbrev pub first_spelling : DataType → Option IntegerSpelling
@@ -104,7 +104,7 @@ first_value value.Null = None
 
 -- a name out of each part of a list with commas
 abbrev pub first_names : {A : Type 0} → (A → Option Name) → CommaList A → Option Names
-first_names name list = name list.first >>= λ first. each name list.rest >>= λ rest. Some (record { first = first; rest = rest })
+first_names name list = first_and_rest name list >>= λ names. Some (record { first = names.0; rest = names.1 })
 
 -- one table without a correlation name
 abbrev pub first_from : CommaList TableReference → Option Name
@@ -148,8 +148,7 @@ first_declaration (declaration.Parameter name type) = first_spelling type >>= λ
 
 -- declarations in brackets
 abbrev pub first_declarations : Declarations → Option Parameters
-first_declarations (declarations.Bracketed list) =
-    first_declaration list.first >>= λ first. each first_declaration list.rest >>= λ rest. Some (record { first = first; rest = rest })
+first_declarations (declarations.Bracketed list) = first_and_rest first_declaration list >>= λ taken. Some (record { first = taken.0; rest = taken.1 })
 first_declarations (declarations.Bare first rest) = None
 
 abbrev pub first_source : InsertSource → Option Names
@@ -158,7 +157,7 @@ first_source (source.Query spec) = None
 
 -- INSERT INTO a table without a list of columns
 abbrev pub first_insert : Insert → Option Statement
-first_insert i = without i.columns (first_table i.table >>= λ table. first_source i.source >>= λ values. Some (small.Insert table values))
+first_insert i = without i.columns (first_table i.table >>= λ table. first_source i.source >>= λ values. Some (first_language.Insert table values))
 
 -- whether the word FROM is written, without an orientation
 abbrev pub first_fetch_from : Option FetchFrom → Option Bool
@@ -170,9 +169,9 @@ first_fetch f =
     first_fetch_from f.from >>= λ from. first_names first_parameter f.targets >>= λ targets. Some (record { from = from; cursor = f.cursor; targets = targets })
 
 abbrev pub first_statement : tree_statement.Statement → Option Statement
-first_statement (statement.Open cursor) = Some (small.Open cursor)
-first_statement (statement.Fetch fetch) = first_fetch fetch >>= λ taken. Some (small.Fetch taken)
-first_statement (statement.Close cursor) = Some (small.Close cursor)
+first_statement (statement.Open cursor) = Some (first_language.Open cursor)
+first_statement (statement.Fetch fetch) = first_fetch fetch >>= λ taken. Some (first_language.Fetch taken)
+first_statement (statement.Close cursor) = Some (first_language.Close cursor)
 first_statement (statement.Insert insert) = first_insert insert
 first_statement _ = None
 

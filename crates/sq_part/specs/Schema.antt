@@ -1,4 +1,4 @@
--- The schema of the small language that a schema text says (ISO/IEC 9075:1992, 11.1, 11.3 and 11.4), if it says one.
+-- The schema of the first language that a schema text says (ISO/IEC 9075:1992, 11.1, 11.3 and 11.4), if it says one.
 use Rattle.std.specs.Prelude.{List, [], ◌∷◌, Option, Some, None}
 use Rattle.sq_tree.specs.declared.schema.SchemaText.{SchemaText}
 use Rattle.sq_tree.specs.declared.schema.SchemaElement.{SchemaElement}
@@ -10,7 +10,7 @@ use Rattle.sq_tree.specs.declared.schema.ColumnDefinition.{ColumnDefinition}
 use Rattle.sq_first.specs.declared.schema.Schema.{Schema}
 use Rattle.sq_first.specs.declared.schema.TableDefinition.{TableDefinition}
 use Rattle.sq_first.specs.declared.schema.Column.{Column}
-use Rattle.sq_part.specs.Each.{◌>>=◌, without, without_any, each}
+use Rattle.sq_part.specs.Each.{◌>>=◌, without, without_any, first_and_rest}
 use Rattle.sq_part.specs.Module.{first_spelling, first_table}
 
 -- a column of type INTEGER without a default or a constraint
@@ -25,8 +25,7 @@ first_table_element _ = None
 -- a table whose name is written without its schema, of columns alone
 abbrev pub first_definition : tree_table.TableDefinition → Option TableDefinition
 first_definition t =
-    first_table t.name >>= λ name. first_table_element t.elements.first >>= λ first. each first_table_element t.elements.rest >>= λ rest.
-    Some (record { name = name; columns = record { first = first; rest = rest } })
+    first_table t.name >>= λ name. first_and_rest first_table_element t.elements >>= λ columns. Some (record { name = name; columns = record { first = columns.0; rest = columns.1 } })
 
 abbrev pub first_element : SchemaElement → Option TableDefinition
 first_element (element.Table table) = first_definition table

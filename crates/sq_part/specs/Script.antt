@@ -1,4 +1,4 @@
--- The script of the small language that a script text says (own rule): the whole of it, since the small language has all scripts.
+-- The script of the first language that a script text says (own rule): the whole of it, since the first language has all scripts.
 use Rattle.std.specs.Prelude.{[], ◌∷◌, map}
 use Rattle.std.specs.Option.{option_map}
 use Rattle.sq_tree.specs.declared.expr.Sign as tree

@@ -1,21 +1,21 @@
-//! Why a tree is not of the small language.
+//! Why a tree is not of the first language.
 
 ghost use Rattle.std.specs.Prelude.{◌≡◌};
 
 use std::alloc::AllocError;
 use thiserror::Error;
 
-/// Why nothing of the small language was taken out of the tree of a schema or module text.
+/// Why nothing of the first language was taken out of the tree of a schema or module text.
 #[derive(Debug, Drop, Error)]
 pub enum TakeFault {
     #[error("out of memory")]
     NoMemory,
-    /// The first schema element, cursor or procedure that is not of the small language, by its place from 0. A second
+    /// The first schema element, cursor or procedure that is not of the first language, by its place from 0. A second
     /// table is not.
-    #[error("element {0} is not of the small language")]
+    #[error("element {0} is not of the first language")]
     NotYet(usize),
-    /// The schema text has a second schema, and its first is of the small language.
-    #[error("a second schema is not of the small language")]
+    /// The schema text has a second schema, and its first is of the first language.
+    #[error("a second schema is not of the first language")]
     SecondSchema,
 }
 

@@ -1,4 +1,4 @@
-//! The small language of `sq_first`, taken out of the trees of the whole grammar.
+//! The first language of `sq_first`, taken out of the trees of the whole grammar.
 //!
 //! What is said here goes away with `sq_first`, when the whole grammar is run.
 #![tactic(auto)]

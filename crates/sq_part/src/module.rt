@@ -1,14 +1,14 @@
-//! From the tree of a module text to the module of the small language.
+//! From the tree of a module text to the module of the first language.
 
 ghost use Rattle.std.specs.Prelude.{◌≡◌, ◌∷◌, [], IfOk, IfErr};
 ghost use Rattle.std.specs.Option.{option_copied};
 ghost use Rattle.sq_tree.specs.declared.expr.Primary.{out-Primary};
 ghost use Rattle.sq_tree.specs.declared.query.QueryTerm.{out-QueryTerm};
-ghost use Rattle.sq_part.specs.Module.{first_spelling, first_table, first_parameter, first_reference, one_primary, column_primary, parameter_primary, first_column, first_argument, first_value, first_names, first_from, first_table_expression, first_select_list, first_specification, first_query_term, first_query, first_cursor, first_declaration, first_declarations, first_source, first_insert, first_fetch_from, first_fetch, first_statement, first_procedure, first_part, first_module};
+ghost use Rattle.sq_part.specs.Module.{first_spelling, first_table, first_parameter, first_reference, one_primary, column_primary, parameter_primary, first_column, first_value, first_names, first_from, first_table_expression, first_select_list, first_specification, first_query_term, first_query, first_cursor, first_declaration, first_declarations, first_source, first_insert, first_fetch_from, first_fetch, first_statement, first_procedure, first_part, first_module};
 ghost use Rattle.sq_part.specs.Fault.{RefusesModule};
 
 use crate::fault::TakeFault;
-use crate::part::{Part, take_each};
+use crate::part::{Part, take_list};
 use sq_first::{
     Cursor, FetchStatement, IntegerSpelling, Module, Names, Parameter, Parameters, Procedure,
     Statement,
@@ -106,73 +106,50 @@ fn parameter_of(primary: &Primary) -> Option<Name>
     }
 }
 
-fn take_column(expr: &Expr) -> Option<Name>
-    ensures { result ≡ first_column expr.now }
-{
-    match take_primary(expr) {
-        Some(primary) => column_of(primary),
-        None => None,
-    }
-}
-
-fn take_argument(expr: &Expr) -> Option<Name>
-    ensures { result ≡ first_argument expr.now }
-{
-    match take_primary(expr) {
-        Some(primary) => parameter_of(primary),
-        None => None,
-    }
-}
-
 /// An item of a select list.
 impl Part for Expr {
-    type Small = Name;
+    type Taken = Name;
 
-    ghost small = { first_column };
+    ghost taken = { first_column };
 
-    fn take(&self, _alloc: Global) -> Result<Option<Name>, AllocError> {
-        Ok(take_column(self))
+    fn take(&self) -> Option<Name> {
+        column_of(take_primary(self)?)
     }
 }
 
 /// A value of VALUES.
 impl Part for NewValue {
-    type Small = Name;
+    type Taken = Name;
 
-    ghost small = { first_value };
+    ghost taken = { first_value };
 
-    fn take(&self, _alloc: Global) -> Result<Option<Name>, AllocError> {
+    fn take(&self) -> Option<Name> {
         match self {
-            NewValue::Expr(expr) => Ok(take_argument(expr)),
-            NewValue::Null => Ok(None),
+            NewValue::Expr(expr) => parameter_of(take_primary(expr)?),
+            NewValue::Null => None,
         }
     }
 }
 
 /// A target of a fetch statement.
 impl Part for sq_tree::Parameter {
-    type Small = Name;
+    type Taken = Name;
 
-    ghost small = { first_parameter };
+    ghost taken = { first_parameter };
 
-    fn take(&self, _alloc: Global) -> Result<Option<Name>, AllocError> {
-        Ok(take_parameter(*self))
+    fn take(&self) -> Option<Name> {
+        take_parameter(*self)
     }
 }
 
-fn take_names<T: Part<Small = Name>>(
+fn take_names<T: Part<Taken = Name>>(
     alloc: Global,
     list: &CommaList<T>,
 ) -> Result<Option<Names>, AllocError>
-    ensures { IfOk result (λ names. names ≡ first_names T.small list.now) }
+    ensures { IfOk result (λ names. names ≡ first_names T.taken list.now) }
 {
-    let Some(first) = list.first.take(alloc)? else {
-        return Ok(None);
-    };
-    let Some(rest) = take_each(alloc, list.rest.as_slice())? else {
-        return Ok(None);
-    };
-    Ok(Some(Names { first, rest }))
+    let names = take_list(alloc, list)?;
+    Ok(names.map(|(first, rest)| Names { first, rest }))
 }
 
 fn take_from(from: &CommaList<TableReference>) -> Option<Name>
@@ -218,10 +195,8 @@ fn take_specification(
     let Some(columns) = take_select_list(alloc, &specification.list)? else {
         return Ok(None);
     };
-    match take_table_expression(&specification.table) {
-        Some(table) => Ok(Some((columns, table))),
-        None => Ok(None),
-    }
+    let table = take_table_expression(&specification.table);
+    Ok(table.map(|table| (columns, table)))
 }
 
 #[tactic(auto, using(crate::proofs::Levels::levels))]
@@ -265,19 +240,18 @@ fn take_cursor(alloc: Global, cursor: &sq_tree::Cursor) -> Result<Option<Cursor>
 }
 
 impl Part for Declaration {
-    type Small = Parameter;
+    type Taken = Parameter;
 
-    ghost small = { first_declaration };
+    ghost taken = { first_declaration };
 
-    fn take(&self, _alloc: Global) -> Result<Option<Parameter>, AllocError> {
-        Ok(match self {
+    fn take(&self) -> Option<Parameter> {
+        match self {
             Declaration::Sqlcode => Some(Parameter::Sqlcode),
             Declaration::Sqlstate => None,
-            Declaration::Parameter(name, data_type) => match take_spelling(*data_type) {
-                Some(spelling) => Some(Parameter::Named(*name, spelling)),
-                None => None,
-            },
-        })
+            Declaration::Parameter(name, data_type) => {
+                Some(Parameter::Named(*name, take_spelling(*data_type)?))
+            }
+        }
     }
 }
 
@@ -290,13 +264,8 @@ fn take_declarations(
     let Declarations::Bracketed(list) = declarations else {
         return Ok(None);
     };
-    let Some(first) = list.first.take(alloc)? else {
-        return Ok(None);
-    };
-    let Some(rest) = take_each(alloc, list.rest.as_slice())? else {
-        return Ok(None);
-    };
-    Ok(Some(Parameters { first, rest }))
+    let parameters = take_list(alloc, list)?;
+    Ok(parameters.map(|(first, rest)| Parameters { first, rest }))
 }
 
 fn take_source(alloc: Global, source: &InsertSource) -> Result<Option<Names>, AllocError>
@@ -361,10 +330,7 @@ fn take_statement(
         sq_tree::Statement::Open(cursor) => Ok(Some(Statement::Open(*cursor))),
         sq_tree::Statement::Close(cursor) => Ok(Some(Statement::Close(*cursor))),
         sq_tree::Statement::Insert(insert) => take_insert(alloc, insert),
-        sq_tree::Statement::Fetch(fetch) => match take_fetch(alloc, fetch)? {
-            Some(fetch) => Ok(Some(Statement::Fetch(fetch))),
-            None => Ok(None),
-        },
+        sq_tree::Statement::Fetch(fetch) => Ok(take_fetch(alloc, fetch)?.map(Statement::Fetch)),
         _ => Ok(None),
     }
 }
@@ -393,18 +359,14 @@ fn take_part(alloc: Global, item: &ModuleItem) -> Result<Option<sq_first::Part>,
     ensures { IfOk result (λ taken. taken ≡ first_part item.now) }
 {
     match item {
-        ModuleItem::Cursor(cursor) => match take_cursor(alloc, cursor)? {
-            Some(cursor) => Ok(Some(sq_first::Part::Cursor(cursor))),
-            None => Ok(None),
-        },
-        ModuleItem::Procedure(procedure) => match take_procedure(alloc, procedure)? {
-            Some(procedure) => Ok(Some(sq_first::Part::Procedure(procedure))),
-            None => Ok(None),
-        },
+        ModuleItem::Cursor(cursor) => Ok(take_cursor(alloc, cursor)?.map(sq_first::Part::Cursor)),
+        ModuleItem::Procedure(procedure) => {
+            Ok(take_procedure(alloc, procedure)?.map(sq_first::Part::Procedure))
+        }
     }
 }
 
-/// The module of the small language, where each cursor and procedure is of it.
+/// The module of the first language, where each cursor and procedure is of it.
 ///
 /// `NotYet` has the place of the first cursor or procedure that is not.
 #[tactic(auto, using(crate::proofs::Turns::turns))]

@@ -1,4 +1,4 @@
-//! From the tree of a schema text to the schema of the small language.
+//! From the tree of a schema text to the schema of the first language.
 
 ghost use Rattle.std.specs.Prelude.{◌≡◌, IfOk, IfErr};
 ghost use Rattle.sq_part.specs.Schema.{first_column, first_table_element, first_definition, first_element, first_schema};
@@ -6,7 +6,7 @@ ghost use Rattle.sq_part.specs.Fault.{RefusesSchema};
 
 use crate::fault::TakeFault;
 use crate::module::{take_spelling, take_table};
-use crate::part::{Part, take_each};
+use crate::part::{Part, take_list};
 use sq_first::{Column, Columns, Schema, TableDefinition};
 use sq_tree::{ColumnDefinition, SchemaElement, SchemaText, TableElement};
 use std::alloc::{AllocError, Global};
@@ -20,24 +20,21 @@ fn take_column(column: &ColumnDefinition) -> Option<Column>
     if !column.constraints.is_empty() {
         return None;
     }
-    match take_spelling(column.data_type) {
-        Some(spelling) => Some(Column {
-            name: column.name,
-            spelling,
-        }),
-        None => None,
-    }
+    Some(Column {
+        name: column.name,
+        spelling: take_spelling(column.data_type)?,
+    })
 }
 
 impl Part for TableElement {
-    type Small = Column;
+    type Taken = Column;
 
-    ghost small = { first_table_element };
+    ghost taken = { first_table_element };
 
-    fn take(&self, _alloc: Global) -> Result<Option<Column>, AllocError> {
+    fn take(&self) -> Option<Column> {
         match self {
-            TableElement::Column(column) => Ok(take_column(column)),
-            _ => Ok(None),
+            TableElement::Column(column) => take_column(column),
+            _ => None,
         }
     }
 }
@@ -51,10 +48,7 @@ fn take_definition(
     let Some(name) = take_table(table.name) else {
         return Ok(None);
     };
-    let Some(first) = table.elements.first.take(alloc)? else {
-        return Ok(None);
-    };
-    let Some(rest) = take_each(alloc, table.elements.rest.as_slice())? else {
+    let Some((first, rest)) = take_list(alloc, &table.elements)? else {
         return Ok(None);
     };
     Ok(Some(TableDefinition {
@@ -76,9 +70,9 @@ fn take_element(
     }
 }
 
-/// The schema of the small language, where the text has one schema definition and it has no element or one table.
+/// The schema of the first language, where the text has one schema definition and it has no element or one table.
 ///
-/// `NotYet` has the place of the first element that is not of the small language, and `SecondSchema` comes where there
+/// `NotYet` has the place of the first element that is not of the first language, and `SecondSchema` comes where there
 /// is none in the first schema definition, but a second definition.
 pub fn take_schema(alloc: Global, tree: &SchemaText) -> Result<Schema, TakeFault>
     ensures taken { IfOk result (λ taken. first_schema tree.now ≡ Some taken) }

@@ -1,3 +1,5 @@
+//! From the tree of a script text to the script of the first language.
+
 ghost use Rattle.std.specs.Prelude.{◌≡◌, ◌∷◌, IfOk, map};
 ghost use Rattle.sq_part.specs.Script.{first_sign, first_argument, first_arguments, first_item, first_script};
 
@@ -74,7 +76,7 @@ fn take_item(alloc: Global, item: &sq_tree::ScriptItem) -> Result<Item, AllocErr
     })
 }
 
-/// The script of the small language. It is the whole script, since the small language has all scripts.
+/// The script of the first language. It is the whole script, since the first language has all scripts.
 #[tactic(auto, using(std::proofs::lemmas::Grind::common_steps))]
 pub fn take_script(alloc: Global, tree: &sq_tree::ScriptText) -> Result<Script, AllocError>
     ensures { IfOk result (λ script. script ≡ first_script tree.now) }

@@ -3,4 +3,4 @@ use Rattle.sq_part.specs.Each.{each}
 use Rattle.sq_part.proofs.part.take_each.Given as goal
 
 abbrev pub invariant-loop-part : goal.invariant-loop-part
-invariant-loop-part g l = each g.T.Part.small (take l.part-index l.parts) ≡ Some l.taken
+invariant-loop-part g l = each g.T.Part.taken (take l.part-index l.parts) ≡ Some l.taken
