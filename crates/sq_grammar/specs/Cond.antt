@@ -1,4 +1,4 @@
--- Search conditions (ISO/IEC 9075:1992, 8). A bracket at the start of a test may open a condition or an expression, so what stands
+-- Search conditions (ISO/IEC 9075:1992, 7.11 and 8). A bracket at the start of a test may open a condition or an expression, so what stands
 -- behind it is read once, as either, and what came out decides how to go on.
 use Rattle.std.specs.Prelude.{ℕ, zero, suc, Bool, true, false, ◌&&◌, [], ◌∷◌, Option, Some, None, if◌then◌else◌}
 use Rattle.sq_lex.specs.declared.lexeme.Lexeme.{Lexeme}
