@@ -1,6 +1,6 @@
 -- Set functions over the values of one expression (ISO/IEC 9075:1992, 6.5), which are of one kind: nulls are left out,
 -- and only the final result is tested for its range.
-use Rattle.std.specs.Prelude.{ℕ, ℤ, pos, ◌+ℤ◌, int_div, Option, Some, None, is_some, Bool, Result, Ok, Err, List, [], ◌∷◌, length, fold, true, false, filter, not, find, unwrap_or, if◌then◌else◌}
+use Rattle.std.specs.Prelude.{All, ℕ, ℤ, pos, ◌+ℤ◌, int_div, Option, Some, None, is_some, Bool, Result, Ok, Err, List, [], ◌∷◌, length, fold, true, false, filter, not, find, unwrap_or, if◌then◌else◌}
 use Rattle.std.specs.List.{filter_map, list_all}
 use Rattle.std.specs.Ordering.{is_lt}
 use Rattle.sq_value.specs.Comparison.{ordered}
@@ -8,9 +8,15 @@ use Rattle.sq_value.specs.declared.set_functions.Extreme.{Extreme}
 use Rattle.sq_value.specs.declared.set_functions.Extreme.TheVariants.{Least, Greatest}
 use Rattle.sq_value.specs.Number.{Number}
 use Rattle.sq_value.specs.Arithmetic.{in_range}
+use Rattle.sq_value.specs.Domain.{IsOfKind}
+use Rattle.sq_value.specs.declared.domain.Kind.{Kind}
 use Rattle.sq_value.specs.declared.fault.ArithmeticFault.{ArithmeticFault}
 use Rattle.sq_value.specs.declared.value.Value.{Value}
 use Rattle.sq_value.specs.declared.value.Value.TheVariants.{Null, Num, Chars}
+
+-- null aside, they are numbers of one scale, or texts of one length or greatest length
+abbrev pub AreOfOneKind : List Value → Type 0
+AreOfOneKind vs = (k : Kind) × All (IsOfKind k) vs
 
 abbrev pub number_in : Value → Option Number
 number_in Null = None

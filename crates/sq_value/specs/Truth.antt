@@ -1,5 +1,5 @@
--- Three-valued logic (ISO/IEC 9075:1992, 8.12, tables of AND, OR and NOT; 8.7, quantified comparisons).
-use Rattle.std.specs.Prelude.{Bool, true, false, List, [], ◌∷◌, map}
+-- Three-valued logic (ISO/IEC 9075:1992, 8.12, tables of AND, OR and NOT).
+use Rattle.std.specs.Prelude.{Bool, true, false}
 use Rattle.sq_value.specs.declared.truth.Truth.{Truth}
 use Rattle.sq_value.specs.declared.truth.Truth.TheVariants.{False, Unknown, True}
 
@@ -28,12 +28,3 @@ negation True = False
 abbrev pub known : Bool → Truth
 known true = True
 known false = False
-
--- ALL over the truths of the comparisons: true on none, false where one is false, else unknown where one is unknown
-abbrev pub all_of : List Truth → Truth
-all_of [] = True
-all_of (p ∷ ps) = both p (all_of ps)
-
--- ANY and SOME are the dual of ALL
-abbrev pub any_of : List Truth → Truth
-any_of ps = negation (all_of (map negation ps))

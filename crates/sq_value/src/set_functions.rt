@@ -1,6 +1,8 @@
+//! Set functions over the values of one expression.
+
 ghost use Rattle.std.specs.Prelude.{◌≡◌, ◌≤◌, ◌<◌, ◌^◌, length, unsigned_abs, IfSome, IfOk};
 ghost use Rattle.std.specs.Option.{option_copied, unwrap_or};
-ghost use Rattle.sq_value.specs.SetFunctions.{numbers, total, summed, averaged, first_scale, is_number, unscaled_of, extreme, surpasses, first_unsurpassed, without_nulls, kept_best};
+ghost use Rattle.sq_value.specs.SetFunctions.{AreOfOneKind, numbers, total, summed, averaged, first_scale, is_number, unscaled_of, extreme, surpasses, first_unsurpassed, without_nulls, kept_best};
 
 use crate::fault::ArithmeticFault;
 use crate::value::Value;
@@ -8,12 +10,14 @@ use crate::wide::in_digits;
 use std::alloc::{AllocError, Global};
 use std::cmp::Ordering;
 
-/// SUM of the values that are not null, and null where there is none.
+/// SUM of the values that are not null, and null where there is none (ISO/IEC 9075:1992, 6.5).
 ///
-/// The values are numbers of one scale, or null. Only the sum itself is tested for its range: it is kept in 128 bits,
-/// and the sum of 2 to the 64 numbers of at most 18 digits is below 2 to the 124.
+/// The values are of one kind: numbers of one scale, for texts have no sum and give null. Only the sum itself is tested,
+/// and `Range` comes where it has more than 18 digits. It is kept in 128 bits: the sum of 2 to the 64 numbers of at most
+/// 18 digits is below 2 to the 124.
 #[tactic(auto, using(crate::proofs::Totals::numbers_steps))]
 pub fn sum(values: &[Value]) -> Result<Value, ArithmeticFault>
+    requires { AreOfOneKind values.now }
     ensures { result ≡ summed values.now }
 {
     match first_scale(values) {
@@ -22,11 +26,13 @@ pub fn sum(values: &[Value]) -> Result<Value, ArithmeticFault>
     }
 }
 
-/// AVG of the values that are not null, truncated toward zero, and null where there is none.
+/// AVG of the values that are not null, truncated toward zero at their scale, and null where there is none (ISO/IEC
+/// 9075:1992, 6.5).
 ///
-/// The values are numbers of one scale, or null.
+/// The values are of one kind, as in `sum`. Only the mean itself is tested.
 #[tactic(auto, using(crate::proofs::Totals::numbers_steps))]
 pub fn avg(values: &[Value]) -> Result<Value, ArithmeticFault>
+    requires { AreOfOneKind values.now }
     ensures { result ≡ averaged values.now }
 {
     match first_scale(values) {
@@ -38,14 +44,14 @@ pub fn avg(values: &[Value]) -> Result<Value, ArithmeticFault>
     }
 }
 
-/// MIN of the values that are not null: of equal ones the first, and null where there is none.
+/// MIN of the values that are not null: of equal ones the first, and null where there is none (ISO/IEC 9075:1992, 6.5).
 pub fn least(alloc: Global, values: &[Value]) -> Result<Value, AllocError>
     ensures { IfOk result (λ v. v ≡ extreme Extreme.Least values.now) }
 {
     copy_of(alloc, best_of(Extreme::Least, values))
 }
 
-/// MAX of the values that are not null: of equal ones the first, and null where there is none.
+/// MAX of the values that are not null: of equal ones the first, and null where there is none (ISO/IEC 9075:1992, 6.5).
 pub fn greatest(alloc: Global, values: &[Value]) -> Result<Value, AllocError>
     ensures { IfOk result (λ v. v ≡ extreme Extreme.Greatest values.now) }
 {

@@ -1,6 +1,8 @@
+//! Tests, with values from the rules of the standard.
+
 ghost use Rattle.std.specs.Prelude.{◌≡◌, ◌<◌, ◌^◌, IsTrue, IsFalse, All, unsigned_abs};
 ghost use Rattle.sq_value.specs.Text.{IsCode};
-ghost use Rattle.sq_value.specs.Domain.{IsDomain, is_of_numbers};
+ghost use Rattle.sq_value.specs.Domain.{IsDomain, IsOfKind, is_of_numbers};
 
 use super::*;
 use std::alloc::Global;
@@ -11,6 +13,7 @@ use std::test::Fail;
 /// A whole number.
 fn whole(unscaled: i64) -> Value
     requires { unsigned_abs unscaled < 10 ^ 18 }
+    ensures { IsOfKind (Kind.Num 0) result }
 {
     Value::Num(Decimal::new(unscaled, 0))
 }
@@ -252,6 +255,10 @@ fn texts_are_stored(rt: HostRuntime) -> Result<(), Fail> {
     assert_eq!(rt;
         shown(alloc, &start_value(alloc, Domain::Char(2))?)?.as_slice(),
         b"  ".as_slice()
+    );
+    assert_eq!(rt;
+        shown(alloc, &start_value(alloc, Domain::VarChar(2))?)?.as_slice(),
+        b"".as_slice()
     );
     assert_eq!(rt;
         shown(alloc, &start_value(alloc, Domain::Numeric(3, 2))?)?.as_slice(),
