@@ -1,7 +1,7 @@
 -- Cutting a text by the items of a pattern, one code at a time.
 use Rattle.std.proofs.Common.{◌≡◌, ℕ, zero, suc, ◌+◌, ◌-◌, ◌≤◌, ◌<◌, ◌==◌, ◌&&◌, ◌||◌, Bool, true, false, List, [], ◌∷◌, length, drop, get_or, map, refl, sym, ap, ◌∙◌, arith, add-one, drop-cons, inl, inr, ◌⊎◌}
 use Rattle.std.proofs.lemmas.List.{drop_all}
-use Rattle.std.proofs.lemmas.Bool.{cases_lt}
+use Rattle.std.proofs.lemmas.Bool.{and_right, cases_lt}
 use Rattle.std.proofs.lemmas.Grind.{common_steps}
 use Rattle.std.proofs.Math.ListN.{set}
 use Rattle.std.specs.List.{list_any}
@@ -16,10 +16,6 @@ or_false false = refl
 and_true : (b : Bool) → b ≡ (b && true)
 and_true true = refl
 and_true false = refl
-
-and_false : (b : Bool) → false ≡ (b && false)
-and_false true = refl
-and_false false = refl
 
 pub any_map : {X Y : Type 0} (p : Y → Bool) (f : X → Y) (xs : List X) → list_any p (map f xs) ≡ list_any (λ x. p (f x)) xs
 any_map p f [] = refl
@@ -57,7 +53,7 @@ fits_one AnyRun one c cs = absurd one
 fits_one AnyOne one c [] = refl
 fits_one AnyOne one c (d ∷ ds) = refl
 fits_one (This e) one c [] = and_true (c == e)
-fits_one (This e) one c (d ∷ ds) = and_false (c == e)
+fits_one (This e) one c (d ∷ ds) = sym (and_right (c == e) false refl)
 
 -- only the cut that leaves the whole rest has nothing in front
 any_rest : (P : List ℕ → Bool) (cs : List ℕ) → list_any (λ cut. is_nil (cut.0) && P (cut.1)) (splits cs) ≡ P cs

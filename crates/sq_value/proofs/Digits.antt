@@ -1,7 +1,8 @@
 -- The number that digits write, digit by digit.
-use Rattle.std.proofs.Common.{◌≡◌, ℕ, ◌+◌, ◌*◌, ◌^◌, ◌-◌, ◌≤◌, ◌<◌, List, [], ◌∷◌, ◌++◌, length, take, get_or, refl, Bool, true, false, zero, suc, sub-one, pos, Ok, ◌&&◌, length-append, append_assoc, ◌/◌, ◌%◌, sym, ap, ◌∙◌, arith, add-one}
+use Rattle.std.proofs.Common.{◌≡◌, ℕ, ◌+◌, ◌*◌, ◌^◌, ◌-◌, ◌≤◌, ◌<◌, List, [], ◌∷◌, ◌++◌, length, take, get_or, refl, true, zero, suc, sub-one, pos, Ok, ◌&&◌, length-append, append_assoc, ◌/◌, ◌%◌, sym, ap, ◌∙◌, arith, add-one}
 use Rattle.std.proofs.lemmas.List.{take_more}
 use Rattle.std.proofs.lemmas.List.Folds.{list_all_at, list_all-append}
+use Rattle.std.proofs.lemmas.Bool.{true_from_ne_false}
 use Rattle.std.proofs.lemmas.Bool.Decides.{nat_tests}
 use Rattle.std.proofs.lemmas.Nat.{pow-add}
 use Rattle.std.proofs.Math.Nat.{pow-suc, pow-le-pow_right, mul-le-mul_left, mul-le-mul_right, mul_assoc}
@@ -28,12 +29,8 @@ room_after_digit n s i d e h = omega (arith, raised_once s i)
 pub room_within : (s i k : ℕ) → i ≤ k → (s + 1) * 10 ^ i ≤ (s + 1) * 10 ^ k
 room_within s i k h = mul-le-mul_left (s + 1) (pow-le-pow_right {n = 10} (omega arith) h)
 
-digit_passes : (b : Bool) → (b ≡ false → ⊥) → b ≡ true
-digit_passes true h = refl
-digit_passes false h = absurd (h refl)
-
 digit_at : (ds : List ℕ) (i : ℕ) → list_all is_ascii_digit ds ≡ true → i < length ds → is_ascii_digit (get_or ds i 0) ≡ true
-digit_at ds i all h = digit_passes (is_ascii_digit (get_or ds i 0)) (λ no. let none = list_all_at is_ascii_digit ds i 0 h no in cc)
+digit_at ds i all h = true_from_ne_false (is_ascii_digit (get_or ds i 0)) (λ no. let none = list_all_at is_ascii_digit ds i 0 h no in cc)
 
 digit_is : (c : ℕ) → is_ascii_digit c ≡ true → (digit_value c ≡ c - 48) × (c - 48 < 10)
 digit_is c h = grind (arith, nat_tests)

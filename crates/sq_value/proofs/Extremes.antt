@@ -1,5 +1,6 @@
 -- The best value so far is the first that no other surpasses.
 use Rattle.std.proofs.Common.{◌≡◌, Bool, true, false, not, cond, ◌&&◌, List, [], ◌∷◌, ◌++◌, fold, find, Option, Some, None, refl, sym, ap, subst, ◌∙◌, append_assoc, inl, inr, ◌⊎◌}
+use Rattle.std.proofs.lemmas.Bool.{and_parts, and_right, false_from_ne_true, not-true}
 use Rattle.std.proofs.lemmas.List.{append-nil}
 use Rattle.std.proofs.lemmas.List.Sums.{fold_more}
 use Rattle.std.proofs.lemmas.List.Folds.{find-append, list_all-append}
@@ -59,29 +60,17 @@ unpassed B xs v = list_all (λ w. not (B w v)) xs
 abbrev first : (Value → Value → Bool) → List Value → Option Value
 first B xs = find (unpassed B xs) xs
 
-both_true : (p q : Bool) → (p && q) ≡ true → (p ≡ true) × (q ≡ true)
-both_true true q h = (refl, h)
-both_true false q h = (h, cc)
-
-not_true : (p : Bool) → not p ≡ true → p ≡ false
-not_true true h = cc
-not_true false h = refl
-
-never : (p : Bool) → (p ≡ true → ⊥) → p ≡ false
-never true h = absurd (h refl)
-never false h = refl
-
 none_found : (B : Value → Value → Bool) (Q : Value → Bool) (x : Value) → ((u : Value) → B u x ≡ false → Q u ≡ false) → (ys : List Value) → unpassed B ys x ≡ true → find Q ys ≡ None
 none_found B Q x f [] h = refl
 none_found B Q x f (y ∷ ys) h =
-    let both = both_true (not (B y x)) (unpassed B ys x) h in
-    ap (λ b. cond b (Some y) (find Q ys)) (f y (not_true (B y x) (both.0))) ∙ none_found B Q x f ys (both.1)
+    let both = and_parts (not (B y x)) (unpassed B ys x) h in
+    ap (λ b. cond b (Some y) (find Q ys)) (f y (not-true (B y x) (both.0))) ∙ none_found B Q x f ys (both.1)
 
 all_weaker : (B : Value → Value → Bool) (x v : Value) → ((w : Value) → B w x ≡ false → B w v ≡ false) → (ys : List Value) → unpassed B ys x ≡ true → unpassed B ys v ≡ true
 all_weaker B x v f [] h = refl
 all_weaker B x v f (y ∷ ys) h =
-    let both = both_true (not (B y x)) (unpassed B ys x) h in
-    ap (λ b. not b && unpassed B ys v) (f y (not_true (B y x) (both.0))) ∙ all_weaker B x v f ys (both.1)
+    let both = and_parts (not (B y x)) (unpassed B ys x) h in
+    ap (λ b. not b && unpassed B ys v) (f y (not-true (B y x) (both.0))) ∙ all_weaker B x v f ys (both.1)
 
 passes_by : (p : Value → Bool) (y x : Value) (later : Option Value) → (later ≡ Some x → p x ≡ true) → (b : Bool) → p y ≡ b → cond b (Some y) later ≡ Some x → p x ≡ true
 passes_by p y x later go true e h = let same : y ≡ x = cc in ap p (sym same) ∙ e
@@ -105,17 +94,13 @@ still_found p q (y ∷ ys) x h f qx = found_by p q y x (find p ys) (find q ys) (
 more_unpassed : (B : Value → Value → Bool) (xs : List Value) (v u : Value) → unpassed B (xs ++ v ∷ []) u ≡ (unpassed B xs u && (not (B v u) && true))
 more_unpassed B xs v u = list_all-append (λ w. not (B w u)) xs (v ∷ [])
 
-and_false : (p : Bool) → (p && false) ≡ false
-and_false true = refl
-and_false false = refl
-
 taken_is_first : (B : Value → Value → Bool) → IsStrict B → (xs : List Value) (x v : Value) → first B xs ≡ Some x → B v x ≡ true → first B (xs ++ v ∷ []) ≡ Some v
 taken_is_first B s xs x v h before =
     let Q = unpassed B (xs ++ v ∷ []) in
     let free : unpassed B xs x ≡ true = passes_found (unpassed B xs) xs x h in
     let no_other : find Q xs ≡ None =
-    none_found B Q x (λ u n. more_unpassed B xs v u ∙ ap (λ b. unpassed B xs u && (not b && true)) (s.beyond v x u before n) ∙ and_false (unpassed B xs u)) xs free in
-    let freed : unpassed B xs v ≡ true = all_weaker B x v (λ w n. never (B w v) (λ y. let yes = s.along w v x y before in cc)) xs free in
+    none_found B Q x (λ u n. more_unpassed B xs v u ∙ ap (λ b. unpassed B xs u && (not b && true)) (s.beyond v x u before n) ∙ and_right (unpassed B xs u) false refl) xs free in
+    let freed : unpassed B xs v ≡ true = all_weaker B x v (λ w n. false_from_ne_true (B w v) (λ y. let yes = s.along w v x y before in cc)) xs free in
     let here : Q v ≡ true = more_unpassed B xs v v ∙ (λ i. freed i && (not (s.itself v i) && true)) in
     find-append Q xs (v ∷ []) ∙ (λ i. option_or (no_other i) (cond (here i) (Some v) None))
 

@@ -1,17 +1,10 @@
 -- A text that can be cut is the pieces joined, and the other way round.
 use Rattle.std.proofs.Common.{◌≡◌, ℕ, ◌&&◌, ◌||◌, Bool, true, false, List, [], ◌∷◌, ◌++◌, map, refl, sym, ap, ◌∙◌, ◌↔◌, IsTrue}
+use Rattle.std.proofs.lemmas.Bool.{and_parts, or_right}
 use Rattle.std.specs.List.{list_any}
 use Rattle.sq_value.specs.Pattern.{can_be_cut, splits, fits, joined, AllFit, CanBeCut}
 use Rattle.sq_value.specs.declared.pattern.Item.{Item}
 use Rattle.sq_value.proofs.Cutting.{any_map}
-
-both_true : (p q : Bool) → (p && q) ≡ true → (p ≡ true) × (q ≡ true)
-both_true true q h = (refl, h)
-both_true false q h = (h, cc)
-
-or_true : (p : Bool) → (p || true) ≡ true
-or_true true = refl
-or_true false = refl
 
 abbrev Cut : (List ℕ × List ℕ → Bool) → List ℕ → Type 0
 Cut f text = (front : List ℕ) × (rest : List ℕ) × (front ++ rest ≡ text) × (f (front, rest) ≡ true)
@@ -38,14 +31,14 @@ any_from_cut f [] [] h = ap (λ b. b || false) h
 any_from_cut f [] (c ∷ cs) h = ap (λ b. b || list_any f (map (onto c) (splits cs))) h
 any_from_cut f (c ∷ front) rest h =
     ap (λ b. f ([], c ∷ (front ++ rest)) || b) (any_map f (onto c) (splits (front ++ rest)) ∙ any_from_cut (λ cut. f (onto c cut)) front rest h)
-    ∙ or_true (f ([], c ∷ (front ++ rest)))
+    ∙ or_right (f ([], c ∷ (front ++ rest))) true refl
 
 pieces_from : (items : List Item) (text : List ℕ) → can_be_cut items text ≡ true → CanBeCut items text
 pieces_from [] [] h = ([], refl, tt)
 pieces_from [] (c ∷ cs) h = cc
 pieces_from (i ∷ items) text h =
     let cut = cut_from_any (λ cut. fits i (cut.0) && can_be_cut items (cut.1)) text h in
-    let both = both_true (fits i (cut.0)) (can_be_cut items (cut.1)) (cut.3) in
+    let both = and_parts (fits i (cut.0)) (can_be_cut items (cut.1)) (cut.3) in
     let later = pieces_from items (cut.1) (both.1) in
     (cut.0 ∷ later.0, ap (λ t. cut.0 ++ t) (later.1) ∙ cut.2, (both.0, later.2))
 
