@@ -1,3 +1,5 @@
+//! Comparison of values.
+
 ghost use Rattle.std.specs.Prelude.{◌≡◌, slice_index_or};
 ghost use Rattle.sq_value.specs.Comparison.{texts_compared, values_compared, is_same, ordered, kind_rank};
 
@@ -5,7 +7,8 @@ use crate::value::Value;
 use std::cmp::Ordering;
 
 impl Value {
-    /// The order of two numbers or of two texts, and none where one is null: the comparison is then unknown.
+    /// The order of two numbers or of two texts (ISO/IEC 9075:1992, 8.2), and none where one is null: the comparison is
+    /// then unknown.
     ///
     /// Numbers compare by value, texts by code, the shorter one as if padded with blanks. Nothing says how a number
     /// compares with a text, and the answer there is none.
@@ -22,17 +25,11 @@ impl Value {
     }
 
     /// Whether two values are not distinct: both null, or equal numbers, or equal texts.
+    #[tactic(auto, using(crate::specs::laws::ValueOrder::same_is))]
     pub fn is_same(&self, other: &Value) -> bool
         ensures { result ≡ is_same self.now other.now }
     {
-        match (self, other) {
-            (Value::Null, Value::Null) => true,
-            (Value::Num(left), Value::Num(right)) => left.cmp(*right) == Ordering::Equal,
-            (Value::Chars(left), Value::Chars(right)) => {
-                compare_texts(left.codes(), right.codes()) == Ordering::Equal
-            }
-            _ => false,
-        }
+        self.order(other) == Ordering::Equal
     }
 
     /// The order of ORDER BY: null lowest, then as the values compare.

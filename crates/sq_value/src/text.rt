@@ -1,3 +1,5 @@
+//! Texts.
+
 ghost use Rattle.std.specs.Prelude.{◌≡◌, ◌≤◌, IfOk, ◌==◌, take, replicate};
 ghost use Rattle.std.specs.List.{list_all};
 ghost use Rattle.sq_value.specs.Text.{IsText, of_length, only_blanks_past, trimmed};
@@ -69,7 +71,8 @@ impl Text {
         ensures { IfOk result (λ text. text ≡ of_length length self.now) }
     {
         let length = length as usize;
-        let mut padded = Vec::from_slice(alloc, self.first(length))?;
+        let mut padded = Vec::with_capacity(alloc, length)?;
+        padded.extend_from_slice(self.first(length))?;
         padded.resize(length, b' ')?;
         Ok(Text {
             codes: Items::from_vec(padded),
@@ -117,17 +120,14 @@ fn only_blanks(codes: &[u8]) -> bool
 }
 
 #[tactic(auto, using(crate::proofs::Trim::trimmed_blank, crate::proofs::Trim::trimmed_other))]
-fn without_blanks(codes: &[u8]) -> &[u8]
-    ensures { result.now ≡ trimmed codes.now }
+fn without_blanks(mut codes: &[u8]) -> &[u8]
+    ensures { result.now ≡ trimmed codes.entry.now }
 {
-    match codes.split_last() {
-        None => codes,
-        Some((last, front)) => {
-            if *last == b' ' {
-                without_blanks(front)
-            } else {
-                codes
-            }
+    while let Some((last, front)) = codes.split_last() {
+        if *last != b' ' {
+            break;
         }
+        codes = front;
     }
+    codes
 }

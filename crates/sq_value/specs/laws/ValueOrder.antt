@@ -56,7 +56,7 @@ ordered_is (Chars s) (Chars t) = refl
 pub values_total : IsTotalOrder ordered
 values_total = subst IsTotalOrder (λ i v w. sym (ordered_is v w) i) parts_total
 
-same_is : (v w : Value) → is_same v w ≡ eq_by_cmp ordered v w
+pub same_is : (v w : Value) → is_same v w ≡ eq_by_cmp ordered v w
 same_is Null Null = refl
 same_is Null (Num b) = refl
 same_is Null (Chars t) = refl
