@@ -1,3 +1,5 @@
+//! Domains of columns and parameters, and kinds of values.
+
 ghost use Rattle.std.specs.Prelude.{◌≡◌};
 ghost use Rattle.sq_value.specs.Domain.{domain_length, kind_of};
 

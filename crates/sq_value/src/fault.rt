@@ -1,3 +1,5 @@
+//! Why operations on values have no result.
+
 ghost use Rattle.std.specs.Prelude.{◌≡◌};
 
 use std::alloc::AllocError;

@@ -1,3 +1,5 @@
+//! Keys: values by which rows are found.
+
 ghost use Rattle.std.specs.Prelude.{◌≡◌, ◌<◌, length, slice_index_or, IfOk};
 ghost use Rattle.sq_value.specs.declared.value.Value.TheVariants.{Null};
 ghost use Rattle.std.specs.Cmp.{partial_equiv_from_equiv};

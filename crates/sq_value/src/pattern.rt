@@ -1,3 +1,5 @@
+//! LIKE.
+
 ghost use Rattle.std.specs.Prelude.{◌≡◌, ◌<◌, ◌+◌, ◌-◌, [], ◌&&◌, ◌||◌, ◌∷◌, ℕ, List, length, slice_index, slice_index_or, MatchResult, IsTrue, ◌↔◌, Ok, Err, false};
 ghost use Rattle.std.specs.Option.{option_copied};
 ghost use Rattle.sq_value.specs.Pattern.{liked, one_code, may_be_escaped, is_escape, plain, pattern_items, takes, AreCuts, AreCutsAsRead, cut_as_read, can_be_cut, CanBeCut};
@@ -18,7 +20,11 @@ pub enum Item {
     This(u8),
 }
 
-/// LIKE: whether the text is as the pattern says, without padding.
+/// LIKE (ISO/IEC 9075:1992, 8.5): whether the text is as the pattern says, without padding.
+///
+/// It is unknown where an operand is null, before any fault. `EscapeLength` comes next, where the escape character is no
+/// text of one code, and then `EscapeSequence`, where it stands before a code other than `%`, `_` and itself, or at the
+/// pattern's end.
 ///
 /// It takes time bounded by the product of the two lengths, and no memory.
 pub fn like(text: &Value, pattern: &Value, escape: Option<&Value>) -> Result<Truth, LikeFault>

@@ -1,3 +1,5 @@
+//! Retrieving a value into a parameter.
+
 ghost use Rattle.std.specs.Prelude.{◌≡◌, IfOk};
 ghost use Rattle.sq_value.specs.Domain.{IsDomain, FitsKind, IsInDomain};
 ghost use Rattle.sq_value.specs.Retrieving.{retrieved, text_retrieved, uncut_length, IsRetrieved};
@@ -17,7 +19,7 @@ pub struct Retrieved {
     pub uncut: Option<u16>,
 }
 
-/// The value as a parameter of this domain gets it.
+/// The value as a parameter of this domain gets it (ISO/IEC 9075:1992, 9.1, retrieval assignment).
 ///
 /// A number is as in `store`. A text that is longer is cut, whatever is lost, and one that is too short for CHARACTER
 /// is padded with blanks.

@@ -1,3 +1,5 @@
+//! Storing a value in a domain.
+
 ghost use Rattle.std.specs.Prelude.{◌≡◌, ◌≤◌, ◌≤ℤ◌, ◌<◌, ◌^◌, unsigned_abs, neg_ℤ, pos, IfOk};
 ghost use Rattle.sq_value.specs.Domain.{IsDomain, FitsKind, IsInDomain, start_value};
 ghost use Rattle.sq_value.specs.Arithmetic.{truncated};
@@ -11,7 +13,7 @@ use crate::value::Value;
 use crate::wide::power_of_ten;
 use std::alloc::{AllocError, Global};
 
-/// The value as the domain holds it.
+/// The value as the domain holds it (ISO/IEC 9075:1992, 9.2, store assignment).
 ///
 /// A number loses the digits past the domain's scale, and is out of range where it then has too many before its point.
 /// A text that is too short for CHARACTER is padded with blanks; one that is too long is cut where only blanks go.

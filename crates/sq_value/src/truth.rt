@@ -1,7 +1,9 @@
+//! Truths of conditions.
+
 ghost use Rattle.std.specs.Prelude.{◌≡◌};
 ghost use Rattle.sq_value.specs.Truth.{both, either, negation, known};
 
-/// The truth of a condition.
+/// The truth of a condition (ISO/IEC 9075:1992, 8.12).
 #[derive(Clone, Copy, Debug, PartialEq, Eq)]
 pub enum Truth {
     False,

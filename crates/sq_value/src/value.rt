@@ -1,3 +1,5 @@
+//! Values and rows of them.
+
 ghost use Rattle.std.specs.Prelude.{◌≡◌, IfOk};
 
 use crate::decimal::Decimal;
