@@ -181,11 +181,14 @@ fn knows_the_reserved_words(rt: HostRuntime) -> Result<(), Fail> {
         b"ABSOLUTE ALL AND ANY AS ASC AUTHORIZATION AVG BETWEEN BY CHAR CHARACTER CHECK CLOSE COMMIT COUNT CREATE CURRENT CURSOR DEC DECIMAL DECLARE DEFAULT DELETE DESC DISTINCT ESCAPE EXISTS FETCH FIRST FOR FOREIGN FROM GRANT GROUP HAVING IN INDICATOR INSENSITIVE INSERT INT INTEGER INTO IS KEY LANGUAGE LAST LIKE MAX MIN MODULE NEXT NOT NULL NUMERIC OF ON OPEN OPTION OR ORDER PRIMARY PRIOR PRIVILEGES PROCEDURE PUBLIC REFERENCES RELATIVE ROLLBACK SCHEMA SCROLL SELECT SET SMALLINT SOME SQLCODE SQLSTATE SUM TABLE TO UNION UNIQUE UPDATE USER VALUES VARCHAR VARYING VIEW WHERE WITH WORK";
     let tokens = lex(rt.alloc(), text)?;
     assert_eq!(rt; tokens.len(), 91);
+    let mut before = Word::Work;
     for (place, token) in tokens.iter().enumerate() {
-        let copy = token.lexeme.copy(rt.alloc())?;
-        assert!(rt;
-            matches!(copy, Lexeme::Word(word) if word.place() as usize == place && word.is(word))
-        );
+        let Lexeme::Word(word) = &token.lexeme else {
+            return Err("no reserved word")?;
+        };
+        assert_eq!(rt; word.place() as usize, place);
+        assert!(rt; word.is(*word) && !word.is(before));
+        before = *word;
     }
     Ok(())
 }
