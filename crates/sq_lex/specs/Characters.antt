@@ -4,6 +4,16 @@ use Rattle.std.specs.Char.{is_ascii_digit, is_ascii_alphabetic}
 use Rattle.sq_lex.specs.declared.characters.Class.{Class}
 use Rattle.sq_lex.specs.declared.characters.Class.TheVariants as class
 
+-- the characters that begin a comment, a fraction and a literal
+abbrev pub minus : ℕ
+minus = 45
+
+abbrev pub point : ℕ
+point = 46
+
+abbrev pub quote : ℕ
+quote = 39
+
 -- blank, tab, CR and LF
 abbrev pub is_white : ℕ → Bool
 is_white b = b == 32 || b == 9 || b == 13 || b == 10

@@ -2,7 +2,7 @@
 use Rattle.std.specs.Prelude.{ℕ, ◌+◌, ◌<◌, ◌≤◌, List, [], ◌∷◌, if◌then◌else◌, ◌==◌}
 use Rattle.sq_lex.specs.declared.literal.Literal.{Literal}
 use Rattle.sq_lex.specs.declared.literal.Literal.TheVariants.{Closed, Open, BadByte}
-use Rattle.sq_lex.specs.Characters.{is_line_end, is_printable}
+use Rattle.sq_lex.specs.Characters.{quote, is_line_end, is_printable}
 
 -- a character that is spelled by so many bytes, before the rest of a literal
 abbrev pub with_character : ℕ → ℕ → Literal → Literal
@@ -15,7 +15,7 @@ abbrev mutual
   pub literal : List ℕ → Literal
   literal [] = Open
   literal (b ∷ bytes) =
-      if b == 39 then after_quote bytes
+      if b == quote then after_quote bytes
       else (if is_line_end b then Open
       else (if is_printable b then with_character b 1 (literal bytes)
       else BadByte 0))
@@ -23,7 +23,7 @@ abbrev mutual
   -- after a quote: a second one makes both a character, else the first one closes
   pub after_quote : List ℕ → Literal
   after_quote [] = Closed [] 1
-  after_quote (b ∷ bytes) = if b == 39 then with_character 39 2 (literal bytes) else Closed [] 1
+  after_quote (b ∷ bytes) = if b == quote then with_character quote 2 (literal bytes) else Closed [] 1
 
 -- a literal ends within so many bytes
 abbrev pub IsWithin : ℕ → Literal → Type 0

@@ -12,14 +12,14 @@ use Rattle.sq_lex.specs.declared.piece.Piece.{Piece}
 use Rattle.sq_lex.specs.declared.piece.Piece.TheVariants as piece
 use Rattle.sq_lex.specs.declared.symbol.Symbol.{Symbol}
 use Rattle.sq_lex.specs.declared.word.Word.{Word}
-use Rattle.sq_lex.specs.Characters.{is_white, has}
+use Rattle.sq_lex.specs.Characters.{minus, point, quote, is_white, has}
 use Rattle.sq_lex.specs.Literal.{literal}
 use Rattle.sq_lex.specs.Symbol.{symbol_of_one, symbol_of_two}
 use Rattle.sq_lex.specs.Reserved.{reserved}
 
 -- two minus signs
 abbrev pub begins_comment : List ℕ → Bool
-begins_comment bytes = slice_index bytes 0 == 45 && slice_index bytes 1 == 45
+begins_comment bytes = slice_index bytes 0 == minus && slice_index bytes 1 == minus
 
 -- a comment runs to the end of the line, or of the text
 unfoldable pub comment : List ℕ → Piece
@@ -43,7 +43,7 @@ word bytes =
 
 -- a digit, or a point before a digit
 abbrev pub begins_number : List ℕ → Bool
-begins_number bytes = is_ascii_digit (slice_index bytes 0) || (slice_index bytes 0 == 46 && is_ascii_digit (slice_index bytes 1))
+begins_number bytes = is_ascii_digit (slice_index bytes 0) || (slice_index bytes 0 == point && is_ascii_digit (slice_index bytes 1))
 
 -- how many digits stand at the front
 abbrev pub digits : List ℕ → ℕ
@@ -51,7 +51,7 @@ digits bytes = prefix_len (has class.Digit) bytes
 
 -- how many bytes a point and the digits after it take, 0 where there is no point
 abbrev pub fraction_size : List ℕ → ℕ
-fraction_size bytes = if slice_index bytes 0 == 46 then 1 + digits (drop 1 bytes) else 0
+fraction_size bytes = if slice_index bytes 0 == point then 1 + digits (drop 1 bytes) else 0
 
 -- digits with at most one point among, before or after them; at most 18 digits, and no letter directly after them (own rules)
 unfoldable pub number : List ℕ → Piece
@@ -90,7 +90,7 @@ first_piece bytes =
     else (if begins_comment bytes then comment bytes
     else (if is_ascii_alphabetic (slice_index bytes 0) then word bytes
     else (if begins_number bytes then number bytes
-    else (if slice_index bytes 0 == 39 then text bytes
+    else (if slice_index bytes 0 == quote then text bytes
     else symbol bytes))))
 
 -- a separator or a token takes one of so many bytes at least, and a fault lies within them

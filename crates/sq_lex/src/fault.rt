@@ -10,15 +10,15 @@ use thiserror::Error;
 pub enum LexFaultKind {
     /// A byte that begins no token and is no white space, or that a comment or a literal may not have.
     BadByte,
-    /// The line or the text ends before the closing quote.
+    /// The line or the text ends before the closing quote. In a literal the first of these two goes before `LongText`.
     OpenText,
     /// A word of more than 18 characters.
     LongName,
-    /// A letter directly after a number.
+    /// A letter directly after a number of at most 18 digits.
     NumberThenLetter,
-    /// A number of more than 18 digits.
+    /// A number of more than 18 digits, leading zeros counted, whatever stands behind it.
     LongNumber,
-    /// A literal of more than 240 characters.
+    /// A literal of more than 240 characters, a doubled quote counted once.
     LongText,
 }
 

@@ -61,7 +61,7 @@ fn byte_at(bytes: &[u8], at: usize) -> u8
 fn begins_comment(bytes: &[u8]) -> bool
     ensures { result ≡ spec.begins_comment bytes.now }
 {
-    byte_at(bytes, 0) == b'-' && byte_at(bytes, 1) == b'-'
+    bytes.starts_with(b"--")
 }
 
 #[tactic(auto, unfolding(crate::specs::Piece::comment))]

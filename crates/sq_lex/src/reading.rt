@@ -10,7 +10,8 @@ use crate::place::Place;
 use crate::token::Token;
 use std::alloc::Global;
 
-/// The tokens of a text with their places, or its first fault. It takes time linear in the text.
+/// The tokens of a text with their places, or its first fault (ISO/IEC 9075:1992, 5.2, tokens and separators, and 5.3,
+/// literals). It takes time linear in the text.
 pub fn lex(alloc: Global, text: &[u8]) -> Result<Vec<Token>, LexError>
     ensures { MatchResult result (λ tokens. reading text.now ≡ Ok tokens.items) (IsCause (reading text.now)) }
 {
