@@ -11,7 +11,7 @@ use std::test::Fail;
 /// A text with the line and column at which it is refused, and the refusal's name.
 type Refused = (&'static str, usize, usize, RefusalName);
 
-const WHOLE_SCHEMAS: [Refused; 12] = [
+const WHOLE_SCHEMAS: [Refused; 15] = [
     ("", 1, 1, EndOfText),
     ("CREATE SCHEMA U", 1, 15, Unexpected),
     ("CREATE TABLE D (A INT)", 1, 8, Unexpected),
@@ -39,6 +39,25 @@ const WHOLE_SCHEMAS: [Refused; 12] = [
         3,
         NotYet,
     ),
+    // A second schema in the text, and elements that go before it in the order of the text.
+    (
+        "CREATE SCHEMA AUTHORIZATION U CREATE TABLE D (A INT);\nCREATE SCHEMA AUTHORIZATION W",
+        1,
+        1,
+        NotYet,
+    ),
+    (
+        "CREATE SCHEMA AUTHORIZATION U\nGRANT SELECT ON D TO W\nCREATE SCHEMA AUTHORIZATION W",
+        2,
+        1,
+        NotYet,
+    ),
+    (
+        "CREATE SCHEMA AUTHORIZATION U\n CREATE VIEW V AS SELECT A FROM D\nCREATE TABLE D (A INT)",
+        2,
+        2,
+        NotYet,
+    ),
     ("CREATE VIEW\nCREATE SCHEMA AUTHORIZATION #", 2, 29, BadByte),
     ("CREATE SCHEMA AUTHORIZATION U -- \x7f", 1, 34, BadByte),
     (
@@ -62,7 +81,8 @@ const WHOLE_SCHEMAS: [Refused; 12] = [
 ];
 
 /// Elements that are not of the language, each in a line after the schema's header.
-const ELEMENTS: [&str; 8] = [
+const ELEMENTS: [&str; 9] = [
+    "CREATE TABLE U.D (A INT, B INT)",
     "CREATE VIEW V AS SELECT A FROM D",
     "CREATE TABLE D (A INT, B SMALLINT)",
     "CREATE TABLE D (A CHAR(5), B INT)",
@@ -136,13 +156,26 @@ const BEFORE: &str = "MODULE M LANGUAGE C AUTHORIZATION U DECLARE X CURSOR FOR S
     PROCEDURE OPX (SQLCODE); OPEN X;";
 
 /// Cursors and procedures that are not of the language, each in a line of its own.
-const PARTS: [&str; 38] = [
+const PARTS: [&str; 54] = [
     "DECLARE Y CURSOR FOR SELECT A FROM D WHERE A = 1 PROCEDURE P (SQLCODE); OPEN Y;",
     "DECLARE Y CURSOR FOR SELECT A FROM D ORDER BY A PROCEDURE P (SQLCODE); OPEN Y;",
     "DECLARE Y CURSOR FOR SELECT * FROM D PROCEDURE P (SQLCODE); OPEN Y;",
     "DECLARE Y CURSOR FOR SELECT A FROM E PROCEDURE P (SQLCODE); OPEN Y;",
     "DECLARE Y CURSOR FOR SELECT A, C FROM D PROCEDURE P (SQLCODE); OPEN Y;",
     "DECLARE Y CURSOR FOR SELECT A FROM D, D PROCEDURE P (SQLCODE); OPEN Y;",
+    "DECLARE Y CURSOR FOR SELECT D.A FROM D PROCEDURE P (SQLCODE); OPEN Y;",
+    "DECLARE Y CURSOR FOR SELECT (A) FROM D PROCEDURE P (SQLCODE); OPEN Y;",
+    "DECLARE Y CURSOR FOR SELECT A + 1 FROM D PROCEDURE P (SQLCODE); OPEN Y;",
+    "DECLARE Y CURSOR FOR SELECT DISTINCT A FROM D PROCEDURE P (SQLCODE); OPEN Y;",
+    "DECLARE Y CURSOR FOR SELECT COUNT(*) FROM D PROCEDURE P (SQLCODE); OPEN Y;",
+    "DECLARE Y CURSOR FOR SELECT A FROM D X PROCEDURE P (SQLCODE); OPEN Y;",
+    "DECLARE Y CURSOR FOR SELECT A FROM U.D PROCEDURE P (SQLCODE); OPEN Y;",
+    "DECLARE Y CURSOR FOR SELECT A FROM D GROUP BY A PROCEDURE P (SQLCODE); OPEN Y;",
+    "DECLARE Y CURSOR FOR SELECT A FROM D HAVING 1 = 1 PROCEDURE P (SQLCODE); OPEN Y;",
+    "DECLARE Y CURSOR FOR SELECT A FROM D UNION SELECT B FROM D PROCEDURE P (SQLCODE); OPEN Y;",
+    "DECLARE Y CURSOR FOR (SELECT A FROM D) PROCEDURE P (SQLCODE); OPEN Y;",
+    "DECLARE Y SCROLL CURSOR FOR SELECT A FROM D PROCEDURE P (SQLCODE); OPEN Y;",
+    "DECLARE Y INSENSITIVE CURSOR FOR SELECT A FROM D PROCEDURE P (SQLCODE); OPEN Y;",
     // Parameters.
     "PROCEDURE P (:A INTEGER); INSERT INTO D VALUES (:A, :A);",
     "PROCEDURE P (SQLCODE, :A INTEGER, SQLCODE); INSERT INTO D VALUES (:A, :A);",
@@ -171,6 +204,9 @@ const PARTS: [&str; 38] = [
     "PROCEDURE P (SQLCODE, :A INTEGER, :B INTEGER, :I INTEGER); FETCH X INTO :A :I, :B;",
     "PROCEDURE P (SQLCODE, :A INTEGER); INSERT INTO D (A, B) VALUES (:A, :A);",
     "PROCEDURE P (SQLCODE, :A INTEGER); INSERT INTO D VALUES (:A, 1);",
+    "PROCEDURE P (SQLCODE, :A INTEGER); INSERT INTO D VALUES (NULL, :A);",
+    "PROCEDURE P (SQLCODE, :A INTEGER, :I INTEGER); INSERT INTO D VALUES (:A :I, :A);",
+    "PROCEDURE P (SQLCODE, :A INTEGER, :B INTEGER); FETCH NEXT FROM X INTO :A, :B;",
     "PROCEDURE P (SQLCODE); INSERT INTO D SELECT A, B FROM D;",
     "PROCEDURE P (SQLCODE, :A INTEGER); SELECT A INTO :A FROM D;",
     "PROCEDURE P (SQLCODE); UPDATE D SET A = B;",
@@ -397,6 +433,22 @@ fn most_of_each(rt: HostRuntime) -> Result<(), Fail> {
         let (line, column) = if count > 240 { (2, 1) } else { (1, 1) };
         let refused = RunFault::ScriptRefused(refusal(0, line, column, what));
         assert_eq!(rt; fault, Some(refused));
+    }
+    Ok(())
+}
+
+/// A select list of 64 columns is taken.
+#[test]
+fn longest_select_list(rt: HostRuntime) -> Result<(), Fail> {
+    let alloc = rt.alloc();
+    for (repeats, is_taken) in [(63, true), (64, false)] {
+        let items = ", A".repeat(alloc, repeats)?;
+        let module = format!(in alloc;
+            "{BEFORE}\nDECLARE Y CURSOR FOR SELECT A{items} FROM D PROCEDURE P (SQLCODE); OPEN Y;"
+        )?;
+        let fault = fault_of(alloc, &[SCHEMA], &[module.as_str()], "")?;
+        let refused = Some(RunFault::ModuleRefused(refusal(0, 2, 1, NotYet)));
+        assert_eq!(rt; fault, if is_taken { None } else { refused });
     }
     Ok(())
 }

@@ -68,7 +68,7 @@ fn rows_come_by_number(rt: HostRuntime) -> Result<(), Fail> {
 }
 
 #[test]
-fn many_rows_are_quick(rt: HostRuntime) -> Result<(), Fail> {
+fn many_rows(rt: HostRuntime) -> Result<(), Fail> {
     let alloc = rt.alloc();
     let keys = vec![in alloc; Vec::new(alloc)]?;
     let mut store = ListStore::new(alloc, keys.as_slice(), 1_000_000)?;
