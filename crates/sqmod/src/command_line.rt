@@ -76,6 +76,7 @@ fn row_numbers(matches: &ArgMatches<'_>) -> u64
     ensures limited { result ≤ MOST_ROW_NUMBERS }
     ensures usual { one_text (found_of matches.now) (codes "rows") ≡ None → result ≡ USUAL_ROW_NUMBERS }
 {
+    // No greater number comes, since the option's range ends here; but that range is not known to the proof.
     matches
         .get_one::<u64>("rows")
         .unwrap_or(USUAL_ROW_NUMBERS)
@@ -91,7 +92,7 @@ fn sqmod_command<'a>(alloc: Global) -> Result<Command<'a>, AllocError> {
 }
 
 fn run_command<'a>(alloc: Global) -> Result<Command<'a>, AllocError> {
-    let rows = file_option(
+    let rows = value_option(
         alloc,
         "rows",
         "N",
@@ -100,14 +101,14 @@ fn run_command<'a>(alloc: Global) -> Result<Command<'a>, AllocError> {
     .value_parser(value_parser!(u64).range(1..=MOST_ROW_NUMBERS as i64));
     Command::new(alloc, "run")
         .about("Runs a script")
-        .arg(file_option(alloc, "schema", "F", "A file with schemas").action(ArgAction::Append))?
-        .arg(file_option(alloc, "module", "F", "A file with a module").action(ArgAction::Append))?
-        .arg(file_option(alloc, "script", "F", "The file with the script").required(true))?
+        .arg(value_option(alloc, "schema", "F", "A file with schemas").action(ArgAction::Append))?
+        .arg(value_option(alloc, "module", "F", "A file with a module").action(ArgAction::Append))?
+        .arg(value_option(alloc, "script", "F", "The file with the script").required(true))?
         .arg(rows)
 }
 
 /// An option `--NAME VALUE`.
-fn file_option<'a>(alloc: Global, name: &'a str, value: &'a str, help: &'a str) -> Arg<'a> {
+fn value_option<'a>(alloc: Global, name: &'a str, value: &'a str, help: &'a str) -> Arg<'a> {
     Arg::new(alloc, name)
         .long(name)
         .value_name(value)

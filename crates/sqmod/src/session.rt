@@ -1,4 +1,5 @@
-ghost use Rattle.std.specs.Prelude.{◌≤◌};
+ghost use Rattle.std.specs.Prelude.{◌≡◌, ◌≤◌};
+ghost use Rattle.sqmod.specs.Status.{ended_with};
 
 use crate::command_line::Request;
 use crate::fault::{Fault, Source};
@@ -23,7 +24,18 @@ pub(crate) fn run_request<R: Files + Print + AllocGlobal>(
     let mut writer = BufWriter::new(rt.alloc(), io::writer(rt)).map_err(|_| Fault::NoMemory(0))?;
     let ran = run_texts(rt.alloc(), &texts, limits, &mut writer);
     let flushed = writer.flush().map_err(|_| Fault::Output);
-    ran.and(flushed)
+    ended(ran, flushed)
+}
+
+/// How a request ends, by its run and the flush after it. A refusal has written nothing and stays; after any other run a
+/// flush that fails goes first, since lines are then missing.
+fn ended(ran: Result<(), Fault>, flushed: Result<(), Fault>) -> Result<(), Fault>
+    ensures { result ≡ ended_with ran flushed }
+{
+    match ran {
+        Err(Fault::Refused(_, _)) => ran,
+        _ => flushed.and(ran),
+    }
 }
 
 fn run_texts<W: Write>(
