@@ -95,4 +95,6 @@ fn report<R: Eprint>(rt: &R, request: &Request<'_>, fault: Fault) -> u8 {
 }
 
 #[cfg(test)]
+mod recorder;
+#[cfg(test)]
 mod tests;
