@@ -7,9 +7,9 @@ use Rattle.sq_grammar.proofs.Takes.{Takes}
 use Rattle.sq_grammar.proofs.Refused.{refused_deep}
 use Rattle.sq_parse.specs.declared.error.ParseError.{ParseError}
 use Rattle.sq_parse.specs.declared.error.ParseError.TheVariants.{NoMemory, Unexpected, TooDeep, EndOfText}
-use Rattle.sq_parse.specs.declared.stop.Stop.{Stop}
-use Rattle.sq_parse.specs.declared.stop.Stop.TheVariants as stop
-use Rattle.sq_parse.specs.Reads.{Stops}
+use Rattle.sq_reader.specs.declared.stop.Stop.{Stop}
+use Rattle.sq_reader.specs.declared.stop.Stop.TheVariants as stop
+use Rattle.sq_reader.specs.Reads.{Stops}
 use Rattle.sq_parse.specs.Refusal.{IsRefusal, HasNoTree, refusal_at, refusal}
 
 -- what the refusal says of the tokens

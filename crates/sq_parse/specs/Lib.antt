@@ -1,3 +1,1 @@
-pub mod Nests
-pub mod Reads
 pub mod Refusal

@@ -4,8 +4,8 @@ use Rattle.sq_grammar.specs.Reading.{Tokens}
 use Rattle.sq_grammar.specs.Brackets.{is_too_deep}
 use Rattle.sq_parse.specs.declared.error.ParseError.{ParseError}
 use Rattle.sq_parse.specs.declared.error.ParseError.TheVariants.{NoMemory, Unexpected, TooDeep, EndOfText}
-use Rattle.sq_parse.specs.declared.stop.Stop.{Stop}
-use Rattle.sq_parse.specs.declared.stop.Stop.TheVariants as stop
+use Rattle.sq_reader.specs.declared.stop.Stop.{Stop}
+use Rattle.sq_reader.specs.declared.stop.Stop.TheVariants as stop
 
 -- What a refusal says of the tokens. A bracket too many goes before any other fault of its token.
 abbrev pub IsRefusal : Tokens → ParseError → Type 0

@@ -3,16 +3,13 @@
 ghost use Rattle.std.specs.Prelude.{◌≡◌, ◌<◌, ◌≤◌, length, IfOk, OnOk, OnSome};
 ghost use Rattle.sq_grammar.specs.Module as spec;
 ghost use Rattle.sq_grammar.specs.Reading.{all, listed, whole};
-ghost use Rattle.sq_parse.specs.Reads.{Reads};
+ghost use Rattle.sq_reader.specs.Reads.{Reads};
 
-use crate::data_type::data_type;
-use crate::list::{comma_list, items};
-use crate::query::query;
-use crate::reader::Reader;
 use crate::statement::statement;
-use crate::stop::Stop;
 use sq_items::Items;
 use sq_lex::{Symbol, Word};
+use sq_phrase::query;
+use sq_reader::{Reader, Stop, comma_list, data_type, items};
 use sq_tree::{
     BareDeclaration, CommaList, Cursor, Declaration, Declarations, ModuleItem, ModuleText,
     Procedure, Query, SortDirection, SortKey, SortSpecification,

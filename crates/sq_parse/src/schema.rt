@@ -2,18 +2,15 @@
 
 ghost use Rattle.std.specs.Prelude.{◌≡◌, ◌<◌, ◌≤◌, length, IfOk, OnOk, OnSome};
 ghost use Rattle.sq_grammar.specs.Reading.{all, listed, whole};
-ghost use Rattle.sq_parse.specs.Reads.{Reads};
+ghost use Rattle.sq_reader.specs.Reads.{Reads};
 ghost use Rattle.sq_grammar.specs.Schema as spec;
 
-use crate::cond::inner_cond;
-use crate::data_type::data_type;
-use crate::list::{comma_list, items};
-use crate::names::{columns, columns_if_any, signed_number, table_name};
-use crate::reader::Reader;
-use crate::select::query_specification;
-use crate::stop::Stop;
 use sq_items::Items;
 use sq_lex::{Name, Symbol, Word};
+use sq_phrase::{inner_cond, query_specification};
+use sq_reader::{
+    Reader, Stop, columns, columns_if_any, comma_list, data_type, items, signed_number, table_name,
+};
 use sq_tree::{
     Action, ColumnConstraint, ColumnDefinition, CommaList, Cond, DefaultValue, ForeignKey,
     GrantStatement, Grantee, Privileges, References, SchemaDefinition, SchemaElement, SchemaText,

@@ -1,15 +1,13 @@
 //! Script texts.
 
 ghost use Rattle.std.specs.Prelude.{◌≡◌, ◌<◌, ◌≤◌, length, IfOk, OnOk, OnSome};
-ghost use Rattle.sq_grammar.specs.Reading.{all, behind, comma, one_if_any, whole};
-ghost use Rattle.sq_parse.specs.Reads.{Reads};
+ghost use Rattle.sq_grammar.specs.Reading.{all, listed, one_if_any, whole};
+ghost use Rattle.sq_reader.specs.Reads.{Reads};
 ghost use Rattle.sq_grammar.specs.Script as spec;
 
-use crate::names::signed_number;
-use crate::reader::Reader;
-use crate::stop::Stop;
 use sq_items::Items;
 use sq_lex::{Lexeme, Name, Symbol, Word};
+use sq_reader::{Reader, Stop, comma_list, items, signed_number};
 use sq_tree::{Argument, Arguments, CommaList, ScriptItem, ScriptText};
 use std::alloc::Global;
 
@@ -28,18 +26,11 @@ fn argument(alloc: Global, tokens: &mut Reader<'_>) -> Result<Argument, Stop>
     Ok(Argument::Number(number))
 }
 
-/// The arguments behind the first.
-#[tactic(auto, using(sq_grammar::proofs::Many::loops))]
-fn more_arguments(alloc: Global, tokens: &mut Reader<'_>) -> Result<Items<Argument>, Stop>
-    ensures value { Reads (all (behind comma spec.argument) tokens.old) result tokens.new }
-    ensures no_longer { OnOk result (length tokens.new ≤ length tokens.old) }
+fn listed_arguments(alloc: Global, tokens: &mut Reader<'_>) -> Result<CommaList<Argument>, Stop>
+    ensures value { Reads (listed spec.argument tokens.old) result tokens.new }
+    ensures shorter { OnOk result (length tokens.new < length tokens.old) }
 {
-    let mut items = Items::new(alloc);
-    while tokens.eat(Symbol::Comma) {
-        let argument = argument(alloc, tokens)?;
-        items.push(argument)?;
-    }
-    Ok(items)
+    comma_list(alloc, tokens, |tokens| argument(alloc, tokens))
 }
 
 #[tactic(auto, unfolding(sq_grammar::specs::Script::arguments))]
@@ -53,10 +44,9 @@ fn arguments(alloc: Global, tokens: &mut Reader<'_>) -> Result<Arguments, Stop>
     if tokens.eat(Symbol::Close) {
         return Ok(Arguments::Empty);
     }
-    let first = argument(alloc, tokens)?;
-    let rest = more_arguments(alloc, tokens)?;
+    let arguments = listed_arguments(alloc, tokens)?;
     tokens.expect(Symbol::Close)?;
-    Ok(Arguments::Listed(CommaList { first, rest }))
+    Ok(Arguments::Listed(arguments))
 }
 
 #[tactic(auto, unfolding(sq_grammar::specs::Script::two_names))]
@@ -112,22 +102,17 @@ fn item(alloc: Global, tokens: &mut Reader<'_>) -> Result<Option<ScriptItem>, St
     Ok(Some(ScriptItem::Call(module, procedure, arguments)))
 }
 
-#[tactic(auto, using(sq_grammar::proofs::Many::loops))]
-fn items(alloc: Global, tokens: &mut Reader<'_>) -> Result<Items<ScriptItem>, Stop>
+fn all_items(alloc: Global, tokens: &mut Reader<'_>) -> Result<Items<ScriptItem>, Stop>
     ensures value { Reads (all spec.item tokens.old) result tokens.new }
     ensures no_longer { OnOk result (length tokens.new ≤ length tokens.old) }
 {
-    let mut items = Items::new(alloc);
-    while let Some(item) = item(alloc, tokens)? {
-        items.push(item)?;
-    }
-    Ok(items)
+    items(alloc, tokens, |tokens| item(alloc, tokens))
 }
 
 #[tactic(auto, unfolding(sq_grammar::specs::Script::script_text))]
 pub fn script_text(alloc: Global, tokens: &mut Reader<'_>) -> Result<ScriptText, Stop>
     ensures { Reads (whole spec.script_text tokens.old) result tokens.new }
 {
-    let items = items(alloc, tokens)?;
+    let items = all_items(alloc, tokens)?;
     tokens.end(ScriptText { items })
 }

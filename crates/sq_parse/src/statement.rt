@@ -4,18 +4,15 @@ ghost use Rattle.std.specs.Prelude.{◌≡◌, ◌<◌, ◌≤◌, length, OnOk,
 ghost use Rattle.sq_grammar.specs.Expr as expressions;
 ghost use Rattle.sq_grammar.specs.Names.{parameter};
 ghost use Rattle.sq_grammar.specs.Reading.{listed, one_if_any};
-ghost use Rattle.sq_parse.specs.Reads.{Reads};
+ghost use Rattle.sq_reader.specs.Reads.{Reads};
 ghost use Rattle.sq_grammar.specs.Statement as spec;
 
-use crate::cond::cond;
-use crate::expr::{expr, inner as inner_expr, quantifier_if_any};
-use crate::list::comma_list;
-use crate::names::{columns_if_any, parameter, signed_number, table_name};
-use crate::reader::Reader;
-use crate::select::{query_specification, select_list, table_expression};
-use crate::stop::Stop;
 use sq_grammar::Verb;
 use sq_lex::{Lexeme, Symbol, Word};
+use sq_phrase::{
+    cond, expr, inner_expr, quantifier_if_any, query_specification, select_list, table_expression,
+};
+use sq_reader::{Reader, Stop, columns_if_any, comma_list, parameter, signed_number, table_name};
 use sq_tree::{
     Assignment, CommaList, Delete, Fetch, FetchFrom, Insert, InsertSource, NewValue, Orientation,
     Parameter, Position, Select, Statement, Update, Where,
@@ -98,7 +95,7 @@ fn targets(alloc: Global, tokens: &mut Reader<'_>) -> Result<CommaList<Parameter
     ensures value { Reads (listed parameter tokens.old) result tokens.new }
     ensures shorter { OnOk result (length tokens.new < length tokens.old) }
 {
-    comma_list(alloc, tokens, parameter)
+    comma_list(alloc, tokens, |tokens| parameter(tokens))
 }
 
 #[tactic(auto, unfolding(sq_grammar::specs::Statement::fetch))]

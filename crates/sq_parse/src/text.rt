@@ -9,10 +9,10 @@ ghost use Rattle.sq_parse.specs.Refusal.{HasNoTree, IsRefusal};
 
 use crate::error::{MAX_DEPTH, ParseError, refusal};
 use crate::module::whole_module;
-use crate::reader::Reader;
 use crate::schema::whole_schema;
 use crate::script::script_text;
 use sq_lex::Token;
+use sq_reader::Reader;
 use sq_tree::{ModuleText, SchemaText, ScriptText};
 use std::alloc::Global;
 

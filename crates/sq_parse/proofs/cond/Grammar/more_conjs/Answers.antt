@@ -1,5 +1,0 @@
-use Rattle.sq_grammar.proofs.Many.{all_ends}
-use Rattle.sq_parse.proofs.cond.Grammar.more_conjs.Goals as goal
-
-pub returns-clause-value : goal.returns-clause-value
-returns-clause-value g c = all_ends _ _ _ _ _ _ _ c.loop-tokens.invariant.read c.eat_word.ensures.value c.loop-tokens-test.false

@@ -1,8 +1,0 @@
-use Rattle.std.proofs.Common.{arith}
-use Rattle.sq_grammar.specs.Expr.{inside}
-use Rattle.sq_grammar.proofs.Many.{deeper}
-use Rattle.sq_parse.proofs.expr.+inner.Goals as goal
-
-pub returns-clause-value : goal.returns-clause-value
-unfolding inside
-returns-clause-value t c = rw (deeper (λ n. inside n c.args.tokens.now) c.args.left (omega arith)) c.expr.ensures.value

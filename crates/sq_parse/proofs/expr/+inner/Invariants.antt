@@ -1,4 +1,0 @@
-use Rattle.sq_parse.proofs.expr.+inner.Given as goal
-
-abbrev pub decreases-inner : goal.decreases-inner
-decreases-inner l = l.left

@@ -1,8 +1,0 @@
-use Rattle.std.proofs.Common.{arith}
-use Rattle.sq_grammar.specs.Query.{inside}
-use Rattle.sq_grammar.proofs.Many.{deeper}
-use Rattle.sq_parse.proofs.query.+inner.Goals as goal
-
-pub returns-clause-value : goal.returns-clause-value
-unfolding inside
-returns-clause-value t c = rw (deeper (λ n. inside n c.args.tokens.now) c.args.left (omega arith)) c.query.ensures.value

@@ -1,5 +1,0 @@
-use Rattle.sq_grammar.proofs.Many.{all_done}
-use Rattle.sq_parse.proofs.script.items.Goals as goal
-
-pub returns-clause-value : goal.returns-clause-value
-returns-clause-value c = all_done _ _ _ _ _ _ c.loop-items.invariant.read c.in_ok-item.ensures.value c.in_default.is

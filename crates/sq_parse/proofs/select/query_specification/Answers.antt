@@ -1,5 +1,0 @@
-use Rattle.sq_grammar.proofs.Behind.{expr-behind, cond-behind}
-use Rattle.sq_parse.proofs.select.query_specification.Goals as goal
-
-pub returns-clause-value : goal.returns-clause-value
-returns-clause-value c = rw (expr-behind c.args.left, cond-behind c.args.left) at c.inner_query.ensures.value

@@ -1,5 +1,0 @@
-use Rattle.sq_grammar.proofs.Behind.{cond-behind}
-use Rattle.sq_parse.proofs.select.table_expression.Goals as goal
-
-pub returns-clause-value : goal.returns-clause-value
-returns-clause-value c = rw (cond-behind c.args.left) at c.table_expression.ensures.value

@@ -1,6 +1,0 @@
-use Rattle.std.proofs.Common.{rules}
-use Rattle.sq_grammar.specs.Select.{table_reference}
-use Rattle.sq_parse.proofs.select.tables.Goals as goal
-
-pub returns-clause-value : goal.returns-clause-value
-returns-clause-value c = c.comma_list.ensures.value table_reference (search rules)

@@ -1,0 +1,5 @@
+use Rattle.sq_grammar.proofs.Many.{all_ends}
+use Rattle.sq_phrase.proofs.condition.Grammar.more_tests.Goals as goal
+
+pub returns-clause-value : goal.returns-clause-value
+returns-clause-value g c = all_ends _ _ _ _ _ _ _ c.loop-tokens.invariant.read c.eat_word.ensures.value c.loop-tokens-test.false

@@ -1,0 +1,5 @@
+use Rattle.sq_grammar.proofs.Behind.{expr-behind, cond-behind}
+use Rattle.sq_phrase.proofs.select.query_specification.Goals as goal
+
+pub returns-clause-value : goal.returns-clause-value
+returns-clause-value c = rw (expr-behind c.args.left, cond-behind c.args.left) at c.inner_query.ensures.value

@@ -1,0 +1,5 @@
+use Rattle.sq_grammar.proofs.Behind.{expr-behind}
+use Rattle.sq_phrase.proofs.select.select_list.Goals as goal
+
+pub returns-clause-value : goal.returns-clause-value
+returns-clause-value c = rw (expr-behind c.args.left) at c.select_list.ensures.value
