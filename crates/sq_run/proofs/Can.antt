@@ -1,5 +1,5 @@
 -- What an item with known names speaks of is there.
-use Rattle.std.proofs.Common.{◌≡◌, ℕ, zero, suc, ◌==◌, Bool, true, false, List, [], ◌∷◌, ◌++◌, length, map, slice_get, Option, Some, None, refl, sym, ◌∙◌, ap, arith, ◌&&◌, if◌then◌else◌}
+use Rattle.std.proofs.Common.{◌≡◌, ℕ, zero, suc, ◌==◌, Bool, true, false, List, [], ◌∷◌, length, slice_get, Option, Some, None, refl, sym, ◌∙◌, arith, if◌then◌else◌}
 use Rattle.std.specs.List.{list_all}
 use Rattle.std.proofs.lemmas.Grind.{common_steps}
 use Rattle.sq_lex.specs.declared.name.Name.{Name}
@@ -17,7 +17,7 @@ use Rattle.sq_model.specs.declared.program.BoundStatement.{BoundStatement}
 use Rattle.sq_model.specs.declared.program.BoundStatement.TheVariants.{Insert, Open, Fetch, Close}
 use Rattle.sq_model.specs.Program.{◌>>=◌, guarded, each_known, same_name, table_of, named}
 use Rattle.sq_model.specs.Machine.{is_among}
-use Rattle.sq_model.specs.Script.{action_of, called, called_in, called_at, shown, started, arguments_of, procedure_place, procedures_of, statement_at, can_perform, all_among, table_count, schema_table}
+use Rattle.sq_model.specs.Script.{action_of, called, called_in, called_at, shown, started, arguments_of, procedure_place, procedures_of, can_perform, all_among, table_count, schema_table}
 
 none_is_some : {A : Type 0} (x : A) → None ≡ Some x → ⊥
 none_is_some x e = cc

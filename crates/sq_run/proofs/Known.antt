@@ -1,11 +1,10 @@
 -- Lists whose elements are all known.
-use Rattle.std.proofs.Common.{◌≡◌, ℕ, ◌+◌, ◌<◌, List, [], ◌∷◌, ◌++◌, Option, Some, None, refl, ap, ◌∙◌, sym, length, take, get_or, arith, true}
+use Rattle.std.proofs.Common.{◌≡◌, ℕ, ◌+◌, ◌<◌, List, [], ◌∷◌, ◌++◌, Option, Some, None, refl, ◌∙◌, sym, length, take, get_or, arith, true}
 use Rattle.std.proofs.lemmas.List.{take_more, set-get_or, append-nil}
 use Rattle.std.specs.List.{filter_map}
 use Rattle.std.proofs.lemmas.List.Elements.{filter_map-append}
 use Rattle.std.proofs.lemmas.Grind.{common_steps}
-use Rattle.std.specs.Option.{option_map}
-use Rattle.sq_model.specs.Program.{each_known, ◌>>=◌}
+use Rattle.sq_model.specs.Program.{each_known}
 use Rattle.sq_model.specs.Machine.{is_among}
 use Rattle.sq_model.specs.Script.{all_among}
 use Rattle.sq_model.specs.declared.program.BoundProcedure.{BoundProcedure}

@@ -1,5 +1,5 @@
 -- A run grows item by item.
-use Rattle.std.proofs.Common.{◌≡◌, ℕ, zero, suc, ◌+◌, ◌<◌, ◌≤◌, Bool, true, List, [], ◌∷◌, ◌++◌, length, take, drop, get_or, fold, slice_set, Option, Some, None, refl, ap, ◌∙◌, sym, arith, append_assoc, length-append, false, if◌then◌else◌}
+use Rattle.std.proofs.Common.{◌≡◌, ℕ, zero, suc, ◌+◌, ◌<◌, ◌≤◌, Bool, true, List, [], ◌∷◌, ◌++◌, length, take, drop, get_or, Option, Some, None, refl, ap, ◌∙◌, sym, arith, append_assoc, length-append, false, if◌then◌else◌}
 use Rattle.std.proofs.lemmas.List.{take_more, append-nil, take-append-drop, drop_more, length-set}
 use Rattle.std.proofs.lemmas.Grind.{common_steps, fold-append}
 use Rattle.std.specs.List.{list_all}

@@ -1,10 +1,9 @@
 -- A walk over a table by rising numbers.
-use Rattle.std.proofs.Common.{◌≡◌, ℕ, ◌+◌, ◌<◌, ◌≤◌, Bool, true, false, ◌&&◌, nat_le, List, [], ◌∷◌, arith, refl, Option, Some, None, find, filter, subst}
+use Rattle.std.proofs.Common.{◌≡◌, ℕ, ◌+◌, ◌<◌, ◌≤◌, Bool, true, false, nat_le, List, [], ◌∷◌, arith, refl, Some, None, find, filter, subst}
 use Rattle.std.proofs.lemmas.Grind.{common_steps}
 use Rattle.sq_store.specs.declared.table.Numbered.{Numbered}
-use Rattle.sq_store.specs.declared.table.Table.{Table}
 use Rattle.sq_store.specs.Content.{Content, first_from, table_at}
-use Rattle.sq_store.specs.Rising.{rising_between, has_rising_rows, all_rising}
+use Rattle.sq_store.specs.Rising.{rising_between, all_rising}
 use Rattle.sq_store.proofs.Rises.{rows_rise_at, next_at}
 
 -- the rows at or after a number

@@ -1,5 +1,6 @@
 pub mod Fault
 pub mod Lent
+pub mod Places
 pub mod Prepared
 pub mod Refused
 pub mod Run

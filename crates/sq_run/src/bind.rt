@@ -7,7 +7,9 @@ ghost use Rattle.sq_model.specs.Program as model;
 ghost use Rattle.sq_model.specs.Machine.{is_among};
 ghost use Rattle.sq_model.specs.Script.{table_count};
 ghost use Rattle.sq_model.specs.Program.{each_known};
+ghost use Rattle.sq_run.specs.Places.{cursor_names};
 
+use crate::places::Places;
 use sq_first::{
     Cursor, FetchStatement, Names, Parameter, Procedure, Schema, Statement, TableDefinition,
 };
@@ -87,7 +89,7 @@ fn place_in(names: &[Name], name: Name) -> Option<usize>
 
 /// The places of names among others, if each is there.
 #[tactic(auto, using(crate::proofs::Known::knowns, std::proofs::lemmas::Grind::common_steps))]
-fn places(
+fn places_of(
     alloc: Global,
     names: &[Name],
     wanted: &[Name],
@@ -112,26 +114,20 @@ pub(crate) fn bind_cursor(
 ) -> Result<Option<BoundCursor>, AllocError>
     ensures own_table { IfOk result (λ found. IsSome found → IsSome own.entry) }
     ensures bound { IfOk result (λ found. IfSome found (λ bound. model.bound_cursor (option_copied own.entry) cursor.now ≡ Some bound)) }
+    ensures name { IfOk result (λ found. IfSome found (λ bound. bound.name ≡ cursor.now.name)) }
 {
     let Some(table) = named(own, cursor.table) else {
         return Ok(None);
     };
     let names = column_names(alloc, table)?;
     let wanted = names_of(alloc, &cursor.columns)?;
-    let Some(columns) = places(alloc, names.as_slice(), wanted.as_slice())? else {
+    let Some(columns) = places_of(alloc, names.as_slice(), wanted.as_slice())? else {
         return Ok(None);
     };
     Ok(Some(BoundCursor {
         name: cursor.name,
         columns,
     }))
-}
-
-fn cursor_place(cursors: &[BoundCursor], name: Name) -> Option<usize>
-    ensures place { result ≡ model.cursor_place cursors.now name }
-    ensures within { IfSome result (λ place. place < length cursors.now) }
-{
-    cursors.iter().position(|c| c.name == name)
 }
 
 fn bind_insert(
@@ -152,27 +148,30 @@ fn bind_insert(
     if values.len() != columns.len() {
         return Ok(None);
     }
-    let Some(places) = places(alloc, parameters, values.as_slice())? else {
+    let Some(places) = places_of(alloc, parameters, values.as_slice())? else {
         return Ok(None);
     };
     Ok(Some(BoundStatement::Insert(places)))
 }
 
+#[tactic(auto, using(crate::proofs::Named::named))]
 fn bind_fetch(
     alloc: Global,
     cursors: &[BoundCursor],
+    places: &Places,
     parameters: &[Name],
     fetch: &FetchStatement,
 ) -> Result<Option<BoundStatement>, AllocError>
+    requires { places.now ≡ cursor_names cursors.now }
     ensures among { IfOk result (λ found. IfSome found (λ bound. is_among 1 (length cursors.now) bound ≡ true)) }
     ensures bound { IfOk result (λ found. IfSome found (λ bound. model.bound_fetch cursors.now parameters.now fetch.now ≡ Some bound)) }
 {
-    let Some(place) = cursor_place(cursors, fetch.cursor) else {
+    let Some(place) = places.place(fetch.cursor) else {
         return Ok(None);
     };
     let columns = cursors[place].columns.as_slice();
     let names = names_of(alloc, &fetch.targets)?;
-    if names.len() != columns.len() || places(alloc, parameters, names.as_slice())?.is_none() {
+    if names.len() != columns.len() || places_of(alloc, parameters, names.as_slice())?.is_none() {
         return Ok(None);
     }
     let targets = targets_of(alloc, parameters, names.as_slice(), columns)?;
@@ -206,22 +205,25 @@ fn targets_of(
 }
 
 /// The statement, where the cursor is known; the table of a cursor is there.
+#[tactic(auto, using(crate::proofs::Named::named))]
 fn bind_statement(
     alloc: Global,
     own: Option<&TableDefinition>,
     cursors: &[BoundCursor],
+    places: &Places,
     parameters: &[Name],
     statement: &Statement,
 ) -> Result<Option<BoundStatement>, AllocError>
-    requires { 0 < length cursors.now → IsSome own }
+    requires own_table { 0 < length cursors.now → IsSome own }
+    requires names { places.now ≡ cursor_names cursors.now }
     ensures among { IfOk result (λ found. IfSome found (λ bound. is_among (table_count (option_copied own.entry)) (length cursors.now) bound ≡ true)) }
     ensures bound { IfOk result (λ found. IfSome found (λ bound. model.bound_statement (option_copied own.entry) cursors.now parameters.now statement.now ≡ Some bound)) }
 {
     match statement {
         Statement::Insert(table, values) => bind_insert(alloc, own, parameters, *table, values),
-        Statement::Open(cursor) => Ok(cursor_place(cursors, *cursor).map(BoundStatement::Open)),
-        Statement::Fetch(fetch) => bind_fetch(alloc, cursors, parameters, fetch),
-        Statement::Close(cursor) => Ok(cursor_place(cursors, *cursor).map(BoundStatement::Close)),
+        Statement::Open(cursor) => Ok(places.place(*cursor).map(BoundStatement::Open)),
+        Statement::Fetch(fetch) => bind_fetch(alloc, cursors, places, parameters, fetch),
+        Statement::Close(cursor) => Ok(places.place(*cursor).map(BoundStatement::Close)),
     }
 }
 
@@ -230,15 +232,18 @@ pub(crate) fn bind_procedure(
     alloc: Global,
     own: Option<&TableDefinition>,
     cursors: &[BoundCursor],
+    places: &Places,
     procedure: &Procedure,
 ) -> Result<Option<BoundProcedure>, AllocError>
-    requires { 0 < length cursors.now → IsSome own }
+    requires own_table { 0 < length cursors.now → IsSome own }
+    requires names { places.now ≡ cursor_names cursors.now }
     ensures among { IfOk result (λ found. IfSome found (λ bound. is_among (table_count (option_copied own.entry)) (length cursors.now) bound.statement ≡ true)) }
     ensures bound { IfOk result (λ found. IfSome found (λ bound. model.bound_procedure (option_copied own.entry) cursors.now procedure.now ≡ Some bound)) }
 {
     let parameters = parameter_names(alloc, procedure)?;
     let names = parameters.as_slice();
-    let Some(statement) = bind_statement(alloc, own, cursors, names, &procedure.statement)? else {
+    let statement = &procedure.statement;
+    let Some(statement) = bind_statement(alloc, own, cursors, places, names, statement)? else {
         return Ok(None);
     };
     Ok(Some(BoundProcedure {

@@ -1,18 +1,19 @@
 //! Looking up the names of a script's items.
-ghost use Rattle.std.specs.Prelude.{◌≡◌, ◌<◌, Some, true, length, map, IfErr, IfOk, IfSome};
-ghost use Rattle.std.specs.List.{list_all};
+ghost use Rattle.std.specs.Prelude.{◌≡◌, Some, IfErr, IfOk, IfSome};
 ghost use Rattle.std.specs.Option.{option_copied};
 ghost use Rattle.sq_model.specs.Script as model;
+ghost use Rattle.sq_model.specs.Script.{procedures_of};
 ghost use Rattle.sq_model.specs.Program.{each_known};
 ghost use Rattle.std.specs.Result.{result_ok};
 ghost use Rattle.sq_value.specs.Storing as spec;
 ghost use Rattle.sq_run.specs.Fault.{IsItemMeaning};
+ghost use Rattle.sq_run.specs.Places.{procedure_names};
 
 use crate::bind::{named, table_of};
+use crate::places::Places;
 use crate::refusal::RefusalName;
 use sq_first::{Argument, Arguments, Call, Item, Schema, Sign, TableItem};
 use sq_items::Items;
-use sq_lex::Name;
 use sq_model::{Action, BoundModule, BoundProcedure, CallAction};
 use sq_value::{Decimal, Domain, StoreFault, Value, store};
 use std::alloc::{AllocError, AllocFailed, Global};
@@ -128,31 +129,37 @@ fn called_at(
     }))
 }
 
-fn procedure_place(procedures: &[BoundProcedure], name: Name) -> Option<usize>
-    ensures place { result ≡ model.procedure_place procedures.now name }
-    ensures within { IfSome result (λ place. place < length procedures.now) }
-{
-    procedures.iter().position(|p| p.name == name)
-}
-
 /// A call with its procedure's place among these and its values.
-fn called_in(alloc: Global, procedures: &[BoundProcedure], call: &Call) -> Result<Action, ItemFault>
+#[tactic(auto, using(crate::proofs::Named::named))]
+fn called_in(
+    alloc: Global,
+    procedures: &[BoundProcedure],
+    places: &Places,
+    call: &Call,
+) -> Result<Action, ItemFault>
+    requires { places.now ≡ procedure_names procedures.now }
     ensures action { IfOk result (λ action. model.called_in procedures.now call.now ≡ Some action) }
     ensures of_meaning { IfErr result IsItemMeaning }
 {
-    match procedure_place(procedures, call.procedure) {
+    match places.place(call.procedure) {
         Some(place) => called_at(alloc, call, place, &procedures[place]),
         None => Err(ItemFault::Refused(RefusalName::UnknownProcedure)),
     }
 }
 
-fn called(alloc: Global, bound: Option<&BoundModule>, call: &Call) -> Result<Action, ItemFault>
+fn called(
+    alloc: Global,
+    bound: Option<&BoundModule>,
+    places: &Places,
+    call: &Call,
+) -> Result<Action, ItemFault>
+    requires { places.now ≡ procedure_names (procedures_of (option_copied bound)) }
     ensures action { IfOk result (λ action. model.called (option_copied bound.entry) call.now ≡ Some action) }
     ensures of_meaning { IfErr result IsItemMeaning }
 {
     match bound {
         Some(module) if module.name == call.module => {
-            called_in(alloc, module.procedures.as_slice(), call)
+            called_in(alloc, module.procedures.as_slice(), places, call)
         }
         _ => Err(ItemFault::Refused(RefusalName::UnknownProcedure)),
     }
@@ -174,13 +181,15 @@ pub(crate) fn action_of(
     alloc: Global,
     schema: Option<&Schema>,
     bound: Option<&BoundModule>,
+    places: &Places,
     item: &Item,
 ) -> Result<Action, ItemFault>
+    requires { places.now ≡ procedure_names (procedures_of (option_copied bound)) }
     ensures action { IfOk result (λ action. model.action_of (option_copied schema.entry) (option_copied bound.entry) item.now ≡ Some action) }
     ensures of_meaning { IfErr result IsItemMeaning }
 {
     match item {
-        Item::Call(call) => called(alloc, bound, call),
+        Item::Call(call) => called(alloc, bound, places, call),
         Item::Table(table) => shown(schema, table),
     }
 }

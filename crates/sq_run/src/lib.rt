@@ -5,6 +5,7 @@ mod bind;
 mod items;
 mod module;
 mod perform;
+mod places;
 mod prepare;
 mod refusal;
 mod report;

@@ -1,19 +1,20 @@
 //! Looking up the names of a whole module, and what the first language asks of it.
-ghost use Rattle.std.specs.Prelude.{◌≡◌, ◌<◌, Some, true, length, IfOk, IsSome, OnOk};
+ghost use Rattle.std.specs.Prelude.{◌≡◌, ◌<◌, ◌++◌, ◌∷◌, [], Some, true, length, IfOk, IsSome, OnOk};
 ghost use Rattle.std.specs.Option.{option_copied};
 ghost use Rattle.sq_model.specs.Script as model;
 ghost use Rattle.sq_model.specs.Script.{all_among, table_count};
 ghost use Rattle.sq_model.specs.Machine.{is_among};
 ghost use Rattle.sq_model.specs.Program as program;
 ghost use Rattle.sq_model.specs.Program.{bound_cursors_in, bound_procedures_in};
+ghost use Rattle.sq_run.specs.Places.{cursor_names, procedure_names};
 
 use crate::bind::{bind_cursor, bind_procedure, parameter_names};
-use sq_first::{Cursor, Module, Names, Parameter, Part, Procedure, Statement, TableDefinition};
+use crate::places::Places;
+use sq_first::{Cursor, Module, Names, Part, Procedure, Statement, TableDefinition};
 use sq_items::Items;
 use sq_lex::Name;
 use sq_model::{BoundCursor, BoundModule, BoundProcedure, BoundStatement};
 use std::alloc::{AllocError, AllocFailed, Global};
-use std::collections::BTreeSet;
 
 /// The most columns, targets and parameters.
 pub(crate) const MOST_NAMES: usize = 64;
@@ -58,8 +59,8 @@ pub(crate) fn bind_module(
     ensures among { IfOk result (λ bound. all_among (table_count (option_copied own.entry)) (length bound.cursors) bound.procedures ≡ true) }
 {
     let parts = module.parts.as_slice();
-    let cursors = bind_cursors(alloc, own, parts)?;
-    let procedures = bind_procedures(alloc, own, cursors.as_slice(), parts)?;
+    let (cursors, places) = bind_cursors(alloc, own, parts)?;
+    let procedures = bind_procedures(alloc, own, cursors.as_slice(), &places, parts)?;
     check_opens(alloc, parts, cursors.len(), procedures.as_slice())?;
     Ok(BoundModule {
         name: module.name,
@@ -72,38 +73,58 @@ fn bind_cursors(
     alloc: Global,
     own: Option<&TableDefinition>,
     parts: &[Part],
-) -> Result<Items<BoundCursor>, ModuleFault>
-    ensures bound { IfOk result (λ bound. bound_cursors_in (option_copied own.entry) parts.now ≡ Some bound) }
-    ensures own_table { IfOk result (λ bound. 0 < length bound → IsSome own.entry) }
+) -> Result<(Items<BoundCursor>, Places), ModuleFault>
+    ensures bound { IfOk result (λ bound. bound_cursors_in (option_copied own.entry) parts.now ≡ Some bound.0) }
+    ensures names { IfOk result (λ bound. bound.1 ≡ cursor_names bound.0) }
+    ensures own_table { IfOk result (λ bound. 0 < length bound.0 → IsSome own.entry) }
 {
-    let mut seen = BTreeSet::new(alloc);
+    let mut places = Places::new(alloc);
     let mut bound = Items::new(alloc);
     for (place, part) in parts.iter().enumerate() {
         if let Some(cursor) = part_cursor(part) {
-            bound.push(take_cursor(alloc, own, cursor, place, &mut seen)?)?;
+            bound.push(take_cursor(alloc, own, cursor, place, &mut places)?)?;
         }
     }
-    Ok(bound)
+    Ok((bound, places))
 }
 
 fn bind_procedures(
     alloc: Global,
     own: Option<&TableDefinition>,
     cursors: &[BoundCursor],
+    places: &Places,
     parts: &[Part],
 ) -> Result<Items<BoundProcedure>, ModuleFault>
-    requires { 0 < length cursors.now → IsSome own }
+    requires own_table { 0 < length cursors.now → IsSome own }
+    requires names { places.now ≡ cursor_names cursors.now }
     ensures bound { IfOk result (λ bound. bound_procedures_in (option_copied own.entry) cursors.now parts.now ≡ Some bound) }
     ensures among { IfOk result (λ bound. all_among (table_count (option_copied own.entry)) (length cursors.now) bound ≡ true) }
 {
-    let mut seen = BTreeSet::new(alloc);
+    let mut seen = Places::new(alloc);
     let mut bound = Items::new(alloc);
     for (place, part) in parts.iter().enumerate() {
         if let Some(procedure) = part_procedure(part) {
-            bound.push(take_procedure(alloc, own, cursors, procedure, place, &mut seen)?)?;
+            if !seen.push(procedure.name)? {
+                return Err(ModuleFault::NotYet(place));
+            }
+            bound.push(take_procedure(alloc, own, cursors, places, procedure, place)?)?;
         }
     }
     Ok(bound)
+}
+
+/// The names of procedures.
+pub(crate) fn procedure_places(
+    alloc: Global,
+    procedures: &[BoundProcedure],
+) -> Result<Places, AllocError>
+    ensures { IfOk result (λ places. places ≡ procedure_names procedures.now) }
+{
+    let mut places = Places::new(alloc);
+    for procedure in procedures {
+        places.push(procedure.name)?;
+    }
+    Ok(places)
 }
 
 fn part_cursor(part: &Part) -> Option<&Cursor>
@@ -124,18 +145,19 @@ fn part_procedure(part: &Part) -> Option<&Procedure>
     }
 }
 
-/// The cursor at a place, which is not among the names seen so far.
+/// The cursor at a place, whose name is not among those so far and is added to them.
 fn take_cursor(
     alloc: Global,
     own: Option<&TableDefinition>,
     cursor: &Cursor,
     place: usize,
-    seen: &mut BTreeSet<Name>,
+    places: &mut Places,
 ) -> Result<BoundCursor, ModuleFault>
     ensures bound { IfOk result (λ bound. program.bound_cursor (option_copied own.entry) cursor.now ≡ Some bound) }
     ensures own_table { OnOk result (IsSome own.entry) }
+    ensures name { IfOk result (λ bound. places.new ≡ places.old ++ bound.name ∷ []) }
 {
-    if !seen.insert(cursor.name)? || !fits(&cursor.columns) {
+    if !places.push(cursor.name)? || !fits(&cursor.columns) {
         return Err(ModuleFault::NotYet(place));
     }
     match bind_cursor(alloc, own, cursor)? {
@@ -144,23 +166,24 @@ fn take_cursor(
     }
 }
 
-/// The procedure at a place, which is not among the names seen so far.
+/// The procedure at a place.
 fn take_procedure(
     alloc: Global,
     own: Option<&TableDefinition>,
     cursors: &[BoundCursor],
+    places: &Places,
     procedure: &Procedure,
     place: usize,
-    seen: &mut BTreeSet<Name>,
 ) -> Result<BoundProcedure, ModuleFault>
-    requires { 0 < length cursors.now → IsSome own }
+    requires own_table { 0 < length cursors.now → IsSome own }
+    requires names { places.now ≡ cursor_names cursors.now }
     ensures bound { IfOk result (λ bound. program.bound_procedure (option_copied own.entry) cursors.now procedure.now ≡ Some bound) }
     ensures among { IfOk result (λ bound. is_among (table_count (option_copied own.entry)) (length cursors.now) bound.statement ≡ true) }
 {
-    if !seen.insert(procedure.name)? || !is_taken(alloc, procedure)? {
+    if !is_taken(alloc, procedure)? {
         return Err(ModuleFault::NotYet(place));
     }
-    match bind_procedure(alloc, own, cursors, procedure)? {
+    match bind_procedure(alloc, own, cursors, places, procedure)? {
         Some(procedure) => Ok(procedure),
         None => Err(ModuleFault::NotYet(place)),
     }
@@ -173,9 +196,9 @@ fn fits(names: &Names) -> bool {
 
 /// Whether no name comes twice.
 pub(crate) fn are_distinct(alloc: Global, names: &[Name]) -> Result<bool, AllocError> {
-    let mut seen = BTreeSet::new(alloc);
+    let mut seen = Places::new(alloc);
     for name in names {
-        if !seen.insert(*name)? {
+        if !seen.push(*name)? {
             return Ok(false);
         }
     }

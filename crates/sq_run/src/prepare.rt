@@ -17,13 +17,13 @@ ghost use Rattle.sq_run.specs.Stop.{is_early};
 
 use crate::bind::{column_names, table_of};
 use crate::items::{ItemFault, action_of};
-use crate::module::{MOST_NAMES, ModuleFault, are_distinct, bind_module};
+use crate::module::{MOST_NAMES, ModuleFault, are_distinct, bind_module, procedure_places};
 use crate::refusal::{RefusalName, RunFault};
 use crate::texts::{Text, TextFault, module_of, refused_at, schema_of, script_of};
 use sq_first::{Module, Schema, Script};
 use sq_items::Items;
 use sq_model::{Action, BoundModule, BoundProcedure};
-use std::alloc::{AllocError, Global};
+use std::alloc::Global;
 
 /// The trees of all texts, and what their names mean.
 #[derive(Debug, Drop)]
@@ -112,10 +112,11 @@ fn actions_of(
     ensures can { IfOk result (λ actions. list_all (can_perform (table_count (schema_table (option_copied schema.entry))) (length (cursors_of (option_copied bound.entry))) (procedures_of (option_copied bound.entry))) actions ≡ true) }
     ensures of_meaning { IfErr result IsOfMeaning }
 {
+    let places = procedure_places(alloc, procedures_in(bound))?;
     let mut actions = Items::new(alloc);
     let items = text.said.items.as_slice();
     for (place, item) in items.iter().enumerate() {
-        match action_of(alloc, schema, bound, item) {
+        match action_of(alloc, schema, bound, &places, item) {
             Ok(action) => actions.push(action)?,
             Err(ItemFault::NoMemory) => return Err(TextFault::NoMemory),
             Err(ItemFault::Refused(what)) => return Err(text.refused_part(place, what)),
@@ -196,6 +197,15 @@ fn read_items(
     Ok((text.into_said(), actions))
 }
 
+fn procedures_in(bound: Option<&BoundModule>) -> &[BoundProcedure]
+    ensures { result.now ≡ procedures_of (option_copied bound.entry) }
+{
+    match bound {
+        Some(module) => module.procedures.as_slice(),
+        None => &[],
+    }
+}
+
 impl Prepared {
     /// How many tables there are.
     pub(crate) fn tables(&self) -> usize
@@ -220,9 +230,6 @@ impl Prepared {
     pub(crate) fn procedures(&self) -> &[BoundProcedure]
         ensures { result.now ≡ procedures_of self.now.bound }
     {
-        match &self.bound {
-            Some(module) => module.procedures.as_slice(),
-            None => &[],
-        }
+        procedures_in(self.bound.as_ref())
     }
 }

@@ -1,4 +1,4 @@
-use Rattle.std.proofs.Common.{Some, true, length, map, arith}
+use Rattle.std.proofs.Common.{length, arith}
 use Rattle.std.specs.Option.{option_copied}
 use Rattle.std.proofs.lemmas.Grind.{common_steps}
 use Rattle.sq_model.specs.Script.{cursors_of}

@@ -1,8 +1,7 @@
-use Rattle.std.proofs.Common.{◌≡◌, ◌+◌, ◌<◌, ◌++◌, ◌∷◌, length, map, arith, ap, ◌∙◌}
+use Rattle.std.proofs.Common.{length, arith, ap}
 use Rattle.std.proofs.lemmas.Grind.{common_steps}
 use Rattle.sq_store.specs.Content.{table_at}
-use Rattle.sq_run.specs.Lent.{lent}
-use Rattle.sq_run.proofs.Walk.{rows_from, walked, walked_below, rows_from_none, rows_from_zero}
+use Rattle.sq_run.proofs.Walk.{walked, walked_below, rows_from_none, rows_from_zero}
 use Rattle.sq_run.proofs.session.rows_of.Goals as goal
 
 pub loop-found-init : goal.loop-found-init
