@@ -1,8 +1,7 @@
 -- What prepared texts run is what a run of the texts is.
-use Rattle.std.proofs.Common.{◌≡◌, ℕ, zero, suc, List, Option, Result, Ok, Err, refl}
+use Rattle.std.proofs.Common.{◌≡◌, ℕ, zero, suc, List, Option, Result, Ok, Err, refl, true, false}
 use Rattle.std.specs.Prelude.{OnOk, IfErr}
 use Rattle.std.specs.Io.KnownBytes.{Appends}
-use Rattle.sq_first.specs.declared.script.Script.{Script}
 use Rattle.sq_model.specs.Script.{procedures_of, first_state}
 use Rattle.sq_model.specs.Report.{Bytes, report}
 use Rattle.sq_run.specs.declared.prepare.Prepared.{Prepared}
@@ -10,7 +9,7 @@ use Rattle.sq_run.specs.declared.refusal.RunFault.{RunFault}
 use Rattle.sq_run.specs.declared.refusal.RunFault.TheVariants.{SchemaRefused, ModuleRefused, ScriptRefused, Write, NoMemory}
 use Rattle.sq_run.specs.Prepared.{IsPrepared}
 use Rattle.sq_run.specs.Run.{Run, report_of}
-use Rattle.sq_run.specs.Stop.{StoppedAt, Wrote}
+use Rattle.sq_run.specs.Stop.{StoppedAt, Wrote, is_early, is_write}
 
 abbrev pub run_of : {schemas modules : List Bytes} {script : Bytes} (p : Prepared) → IsPrepared schemas modules script p → Run schemas modules script
 run_of p h = record {
@@ -45,3 +44,11 @@ pub wrote_some : (schemas modules : List Bytes) (script : Bytes) (p : Prepared) 
     → IfErr answer (StoppedAt (procedures_of p.bound) (first_state p.schema p.bound row_numbers) p.actions old new) → IfErr answer (Wrote schemas modules script row_numbers old new)
 wrote_some schemas modules script p row_numbers old new (Ok u) h stop = stop
 wrote_some schemas modules script p row_numbers old new (Err fault) h stop = wrote_by schemas modules script p row_numbers old new fault h stop
+
+-- what stops a run before its first lines is no output fault
+pub early_writes_none : (fault : RunFault) → is_early fault ≡ true → is_write fault ≡ false
+early_writes_none (SchemaRefused refusal) early = refl
+early_writes_none (ModuleRefused refusal) early = refl
+early_writes_none (ScriptRefused refusal) early = refl
+early_writes_none (Write bytes) early = cc
+early_writes_none (NoMemory items) early = refl

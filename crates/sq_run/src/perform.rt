@@ -1,9 +1,8 @@
-ghost use Rattle.std.specs.Prelude.{◌≡◌, ◌≤◌, ◌<◌, ◌^◌, false, true, length, IfErr, IfOk, OnErr, OnOk};
+ghost use Rattle.std.specs.Prelude.{◌≡◌, ◌≤◌, ◌<◌, false, true, length, IfErr, IfOk, OnOk};
 ghost use Rattle.std.specs.List.{list_all};
 ghost use Rattle.std.specs.Io.KnownBytes.{Appends};
 ghost use Rattle.sq_model.specs.Script.{performed, can_perform, cursors_of, procedures_of, table_count, schema_table, first_state};
 ghost use Rattle.sq_model.specs.Report.{action_lines, report};
-ghost use Rattle.sq_run.specs.Prepared.{IsPrepared};
 ghost use Rattle.sq_run.specs.Refused.{RefusedText};
 ghost use Rattle.sq_run.specs.Run.{Run, report_of, texts};
 ghost use Rattle.sq_run.specs.Stop.{StoppedAt, Wrote, is_write};
@@ -28,6 +27,7 @@ pub struct Limits {
 ///
 /// All schemas are read first, then the modules, then the script; the first refusal is answered, and nothing is written
 /// before all are accepted. The lines of a script item are written in one go.
+#[tactic(auto, using(crate::proofs::Wrote::early_writes_none))]
 pub fn run<S: Store, W: Out>(
     alloc: Global,
     schemas: &[Vec<u8>],
@@ -44,9 +44,10 @@ pub fn run<S: Store, W: Out>(
         × Appends (W.taken out.old) (W.taken out.new) (report_of limits.row_numbers r)) }
 
     // A refusal comes with nothing written, want of memory with the lines of whole items, and an output fault with the
-    // first bytes of the report. Only an output that has failed gives an output fault.
+    // first bytes of the report. The output has failed exactly where there is an output fault.
     ensures stopped { IfErr result (Wrote (texts schemas.now) (texts modules.now) script.now limits.row_numbers (W.taken out.old) (W.taken out.new)) }
-    ensures failed { IfErr result (λ fault. is_write fault ≡ true → W.failed out.new ≡ true) }
+    ensures still { OnOk result (W.failed out.new ≡ false) }
+    ensures failed { IfErr result (λ fault. W.failed out.new ≡ is_write fault) }
 
     // A text is refused for its tokens or its grammar only where no tree of depth at most 32 spells it.
     ensures unspelled { IfErr result (RefusedText (texts schemas.now) (texts modules.now) script.now) }
@@ -69,7 +70,8 @@ fn run_prepared<S: Store, W: Out>(
         (report (procedures_of prepared.now.bound) (first_state prepared.now.schema prepared.now.bound limits.row_numbers) prepared.now.actions)) }
     ensures stopped { IfErr result (StoppedAt (procedures_of prepared.now.bound) (first_state prepared.now.schema prepared.now.bound limits.row_numbers) prepared.now.actions
         (W.taken out.old) (W.taken out.new)) }
-    ensures failed { IfErr result (λ fault. is_write fault ≡ true → W.failed out.new ≡ true) }
+    ensures still { OnOk result (W.failed out.new ≡ false) }
+    ensures failed { IfErr result (λ fault. W.failed out.new ≡ is_write fault) }
 {
     let session = Session::<S>::new(
         alloc,
@@ -101,7 +103,8 @@ fn perform_all<S: Store, W: Out>(
     requires can { list_all (can_perform (length session.old.now) (length session.old.cursors) procedures.now) actions.now ≡ true }
     ensures report { OnOk result (Appends (W.taken out.old) (W.taken out.new) (report procedures.now session.old actions.now)) }
     ensures stopped { IfErr result (StoppedAt procedures.now session.old actions.now (W.taken out.old) (W.taken out.new)) }
-    ensures failed { IfErr result (λ fault. is_write fault ≡ true → W.failed out.new ≡ true) }
+    ensures still { OnOk result (W.failed out.new ≡ false) }
+    ensures failed { IfErr result (λ fault. W.failed out.new ≡ is_write fault) }
 {
     let mut written = 0u128;
     for (done, action) in actions.iter().enumerate() {
