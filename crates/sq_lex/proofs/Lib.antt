@@ -1,3 +1,6 @@
 mod LiteralLemmas
+pub mod Longest
+mod Quoted
 mod ReadingLemmas
+mod Runs
 pub mod WordLemmas

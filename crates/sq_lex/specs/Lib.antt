@@ -6,6 +6,7 @@ pub mod Piece
 pub mod Place
 pub mod Reading
 pub mod Reserved
+pub mod Spelling
 pub mod Symbol
 pub mod Token
 pub mod Word
