@@ -1,0 +1,10 @@
+pub mod Status
+pub mod Syntax
+pub mod Rows
+pub mod Environment
+pub mod Expression
+pub mod Query
+pub mod Kind
+pub mod QueryExpression
+pub mod Spelled
+pub mod Tables
