@@ -6,5 +6,9 @@ pub mod Expression
 pub mod Query
 pub mod Kind
 pub mod QueryExpression
+pub mod Assignment
 pub mod Spelled
 pub mod Tables
+pub mod SortKeys
+pub mod Target
+pub mod Quiet

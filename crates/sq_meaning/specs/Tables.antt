@@ -125,15 +125,3 @@ table_rows (d ∷ earlier) content caller name =
 -- how trees are read by name in a database, for a call of this user
 abbrev pub by_name : Tables → Content → Name → Reading Named
 by_name tables content caller = reading_by_name tables (table_rows tables content caller)
-
--- ---- names of result columns (7.9, 7.10)
-
--- a select item has a name if it is a column reference, and nothing around it
-abbrev pub item_name : Expr Named → Option Name
-item_name (column c) = Some c.column
-item_name _ = None
-
--- `*` has all names
-abbrev pub select_names : Tables → Select Named → Outcome (List (Option Name))
-select_names tables (select distinct all_columns from filter by having) = each (item_of tables) from >>= λ items. Ok (flat_map (λ item. map Some item.columns) items)
-select_names tables (select distinct (expressions es) from filter by having) = Ok (map item_name es)
