@@ -167,7 +167,8 @@ beyond_range = refl
 several_rows : found (simple (K ∷ []) T (where_all (compare_subquery Equal A (simple (A ∷ []) T absent) ∷ []))) ≡ Err CardinalityViolation
 several_rows = refl
 
--- SELECT 1 FROM T WHERE 1 / (K - K) = 1 AND K = 9: AND does not come to what would make it false, but K = 9 AND .. stops
+-- SELECT 1 FROM T WHERE 1 / (K - K) = 1 AND K = 9: AND does not come to what would make it false, but K = 9 AND ..
+-- stops
 
 first_operand_first : found (simple (one ∷ []) T (where_all (compare Equal (scaled Over one (added Minus K K)) one ∷ compare Equal K (literal (whole 9)) ∷ []))) ≡ Err DivisionByZero
 first_operand_first = refl

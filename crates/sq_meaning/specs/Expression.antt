@@ -1,5 +1,5 @@
--- The value of a value expression in an environment (ISO/IEC 9075:1992, 6.2, 6.5 and 6.11 to 6.13). Operands are evaluated from
--- left to right, and the first status met is the outcome.
+-- The value of a value expression in an environment (ISO/IEC 9075:1992, 6.2, 6.5 and 6.11 to 6.13). Operands are
+-- evaluated from left to right, and the first status met is the outcome.
 use Rattle.std.specs.Prelude.{ℕ, ℤ, pos, Bool, if◌then◌else◌, List, [], ◌∷◌, ◌++◌, filter, length, not, Option, Some, None, Result, Ok, Err}
 use Rattle.sq_lex.specs.declared.name.Name.{Name}
 use Rattle.sq_value.specs.Number.{Number}

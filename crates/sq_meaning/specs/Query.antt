@@ -1,5 +1,6 @@
--- The truth of a search condition (ISO/IEC 9075:1992, clause 8) and the rows of a query specification (7.9), each by the other: conditions
--- have subqueries. Each phase of a query is whole before the next, and the first status met is the outcome.
+-- The truth of a search condition (ISO/IEC 9075:1992, clause 8) and the rows of a query specification (7.9), each by
+-- the other: conditions have subqueries. Each phase of a query is whole before the next, and the first status met is
+-- the outcome.
 use Rattle.std.specs.Prelude.{ℕ, Bool, true, false, if◌then◌else◌, ◌||◌, List, [], ◌∷◌, ◌++◌, map, fold, Option, Some, None, Result, Ok, Err}
 use Rattle.std.specs.List.{flat_map, zip}
 use Rattle.std.specs.declared.cmp.Ordering.{Ordering}
