@@ -1,5 +1,5 @@
 -- Laws of outcomes along lists.
-use Rattle.std.proofs.Common.{◌≡◌, Bool, true, List, [], ◌∷◌, ◌++◌, map, refl, ap, ◌∙◌, Ok, Err}
+use Rattle.std.proofs.Common.{◌≡◌, true, List, [], ◌∷◌, ◌++◌, map, refl, ap, ◌∙◌, Ok, Err}
 use Rattle.sq_meaning.specs.Status.{Outcome, and_then, each, kept}
 
 -- a test that is always true keeps all

@@ -1,9 +1,9 @@
 -- Laws of queries: `*` without WHERE is the product, and UNION ALL has the left rows and then the right ones.
-use Rattle.std.proofs.Common.{◌≡◌, Bool, true, false, List, [], ◌∷◌, ◌++◌, map, refl, ap, ◌∙◌, Ok, Err}
+use Rattle.std.proofs.Common.{◌≡◌, true, false, List, [], ◌∷◌, ◌++◌, map, refl, ap, ◌∙◌, Ok}
 use Rattle.std.specs.List.{flat_map}
 use Rattle.sq_value.specs.declared.domain.Kind.{Kind}
 use Rattle.sq_meaning.specs.Status.{Outcome, and_then, each, kept}
-use Rattle.sq_meaning.specs.Syntax.{Naming, Select, Query, all_columns, absent, select, union}
+use Rattle.sq_meaning.specs.Syntax.{Naming, Query, all_columns, absent, select, union}
 use Rattle.sq_meaning.specs.Environment.{Row, Line, Scope, Env, alone, within}
 use Rattle.sq_meaning.specs.Expression.{Reading}
 use Rattle.sq_meaning.specs.Rows.{product}

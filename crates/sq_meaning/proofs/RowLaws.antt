@@ -8,7 +8,7 @@ use Rattle.std.specs.declared.cmp.Ordering.{Ordering}
 use Rattle.std.specs.declared.cmp.Ordering.TheVariants.{Less, Equal, Greater}
 use Rattle.std.specs.Ordering.{nat_cmp, is_eq, is_lt, is_gt, ordering_then, ordering_reverse}
 use Rattle.std.proofs.lemmas.Cmp.{nat_cmp_total}
-use Rattle.sq_value.specs.Comparison.{is_same, texts_compared}
+use Rattle.sq_value.specs.Comparison.{is_same}
 use Rattle.sq_value.specs.declared.value.Value.{Value}
 use Rattle.sq_value.specs.declared.value.Value.TheVariants.{Chars}
 use Rattle.sq_value.specs.laws.Padding.{from_front, front_is}

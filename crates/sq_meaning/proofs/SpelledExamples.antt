@@ -1,15 +1,15 @@
 -- A query as a text spells it, computed by the definitions.
-use Rattle.std.specs.Prelude.{◌≡◌, ℕ, pos, true, false, List, [], ◌∷◌, codes, refl, Option, Some, None, Ok}
+use Rattle.std.specs.Prelude.{◌≡◌, ℕ, pos, true, false, List, [], ◌∷◌, codes, refl, Some, None}
 use Rattle.sq_value.specs.declared.value.Value.TheVariants as value
 use Rattle.sq_tree.specs.declared.expr.Sign.TheVariants.{Plus, Minus}
-use Rattle.sq_tree.specs.declared.expr.TimesSign.TheVariants.{Times, Over}
+use Rattle.sq_tree.specs.declared.expr.TimesSign.TheVariants.{Times}
 use Rattle.sq_tree.specs.declared.expr.Expr.{Expr as SpelledExpr, roll-Expr}
 use Rattle.sq_tree.specs.declared.expr.Term.{Term, roll-Term}
-use Rattle.sq_tree.specs.declared.expr.Added.{Added, roll-Added}
+use Rattle.sq_tree.specs.declared.expr.Added.{roll-Added}
 use Rattle.sq_tree.specs.declared.expr.Factor.{Factor}
 use Rattle.sq_tree.specs.declared.expr.Primary.{Primary}
 use Rattle.sq_tree.specs.declared.expr.Primary.TheVariants as primary
-use Rattle.sq_tree.specs.declared.cond.Comparison.TheVariants.{Equal, Greater}
+use Rattle.sq_tree.specs.declared.cond.Comparison.TheVariants.{Greater}
 use Rattle.sq_tree.specs.declared.cond.SelectList.TheVariants.{Star}
 use Rattle.sq_tree.specs.declared.cond.Cond.{Cond, roll-Cond}
 use Rattle.sq_tree.specs.declared.cond.Conj.{roll-Conj}
@@ -17,8 +17,8 @@ use Rattle.sq_tree.specs.declared.cond.Body.TheVariants as body
 use Rattle.sq_tree.specs.declared.cond.Tail.TheVariants as tail
 use Rattle.sq_tree.specs.declared.cond.TableExpression.{roll-TableExpression}
 use Rattle.sq_tree.specs.declared.cond.QuerySpecification.{QuerySpecification, roll-QuerySpecification}
-use Rattle.sq_meaning.specs.Syntax.{Expr, literal, column, signed, added, scaled, bracketed, all_columns, compare, negated, conjunction, disjunction, present, absent, select, conds}
-use Rattle.sq_meaning.specs.Spelled.{Named, expr_of, cond_of, select_of}
+use Rattle.sq_meaning.specs.Syntax.{literal, column, signed, added, scaled, bracketed, all_columns, compare, negated, conjunction, disjunction, present, absent, select, conds}
+use Rattle.sq_meaning.specs.Spelled.{expr_of, cond_of, select_of}
 use Rattle.sq_meaning.proofs.SpelledLevels.{spelled}
 
 abbrev factor : Primary → Factor

@@ -1,5 +1,5 @@
 -- The levels of spelled trees, as what is evaluated: with them a spelled tree computes.
-use Rattle.std.proofs.Common.{◌≡◌, ℕ, Bool, List, [], ◌∷◌, Option, Some, None, refl, sym, ◌∙◌, ap, map}
+use Rattle.std.proofs.Common.{◌≡◌, ℕ, Bool, List, ◌∷◌, Option, Some, None, sym, ◌∙◌, ap, map}
 use Rattle.std.specs.Prelude.{fold}
 use Rattle.std.specs.Option.{option_map}
 use Rattle.sq_lex.specs.declared.name.Name.{Name}
@@ -9,7 +9,6 @@ use Rattle.sq_tree.specs.declared.list.CommaList.{CommaList}
 use Rattle.sq_tree.specs.declared.names.ColumnReference.{ColumnReference}
 use Rattle.sq_tree.specs.declared.names.Parameter.{Parameter}
 use Rattle.sq_tree.specs.declared.expr.Sign.{Sign}
-use Rattle.sq_tree.specs.declared.expr.TimesSign.{TimesSign}
 use Rattle.sq_tree.specs.declared.expr.SetFunction.{SetFunction}
 use Rattle.sq_tree.specs.declared.expr.SetQuantifier.{SetQuantifier}
 use Rattle.sq_tree.specs.declared.expr.Expr.{Expr as SpelledExpr, fold-roll-Expr, roll-Expr}
@@ -17,7 +16,7 @@ use Rattle.sq_tree.specs.declared.expr.Term.{Term, fold-roll-Term, roll-Term}
 use Rattle.sq_tree.specs.declared.expr.Added.{Added, fold-roll-Added, roll-Added}
 use Rattle.sq_tree.specs.declared.expr.Scaled.{Scaled, fold_out-Scaled}
 use Rattle.sq_tree.specs.declared.expr.Factor.{Factor, fold_out-Factor}
-use Rattle.sq_tree.specs.declared.expr.Primary.{Primary, fold-roll-Primary}
+use Rattle.sq_tree.specs.declared.expr.Primary.{fold-roll-Primary}
 use Rattle.sq_tree.specs.declared.expr.Primary.TheVariants as primary
 use Rattle.sq_tree.specs.declared.expr.Primary.TheOpen as layer
 use Rattle.sq_tree.specs.declared.cond.Comparison.{Comparison}
@@ -27,7 +26,7 @@ use Rattle.sq_tree.specs.declared.cond.TableReference.{TableReference as Spelled
 use Rattle.sq_tree.specs.declared.cond.Cond.{Cond as SpelledCond, fold-roll-Cond, roll-Cond}
 use Rattle.sq_tree.specs.declared.cond.Conj.{Conj, fold-roll-Conj, roll-Conj}
 use Rattle.sq_tree.specs.declared.cond.Test.{Test, fold_out-Test}
-use Rattle.sq_tree.specs.declared.cond.Body.{Body, fold-roll-Body}
+use Rattle.sq_tree.specs.declared.cond.Body.{fold-roll-Body}
 use Rattle.sq_tree.specs.declared.cond.Body.TheVariants as body
 use Rattle.sq_tree.specs.declared.cond.Body.TheOpen as level
 use Rattle.sq_tree.specs.declared.cond.Tail.{Tail, fold-roll-Tail}

@@ -9,8 +9,8 @@ use Rattle.sq_tree.specs.declared.cond.Comparison.{Comparison}
 use Rattle.sq_tree.specs.declared.cond.Comparison.TheVariants.{Equal, LessOrEqual, GreaterOrEqual}
 use Rattle.sq_tree.specs.declared.cond.Quantifier.TheVariants as quantifier
 use Rattle.sq_meaning.specs.Status.{Outcome}
-use Rattle.sq_meaning.specs.Syntax.{Naming, Expr, Cond, Select, compare, compare_quantified, between, in_subquery, in_list, conjunction, disjunction, conds}
-use Rattle.sq_meaning.specs.Environment.{Row, Env}
+use Rattle.sq_meaning.specs.Syntax.{Naming, Expr, Select, compare, compare_quantified, between, in_subquery, in_list, conjunction, disjunction, conds}
+use Rattle.sq_meaning.specs.Environment.{Env}
 use Rattle.sq_meaning.specs.Expression.{Reading}
 use Rattle.sq_meaning.specs.Query.{and_also, or_else, compared, compared_with_rows, quantified, truth}
 

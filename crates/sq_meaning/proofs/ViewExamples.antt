@@ -1,6 +1,6 @@
 -- Views over small tables, computed by the definitions: their rows, their targets, and what check options demand;
 -- ORDER BY, parameters and USER.
-use Rattle.std.specs.Prelude.{◌≡◌, ℕ, pos, negsuc, Bool, true, false, List, [], ◌∷◌, codes, refl, Option, Some, None, Ok, Err}
+use Rattle.std.specs.Prelude.{◌≡◌, ℕ, pos, negsuc, true, false, List, [], ◌∷◌, codes, refl, Some, None, Ok, Err}
 use Rattle.sq_lex.specs.declared.name.Name.{Name}
 use Rattle.sq_value.specs.declared.domain.Kind.TheVariants as kind
 use Rattle.sq_value.specs.declared.value.Value.{Value}
@@ -8,14 +8,13 @@ use Rattle.sq_value.specs.declared.value.Value.TheVariants.{Null, Num, Chars}
 use Rattle.sq_store.specs.Content.{Content}
 use Rattle.sq_store.specs.declared.table.Numbered.{Numbered}
 use Rattle.sq_tree.specs.declared.cond.Comparison.TheVariants.{Equal, Less, Greater}
-use Rattle.sq_tree.specs.declared.expr.Sign.TheVariants.{Minus}
 use Rattle.sq_tree.specs.declared.expr.TimesSign.TheVariants.{Over}
 use Rattle.sq_tree.specs.declared.«module».SortDirection.TheVariants.{Desc}
 use Rattle.sq_tree.specs.declared.«module».SortKey.TheVariants.{Column, Position}
 use Rattle.sq_tree.specs.declared.«module».SortSpecification.{SortSpecification}
 use Rattle.sq_meaning.specs.Status.{Outcome, ◌>>=◌, not_well_formed}
 use Rattle.sq_meaning.specs.declared.status.Status.TheVariants.{CheckOptionViolation, DivisionByZero}
-use Rattle.sq_meaning.specs.Syntax.{Expr, literal, parameter, column, user, added, scaled, bracketed, expressions, all_columns, Cond, Clause, Select, Query, compare, between, in_list, absent, present, select, specification}
+use Rattle.sq_meaning.specs.Syntax.{Expr, literal, parameter, column, user, scaled, bracketed, expressions, Clause, Select, Query, compare, between, in_list, absent, present, select, specification}
 use Rattle.sq_meaning.specs.Environment.{Row, Env, Item, Input, TableName, TableReference, outermost}
 use Rattle.sq_meaning.specs.Expression.{value}
 use Rattle.sq_meaning.specs.Query.{rows}
@@ -23,7 +22,7 @@ use Rattle.sq_meaning.specs.QueryExpression.{ordered_rows}
 use Rattle.sq_meaning.specs.Spelled.{Named}
 use Rattle.sq_meaning.specs.Tables.{Tables, ColumnDescriptor, base_table, viewed_table, table_rows, by_name, kinds_by_name}
 use Rattle.sq_meaning.specs.SortKeys.{query_names, sort_columns}
-use Rattle.sq_meaning.specs.Target.{Target, target_of, searched_target, cursor_target, chosen_numbers, meets_check_option}
+use Rattle.sq_meaning.specs.Target.{target_of, searched_target, cursor_target, chosen_numbers, meets_check_option}
 
 abbrev whole : ℕ → Value
 whole n = Num (record { unscaled = pos n; scale = 0 })

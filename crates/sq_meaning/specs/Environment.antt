@@ -10,9 +10,7 @@ use Rattle.sq_value.specs.declared.value.Value.TheVariants.{Null, Num, Chars}
 use Rattle.sq_tree.specs.declared.names.TableName.{TableName as SpelledTable}
 use Rattle.sq_tree.specs.declared.names.ColumnReference.{ColumnReference}
 use Rattle.sq_tree.specs.declared.names.Parameter.{Parameter}
-use Rattle.sq_tree.specs.declared.names.Indicator.{Indicator}
 use Rattle.sq_meaning.specs.Status.{Outcome, ◌>>=◌, well_formed, not_well_formed}
-use Rattle.sq_meaning.specs.Syntax.{Naming}
 
 -- ---- names
 

@@ -1,12 +1,11 @@
 -- What is known of an expression's values before it is evaluated: a scale, a length, or a greatest length (ISO/IEC
 -- 9075:1992, 6.11 to 6.13, 7.9 and 7.10).
-use Rattle.std.specs.Prelude.{ℕ, ◌+◌, ◌-◌, max, nat_le, Bool, if◌then◌else◌, List, [], ◌∷◌, length, map, Option, Some, None, Ok}
-use Rattle.std.specs.List.{flat_map, zip}
+use Rattle.std.specs.Prelude.{ℕ, ◌+◌, ◌-◌, max, nat_le, if◌then◌else◌, List, [], ◌∷◌, length, Ok}
+use Rattle.std.specs.List.{flat_map}
 use Rattle.sq_value.specs.declared.domain.Kind.{Kind}
 use Rattle.sq_value.specs.declared.domain.Kind.TheVariants.{Num, Chars, Vary}
 use Rattle.sq_value.specs.declared.value.Value.{Value}
 use Rattle.sq_value.specs.declared.value.Value.TheVariants as value
-use Rattle.sq_tree.specs.declared.expr.Sign.{Sign}
 use Rattle.sq_tree.specs.declared.expr.TimesSign.{TimesSign}
 use Rattle.sq_tree.specs.declared.expr.TimesSign.TheVariants.{Times, Over}
 use Rattle.sq_tree.specs.declared.expr.SetFunction.{SetFunction}

@@ -1,5 +1,5 @@
 -- The rows of a query expression (ISO/IEC 9075:1992, 7.10), and their order (13.1).
-use Rattle.std.specs.Prelude.{ℕ, Bool, if◌then◌else◌, List, [], ◌∷◌, ◌++◌, Option, Some, None, Ok}
+use Rattle.std.specs.Prelude.{if◌then◌else◌, List, ◌++◌, Ok}
 use Rattle.std.specs.List.{zip}
 use Rattle.sq_value.specs.Arithmetic.{in_range, at_scale}
 use Rattle.sq_value.specs.Comparison.{padded}

@@ -1,6 +1,6 @@
 -- Lists of rows: products, classes, and the stable order (ISO/IEC 9075:1992, 3.1, 7.4, 7.7, 7.9 and 13.1). In which
 -- order rows come is an own rule.
-use Rattle.std.specs.Prelude.{ℕ, Bool, true, false, if◌then◌else◌, not, List, [], ◌∷◌, filter, map, slice_index_or}
+use Rattle.std.specs.Prelude.{ℕ, Bool, if◌then◌else◌, not, List, [], ◌∷◌, filter, map, slice_index_or}
 use Rattle.std.specs.List.{flat_map}
 use Rattle.std.specs.Cmp.Lexicographic.{pointwise}
 use Rattle.std.specs.declared.cmp.Ordering.{Ordering}

@@ -1,6 +1,6 @@
 -- The trees that texts spell, as what is evaluated. An unqualified name of a table means the user's own (ISO/IEC
 -- 9075:1992, 5.4).
-use Rattle.std.specs.Prelude.{ℕ, pos, ◌≤◌, ◌&&◌, nat_le, Bool, true, false, if◌then◌else◌, unsigned_abs, not, List, [], ◌∷◌, fold, map, Option, Some, None, unwrap_or}
+use Rattle.std.specs.Prelude.{ℕ, pos, ◌&&◌, nat_le, Bool, true, false, if◌then◌else◌, unsigned_abs, List, [], ◌∷◌, fold, map, Option, Some, None, unwrap_or}
 use Rattle.std.specs.List.{list_any}
 use Rattle.std.specs.Option.{option_map}
 use Rattle.std.specs.Result.{result_unwrap_or}
@@ -10,7 +10,6 @@ use Rattle.sq_value.specs.Number.{Number}
 use Rattle.sq_value.specs.Spelling.{read, is_point}
 use Rattle.sq_value.specs.declared.domain.Domain.{Domain}
 use Rattle.sq_value.specs.declared.domain.Domain.TheVariants as domain
-use Rattle.sq_value.specs.declared.value.Value.{Value}
 use Rattle.sq_value.specs.declared.value.Value.TheVariants as value
 use Rattle.sq_tree.specs.declared.list.CommaList.{CommaList}
 use Rattle.sq_tree.specs.declared.names.TableName.{TableName as SpelledTable}
@@ -34,7 +33,6 @@ use Rattle.sq_tree.specs.declared.expr.Added.{Added, fold-Added, Added-F}
 use Rattle.sq_tree.specs.declared.expr.Scaled.{Scaled, fold-Scaled, Scaled-F}
 use Rattle.sq_tree.specs.declared.cond.Comparison.{Comparison}
 use Rattle.sq_tree.specs.declared.cond.Quantifier.{Quantifier}
-use Rattle.sq_tree.specs.declared.cond.Correlation.{Correlation}
 use Rattle.sq_tree.specs.declared.cond.TableReference.{TableReference as SpelledReference}
 use Rattle.sq_tree.specs.declared.cond.SelectList.{SelectList as SpelledList}
 use Rattle.sq_tree.specs.declared.cond.SelectList.TheVariants.{Star, Items}

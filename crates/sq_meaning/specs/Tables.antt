@@ -1,23 +1,16 @@
 -- Tables by their names: base tables and views (ISO/IEC 9075:1992, 4.9 and 11.19), what their columns are, and their
 -- rows. A view's rows are those of its query, with the caller's user.
-use Rattle.std.specs.Prelude.{ℕ, Bool, true, false, if◌then◌else◌, ◌||◌, ◌==◌, pos, int_lt, List, [], ◌∷◌, find, map, length, slice_get, Option, Some, None, Ok}
-use Rattle.std.specs.List.{count_by, enumerate_from, flat_map, zip}
+use Rattle.std.specs.Prelude.{ℕ, Bool, true, false, List, [], ◌∷◌, find, map, slice_get, Ok}
 use Rattle.std.specs.Option.{option_map}
 use Rattle.sq_lex.specs.declared.name.Name.{Name}
 use Rattle.sq_value.specs.Domain.{kind_of}
 use Rattle.sq_value.specs.declared.domain.Domain.{Domain}
 use Rattle.sq_value.specs.declared.domain.Kind.{Kind}
-use Rattle.sq_value.specs.declared.value.Value.{Value}
-use Rattle.sq_value.specs.declared.value.Value.TheVariants.{Null, Num, Chars}
 use Rattle.sq_store.specs.Content.{Content, table_at}
 use Rattle.sq_store.specs.declared.table.Table.{Table}
-use Rattle.sq_store.specs.declared.table.Numbered.{Numbered}
-use Rattle.sq_tree.specs.declared.names.ColumnReference.{ColumnReference}
-use Rattle.sq_tree.specs.declared.names.Parameter.{Parameter}
-use Rattle.sq_tree.specs.declared.names.Indicator.{Indicator}
 use Rattle.sq_meaning.specs.Status.{Outcome, ◌>>=◌, each, well_formed, not_well_formed}
-use Rattle.sq_meaning.specs.Syntax.{Naming, Expr, literal, parameter, user, column, count_rows, set_function, signed, added, scaled, bracketed, SelectList, all_columns, expressions, Select, select, Query}
-use Rattle.sq_meaning.specs.Environment.{Row, Input, Env, Item, Place, TableName, TableReference, same_name, same_table, input_value, place_of, outermost}
+use Rattle.sq_meaning.specs.Syntax.{Select}
+use Rattle.sq_meaning.specs.Environment.{Row, Item, Place, TableName, TableReference, same_name, same_table, input_value, place_of, outermost}
 use Rattle.sq_meaning.specs.Expression.{Reading}
 use Rattle.sq_meaning.specs.Kind.{Kinds}
 use Rattle.sq_meaning.specs.Query.{rows}

@@ -1,6 +1,6 @@
 -- Updatable queries and views, and the rows of a base table that a statement or a cursor means by them (ISO/IEC
 -- 9075:1992, 7.9, 11.19, 13.6 to 13.10).
-use Rattle.std.specs.Prelude.{ℕ, ◌+◌, ◌&&◌, ◌||◌, not, nat_eq, Bool, true, false, if◌then◌else◌, List, [], ◌∷◌, ◌++◌, length, map, take, slice_index, Option, Some, None, Ok, Err}
+use Rattle.std.specs.Prelude.{ℕ, ◌&&◌, ◌||◌, not, nat_eq, Bool, true, false, if◌then◌else◌, List, [], ◌∷◌, ◌++◌, length, map, take, slice_index, None, Ok, Err}
 use Rattle.std.specs.List.{list_any, enumerate_from}
 use Rattle.sq_value.specs.Key.{in_columns}
 use Rattle.sq_value.specs.declared.truth.Truth.{Truth}
@@ -12,7 +12,7 @@ use Rattle.sq_meaning.specs.Environment.{Row, Env, Item, TableName, TableReferen
 use Rattle.sq_meaning.specs.Expression.{Reading}
 use Rattle.sq_meaning.specs.Query.{clause_truth, is_true, is_grouped}
 use Rattle.sq_meaning.specs.Spelled.{Named}
-use Rattle.sq_meaning.specs.Tables.{Tables, TableDescriptor, base_table, viewed_table, descriptor_of, column_names, item_of}
+use Rattle.sq_meaning.specs.Tables.{Tables, base_table, viewed_table, item_of}
 
 -- ---- updatable queries (own rule: as in the standard, but that no WHERE has a subquery)
 
