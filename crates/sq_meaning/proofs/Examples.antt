@@ -1,23 +1,22 @@
 -- Queries over small tables, computed by the definitions.
-use Rattle.std.specs.Prelude.{◌≡◌, ℕ, pos, negsuc, Bool, true, false, List, [], ◌∷◌, ◌++◌, codes, refl, Option, Some, None, Ok, Err}
+use Rattle.std.specs.Prelude.{◌≡◌, ℕ, pos, true, false, List, [], ◌∷◌, codes, refl, Some, None, Ok, Err}
 use Rattle.sq_lex.specs.declared.name.Name.{Name}
 use Rattle.sq_value.specs.declared.domain.Kind.TheVariants as kind
 use Rattle.sq_value.specs.declared.value.Value.{Value}
 use Rattle.sq_value.specs.declared.value.Value.TheVariants.{Null, Num, Chars}
 use Rattle.sq_store.specs.Content.{Content}
-use Rattle.sq_store.specs.declared.table.Table.{Table}
-use Rattle.sq_tree.specs.declared.expr.Sign.TheVariants.{Plus, Minus}
-use Rattle.sq_tree.specs.declared.expr.TimesSign.TheVariants.{Times, Over}
-use Rattle.sq_tree.specs.declared.expr.SetFunction.TheVariants.{Count, Sum, Avg, Min, Max}
-use Rattle.sq_tree.specs.declared.cond.Comparison.TheVariants.{Equal, NotEqual, Less, Greater, LessOrEqual, GreaterOrEqual}
+use Rattle.sq_tree.specs.declared.expr.Sign.TheVariants.{Minus}
+use Rattle.sq_tree.specs.declared.expr.TimesSign.TheVariants.{Over}
+use Rattle.sq_tree.specs.declared.expr.SetFunction.TheVariants.{Count, Max}
+use Rattle.sq_tree.specs.declared.cond.Comparison.TheVariants.{Equal, Less, Greater}
 use Rattle.sq_meaning.specs.Status.{Outcome}
 use Rattle.sq_meaning.specs.declared.status.Status.TheVariants.{NumericValueOutOfRange, CardinalityViolation, DivisionByZero}
-use Rattle.sq_meaning.specs.Syntax.{Expr, literal, column, count_rows, set_function, added, scaled, SelectList, all_columns, expressions, Cond, Clause, Select, Query, compare, compare_subquery, in_subquery, exists, negated, conjunction, absent, present, select, conds, specification, union}
-use Rattle.sq_meaning.specs.Environment.{Row, Env, Item, TableName, TableReference, outermost}
+use Rattle.sq_meaning.specs.Syntax.{Expr, literal, column, count_rows, set_function, added, scaled, expressions, Cond, Clause, Select, Query, compare, compare_subquery, in_subquery, exists, negated, conjunction, absent, present, select, conds, specification, union}
+use Rattle.sq_meaning.specs.Environment.{Row, TableName, TableReference, outermost}
 use Rattle.sq_meaning.specs.Query.{rows}
 use Rattle.sq_meaning.specs.QueryExpression.{query_rows}
 use Rattle.sq_meaning.specs.Spelled.{Named}
-use Rattle.sq_meaning.specs.Tables.{Tables, TableDescriptor, ColumnDescriptor, base_table, viewed_table, by_name, kinds_by_name}
+use Rattle.sq_meaning.specs.Tables.{Tables, ColumnDescriptor, base_table, by_name, kinds_by_name}
 
 -- ---- the tables: T has (1, 11, 'A'), (2, null, 'A'), (3, 11, 'B'), N has (999999999999999999, null)
 
@@ -167,7 +166,8 @@ beyond_range = refl
 several_rows : found (simple (K ∷ []) T (where_all (compare_subquery Equal A (simple (A ∷ []) T absent) ∷ []))) ≡ Err CardinalityViolation
 several_rows = refl
 
--- SELECT 1 FROM T WHERE 1 / (K - K) = 1 AND K = 9: AND does not come to what would make it false, but K = 9 AND .. stops
+-- SELECT 1 FROM T WHERE 1 / (K - K) = 1 AND K = 9: AND does not come to what would make it false, but K = 9 AND ..
+-- stops
 
 first_operand_first : found (simple (one ∷ []) T (where_all (compare Equal (scaled Over one (added Minus K K)) one ∷ compare Equal K (literal (whole 9)) ∷ []))) ≡ Err DivisionByZero
 first_operand_first = refl

@@ -1,5 +1,5 @@
 -- Storing a value, and retrieving it, with their statuses (ISO/IEC 9075:1992, 9.1 and 9.2).
-use Rattle.std.specs.Prelude.{◌≡◌, List, Option, Some, None, Result, Ok, Err}
+use Rattle.std.specs.Prelude.{◌≡◌, None, Result, Ok, Err}
 use Rattle.std.specs.Option.{option_map}
 use Rattle.sq_value.specs.Retrieving.{text_retrieved, uncut_length}
 use Rattle.sq_value.specs.Storing as storing

@@ -1,16 +1,16 @@
--- Where expressions are evaluated (ISO/IEC 9075:1992, 5.4, 6.3 and 6.4): scopes of items of FROM, the nearest first, the
--- parameters of the call, and the user. A column reference means the nearest scope in which an item fits.
-use Rattle.std.specs.Prelude.{ℕ, zero, suc, Bool, true, false, if◌then◌else◌, ◌&&◌, nat_eq, List, [], ◌∷◌, map, position, slice_get, Option, Some, None, Ok}
+-- Where expressions are evaluated (ISO/IEC 9075:1992, 5.4, 6.3 and 6.4): scopes of items of FROM, the nearest first,
+-- the parameters of the call, and the user. A column reference means the nearest scope in which an item fits.
+use Rattle.std.specs.Prelude.{ℕ, zero, suc, Bool, true, false, if◌then◌else◌, ◌&&◌, nat_eq, List, [], ◌∷◌, map, pos, int_lt, find, position, slice_get, Option, Some, None, Ok}
 use Rattle.std.specs.List.{filter_map, enumerate_from}
 use Rattle.std.specs.Option.{option_map, option_and_then}
 use Rattle.std.specs.Cmp.Lexicographic.{pointwise}
 use Rattle.sq_lex.specs.declared.name.Name.{Name}
 use Rattle.sq_value.specs.declared.value.Value.{Value}
+use Rattle.sq_value.specs.declared.value.Value.TheVariants.{Null, Num, Chars}
 use Rattle.sq_tree.specs.declared.names.TableName.{TableName as SpelledTable}
 use Rattle.sq_tree.specs.declared.names.ColumnReference.{ColumnReference}
 use Rattle.sq_tree.specs.declared.names.Parameter.{Parameter}
-use Rattle.sq_meaning.specs.Status.{Outcome, well_formed, not_well_formed, and_then}
-use Rattle.sq_meaning.specs.Syntax.{Naming}
+use Rattle.sq_meaning.specs.Status.{Outcome, ◌>>=◌, well_formed, not_well_formed}
 
 -- ---- names
 
@@ -49,8 +49,8 @@ pub record Input : Type 0 where
   pub name : Name
   pub value : Value
 
--- The items of a FROM with a row of each. After grouping these rows are the first of a group, and the group is there for
--- the set functions (of a group without rows there is no first).
+-- The items of a FROM with a row of each. After grouping these rows are the first of a group, and the group is there
+-- for the set functions (of a group without rows there is no first).
 pub record Scope (H : Type 0) : Type 0 where
   pub items : List H
   pub line : Line
@@ -72,6 +72,25 @@ alone items line = record { items = items; line = line; group = [] }
 -- outside every query
 abbrev pub outermost : {H : Type 0} → List Input → Name → Env H
 outermost inputs user = record { scopes = []; inputs = inputs; user = user }
+
+-- ---- parameters (6.2)
+
+abbrev pub is_below_zero : Value → Bool
+is_below_zero Null = false
+is_below_zero (Num n) = int_lt n.unscaled (pos 0)
+is_below_zero (Chars t) = false
+
+-- null where the indicator parameter is below zero
+abbrev pub with_indicator : {I : Type 0} → (I → Outcome Value) → Option I → Value → Outcome Value
+with_indicator read None v = Ok v
+with_indicator read (Some i) v = read i >>= λ w. Ok (if is_below_zero w then Null else v)
+
+abbrev pub input_named : List Input → Name → Outcome Value
+input_named inputs name = well_formed (option_map (λ i. i.value) (find (λ i. same_name i.name name) inputs))
+
+-- a parameter by its name
+abbrev pub input_value : Parameter → List Input → Outcome Value
+input_value p inputs = input_named inputs p.name >>= with_indicator (λ i. input_named inputs i.name) p.indicator
 
 -- ---- what a column reference means
 
@@ -110,7 +129,7 @@ abbrev pub fitting : ColumnReference → List Item → List (ℕ × ℕ)
 fitting r items = filter_map (λ i. option_map (λ column. (i.0, column)) (column_in r i.1)) (enumerate_from 0 items)
 
 abbrev pub nearest : List (ℕ × ℕ) → Outcome Place → Outcome Place
-nearest [] further = and_then further (λ p. Ok (record p { depth = suc p.depth }))
+nearest [] further = further >>= λ p. Ok (record p { depth = suc p.depth })
 nearest (at ∷ others) further = Ok (record { depth = zero; item = at.0; column = at.1 })
 
 -- the place of a column by its name, where these items are in scope

@@ -1,6 +1,6 @@
--- The value of a value expression in an environment (ISO/IEC 9075:1992, 6.2, 6.5 and 6.11 to 6.13). Operands are evaluated from
--- left to right, and the first status met is the outcome.
-use Rattle.std.specs.Prelude.{ℕ, ℤ, pos, Bool, if◌then◌else◌, List, [], ◌∷◌, ◌++◌, filter, length, not, Option, Some, None, Result, Ok, Err}
+-- The value of a value expression in an environment (ISO/IEC 9075:1992, 6.2, 6.5 and 6.11 to 6.13). Operands are
+-- evaluated from left to right, and the first status met is the outcome.
+use Rattle.std.specs.Prelude.{pos, Bool, if◌then◌else◌, List, [], ◌∷◌, ◌++◌, length, Result, Ok}
 use Rattle.sq_lex.specs.declared.name.Name.{Name}
 use Rattle.sq_value.specs.Number.{Number}
 use Rattle.sq_value.specs.Arithmetic as number
@@ -18,9 +18,9 @@ use Rattle.sq_tree.specs.declared.expr.TimesSign.{TimesSign}
 use Rattle.sq_tree.specs.declared.expr.TimesSign.TheVariants.{Times, Over}
 use Rattle.sq_tree.specs.declared.expr.SetFunction.{SetFunction}
 use Rattle.sq_tree.specs.declared.expr.SetFunction.TheVariants.{Count, Sum, Avg, Min, Max}
-use Rattle.sq_meaning.specs.Status.{Outcome, ◌>>=◌, each, well_formed, not_well_formed, with_status, arithmetic_status}
-use Rattle.sq_meaning.specs.Syntax.{Naming, Expr, literal, parameter, user, column, count_rows, set_function, signed, added, scaled, bracketed, Select}
-use Rattle.sq_meaning.specs.Environment.{Row, Line, Input, Scope, Env, Place, within, alone, items_in, value_at}
+use Rattle.sq_meaning.specs.Status.{Outcome, ◌>>=◌, each, not_well_formed, with_status, arithmetic_status}
+use Rattle.sq_meaning.specs.Syntax.{Naming, Expr, literal, parameter, user, column, count_rows, set_function, signed, added, scaled, bracketed}
+use Rattle.sq_meaning.specs.Environment.{Row, Input, Scope, Env, Place, within, alone, items_in, value_at}
 use Rattle.sq_meaning.specs.Rows.{firsts}
 
 -- How the parts of a tree that refer to something are read: the place of a column where these items are in scope, a

@@ -1,12 +1,11 @@
--- What is known of an expression's values before it is evaluated: a scale, a length, or a greatest length (ISO/IEC 9075:1992, 6.11
--- to 6.13, 7.9 and 7.10).
-use Rattle.std.specs.Prelude.{ℕ, ◌+◌, ◌-◌, max, nat_le, Bool, if◌then◌else◌, List, [], ◌∷◌, length, map, Option, Some, None, Ok}
-use Rattle.std.specs.List.{flat_map, zip}
+-- What is known of an expression's values before it is evaluated: a scale, a length, or a greatest length (ISO/IEC
+-- 9075:1992, 6.11 to 6.13, 7.9 and 7.10).
+use Rattle.std.specs.Prelude.{ℕ, ◌+◌, ◌-◌, max, nat_le, if◌then◌else◌, List, [], ◌∷◌, length, Ok}
+use Rattle.std.specs.List.{flat_map}
 use Rattle.sq_value.specs.declared.domain.Kind.{Kind}
 use Rattle.sq_value.specs.declared.domain.Kind.TheVariants.{Num, Chars, Vary}
 use Rattle.sq_value.specs.declared.value.Value.{Value}
 use Rattle.sq_value.specs.declared.value.Value.TheVariants as value
-use Rattle.sq_tree.specs.declared.expr.Sign.{Sign}
 use Rattle.sq_tree.specs.declared.expr.TimesSign.{TimesSign}
 use Rattle.sq_tree.specs.declared.expr.TimesSign.TheVariants.{Times, Over}
 use Rattle.sq_tree.specs.declared.expr.SetFunction.{SetFunction}
@@ -14,8 +13,8 @@ use Rattle.sq_tree.specs.declared.expr.SetFunction.TheVariants.{Count, Sum, Avg,
 use Rattle.sq_meaning.specs.Status.{Outcome, ◌>>=◌, each, not_well_formed}
 use Rattle.sq_meaning.specs.Syntax.{Naming, Expr, literal, parameter, user, column, count_rows, set_function, signed, added, scaled, bracketed, SelectList, all_columns, expressions, Select, select, Query, specification, union}
 
--- the kinds of columns where these tables are in the FROM clauses around, the nearest first; of parameters; and of all
--- columns of a table
+-- the kinds of columns where these tables are in the FROM clauses around, the nearest first; of parameters; and of
+-- all columns of a table
 pub record Kinds (N : Naming) : Type 0 where
   pub column : N.Column → List (List N.Table) → Outcome Kind
   pub parameter : N.Parameter → Outcome Kind
@@ -40,7 +39,8 @@ abbrev pub sum_kind : Kind → Kind → Outcome Kind
 sum_kind (Num s) (Num t) = Ok (Num (max s t))
 sum_kind _ _ = not_well_formed
 
--- that of a product is the sum of both; a quotient has the greater one, and no more than 18 digits are to be made for it
+-- that of a product is the sum of both; a quotient has the greater one, and no more than 18 digits are to be made for
+-- it
 abbrev pub product_kind : TimesSign → Kind → Kind → Outcome Kind
 product_kind Times (Num s) (Num t) = of_scale (s + t)
 product_kind Over (Num s) (Num t) = of_scale (max s t + t - s) >>= λ _. Ok (Num (max s t))
@@ -74,8 +74,8 @@ list_kinds k outer from (expressions es) = each (kind k (from ∷ outer)) es
 abbrev pub select_kinds : {N : Naming} → Kinds N → List (List N.Table) → Select N → Outcome (List Kind)
 select_kinds k outer (select distinct list from filter by having) = list_kinds k outer from list
 
--- the kind of a column of UNION (7.10): both are numbers, or both are texts, and are brought to the greater scale or length;
--- with a varying side it is varying (own rule)
+-- the kind of a column of UNION (7.10): both are numbers, or both are texts, and are brought to the greater scale or
+-- length; with a varying side it is varying (own rule)
 abbrev pub common_kind : Kind → Kind → Outcome Kind
 common_kind (Num s) (Num t) = Ok (Num (max s t))
 common_kind (Chars m) (Chars n) = Ok (Chars (max m n))

@@ -3,6 +3,7 @@ pub mod Syntax
 pub mod Rows
 pub mod Environment
 pub mod Expression
+pub mod Placed
 pub mod Query
 pub mod Kind
 pub mod QueryExpression

@@ -1,7 +1,8 @@
--- The truth of a search condition (ISO/IEC 9075:1992, clause 8) and the rows of a query specification (7.9), each by the other: conditions
--- have subqueries. Each phase of a query is whole before the next, and the first status met is the outcome.
-use Rattle.std.specs.Prelude.{ℕ, Bool, true, false, if◌then◌else◌, ◌||◌, List, [], ◌∷◌, ◌++◌, map, fold, Option, Some, None, Result, Ok, Err}
-use Rattle.std.specs.List.{flat_map, zip}
+-- The truth of a search condition (ISO/IEC 9075:1992, clause 8) and the rows of a query specification (7.9), each by
+-- the other: conditions have subqueries. Each phase of a query is whole before the next, and the first status met is
+-- the outcome.
+use Rattle.std.specs.Prelude.{Bool, true, false, if◌then◌else◌, ◌||◌, List, [], ◌∷◌, ◌++◌, map, fold, Option, Some, None, Ok, Err}
+use Rattle.std.specs.List.{flat_map}
 use Rattle.std.specs.declared.cmp.Ordering.{Ordering}
 use Rattle.std.specs.Ordering.{is_eq, is_ne, is_lt, is_gt, is_le, is_ge}
 use Rattle.sq_value.specs.Comparison.{values_compared}
@@ -16,7 +17,7 @@ use Rattle.sq_tree.specs.declared.cond.Comparison.{Comparison}
 use Rattle.sq_tree.specs.declared.cond.Comparison.TheVariants.{Equal, NotEqual, Less, Greater, LessOrEqual, GreaterOrEqual}
 use Rattle.sq_tree.specs.declared.cond.Quantifier.{Quantifier}
 use Rattle.sq_tree.specs.declared.cond.Quantifier.TheVariants as quantifier
-use Rattle.sq_meaning.specs.Status.{Outcome, ◌>>=◌, each, kept, not_well_formed, with_status, like_status}
+use Rattle.sq_meaning.specs.Status.{Outcome, ◌>>=◌, each, kept, with_status, like_status}
 use Rattle.sq_meaning.specs.declared.status.Status.TheVariants.{CardinalityViolation}
 use Rattle.sq_meaning.specs.Syntax.{Naming, Expr, SelectList, all_columns, expressions, Cond, Conds, Clause, Select, compare, compare_subquery, compare_quantified, between, in_subquery, in_list, like, is_null, exists, negated, conjunction, disjunction, no_cond, a_cond, absent, present, select}
 use Rattle.sq_meaning.specs.Environment.{Row, Line, Scope, Env, within, alone, items_in, value_at}

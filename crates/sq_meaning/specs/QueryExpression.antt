@@ -1,5 +1,5 @@
 -- The rows of a query expression (ISO/IEC 9075:1992, 7.10), and their order (13.1).
-use Rattle.std.specs.Prelude.{ℕ, Bool, if◌then◌else◌, List, [], ◌∷◌, ◌++◌, Option, Some, None, Ok}
+use Rattle.std.specs.Prelude.{if◌then◌else◌, List, ◌++◌, Ok}
 use Rattle.std.specs.List.{zip}
 use Rattle.sq_value.specs.Arithmetic.{in_range, at_scale}
 use Rattle.sq_value.specs.Comparison.{padded}
@@ -15,8 +15,8 @@ use Rattle.sq_meaning.specs.Rows.{firsts, same_row, sorted, SortColumn, by_colum
 use Rattle.sq_meaning.specs.Kind.{Kinds, query_kinds}
 use Rattle.sq_meaning.specs.Query.{rows}
 
--- a value as a column of a UNION has it: a number at the scale, a fixed text padded with blanks to the length, a varying
--- text as it is
+-- a value as a column of a UNION has it: a number at the scale, a fixed text padded with blanks to the length, a
+-- varying text as it is
 abbrev pub brought_to : Kind → Value → Outcome Value
 brought_to k Null = Ok Null
 brought_to (kind.Num s) (Num n) = number_outcome (in_range s (at_scale s n))

@@ -1,6 +1,6 @@
 -- Conditions whose truth is never a fault: they hold no arithmetic between two operands, no ESCAPE and no subquery. A
 -- cursor with such conditions alone can read its rows as late as it fetches them.
-use Rattle.std.specs.Prelude.{Bool, true, false, ◌&&◌, List, Option, Some, None}
+use Rattle.std.specs.Prelude.{Bool, true, false, ◌&&◌, Option, Some, None}
 use Rattle.std.specs.List.{list_all}
 use Rattle.sq_meaning.specs.Syntax.{Naming, Expr, literal, parameter, user, column, count_rows, set_function, signed, added, scaled, bracketed, Cond, Conds, Clause, compare, compare_subquery, compare_quantified, between, in_subquery, in_list, like, is_null, exists, negated, conjunction, disjunction, no_cond, a_cond, absent, present}
 use Rattle.sq_meaning.specs.Target.{Target}

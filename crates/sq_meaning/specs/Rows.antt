@@ -1,11 +1,11 @@
--- Lists of rows: products, classes, and the stable order (ISO/IEC 9075:1992, 3.1, 7.4, 7.7, 7.9 and 13.1). In which order rows come
--- is an own rule.
-use Rattle.std.specs.Prelude.{ℕ, Bool, true, false, if◌then◌else◌, not, List, [], ◌∷◌, filter, map, slice_index_or}
+-- Lists of rows: products, classes, and the stable order (ISO/IEC 9075:1992, 3.1, 7.4, 7.7, 7.9 and 13.1). In which
+-- order rows come is an own rule.
+use Rattle.std.specs.Prelude.{ℕ, Bool, if◌then◌else◌, not, List, [], ◌∷◌, filter, map, slice_index_or}
 use Rattle.std.specs.List.{flat_map}
 use Rattle.std.specs.Cmp.Lexicographic.{pointwise}
 use Rattle.std.specs.declared.cmp.Ordering.{Ordering}
 use Rattle.std.specs.declared.cmp.Ordering.TheVariants.{Equal}
-use Rattle.std.specs.Ordering.{is_gt, ordering_then, ordering_reverse}
+use Rattle.std.specs.Ordering.{is_gt, on, flip_args, then_cmp}
 use Rattle.sq_value.specs.Comparison.{is_same, ordered}
 use Rattle.sq_value.specs.declared.value.Value.{Value}
 use Rattle.sq_value.specs.declared.value.Value.TheVariants.{Null}
@@ -45,12 +45,15 @@ pub record SortColumn : Type 0 where
   pub column : ℕ
   pub descending : Bool
 
-abbrev pub by_column : SortColumn → List Value → List Value → Ordering
-by_column s r t =
-    let o = ordered (slice_index_or r s.column Null) (slice_index_or t s.column Null) in
-    if s.descending then ordering_reverse o else o
+-- the value of a row in a column
+abbrev pub in_column : ℕ → List Value → Value
+in_column c row = slice_index_or row c Null
 
--- by the first column, and among ties by the others; null is lowest
+-- null is lowest (own rule); down is the other way round
+abbrev pub by_column : SortColumn → List Value → List Value → Ordering
+by_column s = if s.descending then flip_args (on (in_column s.column) ordered) else on (in_column s.column) ordered
+
+-- by the first column, and among ties by the others
 abbrev pub by_columns : List SortColumn → List Value → List Value → Ordering
-by_columns [] r t = Equal
-by_columns (s ∷ others) r t = ordering_then (by_column s r t) (by_columns others r t)
+by_columns [] = λ r t. Equal
+by_columns (s ∷ others) = then_cmp (by_column s) (by_columns others)

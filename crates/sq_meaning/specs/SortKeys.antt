@@ -7,7 +7,7 @@ use Rattle.sq_tree.specs.declared.«module».SortDirection.TheVariants.{Asc, Des
 use Rattle.sq_tree.specs.declared.«module».SortKey.{SortKey}
 use Rattle.sq_tree.specs.declared.«module».SortKey.TheVariants.{Column, Position}
 use Rattle.sq_tree.specs.declared.«module».SortSpecification.{SortSpecification}
-use Rattle.sq_meaning.specs.Status.{Outcome, ◌>>=◌, each, well_formed, not_well_formed}
+use Rattle.sq_meaning.specs.Status.{Outcome, ◌>>=◌, each, not_well_formed}
 use Rattle.sq_meaning.specs.Syntax.{Expr, column, all_columns, expressions, Select, select, Query, specification, union}
 use Rattle.sq_meaning.specs.Environment.{same_name}
 use Rattle.sq_meaning.specs.Rows.{SortColumn}

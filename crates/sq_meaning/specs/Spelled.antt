@@ -1,5 +1,6 @@
--- The trees that texts spell, as what is evaluated. An unqualified name of a table means the user's own (ISO/IEC 9075:1992, 5.4).
-use Rattle.std.specs.Prelude.{ℕ, pos, ◌≤◌, ◌&&◌, nat_le, Bool, true, false, if◌then◌else◌, unsigned_abs, not, List, [], ◌∷◌, fold, map, Option, Some, None, unwrap_or}
+-- The trees that texts spell, as what is evaluated. An unqualified name of a table means the user's own (ISO/IEC
+-- 9075:1992, 5.4).
+use Rattle.std.specs.Prelude.{ℕ, pos, ◌&&◌, nat_le, Bool, true, false, if◌then◌else◌, unsigned_abs, List, [], ◌∷◌, fold, map, Option, Some, None, unwrap_or}
 use Rattle.std.specs.List.{list_any}
 use Rattle.std.specs.Option.{option_map}
 use Rattle.std.specs.Result.{result_unwrap_or}
@@ -9,7 +10,6 @@ use Rattle.sq_value.specs.Number.{Number}
 use Rattle.sq_value.specs.Spelling.{read, is_point}
 use Rattle.sq_value.specs.declared.domain.Domain.{Domain}
 use Rattle.sq_value.specs.declared.domain.Domain.TheVariants as domain
-use Rattle.sq_value.specs.declared.value.Value.{Value}
 use Rattle.sq_value.specs.declared.value.Value.TheVariants as value
 use Rattle.sq_tree.specs.declared.list.CommaList.{CommaList}
 use Rattle.sq_tree.specs.declared.names.TableName.{TableName as SpelledTable}
@@ -24,31 +24,30 @@ use Rattle.sq_tree.specs.declared.expr.SignedNumber.{SignedNumber}
 use Rattle.sq_tree.specs.declared.expr.TimesSign.{TimesSign}
 use Rattle.sq_tree.specs.declared.expr.SetQuantifier.{SetQuantifier}
 use Rattle.sq_tree.specs.declared.expr.SetQuantifier.TheVariants.{All, Distinct}
-use Rattle.sq_tree.specs.declared.expr.Primary.{Primary, Primary-F}
+use Rattle.sq_tree.specs.declared.expr.Primary.{Primary, fold-Primary, Primary-F}
 use Rattle.sq_tree.specs.declared.expr.Primary.TheOpen as layer
 use Rattle.sq_tree.specs.declared.expr.Expr.{Expr as SpelledExpr, fold-Expr, Expr-F}
-use Rattle.sq_tree.specs.declared.expr.Term.{Term-F}
-use Rattle.sq_tree.specs.declared.expr.Factor.{Factor-F}
-use Rattle.sq_tree.specs.declared.expr.Added.{Added-F}
-use Rattle.sq_tree.specs.declared.expr.Scaled.{Scaled-F}
+use Rattle.sq_tree.specs.declared.expr.Term.{Term, fold-Term, Term-F}
+use Rattle.sq_tree.specs.declared.expr.Factor.{Factor, fold-Factor, Factor-F}
+use Rattle.sq_tree.specs.declared.expr.Added.{Added, fold-Added, Added-F}
+use Rattle.sq_tree.specs.declared.expr.Scaled.{Scaled, fold-Scaled, Scaled-F}
 use Rattle.sq_tree.specs.declared.cond.Comparison.{Comparison}
 use Rattle.sq_tree.specs.declared.cond.Quantifier.{Quantifier}
-use Rattle.sq_tree.specs.declared.cond.Correlation.{Correlation}
 use Rattle.sq_tree.specs.declared.cond.TableReference.{TableReference as SpelledReference}
 use Rattle.sq_tree.specs.declared.cond.SelectList.{SelectList as SpelledList}
 use Rattle.sq_tree.specs.declared.cond.SelectList.TheVariants.{Star, Items}
-use Rattle.sq_tree.specs.declared.cond.Body.{Body-F}
+use Rattle.sq_tree.specs.declared.cond.Body.{Body, fold-Body, Body-F}
 use Rattle.sq_tree.specs.declared.cond.Body.TheOpen as level
-use Rattle.sq_tree.specs.declared.cond.Tail.{Tail-F}
+use Rattle.sq_tree.specs.declared.cond.Tail.{Tail, fold-Tail, Tail-F}
 use Rattle.sq_tree.specs.declared.cond.Cond.{Cond as SpelledCond, fold-Cond, Cond-F}
-use Rattle.sq_tree.specs.declared.cond.Conj.{Conj-F}
-use Rattle.sq_tree.specs.declared.cond.Test.{Test-F}
+use Rattle.sq_tree.specs.declared.cond.Conj.{Conj, fold-Conj, Conj-F}
+use Rattle.sq_tree.specs.declared.cond.Test.{Test, fold-Test, Test-F}
 use Rattle.sq_tree.specs.declared.cond.TableExpression.{TableExpression, fold-TableExpression, TableExpression-F}
 use Rattle.sq_tree.specs.declared.cond.QuerySpecification.{QuerySpecification, fold-QuerySpecification, QuerySpecification-F}
-use Rattle.sq_tree.specs.declared.query.QueryTerm.{QueryTerm-F}
+use Rattle.sq_tree.specs.declared.query.QueryTerm.{QueryTerm, fold-QueryTerm, QueryTerm-F}
 use Rattle.sq_tree.specs.declared.query.QueryTerm.TheOpen as query_term
 use Rattle.sq_tree.specs.declared.query.Query.{Query as SpelledQuery, fold-Query, Query-F}
-use Rattle.sq_tree.specs.declared.query.UnionTerm.{UnionTerm-F}
+use Rattle.sq_tree.specs.declared.query.UnionTerm.{UnionTerm, fold-UnionTerm, UnionTerm-F}
 use Rattle.sq_meaning.specs.Syntax.{Naming, Expr, literal, parameter, user, column, count_rows, set_function, signed, added, scaled, bracketed, SelectList, all_columns, expressions, Cond, Clause, Select, compare, compare_subquery, compare_quantified, between, in_subquery, in_list, like, is_null, exists, negated, conjunction, disjunction, absent, present, select, conds, Query, specification, union}
 use Rattle.sq_meaning.specs.Environment.{TableName, TableReference, Item}
 
@@ -145,8 +144,12 @@ primary_level layer.CountRows = count_rows
 primary_level (layer.SetFunction function quantifier operand) = set_function function (is_distinct_word quantifier) operand
 primary_level (layer.Bracketed e) = bracketed e
 
+abbrev pub with_sign_if : Option Sign → Expr Named → Expr Named
+with_sign_if None e = e
+with_sign_if (Some sign) e = signed sign e
+
 abbrev factor_level : Factor-F E (Sign × E) E E (TimesSign × E) E → E
-factor_level f = elim f.sign [ None ↦ f.primary | Some sign ↦ signed sign f.primary ]
+factor_level f = with_sign_if f.sign f.primary
 
 abbrev term_level : Term-F E (Sign × E) E E (TimesSign × E) E → E
 term_level t = fold (λ left s. scaled s.0 left s.1) t.first t.rest
@@ -160,9 +163,24 @@ added_level a = (a.sign, a.term)
 abbrev scaled_level : Scaled-F E (Sign × E) E E (TimesSign × E) E → TimesSign × E
 scaled_level s = (s.sign, s.factor)
 
--- the value expression that a text spells
-abbrev pub expr_of : SpelledExpr → Expr Named
+-- the value expression that a text spells, and its parts
+unfoldable pub expr_of : SpelledExpr → Expr Named
 expr_of = fold-Expr E (Sign × E) E E (TimesSign × E) E primary_level added_level expr_level factor_level scaled_level term_level
+
+unfoldable pub term_of : Term → Expr Named
+term_of = fold-Term E (Sign × E) E E (TimesSign × E) E primary_level added_level expr_level factor_level scaled_level term_level
+
+unfoldable pub factor_of : Factor → Expr Named
+factor_of = fold-Factor E (Sign × E) E E (TimesSign × E) E primary_level added_level expr_level factor_level scaled_level term_level
+
+unfoldable pub primary_of : Primary → Expr Named
+primary_of = fold-Primary E (Sign × E) E E (TimesSign × E) E primary_level added_level expr_level factor_level scaled_level term_level
+
+unfoldable pub added_of : Added → Sign × Expr Named
+added_of = fold-Added E (Sign × E) E E (TimesSign × E) E primary_level added_level expr_level factor_level scaled_level term_level
+
+unfoldable pub scaled_of : Scaled → TimesSign × Expr Named
+scaled_of = fold-Scaled E (Sign × E) E E (TimesSign × E) E primary_level added_level expr_level factor_level scaled_level term_level
 
 -- ---- search conditions and query specifications
 
@@ -184,14 +202,14 @@ S = Select Named
 abbrev T : Type 0
 T = Bool → SelectList Named → S
 
-abbrev not_if : Bool → C → C
+abbrev pub not_if : Bool → C → C
 not_if written c = if written then negated c else c
 
-abbrev clause : Option C → Clause Named
+abbrev pub clause : Option C → Clause Named
 clause None = absent
 clause (Some c) = present c
 
-abbrev compared_with : Option Quantifier → Comparison → E → S → C
+abbrev pub compared_with : Option Quantifier → Comparison → E → S → C
 compared_with None op left q = compare_subquery op left q
 compared_with (Some k) op left q = compare_quantified op k left q
 
@@ -225,18 +243,32 @@ table_expression_level own t distinct list = select distinct list (map (referenc
 abbrev query_specification_level : QuerySpecification-F C (E → C) C C S T C → S
 query_specification_level q = q.table (is_distinct_word q.quantifier) (list_of q.list)
 
--- the search condition that a text spells, of this user
-abbrev pub cond_of : Name → SpelledCond → Cond Named
+-- the search condition that a text of this user spells, and its parts
+unfoldable pub cond_of : Name → SpelledCond → Cond Named
 cond_of own = fold-Cond C (E → C) C C S T C body_level tail_level cond_level conj_level query_specification_level (table_expression_level own) test_level
 
--- the query specification
-abbrev pub select_of : Name → QuerySpecification → Select Named
+unfoldable pub conj_of : Name → Conj → Cond Named
+conj_of own = fold-Conj C (E → C) C C S T C body_level tail_level cond_level conj_level query_specification_level (table_expression_level own) test_level
+
+unfoldable pub test_of : Name → Test → Cond Named
+test_of own = fold-Test C (E → C) C C S T C body_level tail_level cond_level conj_level query_specification_level (table_expression_level own) test_level
+
+unfoldable pub body_of : Name → Body → Cond Named
+body_of own = fold-Body C (E → C) C C S T C body_level tail_level cond_level conj_level query_specification_level (table_expression_level own) test_level
+
+unfoldable pub tail_of : Name → Tail → Expr Named → Cond Named
+tail_of own = fold-Tail C (E → C) C C S T C body_level tail_level cond_level conj_level query_specification_level (table_expression_level own) test_level
+
+-- the query specification, and its table expression
+unfoldable pub select_of : Name → QuerySpecification → Select Named
 select_of own = fold-QuerySpecification C (E → C) C C S T C body_level tail_level cond_level conj_level query_specification_level (table_expression_level own) test_level
+
+unfoldable pub table_expression_of : Name → TableExpression → Bool → SelectList Named → Select Named
+table_expression_of own = fold-TableExpression C (E → C) C C S T C body_level tail_level cond_level conj_level query_specification_level (table_expression_level own) test_level
 
 -- a query specification by its parts, as SELECT INTO has them
 abbrev pub select_of_parts : Name → Option SetQuantifier → SpelledList → TableExpression → Select Named
-select_of_parts own quantifier list table =
-    fold-TableExpression C (E → C) C C S T C body_level tail_level cond_level conj_level query_specification_level (table_expression_level own) test_level table (is_distinct_word quantifier) (list_of list)
+select_of_parts own quantifier list table = table_expression_of own table (is_distinct_word quantifier) (list_of list)
 
 -- ---- query expressions
 
@@ -253,6 +285,12 @@ union_term_level u = (u.all, u.term)
 abbrev query_level : Query-F Q Q (Bool × Q) → Q
 query_level q = fold (λ left u. union u.0 left u.1) q.first q.rest
 
--- the query expression that a text spells, of this user
-abbrev pub query_of : Name → SpelledQuery → Query Named
+-- the query expression that a text of this user spells, and its parts
+unfoldable pub query_of : Name → SpelledQuery → Query Named
 query_of own = fold-Query Q Q (Bool × Q) (query_term_level own) query_level union_term_level
+
+unfoldable pub query_term_of : Name → QueryTerm → Query Named
+query_term_of own = fold-QueryTerm Q Q (Bool × Q) (query_term_level own) query_level union_term_level
+
+unfoldable pub union_term_of : Name → UnionTerm → Bool × Query Named
+union_term_of own = fold-UnionTerm Q Q (Bool × Q) (query_term_level own) query_level union_term_level

@@ -1,5 +1,5 @@
 -- Statuses (ISO/IEC 9075:1992, 22.1), and what ends with a value or with a status.
-use Rattle.std.specs.Prelude.{ℕ, ℤ, pos, neg_ℤ, Bool, true, false, if◌then◌else◌, List, [], ◌∷◌, Option, Some, None, Result, Ok, Err, codes}
+use Rattle.std.specs.Prelude.{ℕ, ℤ, pos, neg_ℤ, Bool, if◌then◌else◌, List, [], ◌∷◌, Option, Some, None, Result, Ok, Err, codes}
 use Rattle.sq_value.specs.declared.fault.ArithmeticFault.{ArithmeticFault}
 use Rattle.sq_value.specs.declared.fault.ArithmeticFault.TheVariants as arithmetic
 use Rattle.sq_value.specs.declared.fault.LikeFault.{LikeFault}

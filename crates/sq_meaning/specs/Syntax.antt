@@ -1,7 +1,7 @@
 -- What is evaluated, as trees: value expressions (ISO/IEC 9075:1992, 6.11), search conditions (8.12), query
 -- specifications (7.9) and query expressions (7.10). A tree is the same whether it names columns, parameters and
 -- tables as its text does, or places them.
-use Rattle.std.specs.Prelude.{ℕ, Bool, List, [], ◌∷◌, Option}
+use Rattle.std.specs.Prelude.{Bool, List, [], ◌∷◌, Option}
 use Rattle.sq_value.specs.declared.value.Value.{Value}
 use Rattle.sq_tree.specs.declared.expr.Sign.{Sign}
 use Rattle.sq_tree.specs.declared.expr.TimesSign.{TimesSign}

@@ -1,23 +1,16 @@
--- Tables by their names: base tables and views (ISO/IEC 9075:1992, 4.9 and 11.19), what their columns are, and their rows. A view's
--- rows are those of its query, with the caller's user.
-use Rattle.std.specs.Prelude.{ℕ, Bool, true, false, if◌then◌else◌, ◌||◌, ◌==◌, pos, int_lt, List, [], ◌∷◌, find, map, length, slice_get, Option, Some, None, Ok}
-use Rattle.std.specs.List.{count_by, enumerate_from, flat_map, zip}
+-- Tables by their names: base tables and views (ISO/IEC 9075:1992, 4.9 and 11.19), what their columns are, and their
+-- rows. A view's rows are those of its query, with the caller's user.
+use Rattle.std.specs.Prelude.{ℕ, Bool, true, false, List, [], ◌∷◌, find, map, slice_get, Ok}
 use Rattle.std.specs.Option.{option_map}
 use Rattle.sq_lex.specs.declared.name.Name.{Name}
 use Rattle.sq_value.specs.Domain.{kind_of}
 use Rattle.sq_value.specs.declared.domain.Domain.{Domain}
 use Rattle.sq_value.specs.declared.domain.Kind.{Kind}
-use Rattle.sq_value.specs.declared.value.Value.{Value}
-use Rattle.sq_value.specs.declared.value.Value.TheVariants.{Null, Num, Chars}
 use Rattle.sq_store.specs.Content.{Content, table_at}
 use Rattle.sq_store.specs.declared.table.Table.{Table}
-use Rattle.sq_store.specs.declared.table.Numbered.{Numbered}
-use Rattle.sq_tree.specs.declared.names.ColumnReference.{ColumnReference}
-use Rattle.sq_tree.specs.declared.names.Parameter.{Parameter}
-use Rattle.sq_tree.specs.declared.names.Indicator.{Indicator}
 use Rattle.sq_meaning.specs.Status.{Outcome, ◌>>=◌, each, well_formed, not_well_formed}
-use Rattle.sq_meaning.specs.Syntax.{Naming, Expr, literal, parameter, user, column, count_rows, set_function, signed, added, scaled, bracketed, SelectList, all_columns, expressions, Select, select, Query}
-use Rattle.sq_meaning.specs.Environment.{Row, Input, Env, Item, Place, TableName, TableReference, same_name, same_table, place_of, outermost}
+use Rattle.sq_meaning.specs.Syntax.{Select}
+use Rattle.sq_meaning.specs.Environment.{Row, Item, Place, TableName, TableReference, same_name, same_table, input_value, place_of, outermost}
 use Rattle.sq_meaning.specs.Expression.{Reading}
 use Rattle.sq_meaning.specs.Kind.{Kinds}
 use Rattle.sq_meaning.specs.Query.{rows}
@@ -29,7 +22,8 @@ pub record ColumnDescriptor : Type 0 where
   pub name : Name
   pub kind : Kind
 
--- a base table, by its place in the database, or a viewed table, by its query and whether WITH CHECK OPTION is written
+-- a base table, by its place in the database, or a viewed table, by its query and whether WITH CHECK OPTION is
+-- written
 pub data TableBody : Type 0 where
   base_table : ℕ → TableBody
   viewed_table : Select Named → (check_option : Bool) → TableBody
@@ -56,28 +50,10 @@ column_kinds d = map (λ c. c.kind) d.columns
 abbrev pub item_of : Tables → TableReference → Outcome Item
 item_of tables r = descriptor_of tables r.table >>= λ d. Ok (record { reference = r; columns = column_names d })
 
--- ---- parameters
-
 -- a parameter as its procedure declares it (12.3)
 pub record Declared : Type 0 where
   pub name : Name
   pub domain : Domain
-
-abbrev pub input_named : Name → List Input → Outcome Value
-input_named name inputs = well_formed (option_map (λ i. i.value) (find (λ i. same_name i.name name) inputs))
-
-abbrev pub is_below_zero : Value → Bool
-is_below_zero Null = false
-is_below_zero (Num n) = int_lt n.unscaled (pos 0)
-is_below_zero (Chars t) = false
-
--- null where the indicator parameter is below zero (6.2)
-abbrev pub input_value : Parameter → List Input → Outcome Value
-input_value p inputs = input_named p.name inputs >>= λ v. indicated v p.indicator
-  where
-    indicated : Value → Option Indicator → Outcome Value
-    indicated v None = Ok v
-    indicated v (Some i) = input_named i.name inputs >>= λ w. Ok (if is_below_zero w then Null else v)
 
 -- ---- trees by name
 

@@ -1,6 +1,6 @@
--- Updatable queries and views, and the rows of a base table that a statement or a cursor means by them (ISO/IEC 9075:1992, 7.9, 11.19,
--- 13.6 to 13.10).
-use Rattle.std.specs.Prelude.{ℕ, ◌+◌, ◌&&◌, ◌||◌, not, nat_eq, Bool, true, false, if◌then◌else◌, List, [], ◌∷◌, ◌++◌, length, map, take, slice_index, Option, Some, None, Ok, Err}
+-- Updatable queries and views, and the rows of a base table that a statement or a cursor means by them (ISO/IEC
+-- 9075:1992, 7.9, 11.19, 13.6 to 13.10).
+use Rattle.std.specs.Prelude.{ℕ, ◌&&◌, ◌||◌, not, nat_eq, Bool, true, false, if◌then◌else◌, List, [], ◌∷◌, ◌++◌, length, map, take, slice_index, None, Ok, Err}
 use Rattle.std.specs.List.{list_any, enumerate_from}
 use Rattle.sq_value.specs.Key.{in_columns}
 use Rattle.sq_value.specs.declared.truth.Truth.{Truth}
@@ -12,7 +12,7 @@ use Rattle.sq_meaning.specs.Environment.{Row, Env, Item, TableName, TableReferen
 use Rattle.sq_meaning.specs.Expression.{Reading}
 use Rattle.sq_meaning.specs.Query.{clause_truth, is_true, is_grouped}
 use Rattle.sq_meaning.specs.Spelled.{Named}
-use Rattle.sq_meaning.specs.Tables.{Tables, TableDescriptor, base_table, viewed_table, descriptor_of, column_names, item_of}
+use Rattle.sq_meaning.specs.Tables.{Tables, base_table, viewed_table, item_of}
 
 -- ---- updatable queries (own rule: as in the standard, but that no WHERE has a subquery)
 
@@ -86,8 +86,8 @@ pub record Level : Type 0 where
   pub columns : List ℕ
   pub condition : Clause Named
 
--- The base table by its place, the column of it for each column of the target, the conditions of the views from inside
--- out, and how many of them check options demand: those up to the outermost view that has one.
+-- The base table by its place, the column of it for each column of the target, the conditions of the views from
+-- inside out, and how many of them check options demand: those up to the outermost view that has one.
 pub record Target : Type 0 where
   pub place : ℕ
   pub columns : List ℕ

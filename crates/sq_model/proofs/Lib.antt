@@ -1,0 +1,4 @@
+pub mod CallLaws
+pub mod PrivilegeLaws
+pub mod CursorLaws
+pub mod Computed
