@@ -1,10 +1,10 @@
 -- The columns of keys, in rows and in slots.
-use Rattle.std.proofs.Common.{◌≡◌, ℕ, zero, suc, ◌+◌, ◌<◌, Bool, true, false, ◌&&◌, List, [], ◌∷◌, length, get_or, slice_index_or, Option, Some, None, arith, refl, sym, ◌∙◌}
+use Rattle.std.proofs.Common.{◌≡◌, ℕ, zero, suc, ◌+◌, true, List, [], ◌∷◌, Some, None, arith, refl}
 use Rattle.std.specs.List.{list_all}
 use Rattle.std.proofs.lemmas.Grind.{common_steps}
 use Rattle.sq_value.specs.declared.value.Value.{Value}
 use Rattle.sq_store.specs.Keys.{Keys, has_columns, has_keys, have_keys}
-use Rattle.sq_heap.specs.Alone.{slot_has, slots_have}
+use Rattle.sq_heap.specs.Alone.{slots_have}
 use Rattle.sq_heap.specs.Slots.{Slot, rows_from, slot_at}
 
 -- the row of a slot

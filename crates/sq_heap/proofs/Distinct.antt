@@ -1,5 +1,5 @@
 -- Whether two rows have the same key can be seen from the changed rows, where no two had before.
-use Rattle.std.proofs.Common.{◌≡◌, ℕ, zero, suc, ◌+◌, ◌-◌, ◌<◌, ◌≤◌, Bool, true, false, ◌&&◌, ◌||◌, not, nat_eq, List, [], ◌∷◌, ◌++◌, length, take, slice_set, slice_index_or, Option, Some, None, ◌⊎◌, inl, inr, arith, refl, sym, ap, ◌∙◌}
+use Rattle.std.proofs.Common.{◌≡◌, ℕ, zero, suc, ◌+◌, ◌≤◌, Bool, true, false, ◌&&◌, ◌||◌, not, nat_eq, List, [], ◌∷◌, ◌++◌, length, take, slice_set, Some, None, ◌⊎◌, inl, inr, arith, refl, sym, ap, ◌∙◌}
 use Rattle.std.specs.List.{list_all, list_any}
 use Rattle.std.proofs.lemmas.Bool.{false≢true}
 use Rattle.std.proofs.lemmas.Grind.{common_steps}
@@ -8,9 +8,8 @@ use Rattle.sq_value.specs.Comparison.{is_same}
 use Rattle.sq_value.specs.Key.{in_columns}
 use Rattle.sq_value.specs.laws.ValueOrder.{same_equiv}
 use Rattle.sq_value.specs.declared.value.Value.{Value}
-use Rattle.sq_store.specs.declared.table.Numbered.{Numbered}
-use Rattle.sq_store.specs.Keys.{Keys, are_distinct, has_columns, has_distinct_keys, has_key, has_keys, have_keys}
-use Rattle.sq_heap.specs.Alone.{all_alone, is_alone, same_key, slot_alone, slot_has, slots_have}
+use Rattle.sq_store.specs.Keys.{Keys, are_distinct, has_distinct_keys, has_key}
+use Rattle.sq_heap.specs.Alone.{all_alone, is_alone, same_key, slot_alone}
 use Rattle.sq_heap.specs.Slots.{Slot, rows_from, slot_at, table_of}
 use Rattle.sq_heap.specs.Undo.{back, before_change, fits, is_last_or_in, length_back, length_before}
 use Rattle.sq_heap.proofs.Back.{fits_last, fits_pop}

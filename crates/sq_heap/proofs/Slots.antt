@@ -1,9 +1,8 @@
 -- Slots and the table that they stand for.
-use Rattle.std.proofs.Common.{◌≡◌, ℕ, zero, suc, ◌+◌, ◌-◌, ◌<◌, ◌≤◌, Bool, true, false, cond, not, nat_eq, nat_lt, nat_le, filter, find, map, List, [], ◌∷◌, ◌++◌, length, drop, get_or, slice_set, slice_index_or, Option, Some, None, is_some, arith, refl, sym, ap, ◌∙◌, add-one}
+use Rattle.std.proofs.Common.{◌≡◌, ℕ, zero, suc, ◌+◌, ◌-◌, ◌<◌, ◌≤◌, true, not, nat_eq, filter, find, map, List, [], ◌∷◌, ◌++◌, length, drop, get_or, slice_set, Some, None, is_some, arith, refl, sym, ap, ◌∙◌}
 use Rattle.std.proofs.lemmas.Grind.{common_steps}
 use Rattle.sq_value.specs.declared.value.Value.{Value}
 use Rattle.sq_store.specs.declared.table.Numbered.{Numbered}
-use Rattle.sq_store.specs.declared.table.Table.{Table}
 use Rattle.sq_store.specs.Content.{first_among, inserted, removed, replaced, row_at}
 use Rattle.sq_store.specs.Rising.{rising_between}
 use Rattle.sq_store.proofs.Search.{put}

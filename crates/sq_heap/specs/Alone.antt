@@ -5,7 +5,7 @@ use Rattle.std.specs.Cmp.Lexicographic.{pointwise}
 use Rattle.sq_value.specs.Comparison.{is_same}
 use Rattle.sq_value.specs.Key.{in_columns}
 use Rattle.sq_value.specs.declared.value.Value.{Value}
-use Rattle.sq_store.specs.Keys.{Keys, has_columns}
+use Rattle.sq_store.specs.Keys.{has_columns}
 use Rattle.sq_heap.specs.Slots.{Slot, slot_at}
 use Rattle.sq_heap.specs.declared.undo.Undo.{Undo}
 

@@ -1,6 +1,6 @@
 use Rattle.std.proofs.Common.{◌≡◌, ◌∙◌, ◌<◌, ◌++◌, ◌∷◌, [], List, ℕ, ap, arith, length, slice_set, sym, true}
 use Rattle.std.proofs.lemmas.Grind.{common_steps}
-use Rattle.sq_heap.specs.Heap.{all_committed, all_now, are_listed, are_within, committed_of, has_none, now_of}
+use Rattle.sq_heap.specs.Heap.{are_listed, are_within, has_none}
 use Rattle.sq_heap.proofs.Heap.{listed_pop, length_set, none_listed, took_back_committed, within_last, within_rest}
 use Rattle.sq_heap.proofs.store.rollback_all.Goals as goal
 
