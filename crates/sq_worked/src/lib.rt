@@ -1,0 +1,2 @@
+//! Worked runs, computed on the definitions.
+#![tactic(auto)]
