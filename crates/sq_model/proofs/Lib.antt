@@ -1,1 +1,4 @@
-pub mod Example
+pub mod CallLaws
+pub mod PrivilegeLaws
+pub mod CursorLaws
+pub mod Computed
