@@ -682,8 +682,10 @@ def printed(name, kind, text):
     return "\n".join(parts + wholes), names, [(piece, "roll-" in term) for term, piece in parser.parts]
 
 
-def print_terms(bodies):
+def print_terms(bodies, uses=()):
     body = "\n".join(bodies)
+    for line in uses:
+        print(line)
     print("use Rattle.std.specs.Prelude.{true, false, List, [], ◌∷◌, Some, None, codes}")
     for name, path in TYPES.items():
         if re.search(r": %s$" % name, body, re.M):

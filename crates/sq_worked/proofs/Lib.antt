@@ -1,2 +1,3 @@
 mod Rolled
 pub mod Spelled
+pub mod Two

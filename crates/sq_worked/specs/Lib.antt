@@ -1,2 +1,3 @@
 pub mod Kit
 pub mod Reads
+pub mod Reports
