@@ -682,10 +682,9 @@ def printed(name, kind, text):
     return "\n".join(parts + wholes), names, [(piece, "roll-" in term) for term, piece in parser.parts]
 
 
-def print_terms(bodies, uses=()):
+def print_terms(bodies):
     body = "\n".join(bodies)
-    for line in uses:
-        print(line)
+    print("-- Texts as trees. Printed by tools/print_trees.py.")
     print("use Rattle.std.specs.Prelude.{true, false, List, [], ◌∷◌, Some, None, codes}")
     for name, path in TYPES.items():
         if re.search(r": %s$" % name, body, re.M):
@@ -713,6 +712,7 @@ use Rattle.sq_worked.specs.Reads.{ReadsAs}"""
 
 
 def print_lemmas(module, texts):
+    print("-- The bytes of each element read as the tokens of its tree. Printed by tools/print_trees.py.")
     print(SPELLED)
     for tokens, path in sorted({(PARTS[kind][2], kind) for kind, _, _ in texts}):
         print("use Rattle.sq_tree.specs.%s.{%s}" % (path.capitalize(), tokens))

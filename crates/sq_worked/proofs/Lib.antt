@@ -1,3 +1,2 @@
 mod Rolled
 pub mod Spelled
-pub mod Two

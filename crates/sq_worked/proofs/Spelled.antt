@@ -1,4 +1,5 @@
-use Rattle.std.specs.Prelude.{◌≡◌, codes, refl}
+-- The bytes of each element of the kit read as the tokens of its tree. Printed by tools/print_trees.py.
+use Rattle.std.specs.Prelude.{codes, refl}
 use Rattle.sq_lex.specs.Reading.{reading}
 use Rattle.sq_lex.specs.Piece.{first_piece, word, symbol, number, text, comment}
 use Rattle.sq_lex.specs.Reserved.{reserved}

@@ -1,4 +1,5 @@
-use Rattle.std.specs.Prelude.{true, false, List, [], ◌∷◌, Some, None, codes}
+-- The schema and modules of sq_cases/data (schema.sql, module.sql, second-module.sql) as trees, printed by tools/print_trees.py.
+use Rattle.std.specs.Prelude.{true, false, [], ◌∷◌, Some, None, codes}
 use Rattle.sq_tree.specs.declared.schema.SchemaText.{SchemaText}
 use Rattle.sq_tree.specs.declared.schema.SchemaElement.{SchemaElement}
 use Rattle.sq_tree.specs.declared.«module».ModuleText.{ModuleText}

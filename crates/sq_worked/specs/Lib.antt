@@ -1,3 +1,2 @@
 pub mod Kit
 pub mod Reads
-pub mod Reports
