@@ -3,10 +3,10 @@ use Rattle.std.proofs.Common.{◌≡◌, ℕ, ◌≤◌, List, [], ◌∷◌, le
 use Rattle.std.specs.Prelude.{IfErr}
 use Rattle.std.specs.declared.alloc.Global.{Global}
 use Rattle.sq_lex.specs.declared.lexeme.Lexeme.{Lexeme}
-use Rattle.sq_model.specs.Machine.{State}
-use Rattle.sq_model.specs.Report.{Bytes}
-use Rattle.sq_model.specs.declared.program.Action.{Action}
-use Rattle.sq_model.specs.declared.program.BoundProcedure.{BoundProcedure}
+use Rattle.sq_first.specs.Machine.{State}
+use Rattle.sq_first.specs.Report.{Bytes}
+use Rattle.sq_first.specs.declared.program.Action.{Action}
+use Rattle.sq_first.specs.declared.program.BoundProcedure.{BoundProcedure}
 use Rattle.sq_run.specs.declared.refusal.RefusalName.TheVariants.{NotYet}
 use Rattle.sq_run.specs.declared.refusal.RunFault.{RunFault}
 use Rattle.sq_run.specs.declared.refusal.RunFault.TheVariants as run

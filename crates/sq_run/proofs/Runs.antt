@@ -4,16 +4,16 @@ use Rattle.std.proofs.lemmas.List.{take_more, append-nil, take-append-drop, drop
 use Rattle.std.proofs.lemmas.Grind.{common_steps, fold-append}
 use Rattle.std.specs.List.{list_all}
 use Rattle.std.specs.Io.KnownBytes.{Appends}
-use Rattle.sq_model.specs.declared.cursor.CursorState.{CursorState}
-use Rattle.sq_model.specs.declared.cursor.CursorState.TheVariants.{Closed}
-use Rattle.sq_model.specs.declared.program.Action.{Action}
-use Rattle.sq_model.specs.declared.program.Action.TheVariants.{Call, Show}
-use Rattle.sq_model.specs.declared.program.BoundProcedure.{BoundProcedure}
-use Rattle.sq_model.specs.declared.program.BoundStatement.{BoundStatement}
-use Rattle.sq_model.specs.declared.program.BoundStatement.TheVariants.{Insert, Open, Fetch, Close}
-use Rattle.sq_model.specs.Machine.{State, Values, stepped, has_number, is_open, cursor_at, with_row, with_cursor, row_of, opened, the_table, advanced}
-use Rattle.sq_model.specs.Script.{performed, after, stepped_by, statement_at}
-use Rattle.sq_model.specs.Report.{Bytes, action_lines, report}
+use Rattle.sq_first.specs.declared.cursor.CursorState.{CursorState}
+use Rattle.sq_first.specs.declared.cursor.CursorState.TheVariants.{Closed}
+use Rattle.sq_first.specs.declared.program.Action.{Action}
+use Rattle.sq_first.specs.declared.program.Action.TheVariants.{Call, Show}
+use Rattle.sq_first.specs.declared.program.BoundProcedure.{BoundProcedure}
+use Rattle.sq_first.specs.declared.program.BoundStatement.{BoundStatement}
+use Rattle.sq_first.specs.declared.program.BoundStatement.TheVariants.{Insert, Open, Fetch, Close}
+use Rattle.sq_first.specs.Machine.{State, Values, stepped, has_number, is_open, cursor_at, with_row, with_cursor, row_of, opened, the_table, advanced}
+use Rattle.sq_first.specs.Script.{performed, after, stepped_by, statement_at}
+use Rattle.sq_first.specs.Report.{Bytes, action_lines, report}
 
 -- ---- the report
 

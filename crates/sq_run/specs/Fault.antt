@@ -3,7 +3,7 @@ use Rattle.std.specs.Prelude.{◌≡◌, ℕ, List, Ok, ⊤}
 use Rattle.sq_lex.specs.declared.lexeme.Lexeme.{Lexeme}
 use Rattle.sq_lex.specs.declared.token.Token.{Token}
 use Rattle.sq_lex.specs.Reading.{reading}
-use Rattle.sq_model.specs.Report.{Bytes}
+use Rattle.sq_first.specs.Report.{Bytes}
 use Rattle.sq_parse.specs.declared.error.ParseError.{ParseError}
 use Rattle.sq_parse.specs.declared.error.ParseError.TheVariants as parse
 use Rattle.sq_run.specs.declared.items.ItemFault.{ItemFault}

@@ -4,7 +4,7 @@ use Rattle.sq_lex.specs.declared.lexeme.Lexeme.{Lexeme}
 use Rattle.sq_tree.specs.Schema.{schema_tokens, schema_depth}
 use Rattle.sq_tree.specs.Module.{module_tokens, module_depth}
 use Rattle.sq_tree.specs.Script.{script_tokens, script_depth}
-use Rattle.sq_model.specs.Report.{Bytes}
+use Rattle.sq_first.specs.Report.{Bytes}
 use Rattle.sq_run.specs.Run.{Spells}
 use Rattle.sq_run.specs.declared.refusal.Refusal.{Refusal}
 use Rattle.sq_run.specs.declared.refusal.RefusalName.{RefusalName}

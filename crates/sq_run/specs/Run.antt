@@ -16,10 +16,10 @@ use Rattle.sq_first.specs.declared.module_text.Module.{Module}
 use Rattle.sq_first.specs.declared.script.Script.{Script}
 use Rattle.sq_first.specs.declared.script.Item.{Item}
 use Rattle.sq_lex.specs.declared.lexeme.Lexeme.{Lexeme}
-use Rattle.sq_model.specs.declared.program.BoundModule.{BoundModule}
-use Rattle.sq_model.specs.declared.program.Action.{Action}
-use Rattle.sq_model.specs.Script.{IsBound, action_of, first_state, procedures_of}
-use Rattle.sq_model.specs.Report.{Bytes, report}
+use Rattle.sq_first.specs.declared.program.BoundModule.{BoundModule}
+use Rattle.sq_first.specs.declared.program.Action.{Action}
+use Rattle.sq_first.specs.Script.{IsBound, action_of, first_state, procedures_of}
+use Rattle.sq_first.specs.Report.{Bytes, report}
 
 -- the bytes of each text
 abbrev pub texts : List (Vec ℕ Global) → List Bytes

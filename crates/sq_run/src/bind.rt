@@ -3,19 +3,19 @@ ghost use Rattle.std.specs.Prelude.{◌≡◌, ◌<◌, Some, true, length, IfOk
 ghost use Rattle.std.specs.Option.{option_copied};
 ghost use Rattle.std.specs.List.{filter_map};
 ghost use Rattle.sq_first.specs.ModuleText as spec;
-ghost use Rattle.sq_model.specs.Program as model;
-ghost use Rattle.sq_model.specs.Machine.{is_among};
-ghost use Rattle.sq_model.specs.Script.{table_count};
-ghost use Rattle.sq_model.specs.Program.{each_known};
+ghost use Rattle.sq_first.specs.Program as model;
+ghost use Rattle.sq_first.specs.Machine.{is_among};
+ghost use Rattle.sq_first.specs.Script.{table_count};
+ghost use Rattle.sq_first.specs.Program.{each_known};
 ghost use Rattle.sq_run.specs.Places.{cursor_names};
 
 use crate::places::Places;
 use sq_first::{
-    Cursor, FetchStatement, Names, Parameter, Procedure, Schema, Statement, TableDefinition,
+    BoundCursor, BoundFetch, BoundProcedure, BoundStatement, Cursor, FetchStatement, Names,
+    Parameter, Procedure, Schema, Statement, TableDefinition, Target,
 };
 use sq_items::Items;
 use sq_lex::Name;
-use sq_model::{BoundCursor, BoundFetch, BoundProcedure, BoundStatement, Target};
 use std::alloc::{AllocError, Global};
 
 /// The schema's table, where it is this user's.

@@ -1,9 +1,9 @@
 //! Looking up the names of a script's items.
 ghost use Rattle.std.specs.Prelude.{◌≡◌, Some, IfErr, IfOk, IfSome};
 ghost use Rattle.std.specs.Option.{option_copied};
-ghost use Rattle.sq_model.specs.Script as model;
-ghost use Rattle.sq_model.specs.Script.{procedures_of};
-ghost use Rattle.sq_model.specs.Program.{each_known};
+ghost use Rattle.sq_first.specs.Script as model;
+ghost use Rattle.sq_first.specs.Script.{procedures_of};
+ghost use Rattle.sq_first.specs.Program.{each_known};
 ghost use Rattle.std.specs.Result.{result_ok};
 ghost use Rattle.sq_value.specs.Storing as spec;
 ghost use Rattle.sq_run.specs.Fault.{IsItemMeaning};
@@ -12,9 +12,11 @@ ghost use Rattle.sq_run.specs.Places.{procedure_names};
 use crate::bind::{named, table_of};
 use crate::places::Places;
 use crate::refusal::RefusalName;
-use sq_first::{Argument, Arguments, Call, Item, Schema, Sign, TableItem};
+use sq_first::{
+    Action, Argument, Arguments, BoundModule, BoundProcedure, Call, CallAction, Item, Schema, Sign,
+    TableItem,
+};
 use sq_items::Items;
-use sq_model::{Action, BoundModule, BoundProcedure, CallAction};
 use sq_value::{Decimal, Domain, StoreFault, Value, store};
 use std::alloc::{AllocError, AllocFailed, Global};
 

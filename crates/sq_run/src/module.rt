@@ -1,19 +1,21 @@
 //! Looking up the names of a whole module, and what the first language asks of it.
 ghost use Rattle.std.specs.Prelude.{◌≡◌, ◌<◌, ◌++◌, ◌∷◌, [], Some, true, length, IfOk, IsSome, OnOk};
 ghost use Rattle.std.specs.Option.{option_copied};
-ghost use Rattle.sq_model.specs.Script as model;
-ghost use Rattle.sq_model.specs.Script.{all_among, table_count};
-ghost use Rattle.sq_model.specs.Machine.{is_among};
-ghost use Rattle.sq_model.specs.Program as program;
-ghost use Rattle.sq_model.specs.Program.{bound_cursors_in, bound_procedures_in};
+ghost use Rattle.sq_first.specs.Script as model;
+ghost use Rattle.sq_first.specs.Script.{all_among, table_count};
+ghost use Rattle.sq_first.specs.Machine.{is_among};
+ghost use Rattle.sq_first.specs.Program as program;
+ghost use Rattle.sq_first.specs.Program.{bound_cursors_in, bound_procedures_in};
 ghost use Rattle.sq_run.specs.Places.{cursor_names, procedure_names};
 
 use crate::bind::{bind_cursor, bind_procedure, parameter_names};
 use crate::places::Places;
-use sq_first::{Cursor, Module, Names, Part, Procedure, Statement, TableDefinition};
+use sq_first::{
+    BoundCursor, BoundModule, BoundProcedure, BoundStatement, Cursor, Module, Names, Part,
+    Procedure, Statement, TableDefinition,
+};
 use sq_items::Items;
 use sq_lex::Name;
-use sq_model::{BoundCursor, BoundModule, BoundProcedure, BoundStatement};
 use std::alloc::{AllocError, AllocFailed, Global};
 
 /// The most columns, targets and parameters.

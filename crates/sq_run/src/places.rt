@@ -1,6 +1,6 @@
 //! Names that are looked up by themselves.
 ghost use Rattle.std.specs.Prelude.{◌≡◌, ◌<◌, ◌++◌, ◌∷◌, [], length, is_none, IfOk, IfSome, OnOk};
-ghost use Rattle.sq_model.specs.Program as model;
+ghost use Rattle.sq_first.specs.Program as model;
 
 use sq_lex::Name;
 use std::alloc::{AllocError, Global};

@@ -6,8 +6,8 @@ ghost use Rattle.sq_tree.specs.Schema.{schema_tokens, schema_depth};
 ghost use Rattle.sq_tree.specs.Module.{module_tokens, module_depth};
 ghost use Rattle.sq_part.specs.Schema.{first_schema};
 ghost use Rattle.sq_part.specs.Module.{first_module};
-ghost use Rattle.sq_model.specs.Script as model;
-ghost use Rattle.sq_model.specs.Script.{IsBound, all_among, can_perform, cursors_of, procedures_of, table_count, schema_table};
+ghost use Rattle.sq_first.specs.Script as model;
+ghost use Rattle.sq_first.specs.Script.{IsBound, all_among, can_perform, cursors_of, procedures_of, table_count, schema_table};
 ghost use Rattle.sq_tree.specs.Script.{script_tokens, script_depth};
 ghost use Rattle.sq_run.specs.Fault.{IsOfMeaning, FirstRefused, SomeRefused};
 ghost use Rattle.sq_run.specs.Refused.{RefusedText};
@@ -20,9 +20,8 @@ use crate::items::{ItemFault, action_of};
 use crate::module::{MOST_NAMES, ModuleFault, are_distinct, bind_module, procedure_places};
 use crate::refusal::{RefusalName, RunFault};
 use crate::texts::{Text, TextFault, module_of, refused_at, schema_of, script_of};
-use sq_first::{Module, Schema, Script};
+use sq_first::{Action, BoundModule, BoundProcedure, Module, Schema, Script};
 use sq_items::Items;
-use sq_model::{Action, BoundModule, BoundProcedure};
 use std::alloc::Global;
 
 /// The trees of all texts, and what their names mean.

@@ -2,12 +2,12 @@
 ghost use Rattle.std.specs.Prelude.{◌≡◌, ◌++◌, ◌<◌, length, map, OnOk, IfOk};
 ghost use Rattle.std.specs.List.{flat_map};
 ghost use Rattle.sq_store.specs.Content.{table_at};
-ghost use Rattle.sq_model.specs.Report as model;
+ghost use Rattle.sq_first.specs.Report as model;
 ghost use Rattle.sq_run.specs.Lent.{lent};
 
 use crate::session::rows_of;
+use sq_first::{CallAction, Output, Reply, Status};
 use sq_lex::Name;
-use sq_model::{CallAction, Output, Reply, Status};
 use sq_store::Store;
 use sq_value::{Row, Value};
 use std::alloc::{AllocError, Global};

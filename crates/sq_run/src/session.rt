@@ -1,16 +1,16 @@
 ghost use Rattle.std.specs.Prelude.{◌≡◌, ◌<◌, ◌≤◌, replicate, true, [], length, map, slice_get, slice_index_or, ◌^◌, IfOk, IfSome, OnErr, OnOk};
 ghost use Rattle.sq_store.specs.Content.{no_rows, table_at};
 ghost use Rattle.sq_run.specs.Lent.{lent};
-ghost use Rattle.sq_model.specs.Machine as machine;
-ghost use Rattle.sq_model.specs.Report as report;
-ghost use Rattle.sq_model.specs.Machine.{stepped, replied, is_among, outputs_of, row_under};
+ghost use Rattle.sq_first.specs.Machine as machine;
+ghost use Rattle.sq_first.specs.Report as report;
+ghost use Rattle.sq_first.specs.Machine.{stepped, replied, is_among, outputs_of, row_under};
 
 use crate::report::table_lines;
-use sq_items::Items;
-use sq_lex::Name;
-use sq_model::{
+use sq_first::{
     BoundFetch, BoundStatement, CursorState, OpenCursor, Output, Reply, Status, Target,
 };
+use sq_items::Items;
+use sq_lex::Name;
 use sq_store::{ApplyFault, Change, MOST_ROW_NUMBERS, Meter, Store};
 use sq_value::{Row, Value};
 use std::alloc::{AllocError, Global};
@@ -24,7 +24,7 @@ pub(crate) struct Session<S: Store> {
 }
 
 impl<S: Store> Model for Session<S> {
-    ghost use Rattle.sq_model.specs.Machine.{State};
+    ghost use Rattle.sq_first.specs.Machine.{State};
 
     ghost Value = { State };
 

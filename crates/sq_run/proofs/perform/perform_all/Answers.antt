@@ -1,6 +1,6 @@
 use Rattle.std.proofs.Common.{◌≡◌, ◌+◌, ◌++◌, length, take, arith, ap, sym, ◌∙◌, length-append}
-use Rattle.sq_model.specs.Script.{can_perform, performed, after}
-use Rattle.sq_model.specs.Report.{action_lines, report}
+use Rattle.sq_first.specs.Script.{can_perform, performed, after}
+use Rattle.sq_first.specs.Report.{action_lines, report}
 use Rattle.sq_run.proofs.Runs.{performed_shape, shape_then, after_more, report_more, appends_more, stopped_write, all_at}
 use Rattle.sq_run.proofs.perform.perform_all.Goals as goal
 

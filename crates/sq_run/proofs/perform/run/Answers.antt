@@ -1,4 +1,4 @@
-use Rattle.sq_model.specs.Script.{procedures_of, first_state}
+use Rattle.sq_first.specs.Script.{procedures_of, first_state}
 use Rattle.sq_run.specs.Run.{texts}
 use Rattle.sq_run.proofs.Refused.{refused_none}
 use Rattle.sq_run.proofs.Wrote.{wrote_all, wrote_some}

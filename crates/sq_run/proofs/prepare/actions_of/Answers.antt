@@ -1,7 +1,7 @@
 use Rattle.std.proofs.Common.{length, arith}
 use Rattle.std.specs.Option.{option_copied}
 use Rattle.std.proofs.lemmas.Grind.{common_steps}
-use Rattle.sq_model.specs.Script.{cursors_of}
+use Rattle.sq_first.specs.Script.{cursors_of}
 use Rattle.sq_run.proofs.Can.{can_action}
 use Rattle.sq_run.proofs.prepare.actions_of.Goals as goal
 

@@ -5,15 +5,15 @@ use Rattle.sq_value.specs.declared.value.Value.TheVariants.{Null}
 use Rattle.sq_store.specs.Content.{Content, table_at, inserted, with_table, first_from}
 use Rattle.sq_store.specs.declared.table.Table.{Table}
 use Rattle.sq_store.specs.declared.table.Numbered.{Numbered}
-use Rattle.sq_model.specs.declared.cursor.CursorState.{CursorState}
-use Rattle.sq_model.specs.declared.cursor.CursorState.TheVariants.{Closed, Open as Opened}
-use Rattle.sq_model.specs.declared.reply.Reply.{Reply}
-use Rattle.sq_model.specs.declared.reply.Output.{Output}
-use Rattle.sq_model.specs.declared.reply.Status.{Status}
-use Rattle.sq_model.specs.declared.reply.Status.TheVariants.{SuccessfulCompletion, NoData, InvalidCursorState, NoRowNumberLeft}
-use Rattle.sq_model.specs.declared.program.BoundStatement.{BoundStatement}
-use Rattle.sq_model.specs.declared.program.BoundStatement.TheVariants.{Insert, Open, Fetch, Close}
-use Rattle.sq_model.specs.declared.program.Target.{Target}
+use Rattle.sq_first.specs.declared.cursor.CursorState.{CursorState}
+use Rattle.sq_first.specs.declared.cursor.CursorState.TheVariants.{Closed, Open as Opened}
+use Rattle.sq_first.specs.declared.reply.Reply.{Reply}
+use Rattle.sq_first.specs.declared.reply.Output.{Output}
+use Rattle.sq_first.specs.declared.reply.Status.{Status}
+use Rattle.sq_first.specs.declared.reply.Status.TheVariants.{SuccessfulCompletion, NoData, InvalidCursorState, NoRowNumberLeft}
+use Rattle.sq_first.specs.declared.program.BoundStatement.{BoundStatement}
+use Rattle.sq_first.specs.declared.program.BoundStatement.TheVariants.{Insert, Open, Fetch, Close}
+use Rattle.sq_first.specs.declared.program.Target.{Target}
 
 -- the tables now, each cursor of the module, and the greatest number that a row may have
 pub record State : Type 0 where

@@ -26,16 +26,16 @@ use Rattle.sq_first.specs.declared.script.Argument.{Argument}
 use Rattle.sq_first.specs.declared.script.Argument.TheVariants as argument
 use Rattle.sq_first.specs.declared.script.Sign.{Sign}
 use Rattle.sq_first.specs.declared.script.Sign.TheVariants.{Plus, Minus}
-use Rattle.sq_model.specs.Program.{◌>>=◌, guarded, each_known, same_name, table_of, named, bound_cursors_in, bound_procedures_in}
-use Rattle.sq_model.specs.Machine.{State, Values, stepped, is_among}
-use Rattle.sq_model.specs.declared.cursor.CursorState.TheVariants.{Closed}
-use Rattle.sq_model.specs.declared.program.BoundModule.{BoundModule}
-use Rattle.sq_model.specs.declared.program.BoundCursor.{BoundCursor}
-use Rattle.sq_model.specs.declared.program.BoundStatement.{BoundStatement}
-use Rattle.sq_model.specs.declared.program.BoundProcedure.{BoundProcedure}
-use Rattle.sq_model.specs.declared.program.Action.{Action}
-use Rattle.sq_model.specs.declared.program.Action.TheVariants.{Call as Calls, Show as Shows}
-use Rattle.sq_model.specs.declared.program.CallAction.{CallAction}
+use Rattle.sq_first.specs.Program.{◌>>=◌, guarded, each_known, same_name, table_of, named, bound_cursors_in, bound_procedures_in}
+use Rattle.sq_first.specs.Machine.{State, Values, stepped, is_among}
+use Rattle.sq_first.specs.declared.cursor.CursorState.TheVariants.{Closed}
+use Rattle.sq_first.specs.declared.program.BoundModule.{BoundModule}
+use Rattle.sq_first.specs.declared.program.BoundCursor.{BoundCursor}
+use Rattle.sq_first.specs.declared.program.BoundStatement.{BoundStatement}
+use Rattle.sq_first.specs.declared.program.BoundProcedure.{BoundProcedure}
+use Rattle.sq_first.specs.declared.program.Action.{Action}
+use Rattle.sq_first.specs.declared.program.Action.TheVariants.{Call as Calls, Show as Shows}
+use Rattle.sq_first.specs.declared.program.CallAction.{CallAction}
 
 -- ---- the program
 

@@ -17,11 +17,11 @@ use Rattle.sq_first.specs.declared.module_text.Parameter.TheVariants.{Sqlcode, N
 use Rattle.sq_first.specs.declared.module_text.Statement.{Statement}
 use Rattle.sq_first.specs.declared.module_text.Statement.TheVariants as statement
 use Rattle.sq_first.specs.declared.module_text.FetchStatement.{FetchStatement}
-use Rattle.sq_model.specs.declared.program.BoundCursor.{BoundCursor}
-use Rattle.sq_model.specs.declared.program.BoundProcedure.{BoundProcedure}
-use Rattle.sq_model.specs.declared.program.BoundStatement.{BoundStatement}
-use Rattle.sq_model.specs.declared.program.BoundStatement.TheVariants.{Insert, Open, Fetch, Close}
-use Rattle.sq_model.specs.declared.program.Target.{Target}
+use Rattle.sq_first.specs.declared.program.BoundCursor.{BoundCursor}
+use Rattle.sq_first.specs.declared.program.BoundProcedure.{BoundProcedure}
+use Rattle.sq_first.specs.declared.program.BoundStatement.{BoundStatement}
+use Rattle.sq_first.specs.declared.program.BoundStatement.TheVariants.{Insert, Open, Fetch, Close}
+use Rattle.sq_first.specs.declared.program.Target.{Target}
 
 infixl 10 ◌>>=◌
 abbrev pub ◌>>=◌ : {A B : Type 0} → Option A → (A → Option B) → Option B

@@ -4,14 +4,14 @@ use Rattle.std.specs.Fmt.{digits}
 use Rattle.sq_value.specs.declared.value.Value.{Value}
 use Rattle.sq_value.specs.declared.value.Value.TheVariants.{Num}
 use Rattle.sq_store.specs.Content.{no_rows}
-use Rattle.sq_model.specs.Machine.{State, Values}
-use Rattle.sq_model.specs.Report.{report}
-use Rattle.sq_model.specs.declared.cursor.CursorState.TheVariants.{Closed}
-use Rattle.sq_model.specs.declared.program.Action.{Action}
-use Rattle.sq_model.specs.declared.program.Action.TheVariants.{Call, Show}
-use Rattle.sq_model.specs.declared.program.BoundProcedure.{BoundProcedure}
-use Rattle.sq_model.specs.declared.program.BoundStatement.{BoundStatement}
-use Rattle.sq_model.specs.declared.program.BoundStatement.TheVariants.{Insert, Open, Fetch, Close}
+use Rattle.sq_first.specs.Machine.{State, Values}
+use Rattle.sq_first.specs.Report.{report}
+use Rattle.sq_first.specs.declared.cursor.CursorState.TheVariants.{Closed}
+use Rattle.sq_first.specs.declared.program.Action.{Action}
+use Rattle.sq_first.specs.declared.program.Action.TheVariants.{Call, Show}
+use Rattle.sq_first.specs.declared.program.BoundProcedure.{BoundProcedure}
+use Rattle.sq_first.specs.declared.program.BoundStatement.{BoundStatement}
+use Rattle.sq_first.specs.declared.program.BoundStatement.TheVariants.{Insert, Open, Fetch, Close}
 
 abbrev procedures : List BoundProcedure
 procedures =

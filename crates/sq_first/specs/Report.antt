@@ -8,17 +8,17 @@ use Rattle.sq_value.specs.declared.value.Value.{Value}
 use Rattle.sq_value.specs.declared.value.Value.TheVariants.{Null, Num, Chars}
 use Rattle.sq_store.specs.declared.table.Table.{Table}
 use Rattle.sq_store.specs.declared.table.Numbered.{Numbered}
-use Rattle.sq_model.specs.Machine.{State, Values, replied, replied_with, the_table}
-use Rattle.sq_model.specs.Script.{performed, statement_at}
-use Rattle.sq_model.specs.declared.reply.Reply.{Reply}
-use Rattle.sq_model.specs.declared.reply.Output.{Output}
-use Rattle.sq_model.specs.declared.reply.Status.{Status}
-use Rattle.sq_model.specs.declared.reply.Status.TheVariants.{SuccessfulCompletion, NoData, InvalidCursorState, NoRowNumberLeft}
-use Rattle.sq_model.specs.declared.program.BoundProcedure.{BoundProcedure}
-use Rattle.sq_model.specs.declared.program.BoundStatement.{BoundStatement}
-use Rattle.sq_model.specs.declared.program.Action.{Action}
-use Rattle.sq_model.specs.declared.program.Action.TheVariants.{Call, Show}
-use Rattle.sq_model.specs.declared.program.CallAction.{CallAction}
+use Rattle.sq_first.specs.Machine.{State, Values, replied, replied_with, the_table}
+use Rattle.sq_first.specs.Script.{performed, statement_at}
+use Rattle.sq_first.specs.declared.reply.Reply.{Reply}
+use Rattle.sq_first.specs.declared.reply.Output.{Output}
+use Rattle.sq_first.specs.declared.reply.Status.{Status}
+use Rattle.sq_first.specs.declared.reply.Status.TheVariants.{SuccessfulCompletion, NoData, InvalidCursorState, NoRowNumberLeft}
+use Rattle.sq_first.specs.declared.program.BoundProcedure.{BoundProcedure}
+use Rattle.sq_first.specs.declared.program.BoundStatement.{BoundStatement}
+use Rattle.sq_first.specs.declared.program.Action.{Action}
+use Rattle.sq_first.specs.declared.program.Action.TheVariants.{Call, Show}
+use Rattle.sq_first.specs.declared.program.CallAction.{CallAction}
 
 abbrev pub Bytes : Type 0
 Bytes = List ℕ

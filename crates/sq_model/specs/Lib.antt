@@ -1,4 +1,0 @@
-pub mod Program
-pub mod Machine
-pub mod Script
-pub mod Report
