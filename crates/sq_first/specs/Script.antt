@@ -67,7 +67,7 @@ cursors_of (Some m) = m.cursors
 -- at first every table is empty and every cursor closed
 abbrev pub first_state : Option Schema → Option BoundModule → ℕ → State
 first_state schema bound row_numbers = record {
-  now = no_rows (table_count (schema_table schema));
+  tables = no_rows (table_count (schema_table schema));
   cursors = replicate (length (cursors_of bound)) Closed;
   row_numbers = row_numbers;
 }

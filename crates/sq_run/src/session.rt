@@ -28,7 +28,7 @@ impl<S: Store> Model for Session<S> {
 
     ghost Value = { State };
 
-    ghost view = { λ s. record { now = S.content_now s.store; cursors = s.cursors.items; row_numbers = S.row_numbers s.store } };
+    ghost view = { λ s. record { tables = S.content_now s.store; cursors = s.cursors.items; row_numbers = S.row_numbers s.store } };
 }
 
 impl<S: Store> Session<S> {
@@ -41,7 +41,7 @@ impl<S: Store> Session<S> {
     ) -> Result<Session<S>, AllocError>
         requires { row_numbers ≤ MOST_ROW_NUMBERS }
         ensures { IfOk result (λ session. session
-            ≡ record { now = no_rows tables; cursors = replicate cursors CursorState.Closed; row_numbers = row_numbers }) }
+            ≡ record { tables = no_rows tables; cursors = replicate cursors CursorState.Closed; row_numbers = row_numbers }) }
     {
         Ok(Session {
             store: S::new(alloc, no_keys(alloc, tables)?.as_slice(), row_numbers)?,
@@ -56,7 +56,7 @@ impl<S: Store> Session<S> {
         statement: &BoundStatement,
         values: &[Value],
     ) -> Result<Reply, AllocError>
-        requires { is_among (length self.old.now) (length self.old.cursors) statement.now ≡ true }
+        requires { is_among (length self.old.tables) (length self.old.cursors) statement.now ≡ true }
         ensures state { OnOk result (self.new ≡ stepped self.old statement.now values.now) }
         ensures reply { IfOk result (λ reply. reply ≡ replied self.old statement.now values.now) }
         ensures err { OnErr result (self.new ≡ self.old) }
@@ -76,7 +76,7 @@ impl<S: Store> Session<S> {
         user: Name,
         table: Name,
     ) -> Result<Vec<u8>, AllocError>
-        requires { 0 < length self.now.now }
+        requires { 0 < length self.now.tables }
         ensures { IfOk result (λ lines. lines.items ≡ report.table_lines user table (machine.the_table self.now)) }
     {
         table_lines(alloc, &self.store, user, table)
@@ -88,7 +88,7 @@ impl<S: Store> Session<S> {
         places: &[usize],
         values: &[Value],
     ) -> Result<Reply, AllocError>
-        requires { 0 < length self.old.now }
+        requires { 0 < length self.old.tables }
         ensures state { OnOk result (self.new ≡ stepped self.old (BoundStatement.Insert places.now) values.now) }
         ensures reply { IfOk result (λ reply. reply ≡ replied self.old (BoundStatement.Insert places.now) values.now) }
         ensures err { OnErr result (self.new ≡ self.old) }
@@ -106,7 +106,7 @@ impl<S: Store> Session<S> {
     }
 
     fn open(&mut self, alloc: Global, place: usize) -> Result<Reply, AllocError>
-        requires table { 0 < length self.old.now }
+        requires table { 0 < length self.old.tables }
         requires cursor { place < length self.old.cursors }
         ensures state { OnOk result (self.new ≡ stepped self.old (BoundStatement.Open place) []) }
         ensures reply { IfOk result (λ reply. reply ≡ replied self.old (BoundStatement.Open place) []) }
@@ -125,7 +125,7 @@ impl<S: Store> Session<S> {
 
     #[tactic(auto, using(crate::proofs::Known::knowns, std::proofs::lemmas::Grind::common_steps))]
     fn fetch(&mut self, alloc: Global, fetch: &BoundFetch) -> Result<Reply, AllocError>
-        requires table { 0 < length self.old.now }
+        requires table { 0 < length self.old.tables }
         requires cursor { fetch.now.cursor < length self.old.cursors }
         ensures state { OnOk result (self.new ≡ stepped self.old (BoundStatement.Fetch fetch.now) []) }
         ensures reply { IfOk result (λ reply. reply ≡ replied self.old (BoundStatement.Fetch fetch.now) []) }

@@ -1,5 +1,7 @@
-ghost use Rattle.std.specs.Prelude.{◌≡◌, ◌≤◌};
-ghost use Rattle.sqmod.specs.Status.{ended_with};
+//! A request, from its files to the report on standard output.
+ghost use Rattle.std.specs.Prelude.{◌≡◌, ◌≤◌, length, IfErr};
+ghost use Rattle.sqmod.specs.Request as spec;
+ghost use Rattle.sqmod.specs.Texts.{NamesFile};
 
 use crate::command_line::Request;
 use crate::fault::{Fault, Source};
@@ -16,6 +18,7 @@ pub(crate) fn run_request<R: Files + Print + AllocGlobal>(
     request: &Request<'_>,
 ) -> Result<(), Fault>
     requires { request.now.row_numbers ≤ MOST_ROW_NUMBERS }
+    ensures { IfErr result (NamesFile request.now) }
 {
     let texts = read_texts(rt, request)?;
     let limits = Limits {
@@ -28,9 +31,9 @@ pub(crate) fn run_request<R: Files + Print + AllocGlobal>(
 }
 
 /// How a request ends, by its run and the flush after it. A refusal has written nothing and stays; after any other run a
-/// flush that fails goes first, since lines are then missing.
+/// flush that fails takes precedence, since lines are then missing.
 fn ended(ran: Result<(), Fault>, flushed: Result<(), Fault>) -> Result<(), Fault>
-    ensures { result ≡ ended_with ran flushed }
+    ensures { result ≡ spec.ended_with ran flushed }
 {
     match ran {
         Err(Fault::Refused(_, _)) => ran,
@@ -59,7 +62,9 @@ fn run_texts<W: Write>(
 }
 
 /// What a fault of a run means for the program.
-fn fault_of(fault: RunFault) -> Fault {
+fn fault_of(fault: RunFault) -> Fault
+    ensures { result ≡ spec.fault_of fault }
+{
     match fault {
         RunFault::SchemaRefused(refusal) => Fault::Refused(Source::Schema(refusal.text), refusal),
         RunFault::ModuleRefused(refusal) => Fault::Refused(Source::Module(refusal.text), refusal),
