@@ -94,8 +94,13 @@ fn declarations(alloc: Global, tokens: &mut Reader<'_>) -> Result<Declarations, 
 {
     if tokens.eat(Symbol::Open) {
         let declarations = bracketed_declarations(alloc, tokens)?;
-        tokens.expect(Symbol::Close)?;
-        return Ok(Declarations::Bracketed(declarations));
+        return match tokens.expect(Symbol::Close) {
+            Ok(()) => Ok(Declarations::Bracketed(declarations)),
+            Err(stop) => {
+                drop(declarations);
+                Err(stop)
+            }
+        };
     }
     let first = declaration(tokens)?;
     let rest = bare_declarations(alloc, tokens)?;
@@ -112,14 +117,29 @@ fn procedure(alloc: Global, tokens: &mut Reader<'_>, left: usize) -> Result<Proc
 {
     let name = tokens.name()?;
     let declarations = declarations(alloc, tokens)?;
-    tokens.expect(Symbol::Semicolon)?;
-    let statement = statement(alloc, tokens, left)?;
-    tokens.expect(Symbol::Semicolon)?;
-    Ok(Procedure {
-        name,
-        declarations,
-        statement,
-    })
+    if let Err(stop) = tokens.expect(Symbol::Semicolon) {
+        drop(declarations);
+        return Err(stop);
+    }
+    let statement = match statement(alloc, tokens, left) {
+        Ok(statement) => statement,
+        Err(stop) => {
+            drop(declarations);
+            return Err(stop);
+        }
+    };
+    match tokens.expect(Symbol::Semicolon) {
+        Ok(()) => Ok(Procedure {
+            name,
+            declarations,
+            statement,
+        }),
+        Err(stop) => {
+            drop(declarations);
+            drop(statement);
+            Err(stop)
+        }
+    }
 }
 
 #[tactic(auto, unfolding(sq_grammar::specs::Module::sort_key))]
@@ -193,7 +213,10 @@ fn ordered_query(
     let query = query(alloc, tokens, left)?;
     match order_by(alloc, tokens) {
         Ok(order_by) => Ok((query, order_by)),
-        Err(stop) => Err(stop),
+        Err(stop) => {
+            drop(query);
+            Err(stop)
+        }
     }
 }
 

@@ -45,8 +45,13 @@ fn arguments(alloc: Global, tokens: &mut Reader<'_>) -> Result<Arguments, Stop>
         return Ok(Arguments::Empty);
     }
     let arguments = listed_arguments(alloc, tokens)?;
-    tokens.expect(Symbol::Close)?;
-    Ok(Arguments::Listed(arguments))
+    match tokens.expect(Symbol::Close) {
+        Ok(()) => Ok(Arguments::Listed(arguments)),
+        Err(stop) => {
+            drop(arguments);
+            Err(stop)
+        }
+    }
 }
 
 #[tactic(auto, unfolding(sq_grammar::specs::Script::two_names))]
@@ -98,8 +103,13 @@ fn item(alloc: Global, tokens: &mut Reader<'_>) -> Result<Option<ScriptItem>, St
     }
     let (module, procedure) = two_names(tokens)?;
     let arguments = arguments(alloc, tokens)?;
-    tokens.expect(Symbol::Semicolon)?;
-    Ok(Some(ScriptItem::Call(module, procedure, arguments)))
+    match tokens.expect(Symbol::Semicolon) {
+        Ok(()) => Ok(Some(ScriptItem::Call(module, procedure, arguments))),
+        Err(stop) => {
+            drop(arguments);
+            Err(stop)
+        }
+    }
 }
 
 fn all_items(alloc: Global, tokens: &mut Reader<'_>) -> Result<Items<ScriptItem>, Stop>

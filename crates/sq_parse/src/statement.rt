@@ -139,15 +139,30 @@ fn select(alloc: Global, tokens: &mut Reader<'_>, left: usize) -> Result<Select,
 {
     let quantifier = quantifier_if_any(tokens);
     let list = select_list(alloc, tokens, left)?;
-    tokens.expect_word(Word::Into)?;
-    let targets = targets(alloc, tokens)?;
-    let table = table_expression(alloc, tokens, left)?;
-    Ok(Select {
-        quantifier,
-        list,
-        targets,
-        table,
-    })
+    if let Err(stop) = tokens.expect_word(Word::Into) {
+        drop(list);
+        return Err(stop);
+    }
+    let targets = match targets(alloc, tokens) {
+        Ok(targets) => targets,
+        Err(stop) => {
+            drop(list);
+            return Err(stop);
+        }
+    };
+    match table_expression(alloc, tokens, left) {
+        Ok(table) => Ok(Select {
+            quantifier,
+            list,
+            targets,
+            table,
+        }),
+        Err(stop) => {
+            drop(list);
+            drop(targets);
+            Err(stop)
+        }
+    }
 }
 
 /// A value of a VALUES list, whose bracket is one of the `left` that could be opened before it.
@@ -186,8 +201,13 @@ fn insert_source(alloc: Global, tokens: &mut Reader<'_>, left: usize) -> Result<
     if tokens.eat_word(Word::Values) {
         tokens.expect(Symbol::Open)?;
         let values = listed_values(alloc, tokens, left)?;
-        tokens.expect(Symbol::Close)?;
-        return Ok(InsertSource::Values(values));
+        return match tokens.expect(Symbol::Close) {
+            Ok(()) => Ok(InsertSource::Values(values)),
+            Err(stop) => {
+                drop(values);
+                Err(stop)
+            }
+        };
     }
     let query = query_specification(alloc, tokens, left)?;
     Ok(InsertSource::Query(query))
@@ -203,12 +223,17 @@ fn insert(alloc: Global, tokens: &mut Reader<'_>, left: usize) -> Result<Insert,
     tokens.expect_word(Word::Into)?;
     let table = table_name(tokens)?;
     let columns = columns_if_any(alloc, tokens)?;
-    let source = insert_source(alloc, tokens, left)?;
-    Ok(Insert {
-        table,
-        columns,
-        source,
-    })
+    match insert_source(alloc, tokens, left) {
+        Ok(source) => Ok(Insert {
+            table,
+            columns,
+            source,
+        }),
+        Err(stop) => {
+            drop(columns);
+            Err(stop)
+        }
+    }
 }
 
 #[tactic(auto, unfolding(sq_grammar::specs::Statement::new_value))]
@@ -253,12 +278,17 @@ fn update(alloc: Global, tokens: &mut Reader<'_>, left: usize) -> Result<Update,
     let table = table_name(tokens)?;
     tokens.expect_word(Word::Set)?;
     let assignments = assignments(alloc, tokens, left)?;
-    let target = target(alloc, tokens, left)?;
-    Ok(Update {
-        table,
-        assignments,
-        target,
-    })
+    match target(alloc, tokens, left) {
+        Ok(target) => Ok(Update {
+            table,
+            assignments,
+            target,
+        }),
+        Err(stop) => {
+            drop(assignments);
+            Err(stop)
+        }
+    }
 }
 
 #[tactic(auto, unfolding(sq_grammar::specs::Statement::delete))]

@@ -49,7 +49,7 @@ pub fn parse_schema(alloc: Global, tokens: &[Token]) -> Result<SchemaText, Parse
     ensures refused { IfErr result (IsRefusal (lexemes tokens.now)) }
     ensures no_tree { IfErr result (HasNoTree schema_tokens schema_depth (lexemes tokens.now)) }
 {
-    match whole_schema(alloc, &mut Reader::new(tokens), MAX_DEPTH, MAX_DEPTH - 1) {
+    match whole_schema(alloc, &mut Reader::new(tokens), MAX_DEPTH) {
         Ok(tree) => Ok(tree),
         Err(stop) => Err(refusal(tokens, stop)),
     }

@@ -46,7 +46,10 @@ impl<F: Fn(Global, &mut Reader<'_>, usize) -> Result<Query, Stop>> Grammar<F> {
         let query = self.inner_query(tokens)?;
         match tokens.expect(Symbol::Close) {
             Ok(()) => Ok(query),
-            Err(stop) => Err(stop),
+            Err(stop) => {
+                drop(query);
+                Err(stop)
+            }
         }
     }
 
@@ -113,7 +116,10 @@ impl<F: Fn(Global, &mut Reader<'_>, usize) -> Result<Query, Stop>> Grammar<F> {
         let first = self.query_term(tokens)?;
         match self.more_terms(tokens) {
             Ok(rest) => Ok(Query { first, rest }),
-            Err(stop) => Err(stop),
+            Err(stop) => {
+                drop(first);
+                Err(stop)
+            }
         }
     }
 }
