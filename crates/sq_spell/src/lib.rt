@@ -5,14 +5,15 @@ mod cond;
 mod data_type;
 mod expr;
 mod list;
-mod measure;
 mod module;
 mod names;
 mod query;
 mod schema;
 mod script;
+mod sink;
+mod sinks;
 mod statement;
 mod tree;
-mod writer;
 
+pub use sink::Sink;
 pub use tree::{Tree, depth, token_count, write_tokens};

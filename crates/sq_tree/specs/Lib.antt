@@ -9,3 +9,4 @@ pub mod Statement
 pub mod Module
 pub mod Schema
 pub mod Script
+pub mod Brackets
