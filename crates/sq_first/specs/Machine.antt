@@ -100,7 +100,7 @@ replied s (Open place) values = replied_with (if is_open (cursor_at s place) the
 replied s (Fetch f) values = fetched (the_table s) f.targets (cursor_at s f.cursor)
 replied s (Close place) values = replied_with (if is_open (cursor_at s place) then SuccessfulCompletion else InvalidCursorState)
 
--- whether the table and the cursor that a statement speaks of are among so many
+-- whether the table and the cursor that a statement speaks of are among this many
 abbrev pub is_among : ℕ → ℕ → BoundStatement → Bool
 is_among tables cursors (Insert places) = nat_lt 0 tables
 is_among tables cursors (Open place) = nat_lt 0 tables && nat_lt place cursors

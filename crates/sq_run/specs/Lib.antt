@@ -4,4 +4,5 @@ pub mod Places
 pub mod Prepared
 pub mod Refused
 pub mod Run
+pub mod Session
 pub mod Stop

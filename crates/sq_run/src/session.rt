@@ -1,6 +1,8 @@
-ghost use Rattle.std.specs.Prelude.{◌≡◌, ◌<◌, ◌≤◌, replicate, true, [], length, map, slice_get, slice_index_or, ◌^◌, IfOk, IfSome, OnErr, OnOk};
+//! The tables and cursors of a run, and the calls that work on them.
+ghost use Rattle.std.specs.Prelude.{◌≡◌, ◌<◌, ◌≤◌, replicate, false, true, [], length, map, slice_get, slice_index_or, ◌^◌, IfOk, IfSome, IsOk, OnErr, OnOk};
 ghost use Rattle.sq_store.specs.Content.{no_rows, table_at};
 ghost use Rattle.sq_run.specs.Lent.{lent};
+ghost use Rattle.sq_run.specs.Session.{takes_memory};
 ghost use Rattle.sq_first.specs.Machine as machine;
 ghost use Rattle.sq_first.specs.Report as report;
 ghost use Rattle.sq_first.specs.Machine.{stepped, replied, is_among, outputs_of, row_under};
@@ -32,7 +34,7 @@ impl<S: Store> Model for Session<S> {
 }
 
 impl<S: Store> Session<S> {
-    /// A session over empty tables, with so many cursors, all closed.
+    /// A session over this many empty tables and closed cursors.
     pub(crate) fn new(
         alloc: Global,
         tables: usize,
@@ -49,7 +51,7 @@ impl<S: Store> Session<S> {
         })
     }
 
-    /// Makes one call; want of memory changes nothing.
+    /// Makes one call. Running out of memory changes nothing.
     pub(crate) fn call(
         &mut self,
         alloc: Global,
@@ -60,6 +62,7 @@ impl<S: Store> Session<S> {
         ensures state { OnOk result (self.new ≡ stepped self.old statement.now values.now) }
         ensures reply { IfOk result (λ reply. reply ≡ replied self.old statement.now values.now) }
         ensures err { OnErr result (self.new ≡ self.old) }
+        ensures memory { takes_memory statement.now ≡ false → IsOk result }
     {
         match statement {
             BoundStatement::Insert(places) => self.insert(alloc, places.as_slice(), values),
@@ -161,7 +164,7 @@ impl<S: Store> Session<S> {
     }
 }
 
-/// For each of so many tables that it has no keys.
+/// No keys, for each of this many tables.
 fn no_keys(alloc: Global, tables: usize) -> Result<Vec<Vec<Vec<usize>>>, AllocError>
     ensures { IfOk result (λ keys. length keys.items ≡ tables) }
 {

@@ -12,13 +12,15 @@ use std::alloc::Global;
 use std::io::{self, BufWriter, Write};
 use std::rt::Files;
 
-/// Reads a request's files, runs the script and writes the report to standard output.
+/// Reads a request's files, runs the script and writes the report to standard output. A fault that speaks of a text
+/// speaks of one of the request's.
+#[tactic(auto, using(crate::proofs::Named::ended_is_named, crate::proofs::Named::unread_is_named))]
 pub(crate) fn run_request<R: Files + Print + AllocGlobal>(
     rt: &R,
     request: &Request<'_>,
 ) -> Result<(), Fault>
     requires { request.now.row_numbers ≤ MOST_ROW_NUMBERS }
-    ensures { IfErr result (NamesFile request.now) }
+    ensures { IfErr result (NamesFile (length request.now.schemas.items) (length request.now.modules.items)) }
 {
     let texts = read_texts(rt, request)?;
     let limits = Limits {
@@ -41,6 +43,7 @@ fn ended(ran: Result<(), Fault>, flushed: Result<(), Fault>) -> Result<(), Fault
     }
 }
 
+#[tactic(auto, using(crate::proofs::Named::refused_is_named))]
 fn run_texts<W: Write>(
     alloc: Global,
     texts: &Texts,
@@ -48,17 +51,18 @@ fn run_texts<W: Write>(
     writer: &mut W,
 ) -> Result<(), Fault>
     requires { limits.row_numbers ≤ MOST_ROW_NUMBERS }
+    ensures { IfErr result (NamesFile (length texts.now.schemas.items) (length texts.now.modules.items)) }
 {
     let mut out = OutOf::new(writer);
-    run::<ListStore, OutOf<&mut W>>(
+    let ran = run::<ListStore, OutOf<&mut W>>(
         alloc,
         texts.schemas.as_slice(),
         texts.modules.as_slice(),
         texts.script.as_slice(),
         limits,
         &mut out,
-    )
-    .map_err(fault_of)
+    );
+    ran.map_err(fault_of)
 }
 
 /// What a fault of a run means for the program.

@@ -22,7 +22,7 @@ pub(crate) fn read_texts<R: Files + AllocGlobal>(
 ) -> Result<Texts, Fault>
     ensures schemas { IfOk result (λ texts. length texts.schemas.items ≡ length request.now.schemas.items) }
     ensures modules { IfOk result (λ texts. length texts.modules.items ≡ length request.now.modules.items) }
-    ensures unread { IfErr result (spec.IsUnread request.now) }
+    ensures unread { IfErr result (spec.IsUnread (length request.now.schemas.items) (length request.now.modules.items)) }
 {
     let schemas = match read_all(rt, request.schemas.as_slice()) {
         Ok(schemas) => schemas,
