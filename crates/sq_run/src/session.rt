@@ -2,10 +2,10 @@
 ghost use Rattle.std.specs.Prelude.{◌≡◌, ◌<◌, ◌≤◌, replicate, false, true, [], length, map, slice_get, slice_index_or, ◌^◌, IfOk, IfSome, IsOk, OnErr, OnOk};
 ghost use Rattle.sq_store.specs.Content.{no_rows, table_at};
 ghost use Rattle.sq_run.specs.Lent.{lent};
-ghost use Rattle.sq_run.specs.Session.{takes_memory};
 ghost use Rattle.sq_first.specs.Machine as machine;
 ghost use Rattle.sq_first.specs.Report as report;
 ghost use Rattle.sq_first.specs.Machine.{stepped, replied, is_among, outputs_of, row_under};
+ghost use Rattle.sq_run.specs.Session.{takes_memory};
 
 use crate::report::table_lines;
 use sq_first::{
@@ -164,7 +164,7 @@ impl<S: Store> Session<S> {
     }
 }
 
-/// No keys, for each of this many tables.
+/// For each of so many tables that it has no keys.
 fn no_keys(alloc: Global, tables: usize) -> Result<Vec<Vec<Vec<usize>>>, AllocError>
     ensures { IfOk result (λ keys. length keys.items ≡ tables) }
 {
