@@ -1,8 +1,9 @@
--- Round brackets. At most 32 of them may be open at once (own rule).
+-- Round brackets, of which at most MAX_DEPTH may be open at once (own rule).
 use Rattle.std.specs.Prelude.{ℕ, ◌+◌, ◌-◌, Bool, ◌&&◌, nat_eq, take, drop, fold}
 use Rattle.sq_lex.specs.declared.lexeme.Lexeme.{Lexeme}
 use Rattle.sq_lex.specs.declared.lexeme.Lexeme.TheVariants as lexeme
 use Rattle.sq_lex.specs.declared.symbol.Symbol.TheVariants as symbol
+use Rattle.sq_grammar.specs.declared.brackets.TheConstants.{MAX_DEPTH}
 use Rattle.sq_grammar.specs.Reading.{Tokens, sees}
 
 -- the brackets that are open after one more token
@@ -15,6 +16,6 @@ open_after n _ = n
 abbrev pub open_brackets : Tokens → ℕ
 open_brackets = fold open_after 0
 
--- the token at this place is an opening bracket, before which 32 are open
+-- the token at this place is an opening bracket, before which as many are open as may be
 abbrev pub is_too_deep : Tokens → ℕ → Bool
-is_too_deep ts place = sees (lexeme.Symbol symbol.Open) (drop place ts) && nat_eq (open_brackets (take place ts)) 32
+is_too_deep ts place = sees (lexeme.Symbol symbol.Open) (drop place ts) && nat_eq (open_brackets (take place ts)) MAX_DEPTH

@@ -119,8 +119,9 @@ fn all_items(alloc: Global, tokens: &mut Reader<'_>) -> Result<Items<ScriptItem>
     items(alloc, tokens, |tokens| item(alloc, tokens))
 }
 
+/// All of a script text.
 #[tactic(auto, unfolding(sq_grammar::specs::Script::script_text))]
-pub fn script_text(alloc: Global, tokens: &mut Reader<'_>) -> Result<ScriptText, Stop>
+pub fn whole_script(alloc: Global, tokens: &mut Reader<'_>) -> Result<ScriptText, Stop>
     ensures { Reads (whole spec.script_text tokens.old) result tokens.new }
 {
     let items = all_items(alloc, tokens)?;

@@ -1,5 +1,6 @@
 -- What the refusal of a text says of the text.
 use Rattle.std.specs.Prelude.{◌≡◌, ℕ, ◌<◌, List, slice_get, Option, Some, Err, ⊤}
+use Rattle.sq_grammar.specs.declared.brackets.TheConstants.{MAX_DEPTH}
 use Rattle.sq_lex.specs.declared.fault.LexFault.{LexFault}
 use Rattle.sq_lex.specs.Reading.{reading}
 use Rattle.sq_lex.specs.declared.lexeme.Lexeme.{Lexeme}
@@ -42,19 +43,19 @@ pub record IsFirstFault (text : Bytes) (refusal : Refusal) : Type 0 where
   pub line : refusal.line ≡ fault.line
   pub column : refusal.column ≡ fault.column
 
--- What a refusal says of the trees with these tokens: there is none, or only such as are more than 32 brackets deep. One of what a text means
+-- What a refusal says of the trees with these tokens: there is none, or only such as are nested deeper than brackets may be. One of what a text means
 -- says nothing of them.
 abbrev pub HasNoTree : {T : Type 0} → (T → List Lexeme) → (T → ℕ) → List Lexeme → Matter → Type 0
 HasNoTree tokens_of depth_of tokens Tokens = ⊥
 HasNoTree {T = T} tokens_of depth_of tokens Grammar = (tree : T) → tokens_of tree ≡ tokens → ⊥
-HasNoTree {T = T} tokens_of depth_of tokens Depth = (tree : T) → tokens_of tree ≡ tokens → 32 < depth_of tree
+HasNoTree {T = T} tokens_of depth_of tokens Depth = (tree : T) → tokens_of tree ≡ tokens → MAX_DEPTH < depth_of tree
 HasNoTree tokens_of depth_of tokens Meaning = ⊤
 
 -- what a refusal says of a text: its first fault, or what trees the text spells
 abbrev pub IsRefused : {T : Type 0} → (T → List Lexeme) → (T → ℕ) → Bytes → Refusal → Matter → Type 0
 IsRefused tokens_of depth_of text refusal Tokens = IsFirstFault text refusal
 IsRefused {T = T} tokens_of depth_of text refusal Grammar = (tree : T) → Spells text (tokens_of tree) → ⊥
-IsRefused {T = T} tokens_of depth_of text refusal Depth = (tree : T) → Spells text (tokens_of tree) → 32 < depth_of tree
+IsRefused {T = T} tokens_of depth_of text refusal Depth = (tree : T) → Spells text (tokens_of tree) → MAX_DEPTH < depth_of tree
 IsRefused tokens_of depth_of text refusal Meaning = ⊤
 
 -- the refused text is at its index among these
@@ -63,7 +64,7 @@ pub record OneRefused {T : Type 0} (tokens_of : T → List Lexeme) (depth_of : T
   pub there : slice_get all refusal.text ≡ Some text
   pub refused : IsRefused tokens_of depth_of text refusal (matter refusal.what)
 
--- A text is refused for its tokens only with the first fault of its reading, and for its grammar only where no tree of depth at most 32 spells it.
+-- A text is refused for its tokens only with the first fault of its reading, and for its grammar only where no tree within that depth spells it.
 abbrev pub RefusedText : List Bytes → List Bytes → Bytes → RunFault → Type 0
 RefusedText schemas modules script (SchemaRefused refusal) = OneRefused schema_tokens schema_depth schemas refusal
 RefusedText schemas modules script (ModuleRefused refusal) = OneRefused module_tokens module_depth modules refusal
