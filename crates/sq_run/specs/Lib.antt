@@ -1,5 +1,6 @@
 pub mod Fault
 pub mod Lent
+pub mod NoKeys
 pub mod Places
 pub mod Prepared
 pub mod Refused

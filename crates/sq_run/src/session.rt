@@ -1,7 +1,9 @@
 //! The tables and cursors of a run, and the calls that work on them.
 ghost use Rattle.std.specs.Prelude.{◌≡◌, ◌<◌, ◌≤◌, replicate, false, true, [], length, map, slice_get, slice_index_or, ◌^◌, IfOk, IfSome, IsOk, OnErr, OnOk};
 ghost use Rattle.sq_store.specs.Content.{no_rows, table_at};
+ghost use Rattle.sq_store.specs.Keys.{keys_of};
 ghost use Rattle.sq_run.specs.Lent.{lent};
+ghost use Rattle.sq_run.specs.NoKeys.{has_no_keys};
 ghost use Rattle.sq_first.specs.Machine as machine;
 ghost use Rattle.sq_first.specs.Report as report;
 ghost use Rattle.sq_first.specs.Machine.{stepped, replied, is_among, outputs_of, row_under};
@@ -26,11 +28,15 @@ pub(crate) struct Session<S: Store> {
 }
 
 impl<S: Store> Model for Session<S> {
+    ghost use Rattle.std.specs.Prelude.{◌≡◌, true};
     ghost use Rattle.sq_first.specs.Machine.{State};
+    ghost use Rattle.sq_run.specs.NoKeys.{has_no_keys};
 
     ghost Value = { State };
 
     ghost view = { λ s. record { tables = S.content_now s.store; cursors = s.cursors.items; row_numbers = S.row_numbers s.store } };
+
+    ghost invariant = { λ s. has_no_keys (S.key_columns s.store) ≡ true };
 }
 
 impl<S: Store> Session<S> {
@@ -85,6 +91,7 @@ impl<S: Store> Session<S> {
         table_lines(alloc, &self.store, user, table)
     }
 
+    #[tactic(auto, using(crate::proofs::NoKeys::no_keys_held, crate::proofs::NoKeys::no_keys_distinct))]
     fn insert(
         &mut self,
         alloc: Global,
@@ -104,6 +111,7 @@ impl<S: Store> Session<S> {
         changes.push(Change::Insert(row))?;
         match self.store.apply(alloc, 0, changes) {
             Ok(()) => Ok(replied_with(alloc, Status::SuccessfulCompletion)),
+            Err(ApplyFault::Duplicate) => unreachable!(),
             Err(ApplyFault::NoMemory) => Err(AllocError),
         }
     }
@@ -165,8 +173,10 @@ impl<S: Store> Session<S> {
 }
 
 /// For each of so many tables that it has no keys.
+#[tactic(auto, using(crate::proofs::NoKeys::no_keys_push))]
 fn no_keys(alloc: Global, tables: usize) -> Result<Vec<Vec<Vec<usize>>>, AllocError>
-    ensures { IfOk result (λ keys. length keys.items ≡ tables) }
+    ensures tables { IfOk result (λ keys. length keys.items ≡ tables) }
+    ensures none { IfOk result (λ keys. has_no_keys (keys_of keys.items) ≡ true) }
 {
     let mut keys = Vec::new(alloc);
     for _ in 0..tables {
