@@ -1,8 +1,8 @@
 //! Runs whose texts are refused: an element at its first token, a byte or a token of no text where it stands.
 use crate::texts::{MODULE, SCHEMA, SCRIPT, ran};
+use sq_lex::LexFaultKind::{BadByte, LongName, LongNumber, LongText, NumberThenLetter, OpenText};
 use sq_run::RefusalName::{
-    BadArguments, BadByte, EndOfText, LongName, LongNumber, LongText, NotYet, NumberThenLetter,
-    OpenText, TooDeep, Unexpected, UnknownProcedure, UnknownTable,
+    BadArguments, EndOfText, Lexical, NotYet, TooDeep, Unexpected, UnknownProcedure, UnknownTable,
 };
 use sq_run::{Refusal, RefusalName, RunFault};
 use std::alloc::{AllocError, Global};
@@ -58,25 +58,35 @@ const WHOLE_SCHEMAS: [Refused; 15] = [
         2,
         NotYet,
     ),
-    ("CREATE VIEW\nCREATE SCHEMA AUTHORIZATION #", 2, 29, BadByte),
-    ("CREATE SCHEMA AUTHORIZATION U -- \x7f", 1, 34, BadByte),
+    (
+        "CREATE VIEW\nCREATE SCHEMA AUTHORIZATION #",
+        2,
+        29,
+        Lexical(BadByte),
+    ),
+    (
+        "CREATE SCHEMA AUTHORIZATION U -- \x7f",
+        1,
+        34,
+        Lexical(BadByte),
+    ),
     (
         "CREATE SCHEMA AUTHORIZATION ABCDEFGHIJKLMNOPQRS",
         1,
         29,
-        LongName,
+        Lexical(LongName),
     ),
     (
         "CREATE SCHEMA AUTHORIZATION U\nCREATE TABLE D (A CHAR(5X))",
         2,
         24,
-        NumberThenLetter,
+        Lexical(NumberThenLetter),
     ),
     (
         "CREATE SCHEMA AUTHORIZATION U\nCREATE VIEW V AS SELECT 'A\n'",
         2,
         25,
-        OpenText,
+        Lexical(OpenText),
     ),
 ];
 
@@ -141,13 +151,13 @@ DECLARE X CURSOR FOR SELECT A FROM D; PROCEDURE Q (SQLCODE); OPEN X;",
 PROCEDURE P (SQLCODE); DELETE FROM D WHERE A = 'X",
         2,
         48,
-        OpenText,
+        Lexical(OpenText),
     ),
     (
         "COMMIT;\nPROCEDURE P (:ABCDEFGHIJKLMNOPQRS INT)",
         2,
         15,
-        LongName,
+        Lexical(LongName),
     ),
 ];
 
@@ -273,14 +283,14 @@ const SCRIPTS: [Refused; 22] = [
     (";", 1, 1, Unexpected),
     ("CALL M.ADDROW\n (1, 2)", 2, 7, EndOfText),
     ("CALL M.ADDROW (1, -", 1, 19, EndOfText),
-    ("; CALL M.ADDROW (1, 2A);", 1, 21, NumberThenLetter),
+    ("; CALL M.ADDROW (1, 2A);", 1, 21, Lexical(NumberThenLetter)),
     (
         "CALL M.ADDROW (1,\n 1234567890123456789);",
         2,
         2,
-        LongNumber,
+        Lexical(LongNumber),
     ),
-    ("CALL M.ADDROW (1, {2});", 1, 19, BadByte),
+    ("CALL M.ADDROW (1, {2});", 1, 19, Lexical(BadByte)),
 ];
 
 fn refusal(text: usize, line: usize, column: usize, what: RefusalName) -> Refusal {
@@ -426,7 +436,7 @@ fn most_of_each(rt: HostRuntime) -> Result<(), Fail> {
         let refused = Some(RunFault::ModuleRefused(place));
         assert_eq!(rt; fault, if is_taken { None } else { refused });
     }
-    for (count, what) in [(240, BadArguments), (241, LongText)] {
+    for (count, what) in [(240, BadArguments), (241, Lexical(LongText))] {
         let text = "A".repeat(alloc, count)?;
         let script = format!(in alloc; "CALL M.ADDROW (0,\n'{text}');")?;
         let fault = fault_of(alloc, &[SCHEMA], &[MODULE], script.as_str())?;
@@ -454,12 +464,12 @@ fn longest_select_list(rt: HostRuntime) -> Result<(), Fail> {
 }
 
 const NAMES: [(RefusalName, &str); 13] = [
-    (BadByte, "BadByte"),
-    (OpenText, "OpenText"),
-    (LongName, "LongName"),
-    (NumberThenLetter, "NumberThenLetter"),
-    (LongNumber, "LongNumber"),
-    (LongText, "LongText"),
+    (Lexical(BadByte), "BadByte"),
+    (Lexical(OpenText), "OpenText"),
+    (Lexical(LongName), "LongName"),
+    (Lexical(NumberThenLetter), "NumberThenLetter"),
+    (Lexical(LongNumber), "LongNumber"),
+    (Lexical(LongText), "LongText"),
     (Unexpected, "Unexpected"),
     (EndOfText, "EndOfText"),
     (NotYet, "NotYet"),
