@@ -6,8 +6,9 @@ ghost use Rattle.sqmod.specs.Texts.{NamesFile};
 use crate::command_line::Request;
 use crate::fault::{Fault, Source};
 use crate::texts::{Texts, read_texts};
+use sq_heap::HeapStore;
 use sq_run::{Limits, OutOf, RunFault, run};
-use sq_store::{ListStore, MOST_ROW_NUMBERS};
+use sq_store::MOST_ROW_NUMBERS;
 use std::alloc::Global;
 use std::io::{self, BufWriter, Write};
 use std::rt::Files;
@@ -54,7 +55,7 @@ fn run_texts<W: Write>(
     ensures { IfErr result (NamesFile (length texts.now.schemas.items) (length texts.now.modules.items)) }
 {
     let mut out = OutOf::new(writer);
-    let ran = run::<ListStore, OutOf<&mut W>>(
+    let ran = run::<HeapStore, OutOf<&mut W>>(
         alloc,
         texts.schemas.as_slice(),
         texts.modules.as_slice(),
