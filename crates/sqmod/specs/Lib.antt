@@ -1,4 +1,3 @@
 pub mod CommandLine
 pub mod Fault
 pub mod Request
-pub mod Texts

@@ -1,7 +1,6 @@
 //! A request, from its files to the report on standard output.
-ghost use Rattle.std.specs.Prelude.{◌≡◌, ◌≤◌, length, IfErr};
+ghost use Rattle.std.specs.Prelude.{◌≡◌, ◌≤◌};
 ghost use Rattle.sqmod.specs.Request as spec;
-ghost use Rattle.sqmod.specs.Texts.{NamesFile};
 
 use crate::command_line::Request;
 use crate::fault::{Fault, Source};
@@ -13,15 +12,12 @@ use std::alloc::Global;
 use std::io::{self, BufWriter, Write};
 use std::rt::Files;
 
-/// Reads a request's files, runs the script and writes the report to standard output. A fault that speaks of a text
-/// speaks of one of the request's.
-#[tactic(auto, using(crate::proofs::Named::ended_is_named, crate::proofs::Named::unread_is_named))]
+/// Reads a request's files, runs the script and writes the report to standard output.
 pub(crate) fn run_request<R: Files + Print + AllocGlobal>(
     rt: &R,
     request: &Request<'_>,
 ) -> Result<(), Fault>
     requires { request.now.row_numbers ≤ MOST_ROW_NUMBERS }
-    ensures { IfErr result (NamesFile (length request.now.schemas.items) (length request.now.modules.items)) }
 {
     let texts = read_texts(rt, request)?;
     let limits = Limits {
@@ -44,7 +40,6 @@ fn ended(ran: Result<(), Fault>, flushed: Result<(), Fault>) -> Result<(), Fault
     }
 }
 
-#[tactic(auto, using(crate::proofs::Named::refused_is_named))]
 fn run_texts<W: Write>(
     alloc: Global,
     texts: &Texts,
@@ -52,7 +47,6 @@ fn run_texts<W: Write>(
     writer: &mut W,
 ) -> Result<(), Fault>
     requires { limits.row_numbers ≤ MOST_ROW_NUMBERS }
-    ensures { IfErr result (NamesFile (length texts.now.schemas.items) (length texts.now.modules.items)) }
 {
     let mut out = OutOf::new(writer);
     let ran = run::<HeapStore, OutOf<&mut W>>(

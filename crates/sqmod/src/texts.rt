@@ -1,7 +1,4 @@
 //! The files of a request.
-ghost use Rattle.std.specs.Prelude.{◌≡◌, ◌<◌, length, IfErr, IfOk};
-ghost use Rattle.sqmod.specs.Texts as spec;
-
 use crate::command_line::Request;
 use crate::fault::{Fault, Source};
 use std::fs;
@@ -19,11 +16,7 @@ pub(crate) struct Texts {
 pub(crate) fn read_texts<R: Files + AllocGlobal>(
     rt: &R,
     request: &Request<'_>,
-) -> Result<Texts, Fault>
-    ensures schemas { IfOk result (λ texts. length texts.schemas.items ≡ length request.now.schemas.items) }
-    ensures modules { IfOk result (λ texts. length texts.modules.items ≡ length request.now.modules.items) }
-    ensures unread { IfErr result (spec.IsUnread (length request.now.schemas.items) (length request.now.modules.items)) }
-{
+) -> Result<Texts, Fault> {
     let schemas = match read_all(rt, request.schemas.as_slice()) {
         Ok(schemas) => schemas,
         Err(index) => return Err(Fault::Unread(Source::Schema(index))),
@@ -50,10 +43,7 @@ pub(crate) fn read_texts<R: Files + AllocGlobal>(
 }
 
 /// Reads files in order. An error is the index of the first that can't be read, for any cause.
-fn read_all<R: Files + AllocGlobal>(rt: &R, files: &[&str]) -> Result<Vec<Vec<u8>>, usize>
-    ensures all { IfOk result (λ texts. length texts.items ≡ length files.now) }
-    ensures unread { IfErr result (λ index. index < length files.now) }
-{
+fn read_all<R: Files + AllocGlobal>(rt: &R, files: &[&str]) -> Result<Vec<Vec<u8>>, usize> {
     let mut texts = Vec::new(rt.alloc());
     for (index, file) in files.iter().enumerate() {
         let text = fs::read(rt, *file).map_err(|_| index)?;
