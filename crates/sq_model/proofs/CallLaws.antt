@@ -1,4 +1,5 @@
--- Laws of calls (ISO/IEC 9075:1992, 4.10, 4.28, 12.3, 14.3 and 14.4): what a call leaves as it was, and that constraints hold after it.
+-- Laws of calls (ISO/IEC 9075:1992, 4.10, 4.28, 12.3, 14.3 and 14.4): what a call leaves as it was, and that
+-- constraints hold after it.
 use Rattle.std.proofs.Common.{ap, inl, inr, subst, sym, ◌∙◌}
 use Rattle.std.proofs.lemmas.Bool.{cases_eq}
 use Rattle.std.proofs.lemmas.List.{get_or-set_other}
@@ -212,7 +213,8 @@ closed_entries : (cs : List CursorEntry) → AllByRecursion (λ c. c.state ≡ C
 closed_entries [] = tt
 closed_entries (c ∷ cs) = (refl, closed_entries cs)
 
--- ROLLBACK leaves the committed tables, and closes every cursor; COMMIT closes every cursor, and commits the tables as they are.
+-- ROLLBACK leaves the committed tables, and closes every cursor; COMMIT closes every cursor, and commits the tables as
+-- they are.
 pub rollback_leaves_committed : (r : Running) (work : Bool) → ((performed r (statement.Rollback work)).0).tables ≡ r.state.committed
 rollback_leaves_committed r work = refl
 

@@ -1,6 +1,6 @@
 -- The definitions, computed on small cases.
 use Rattle.std.specs.Fmt.{digits}
-use Rattle.std.specs.Prelude.{◌≡◌, ℕ, Bool, true, false, List, [], ◌∷◌, ◌++◌, ℤ, pos, negsuc, codes, Option, refl, Some, None}
+use Rattle.std.specs.Prelude.{◌≡◌, ℕ, Bool, true, false, List, [], ◌∷◌, ◌++◌, map, ℤ, pos, negsuc, codes, Option, refl, Some, None}
 use Rattle.sq_value.specs.declared.domain.Domain.{Domain}
 use Rattle.sq_value.specs.declared.domain.Domain.TheVariants as domain
 use Rattle.sq_value.specs.declared.value.Value.{Value}
@@ -8,6 +8,7 @@ use Rattle.sq_value.specs.declared.value.Value.TheVariants as value
 use Rattle.sq_tree.specs.declared.data_type.DataType.TheVariants as data_type
 use Rattle.sq_tree.specs.declared.module.Declaration.{Declaration}
 use Rattle.sq_tree.specs.declared.module.Declaration.TheVariants as declaration
+use Rattle.sq_tree.specs.declared.module.Declarations.{Declarations}
 use Rattle.sq_tree.specs.declared.module.Declarations.TheVariants as declarations
 use Rattle.sq_tree.specs.declared.module.ModuleItem.{ModuleItem}
 use Rattle.sq_tree.specs.declared.module.ModuleItem.TheVariants as item
@@ -24,6 +25,9 @@ use Rattle.sq_tree.specs.declared.schema.SchemaElement.TheVariants as element
 use Rattle.sq_tree.specs.declared.schema.SchemaText.{SchemaText}
 use Rattle.sq_tree.specs.declared.schema.TableElement.{TableElement}
 use Rattle.sq_tree.specs.declared.schema.TableElement.TheVariants as table_element
+use Rattle.sq_tree.specs.declared.statement.InsertSource.TheVariants as source
+use Rattle.sq_tree.specs.declared.statement.NewValue.TheVariants as new_value
+use Rattle.sq_tree.specs.declared.statement.Statement.{Statement}
 use Rattle.sq_tree.specs.declared.statement.Statement.TheVariants as statement
 use Rattle.sq_meaning.specs.Environment.{TableName}
 use Rattle.sq_meaning.specs.declared.status.Status.TheVariants as status
@@ -35,11 +39,14 @@ use Rattle.sq_model.specs.Privilege.{Privilege}
 use Rattle.sq_model.specs.Privileges.{holds}
 use Rattle.sq_model.specs.Report.{report}
 use Rattle.sq_model.specs.Run.{Item, program_of}
+use Rattle.sq_model.specs.Schema.{constraints}
 use Rattle.sq_model.specs.SchemaRefusal.{elements_of, first_schema_refusal}
 use Rattle.sq_model.specs.declared.refusal.ModuleFault.TheVariants as module_fault
 use Rattle.sq_model.specs.declared.refusal.SchemaFault.TheVariants as schema_fault
 
--- ---- FETCH on three rows (13.3): LAST, PRIOR, PRIOR, PRIOR, RELATIVE 2, RELATIVE 0, ABSOLUTE -1, ABSOLUTE 9, PRIOR, ABSOLUTE 0
+-- ---- FETCH on three rows (13.3)
+
+-- LAST, PRIOR, PRIOR, PRIOR, RELATIVE 2, RELATIVE 0, ABSOLUTE -1, ABSOLUTE 9, PRIOR, ABSOLUTE 0
 
 abbrev row_of : ℤ → List Value
 row_of n = whole n ∷ []
@@ -180,3 +187,58 @@ items = Item.call (record { text = codes "M"; procedure = codes "P"; values = []
 the_report : report program (first_state program) items ≡ codes "M.P 00000 0\nTABLE U.D 0\n"
 unfolding digits
 the_report = refl
+
+-- ---- INSERT, DELETE, COMMIT and ROLLBACK on a table with one INTEGER column, and two row numbers
+
+abbrev sqlcode_only : Declarations
+sqlcode_only = declarations.Bracketed (record { first = declaration.Sqlcode; rest = [] })
+
+abbrev procedure_of : List ℕ → Statement → ModuleItem
+procedure_of name s = item.Procedure (record { name = name; declarations = sqlcode_only; statement = s })
+
+-- INSERT INTO D VALUES (NULL), DELETE FROM D
+abbrev insert_null : Statement
+insert_null = statement.Insert (record { table = named (codes "D"); columns = None; source = source.Values (record { first = new_value.Null; rest = [] }) })
+
+abbrev delete_all : Statement
+delete_all = statement.Delete (record { table = named (codes "D"); target = None })
+
+abbrev changes : List ModuleItem
+changes =
+    procedure_of (codes "INS") insert_null ∷ procedure_of (codes "DEL") delete_all ∷ procedure_of (codes "CMT") (statement.Commit true)
+    ∷ procedure_of (codes "RBK") (statement.Rollback true) ∷ []
+
+abbrev nullable_table : SchemaElement
+nullable_table = one_table (codes "D") (integer_column (codes "A") [])
+
+abbrev small : SchemaElement → Program
+small t = program_of (schema_text (codes "U") (t ∷ []) ∷ []) (module_text changes ∷ []) 2
+
+abbrev calls : List (List ℕ) → List Item
+calls names = map (λ n. Item.call (record { text = codes "M"; procedure = n; values = [] })) names
+
+-- a deleted number is not used again, but after a ROLLBACK
+changes_report :
+    report (small nullable_table) (first_state (small nullable_table))
+        (calls (codes "DEL" ∷ codes "INS" ∷ codes "CMT" ∷ codes "INS" ∷ codes "DEL" ∷ codes "INS" ∷ codes "RBK" ∷ codes "INS" ∷ []) ++ Item.show d ∷ [])
+    ≡ codes "M.DEL 02000 100\nM.INS 00000 0\nM.CMT 00000 0\nM.INS 00000 0\nM.DEL 00000 0\nM.INS S1L00 -9001\n"
+    ++ codes "M.RBK 00000 0\nM.INS 00000 0\nTABLE U.D 2\n  NULL\n  NULL\n"
+unfolding digits
+changes_report = refl
+
+-- NOT NULL
+refused_null :
+    report (small keyed_table) (first_state (small keyed_table)) (calls (codes "INS" ∷ []) ++ Item.show d ∷ []) ≡
+    codes "M.INS 23000 -2300\nTABLE U.D 0\n"
+unfolding digits
+refused_null = refl
+
+-- another user's module has no privilege
+abbrev stranger : Program
+stranger =
+    program_of (schema_text (codes "U") (nullable_table ∷ []) ∷ [])
+      (record { name = codes "M"; language = codes "C"; authorization = codes "W"; items = procedure_of (codes "DEL") (statement.Delete (record { table = u_d; target = None })) ∷ [] } ∷ []) 2
+
+no_privilege : report stranger (first_state stranger) (calls (codes "DEL" ∷ [])) ≡ codes "M.DEL 42000 -4200\n"
+unfolding digits
+no_privilege = refl

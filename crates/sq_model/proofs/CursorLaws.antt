@@ -36,7 +36,8 @@ at_number_there : (behind : List ℕ) (number : ℕ) (otherwise : Fetched) (row 
     → at_number behind number otherwise o ≡ record { cursor = CursorState.over_numbers behind (Some number); row = Some row }
 at_number_there behind number otherwise row o e = ap (at_number behind number otherwise) e
 
--- With no change between, the FETCHes of a cursor over numbers give the rows under them in order, and then none for ever.
+-- With no change between, the FETCHes of a cursor over numbers give the rows under them in order, and then none for
+-- ever.
 pub rows_in_order : (now : ℕ → Option (List Value)) (rows_of : ℕ → List Value) (numbers : List ℕ) (on : Option ℕ) (more : ℕ)
     → AllByRecursion (λ n. now n ≡ Some (rows_of n)) numbers
     → fetched_rows now (and_more numbers more) (CursorState.over_numbers numbers on) ≡ map (λ n. Some (rows_of n)) numbers ++ replicate more None

@@ -1,5 +1,5 @@
--- The syntax and access rules of statements, view queries and conditions of CHECK. Each fault is a rule of its own, asked
--- of every site of a tree.
+-- The syntax and access rules of statements, view queries and conditions of CHECK. Each fault is a rule of its own,
+-- asked of every site of a tree.
 use Rattle.std.specs.List.{list_any}
 use Rattle.std.specs.Prelude.{ℕ, suc, Bool, true, false, not, ◌&&◌, ◌||◌, List, [], ◌∷◌, map, length, is_none, is_ok, is_err, nat_lt, nat_le, ◌==◌, slice_get, count_by, filter, find, filter_map, flat_map, Option, unwrap_or, option_map, option_to_list, option_and_then, Some, None, Ok}
 use Rattle.std.specs.Result.{result_ok}
@@ -54,7 +54,8 @@ item_here k r = unwrap_or (result_ok (item_of k.tables r)) (record { reference =
 abbrev pub items_here : Known → Level → List Item
 items_here k level = map (item_here k) level.from
 
--- the columns that a reference fits, in the nearest scope in which it fits one: how far out that is, the item and the column
+-- the columns that a reference fits, in the nearest scope in which it fits one: how far out that is, the item and the
+-- column
 abbrev pub one_further : Place → Place
 one_further p = record p { depth = suc p.depth }
 

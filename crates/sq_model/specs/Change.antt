@@ -1,5 +1,5 @@
--- INSERT, UPDATE and DELETE (ISO/IEC 9075:1992, 13.6 to 13.10): from a database to the one after it, or a status. With a
--- status nothing is changed. Statuses come in this order: of choosing rows; no data; of values and storing; of row
+-- INSERT, UPDATE and DELETE (ISO/IEC 9075:1992, 13.6 to 13.10): from a database to the one after it, or a status. With
+-- a status nothing is changed. Statuses come in this order: of choosing rows; no data; of values and storing; of row
 -- numbers; of check options; of constraints. All reading is of the database before the statement.
 use Rattle.std.specs.List.{enumerate_from, list_any, zip}
 use Rattle.std.specs.Prelude.{ℕ, ◌+◌, Bool, not, List, [], ◌∷◌, map, length, nat_eq, nat_le, ◌==◌, slice_get, slice_set, fold, filter, find, filter_map, Option, unwrap_or, option_map, option_and_then, Some, None, Ok, Err}

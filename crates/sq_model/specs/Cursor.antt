@@ -4,9 +4,9 @@ use Rattle.sq_value.specs.SetFunctions.{numbers}
 use Rattle.sq_value.specs.declared.value.Value.{Value}
 use Rattle.sq_meaning.specs.Query.{rows}
 
--- A cursor is closed; or it is over the rows of its table under numbers that OPEN fixed: those still to come, and the one
--- that it is on, if it is on one; or it is over rows that OPEN fixed, at a place: 0 before the first of them, n on the
--- nth, and one more than their count behind the last.
+-- A cursor is closed; or it is over the rows of its table under numbers that OPEN fixed: those still to come, and the
+-- one that it is on, if it is on one; or it is over rows that OPEN fixed, at a place: 0 before the first of them, n on
+-- the nth, and one more than their count behind the last.
 pub data CursorState : Type 0 where
   closed : CursorState
   over_numbers : List ℕ → Option ℕ → CursorState

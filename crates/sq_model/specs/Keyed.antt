@@ -1,5 +1,5 @@
--- Statements that name the rows that they change by a key. (ISO/IEC 9075:1992 asks nothing of how rows are found; that such a statement
--- reads one row at most is promised of the processor.)
+-- Statements that name the rows that they change by a key. (ISO/IEC 9075:1992 asks nothing of how rows are found; that
+-- such a statement reads one row at most is promised of the processor.)
 use Rattle.std.specs.List.{list_all, list_any}
 use Rattle.std.specs.Prelude.{ℕ, Bool, true, false, not, ◌&&◌, List, [], ◌∷◌, length, take, if◌then◌else◌, filter_map, Option, option_to_list, Some, None}
 use Rattle.std.specs.Result.{result_ok}

@@ -1,5 +1,5 @@
--- Which modules are refused, and where (ISO/IEC 9075:1992, 12.1 to 12.3 and 13.1). The greatest number of parameters, and that
--- exactly one procedure opens a cursor, are own rules.
+-- Which modules are refused, and where (ISO/IEC 9075:1992, 12.1 to 12.3 and 13.1). The greatest number of parameters,
+-- and that exactly one procedure opens a cursor, are own rules.
 use Rattle.std.specs.List.{list_any}
 use Rattle.std.specs.Option.{option_or}
 use Rattle.std.specs.Prelude.{ℕ, ◌+◌, Bool, false, not, ◌||◌, List, [], ◌∷◌, map, length, is_none, if◌then◌else◌, nat_lt, ◌==◌, count_by, position, Option, option_map, Some, None}
@@ -15,7 +15,8 @@ use Rattle.sq_model.specs.Schema.{has_name_twice, is_among}
 use Rattle.sq_model.specs.declared.refusal.ModuleFault.{ModuleFault}
 use Rattle.sq_model.specs.declared.refusal.ModuleFault.TheVariants as module_fault
 
--- the module's number among the module texts, the number of the cursor or procedure in it (none: the module itself), and why
+-- the module's number among the module texts, the number of the cursor or procedure in it (none: the module itself),
+-- and why
 pub record ModuleRefusal : Type 0 where
   pub text : ℕ
   pub item : Option ℕ

@@ -1,7 +1,7 @@
--- Who holds which privilege (ISO/IEC 9075:1992, 4.26, 11.19 and 11.36). A user holds one if there is a chain of schema elements,
--- each behind the one before: a CREATE that gives it to the owner, and GRANTs, each by a user to whom the one before gave
--- it with the grant option, the last of them to the user or to PUBLIC. What a view gives its owner is decided where the
--- view stands (own rule).
+-- Who holds which privilege (ISO/IEC 9075:1992, 4.26, 11.19 and 11.36). A user holds one if there is a chain of schema
+-- elements, each behind the one before: a CREATE that gives it to the owner, and GRANTs, each by a user to whom the one
+-- before gave it with the grant option, the last of them to the user or to PUBLIC. What a view gives its owner is
+-- decided where the view stands (own rule).
 use Rattle.std.specs.List.{list_all, list_any}
 use Rattle.std.specs.Prelude.{Bool, true, false, not, ◌&&◌, ◌||◌, List, [], ◌∷◌, map, if◌then◌else◌, slice_get, filter_map, Option, option_map, option_to_list, option_and_then, Some, None, Ok}
 use Rattle.std.specs.Result.{result_ok}

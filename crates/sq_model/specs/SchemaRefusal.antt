@@ -1,5 +1,5 @@
--- Which schema texts are refused, and where (ISO/IEC 9075:1992, 10.3, 11.1, 11.3 to 11.9, 11.19 and 11.36). Each rule is asked of an
--- element, of the user in whose schema it stands, and of the elements before it.
+-- Which schema texts are refused, and where (ISO/IEC 9075:1992, 10.3, 11.1, 11.3 to 11.9, 11.19 and 11.36). Each rule
+-- is asked of an element, of the user in whose schema it stands, and of the elements before it.
 use Rattle.std.specs.Bool.{beq}
 use Rattle.std.specs.List.{enumerate_from, list_all, list_any, zip}
 use Rattle.std.specs.Option.{option_or}

@@ -22,7 +22,8 @@ use Rattle.sq_meaning.specs.Syntax.{absent}
 use Rattle.sq_meaning.specs.Tables.{Declared, Tables, descriptor_of, kinds_by_name}
 use Rattle.sq_model.specs.Privilege.{Privilege}
 
--- a FROM clause around; where a select list or HAVING of a grouped query specification is read, with its grouping columns
+-- a FROM clause around; where a select list or HAVING of a grouped query specification is read, with its grouping
+-- columns
 pub record Level : Type 0 where
   pub from : List TableReference
   pub grouping : Option (List ColumnReference)

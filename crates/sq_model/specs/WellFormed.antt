@@ -1,4 +1,5 @@
--- Which statements are well formed (ISO/IEC 9075:1992, clauses 7 and 13): the sites of each statement, for the rules of Binding.
+-- Which statements are well formed (ISO/IEC 9075:1992, clauses 7 and 13): the sites of each statement, for the rules of
+-- Binding.
 use Rattle.std.specs.List.{list_any, zip}
 use Rattle.std.specs.Prelude.{ℕ, ◌+◌, Bool, false, not, ◌&&◌, List, [], ◌∷◌, ◌++◌, map, length, is_some, is_none, if◌then◌else◌, ◌==◌, filter, find, flat_map, Option, unwrap_or, option_map, option_to_list, option_and_then, Some, None, Ok, Err}
 use Rattle.std.specs.Result.{result_ok}

@@ -1,6 +1,7 @@
 //! Module texts. In each rule `left` brackets may be open at once.
 
 ghost use Rattle.std.specs.Prelude.{◌≡◌, ◌<◌, ◌≤◌, length, IfOk, OnOk, OnSome};
+ghost use Rattle.sq_grammar.specs.declared.brackets.TheConstants.{MAX_DEPTH};
 ghost use Rattle.sq_grammar.specs.Module as spec;
 ghost use Rattle.sq_grammar.specs.Reading.{all, listed, whole};
 ghost use Rattle.sq_reader.specs.Reads.{Reads};
@@ -111,7 +112,7 @@ fn declarations(alloc: Global, tokens: &mut Reader<'_>) -> Result<Declarations, 
 #[tactic(auto, unfolding(sq_grammar::specs::Module::procedure))]
 fn procedure(alloc: Global, tokens: &mut Reader<'_>, left: usize) -> Result<Procedure, Stop>
     requires some { 0 < left }
-    requires small { left ≤ 32 }
+    requires small { left ≤ MAX_DEPTH }
     ensures value { Reads (spec.procedure left tokens.old) result tokens.new }
     ensures shorter { OnOk result (length tokens.new < length tokens.old) }
 {
@@ -206,7 +207,7 @@ fn ordered_query(
     tokens: &mut Reader<'_>,
     left: usize,
 ) -> Result<(Query, Option<CommaList<SortSpecification>>), Stop>
-    requires { left ≤ 32 }
+    requires { left ≤ MAX_DEPTH }
     ensures value { Reads (spec.ordered_query left tokens.old) result tokens.new }
     ensures shorter { OnOk result (length tokens.new < length tokens.old) }
 {
@@ -223,7 +224,7 @@ fn ordered_query(
 /// A cursor whose first word is read already.
 #[tactic(auto, unfolding(sq_grammar::specs::Module::cursor))]
 fn cursor(alloc: Global, tokens: &mut Reader<'_>, left: usize) -> Result<Cursor, Stop>
-    requires { left ≤ 32 }
+    requires { left ≤ MAX_DEPTH }
     ensures value { Reads (spec.cursor left tokens.old) result tokens.new }
     ensures shorter { OnOk result (length tokens.new < length tokens.old) }
 {
@@ -248,7 +249,7 @@ fn cursor(alloc: Global, tokens: &mut Reader<'_>, left: usize) -> Result<Cursor,
 #[tactic(auto, unfolding(sq_grammar::specs::Module::item))]
 fn item(alloc: Global, tokens: &mut Reader<'_>, left: usize) -> Result<Option<ModuleItem>, Stop>
     requires some { 0 < left }
-    requires small { left ≤ 32 }
+    requires small { left ≤ MAX_DEPTH }
     ensures value { Reads (spec.item left tokens.old) result tokens.new }
     ensures shorter { IfOk result (λ item. OnSome item (length tokens.new < length tokens.old)) }
     ensures no_longer { OnOk result (length tokens.new ≤ length tokens.old) }
@@ -266,7 +267,7 @@ fn item(alloc: Global, tokens: &mut Reader<'_>, left: usize) -> Result<Option<Mo
 
 fn all_items(alloc: Global, tokens: &mut Reader<'_>, left: usize) -> Result<Items<ModuleItem>, Stop>
     requires some { 0 < left }
-    requires small { left ≤ 32 }
+    requires small { left ≤ MAX_DEPTH }
     ensures value { Reads (all (spec.item left) tokens.old) result tokens.new }
     ensures no_longer { OnOk result (length tokens.new ≤ length tokens.old) }
 {
@@ -276,7 +277,7 @@ fn all_items(alloc: Global, tokens: &mut Reader<'_>, left: usize) -> Result<Item
 #[tactic(auto, unfolding(sq_grammar::specs::Module::module_text))]
 fn module_text(alloc: Global, tokens: &mut Reader<'_>, left: usize) -> Result<ModuleText, Stop>
     requires some { 0 < left }
-    requires small { left ≤ 32 }
+    requires small { left ≤ MAX_DEPTH }
     ensures { Reads (spec.module_text left tokens.old) result tokens.new }
 {
     tokens.expect_word(Word::Module)?;
@@ -297,7 +298,7 @@ fn module_text(alloc: Global, tokens: &mut Reader<'_>, left: usize) -> Result<Mo
 /// All of a module text.
 pub fn whole_module(alloc: Global, tokens: &mut Reader<'_>, left: usize) -> Result<ModuleText, Stop>
     requires some { 0 < left }
-    requires small { left ≤ 32 }
+    requires small { left ≤ MAX_DEPTH }
     ensures { Reads (whole (spec.module_text left) tokens.old) result tokens.new }
 {
     let text = module_text(alloc, tokens, left)?;

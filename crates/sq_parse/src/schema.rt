@@ -1,6 +1,7 @@
 //! Schema texts. In each rule the words up to where the rules differ are read already.
 
 ghost use Rattle.std.specs.Prelude.{◌≡◌, ◌<◌, ◌≤◌, ◌-◌, length, IfOk, OnOk, OnSome};
+ghost use Rattle.sq_grammar.specs.declared.brackets.TheConstants.{MAX_DEPTH};
 ghost use Rattle.sq_grammar.specs.Reading.{all, listed, whole};
 ghost use Rattle.sq_reader.specs.Reads.{Reads};
 ghost use Rattle.sq_grammar.specs.Schema as spec;
@@ -275,7 +276,7 @@ fn view_definition(
     tokens: &mut Reader<'_>,
     left: usize,
 ) -> Result<ViewDefinition, Stop>
-    requires { left ≤ 32 }
+    requires { left ≤ MAX_DEPTH }
     ensures value { Reads (spec.view_definition left tokens.old) result tokens.new }
     ensures shorter { OnOk result (length tokens.new < length tokens.old) }
 {
@@ -445,7 +446,7 @@ fn created(
     left: usize,
 ) -> Result<Option<SchemaElement>, Stop>
     requires some { 1 < left }
-    requires small { left ≤ 32 }
+    requires small { left ≤ MAX_DEPTH }
     ensures value { Reads (spec.created left (left - 1) tokens.old) result tokens.new }
     ensures shorter { OnOk result (length tokens.new < length tokens.old) }
 {
@@ -467,7 +468,7 @@ fn element(
     left: usize,
 ) -> Result<Option<SchemaElement>, Stop>
     requires some { 1 < left }
-    requires small { left ≤ 32 }
+    requires small { left ≤ MAX_DEPTH }
     ensures value { Reads (spec.element left (left - 1) tokens.old) result tokens.new }
     ensures shorter { IfOk result (λ item. OnSome item (length tokens.new < length tokens.old)) }
     ensures no_longer { OnOk result (length tokens.new ≤ length tokens.old) }
@@ -488,7 +489,7 @@ fn elements(
     left: usize,
 ) -> Result<Items<SchemaElement>, Stop>
     requires some { 1 < left }
-    requires small { left ≤ 32 }
+    requires small { left ≤ MAX_DEPTH }
     ensures value { Reads (all (spec.element left (left - 1)) tokens.old) result tokens.new }
     ensures no_longer { OnOk result (length tokens.new ≤ length tokens.old) }
 {
@@ -503,7 +504,7 @@ fn schema_definition(
     left: usize,
 ) -> Result<SchemaDefinition, Stop>
     requires some { 1 < left }
-    requires small { left ≤ 32 }
+    requires small { left ≤ MAX_DEPTH }
     ensures value { Reads (spec.schema_definition left (left - 1) tokens.old) result tokens.new }
     ensures shorter { OnOk result (length tokens.new < length tokens.old) }
 {
@@ -526,7 +527,7 @@ fn next_definition(
     left: usize,
 ) -> Result<Option<SchemaDefinition>, Stop>
     requires some { 1 < left }
-    requires small { left ≤ 32 }
+    requires small { left ≤ MAX_DEPTH }
     ensures value { Reads (spec.next_definition left (left - 1) tokens.old) result tokens.new }
     ensures shorter { IfOk result (λ item. OnSome item (length tokens.new < length tokens.old)) }
     ensures no_longer { OnOk result (length tokens.new ≤ length tokens.old) }
@@ -544,7 +545,7 @@ fn more_definitions(
     left: usize,
 ) -> Result<Items<SchemaDefinition>, Stop>
     requires some { 1 < left }
-    requires small { left ≤ 32 }
+    requires small { left ≤ MAX_DEPTH }
     ensures value { Reads (all (spec.next_definition left (left - 1)) tokens.old) result tokens.new }
     ensures no_longer { OnOk result (length tokens.new ≤ length tokens.old) }
 {
@@ -555,7 +556,7 @@ fn more_definitions(
 #[tactic(auto, unfolding(sq_grammar::specs::Schema::schema_text))]
 pub fn whole_schema(alloc: Global, tokens: &mut Reader<'_>, left: usize) -> Result<SchemaText, Stop>
     requires some { 1 < left }
-    requires small { left ≤ 32 }
+    requires small { left ≤ MAX_DEPTH }
     ensures { Reads (whole (spec.schema_text left (left - 1)) tokens.old) result tokens.new }
 {
     tokens.expect_word(Word::Create)?;

@@ -1,6 +1,7 @@
 //! The statements of a procedure. In each rule `left` brackets may be open at once, and a statement's first word is read already.
 
 ghost use Rattle.std.specs.Prelude.{◌≡◌, ◌<◌, ◌≤◌, length, OnOk, OnSome};
+ghost use Rattle.sq_grammar.specs.declared.brackets.TheConstants.{MAX_DEPTH};
 ghost use Rattle.sq_grammar.specs.Expr as expressions;
 ghost use Rattle.sq_grammar.specs.Names.{parameter};
 ghost use Rattle.sq_grammar.specs.Reading.{listed, one_if_any};
@@ -133,7 +134,7 @@ fn target(alloc: Global, tokens: &mut Reader<'_>, left: usize) -> Result<Option<
 
 #[tactic(auto, unfolding(sq_grammar::specs::Statement::select))]
 fn select(alloc: Global, tokens: &mut Reader<'_>, left: usize) -> Result<Select, Stop>
-    requires { left ≤ 32 }
+    requires { left ≤ MAX_DEPTH }
     ensures value { Reads (spec.select left tokens.old) result tokens.new }
     ensures shorter { OnOk result (length tokens.new < length tokens.old) }
 {
@@ -194,7 +195,7 @@ fn listed_values(
 #[tactic(auto, unfolding(sq_grammar::specs::Statement::insert_source))]
 fn insert_source(alloc: Global, tokens: &mut Reader<'_>, left: usize) -> Result<InsertSource, Stop>
     requires some { 0 < left }
-    requires small { left ≤ 32 }
+    requires small { left ≤ MAX_DEPTH }
     ensures value { Reads (spec.insert_source left tokens.old) result tokens.new }
     ensures shorter { OnOk result (length tokens.new < length tokens.old) }
 {
@@ -216,7 +217,7 @@ fn insert_source(alloc: Global, tokens: &mut Reader<'_>, left: usize) -> Result<
 #[tactic(auto, unfolding(sq_grammar::specs::Statement::insert))]
 fn insert(alloc: Global, tokens: &mut Reader<'_>, left: usize) -> Result<Insert, Stop>
     requires some { 0 < left }
-    requires small { left ≤ 32 }
+    requires small { left ≤ MAX_DEPTH }
     ensures value { Reads (spec.insert left tokens.old) result tokens.new }
     ensures shorter { OnOk result (length tokens.new < length tokens.old) }
 {
@@ -333,7 +334,7 @@ fn verb_if_any(tokens: &mut Reader<'_>) -> Option<Verb>
 #[tactic(auto, unfolding(sq_grammar::specs::Statement::statement))]
 pub fn statement(alloc: Global, tokens: &mut Reader<'_>, left: usize) -> Result<Statement, Stop>
     requires some { 0 < left }
-    requires small { left ≤ 32 }
+    requires small { left ≤ MAX_DEPTH }
     ensures value { Reads (spec.statement left tokens.old) result tokens.new }
     ensures shorter { OnOk result (length tokens.new < length tokens.old) }
 {

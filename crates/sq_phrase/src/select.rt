@@ -1,6 +1,7 @@
 //! Query specifications.
 
 ghost use Rattle.std.specs.Prelude.{◌≡◌, ◌<◌, ◌≤◌, ◌+◌, length, IfOk, OnOk, OnSome};
+ghost use Rattle.sq_grammar.specs.declared.brackets.TheConstants.{MAX_DEPTH};
 ghost use Rattle.sq_grammar.specs.Cond as conditions;
 ghost use Rattle.sq_grammar.specs.Cond.{strictly};
 ghost use Rattle.sq_grammar.specs.Expr as expressions;
@@ -230,7 +231,7 @@ impl<F: Fn(Global, &mut Reader<'_>, usize) -> Result<Mixed<Cond>, Stop>> Grammar
 ///
 /// It is read as behind a bracket that is one of `left + 1`, so the rules stand once.
 pub fn select_list(alloc: Global, tokens: &mut Reader<'_>, left: usize) -> Result<SelectList, Stop>
-    requires { left ≤ 32 }
+    requires { left ≤ MAX_DEPTH }
     ensures value { Reads (spec.select_list (expressions.expr left) tokens.old) result tokens.new }
     ensures shorter { OnOk result (length tokens.new < length tokens.old) }
 {
@@ -248,7 +249,7 @@ pub fn table_expression(
     tokens: &mut Reader<'_>,
     left: usize,
 ) -> Result<TableExpression, Stop>
-    requires { left ≤ 32 }
+    requires { left ≤ MAX_DEPTH }
     ensures value { Reads (spec.table_expression (conditions.cond left) tokens.old) result tokens.new }
     ensures shorter { OnOk result (length tokens.new < length tokens.old) }
 {
@@ -266,7 +267,7 @@ pub fn query_specification(
     tokens: &mut Reader<'_>,
     left: usize,
 ) -> Result<QuerySpecification, Stop>
-    requires { left ≤ 32 }
+    requires { left ≤ MAX_DEPTH }
     ensures value { Reads (conditions.query_specification left tokens.old) result tokens.new }
     ensures shorter { OnOk result (length tokens.new < length tokens.old) }
 {

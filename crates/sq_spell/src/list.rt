@@ -22,15 +22,23 @@ impl<T: Tree> Tree for CommaList<T> {
     }
 }
 
-impl<T: Tree> Tree for Items<T> {
-    ghost tokens = { spec.row_tokens T.tokens };
+impl<T: Tree> Tree for &[T] {
+    ghost tokens = { λ parts. spec.row_tokens T.tokens parts.now };
 
     #[tactic(auto, using(std::proofs::lemmas::Grind::common_steps))]
     fn walk<S: Sink>(&self, sink: &mut S) -> Result<(), S::Stop> {
-        for item in self.as_slice() {
-            item.walk(sink)?;
+        for part in *self {
+            part.walk(sink)?;
         }
         Ok(())
+    }
+}
+
+impl<T: Tree> Tree for Items<T> {
+    ghost tokens = { spec.row_tokens T.tokens };
+
+    fn walk<S: Sink>(&self, sink: &mut S) -> Result<(), S::Stop> {
+        self.as_slice().walk(sink)
     }
 }
 

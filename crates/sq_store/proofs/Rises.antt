@@ -1,5 +1,5 @@
 -- Changes keep the numbers rising.
-use Rattle.std.proofs.Common.{◌≡◌, ℕ, zero, suc, ◌+◌, ◌≤◌, true, not, nat_eq, filter, map, List, [], ◌∷◌, ◌++◌, length, slice_set, arith, refl}
+use Rattle.std.proofs.Common.{◌≡◌, ℕ, zero, suc, ◌+◌, ◌≤◌, true, not, nat_eq, filter, map, List, [], ◌∷◌, ◌++◌, slice_set, arith, refl}
 use Rattle.std.proofs.lemmas.Grind.{common_steps}
 use Rattle.sq_value.specs.declared.value.Value.{Value}
 use Rattle.sq_store.specs.declared.table.Numbered.{Numbered}

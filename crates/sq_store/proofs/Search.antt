@@ -1,5 +1,5 @@
 -- The place that a binary search over rising numbers answers.
-use Rattle.std.proofs.Common.{◌≡◌, ℕ, zero, suc, ◌+◌, ◌<◌, ◌≤◌, true, false, nat_eq, nat_lt, nat_le, find, map, cond, slice_set, List, [], ◌∷◌, length, slice_index_or, slice_get, arith, refl, sym, ◌∙◌}
+use Rattle.std.proofs.Common.{◌≡◌, ℕ, zero, suc, ◌+◌, ◌<◌, ◌≤◌, true, false, nat_eq, nat_lt, find, map, cond, slice_set, List, [], ◌∷◌, length, slice_index_or, slice_get, arith, refl, sym, ◌∙◌}
 use Rattle.std.proofs.Common.{Bor, Option, Some, None}
 use Rattle.std.proofs.lemmas.Option.{slice_get-get_or, slice_get_past, slice_get_read}
 use Rattle.std.specs.List.Sorted.{IsPartitionPoint, IsPartitionedBy}

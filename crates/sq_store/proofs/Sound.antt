@@ -1,5 +1,5 @@
 -- What holds of each content that a store may go to, and what keeps it.
-use Rattle.std.proofs.Common.{◌≡◌, ℕ, zero, suc, ◌+◌, ◌-◌, ◌<◌, ◌≤◌, Bool, true, ◌&&◌, List, [], ◌∷◌, ◌++◌, All, length, map, filter, not, nat_eq, slice_set, slice_index_or, arith, refl, ap, Vec, get_or, subst, sym, ◌∙◌}
+use Rattle.std.proofs.Common.{◌≡◌, ℕ, zero, suc, ◌+◌, ◌-◌, ◌<◌, ◌≤◌, true, ◌&&◌, List, [], ◌∷◌, ◌++◌, length, map, filter, not, nat_eq, slice_set, slice_index_or, arith, refl, ap, Vec, get_or, subst, sym, ◌∙◌}
 use Rattle.std.specs.List.{list_all}
 use Rattle.std.proofs.lemmas.Grind.{common_steps}
 use Rattle.std.proofs.lemmas.List.Elements.{All-cons, All-nil}
@@ -12,8 +12,8 @@ use Rattle.sq_store.specs.declared.change.Change.{Change}
 use Rattle.sq_store.specs.declared.change.Change.TheVariants.{Insert, Replace, Remove}
 use Rattle.sq_store.specs.Change.{insert_count, rows_put}
 use Rattle.sq_store.specs.Content.{Content, changed, changed_by, empty, no_rows, table_at}
-use Rattle.sq_store.specs.Keys.{Keys, are_distinct, are_keyed, has_columns, has_distinct_keys, has_keys, have_keys, keys_at, keys_of, key_at}
-use Rattle.sq_store.specs.Rising.{is_rising, has_rising_rows, all_rising}
+use Rattle.sq_store.specs.Keys.{Keys, are_keyed, has_columns, has_distinct_keys, has_keys, have_keys, keys_at, keys_of, key_at}
+use Rattle.sq_store.specs.Rising.{has_rising_rows, all_rising}
 use Rattle.sq_store.specs.Sound.{is_sound}
 use Rattle.sq_store.specs.laws.Sound.{keyed_of, rises_of}
 use Rattle.sq_store.proofs.Rises.{all_rising_at_first, all_rising_set, is_rising_at, is_rising_changed_by, next_changed_by, rows_rise_at}

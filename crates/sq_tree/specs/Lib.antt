@@ -10,3 +10,4 @@ pub mod Module
 pub mod Schema
 pub mod Script
 pub mod Brackets
+pub mod Starts

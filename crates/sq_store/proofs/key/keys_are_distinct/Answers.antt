@@ -1,4 +1,4 @@
-use Rattle.std.proofs.Common.{◌≡◌, get_or, arith}
+use Rattle.std.proofs.Common.{arith}
 use Rattle.sq_store.proofs.Sound.{have_columns}
 use Rattle.sq_store.proofs.key.keys_are_distinct.Goals as goal
 

@@ -1,4 +1,4 @@
-use Rattle.std.proofs.Common.{◌≡◌, ◌<◌, false, length, nat_eq, slice_get, slice_index_or, arith, sym}
+use Rattle.std.proofs.Common.{◌≡◌, false, nat_eq, slice_get, slice_index_or, arith, sym}
 use Rattle.std.proofs.lemmas.Grind.{common_steps}
 use Rattle.sq_store.specs.Content.{first_among}
 use Rattle.sq_store.proofs.Search.{put_at, put_nowhere, put_past}
