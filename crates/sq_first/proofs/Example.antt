@@ -42,7 +42,7 @@ actions =
     ∷ next_row ∷ next_row ∷ next_row ∷ next_row ∷ call 3 (codes "CLX") [] ∷ call 3 (codes "CLX") [] ∷ Show (codes "U") (codes "D") ∷ []
 
 abbrev first : State
-first = record { now = no_rows 1; cursors = Closed ∷ []; row_numbers = 1000000 }
+first = record { tables = no_rows 1; cursors = Closed ∷ []; row_numbers = 1000000 }
 
 pub the_report : report procedures first actions ≡
     codes "M.ADDROW 00000 0\nM.ADDROW 00000 0\nM.OPX 00000 0\n"

@@ -15,9 +15,9 @@ use Rattle.sq_first.specs.declared.program.BoundStatement.{BoundStatement}
 use Rattle.sq_first.specs.declared.program.BoundStatement.TheVariants.{Insert, Open, Fetch, Close}
 use Rattle.sq_first.specs.declared.program.Target.{Target}
 
--- the tables now, each cursor of the module, and the greatest number that a row may have
+-- the tables, each cursor of the module, and the greatest number that a row may have
 pub record State : Type 0 where
-  pub now : Content
+  pub tables : Content
   pub cursors : List CursorState
   pub row_numbers : ℕ
 
@@ -63,14 +63,14 @@ row_of places values = map (λ i. slice_index_or values i Null) places
 
 -- the schema's table
 abbrev pub the_table : State → Table
-the_table s = table_at s.now 0
+the_table s = table_at s.tables 0
 
 -- whether a number is left for a new row
 abbrev pub has_number : State → Bool
 has_number s = nat_le (the_table s).next s.row_numbers
 
 abbrev pub with_row : State → Values → State
-with_row s row = record s { now = with_table s.now 0 (inserted (the_table s) row) }
+with_row s row = record s { tables = with_table s.tables 0 (inserted (the_table s) row) }
 
 abbrev pub replied_with : Status → Reply
 replied_with status = record { status = status; outputs = [] }
@@ -100,7 +100,7 @@ replied s (Open place) values = replied_with (if is_open (cursor_at s place) the
 replied s (Fetch f) values = fetched (the_table s) f.targets (cursor_at s f.cursor)
 replied s (Close place) values = replied_with (if is_open (cursor_at s place) then SuccessfulCompletion else InvalidCursorState)
 
--- whether the table and the cursor that a statement speaks of are among so many
+-- whether the table and the cursor that a statement speaks of are among this many
 abbrev pub is_among : ℕ → ℕ → BoundStatement → Bool
 is_among tables cursors (Insert places) = nat_lt 0 tables
 is_among tables cursors (Open place) = nat_lt 0 tables && nat_lt place cursors

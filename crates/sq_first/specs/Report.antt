@@ -59,8 +59,11 @@ blank_value v = codes " " ++ value_codes v
 abbrev pub row_line : Numbered → Bytes
 row_line r = codes " " ++ flat_map blank_value r.row ++ codes "\n"
 
+abbrev pub table_line : Name → Name → ℕ → Bytes
+table_line user name rows = codes "TABLE " ++ user ++ codes "." ++ name ++ codes " " ++ decimal rows ++ codes "\n"
+
 abbrev pub table_lines : Name → Name → Table → Bytes
-table_lines user name t = codes "TABLE " ++ user ++ codes "." ++ name ++ codes " " ++ decimal (length t.rows) ++ codes "\n" ++ flat_map row_line t.rows
+table_lines user name t = table_line user name (length t.rows) ++ flat_map row_line t.rows
 
 -- ---- a run, of a module whose procedures are these
 

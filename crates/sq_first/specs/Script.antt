@@ -67,7 +67,7 @@ cursors_of (Some m) = m.cursors
 -- at first every table is empty and every cursor closed
 abbrev pub first_state : Option Schema → Option BoundModule → ℕ → State
 first_state schema bound row_numbers = record {
-  now = no_rows (table_count (schema_table schema));
+  tables = no_rows (table_count (schema_table schema));
   cursors = replicate (length (cursors_of bound)) Closed;
   row_numbers = row_numbers;
 }
@@ -152,7 +152,7 @@ is_statement_among tables cursors (Some statement) = is_among tables cursors sta
 abbrev pub all_among : ℕ → ℕ → List BoundProcedure → Bool
 all_among tables cursors procedures = list_all (λ p. is_among tables cursors p.statement) procedures
 
--- whether what an item speaks of is among so many tables and cursors, and these procedures
+-- whether what an item speaks of is among this many tables and cursors, and these procedures
 abbrev pub can_perform : ℕ → ℕ → List BoundProcedure → Action → Bool
 can_perform tables cursors procedures (Calls c) = is_statement_among tables cursors (statement_at procedures c.procedure)
 can_perform tables cursors procedures (Shows user table) = nat_lt 0 tables

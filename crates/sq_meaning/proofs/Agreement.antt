@@ -1,6 +1,6 @@
 -- Two trees of one shape mean the same, where the columns, parameters and tables to which they refer are the same: so do
 -- a tree that names them and one that places them.
-use Rattle.std.proofs.Common.{◌≡◌, ℕ, zero, suc, Bool, true, false, List, [], ◌∷◌, ◌++◌, map, Option, Some, None, refl, sym, ap, ◌∙◌, Ok, Err}
+use Rattle.std.proofs.Common.{◌≡◌, ℕ, zero, suc, Bool, List, [], ◌∷◌, ◌++◌, map, Option, Some, None, refl, sym, ap, ◌∙◌, Ok}
 use Rattle.std.specs.Prelude.{if◌then◌else◌, slice_get, ◌||◌}
 use Rattle.std.specs.List.{flat_map}
 use Rattle.std.specs.Option.{option_and_then}
@@ -13,44 +13,17 @@ use Rattle.sq_tree.specs.declared.cond.Comparison.{Comparison}
 use Rattle.sq_tree.specs.declared.cond.Comparison.TheVariants.{Equal, LessOrEqual, GreaterOrEqual}
 use Rattle.sq_tree.specs.declared.cond.Quantifier.TheVariants as quantifier
 use Rattle.sq_meaning.specs.Status.{Outcome, and_then, each, kept, well_formed, with_status, like_status}
-use Rattle.sq_meaning.specs.Syntax.{Naming, Expr, literal, parameter, user, column, count_rows, set_function, signed, added, scaled, bracketed, SelectList, all_columns, expressions, Cond, Conds, Clause, Select, compare, compare_subquery, compare_quantified, between, in_subquery, in_list, like, is_null, exists, negated, conjunction, disjunction, no_cond, a_cond, absent, present, select}
-use Rattle.sq_meaning.specs.Environment.{Row, Line, Input, Scope, Env, Place, within, alone, items_in, value_at}
-use Rattle.sq_meaning.specs.Expression.{Reading, value, set_functions, of_nearest, over_group, with_sign, sum_of, product_of, function_value, distinct_values}
+use Rattle.sq_meaning.specs.Syntax.{Naming, Expr, literal, parameter, user, column, count_rows, set_function, signed, added, scaled, bracketed, SelectList, all_columns, expressions, Cond, Conds, Clause, Select, compare, compare_subquery, compare_quantified, between, in_subquery, in_list, like, is_null, exists, negated, conjunction, disjunction, no_cond, a_cond, absent, present, select, Query, specification, union}
+use Rattle.sq_meaning.specs.Environment.{Item, TableName, place_of, Row, Line, Input, Scope, Env, Place, within, alone, items_in, value_at}
+use Rattle.sq_meaning.specs.Expression.{Reading, value, set_functions, over_group, with_sign, sum_of, product_of, function_value, distinct_values}
 use Rattle.sq_meaning.specs.Rows.{product, firsts, same_row}
+use Rattle.sq_meaning.specs.Kind.{Kinds, query_kinds}
+use Rattle.sq_meaning.specs.QueryExpression.{query_rows, row_brought_to}
+use Rattle.sq_meaning.specs.Placed.{by_place}
+use Rattle.sq_meaning.specs.Tables.{Tables, reading_by_name}
+use Rattle.sq_tree.specs.declared.names.ColumnReference.{ColumnReference}
+use Rattle.sq_meaning.proofs.OutcomeLaws.{kept_map, each_map, then_then, either_way}
 use Rattle.sq_meaning.specs.Query.{compared, comparison, and_also, or_else, any_in_turn, only_value, compared_with_rows, has_rows, like_truth, escape_functions, cond_functions, conds_functions, list_functions, clause_functions, is_some_of, is_present, is_grouped, first_line, group_scope, grouping_values, grouped, groups_by, group_scopes, scopes_of, listed_values, is_true, truth, all_truth, any_truth, clause_truth, rows}
-
--- ---- outcomes along lists
-
-kept_map : {X Y : Type 0} (f : X → Y) (t : Y → Outcome Bool) (xs : List X) → kept t (map f xs) ≡ and_then (kept (λ x. t (f x)) xs) (λ ys. Ok (map f ys))
-kept_map f t [] = refl
-kept_map {X} {Y} f t (x ∷ xs) = ap (λ r. and_then (t (f x)) (λ b. and_then r (λ ys. Ok (if b then f x ∷ ys else ys)))) (kept_map f t xs) ∙ step (t (f x)) (kept (λ x. t (f x)) xs)
-  where
-    chosen : (b : Bool) (ys : List X) → (if b then f x ∷ map f ys else map f ys) ≡ map f (if b then x ∷ ys else ys)
-    chosen true ys = refl
-    chosen false ys = refl
-
-    step : (o : Outcome Bool) (r : Outcome (List X))
-        → and_then o (λ b. and_then (and_then r (λ ys. Ok (map f ys))) (λ ys. Ok (if b then f x ∷ ys else ys)))
-        ≡ and_then (and_then o (λ b. and_then r (λ ys. Ok (if b then x ∷ ys else ys)))) (λ ys. Ok (map f ys))
-    step (Err s) r = refl
-    step (Ok b) (Err s) = refl
-    step (Ok b) (Ok ys) = ap Ok (chosen b ys)
-
-each_map : {X Y Z : Type 0} (f : X → Y) (g : Y → Outcome Z) (xs : List X) → each g (map f xs) ≡ each (λ x. g (f x)) xs
-each_map f g [] = refl
-each_map f g (x ∷ xs) = ap (λ r. and_then (g (f x)) (λ y. and_then r (λ ys. Ok (y ∷ ys)))) (each_map f g xs)
-
-then_then : {X Y Z : Type 0} (r : Outcome X) (f : X → Outcome Y) (g : Y → Outcome Z) → and_then (and_then r f) g ≡ and_then r (λ x. and_then (f x) g)
-then_then (Ok x) f g = refl
-then_then (Err s) f g = refl
-
-either_way : {X Y Z : Type 0} (g h : Bool) → g ≡ h → (a b : Outcome X) (c d : Outcome Y) (t : X → Outcome Z) (u : Y → Outcome Z)
-    → and_then a t ≡ and_then c u → and_then b t ≡ and_then d u → and_then (if g then a else b) t ≡ and_then (if h then c else d) u
-either_way g h e a b c d t u p q = sym (ap (λ k. and_then (if k then a else b) t) (sym e)) ∙ by_test h
-  where
-    by_test : (k : Bool) → and_then (if k then a else b) t ≡ and_then (if k then c else d) u
-    by_test true = p
-    by_test false = q
 
 -- ---- phases of a query
 
@@ -406,3 +379,25 @@ module _ {M N : Naming} (m : Reading M) (n : Reading N) (forget : M.Item → N.I
         rows_given d d' l l' f f' w w' by by' h h' env b.0 g b.1 b.2 b.3 b.5 b.6
         (λ line. clause_same w w' (within (alone b.0 line) env) g b.4)
         (λ line group. clause_same h h' (within (record { items = b.0; line = line; group = group }) env) g b.6)
+
+  -- ---- query expressions
+
+  abbrev pub SameQuery : Kinds M → Kinds N → Heads → Query M → Query N → Type 0
+  SameQuery k l hs (specification q) (specification p) = SameSelect hs q p
+  SameQuery k l hs (union all q r) (union all' q' r') = (all ≡ all') × (query_kinds k (union all q r) ≡ query_kinds l (union all' q' r')) × SameQuery k l hs q q' × SameQuery k l hs r r'
+  SameQuery k l hs _ _ = ⊥
+
+  -- a query expression has the same rows
+  pub query_rows_same : (k : Kinds M) (l : Kinds N) (q : Query M) (p : Query N) (env : Env M.Item) → Given env.inputs → SameQuery k l (items_in env) q p → query_rows m k q env ≡ query_rows n l p (bare env)
+  query_rows_same k l (specification q) (specification p) env g b = rows_same q p env g b
+  query_rows_same k l (union all q r) (union all' q' r') env g b =
+      (λ i. and_then (query_rows_same k l q q' env g b.2 i) (λ ls. and_then (query_rows_same k l r r' env g b.3 i) (λ rs. and_then (b.1 i) (λ kinds.
+      and_then (each (row_brought_to kinds) (ls ++ rs)) (λ joined. Ok (if b.0 i then joined else firsts same_row joined))))))
+  query_rows_same k l _ _ env g b = absurd b
+
+-- ---- names and places
+
+-- what places have to be, so that a tree that names columns means the same as one that places them: those of the names
+pub column_by_place : {T : Type 0} (tables : Tables) (rows_of : TableName → Outcome (List Row)) (rows_at : T → Outcome (List Row)) (hs : List (List Item)) (c : ColumnReference) (p : Place)
+    → place_of c hs ≡ Ok p → SameColumn (reading_by_name tables rows_of) (by_place rows_at) (λ item. tt) (λ inputs. Unit {0}) hs c p
+column_by_place tables rows_of rows_at hs c p h = h

@@ -4,8 +4,9 @@ use Rattle.std.proofs.Common.{ap, inl, inr, subst, sym, ◌∙◌}
 use Rattle.std.proofs.lemmas.Bool.{cases_eq}
 use Rattle.std.proofs.lemmas.List.{get_or-set_other}
 use Rattle.std.specs.List.{AllByRecursion}
-use Rattle.std.specs.Prelude.{◌≡◌, ◌≢◌, ◌⊎◌, ℕ, zero, suc, Bool, true, false, List, [], ◌∷◌, ◌++◌, map, if◌then◌else◌, slice_get, filter, flat_map, Option, unwrap_or, option_map, option_to_list, option_and_then, refl, Some, None, Ok, Err}
+use Rattle.std.specs.Prelude.{◌≡◌, ◌≢◌, ◌⊎◌, ℕ, zero, suc, Bool, true, false, not, List, [], ◌∷◌, ◌++◌, map, if◌then◌else◌, slice_get, filter, flat_map, Option, unwrap_or, option_map, option_to_list, option_and_then, refl, Some, None, Ok, Err}
 use Rattle.sq_lex.specs.declared.name.Name.{Name}
+use Rattle.sq_value.specs.SetFunctions.{numbers}
 use Rattle.sq_value.specs.declared.value.Value.{Value}
 use Rattle.sq_store.specs.Content.{Content, empty, table_at, with_table}
 use Rattle.sq_store.specs.declared.table.Table.{Table}
@@ -22,13 +23,15 @@ use Rattle.sq_tree.specs.declared.statement.Where.{Where}
 use Rattle.sq_tree.specs.declared.statement.Where.TheVariants as rows_where
 use Rattle.sq_meaning.specs.Environment.{Row, TableName}
 use Rattle.sq_meaning.specs.Spelled.{table_of}
-use Rattle.sq_meaning.specs.Status.{Outcome, and_then, each, well_formed}
+use Rattle.sq_meaning.specs.Status.{Outcome, each, well_formed}
 use Rattle.sq_meaning.specs.Syntax.{absent}
 use Rattle.sq_meaning.specs.Tables.{descriptor_of, rows_in}
 use Rattle.sq_meaning.specs.Target.{Target, target_of}
 use Rattle.sq_meaning.specs.declared.status.Status.TheVariants as status
+use Rattle.sq_model.proofs.Bind.{bind_ok}
+use Rattle.sq_model.proofs.DomainLaws.{Each, IsTyped, IsTypedRow, each_filtered, inserted_in, mapped, new_rows_in, replaced_in, unmapped, updated_rows_in}
 use Rattle.sq_model.specs.Change.{Setting, Which, base_at, check_options_met, completed, completed_with, delete_outcome, given_rows, has_numbers, insert_outcome, insert_places, is_numbered, new_row, numbers_changed, rows_at, tables_in, update_outcome, updated_row, which_target, with_replaced, with_rows, without}
-use Rattle.sq_model.specs.Constraints.{AllChecksHold, ChecksHold, all_satisfied, constraints_checked, demanded, keys_satisfied, references_satisfied, row_satisfied, rows_of_base}
+use Rattle.sq_model.specs.Constraints.{AllChecksHold, ChecksHold, ConstraintsHold, DomainsHold, EachTable, all_satisfied, constraints_checked, demanded, keys_satisfied, references_satisfied, row_satisfied, rows_of_base}
 use Rattle.sq_model.specs.Cursor.{CursorState, fetched, is_open}
 use Rattle.sq_model.specs.Machine.{Call, CursorEntry, Outcomes, Program, Running, State, all_closed, at_current, call_in, call_of, change_by, close_cursor, current_number, cursor_now, delete_at, delete_rows, ends_with, fetch_cursor, fetch_to, move_of, moved, open_by, open_cursor, opened, outcome, performed, performed_if, replied, running, setting, shown_now, stepped, surroundings, update_rows, where_clause_of}
 use Rattle.sq_model.specs.Module.{cursor_named, module_named, procedure_named}
@@ -46,10 +49,7 @@ pub record Checked (elements : Elements) (before behind : Content) : Type 0 wher
   pub is_there : slice_get (base_tables elements) place ≡ Some base
   pub is_changed : behind ≡ with_table before place changed
   pub passed : constraints_checked elements base behind ≡ Ok tt
-
-bind_ok : {A B : Type 0} (x : Outcome A) (f : A → Outcome B) (y : B) → and_then x f ≡ Ok y → (a : A) × (x ≡ Ok a) × (f a ≡ Ok y)
-bind_ok (Ok a) f y e = (a, refl, e)
-bind_ok (Err s) f y e = cc
+  pub typed : Each (IsTypedRow base) (table_at before place).rows → Each (IsTypedRow base) changed.rows
 
 found : {A : Type 0} (o : Option A) (x : A) → well_formed o ≡ Ok x → o ≡ Some x
 found None x e = cc
@@ -62,8 +62,9 @@ checked_with s t content after e =
     (cc, b.1)
 
 checked_completed : (s : Setting) (target : Target) (t : BaseTable) (rows : List Row) (changed : Table) (after : Content)
+    → (Each (IsTypedRow t) (table_at s.content target.place).rows → Each (IsTypedRow t) changed.rows)
     → base_at s target.place ≡ Ok t → completed s target t rows changed ≡ Ok after → Checked s.elements s.content after
-checked_completed s target t rows changed after there e =
+checked_completed s target t rows changed after typed there e =
     let b = bind_ok (check_options_met s target rows) (λ _. completed_with s t (with_table s.content target.place changed)) after e in
     let c = checked_with s t (with_table s.content target.place changed) after b.2 in
     record {
@@ -73,6 +74,7 @@ checked_completed s target t rows changed after there e =
       is_there = found (slice_get (base_tables s.elements) target.place) t there;
       is_changed = c.0;
       passed = subst (λ (k : Content). constraints_checked s.elements t k ≡ Ok tt) (sym c.0) c.1;
+      typed = typed;
     }
 
 checked_insert : (s : Setting) (i : Insert) (after : Content) → insert_outcome s i ≡ Ok after → Checked s.elements s.content after
@@ -83,7 +85,8 @@ checked_insert s i after e =
     let given = bind_ok (given_rows s t.0 (insert_places d.0 target.0 i.columns) i.source) _ after t.2 in
     let rows = bind_ok (each (new_row s t.0) given.0) _ after given.2 in
     let numbers = bind_ok (demanded (has_numbers s (target.0).place rows.0) status.NoRowNumberLeft) _ after rows.2 in
-    checked_completed s target.0 t.0 rows.0 (with_rows (table_at s.content (target.0).place) rows.0) after t.1 numbers.2
+    checked_completed s target.0 t.0 rows.0 (with_rows (table_at s.content (target.0).place) rows.0) after
+    (λ h. inserted_in t.0 rows.0 (table_at s.content (target.0).place) h (new_rows_in s t.0 (insert_places d.0 target.0 i.columns) i.source given.0 rows.0 given.1 rows.1)) t.1 numbers.2
 
 checked_update : (s : Setting) (u : Update) (which : Which) (after : Content) → update_outcome s u which ≡ Ok after → Checked s.elements s.content after
 checked_update s u which after e =
@@ -92,14 +95,17 @@ checked_update s u which after e =
     let t = bind_ok (base_at s (target.0).place) _ after target.2 in
     let numbers = bind_ok (numbers_changed s target.0 which) _ after t.2 in
     let changed = bind_ok (each (updated_row s d.0 target.0 t.0 u) (filter (is_numbered numbers.0) (rows_at s (target.0).place))) _ after numbers.2 in
-    checked_completed s target.0 t.0 (map (λ r. r.row) changed.0) (with_replaced (table_at s.content (target.0).place) changed.0) after t.1 changed.2
+    checked_completed s target.0 t.0 (map (λ r. r.row) changed.0) (with_replaced (table_at s.content (target.0).place) changed.0) after
+    (λ h. replaced_in t.0 changed.0 (rows_at s (target.0).place) (updated_rows_in s d.0 target.0 t.0 u (filter (is_numbered numbers.0) (rows_at s (target.0).place)) changed.0
+    (each_filtered (IsTypedRow t.0) (is_numbered numbers.0) (rows_at s (target.0).place) h) changed.1) h) t.1 changed.2
 
 checked_delete : (s : Setting) (x : Delete) (which : Which) (after : Content) → delete_outcome s x which ≡ Ok after → Checked s.elements s.content after
 checked_delete s x which after e =
     let target = bind_ok (which_target s (table_of s.user x.table) which) _ after e in
     let t = bind_ok (base_at s (target.0).place) _ after target.2 in
     let numbers = bind_ok (numbers_changed s target.0 which) _ after t.2 in
-    checked_completed s target.0 t.0 [] (without (table_at s.content (target.0).place) numbers.0) after t.1 numbers.2
+    checked_completed s target.0 t.0 [] (without (table_at s.content (target.0).place) numbers.0) after
+    (λ h. each_filtered (IsTypedRow t.0) (λ r. not (is_numbered numbers.0 r)) (rows_at s (target.0).place) h) t.1 numbers.2
 
 -- ---- what becomes of the databases in a call
 
@@ -284,19 +290,71 @@ hold_for elements before behind differ hold c place t there (inr other) =
 checks_after : (elements : Elements) (before behind : Content) → NamesDiffer elements → AllChecksHold elements before → Checked elements before behind → AllChecksHold elements behind
 checks_after elements before behind differ hold c place t there = hold_for elements before behind differ hold c place t there (cases_eq place c.place)
 
+-- ---- domains
+
+append_nothing : {A : Type 0} (xs : List A) → xs ++ [] ≡ xs
+append_nothing [] = refl
+append_nothing (x ∷ xs) = ap (λ ys. x ∷ ys) (append_nothing xs)
+
+set_or_not : (ts : Content) (place : ℕ) (x : Table) → (table_at (with_table ts place x) place ≡ x) ⊎ (table_at (with_table ts place x) place ≡ table_at ts place)
+set_or_not [] place x = inr refl
+set_or_not (t ∷ ts) zero x = inl refl
+set_or_not (t ∷ ts) (suc n) x = set_or_not ts n x
+
+rows_at_place : (elements : Elements) (content : Content) (name : TableName) (place : ℕ) → base_place elements name ≡ Some place → rows_of_base elements content name ≡ rows_in (table_at content place)
+rows_at_place elements content name place e = ap (rows_there content) e ∙ append_nothing (rows_in (table_at content place))
+
+-- rows of a base table, as numbered rows and as rows
+typed_rows : (elements : Elements) (content : Content) (t : BaseTable) (place : ℕ) → base_place elements t.name ≡ Some place → DomainsHold elements content t → Each (IsTypedRow t) (table_at content place).rows
+typed_rows elements content t place e hold =
+    unmapped (IsTyped t) (λ r. r.row) (table_at content place).rows (subst (λ (rows : List Row). Each (IsTyped t) rows) (rows_at_place elements content t.name place e) hold)
+
+rows_typed : (elements : Elements) (content : Content) (t : BaseTable) (place : ℕ) → base_place elements t.name ≡ Some place → Each (IsTypedRow t) (table_at content place).rows → DomainsHold elements content t
+rows_typed elements content t place e typed =
+    subst (λ (rows : List Row). Each (IsTyped t) rows) (sym (rows_at_place elements content t.name place e)) (mapped (IsTyped t) (λ r. r.row) (table_at content place).rows typed)
+
+typed_after : (t : BaseTable) (before : Content) (place : ℕ) (x : Table) → Each (IsTypedRow t) (table_at before place).rows → Each (IsTypedRow t) x.rows
+    → Each (IsTypedRow t) (table_at (with_table before place x) place).rows
+typed_after t before place x was now = split (set_or_not before place x)
+  where
+    split : (table_at (with_table before place x) place ≡ x) ⊎ (table_at (with_table before place x) place ≡ table_at before place) → Each (IsTypedRow t) (table_at (with_table before place x) place).rows
+    split (inl e) = subst (λ (k : Table). Each (IsTypedRow t) k.rows) (sym e) now
+    split (inr e) = subst (λ (k : Table). Each (IsTypedRow t) k.rows) (sym e) was
+
+domains_changed : (elements : Elements) (before behind : Content) → NamesDiffer elements → EachTable elements (DomainsHold elements before) → (c : Checked elements before behind) → DomainsHold elements behind c.base
+domains_changed elements before behind differ hold c =
+    let e = differ c.place c.base c.is_there in
+    let was = typed_rows elements before c.base c.place e (hold c.place c.base c.is_there) in
+    let now = rows_typed elements (with_table before c.place c.changed) c.base c.place e (typed_after c.base before c.place c.changed was (c.typed was)) in
+    subst (λ (k : Content). DomainsHold elements k c.base) (sym c.is_changed) now
+
+domains_for : (elements : Elements) (before behind : Content) → NamesDiffer elements → EachTable elements (DomainsHold elements before) → (c : Checked elements before behind)
+    → (place : ℕ) (t : BaseTable) → slice_get (base_tables elements) place ≡ Some t → (place ≡ c.place) ⊎ (place ≡ c.place → ⊥) → DomainsHold elements behind t
+domains_for elements before behind differ hold c place t there (inl same) =
+    let is_it : c.base ≡ t = same_base (slice_get (base_tables elements) c.place) c.base t c.is_there (subst (λ (n : ℕ). slice_get (base_tables elements) n ≡ Some t) same there) in
+    subst (λ (u : BaseTable). DomainsHold elements behind u) is_it (domains_changed elements before behind differ hold c)
+domains_for elements before behind differ hold c place t there (inr other) =
+    let rows : rows_of_base elements behind t.name ≡ rows_of_base elements before t.name =
+    ap (λ k. rows_of_base elements k t.name) c.is_changed ∙ other_rows elements before c.place place c.changed t.name (differ place t there) other in
+    subst (λ (rs : List Row). Each (IsTyped t) rs) (sym rows) (hold place t there)
+
+constraints_after : (elements : Elements) (before behind : Content) → NamesDiffer elements → ConstraintsHold elements before → Checked elements before behind → ConstraintsHold elements behind
+constraints_after elements before behind differ hold c =
+    (λ place t there. domains_for elements before behind differ hold.0 c place t there (cases_eq place c.place), checks_after elements before behind differ hold.1 c)
+
 -- of the database now, and of the database at the last COMMIT
 abbrev pub StateHolds : Elements → State → Type 0
-StateHolds elements s = AllChecksHold elements s.tables × AllChecksHold elements s.committed
+StateHolds elements s = ConstraintsHold elements s.tables × ConstraintsHold elements s.committed
 
-moved_along : (elements : Elements) (k l : Content) → l ≡ k → AllChecksHold elements k → AllChecksHold elements l
-moved_along elements k l e hold = subst (λ (c : Content). AllChecksHold elements c) (sym e) hold
+moved_along : (elements : Elements) (k l : Content) → l ≡ k → ConstraintsHold elements k → ConstraintsHold elements l
+moved_along elements k l e hold = subst (λ (c : Content). ConstraintsHold elements c) (sym e) hold
 
 holds_along : (elements : Elements) (s : State) (o : Outcomes) → NamesDiffer elements → StateHolds elements s → Course elements s o → StateHolds elements o.0
 holds_along elements s o differ hold (Course.stays t k) = (moved_along elements s.tables (o.0).tables t hold.0, moved_along elements s.committed (o.0).committed k hold.1)
-holds_along elements s o differ hold (Course.changes c k ok) = (checks_after elements s.tables (o.0).tables differ hold.0 c, moved_along elements s.committed (o.0).committed k hold.1)
+holds_along elements s o differ hold (Course.changes c k ok) = (constraints_after elements s.tables (o.0).tables differ hold.0 c, moved_along elements s.committed (o.0).committed k hold.1)
 holds_along elements s o differ hold (Course.commits t k) = (moved_along elements s.tables (o.0).tables t hold.0, moved_along elements s.tables (o.0).committed k hold.0)
 holds_along elements s o differ hold (Course.rolls_back t k ok) = (moved_along elements s.committed (o.0).tables t hold.1, moved_along elements s.committed (o.0).committed k hold.1)
 
--- Where NOT NULL, CHECK, keys and references hold of both databases, they hold after each call.
+-- Where all constraints hold of both databases, they hold after each call.
 pub constraints_hold_after : (p : Program) (s : State) (c : Call) → NamesDiffer p.elements → StateHolds p.elements s → StateHolds p.elements (stepped p s c)
 constraints_hold_after p s c differ hold = holds_along p.elements s (outcome p s c) differ hold (course p s c)

@@ -39,7 +39,6 @@ use Rattle.sq_model.specs.Privilege.{Privilege}
 use Rattle.sq_model.specs.Privileges.{holds}
 use Rattle.sq_model.specs.Report.{report}
 use Rattle.sq_model.specs.Run.{Item, program_of}
-use Rattle.sq_model.specs.Schema.{constraints}
 use Rattle.sq_model.specs.SchemaRefusal.{elements_of, first_schema_refusal}
 use Rattle.sq_model.specs.declared.refusal.ModuleFault.TheVariants as module_fault
 use Rattle.sq_model.specs.declared.refusal.SchemaFault.TheVariants as schema_fault
@@ -220,7 +219,7 @@ calls names = map (λ n. Item.call (record { text = codes "M"; procedure = n; va
 -- a deleted number is not used again, but after a ROLLBACK
 changes_report :
     report (small nullable_table) (first_state (small nullable_table))
-        (calls (codes "DEL" ∷ codes "INS" ∷ codes "CMT" ∷ codes "INS" ∷ codes "DEL" ∷ codes "INS" ∷ codes "RBK" ∷ codes "INS" ∷ []) ++ Item.show d ∷ [])
+    (calls (codes "DEL" ∷ codes "INS" ∷ codes "CMT" ∷ codes "INS" ∷ codes "DEL" ∷ codes "INS" ∷ codes "RBK" ∷ codes "INS" ∷ []) ++ Item.show d ∷ [])
     ≡ codes "M.DEL 02000 100\nM.INS 00000 0\nM.CMT 00000 0\nM.INS 00000 0\nM.DEL 00000 0\nM.INS S1L00 -9001\n"
     ++ codes "M.RBK 00000 0\nM.INS 00000 0\nTABLE U.D 2\n  NULL\n  NULL\n"
 unfolding digits
@@ -237,7 +236,7 @@ refused_null = refl
 abbrev stranger : Program
 stranger =
     program_of (schema_text (codes "U") (nullable_table ∷ []) ∷ [])
-      (record { name = codes "M"; language = codes "C"; authorization = codes "W"; items = procedure_of (codes "DEL") (statement.Delete (record { table = u_d; target = None })) ∷ [] } ∷ []) 2
+    (record { name = codes "M"; language = codes "C"; authorization = codes "W"; items = procedure_of (codes "DEL") (statement.Delete (record { table = u_d; target = None })) ∷ [] } ∷ []) 2
 
 no_privilege : report stranger (first_state stranger) (calls (codes "DEL" ∷ [])) ≡ codes "M.DEL 42000 -4200\n"
 unfolding digits

@@ -1,6 +1,5 @@
 -- The syntax rules, computed on small queries over T (K INTEGER, A INTEGER, C CHAR(5), X NUMERIC(18,10)) of the user U.
 use Rattle.std.specs.Prelude.{◌≡◌, ℕ, true, false, List, [], ◌∷◌, pos, codes, filter, refl, Some, None}
-use Rattle.sq_value.specs.Truth.{known}
 use Rattle.sq_value.specs.declared.domain.Domain.TheVariants as domain
 use Rattle.sq_value.specs.declared.domain.Kind.{Kind}
 use Rattle.sq_value.specs.declared.domain.Kind.TheVariants as kinds
@@ -13,9 +12,8 @@ use Rattle.sq_tree.specs.declared.names.ColumnReference.{ColumnReference}
 use Rattle.sq_tree.specs.declared.schema.TableDefinition.{TableDefinition}
 use Rattle.sq_tree.specs.declared.schema.TableElement.TheVariants as table_element
 use Rattle.sq_meaning.specs.Environment.{TableName, TableReference}
-use Rattle.sq_meaning.specs.Kind.{kind}
 use Rattle.sq_meaning.specs.Spelled.{Named}
-use Rattle.sq_meaning.specs.Syntax.{Clause, Cond, Expr, Select, a_cond, added, all_columns, column, compare, conds, conjunction, count_rows, disjunction, exists, expressions, in_subquery, literal, negated, no_cond, parameter, present, scaled, select, set_function, user}
+use Rattle.sq_meaning.specs.Syntax.{Clause, Cond, Expr, Select, a_cond, added, all_columns, column, compare, conds, conjunction, count_rows, disjunction, exists, expressions, in_subquery, literal, negated, no_cond, parameter, present, scaled, select, set_function}
 use Rattle.sq_meaning.specs.Syntax.{absent}
 use Rattle.sq_meaning.specs.Tables.{ColumnDescriptor, Tables}
 use Rattle.sq_meaning.specs.Tables.{base_table}
@@ -146,7 +144,7 @@ having_literal = refl
 abbrev in_having : List ℕ → Select Named
 in_having name =
     select false (expressions (count_rows ∷ [])) (T ∷ []) absent by_k
-      (present (exists (select false (expressions (one ∷ [])) (T_as_P ∷ []) (present (compare comparison.Equal (qualified (codes "P") (codes "K")) (qualified (codes "T") name))) [] absent)))
+    (present (exists (select false (expressions (one ∷ [])) (T_as_P ∷ []) (present (compare comparison.Equal (qualified (codes "P") (codes "K")) (qualified (codes "T") name))) [] absent)))
 
 ungrouped_from_subquery : faults (in_having (codes "A")) ≡ fault.UngroupedColumn ∷ []
 ungrouped_from_subquery = refl

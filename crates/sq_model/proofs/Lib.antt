@@ -1,4 +1,6 @@
+pub mod Bind
 pub mod CallLaws
+pub mod DomainLaws
 pub mod PrivilegeLaws
 pub mod CursorLaws
 pub mod Computed

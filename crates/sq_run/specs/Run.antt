@@ -31,6 +31,12 @@ pub record Spells (text : Bytes) (lexed : List Lexeme) : Type 0 where
   pub read : reading text ≡ Ok tokens
   pub same : lexemes tokens ≡ lexed
 
+-- tokens of a tree, out of which this part of the first language is taken
+pub record TokensSay {A B : Type 0} (tokens_of : A → List Lexeme) (part : A → Option B) (tokens : List Lexeme) (said : B) : Type 0 where
+  pub tree : A
+  pub spelled : tokens ≡ tokens_of tree
+  pub taken : part tree ≡ Some said
+
 -- a text that spells a tree, out of which this part of the first language is taken
 pub record Says {A B : Type 0} (tokens : A → List Lexeme) (part : A → Option B) (text : Bytes) (said : B) : Type 0 where
   pub tree : A

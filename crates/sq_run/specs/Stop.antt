@@ -9,7 +9,7 @@ use Rattle.sq_run.specs.Run.{Run, report_of, report_of_first}
 use Rattle.sq_run.specs.declared.refusal.RunFault.{RunFault}
 use Rattle.sq_run.specs.declared.refusal.RunFault.TheVariants.{SchemaRefused, ModuleRefused, ScriptRefused, Write, NoMemory}
 
--- a refusal, or want of memory before the first item's lines were written
+-- a refusal, or running out of memory before the first item's lines were written
 abbrev pub is_early : RunFault → Bool
 is_early (SchemaRefused refusal) = true
 is_early (ModuleRefused refusal) = true

@@ -1,7 +1,7 @@
 //! Looking up the names of a whole module, and what the first language asks of it.
 ghost use Rattle.std.specs.Prelude.{◌≡◌, ◌<◌, ◌++◌, ◌∷◌, [], Some, true, length, IfOk, IsSome, OnOk};
 ghost use Rattle.std.specs.Option.{option_copied};
-ghost use Rattle.sq_first.specs.Script as model;
+ghost use Rattle.sq_first.specs.Script as scripts;
 ghost use Rattle.sq_first.specs.Script.{all_among, table_count};
 ghost use Rattle.sq_first.specs.Machine.{is_among};
 ghost use Rattle.sq_first.specs.Program as program;
@@ -57,7 +57,7 @@ pub(crate) fn bind_module(
     own: Option<&TableDefinition>,
     module: &Module,
 ) -> Result<BoundModule, ModuleFault>
-    ensures bound { IfOk result (λ bound. model.bound_by (option_copied own.entry) module.now ≡ Some bound) }
+    ensures bound { IfOk result (λ bound. scripts.bound_by (option_copied own.entry) module.now ≡ Some bound) }
     ensures among { IfOk result (λ bound. all_among (table_count (option_copied own.entry)) (length bound.cursors) bound.procedures ≡ true) }
 {
     let parts = module.parts.as_slice();

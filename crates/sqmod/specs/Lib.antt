@@ -1,1 +1,4 @@
-pub mod Status
+pub mod CommandLine
+pub mod Fault
+pub mod Request
+pub mod Texts

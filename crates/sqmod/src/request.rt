@@ -1,21 +1,27 @@
-ghost use Rattle.std.specs.Prelude.{◌≡◌, ◌≤◌};
-ghost use Rattle.sqmod.specs.Status.{ended_with};
+//! A request, from its files to the report on standard output.
+ghost use Rattle.std.specs.Prelude.{◌≡◌, ◌≤◌, length, IfErr};
+ghost use Rattle.sqmod.specs.Request as spec;
+ghost use Rattle.sqmod.specs.Texts.{NamesFile};
 
 use crate::command_line::Request;
 use crate::fault::{Fault, Source};
 use crate::texts::{Texts, read_texts};
+use sq_heap::HeapStore;
 use sq_run::{Limits, OutOf, RunFault, run};
-use sq_store::{ListStore, MOST_ROW_NUMBERS};
+use sq_store::MOST_ROW_NUMBERS;
 use std::alloc::Global;
 use std::io::{self, BufWriter, Write};
 use std::rt::Files;
 
-/// Reads a request's files, runs the script and writes the report to standard output.
+/// Reads a request's files, runs the script and writes the report to standard output. A fault that speaks of a text
+/// speaks of one of the request's.
+#[tactic(auto, using(crate::proofs::Named::ended_is_named, crate::proofs::Named::unread_is_named))]
 pub(crate) fn run_request<R: Files + Print + AllocGlobal>(
     rt: &R,
     request: &Request<'_>,
 ) -> Result<(), Fault>
     requires { request.now.row_numbers ≤ MOST_ROW_NUMBERS }
+    ensures { IfErr result (NamesFile (length request.now.schemas.items) (length request.now.modules.items)) }
 {
     let texts = read_texts(rt, request)?;
     let limits = Limits {
@@ -28,9 +34,9 @@ pub(crate) fn run_request<R: Files + Print + AllocGlobal>(
 }
 
 /// How a request ends, by its run and the flush after it. A refusal has written nothing and stays; after any other run a
-/// flush that fails goes first, since lines are then missing.
+/// flush that fails takes precedence, since lines are then missing.
 fn ended(ran: Result<(), Fault>, flushed: Result<(), Fault>) -> Result<(), Fault>
-    ensures { result ≡ ended_with ran flushed }
+    ensures { result ≡ spec.ended_with ran flushed }
 {
     match ran {
         Err(Fault::Refused(_, _)) => ran,
@@ -38,6 +44,7 @@ fn ended(ran: Result<(), Fault>, flushed: Result<(), Fault>) -> Result<(), Fault
     }
 }
 
+#[tactic(auto, using(crate::proofs::Named::refused_is_named))]
 fn run_texts<W: Write>(
     alloc: Global,
     texts: &Texts,
@@ -45,21 +52,24 @@ fn run_texts<W: Write>(
     writer: &mut W,
 ) -> Result<(), Fault>
     requires { limits.row_numbers ≤ MOST_ROW_NUMBERS }
+    ensures { IfErr result (NamesFile (length texts.now.schemas.items) (length texts.now.modules.items)) }
 {
     let mut out = OutOf::new(writer);
-    run::<ListStore, OutOf<&mut W>>(
+    let ran = run::<HeapStore, OutOf<&mut W>>(
         alloc,
         texts.schemas.as_slice(),
         texts.modules.as_slice(),
         texts.script.as_slice(),
         limits,
         &mut out,
-    )
-    .map_err(fault_of)
+    );
+    ran.map_err(fault_of)
 }
 
 /// What a fault of a run means for the program.
-fn fault_of(fault: RunFault) -> Fault {
+fn fault_of(fault: RunFault) -> Fault
+    ensures { result ≡ spec.fault_of fault }
+{
     match fault {
         RunFault::SchemaRefused(refusal) => Fault::Refused(Source::Schema(refusal.text), refusal),
         RunFault::ModuleRefused(refusal) => Fault::Refused(Source::Module(refusal.text), refusal),

@@ -2,7 +2,7 @@ use Rattle.std.proofs.Common.{◌≡◌, Some, true, length, map, take}
 use Rattle.std.specs.List.{list_all}
 use Rattle.std.specs.Option.{option_copied}
 use Rattle.sq_first.specs.Script.{action_of, can_perform, cursors_of, procedures_of, table_count, schema_table}
-use Rattle.sq_run.proofs.prepare.actions_of.Given as goal
+use Rattle.sq_run.proofs.prepare.actions_with.Given as goal
 
 abbrev pub invariant-loop-place : goal.invariant-loop-place
 invariant-loop-place l =
