@@ -1,7 +1,7 @@
 //! Tables of whole runs: a line `run` and its name, then its lines. Those that `not-yet.txt` names are passed over.
 use crate::run::Run;
 use crate::tally::Tally;
-use sq_store::ListStore;
+use sq_heap::HeapStore;
 use std::rt::Files;
 use std::{fs, io, str};
 
@@ -28,7 +28,7 @@ fn try_run<R: Print + AllocGlobal>(
     lines: &str,
 ) -> io::Result<()> {
     let run = Run::read(rt.alloc(), lines)?;
-    let got = run.answer::<ListStore>(rt.alloc())?;
+    let got = run.answer::<HeapStore>(rt.alloc())?;
     let (wanted, got) = first_difference(run.wanted(), got.as_slice());
     tally.compare(rt, name, wanted, got)
 }
