@@ -7,6 +7,8 @@ mod grammar;
 mod hostile;
 mod keys;
 mod lines;
+mod run;
+mod runs;
 mod tally;
 mod tokens;
 mod values;
@@ -15,8 +17,8 @@ mod written;
 use lines::Kind;
 use std::io;
 
-/// The tables, each with the kind of its cases.
-const TABLES: [(&str, Kind); 5] = [
+/// Tables with a case a line, each with the kind of its cases.
+const LINES: [(&str, Kind); 5] = [
     ("values.txt", Kind::Values),
     ("tokens.txt", Kind::Tokens),
     ("places.txt", Kind::Places),
@@ -24,9 +26,22 @@ const TABLES: [(&str, Kind); 5] = [
     ("files.txt", Kind::Files),
 ];
 
+/// Tables of whole runs.
+const RUNS: [&str; 6] = [
+    "runs-first-language.txt",
+    "runs-worked.txt",
+    "runs-accepted.txt",
+    "runs-refused.txt",
+    "runs-broken.txt",
+    "runs-limits.txt",
+];
+
 fn main(rt: HostRuntime) -> io::Result<()> {
-    for (file, kind) in TABLES {
+    for (file, kind) in LINES {
         lines::try_table(&rt, file, kind)?;
+    }
+    for file in RUNS {
+        runs::try_table(&rt, file)?;
     }
     Ok(())
 }

@@ -6,6 +6,7 @@ use std::io;
 pub struct Tally {
     cases: usize,
     differ: usize,
+    not_yet: usize,
 }
 
 impl Tally {
@@ -13,7 +14,13 @@ impl Tally {
         Tally {
             cases: 0,
             differ: 0,
+            not_yet: 0,
         }
+    }
+
+    /// Counts a case that is not tried yet.
+    pub fn pass_over(&mut self) {
+        self.not_yet = self.not_yet.saturating_add(1);
     }
 
     /// Counts a case, and prints it if it differs.
@@ -34,7 +41,11 @@ impl Tally {
 
     /// Prints what was counted in a table.
     pub fn print(self, rt: &impl Print, table: &str) -> io::Result<()> {
-        let Tally { cases, differ } = self;
-        println!(rt; "{table}: {cases} cases, {differ} differ")
+        let Tally {
+            cases,
+            differ,
+            not_yet,
+        } = self;
+        println!(rt; "{table}: {cases} cases, {differ} differ, {not_yet} not yet")
     }
 }
