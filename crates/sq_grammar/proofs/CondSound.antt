@@ -17,9 +17,12 @@ use Rattle.sq_tree.specs.declared.cond.Body.TheVariants as bodies
 use Rattle.sq_tree.specs.declared.cond.Test.{Test}
 use Rattle.sq_tree.specs.declared.cond.Conj.{roll-Conj}
 use Rattle.sq_tree.specs.declared.cond.Cond.{Cond, roll-Cond}
-use Rattle.sq_tree.specs.Tree.{Tokens, optional, optional_depth, bracketed}
-use Rattle.sq_tree.specs.Expr.{expr_tokens, expr_depth}
-use Rattle.sq_tree.specs.Cond.{comparison_token, compared_tokens, not_tokens, cond_tokens, cond_depth, conj_tokens, conj_depth, test_tokens, test_depth, body_tokens, body_depth, tail_tokens, tail_depth, query_specification_tokens, query_specification_depth}
+use Rattle.sq_tree.specs.Tree.{Tokens, optional, bracketed}
+use Rattle.sq_tree.proofs.TreeDepth.{optional_depth}
+use Rattle.sq_tree.specs.Expr.{expr_tokens}
+use Rattle.sq_tree.proofs.ExprDepth.{expr_depth}
+use Rattle.sq_tree.specs.Cond.{comparison_token, compared_tokens, not_tokens, cond_tokens, conj_tokens, test_tokens, body_tokens, tail_tokens, query_specification_tokens}
+use Rattle.sq_tree.proofs.CondDepth.{cond_depth, conj_depth, test_depth, body_depth, tail_depth, query_specification_depth}
 use Rattle.sq_tree.proofs.CondLaws as law
 use Rattle.sq_tree.proofs.CondLaws.{and_test, or_conj}
 use Rattle.sq_tree.proofs.ExprLaws as exprs

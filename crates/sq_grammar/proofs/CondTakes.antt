@@ -26,10 +26,13 @@ use Rattle.sq_tree.specs.declared.cond.Test.{Test}
 use Rattle.sq_tree.specs.declared.cond.Conj.{Conj, out-Conj, roll-out-Conj}
 use Rattle.sq_tree.specs.declared.cond.Cond.{Cond, out-Cond, roll-out-Cond}
 use Rattle.sq_tree.specs.declared.cond.QuerySpecification.{QuerySpecification}
-use Rattle.sq_tree.specs.Tree.{optional, greatest}
+use Rattle.sq_tree.specs.Tree.{optional}
+use Rattle.sq_tree.proofs.TreeDepth.{greatest}
 use Rattle.sq_tree.specs.Names.{column_reference_tokens}
-use Rattle.sq_tree.specs.Expr.{sign_tokens, function_token, primary_tokens, primary_depth, scaled_tokens, scaled_depth, added_tokens, added_depth, expr_tokens, expr_depth}
-use Rattle.sq_tree.specs.Cond.{comparison_token, not_tokens, cond_tokens, cond_depth, conj_tokens, conj_depth, test_tokens, test_depth, body_tokens, body_depth, tail_tokens, tail_depth}
+use Rattle.sq_tree.specs.Expr.{sign_tokens, function_token, primary_tokens, scaled_tokens, added_tokens, expr_tokens}
+use Rattle.sq_tree.proofs.ExprDepth.{primary_depth, scaled_depth, added_depth, expr_depth}
+use Rattle.sq_tree.specs.Cond.{comparison_token, not_tokens, cond_tokens, conj_tokens, test_tokens, body_tokens, tail_tokens}
+use Rattle.sq_tree.proofs.CondDepth.{cond_depth, conj_depth, test_depth, body_depth, tail_depth}
 use Rattle.sq_tree.proofs.ExprLaws as exprs
 use Rattle.sq_tree.proofs.ExprLaws.{primary_cases}
 use Rattle.sq_tree.proofs.CondLaws as law

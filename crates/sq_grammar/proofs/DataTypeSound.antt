@@ -10,7 +10,8 @@ use Rattle.sq_tree.specs.declared.data_type.CharacterWord.{CharacterWord}
 use Rattle.sq_tree.specs.declared.data_type.CharacterWord.TheVariants as fixed
 use Rattle.sq_tree.specs.declared.data_type.VaryingWord.TheVariants.{Varchar}
 use Rattle.sq_tree.specs.Tree.{optional}
-use Rattle.sq_tree.specs.DataType.{precision_tokens, length_tokens, character_word_tokens, data_type_tokens, data_type_depth, bracket_depth}
+use Rattle.sq_tree.specs.DataType.{precision_tokens, length_tokens, character_word_tokens, data_type_tokens}
+use Rattle.sq_tree.proofs.DataTypeDepth.{data_type_depth, bracket_depth}
 use Rattle.sq_grammar.specs.declared.type_word.TypeWord.{TypeWord}
 use Rattle.sq_grammar.specs.declared.type_word.TypeWord.TheVariants as first
 use Rattle.sq_grammar.specs.Reading.{one_if_any, number, behind, comma}

@@ -13,7 +13,8 @@ use Rattle.sq_tree.specs.declared.data_type.CharacterWord.TheVariants as fixed
 use Rattle.sq_tree.specs.declared.data_type.VaryingWord.TheVariants.{CharacterVarying, CharVarying, Varchar}
 use Rattle.sq_tree.specs.declared.data_type.Precision.{Precision}
 use Rattle.sq_tree.specs.Tree.{optional}
-use Rattle.sq_tree.specs.DataType.{scale_tokens, precision_tokens, length_tokens, data_type_tokens, data_type_depth}
+use Rattle.sq_tree.specs.DataType.{scale_tokens, precision_tokens, length_tokens, data_type_tokens}
+use Rattle.sq_tree.proofs.DataTypeDepth.{data_type_depth}
 use Rattle.sq_grammar.specs.declared.type_word.TypeWord.TheVariants as first
 use Rattle.sq_grammar.specs.Reading.{Tokens, sees, number, number_of, behind, comma}
 use Rattle.sq_grammar.specs.DataType.{precision_from, precision, length_from, length_in, length_if_any, varying_of, character_type, type_word_of, type_by, data_type}

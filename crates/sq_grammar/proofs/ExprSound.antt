@@ -15,8 +15,10 @@ use Rattle.sq_tree.specs.declared.expr.Expr.{Expr, roll-Expr}
 use Rattle.sq_tree.specs.declared.expr.Term.{roll-Term}
 use Rattle.sq_tree.specs.declared.expr.Added.{Added, roll-Added}
 use Rattle.sq_tree.specs.declared.expr.Scaled.{Scaled}
-use Rattle.sq_tree.specs.Tree.{optional, optional_depth, greatest}
-use Rattle.sq_tree.specs.Expr.{times_token, quantifier_tokens, function_token, primary_tokens, primary_depth, factor_tokens, factor_depth, scaled_tokens, scaled_depth, term_tokens, term_depth, added_tokens, added_depth, expr_tokens, expr_depth}
+use Rattle.sq_tree.specs.Tree.{optional}
+use Rattle.sq_tree.proofs.TreeDepth.{optional_depth, greatest}
+use Rattle.sq_tree.specs.Expr.{times_token, quantifier_tokens, function_token, primary_tokens, factor_tokens, scaled_tokens, term_tokens, added_tokens, expr_tokens}
+use Rattle.sq_tree.proofs.ExprDepth.{primary_depth, factor_depth, scaled_depth, term_depth, added_depth, expr_depth}
 use Rattle.sq_tree.proofs.ExprLaws as law
 use Rattle.sq_grammar.specs.Reading.{Parser, one_if_any, number_of, text_of, name_of, all}
 use Rattle.sq_grammar.specs.Names.{sign_if_any, column_from, parameter_from}

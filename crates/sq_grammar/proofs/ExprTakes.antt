@@ -25,9 +25,11 @@ use Rattle.sq_tree.specs.declared.expr.Term.{Term, out-Term, roll-Term, roll-out
 use Rattle.sq_tree.specs.declared.expr.Added.{Added, out-Added, roll-out-Added}
 use Rattle.sq_tree.specs.declared.expr.Scaled.{Scaled}
 use Rattle.sq_tree.specs.declared.expr.Factor.{Factor}
-use Rattle.sq_tree.specs.Tree.{optional, bracketed, greatest}
+use Rattle.sq_tree.specs.Tree.{optional, bracketed}
+use Rattle.sq_tree.proofs.TreeDepth.{greatest}
 use Rattle.sq_tree.specs.Names.{column_reference_tokens}
-use Rattle.sq_tree.specs.Expr.{sign_token, sign_tokens, times_token, quantifier_tokens, function_token, primary_tokens, primary_depth, factor_tokens, factor_depth, scaled_tokens, scaled_depth, term_tokens, term_depth, added_tokens, added_depth, expr_tokens, expr_depth}
+use Rattle.sq_tree.specs.Expr.{sign_token, sign_tokens, times_token, quantifier_tokens, function_token, primary_tokens, factor_tokens, scaled_tokens, term_tokens, added_tokens, expr_tokens}
+use Rattle.sq_tree.proofs.ExprDepth.{primary_depth, factor_depth, scaled_depth, term_depth, added_depth, expr_depth}
 use Rattle.sq_tree.proofs.ExprLaws as law
 use Rattle.sq_tree.proofs.ExprLaws.{primary_cases}
 use Rattle.sq_grammar.specs.Reading.{Tokens, Parser, sees, number_of, text_of, name_of, all, pure}

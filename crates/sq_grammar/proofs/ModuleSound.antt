@@ -8,21 +8,26 @@ use Rattle.sq_tree.specs.declared.module.SortKey.TheVariants.{Column, Position}
 use Rattle.sq_tree.specs.declared.module.SortDirection.TheVariants.{Asc, Desc}
 use Rattle.sq_tree.specs.declared.module.Declarations.TheVariants.{Bracketed, Bare}
 use Rattle.sq_tree.specs.declared.module.Declaration.TheVariants.{Parameter, Sqlcode, Sqlstate}
-use Rattle.sq_tree.specs.Tree.{Tokens, said, optional, optional_depth}
-use Rattle.sq_tree.specs.List.{comma_tokens, comma_depth}
-use Rattle.sq_tree.specs.Query.{query_tokens, query_depth}
+use Rattle.sq_tree.specs.Tree.{Tokens, said, optional}
+use Rattle.sq_tree.proofs.TreeDepth.{optional_depth}
+use Rattle.sq_tree.specs.List.{comma_tokens}
+use Rattle.sq_tree.proofs.ListDepth.{comma_depth}
+use Rattle.sq_tree.specs.Query.{query_tokens}
+use Rattle.sq_tree.proofs.QueryDepth.{query_depth}
 use Rattle.sq_tree.specs.Module as tree
+use Rattle.sq_tree.proofs.ModuleDepth as depths
+use Rattle.sq_tree.proofs.ModuleNests.{module_depth-parts}
 use Rattle.sq_grammar.specs.Reading.{eat, one_if_any, number_of, name, listed, all}
 use Rattle.sq_grammar.specs.DataType.{data_type}
 use Rattle.sq_grammar.specs.Query.{query}
 use Rattle.sq_grammar.specs.Statement.{statement}
 use Rattle.sq_grammar.specs.Module.{declaration_if_any, declaration, bare_declaration, declarations, procedure, sort_key, direction_if_any, sort_specification, by_sorts, order_by, ordered_query, cursor, item, module_text}
-use Rattle.sq_grammar.proofs.Spells.{Sound, After, sound, built, never, andthen, eats, eaten, expected, maybe, following, finally, names, a_number, lists, rows, behinds, lifted}
+use Rattle.sq_grammar.proofs.Spells.{as_deep, Sound, After, sound, built, never, andthen, eats, eaten, expected, maybe, following, finally, names, a_number, lists, rows, behinds, lifted}
 use Rattle.sq_grammar.proofs.DataTypeSound.{data_type_sound}
 use Rattle.sq_grammar.proofs.QuerySound.{query_sound}
 use Rattle.sq_grammar.proofs.StatementSound.{statement_sound}
 
-declaration_if_any_sound : (left : ℕ) → 1 ≤ left → Sound declaration_if_any (optional tree.declaration_tokens) (optional_depth tree.declaration_depth) left
+declaration_if_any_sound : (left : ℕ) → 1 ≤ left → Sound declaration_if_any (optional tree.declaration_tokens) (optional_depth depths.declaration_depth) left
 unfolding declaration_if_any
 declaration_if_any_sound left room = sound (eaten (lexeme.Symbol symbol.Colon) _
     (andthen name _ (names left) (λ n. andthen data_type _ (data_type_sound left room) (λ t. built (Some (Parameter n t)) _ _ refl (λ h. omega arith))))
@@ -32,11 +37,11 @@ declaration_if_any_sound left room = sound (eaten (lexeme.Symbol symbol.Colon) _
     (built (Some Sqlstate) _ _ refl (λ h. omega arith))
     (built None _ _ refl (λ h. omega arith)))))
 
-declaration_sound : (left : ℕ) → 1 ≤ left → Sound declaration tree.declaration_tokens tree.declaration_depth left
+declaration_sound : (left : ℕ) → 1 ≤ left → Sound declaration tree.declaration_tokens depths.declaration_depth left
 unfolding declaration
 declaration_sound left room = sound (maybe declaration_if_any _ (declaration_if_any_sound left room) (never _ _) (λ d. built d _ _ refl (λ h. omega arith)))
 
-bare_declaration_sound : (left : ℕ) → 1 ≤ left → Sound bare_declaration (optional tree.bare_declaration_tokens) (optional_depth tree.bare_declaration_depth) left
+bare_declaration_sound : (left : ℕ) → 1 ≤ left → Sound bare_declaration (optional tree.bare_declaration_tokens) (optional_depth depths.bare_declaration_depth) left
 unfolding bare_declaration
 bare_declaration_sound left room = sound (eaten (lexeme.Symbol symbol.Comma) _
     (andthen declaration _ (declaration_sound left room) (λ d. built (Some (record { comma = true; declaration = d })) _ _ refl (λ h. omega arith)))
@@ -44,13 +49,13 @@ bare_declaration_sound left room = sound (eaten (lexeme.Symbol symbol.Comma) _
     (built None _ _ refl (λ h. omega arith))
     (λ d. built (Some (record { comma = false; declaration = d })) _ _ refl (λ h. omega arith))))
 
-declarations_sound : (left : ℕ) → 2 ≤ left → Sound declarations tree.declarations_tokens tree.declarations_depth left
+declarations_sound : (left : ℕ) → 2 ≤ left → Sound declarations tree.declarations_tokens depths.declarations_depth left
 unfolding declarations
 declarations_sound left room = sound (eaten (lexeme.Symbol symbol.Open) _
     (andthen (listed declaration) _ (lifted left (omega arith) (lists declaration (left - 1) (declaration_sound (left - 1) (omega arith)))) (λ ds. expected (lexeme.Symbol symbol.Close) _ (built (Bracketed ds) _ _ refl (λ h. omega arith))))
-    (andthen declaration _ (declaration_sound left (omega arith)) (λ d. andthen (all bare_declaration) _ (rows bare_declaration tree.bare_declaration_tokens tree.bare_declaration_depth left (bare_declaration_sound left (omega arith))) (λ ds. built (Bare d ds) _ _ refl (λ h. omega arith)))))
+    (andthen declaration _ (declaration_sound left (omega arith)) (λ d. andthen (all bare_declaration) _ (rows bare_declaration tree.bare_declaration_tokens depths.bare_declaration_depth left (bare_declaration_sound left (omega arith))) (λ ds. built (Bare d ds) _ _ refl (λ h. omega arith)))))
 
-procedure_sound : (left : ℕ) → 2 ≤ left → After (lexeme.Word word.Procedure ∷ []) 0 left (procedure left) tree.procedure_tokens tree.procedure_depth
+procedure_sound : (left : ℕ) → 2 ≤ left → After (lexeme.Word word.Procedure ∷ []) 0 left (procedure left) tree.procedure_tokens depths.procedure_depth
 unfolding procedure
 procedure_sound left room = andthen name _ (names left) (λ n. andthen declarations _ (declarations_sound left room) (λ ds. expected (lexeme.Symbol symbol.Semicolon) _ (andthen (statement left) _ (statement_sound left (omega arith)) (λ x. expected (lexeme.Symbol symbol.Semicolon) _
     (built (record { name = n; declarations = ds; statement = x }) _ _ (simp append_assoc) (λ h. omega arith))))))
@@ -89,13 +94,13 @@ cursor_text head q o e =
     let front : Tokens = (head ++ lexeme.Word word.Cursor ∷ []) ++ lexeme.Word word.For ∷ [] in
     ap (λ u. u ++ o ++ e) (sym (append_assoc head (lexeme.Word word.Cursor ∷ []) (lexeme.Word word.For ∷ q)) ∙ sym (append_assoc (head ++ lexeme.Word word.Cursor ∷ []) (lexeme.Word word.For ∷ []) q)) ∙ ap (λ u. u ++ e) (append_assoc front q o)
 
-cursor_sound : (left : ℕ) → After (lexeme.Word word.Declare ∷ []) 0 left (cursor left) tree.cursor_tokens tree.cursor_depth
+cursor_sound : (left : ℕ) → After (lexeme.Word word.Declare ∷ []) 0 left (cursor left) tree.cursor_tokens depths.cursor_depth
 unfolding cursor
 cursor_sound left = andthen name _ (names left) (λ n. andthen (eat (lexeme.Word word.Insensitive)) _ (eats (lexeme.Word word.Insensitive) left) (λ i. andthen (eat (lexeme.Word word.Scroll)) _ (eats (lexeme.Word word.Scroll) left) (λ s.
     expected (lexeme.Word word.Cursor) _ (expected (lexeme.Word word.For) _ (andthen (ordered_query left) _ (ordered_sound left) (λ q. andthen (eat (lexeme.Symbol symbol.Semicolon)) _ (eats (lexeme.Symbol symbol.Semicolon) left) (λ e.
     built (record { name = n; insensitive = i; scroll = s; query = q.0; order_by = q.1; semicolon = e }) _ _ (cursor_text (lexeme.Word word.Declare ∷ lexeme.Name n ∷ said i (lexeme.Word word.Insensitive ∷ []) ++ said s (lexeme.Word word.Scroll ∷ [])) (query_tokens q.0) (optional tree.order_by_tokens q.1) (said e (lexeme.Symbol symbol.Semicolon ∷ []))) (λ h. omega arith))))))))
 
-item_sound : (left : ℕ) → 2 ≤ left → Sound (item left) (optional tree.module_item_tokens) (optional_depth tree.module_item_depth) left
+item_sound : (left : ℕ) → 2 ≤ left → Sound (item left) (optional tree.module_item_tokens) (optional_depth depths.module_item_depth) left
 unfolding item
 item_sound left room = sound (eaten (lexeme.Word word.Declare) _
     (following (cursor left) _ (cursor_sound left) (λ c. built (Some (items.Cursor c)) _ _ refl (λ h. h)))
@@ -103,7 +108,10 @@ item_sound left room = sound (eaten (lexeme.Word word.Declare) _
     (following (procedure left) _ (procedure_sound left room) (λ p. built (Some (items.Procedure p)) _ _ refl (λ h. h)))
     (built None _ _ refl (λ h. omega arith))))
 
-pub module_sound : (left : ℕ) → 2 ≤ left → Sound (module_text left) tree.module_tokens tree.module_depth left
+by_parts : (left : ℕ) → 2 ≤ left → Sound (module_text left) tree.module_tokens depths.module_text_depth left
 unfolding module_text
-module_sound left room = sound (expected (lexeme.Word word.Module) _ (andthen name _ (names left) (λ n. expected (lexeme.Word word.Language) _ (andthen name _ (names left) (λ l. expected (lexeme.Word word.Authorization) _ (andthen name _ (names left) (λ a.
-    andthen (all (item left)) _ (rows (item left) tree.module_item_tokens tree.module_item_depth left (item_sound left room)) (λ is. built (record { name = n; language = l; authorization = a; items = is }) _ _ refl (λ h. omega arith)))))))))
+by_parts left room = sound (expected (lexeme.Word word.Module) _ (andthen name _ (names left) (λ n. expected (lexeme.Word word.Language) _ (andthen name _ (names left) (λ l. expected (lexeme.Word word.Authorization) _ (andthen name _ (names left) (λ a.
+    andthen (all (item left)) _ (rows (item left) tree.module_item_tokens depths.module_item_depth left (item_sound left room)) (λ is. built (record { name = n; language = l; authorization = a; items = is }) _ _ refl (λ h. omega arith)))))))))
+
+pub module_sound : (left : ℕ) → 2 ≤ left → Sound (module_text left) tree.module_tokens tree.module_depth left
+module_sound left room = as_deep module_depth-parts (by_parts left room)

@@ -5,9 +5,12 @@ use Rattle.sq_lex.specs.declared.symbol.Symbol.TheVariants as symbol
 use Rattle.sq_lex.specs.declared.word.Word.TheVariants as word
 use Rattle.sq_tree.specs.Tree.{optional, said}
 use Rattle.sq_tree.specs.List.{comma_tokens}
-use Rattle.sq_tree.specs.Query.{query_tokens, query_depth}
-use Rattle.sq_tree.specs.Statement.{statement_tokens, statement_depth}
+use Rattle.sq_tree.specs.Query.{query_tokens}
+use Rattle.sq_tree.proofs.QueryDepth.{query_depth}
+use Rattle.sq_tree.specs.Statement.{statement_tokens}
+use Rattle.sq_tree.proofs.StatementDepth.{statement_depth}
 use Rattle.sq_tree.specs.Module as tree
+use Rattle.sq_tree.proofs.ModuleDepth as depths
 use Rattle.sq_tree.specs.declared.list.CommaList.{CommaList}
 use Rattle.sq_tree.specs.declared.module.ModuleText.{ModuleText}
 use Rattle.sq_tree.specs.declared.module.ModuleItem.{ModuleItem}
@@ -44,13 +47,13 @@ a_semicolon = mark symbol.Semicolon (λ n. refl)
 
 -- ---- declarations of parameters
 
-declaration_if_any_takes : (d : Declaration) {a left : ℕ} {rest : Tokens} → 1 ≤ left → EndsType rest → Takes declaration_if_any (tree.declaration_tokens d) a a (tree.declaration_depth d) left (Some d) rest
+declaration_if_any_takes : (d : Declaration) {a left : ℕ} {rest : Tokens} → 1 ≤ left → EndsType rest → Takes declaration_if_any (tree.declaration_tokens d) a a (depths.declaration_depth d) left (Some d) rest
 unfolding declaration_if_any
 declaration_if_any_takes (Parameter n t) room ends = eaten a_colon _ (named n _ (mapped data_type _ t (data_type_takes t room ends) refl))
 declaration_if_any_takes Sqlcode room ends = uneaten (lexeme.Symbol symbol.Colon) _ refl (eaten (word word.Sqlcode) _ done)
 declaration_if_any_takes Sqlstate room ends = uneaten (lexeme.Symbol symbol.Colon) _ refl (uneaten (lexeme.Word word.Sqlcode) _ refl (eaten (word word.Sqlstate) _ done))
 
-pub declaration_takes : (d : Declaration) {a left : ℕ} {rest : Tokens} → 1 ≤ left → EndsType rest → Takes declaration (tree.declaration_tokens d) a a (tree.declaration_depth d) left d rest
+pub declaration_takes : (d : Declaration) {a left : ℕ} {rest : Tokens} → 1 ≤ left → EndsType rest → Takes declaration (tree.declaration_tokens d) a a (depths.declaration_depth d) left d rest
 unfolding declaration
 declaration_takes d room ends = mapped declaration_if_any _ (Some d) (declaration_if_any_takes d room ends) refl
 
@@ -65,11 +68,11 @@ declaration_no_bracket Sqlcode more rest = refl
 declaration_no_bracket Sqlstate more rest = refl
 
 -- [ "," ] decl
-pub bare_declaration_takes : (b : BareDeclaration) {a left : ℕ} {rest : Tokens} → 1 ≤ left → EndsType rest → Takes bare_declaration (tree.bare_declaration_tokens b) a a (tree.bare_declaration_depth b) left (Some b) rest
+pub bare_declaration_takes : (b : BareDeclaration) {a left : ℕ} {rest : Tokens} → 1 ≤ left → EndsType rest → Takes bare_declaration (tree.bare_declaration_tokens b) a a (depths.bare_declaration_depth b) left (Some b) rest
 unfolding bare_declaration
 bare_declaration_takes b {a = a} {left = left} {rest = rest} room ends = by b.comma b.declaration
   where
-    by : (written : Bool) (d : Declaration) → Takes bare_declaration (said written (comma ∷ []) ++ tree.declaration_tokens d) a a (tree.declaration_depth d) left (Some (record { comma = written; declaration = d })) rest
+    by : (written : Bool) (d : Declaration) → Takes bare_declaration (said written (comma ∷ []) ++ tree.declaration_tokens d) a a (depths.declaration_depth d) left (Some (record { comma = written; declaration = d })) rest
     by true d = eaten a_comma _ (mapped declaration _ d (declaration_takes d room ends) refl)
     by false d = uneaten comma _ (declaration_no_comma d rest) (mapped declaration_if_any _ (Some d) (declaration_if_any_takes d room ends) refl)
 
@@ -96,24 +99,24 @@ unfolding bare_declaration declaration_if_any eat
 bare_ends rest = refl
 
 -- decl { [ "," ] decl }
-bare_takes : (first : Declaration) (others : List BareDeclaration) {left : ℕ} {rest : Tokens} → 1 ≤ left → Takes declarations (tree.declarations_tokens (Bare first others)) 0 0 (tree.declarations_depth (Bare first others)) left (Bare first others) (lexeme.Symbol symbol.Semicolon ∷ rest)
+bare_takes : (first : Declaration) (others : List BareDeclaration) {left : ℕ} {rest : Tokens} → 1 ≤ left → Takes declarations (tree.declarations_tokens (Bare first others)) 0 0 (depths.declarations_depth (Bare first others)) left (Bare first others) (lexeme.Symbol symbol.Semicolon ∷ rest)
 unfolding declarations
 bare_takes first others {left = left} {rest = rest} room =
     let after : EndsType (lexeme.Symbol symbol.Semicolon ∷ rest) = record { open_bracket = refl; varying = refl } in
-    let each : (b : BareDeclaration) (ts : Tokens) → EndsType ts → Takes bare_declaration (tree.bare_declaration_tokens b) 0 0 (tree.bare_declaration_depth b) left (Some b) ts = λ b ts ends. bare_declaration_takes b room ends in
-    let behind_first = follows bare_declaration tree.bare_declaration_tokens tree.bare_declaration_depth 0 left EndsType each bare_starts bare_long others _ after in
-    let the_others = rows bare_declaration tree.bare_declaration_tokens tree.bare_declaration_depth 0 left EndsType each bare_starts bare_long others _ after (bare_ends rest) in
+    let each : (b : BareDeclaration) (ts : Tokens) → EndsType ts → Takes bare_declaration (tree.bare_declaration_tokens b) 0 0 (depths.bare_declaration_depth b) left (Some b) ts = λ b ts ends. bare_declaration_takes b room ends in
+    let behind_first = follows bare_declaration tree.bare_declaration_tokens depths.bare_declaration_depth 0 left EndsType each bare_starts bare_long others _ after in
+    let the_others = rows bare_declaration tree.bare_declaration_tokens depths.bare_declaration_depth 0 left EndsType each bare_starts bare_long others _ after (bare_ends rest) in
     uneaten (lexeme.Symbol symbol.Open) _ (declaration_no_bracket first _ _) (andthen declaration _ first (declaration_takes first room behind_first) (mapped (all bare_declaration) _ others the_others refl))
 
 -- The code does not count the bracket of the list.
-bracketed_takes : (list : CommaList Declaration) {left : ℕ} {rest : Tokens} → 1 ≤ left → Takes declarations (tree.declarations_tokens (Bracketed list)) 0 0 (tree.declarations_depth (Bracketed list)) (suc left) (Bracketed list) rest
+bracketed_takes : (list : CommaList Declaration) {left : ℕ} {rest : Tokens} → 1 ≤ left → Takes declarations (tree.declarations_tokens (Bracketed list)) 0 0 (depths.declarations_depth (Bracketed list)) (suc left) (Bracketed list) rest
 unfolding declarations
 bracketed_takes list {left = left} room =
     let starts : (ts : Tokens) → EndsType (comma ∷ ts) = λ ts. record { open_bracket = refl; varying = refl } in
-    let within = commas declaration tree.declaration_tokens tree.declaration_depth 0 left EndsType (λ d ts ends. declaration_takes d room ends) starts list _ (record { open_bracket = refl; varying = refl }) refl in
+    let within = commas declaration tree.declaration_tokens depths.declaration_depth 0 left EndsType (λ d ts ends. declaration_takes d room ends) starts list _ (record { open_bracket = refl; varying = refl }) refl in
     eaten opening _ (fits (λ h. omega arith) (λ h. omega arith) (andthen (listed declaration) _ list (lifted within) (expected closing _ done)))
 
-pub declarations_takes : (left : ℕ) → 2 ≤ left → (ds : Declarations) (rest : Tokens) → Takes declarations (tree.declarations_tokens ds) 0 0 (tree.declarations_depth ds) left ds (lexeme.Symbol symbol.Semicolon ∷ rest)
+pub declarations_takes : (left : ℕ) → 2 ≤ left → (ds : Declarations) (rest : Tokens) → Takes declarations (tree.declarations_tokens ds) 0 0 (depths.declarations_depth ds) left ds (lexeme.Symbol symbol.Semicolon ∷ rest)
 declarations_takes zero room ds rest = absurd (omega arith)
 declarations_takes (suc left) room (Bracketed list) rest = bracketed_takes list (omega arith)
 declarations_takes (suc left) room (Bare first others) rest = bare_takes first others (omega arith)
@@ -223,34 +226,34 @@ module _
 
   -- behind DECLARE
   pub cursor_takes : (left : ℕ) (c : Cursor) (rest : Tokens) → EndsCursor rest
-      → Takes (cursor left) (lexeme.Name c.name ∷ said c.insensitive (lexeme.Word word.Insensitive ∷ []) ++ said c.scroll (lexeme.Word word.Scroll ∷ []) ++ lexeme.Word word.Cursor ∷ lexeme.Word word.For ∷ query_tokens c.query ++ optional tree.order_by_tokens c.order_by ++ said c.semicolon (lexeme.Symbol symbol.Semicolon ∷ [])) 0 0 (tree.cursor_depth c) left c rest
+      → Takes (cursor left) (lexeme.Name c.name ∷ said c.insensitive (lexeme.Word word.Insensitive ∷ []) ++ said c.scroll (lexeme.Word word.Scroll ∷ []) ++ lexeme.Word word.Cursor ∷ lexeme.Word word.For ∷ query_tokens c.query ++ optional tree.order_by_tokens c.order_by ++ said c.semicolon (lexeme.Symbol symbol.Semicolon ∷ [])) 0 0 (depths.cursor_depth c) left c rest
   unfolding cursor
   cursor_takes left c rest ends =
       let same = cursor_text c.insensitive c.scroll (query_tokens c.query) (optional tree.order_by_tokens c.order_by) (said c.semicolon (lexeme.Symbol symbol.Semicolon ∷ [])) in
       let ordered = ordered_query_takes left c.query c.order_by c.semicolon rest ends in
-      subst (λ ts. Takes (cursor left) (lexeme.Name c.name ∷ ts) 0 0 (tree.cursor_depth c) left c rest) same (named c.name _
+      subst (λ ts. Takes (cursor left) (lexeme.Name c.name ∷ ts) 0 0 (depths.cursor_depth c) left c rest) same (named c.name _
       (either (word word.Insensitive) c.insensitive _ (no_insensitive c.scroll _ rest) (either (word word.Scroll) c.scroll _ refl (expected (word word.Cursor) _ (expected (word word.For) _
       (fits (λ h. omega arith) (λ h. omega arith) (andthen (ordered_query left) _ (c.query, c.order_by) ordered (semicolon_takes _ c.semicolon ends done))))))))
 
   -- behind PROCEDURE
   pub procedure_takes : (left : ℕ) → 2 ≤ left → (p : Procedure) (rest : Tokens)
-      → Takes (procedure left) (lexeme.Name p.name ∷ tree.declarations_tokens p.declarations ++ lexeme.Symbol symbol.Semicolon ∷ statement_tokens p.statement ++ lexeme.Symbol symbol.Semicolon ∷ []) 0 0 (tree.procedure_depth p) left p rest
+      → Takes (procedure left) (lexeme.Name p.name ∷ tree.declarations_tokens p.declarations ++ lexeme.Symbol symbol.Semicolon ∷ statement_tokens p.statement ++ lexeme.Symbol symbol.Semicolon ∷ []) 0 0 (depths.procedure_depth p) left p rest
   unfolding procedure
   procedure_takes left room p rest =
       let same = append_assoc (tree.declarations_tokens p.declarations) (lexeme.Symbol symbol.Semicolon ∷ statement_tokens p.statement) (lexeme.Symbol symbol.Semicolon ∷ []) in
       let ended = andthen (statement left) _ p.statement (statement_takes left (omega arith) p.statement rest) (expected a_semicolon _ done) in
-      subst (λ ts. Takes (procedure left) (lexeme.Name p.name ∷ ts) 0 0 (tree.procedure_depth p) left p rest) (sym same) (named p.name _
+      subst (λ ts. Takes (procedure left) (lexeme.Name p.name ∷ ts) 0 0 (depths.procedure_depth p) left p rest) (sym same) (named p.name _
       (fits (λ h. omega arith) (λ h. omega arith) (andthen declarations _ p.declarations (declarations_takes left room p.declarations _) (expected a_semicolon _ ended))))
 
   -- ---- items
 
-  pub item_takes : (left : ℕ) → 2 ≤ left → (x : ModuleItem) (rest : Tokens) → EndsCursor rest → Takes (item left) (tree.module_item_tokens x) 0 0 (tree.module_item_depth x) left (Some x) rest
+  pub item_takes : (left : ℕ) → 2 ≤ left → (x : ModuleItem) (rest : Tokens) → EndsCursor rest → Takes (item left) (tree.module_item_tokens x) 0 0 (depths.module_item_depth x) left (Some x) rest
   unfolding item
   item_takes left room (items.Cursor c) rest ends = eaten (word word.Declare) _ (mapped (cursor left) _ c (cursor_takes left c rest ends) refl)
   item_takes left room (items.Procedure p) rest ends = uneaten (lexeme.Word word.Declare) _ refl (eaten (word word.Procedure) _ (mapped (procedure left) _ p (procedure_takes left room p rest) refl))
 
-  pub module_takes : (left : ℕ) → 2 ≤ left → (m : ModuleText) → Takes (module_text left) (tree.module_tokens m) 0 0 (tree.module_depth m) left m []
+  pub module_takes : (left : ℕ) → 2 ≤ left → (m : ModuleText) → Takes (module_text left) (tree.module_tokens m) 0 0 (depths.module_text_depth m) left m []
   unfolding module_text
   module_takes left room m =
-      let the_items = rows (item left) tree.module_item_tokens tree.module_item_depth 0 left EndsCursor (item_takes left room) item_starts item_long m.items [] text_ends (none_left left) in
+      let the_items = rows (item left) tree.module_item_tokens depths.module_item_depth 0 left EndsCursor (item_takes left room) item_starts item_long m.items [] text_ends (none_left left) in
       expected (word word.Module) _ (named m.name _ (expected (word word.Language) _ (named m.language _ (expected (word word.Authorization) _ (named m.authorization _ (mapped (all (item left)) _ m.items the_items refl))))))

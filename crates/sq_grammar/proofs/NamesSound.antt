@@ -7,7 +7,7 @@ use Rattle.sq_lex.specs.declared.name.Name.{Name}
 use Rattle.sq_tree.specs.Tree.{optional}
 use Rattle.sq_tree.specs.Names.{name_tokens, table_name_tokens, column_reference_tokens, parameter_tokens, indicator_tokens, columns_tokens}
 use Rattle.sq_tree.specs.Expr.{sign_tokens, signed_number_tokens}
-use Rattle.sq_tree.specs.DataType.{bracket_depth}
+use Rattle.sq_tree.proofs.DataTypeDepth.{bracket_depth}
 use Rattle.sq_tree.specs.declared.expr.Sign.TheVariants.{Plus, Minus}
 use Rattle.sq_grammar.specs.Reading.{name, number, listed}
 use Rattle.sq_grammar.specs.Names.{dot, name_behind_dot, table_of, table_name, column_of, column_from, column_reference, indicator, parameter_from, parameter, sign_if_any, signed_number, columns_from, columns, columns_if_any}

@@ -12,7 +12,8 @@ use Rattle.sq_tree.specs.declared.cond.Body.{Body}
 use Rattle.sq_tree.specs.declared.cond.Tail.{Tail}
 use Rattle.sq_tree.specs.declared.cond.TableExpression.{TableExpression}
 use Rattle.sq_tree.specs.declared.cond.QuerySpecification.{QuerySpecification}
-use Rattle.sq_tree.specs.Cond.{comparison_token, compared_token, correlation_tokens, table_reference_tokens, select_list_tokens, select_list_depth, cond_tokens, cond_depth, conj_tokens, conj_depth, test_tokens, test_depth, body_tokens, body_depth, tail_tokens, tail_depth, table_expression_tokens, table_expression_depth, query_specification_tokens, query_specification_depth}
+use Rattle.sq_tree.specs.Cond.{comparison_token, compared_token, correlation_tokens, table_reference_tokens, select_list_tokens, cond_tokens, conj_tokens, test_tokens, body_tokens, tail_tokens, table_expression_tokens, query_specification_tokens}
+use Rattle.sq_tree.proofs.CondDepth.{select_list_depth, cond_depth, conj_depth, test_depth, body_depth, tail_depth, table_expression_depth, query_specification_depth}
 use Rattle.sq_grammar.specs.declared.mixed.Mixed.TheVariants.{Whole}
 use Rattle.sq_grammar.specs.Cond.{comparison_of, inside}
 use Rattle.sq_grammar.proofs.Spells.{some_is}

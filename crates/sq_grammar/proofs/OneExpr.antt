@@ -12,7 +12,8 @@ use Rattle.sq_tree.specs.declared.expr.Scaled.{Scaled}
 use Rattle.sq_tree.specs.declared.expr.Term.{Term}
 use Rattle.sq_tree.specs.declared.expr.Added.{Added}
 use Rattle.sq_tree.specs.declared.expr.Expr.{Expr}
-use Rattle.sq_tree.specs.Expr.{sign_token, times_token, quantifier_token, function_token, signed_number_tokens, primary_tokens, primary_depth, factor_tokens, factor_depth, scaled_tokens, scaled_depth, term_tokens, term_depth, added_tokens, added_depth, expr_tokens, expr_depth}
+use Rattle.sq_tree.specs.Expr.{sign_token, times_token, quantifier_token, function_token, signed_number_tokens, primary_tokens, factor_tokens, scaled_tokens, term_tokens, added_tokens, expr_tokens}
+use Rattle.sq_tree.proofs.ExprDepth.{primary_depth, factor_depth, scaled_depth, term_depth, added_depth, expr_depth}
 use Rattle.sq_grammar.specs.Expr.{function_of, inside}
 use Rattle.sq_grammar.proofs.Spells.{some_is}
 use Rattle.sq_grammar.proofs.OneTree.{one_tree}

@@ -13,7 +13,8 @@ use Rattle.sq_tree.specs.declared.module.Procedure.{Procedure}
 use Rattle.sq_tree.specs.declared.module.Declarations.{Declarations}
 use Rattle.sq_tree.specs.declared.module.BareDeclaration.{BareDeclaration}
 use Rattle.sq_tree.specs.declared.module.Declaration.{Declaration}
-use Rattle.sq_tree.specs.Module.{direction_tokens, sort_key_token, sort_specification_tokens, cursor_tokens, declaration_tokens, bare_declaration_tokens, declarations_tokens, procedure_tokens, module_item_tokens, module_tokens, declaration_depth, bare_declaration_depth, declarations_depth, cursor_depth, procedure_depth, module_item_depth, module_depth}
+use Rattle.sq_tree.specs.Module.{direction_tokens, sort_key_token, sort_specification_tokens, cursor_tokens, declaration_tokens, bare_declaration_tokens, declarations_tokens, procedure_tokens, module_item_tokens, module_tokens, module_depth}
+use Rattle.sq_tree.proofs.ModuleDepth.{declaration_depth, bare_declaration_depth, declarations_depth, cursor_depth, procedure_depth, module_item_depth}
 use Rattle.sq_grammar.proofs.Spells.{some_is}
 use Rattle.sq_grammar.proofs.QueryTakes.{query_takes}
 use Rattle.sq_grammar.proofs.ModuleTakes.{EndsSort, EndsCursor, declaration_takes, bare_declaration_takes, declarations_takes, direction_takes, sort_specification_takes, cursor_takes, procedure_takes, item_takes}

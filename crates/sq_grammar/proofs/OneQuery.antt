@@ -3,7 +3,8 @@ use Rattle.std.proofs.Common.{◌≡◌, ℕ, max, [], arith, refl}
 use Rattle.sq_tree.specs.declared.query.Query.{Query}
 use Rattle.sq_tree.specs.declared.query.UnionTerm.{UnionTerm}
 use Rattle.sq_tree.specs.declared.query.QueryTerm.{QueryTerm}
-use Rattle.sq_tree.specs.Query.{query_tokens, query_depth, union_term_tokens, union_term_depth, query_term_tokens, query_term_depth}
+use Rattle.sq_tree.specs.Query.{query_tokens, union_term_tokens, query_term_tokens}
+use Rattle.sq_tree.proofs.QueryDepth.{query_depth, union_term_depth, query_term_depth}
 use Rattle.sq_grammar.specs.Query.{inside}
 use Rattle.sq_grammar.proofs.Spells.{some_is}
 use Rattle.sq_grammar.proofs.OneTree.{one_tree}

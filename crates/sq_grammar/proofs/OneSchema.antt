@@ -16,7 +16,8 @@ use Rattle.sq_tree.specs.declared.schema.GrantStatement.{GrantStatement}
 use Rattle.sq_tree.specs.declared.schema.Privileges.{Privileges}
 use Rattle.sq_tree.specs.declared.schema.Action.{Action}
 use Rattle.sq_tree.specs.declared.schema.Grantee.{Grantee}
-use Rattle.sq_tree.specs.Schema.{references_tokens, foreign_key_tokens, default_clause_tokens, column_constraint_tokens, column_definition_tokens, table_element_tokens, table_definition_tokens, view_definition_tokens, action_tokens, privileges_tokens, grantee_tokens, grant_tokens, schema_element_tokens, schema_definition_tokens, schema_tokens, column_constraint_depth, table_element_depth, table_definition_depth, view_definition_depth, action_depth, privileges_depth, grant_depth, schema_element_depth, schema_definition_depth, schema_depth}
+use Rattle.sq_tree.specs.Schema.{references_tokens, foreign_key_tokens, default_clause_tokens, column_constraint_tokens, column_definition_tokens, table_element_tokens, table_definition_tokens, view_definition_tokens, action_tokens, privileges_tokens, grantee_tokens, grant_tokens, schema_element_tokens, schema_definition_tokens, schema_tokens, schema_depth}
+use Rattle.sq_tree.proofs.SchemaDepth.{column_constraint_depth, table_element_depth, table_definition_depth, view_definition_depth, action_depth, privileges_depth, grant_depth, schema_element_depth, schema_definition_depth}
 use Rattle.sq_grammar.proofs.Spells.{some_is}
 use Rattle.sq_grammar.proofs.CondTakes.{inner_cond_takes}
 use Rattle.sq_grammar.proofs.QueryTakes.{specification_takes}

@@ -13,7 +13,8 @@ use Rattle.sq_tree.specs.declared.statement.Update.{Update}
 use Rattle.sq_tree.specs.declared.statement.Assignment.{Assignment}
 use Rattle.sq_tree.specs.declared.statement.Delete.{Delete}
 use Rattle.sq_tree.specs.declared.statement.Where.{Where}
-use Rattle.sq_tree.specs.Statement.{position_tokens, orientation_tokens, fetch_from_tokens, fetch_tokens, select_tokens, new_value_tokens, insert_source_tokens, insert_tokens, target_tokens, assignment_tokens, update_tokens, delete_tokens, statement_tokens, select_depth, new_value_depth, insert_source_depth, insert_depth, target_depth, assignment_depth, update_depth, delete_depth, statement_depth}
+use Rattle.sq_tree.specs.Statement.{position_tokens, orientation_tokens, fetch_from_tokens, fetch_tokens, select_tokens, new_value_tokens, insert_source_tokens, insert_tokens, target_tokens, assignment_tokens, update_tokens, delete_tokens, statement_tokens}
+use Rattle.sq_tree.proofs.StatementDepth.{select_depth, new_value_depth, insert_source_depth, insert_depth, target_depth, assignment_depth, update_depth, delete_depth, statement_depth}
 use Rattle.sq_grammar.specs.Expr.{expr}
 use Rattle.sq_grammar.proofs.Spells.{some_is}
 use Rattle.sq_grammar.proofs.Follows.{EndsExpr, EndsTable}

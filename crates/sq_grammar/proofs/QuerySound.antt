@@ -7,7 +7,8 @@ use Rattle.sq_tree.specs.declared.query.Query.{Query, roll-Query}
 use Rattle.sq_tree.specs.declared.query.QueryTerm.TheVariants as terms
 use Rattle.sq_tree.specs.Tree.{Tokens}
 use Rattle.sq_tree.specs.Tree as tree
-use Rattle.sq_tree.specs.Query.{query_tokens, query_depth, query_term_tokens, query_term_depth, union_term_tokens, union_term_depth}
+use Rattle.sq_tree.specs.Query.{query_tokens, query_term_tokens, union_term_tokens}
+use Rattle.sq_tree.proofs.QueryDepth.{query_depth, query_term_depth, union_term_depth}
 use Rattle.sq_tree.proofs.QueryLaws as law
 use Rattle.sq_grammar.specs.Reading.{Parser, eat, sees, behind, all}
 use Rattle.sq_grammar.specs.Cond.{query_specification}

@@ -10,8 +10,10 @@ use Rattle.sq_tree.specs.declared.query.QueryTerm.{QueryTerm}
 use Rattle.sq_tree.specs.declared.query.UnionTerm.{UnionTerm}
 use Rattle.sq_tree.specs.declared.query.Query.{Query, out-Query, roll-out-Query}
 use Rattle.sq_tree.specs.Tree.{said}
-use Rattle.sq_tree.specs.Cond.{select_list_tokens, select_list_depth, table_expression_tokens, table_expression_depth, query_specification_tokens, query_specification_depth}
-use Rattle.sq_tree.specs.Query.{query_tokens, query_depth, query_term_tokens, query_term_depth, union_term_tokens, union_term_depth}
+use Rattle.sq_tree.specs.Cond.{select_list_tokens, table_expression_tokens, query_specification_tokens}
+use Rattle.sq_tree.proofs.CondDepth.{select_list_depth, table_expression_depth, query_specification_depth}
+use Rattle.sq_tree.specs.Query.{query_tokens, query_term_tokens, union_term_tokens}
+use Rattle.sq_tree.proofs.QueryDepth.{query_depth, query_term_depth, union_term_depth}
 use Rattle.sq_tree.proofs.CondLaws as specifications
 use Rattle.sq_tree.proofs.QueryLaws as law
 use Rattle.sq_grammar.specs.Reading.{Tokens, Parser, sees, comma, behind, all, pure}

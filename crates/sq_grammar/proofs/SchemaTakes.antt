@@ -5,11 +5,14 @@ use Rattle.sq_lex.specs.declared.symbol.Symbol.TheVariants as symbol
 use Rattle.sq_lex.specs.declared.word.Word.TheVariants as word
 use Rattle.sq_lex.specs.declared.name.Name.{Name}
 use Rattle.sq_tree.specs.Tree.{optional, said}
-use Rattle.sq_tree.specs.List.{comma_tokens, row_tokens, row_depth}
+use Rattle.sq_tree.specs.List.{comma_tokens, row_tokens}
+use Rattle.sq_tree.proofs.ListDepth.{row_depth}
 use Rattle.sq_tree.specs.Names.{table_name_tokens, columns_tokens}
 use Rattle.sq_tree.specs.DataType.{data_type_tokens}
-use Rattle.sq_tree.specs.Cond.{cond_tokens, cond_depth, query_specification_tokens, query_specification_depth}
+use Rattle.sq_tree.specs.Cond.{cond_tokens, query_specification_tokens}
+use Rattle.sq_tree.proofs.CondDepth.{cond_depth, query_specification_depth}
 use Rattle.sq_tree.specs.Schema as tree
+use Rattle.sq_tree.proofs.SchemaDepth as depths
 use Rattle.sq_tree.specs.declared.list.CommaList.{CommaList}
 use Rattle.sq_tree.specs.declared.names.TableName.{TableName}
 use Rattle.sq_tree.specs.declared.data_type.DataType.{DataType}
@@ -86,7 +89,7 @@ grant_option_takes false none = uneaten _ _ none done
 
 module _ (specification_takes : (left : ℕ) (q : QuerySpecification) (rest : Tokens) → EndsTable rest → Takes (query_specification left) (query_specification_tokens q) 0 0 (query_specification_depth q) left q rest) where
   -- behind CREATE VIEW
-  pub view_definition_takes : (left : ℕ) → 0 < left → (v : ViewDefinition) (rest : Tokens) → EndsElement rest → Takes (view_definition left) (table_name_tokens v.name ++ optional columns_tokens v.columns ++ lexeme.Word word.As ∷ query_specification_tokens v.query ++ said v.check_option check_words) 0 0 (tree.view_definition_depth v) left v rest
+  pub view_definition_takes : (left : ℕ) → 0 < left → (v : ViewDefinition) (rest : Tokens) → EndsElement rest → Takes (view_definition left) (table_name_tokens v.name ++ optional columns_tokens v.columns ++ lexeme.Word word.As ∷ query_specification_tokens v.query ++ said v.check_option check_words) 0 0 (depths.view_definition_depth v) left v rest
   unfolding view_definition
   view_definition_takes left room v rest ends =
       let name : Tokens = table_name_tokens v.name in
@@ -111,7 +114,7 @@ module _ (specification_takes : (left : ℕ) (q : QuerySpecification) (rest : To
 
 -- ---- grants
 
-pub action_takes : (x : Action) {a left : ℕ} {rest : Tokens} → 0 < left → sees (lexeme.Symbol symbol.Open) rest ≡ false → Takes action (tree.action_tokens x) a a (tree.action_depth x) left x rest
+pub action_takes : (x : Action) {a left : ℕ} {rest : Tokens} → 0 < left → sees (lexeme.Symbol symbol.Open) rest ≡ false → Takes action (tree.action_tokens x) a a (depths.action_depth x) left x rest
 unfolding action
 action_takes actions.Select room none = eaten (word word.Select) _ done
 action_takes actions.Insert room none = uneaten _ _ refl (eaten (word word.Insert) _ done)
@@ -131,11 +134,11 @@ action_no_all actions.Delete more rest = refl
 action_no_all (actions.Update o) more rest = refl
 action_no_all (actions.References o) more rest = refl
 
-pub privileges_takes : (ps : Privileges) {a left : ℕ} {rest : Tokens} → 0 < left → sees (lexeme.Symbol symbol.Open) rest ≡ false → sees comma rest ≡ false → Takes privileges (tree.privileges_tokens ps) a a (tree.privileges_depth ps) left ps rest
+pub privileges_takes : (ps : Privileges) {a left : ℕ} {rest : Tokens} → 0 < left → sees (lexeme.Symbol symbol.Open) rest ≡ false → sees comma rest ≡ false → Takes privileges (tree.privileges_tokens ps) a a (depths.privileges_depth ps) left ps rest
 unfolding privileges
 privileges_takes privilege.All room no_open no_comma = eaten (word word.All) _ (expected (word word.Privileges) _ done)
 privileges_takes (privilege.Actions xs) {a = a} {left = left} {rest = rest} room no_open no_comma =
-    let items = commas action tree.action_tokens tree.action_depth a left (λ ts. sees (lexeme.Symbol symbol.Open) ts ≡ false) (λ x ts none. action_takes x room none) (λ ts. refl) xs rest no_open no_comma in
+    let items = commas action tree.action_tokens depths.action_depth a left (λ ts. sees (lexeme.Symbol symbol.Open) ts ≡ false) (λ x ts none. action_takes x room none) (λ ts. refl) xs rest no_open no_comma in
     uneaten _ _ (action_no_all xs.first _ rest) (mapped (listed action) _ xs items refl)
 
 pub grantee_takes : (g : Grantee) {a left : ℕ} {rest : Tokens} → Takes grantee (tree.grantee_tokens g) a a 0 left g rest
@@ -152,7 +155,7 @@ name_no_table t more rest = by t.schema
     by (Some s) = refl
 
 -- behind GRANT
-pub grant_takes : (g : GrantStatement) {a left : ℕ} {rest : Tokens} → 0 < left → sees comma rest ≡ false → sees (lexeme.Word word.With) rest ≡ false → Takes grant (tree.privileges_tokens g.privileges ++ lexeme.Word word.On ∷ said g.table_word (lexeme.Word word.Table ∷ []) ++ table_name_tokens g.table ++ lexeme.Word word.To ∷ comma_tokens tree.grantee_tokens g.grantees ++ said g.grant_option grant_words) a a (tree.grant_depth g) left g rest
+pub grant_takes : (g : GrantStatement) {a left : ℕ} {rest : Tokens} → 0 < left → sees comma rest ≡ false → sees (lexeme.Word word.With) rest ≡ false → Takes grant (tree.privileges_tokens g.privileges ++ lexeme.Word word.On ∷ said g.table_word (lexeme.Word word.Table ∷ []) ++ table_name_tokens g.table ++ lexeme.Word word.To ∷ comma_tokens tree.grantee_tokens g.grantees ++ said g.grant_option grant_words) a a (depths.grant_depth g) left g rest
 unfolding grant
 grant_takes g {a = a} {left = left} {rest = rest} room no_comma no_with =
     let ps : Tokens = tree.privileges_tokens g.privileges in
@@ -202,7 +205,7 @@ module _ (data_type_takes : (t : DataType) (a left : ℕ) (rest : Tokens) → se
     (inner_cond_takes : (left : ℕ) (c : Cond) (rest : Tokens) → 0 < left → EndsCond rest → Takes (strictly (conditions.inside left)) (cond_tokens c) 1 1 (suc (cond_depth c)) left c rest)
     (specification_takes : (left : ℕ) (q : QuerySpecification) (rest : Tokens) → EndsTable rest → Takes (query_specification left) (query_specification_tokens q) 0 0 (query_specification_depth q) left q rest)
     (inner : ℕ) (room : 1 ≤ inner) where
-  pub element_takes : (x : SchemaElement) (rest : Tokens) → EndsElement rest → Takes (element (suc inner) inner) (tree.schema_element_tokens x) 0 0 (tree.schema_element_depth x) (suc inner) (Some x) rest
+  pub element_takes : (x : SchemaElement) (rest : Tokens) → EndsElement rest → Takes (element (suc inner) inner) (tree.schema_element_tokens x) 0 0 (depths.schema_element_depth x) (suc inner) (Some x) rest
   unfolding element created
   element_takes (Table t) rest ends = uneaten _ _ refl (seeing sees_created (created (suc inner) inner) nothing refl
       (expected (word word.Create) _ (eaten (word word.Table) _ (mapped (table_definition inner) _ t (table_definition_takes data_type_takes inner_cond_takes inner room t) refl))))
@@ -210,31 +213,31 @@ module _ (data_type_takes : (t : DataType) (a left : ℕ) (rest : Tokens) → se
       (expected (word word.Create) _ (uneaten _ _ refl (expected (word word.View) _ (mapped (view_definition (suc inner)) _ v (view_definition_takes specification_takes (suc inner) (omega arith) v rest ends) refl)))))
   element_takes (Grant g) rest ends = eaten (word word.Grant) _ (mapped grant _ g (grant_takes g (omega arith) ends.table.comma ends.with_word) refl)
 
-  elements_take : (xs : List SchemaElement) (rest : Tokens) → EndsElement rest → sees (lexeme.Word word.Grant) rest ≡ false → sees_created rest ≡ false → Takes (all (element (suc inner) inner)) (row_tokens tree.schema_element_tokens xs) 0 0 (row_depth tree.schema_element_depth xs) (suc inner) xs rest
-  elements_take xs rest ends no_grant none = rows (element (suc inner) inner) tree.schema_element_tokens tree.schema_element_depth 0 (suc inner) EndsElement element_takes element_starts element_long xs rest ends (no_element (suc inner) inner rest no_grant none)
+  elements_take : (xs : List SchemaElement) (rest : Tokens) → EndsElement rest → sees (lexeme.Word word.Grant) rest ≡ false → sees_created rest ≡ false → Takes (all (element (suc inner) inner)) (row_tokens tree.schema_element_tokens xs) 0 0 (row_depth depths.schema_element_depth xs) (suc inner) xs rest
+  elements_take xs rest ends no_grant none = rows (element (suc inner) inner) tree.schema_element_tokens depths.schema_element_depth 0 (suc inner) EndsElement element_takes element_starts element_long xs rest ends (no_element (suc inner) inner rest no_grant none)
 
   -- behind CREATE
-  pub schema_definition_takes : (s : SchemaDefinition) (rest : Tokens) → EndsDefinition rest → Takes (schema_definition (suc inner) inner) (lexeme.Word word.Schema ∷ lexeme.Word word.Authorization ∷ lexeme.Name s.authorization ∷ row_tokens tree.schema_element_tokens s.elements ++ said s.semicolon (lexeme.Symbol symbol.Semicolon ∷ [])) 0 0 (tree.schema_definition_depth s) (suc inner) s rest
+  pub schema_definition_takes : (s : SchemaDefinition) (rest : Tokens) → EndsDefinition rest → Takes (schema_definition (suc inner) inner) (lexeme.Word word.Schema ∷ lexeme.Word word.Authorization ∷ lexeme.Name s.authorization ∷ row_tokens tree.schema_element_tokens s.elements ++ said s.semicolon (lexeme.Symbol symbol.Semicolon ∷ [])) 0 0 (depths.schema_definition_depth s) (suc inner) s rest
   unfolding schema_definition
   schema_definition_takes s rest ends = by s.semicolon
     where
-      by : (semicolon : Bool) → Takes (schema_definition (suc inner) inner) (lexeme.Word word.Schema ∷ lexeme.Word word.Authorization ∷ lexeme.Name s.authorization ∷ row_tokens tree.schema_element_tokens s.elements ++ said semicolon (lexeme.Symbol symbol.Semicolon ∷ [])) 0 0 (tree.schema_definition_depth s) (suc inner) (record { authorization = s.authorization; elements = s.elements; semicolon = semicolon }) rest
+      by : (semicolon : Bool) → Takes (schema_definition (suc inner) inner) (lexeme.Word word.Schema ∷ lexeme.Word word.Authorization ∷ lexeme.Name s.authorization ∷ row_tokens tree.schema_element_tokens s.elements ++ said semicolon (lexeme.Symbol symbol.Semicolon ∷ [])) 0 0 (depths.schema_definition_depth s) (suc inner) (record { authorization = s.authorization; elements = s.elements; semicolon = semicolon }) rest
       by true = expected (word word.Schema) _ (expected (word word.Authorization) _ (named s.authorization _ (fits (λ h. omega arith) (λ h. omega arith)
           (andthen (all (element (suc inner) inner)) _ s.elements (elements_take s.elements (lexeme.Symbol symbol.Semicolon ∷ rest) (semicolon_ends rest) refl refl) (eaten (mark symbol.Semicolon (λ n. refl)) _ done)))))
       by false = expected (word word.Schema) _ (expected (word word.Authorization) _ (named s.authorization _ (fits (λ h. omega arith) (λ h. omega arith)
           (andthen (all (element (suc inner) inner)) _ s.elements (elements_take s.elements rest ends.element ends.grant ends.created) (uneaten _ _ ends.semicolon done)))))
 
-  next_definition_takes : (s : SchemaDefinition) (rest : Tokens) → EndsDefinition rest → Takes (next_definition (suc inner) inner) (tree.schema_definition_tokens s) 0 0 (tree.schema_definition_depth s) (suc inner) (Some s) rest
+  next_definition_takes : (s : SchemaDefinition) (rest : Tokens) → EndsDefinition rest → Takes (next_definition (suc inner) inner) (tree.schema_definition_tokens s) 0 0 (depths.schema_definition_depth s) (suc inner) (Some s) rest
   next_definition_takes s rest ends = behind_it (word word.Create) (schema_definition (suc inner) inner) (schema_definition_takes s rest ends)
 
-  pub schema_text_takes : (s : SchemaText) (rest : Tokens) → EndsDefinition rest → sees (lexeme.Word word.Create) rest ≡ false → Takes (schema_text (suc inner) inner) (tree.schema_tokens s) 0 0 (tree.schema_depth s) (suc inner) s rest
+  pub schema_text_takes : (s : SchemaText) (rest : Tokens) → EndsDefinition rest → sees (lexeme.Word word.Create) rest ≡ false → Takes (schema_text (suc inner) inner) (tree.schema_tokens s) 0 0 (depths.schema_text_depth s) (suc inner) s rest
   unfolding schema_text
   schema_text_takes s rest ends none =
       let item : Parser (Option SchemaDefinition) = next_definition (suc inner) inner in
-      let first = schema_definition_takes s.first _ (follows item tree.schema_definition_tokens tree.schema_definition_depth 0 (suc inner) EndsDefinition next_definition_takes definition_starts definition_long s.rest rest ends) in
-      let others = rows item tree.schema_definition_tokens tree.schema_definition_depth 0 (suc inner) EndsDefinition next_definition_takes definition_starts definition_long s.rest rest ends (none_behind (lexeme.Word word.Create) (schema_definition (suc inner) inner) rest none) in
+      let first = schema_definition_takes s.first _ (follows item tree.schema_definition_tokens depths.schema_definition_depth 0 (suc inner) EndsDefinition next_definition_takes definition_starts definition_long s.rest rest ends) in
+      let others = rows item tree.schema_definition_tokens depths.schema_definition_depth 0 (suc inner) EndsDefinition next_definition_takes definition_starts definition_long s.rest rest ends (none_behind (lexeme.Word word.Create) (schema_definition (suc inner) inner) rest none) in
       expected (word word.Create) _ (andthen (schema_definition (suc inner) inner) _ s.first first (mapped (all item) _ s.rest others refl))
 
   -- a whole text
-  pub schema_takes : (s : SchemaText) → Takes (schema_text (suc inner) inner) (tree.schema_tokens s) 0 0 (tree.schema_depth s) (suc inner) s []
+  pub schema_takes : (s : SchemaText) → Takes (schema_text (suc inner) inner) (tree.schema_tokens s) 0 0 (depths.schema_text_depth s) (suc inner) s []
   schema_takes s = schema_text_takes s [] (record { element = text_ends; grant = refl; created = refl; semicolon = refl }) refl

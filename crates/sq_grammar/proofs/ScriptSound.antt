@@ -8,12 +8,15 @@ use Rattle.sq_lex.specs.declared.word.Word.TheVariants as word
 use Rattle.sq_tree.specs.declared.script.Arguments.TheVariants.{Unwritten, Empty, Listed}
 use Rattle.sq_tree.specs.declared.script.Argument.TheVariants as value
 use Rattle.sq_tree.specs.declared.script.ScriptItem.TheVariants.{Call, Table}
-use Rattle.sq_tree.specs.Tree.{optional, optional_depth}
-use Rattle.sq_tree.specs.Script.{argument_tokens, arguments_tokens, ended_item_tokens, script_tokens, arguments_depth, script_item_depth, script_depth}
+use Rattle.sq_tree.specs.Tree.{optional}
+use Rattle.sq_tree.proofs.TreeDepth.{optional_depth}
+use Rattle.sq_tree.specs.Script.{argument_tokens, arguments_tokens, ended_item_tokens, script_tokens, script_depth}
+use Rattle.sq_tree.proofs.ScriptDepth.{arguments_depth, script_item_depth, script_text_depth}
+use Rattle.sq_tree.proofs.ScriptNests.{script_depth-parts}
 use Rattle.sq_grammar.specs.Reading.{name, one_if_any, text_of, listed, all}
 use Rattle.sq_grammar.specs.Names.{signed_number}
 use Rattle.sq_grammar.specs.Script.{argument, arguments, two_names, call_of, item, script_text}
-use Rattle.sq_grammar.proofs.Spells.{Sound, sound, built, andthen, eaten, expected, maybe, names, a_text, lists, rows, one_maybe}
+use Rattle.sq_grammar.proofs.Spells.{as_deep, Sound, sound, built, andthen, eaten, expected, maybe, names, a_text, lists, rows, one_maybe}
 use Rattle.sq_grammar.proofs.NamesSound.{signed_numbers}
 
 argument_sound : (left : ℕ) → Sound argument argument_tokens (λ _. 0) left
@@ -54,6 +57,9 @@ item_sound left room = sound (eaten (lexeme.Word word.Table) _
     (λ x. andthen two_names _ (two_names_sound left) (λ p. andthen arguments _ (arguments_sound left room) (λ list. expected (lexeme.Symbol symbol.Semicolon) _
     (built (Some (Call p.0 p.1 list)) _ _ refl (λ h. omega arith)))))))
 
-pub script_sound : (left : ℕ) → 1 ≤ left → Sound script_text script_tokens script_depth left
+by_parts : (left : ℕ) → 1 ≤ left → Sound script_text script_tokens script_text_depth left
 unfolding script_text
-script_sound left room = sound (andthen (all item) _ (rows item ended_item_tokens script_item_depth left (item_sound left room)) (λ items. built (record { items = items }) _ _ refl (λ h. omega arith)))
+by_parts left room = sound (andthen (all item) _ (rows item ended_item_tokens script_item_depth left (item_sound left room)) (λ items. built (record { items = items }) _ _ refl (λ h. omega arith)))
+
+pub script_sound : (left : ℕ) → 1 ≤ left → Sound script_text script_tokens script_depth left
+script_sound left room = as_deep script_depth-parts (by_parts left room)

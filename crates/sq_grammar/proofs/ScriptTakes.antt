@@ -8,7 +8,8 @@ use Rattle.sq_lex.specs.declared.number.Number.{Number}
 use Rattle.sq_tree.specs.Tree.{optional}
 use Rattle.sq_tree.specs.List.{comma_tokens}
 use Rattle.sq_tree.specs.Expr.{sign_tokens, signed_number_tokens}
-use Rattle.sq_tree.specs.Script.{argument_tokens, arguments_tokens, ended_item_tokens, script_tokens, arguments_depth, script_item_depth, script_depth}
+use Rattle.sq_tree.specs.Script.{argument_tokens, arguments_tokens, ended_item_tokens, script_tokens}
+use Rattle.sq_tree.proofs.ScriptDepth.{arguments_depth, script_item_depth, script_text_depth}
 use Rattle.sq_tree.specs.declared.list.CommaList.{CommaList}
 use Rattle.sq_tree.specs.declared.expr.Sign.{Sign}
 use Rattle.sq_tree.specs.declared.expr.Sign.TheVariants.{Plus, Minus}
@@ -103,7 +104,7 @@ unfolding item eat one_if_any
 none_left = refl
 
 -- script-text = { item ";" }
-pub script_takes : (s : ScriptText) (left : ℕ) → 1 ≤ left → Takes script_text (script_tokens s) 0 0 (script_depth s) left s []
+pub script_takes : (s : ScriptText) (left : ℕ) → 1 ≤ left → Takes script_text (script_tokens s) 0 0 (script_text_depth s) left s []
 unfolding script_text
 script_takes s left room = mapped (all item) _ s.items (rows item ended_item_tokens script_item_depth 0 left (λ _. Unit {0}) each (λ x r. tt) item_long s.items [] tt none_left) refl
   where

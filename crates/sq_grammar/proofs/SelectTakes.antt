@@ -16,11 +16,14 @@ use Rattle.sq_tree.specs.declared.cond.SelectList.TheVariants as list
 use Rattle.sq_tree.specs.declared.cond.Cond.{Cond}
 use Rattle.sq_tree.specs.declared.cond.TableExpression.{TableExpression, out-TableExpression, roll-TableExpression, roll-out-TableExpression}
 use Rattle.sq_tree.specs.declared.cond.QuerySpecification.{QuerySpecification, out-QuerySpecification, roll-QuerySpecification, roll-out-QuerySpecification}
-use Rattle.sq_tree.specs.Tree.{optional, optional_depth, greatest, said}
+use Rattle.sq_tree.specs.Tree.{optional, said}
+use Rattle.sq_tree.proofs.TreeDepth.{optional_depth, greatest}
 use Rattle.sq_tree.specs.List.{comma_tokens}
 use Rattle.sq_tree.specs.Names.{column_reference_tokens}
-use Rattle.sq_tree.specs.Expr.{expr_tokens, expr_depth, quantifier_tokens}
-use Rattle.sq_tree.specs.Cond.{correlation_tokens, table_reference_tokens, select_list_tokens, select_list_depth, group_by_tokens, cond_tokens, cond_depth, table_expression_tokens, table_expression_depth, query_specification_tokens, query_specification_depth}
+use Rattle.sq_tree.specs.Expr.{expr_tokens, quantifier_tokens}
+use Rattle.sq_tree.proofs.ExprDepth.{expr_depth}
+use Rattle.sq_tree.specs.Cond.{correlation_tokens, table_reference_tokens, select_list_tokens, group_by_tokens, cond_tokens, table_expression_tokens, query_specification_tokens}
+use Rattle.sq_tree.proofs.CondDepth.{select_list_depth, cond_depth, table_expression_depth, query_specification_depth}
 use Rattle.sq_tree.proofs.CondLaws as law
 use Rattle.sq_tree.proofs.CondLaws.{where_cond, having_cond}
 use Rattle.sq_grammar.specs.Reading.{Tokens, Parser, sees, first_of, name_of, comma, listed}

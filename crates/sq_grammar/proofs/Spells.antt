@@ -8,8 +8,10 @@ use Rattle.sq_lex.specs.declared.lexeme.Lexeme.TheVariants as lexeme
 use Rattle.sq_lex.specs.declared.symbol.Symbol.TheVariants as symbol
 use Rattle.sq_lex.specs.declared.name.Name.{Name}
 use Rattle.sq_lex.specs.declared.number.Number.{Number}
-use Rattle.sq_tree.specs.Tree.{optional, optional_depth, greatest, said}
-use Rattle.sq_tree.specs.List.{comma_tokens, comma_depth, comma_then}
+use Rattle.sq_tree.specs.Tree.{optional, said}
+use Rattle.sq_tree.proofs.TreeDepth.{optional_depth, greatest}
+use Rattle.sq_tree.specs.List.{comma_tokens, comma_then}
+use Rattle.sq_tree.proofs.ListDepth.{comma_depth}
 use Rattle.sq_tree.specs.Names.{name_tokens}
 use Rattle.sq_tree.specs.declared.expr.Expr.{Expr}
 use Rattle.sq_tree.specs.Expr.{expr_tokens}
@@ -42,6 +44,14 @@ ok_is x y e = cc
 -- the two parts of what was read
 pub ok_pair : {X : Type 0} (x y : X) (r s : Tokens) → let a : Outcome X = Ok (x, r) in let b : Outcome X = Ok (y, s) in a ≡ b → (x ≡ y) × (r ≡ s)
 ok_pair x y r s e = let p = ok_is (x, r) (y, s) e in (ap (λ q. q.0) p, ap (λ q. q.1) p)
+
+-- the same depth, said in another way
+pub as_deep : {A : Type 0} {p : Parser A} {text : A → Tokens} {depth deep : A → ℕ} {left : ℕ} → ((x : A) → deep x ≡ depth x) → Sound p text depth left → Sound p text deep left
+as_deep {left = left} same s = record {
+  spells = λ ts x rest e.
+      let y = s.spells ts x rest e in
+      record { text_is = y.text_is; shallow = subst (λ d. d ≤ left) (sym (same x)) y.shallow };
+}
 
 module _ {A : Type 0} {text : A → Tokens} {depth : A → ℕ} {left : ℕ} where
   -- from the start

@@ -12,12 +12,15 @@ use Rattle.sq_tree.specs.declared.statement.Position.TheVariants as positions
 use Rattle.sq_tree.specs.declared.statement.InsertSource.TheVariants as sources
 use Rattle.sq_tree.specs.declared.statement.NewValue.TheVariants as values
 use Rattle.sq_tree.specs.declared.statement.Where.TheVariants.{Condition, CurrentOf}
-use Rattle.sq_tree.specs.Tree.{optional, optional_depth}
+use Rattle.sq_tree.specs.Tree.{optional}
+use Rattle.sq_tree.proofs.TreeDepth.{optional_depth}
 use Rattle.sq_tree.specs.List.{comma_tokens}
 use Rattle.sq_tree.specs.Names.{parameter_tokens}
-use Rattle.sq_tree.specs.Expr.{expr_tokens, expr_depth, quantifier_tokens}
+use Rattle.sq_tree.specs.Expr.{expr_tokens, quantifier_tokens}
+use Rattle.sq_tree.proofs.ExprDepth.{expr_depth}
 use Rattle.sq_tree.specs.Cond.{select_list_tokens, table_expression_tokens}
-use Rattle.sq_tree.specs.Statement.{position_tokens, orientation_tokens, fetch_from_tokens, fetch_tokens, select_tokens, new_value_tokens, insert_source_tokens, insert_tokens, target_tokens, assignment_tokens, update_tokens, delete_tokens, statement_tokens, select_depth, new_value_depth, insert_source_depth, insert_depth, target_depth, assignment_depth, update_depth, delete_depth, statement_depth}
+use Rattle.sq_tree.specs.Statement.{position_tokens, orientation_tokens, fetch_from_tokens, fetch_tokens, select_tokens, new_value_tokens, insert_source_tokens, insert_tokens, target_tokens, assignment_tokens, update_tokens, delete_tokens, statement_tokens}
+use Rattle.sq_tree.proofs.StatementDepth.{select_depth, new_value_depth, insert_source_depth, insert_depth, target_depth, assignment_depth, update_depth, delete_depth, statement_depth}
 use Rattle.sq_grammar.specs.declared.verb.Verb.{Verb}
 use Rattle.sq_grammar.specs.declared.verb.Verb.TheVariants as verb
 use Rattle.sq_grammar.specs.Reading.{Parser, eat, one_if_any, name, listed}

@@ -39,13 +39,18 @@ use Rattle.sq_tree.specs.declared.statement.Assignment.{Assignment}
 use Rattle.sq_tree.specs.declared.statement.Delete.{Delete}
 use Rattle.sq_tree.specs.declared.statement.Where.{Where}
 use Rattle.sq_tree.specs.declared.statement.Where.TheVariants.{Condition, CurrentOf}
-use Rattle.sq_tree.specs.Tree.{optional, optional_depth}
-use Rattle.sq_tree.specs.List.{comma_tokens, comma_depth}
+use Rattle.sq_tree.specs.Tree.{optional}
+use Rattle.sq_tree.proofs.TreeDepth.{optional_depth}
+use Rattle.sq_tree.specs.List.{comma_tokens}
+use Rattle.sq_tree.proofs.ListDepth.{comma_depth}
 use Rattle.sq_tree.specs.Names.{table_name_tokens, parameter_tokens, columns_tokens}
-use Rattle.sq_tree.specs.Expr.{expr_tokens, expr_depth, quantifier_tokens, signed_number_tokens}
-use Rattle.sq_tree.specs.Cond.{not_tokens, body_tokens, test_tokens, conj_tokens, cond_tokens, cond_depth, select_list_tokens, select_list_depth, table_expression_tokens, table_expression_depth, query_specification_tokens, query_specification_depth}
-use Rattle.sq_tree.specs.DataType.{bracket_depth}
-use Rattle.sq_tree.specs.Statement.{position_tokens, orientation_tokens, fetch_from_tokens, new_value_tokens, insert_source_tokens, target_tokens, assignment_tokens, statement_tokens, select_depth, new_value_depth, insert_source_depth, insert_depth, target_depth, assignment_depth, update_depth, delete_depth, statement_depth}
+use Rattle.sq_tree.specs.Expr.{expr_tokens, quantifier_tokens, signed_number_tokens}
+use Rattle.sq_tree.proofs.ExprDepth.{expr_depth}
+use Rattle.sq_tree.specs.Cond.{not_tokens, body_tokens, test_tokens, conj_tokens, cond_tokens, select_list_tokens, table_expression_tokens, query_specification_tokens}
+use Rattle.sq_tree.proofs.CondDepth.{cond_depth, select_list_depth, table_expression_depth, query_specification_depth}
+use Rattle.sq_tree.proofs.DataTypeDepth.{bracket_depth}
+use Rattle.sq_tree.specs.Statement.{position_tokens, orientation_tokens, fetch_from_tokens, new_value_tokens, insert_source_tokens, target_tokens, assignment_tokens, statement_tokens}
+use Rattle.sq_tree.proofs.StatementDepth.{select_depth, new_value_depth, insert_source_depth, insert_depth, target_depth, assignment_depth, update_depth, delete_depth, statement_depth}
 use Rattle.sq_tree.proofs.CondLaws as law
 use Rattle.sq_tree.proofs.CondLaws.{body_cases}
 use Rattle.sq_grammar.specs.declared.verb.Verb.TheVariants as verb

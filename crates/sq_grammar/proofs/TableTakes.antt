@@ -6,12 +6,16 @@ use Rattle.sq_lex.specs.declared.word.Word.TheVariants as word
 use Rattle.sq_lex.specs.declared.name.Name.{Name}
 use Rattle.sq_lex.specs.declared.number.Number.{Number}
 use Rattle.sq_tree.specs.Tree.{optional, bracketed}
-use Rattle.sq_tree.specs.List.{comma_tokens, row_tokens, row_depth}
+use Rattle.sq_tree.specs.List.{comma_tokens, row_tokens}
+use Rattle.sq_tree.proofs.ListDepth.{row_depth}
 use Rattle.sq_tree.specs.Names.{table_name_tokens, columns_tokens}
 use Rattle.sq_tree.specs.Expr.{signed_number_tokens}
-use Rattle.sq_tree.specs.DataType.{data_type_tokens, data_type_depth, bracket_depth}
-use Rattle.sq_tree.specs.Cond.{cond_tokens, cond_depth}
+use Rattle.sq_tree.specs.DataType.{data_type_tokens}
+use Rattle.sq_tree.proofs.DataTypeDepth.{data_type_depth, bracket_depth}
+use Rattle.sq_tree.specs.Cond.{cond_tokens}
+use Rattle.sq_tree.proofs.CondDepth.{cond_depth}
 use Rattle.sq_tree.specs.Schema as tree
+use Rattle.sq_tree.proofs.SchemaDepth as depths
 use Rattle.sq_tree.specs.declared.list.CommaList.{CommaList}
 use Rattle.sq_tree.specs.declared.expr.Sign.{Sign}
 use Rattle.sq_tree.specs.declared.expr.Sign.TheVariants.{Plus, Minus}
@@ -155,7 +159,7 @@ module _ (data_type_takes : (t : DataType) (a left : ℕ) (rest : Tokens) → se
   unfolding check
   check_takes left room c {rest = rest} = expected opening _ (fits (λ h. omega arith) (λ h. omega arith) (andthen (strictly (conditions.inside left)) _ c (inner_cond_takes left c (lexeme.Symbol symbol.Close ∷ rest) room (cond_close rest)) (expected closing _ done)))
 
-  pub column_constraint_takes : (left : ℕ) → 0 < left → (c : ColumnConstraint) (rest : Tokens) → EndsConstraint rest → Takes (column_constraint left) (tree.column_constraint_tokens c) 0 0 (tree.column_constraint_depth c) left (Some c) rest
+  pub column_constraint_takes : (left : ℕ) → 0 < left → (c : ColumnConstraint) (rest : Tokens) → EndsConstraint rest → Takes (column_constraint left) (tree.column_constraint_tokens c) 0 0 (depths.column_constraint_depth c) left (Some c) rest
   unfolding column_constraint
   column_constraint_takes left room constraints.NotNull rest ends = eaten (word word.Not) _ (expected (word word.Null) _ done)
   column_constraint_takes left room constraints.Unique rest ends = uneaten _ _ refl (eaten (word word.Unique) _ done)
@@ -166,14 +170,14 @@ module _ (data_type_takes : (t : DataType) (a left : ℕ) (rest : Tokens) → se
   column_constraint_takes left room (constraints.Check c) rest ends = uneaten _ _ refl (uneaten _ _ refl (uneaten _ _ refl (uneaten _ _ refl (eaten (word word.Check) _ (mapped (check left) _ c (check_takes left room c) refl)))))
 
   module _ (left : ℕ) (room : 0 < left) where
-    constraints_take : (cs : List ColumnConstraint) (rest : Tokens) → EndsColumn rest → Takes (all (column_constraint left)) (row_tokens tree.column_constraint_tokens cs) 0 0 (row_depth tree.column_constraint_depth cs) left cs rest
-    constraints_take cs rest ends = rows (column_constraint left) tree.column_constraint_tokens tree.column_constraint_depth 0 left EndsConstraint (column_constraint_takes left room) constraint_starts constraint_long cs rest ends.constraint (no_constraint left rest ends)
+    constraints_take : (cs : List ColumnConstraint) (rest : Tokens) → EndsColumn rest → Takes (all (column_constraint left)) (row_tokens tree.column_constraint_tokens cs) 0 0 (row_depth depths.column_constraint_depth cs) left cs rest
+    constraints_take cs rest ends = rows (column_constraint left) tree.column_constraint_tokens depths.column_constraint_depth 0 left EndsConstraint (column_constraint_takes left room) constraint_starts constraint_long cs rest ends.constraint (no_constraint left rest ends)
 
     constraints_follow : (cs : List ColumnConstraint) (rest : Tokens) → EndsColumn rest → EndsConstraint (row_tokens tree.column_constraint_tokens cs ++ rest)
-    constraints_follow cs rest ends = follows (column_constraint left) tree.column_constraint_tokens tree.column_constraint_depth 0 left EndsConstraint (column_constraint_takes left room) constraint_starts constraint_long cs rest ends.constraint
+    constraints_follow cs rest ends = follows (column_constraint left) tree.column_constraint_tokens depths.column_constraint_depth 0 left EndsConstraint (column_constraint_takes left room) constraint_starts constraint_long cs rest ends.constraint
 
     -- behind its name
-    pub column_definition_takes : (c : ColumnDefinition) (rest : Tokens) → EndsColumn rest → Takes (column_definition left c.name) (data_type_tokens c.data_type ++ optional tree.default_clause_tokens c.default ++ row_tokens tree.column_constraint_tokens c.constraints) 0 0 (tree.column_definition_depth c) left c rest
+    pub column_definition_takes : (c : ColumnDefinition) (rest : Tokens) → EndsColumn rest → Takes (column_definition left c.name) (data_type_tokens c.data_type ++ optional tree.default_clause_tokens c.default ++ row_tokens tree.column_constraint_tokens c.constraints) 0 0 (depths.column_definition_depth c) left c rest
     unfolding column_definition
     column_definition_takes c rest ends =
         let more = constraints_follow c.constraints rest ends in
@@ -191,7 +195,7 @@ module _ (data_type_takes : (t : DataType) (a left : ℕ) (rest : Tokens) → se
         no_varying (Some v) none = refl
 
     -- a table element that is no column
-    pub table_constraint_takes : (e : TableElement) (rest : Tokens) → first_of name_of (tree.table_element_tokens e) ≡ None → EndsConstraint rest → Takes (table_constraint left) (tree.table_element_tokens e) 0 0 (tree.table_element_depth e) left e rest
+    pub table_constraint_takes : (e : TableElement) (rest : Tokens) → first_of name_of (tree.table_element_tokens e) ≡ None → EndsConstraint rest → Takes (table_constraint left) (tree.table_element_tokens e) 0 0 (depths.table_element_depth e) left e rest
     unfolding table_constraint
     table_constraint_takes (elements.Column c) rest constraint ends = cc
     table_constraint_takes (elements.Unique cs) rest constraint ends = fits (λ h. omega arith) (λ h. omega (arith, room)) (eaten (word word.Unique) _ (mapped columns _ cs (columns_takes cs) refl))
@@ -199,7 +203,7 @@ module _ (data_type_takes : (t : DataType) (a left : ℕ) (rest : Tokens) → se
     table_constraint_takes (elements.ForeignKey k) rest constraint ends = fits (λ h. omega arith) (λ h. omega (arith, room)) (uneaten _ _ refl (uneaten _ _ refl (eaten (word word.Foreign) _ (mapped foreign_key _ k (foreign_key_takes k ends.dot ends.bracket) refl))))
     table_constraint_takes (elements.Check c) rest constraint ends = uneaten _ _ refl (uneaten _ _ refl (uneaten _ _ refl (expected (word word.Check) _ (mapped (check left) _ c (check_takes left room c) refl))))
 
-    pub table_element_takes : (e : TableElement) (rest : Tokens) → EndsColumn rest → Takes (table_element left) (tree.table_element_tokens e) 0 0 (tree.table_element_depth e) left e rest
+    pub table_element_takes : (e : TableElement) (rest : Tokens) → EndsColumn rest → Takes (table_element left) (tree.table_element_tokens e) 0 0 (depths.table_element_depth e) left e rest
     unfolding table_element
     table_element_takes (elements.Column c) rest ends = met name_of (lexeme.Name c.name) c.name refl (λ k. refl) _ (mapped (column_definition left c.name) _ c (column_definition_takes c rest ends) refl)
     table_element_takes (elements.Unique cs) rest ends = unmet name_of _ refl (table_constraint_takes (elements.Unique cs) rest refl ends.constraint)
@@ -208,10 +212,10 @@ module _ (data_type_takes : (t : DataType) (a left : ℕ) (rest : Tokens) → se
     table_element_takes (elements.Check c) rest ends = unmet name_of _ refl (table_constraint_takes (elements.Check c) rest refl ends.constraint)
 
   -- Behind CREATE TABLE; behind the table's bracket `inner` more may be opened.
-  pub table_definition_takes : (inner : ℕ) → 0 < inner → (t : TableDefinition) {rest : Tokens} → Takes (table_definition inner) (table_name_tokens t.name ++ bracketed (comma_tokens tree.table_element_tokens t.elements)) 0 0 (tree.table_definition_depth t) (suc inner) t rest
+  pub table_definition_takes : (inner : ℕ) → 0 < inner → (t : TableDefinition) {rest : Tokens} → Takes (table_definition inner) (table_name_tokens t.name ++ bracketed (comma_tokens tree.table_element_tokens t.elements)) 0 0 (depths.table_definition_depth t) (suc inner) t rest
   unfolding table_definition
   table_definition_takes inner room t {rest = rest} =
       let close : Tokens = lexeme.Symbol symbol.Close ∷ rest in
-      let items = commas (table_element inner) tree.table_element_tokens tree.table_element_depth 0 inner EndsColumn (table_element_takes inner room) column_comma t.elements close (column_close rest) refl in
+      let items = commas (table_element inner) tree.table_element_tokens depths.table_element_depth 0 inner EndsColumn (table_element_takes inner room) column_comma t.elements close (column_close rest) refl in
       plainly table_name _ t.name (table_takes t.name refl) (expected opening _
       (fits (λ h. omega arith) (λ h. omega arith) (andthen (listed (table_element inner)) _ t.elements (lifted items) (expected closing _ done))))

@@ -17,15 +17,19 @@ use Rattle.sq_tree.specs.declared.cond.Cond.{Cond}
 use Rattle.sq_tree.specs.declared.cond.Tail.{Tail}
 use Rattle.sq_tree.specs.declared.cond.Tail.TheVariants as tails
 use Rattle.sq_tree.specs.declared.cond.QuerySpecification.{QuerySpecification}
-use Rattle.sq_tree.specs.Tree.{optional, optional_depth, bracketed}
-use Rattle.sq_tree.specs.List.{comma_tokens, comma_depth}
-use Rattle.sq_tree.specs.Expr.{expr_tokens, expr_depth, function_token, sign_token}
-use Rattle.sq_tree.specs.Cond.{comparison_token, compared_tokens, not_tokens, escape_tokens, cond_tokens, cond_depth, tail_tokens, tail_depth, query_specification_tokens, query_specification_depth}
+use Rattle.sq_tree.specs.Tree.{optional, bracketed}
+use Rattle.sq_tree.proofs.TreeDepth.{optional_depth}
+use Rattle.sq_tree.specs.List.{comma_tokens}
+use Rattle.sq_tree.proofs.ListDepth.{comma_depth}
+use Rattle.sq_tree.specs.Expr.{expr_tokens, function_token, sign_token}
+use Rattle.sq_tree.proofs.ExprDepth.{expr_depth}
+use Rattle.sq_tree.specs.Cond.{comparison_token, compared_tokens, not_tokens, escape_tokens, cond_tokens, tail_tokens, query_specification_tokens}
+use Rattle.sq_tree.proofs.CondDepth.{cond_depth, tail_depth, query_specification_depth}
 use Rattle.sq_tree.proofs.CondLaws as law
 use Rattle.sq_grammar.specs.declared.mixed.Mixed.{Mixed}
 use Rattle.sq_grammar.specs.declared.mixed.Mixed.TheVariants.{Whole}
 use Rattle.sq_grammar.specs.Reading.{Tokens, Parser, sees, rest, behind, listed}
-use Rattle.sq_grammar.specs.Brackets.{open_after}
+use Rattle.sq_tree.specs.Brackets.{open_after}
 use Rattle.sq_grammar.specs.Expr as expressions
 use Rattle.sq_grammar.specs.Expr.{expr}
 use Rattle.sq_grammar.specs.Cond.{comparison_of, compared_if_any, sees_query, strict, strictly, null_tail, inner_query, subquery, by_compared, comparison_tail, between_tail, in_tail, like_tail, negatable_tail, tail}

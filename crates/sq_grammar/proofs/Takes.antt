@@ -13,11 +13,14 @@ use Rattle.sq_lex.specs.declared.word.Word.{Word}
 use Rattle.sq_lex.specs.declared.name.Name.{Name}
 use Rattle.sq_lex.specs.declared.number.Number.{Number}
 use Rattle.sq_lex.specs.Word.{place}
-use Rattle.sq_tree.specs.Tree.{optional, optional_depth, greatest, said}
-use Rattle.sq_tree.specs.List.{comma_tokens, comma_depth, comma_then}
+use Rattle.sq_tree.specs.Tree.{optional, said}
+use Rattle.sq_tree.proofs.TreeDepth.{optional_depth, greatest}
+use Rattle.sq_tree.specs.List.{comma_tokens, comma_then}
+use Rattle.sq_tree.proofs.ListDepth.{comma_depth}
 use Rattle.sq_tree.specs.declared.list.CommaList.{CommaList}
-use Rattle.sq_grammar.specs.Reading.{Tokens, Outcome, Parser, ◌>>=◌, and_then, pure, stuck, eat, expect, opened, sees, rest, one_of, one_if_any, first_of, taken, taken_if_any, name_of, number_of, name, number, behind, comma, listed, all, symbol_place}
-use Rattle.sq_grammar.specs.Brackets.{open_after}
+use Rattle.sq_lex.specs.Symbol.{symbol_place}
+use Rattle.sq_grammar.specs.Reading.{Tokens, Outcome, Parser, ◌>>=◌, and_then, pure, stuck, eat, expect, opened, sees, rest, one_of, one_if_any, first_of, taken, taken_if_any, name_of, number_of, name, number, behind, comma, listed, all}
+use Rattle.sq_tree.specs.Brackets.{open_after}
 use Rattle.sq_grammar.proofs.Many.{all-none, all-err, all-some}
 
 -- From `a` open brackets more to `b` more, whatever is open besides.

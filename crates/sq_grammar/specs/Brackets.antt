@@ -1,20 +1,15 @@
--- Round brackets. At most 32 of them may be open at once (own rule).
-use Rattle.std.specs.Prelude.{ℕ, ◌+◌, ◌-◌, Bool, ◌&&◌, nat_eq, take, drop, fold}
-use Rattle.sq_lex.specs.declared.lexeme.Lexeme.{Lexeme}
+-- Round brackets, of which at most MAX_DEPTH may be open at once (own rule).
+use Rattle.std.specs.Prelude.{ℕ, Bool, ◌&&◌, nat_eq, take, drop, fold}
 use Rattle.sq_lex.specs.declared.lexeme.Lexeme.TheVariants as lexeme
 use Rattle.sq_lex.specs.declared.symbol.Symbol.TheVariants as symbol
+use Rattle.sq_tree.specs.Brackets.{open_after}
+use Rattle.sq_grammar.specs.declared.brackets.TheConstants.{MAX_DEPTH}
 use Rattle.sq_grammar.specs.Reading.{Tokens, sees}
-
--- the brackets that are open after one more token
-abbrev pub open_after : ℕ → Lexeme → ℕ
-open_after n (lexeme.Symbol symbol.Open) = n + 1
-open_after n (lexeme.Symbol symbol.Close) = n - 1
-open_after n _ = n
 
 -- how many brackets these tokens leave open
 abbrev pub open_brackets : Tokens → ℕ
 open_brackets = fold open_after 0
 
--- the token at this place is an opening bracket, before which 32 are open
+-- the token at this place is an opening bracket, before which as many are open as may be
 abbrev pub is_too_deep : Tokens → ℕ → Bool
-is_too_deep ts place = sees (lexeme.Symbol symbol.Open) (drop place ts) && nat_eq (open_brackets (take place ts)) 32
+is_too_deep ts place = sees (lexeme.Symbol symbol.Open) (drop place ts) && nat_eq (open_brackets (take place ts)) MAX_DEPTH

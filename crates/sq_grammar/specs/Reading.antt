@@ -8,6 +8,7 @@ use Rattle.sq_lex.specs.declared.symbol.Symbol.TheVariants as symbol
 use Rattle.sq_lex.specs.declared.word.Word.{Word}
 use Rattle.sq_lex.specs.declared.name.Name.{Name}
 use Rattle.sq_lex.specs.declared.number.Number.{Number}
+use Rattle.sq_lex.specs.Symbol.{same_symbol}
 use Rattle.sq_lex.specs.Word.{same_word}
 use Rattle.sq_tree.specs.declared.list.CommaList.{CommaList}
 
@@ -42,27 +43,6 @@ abbrev pub stuck : {A : Type 0} → Parser A
 stuck = λ ts. Err (length ts)
 
 -- ---- words and symbols
-
-abbrev pub symbol_place : Symbol → ℕ
-symbol_place symbol.Open = 0
-symbol_place symbol.Close = 1
-symbol_place symbol.Comma = 2
-symbol_place symbol.Semicolon = 3
-symbol_place symbol.Dot = 4
-symbol_place symbol.Colon = 5
-symbol_place symbol.Star = 6
-symbol_place symbol.Plus = 7
-symbol_place symbol.Minus = 8
-symbol_place symbol.Slash = 9
-symbol_place symbol.Equal = 10
-symbol_place symbol.NotEqual = 11
-symbol_place symbol.Less = 12
-symbol_place symbol.Greater = 13
-symbol_place symbol.LessOrEqual = 14
-symbol_place symbol.GreaterOrEqual = 15
-
-abbrev pub same_symbol : Symbol → Symbol → Bool
-same_symbol a b = nat_eq (symbol_place a) (symbol_place b)
 
 abbrev pub is_word : Word → Lexeme → Bool
 is_word w (lexeme.Word v) = same_word v w

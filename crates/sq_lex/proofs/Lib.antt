@@ -2,5 +2,7 @@ mod LiteralLemmas
 pub mod Longest
 mod Quoted
 mod ReadingLemmas
+mod Rows
 mod Runs
+pub mod SymbolLemmas
 pub mod WordLemmas

@@ -7,11 +7,11 @@ use Rattle.std.proofs.lemmas.List.Folds.{length-prefix_len}
 use Rattle.std.specs.Prelude.{slice_index, nat_lt}
 use Rattle.std.specs.List.{list_all, prefix_len}
 use Rattle.std.specs.Char.{is_ascii_digit, is_ascii_alphabetic, to_ascii_uppercase}
-use Rattle.sq_lex.specs.Characters.{point, quote, has, is_white}
+use Rattle.sq_lex.specs.Characters.{line_feed, point, quote, has, is_white}
 use Rattle.sq_lex.specs.Literal.{literal}
 use Rattle.sq_lex.specs.Piece.{begins_comment, comment, word, number, text, symbol as symbol_piece, first_piece, begins_number, digits, fraction_size, lexeme_of_word, longest_symbol, piece_of_literal}
 use Rattle.sq_lex.specs.Reserved.{reserved}
-use Rattle.sq_lex.specs.Spelling.{IsWordSpelling, IsNumberSpelling, IsTextSpelling, IsSpelling, IsLongest, IsLongestToken, doubled, symbol_codes}
+use Rattle.sq_lex.specs.Spelling.{IsWordSpelling, IsNumberSpelling, IsTextSpelling, IsSpelling, IsLongest, IsSpelled, doubled, symbol_codes}
 use Rattle.sq_lex.specs.Symbol.{symbol_of_one, symbol_of_two}
 use Rattle.sq_lex.specs.declared.characters.Class.TheVariants as class
 use Rattle.sq_lex.specs.declared.fault.LexFaultKind.TheVariants as fault
@@ -103,11 +103,11 @@ word_token : (bytes : List ℕ) → is_ascii_alphabetic (head bytes) ≡ true �
 word_token bytes l few (Some w) e = record { spelled = (word_spelled bytes l few, e); longest = word_longest bytes l }
 word_token bytes l few None e = record { spelled = (word_spelled bytes l few, refl, e); longest = word_longest bytes l }
 
-word_law : (bytes : List ℕ) → is_ascii_alphabetic (head bytes) ≡ true → IsLongestToken bytes (word bytes)
+word_law : (bytes : List ℕ) → is_ascii_alphabetic (head bytes) ≡ true → IsSpelled bytes (word bytes)
 unfolding word
 word_law bytes l =
     let spelling = map to_ascii_uppercase (take (word_size bytes) bytes) in
-    cond_both (nat_lt 18 (word_size bytes)) (piece.Fault 0 fault.LongName) (piece.Token (word_size bytes) (lexeme_of_word spelling (reserved spelling))) (IsLongestToken bytes) (λ long. tt {0})
+    cond_both (nat_lt 18 (word_size bytes)) (piece.Fault 0 fault.LongName) (piece.Token (word_size bytes) (lexeme_of_word spelling (reserved spelling))) (IsSpelled bytes) (λ long. tt {0})
     (λ few. word_token bytes l few (reserved spelling) refl)
 
 -- ---- numbers
@@ -198,13 +198,13 @@ number_token bytes h few =
           (λ t e. no_two begins_as_number (head bytes) refl refl begins (symbol_head bytes n two within t e));
     }
 
-number_law : (bytes : List ℕ) → begins_number bytes ≡ true → IsLongestToken bytes (number bytes)
+number_law : (bytes : List ℕ) → begins_number bytes ≡ true → IsSpelled bytes (number bytes)
 unfolding number
 number_law bytes h =
     let size = digits bytes + fraction_size (rest_of bytes) in
     cond_both (nat_lt 18 (digits bytes + (fraction_size (rest_of bytes) - 1))) (piece.Fault 0 fault.LongNumber)
-    (cond (is_ascii_alphabetic (slice_index bytes size)) (piece.Fault 0 fault.NumberThenLetter) (piece.Token size (lexeme.Number (take size bytes)))) (IsLongestToken bytes) (λ long. tt {0})
-    (λ few. cond_both (is_ascii_alphabetic (slice_index bytes size)) (piece.Fault 0 fault.NumberThenLetter) (piece.Token size (lexeme.Number (take size bytes))) (IsLongestToken bytes) (λ letter. tt {0})
+    (cond (is_ascii_alphabetic (slice_index bytes size)) (piece.Fault 0 fault.NumberThenLetter) (piece.Token size (lexeme.Number (take size bytes)))) (IsSpelled bytes) (λ long. tt {0})
+    (λ few. cond_both (is_ascii_alphabetic (slice_index bytes size)) (piece.Fault 0 fault.NumberThenLetter) (piece.Token size (lexeme.Number (take size bytes))) (IsSpelled bytes) (λ letter. tt {0})
     (λ none. number_token bytes h few))
 
 -- ---- text literals
@@ -217,10 +217,10 @@ quote_no_two : (c : ℕ) → c ≡ quote → (c ≡ 60) ⊎ (c ≡ 62) → ⊥
 quote_no_two c e (inl h) = omega arith
 quote_no_two c e (inr h) = omega arith
 
-text_by : (q : ℕ) (rest : List ℕ) → q ≡ quote → (l : Literal) → Says rest l → IsLongestToken (q ∷ rest) (piece_of_literal l)
+text_by : (q : ℕ) (rest : List ℕ) → q ≡ quote → (l : Literal) → Says rest l → IsSpelled (q ∷ rest) (piece_of_literal l)
 text_by q rest is (Closed cs size) read =
     let one : 1 + size ≡ suc size = omega arith in
-    cond_both (nat_lt 240 (length cs)) (piece.Fault 0 fault.LongText) (piece.Token (1 + size) (lexeme.Text cs)) (IsLongestToken (q ∷ rest)) (λ long. tt {0})
+    cond_both (nat_lt 240 (length cs)) (piece.Fault 0 fault.LongText) (piece.Token (1 + size) (lexeme.Text cs)) (IsSpelled (q ∷ rest)) (λ long. tt {0})
     (λ few. record {
       spelled = record {
         spelled = ap (λ k. take k (q ∷ rest)) one ∙ (λ i. is i ∷ read.ends i);
@@ -238,7 +238,7 @@ text_by q rest is (Closed cs size) read =
 text_by q rest is Open read = tt {0}
 text_by q rest is (BadByte at) read = tt {0}
 
-text_law : (bytes : List ℕ) → (head bytes == quote) ≡ true → IsLongestToken bytes (text bytes)
+text_law : (bytes : List ℕ) → (head bytes == quote) ≡ true → IsSpelled bytes (text bytes)
 unfolding text
 text_law [] h = cc
 text_law (q ∷ rest) h = text_by q rest (eqb-true q quote h) (literal rest) (said rest)
@@ -354,7 +354,7 @@ module _ (bytes : List ℕ) (nl : is_ascii_alphabetic (head bytes) ≡ false) (n
       (λ cs s. let never : true ≡ false = sym (ap (λ c. c == quote) (text_head bytes n two within cs s)) ∙ nq in cc)
       symbols
 
-  symbol_by : (two one : Option Symbol) → symbol_of_two (head bytes) (slice_index bytes 1) ≡ two → symbol_of_one (head bytes) ≡ one → IsLongestToken bytes (longest_symbol two one)
+  symbol_by : (two one : Option Symbol) → symbol_of_two (head bytes) (slice_index bytes 1) ≡ two → symbol_of_one (head bytes) ≡ one → IsSpelled bytes (longest_symbol two one)
   symbol_by (Some s) one e f = record {
     spelled = two_there bytes s e ∙ (two_spells (head bytes) (slice_index bytes 1)).is s e;
     longest = λ n m long within. other_kinds n m (omega arith) within (λ t g. omega (arith, ap length g, length-take-le n bytes within, symbol_short t));
@@ -372,17 +372,18 @@ module _ (bytes : List ℕ) (nl : is_ascii_alphabetic (head bytes) ≡ false) (n
   }
   symbol_by None None e f = tt {0}
 
-  pub symbol_law : IsLongestToken bytes (symbol_piece bytes)
+  pub symbol_law : IsSpelled bytes (symbol_piece bytes)
   unfolding symbol_piece
   symbol_law = symbol_by (symbol_of_two (head bytes) (slice_index bytes 1)) (symbol_of_one (head bytes)) refl refl
 
 -- ---- any piece
 
-comment_law : (bytes : List ℕ) → IsLongestToken bytes (comment bytes)
+comment_law : (bytes : List ℕ) → begins_comment bytes ≡ true → IsSpelled bytes (comment bytes)
 unfolding comment
-comment_law bytes =
+comment_law bytes begun =
     let size = prefix_len (has class.Comment) bytes in
-    cond_both (size == length bytes || slice_index bytes size == 10) (piece.Separator size) (piece.Fault size fault.BadByte) (IsLongestToken bytes) (λ end. tt {0}) (λ bad. tt {0})
+    cond_both (size == length bytes || slice_index bytes size == line_feed) (piece.Separator size) (piece.Fault size fault.BadByte) (IsSpelled bytes)
+    (λ end. inr (record { begun = begun; each = run_passes (has class.Comment) bytes; ended = end })) (λ bad. tt {0})
 
 abbrev by_quote : List ℕ → Piece
 by_quote bytes = cond (head bytes == quote) (text bytes) (symbol_piece bytes)
@@ -396,12 +397,12 @@ by_letter bytes = cond (is_ascii_alphabetic (head bytes)) (word bytes) (by_numbe
 abbrev by_comment : List ℕ → Piece
 by_comment bytes = cond (begins_comment bytes) (comment bytes) (by_letter bytes)
 
-pub token_is_longest : (bytes : List ℕ) → IsLongestToken bytes (first_piece bytes)
+pub piece_is_spelled : (bytes : List ℕ) → IsSpelled bytes (first_piece bytes)
 unfolding first_piece
-token_is_longest bytes =
-    let P = IsLongestToken bytes in
-    cond_both (is_white (head bytes)) (piece.Separator 1) (by_comment bytes) P (λ white. tt {0})
-    (λ dark. cond_both (begins_comment bytes) (comment bytes) (by_letter bytes) P (λ c. comment_law bytes)
+piece_is_spelled bytes =
+    let P = IsSpelled bytes in
+    cond_both (is_white (head bytes)) (piece.Separator 1) (by_comment bytes) P (λ white. inl (white, refl))
+    (λ dark. cond_both (begins_comment bytes) (comment bytes) (by_letter bytes) P (λ c. comment_law bytes c)
     (λ nc. cond_both (is_ascii_alphabetic (head bytes)) (word bytes) (by_number bytes) P (λ l. word_law bytes l)
     (λ nl. cond_both (begins_number bytes) (number bytes) (by_quote bytes) P (λ d. number_law bytes d)
     (λ nn. cond_both (head bytes == quote) (text bytes) (symbol_piece bytes) P (λ q. text_law bytes q) (λ nq. symbol_law bytes nl nn nq)))))

@@ -4,6 +4,25 @@ use Rattle.std.specs.Char.{is_ascii_digit, is_ascii_alphabetic}
 use Rattle.sq_lex.specs.declared.characters.Class.{Class}
 use Rattle.sq_lex.specs.declared.characters.Class.TheVariants as class
 
+abbrev pub tab : ℕ
+tab = 9
+
+abbrev pub line_feed : ℕ
+line_feed = 10
+
+abbrev pub carriage_return : ℕ
+carriage_return = 13
+
+abbrev pub blank : ℕ
+blank = 32
+
+abbrev pub underscore : ℕ
+underscore = 95
+
+-- the last printable character
+abbrev pub tilde : ℕ
+tilde = 126
+
 -- the characters that begin a comment, a fraction and a literal
 abbrev pub minus : ℕ
 minus = 45
@@ -16,18 +35,18 @@ quote = 39
 
 -- blank, tab, CR and LF
 abbrev pub is_white : ℕ → Bool
-is_white b = b == 32 || b == 9 || b == 13 || b == 10
+is_white b = b == blank || b == tab || b == carriage_return || b == line_feed
 
 -- CR and LF
 abbrev pub is_line_end : ℕ → Bool
-is_line_end b = b == 13 || b == 10
+is_line_end b = b == carriage_return || b == line_feed
 
 -- what may stand in a text literal
 abbrev pub is_printable : ℕ → Bool
-is_printable b = nat_le 32 b && nat_le b 126
+is_printable b = nat_le blank b && nat_le b tilde
 
 -- a word goes on with letters, digits and `_`; a comment may also have tabs and CR
 abbrev pub has : Class → ℕ → Bool
-has class.Word b = is_ascii_alphabetic b || is_ascii_digit b || b == 95
+has class.Word b = is_ascii_alphabetic b || is_ascii_digit b || b == underscore
 has class.Digit b = is_ascii_digit b
-has class.Comment b = is_printable b || b == 9 || b == 13
+has class.Comment b = is_printable b || b == tab || b == carriage_return

@@ -10,3 +10,4 @@ pub mod Spelling
 pub mod Symbol
 pub mod Token
 pub mod Word
+pub mod Row

@@ -12,7 +12,7 @@ use Rattle.sq_lex.specs.declared.piece.Piece.{Piece}
 use Rattle.sq_lex.specs.declared.piece.Piece.TheVariants as piece
 use Rattle.sq_lex.specs.declared.symbol.Symbol.{Symbol}
 use Rattle.sq_lex.specs.declared.word.Word.{Word}
-use Rattle.sq_lex.specs.Characters.{minus, point, quote, is_white, has}
+use Rattle.sq_lex.specs.Characters.{line_feed, minus, point, quote, is_white, has}
 use Rattle.sq_lex.specs.Literal.{literal}
 use Rattle.sq_lex.specs.Symbol.{symbol_of_one, symbol_of_two}
 use Rattle.sq_lex.specs.Reserved.{reserved}
@@ -25,7 +25,7 @@ begins_comment bytes = slice_index bytes 0 == minus && slice_index bytes 1 == mi
 unfoldable pub comment : List ℕ → Piece
 comment bytes =
     let size = prefix_len (has class.Comment) bytes in
-    if size == length bytes || slice_index bytes size == 10 then piece.Separator size
+    if size == length bytes || slice_index bytes size == line_feed then piece.Separator size
     else piece.Fault size fault.BadByte
 
 -- a word that is not reserved is a name

@@ -1,8 +1,9 @@
 -- The spellings of lexemes (ISO/IEC 9075:1992, 5.2 and 5.3), each said of all its bytes at once.
-use Rattle.std.specs.Prelude.{ℕ, ◌≡◌, ◌+◌, ◌<◌, ◌≤◌, ◌⊎◌, ◌==◌, true, List, [], ◌∷◌, ◌++◌, length, map, take, slice_index, codes, Some, None, if◌then◌else◌}
+use Rattle.std.specs.Prelude.{ℕ, ◌≡◌, ◌+◌, ◌<◌, ◌≤◌, ◌⊎◌, ◌==◌, ◌||◌, true, List, [], ◌∷◌, ◌++◌, length, map, take, slice_index, codes, Some, None, if◌then◌else◌}
 use Rattle.std.specs.Char.{is_ascii_alphabetic, to_ascii_uppercase}
 use Rattle.std.specs.List.{list_all}
-use Rattle.sq_lex.specs.Characters.{point, quote, has, is_printable}
+use Rattle.sq_lex.specs.Characters.{line_feed, point, quote, has, is_printable, is_white}
+use Rattle.sq_lex.specs.Piece.{begins_comment}
 use Rattle.sq_lex.specs.Reserved.{reserved}
 use Rattle.sq_lex.specs.declared.characters.Class.TheVariants as class
 use Rattle.sq_lex.specs.declared.lexeme.Lexeme.{Lexeme}
@@ -70,9 +71,19 @@ pub record IsLongest (bytes : List ℕ) (size : ℕ) (l : Lexeme) : Type 0 where
   pub spelled : IsSpelling (take size bytes) l
   pub longest : (n : ℕ) (m : Lexeme) → size < n → n ≤ length bytes → IsSpelling (take n bytes) m → ⊥
 
--- a token is the longest spelling there. Of a fault nothing is said: where a word, a number or a literal is too long, or a
+-- two minus signs and what may stand in a comment, up to the end of the line or of the text
+pub record IsComment (bytes : List ℕ) (size : ℕ) : Type 0 where
+  pub begun : begins_comment bytes ≡ true
+  pub each : list_all (has class.Comment) (take size bytes) ≡ true
+  pub ended : (size == length bytes || slice_index bytes size == line_feed) ≡ true
+
+-- so many bytes at the front are a separator: one of white space, or a comment
+abbrev pub IsSeparator : List ℕ → ℕ → Type 0
+IsSeparator bytes size = ((is_white (slice_index bytes 0) ≡ true) × (size ≡ 1)) ⊎ IsComment bytes size
+
+-- a separator is one, and a token is the longest spelling there. Of a fault nothing is said: where a word, a number or a literal is too long, or a
 -- letter stands directly after a number, fewer bytes may be a spelling, and the text has no reading all the same
-abbrev pub IsLongestToken : List ℕ → Piece → Type 0
-IsLongestToken bytes (piece.Separator size) = Unit {0}
-IsLongestToken bytes (piece.Token size l) = IsLongest bytes size l
-IsLongestToken bytes (piece.Fault at kind) = Unit {0}
+abbrev pub IsSpelled : List ℕ → Piece → Type 0
+IsSpelled bytes (piece.Separator size) = IsSeparator bytes size
+IsSpelled bytes (piece.Token size l) = IsLongest bytes size l
+IsSpelled bytes (piece.Fault at kind) = Unit {0}

@@ -1,5 +1,5 @@
 -- The symbols and their spellings (ISO/IEC 9075:1992, 5.1 and 5.2, of which these are in the language).
-use Rattle.std.specs.Prelude.{ℕ, Option, Some, None, if◌then◌else◌, ◌==◌}
+use Rattle.std.specs.Prelude.{ℕ, Bool, nat_eq, Option, Some, None, if◌then◌else◌, ◌==◌}
 use Rattle.sq_lex.specs.declared.symbol.Symbol.{Symbol}
 use Rattle.sq_lex.specs.declared.symbol.Symbol.TheVariants as symbol
 
@@ -27,3 +27,25 @@ symbol_of_one a =
     else (if a == 60 then Some symbol.Less
     else (if a == 62 then Some symbol.Greater
     else None))))))))))))
+
+-- by their place among the symbols
+abbrev pub symbol_place : Symbol → ℕ
+symbol_place symbol.Open = 0
+symbol_place symbol.Close = 1
+symbol_place symbol.Comma = 2
+symbol_place symbol.Semicolon = 3
+symbol_place symbol.Dot = 4
+symbol_place symbol.Colon = 5
+symbol_place symbol.Star = 6
+symbol_place symbol.Plus = 7
+symbol_place symbol.Minus = 8
+symbol_place symbol.Slash = 9
+symbol_place symbol.Equal = 10
+symbol_place symbol.NotEqual = 11
+symbol_place symbol.Less = 12
+symbol_place symbol.Greater = 13
+symbol_place symbol.LessOrEqual = 14
+symbol_place symbol.GreaterOrEqual = 15
+
+abbrev pub same_symbol : Symbol → Symbol → Bool
+same_symbol a b = nat_eq (symbol_place a) (symbol_place b)

@@ -23,6 +23,3 @@ pub use reading::lex;
 pub use symbol::Symbol;
 pub use token::Token;
 pub use word::Word;
-
-#[cfg(test)]
-mod tests;

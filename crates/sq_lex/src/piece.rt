@@ -3,7 +3,7 @@
 ghost use Rattle.std.specs.Prelude.{◌≡◌, ◌≢◌, ◌<◌, ◌≤◌, true, length, map, slice_index, IfOk};
 ghost use Rattle.std.specs.Char.{is_ascii_alphabetic, to_ascii_uppercase};
 ghost use Rattle.sq_lex.specs.Piece as spec;
-ghost use Rattle.sq_lex.specs.Spelling.{IsLongestToken};
+ghost use Rattle.sq_lex.specs.Spelling.{IsSpelled};
 
 use crate::characters::{Class, is_white};
 use crate::fault::LexFaultKind;
@@ -27,14 +27,14 @@ pub enum Piece {
 }
 
 impl Piece {
-    /// The piece at the front of bytes that are not at their end. Where it is a token, its bytes are a spelling of its
-    /// lexeme, and no more of the bytes are a spelling of any lexeme.
-    #[tactic(auto, unfolding(crate::specs::Piece::first_piece), using(crate::proofs::Longest::token_is_longest))]
+    /// The piece at the front of bytes that are not at their end. A separator is white space or a comment; a token's bytes
+    /// are a spelling of its lexeme, and no more of the bytes are a spelling of any lexeme.
+    #[tactic(auto, unfolding(crate::specs::Piece::first_piece), using(crate::proofs::Longest::piece_is_spelled))]
     pub fn first(alloc: Global, bytes: &[u8]) -> Result<Piece, AllocError>
         requires { 0 < length bytes.now }
         ensures value { IfOk result (λ piece. piece ≡ spec.first_piece bytes.now) }
         ensures within { IfOk result (spec.IsWithin (length bytes.now)) }
-        ensures longest { IsLongestToken bytes.now (spec.first_piece bytes.now) }
+        ensures spelled { IsSpelled bytes.now (spec.first_piece bytes.now) }
     {
         let first = byte_at(bytes, 0);
         if is_white(first) {

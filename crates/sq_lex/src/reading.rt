@@ -1,7 +1,8 @@
 //! The reading of a whole text.
 
-ghost use Rattle.std.specs.Prelude.{◌≡◌, ◌+◌, ◌<◌, ◌≤◌, ◌^◌, length, take, drop, MatchResult, IfOk, IfErr, Ok};
+ghost use Rattle.std.specs.Prelude.{ℕ, List, ◌≡◌, ◌+◌, ◌<◌, ◌≤◌, ◌^◌, length, take, drop, MatchResult, IfOk, IfErr, Ok};
 ghost use Rattle.sq_lex.specs.Place as place_spec;
+ghost use Rattle.sq_lex.specs.Row.{IsRow};
 ghost use Rattle.sq_lex.specs.Reading.{reading, tokens_from, followed, IsCause};
 
 use crate::fault::{LexError, LexFault};
@@ -12,8 +13,11 @@ use std::alloc::Global;
 
 /// The tokens of a text with their places, or its first fault (ISO/IEC 9075:1992, 5.2, tokens and separators, and 5.3,
 /// literals). It takes time linear in the text.
+///
+/// Between tokens stands only white space and comments, and each token is the longest spelling at its place.
 pub fn lex(alloc: Global, text: &[u8]) -> Result<Vec<Token>, LexError>
-    ensures { MatchResult result (λ tokens. reading text.now ≡ Ok tokens.items) (IsCause (reading text.now)) }
+    ensures row { IfOk result (λ tokens. IsRow text.now (length text.now) tokens.items) }
+    ensures value { MatchResult result (λ tokens. reading text.now ≡ Ok tokens.items) (IsCause (reading text.now)) }
 {
     let mut tokens = Vec::new(alloc);
     let mut place = Place::start();
@@ -40,6 +44,7 @@ fn read_piece(
     ensures within { IfOk result (λ size. (0 < size) × (size ≤ length rest.now)) }
     ensures read { IfOk result (λ size. followed tokens.new.items (tokens_from (place_spec.past place (take size rest.now)) 0 (drop size rest.now))
         ≡ followed tokens.old.items (tokens_from place 0 rest.now)) }
+    ensures row { IfOk result (λ size. (text : List ℕ) → drop place.byte text ≡ rest.now → IsRow text place.byte tokens.old.items → IsRow text (place.byte + size) tokens.new.items) }
     ensures fault { IfErr result (IsCause (tokens_from place 0 rest.now)) }
 {
     match Piece::first(alloc, rest)? {

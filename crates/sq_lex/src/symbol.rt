@@ -1,6 +1,6 @@
 //! Symbols.
 
-ghost use Rattle.std.specs.Prelude.{◌≡◌};
+ghost use Rattle.std.specs.Prelude.{◌≡◌, ◌↔◌, IsTrue};
 ghost use Rattle.sq_lex.specs.Symbol as spec;
 
 /// A symbol of one or two characters.
@@ -41,6 +41,21 @@ pub enum Symbol {
 }
 
 impl Symbol {
+    /// The symbol's place among the symbols, from 0.
+    pub fn place(self) -> u8
+        ensures { result ≡ spec.symbol_place self }
+    {
+        self as u8
+    }
+
+    /// Whether two symbols are the same.
+    pub fn is(self, other: Symbol) -> bool
+        ensures value { result ≡ spec.same_symbol self other }
+        ensures same { IsTrue result ↔ (self ≡ other) }
+    {
+        self.place() == other.place()
+    }
+
     /// The symbol of these two characters, if there is one.
     pub(crate) fn of_two(first: u8, second: u8) -> Option<Symbol>
         ensures { result ≡ spec.symbol_of_two first second }

@@ -1,1 +1,7 @@
-pub mod Example
+pub mod Bind
+pub mod CallLaws
+pub mod DomainLaws
+pub mod PrivilegeLaws
+pub mod CursorLaws
+pub mod Computed
+pub mod ComputedRules

@@ -1,108 +1,325 @@
--- The table machine: one step is one procedure call (ISO/IEC 9075:1992, 4.21, 12.3, 13.2 to 13.4, 13.8).
-use Rattle.std.specs.Prelude.{◌≡◌, ℕ, ◌+◌, Bool, true, false, nat_eq, nat_le, nat_lt, ◌&&◌, List, [], ◌∷◌, map, length, slice_get, slice_set, slice_index_or, Option, Some, None, if◌then◌else◌}
+-- The table machine: one step is one procedure call (ISO/IEC 9075:1992, 4.21, 12.3, clause 13, 14.3 and 14.4).
+use Rattle.std.specs.Prelude.{ℕ, Bool, true, false, ◌&&◌, List, [], ◌∷◌, map, ℤ, pos, if◌then◌else◌, ◌==◌, find, flat_map, Option, unwrap_or, option_map, option_and_then, Some, None, Ok, Err}
+use Rattle.sq_lex.specs.declared.name.Name.{Name}
+use Rattle.sq_value.specs.Key.{in_columns}
 use Rattle.sq_value.specs.declared.value.Value.{Value}
-use Rattle.sq_value.specs.declared.value.Value.TheVariants.{Null}
-use Rattle.sq_store.specs.Content.{Content, table_at, inserted, with_table, first_from}
-use Rattle.sq_store.specs.declared.table.Table.{Table}
-use Rattle.sq_store.specs.declared.table.Numbered.{Numbered}
-use Rattle.sq_model.specs.declared.cursor.CursorState.{CursorState}
-use Rattle.sq_model.specs.declared.cursor.CursorState.TheVariants.{Closed, Open as Opened}
-use Rattle.sq_model.specs.declared.reply.Reply.{Reply}
-use Rattle.sq_model.specs.declared.reply.Output.{Output}
-use Rattle.sq_model.specs.declared.reply.Status.{Status}
-use Rattle.sq_model.specs.declared.reply.Status.TheVariants.{SuccessfulCompletion, NoData, InvalidCursorState, NoRowNumberLeft}
-use Rattle.sq_model.specs.declared.program.BoundStatement.{BoundStatement}
-use Rattle.sq_model.specs.declared.program.BoundStatement.TheVariants.{Insert, Open, Fetch, Close}
-use Rattle.sq_model.specs.declared.program.Target.{Target}
+use Rattle.sq_value.specs.declared.value.Value.TheVariants as value
+use Rattle.sq_store.specs.Content.{Content, no_rows}
+use Rattle.sq_tree.specs.declared.cond.Cond.{Cond}
+use Rattle.sq_tree.specs.declared.module.Cursor.{Cursor}
+use Rattle.sq_tree.specs.declared.module.ModuleText.{ModuleText}
+use Rattle.sq_tree.specs.declared.module.Procedure.{Procedure}
+use Rattle.sq_tree.specs.declared.statement.Delete.{Delete}
+use Rattle.sq_tree.specs.declared.statement.Fetch.{Fetch}
+use Rattle.sq_tree.specs.declared.statement.Orientation.{Orientation}
+use Rattle.sq_tree.specs.declared.statement.Orientation.TheVariants as orientation
+use Rattle.sq_tree.specs.declared.statement.Position.{Position}
+use Rattle.sq_tree.specs.declared.statement.Position.TheVariants as position_of
+use Rattle.sq_tree.specs.declared.statement.Select.{Select as SelectStatement}
+use Rattle.sq_tree.specs.declared.statement.Statement.{Statement}
+use Rattle.sq_tree.specs.declared.statement.Statement.TheVariants as statement
+use Rattle.sq_tree.specs.declared.statement.Update.{Update}
+use Rattle.sq_tree.specs.declared.statement.Where.{Where}
+use Rattle.sq_tree.specs.declared.statement.Where.TheVariants as rows_where
+use Rattle.sq_meaning.specs.Environment.{Row, same_name}
+use Rattle.sq_meaning.specs.Query.{rows}
+use Rattle.sq_meaning.specs.QueryExpression.{ordered_rows}
+use Rattle.sq_meaning.specs.Rows.{SortColumn}
+use Rattle.sq_meaning.specs.SortKeys.{sort_columns}
+use Rattle.sq_meaning.specs.Spelled.{Named, cond_of, listed, listed_if_any, signed_number}
+use Rattle.sq_meaning.specs.Status.{Outcome, and_then}
+use Rattle.sq_meaning.specs.Syntax.{Clause, present}
+use Rattle.sq_meaning.specs.Syntax.{absent}
+use Rattle.sq_meaning.specs.Tables.{kinds_by_name}
+use Rattle.sq_meaning.specs.Target.{Target, chosen_numbers}
+use Rattle.sq_meaning.specs.declared.status.Status.{Status}
+use Rattle.sq_meaning.specs.declared.status.Status.TheVariants as status
+use Rattle.sq_model.specs.Catalog.{base_count, tables_of}
+use Rattle.sq_model.specs.Change.{Setting, Which, delete_outcome, insert_outcome, outer_env, reading, rows_at, update_outcome}
+use Rattle.sq_model.specs.Cursor.{CursorState, Fetched, Move, before_numbers, before_rows, fetched, is_open, number_on, off_row}
+use Rattle.sq_model.specs.Module.{cursor_named, cursors, declared_parameters, module_named, procedure_named}
+use Rattle.sq_model.specs.Parameter.{Parameters, Reply, inputs_of, parameter_named, replied_row, replied_with, started_parameters}
+use Rattle.sq_model.specs.Schema.{Elements}
+use Rattle.sq_model.specs.WellFormed.{Surroundings, cursor_names, cursor_query, is_well_formed_procedure, orientation_of, select_of_statement, unit_of, updatable_cursor}
 
--- the tables now, each cursor of the module, and the greatest number that a row may have
-pub record State : Type 0 where
-  pub now : Content
-  pub cursors : List CursorState
+-- what runs: schema elements and modules, and the greatest number that a row may have
+pub record Program : Type 0 where
+  pub elements : Elements
+  pub modules : List ModuleText
   pub row_numbers : ℕ
 
-abbrev pub Values : Type 0
-Values = List Value
+-- a cursor of a module
+pub record CursorEntry : Type 0 where
+  pub text : Name
+  pub name : Name
+  pub state : CursorState
+
+-- the database now, the database at the last COMMIT, and a cursor for each that a module declares
+pub record State : Type 0 where
+  pub tables : Content
+  pub committed : Content
+  pub cursors : List CursorEntry
+
+-- a call of a procedure of a module, with the values that it hands in
+pub record Call : Type 0 where
+  pub text : Name
+  pub procedure : Name
+  pub values : List Value
+
+abbrev pub Outcomes : Type 0
+Outcomes = State × Reply
 
 -- ---- cursors
 
-abbrev pub cursor_at : State → ℕ → CursorState
-cursor_at s place = slice_index_or s.cursors place Closed
+abbrev pub is_entry : Name → Name → CursorEntry → Bool
+is_entry text name c = same_name c.text text && same_name c.name name
 
-abbrev pub with_cursor : State → ℕ → CursorState → State
-with_cursor s place c = record s { cursors = slice_set s.cursors place c }
+abbrev pub cursor_at : State → Name → Name → CursorState
+cursor_at s text name = unwrap_or (option_map (λ c. c.state) (find (is_entry text name) s.cursors)) CursorState.closed
 
-abbrev pub is_open : CursorState → Bool
-is_open Closed = false
-is_open (Opened c) = true
+abbrev pub set_cursor : Name → Name → CursorState → CursorEntry → CursorEntry
+set_cursor text name state c = if is_entry text name c then record c { state = state } else c
 
--- OPEN fixes the numbers of the rows that are there
-abbrev pub opened : Table → CursorState
-opened t = Opened (record { numbers = map (λ r. r.number) t.rows; consumed = 0 })
+abbrev pub with_cursor : State → Name → Name → CursorState → State
+with_cursor s text name state = record s { cursors = map (set_cursor text name state) s.cursors }
 
--- FETCH consumes one item, if one is left
-abbrev pub advanced : CursorState → CursorState
-advanced Closed = Closed
-advanced (Opened c) = if nat_lt c.consumed (length c.numbers) then Opened (record { numbers = c.numbers; consumed = c.consumed + 1 }) else Opened c
+abbrev pub closed_entry : CursorEntry → CursorEntry
+closed_entry c = record c { state = CursorState.closed }
 
--- ---- rows
+abbrev pub all_closed : List CursorEntry → List CursorEntry
+all_closed cursors = map closed_entry cursors
 
-abbrev pub row_if : ℕ → Option Numbered → Values
-row_if number None = []
-row_if number (Some r) = if nat_eq r.number number then r.row else []
+-- ---- at first both databases are empty, and all cursors closed
 
--- the row under a number
-abbrev pub row_under : Table → ℕ → Values
-row_under t number = row_if number (first_from t number)
+abbrev pub entries_of : ModuleText → List CursorEntry
+entries_of m = map (λ c. record { text = m.name; name = c.name; state = CursorState.closed }) (cursors m)
 
--- the row that an INSERT makes: for each column the value of its parameter
-abbrev pub row_of : List ℕ → Values → Values
-row_of places values = map (λ i. slice_index_or values i Null) places
+abbrev pub first_state : Program → State
+first_state p = record {
+  tables = no_rows (base_count p.elements);
+  committed = no_rows (base_count p.elements);
+  cursors = flat_map entries_of p.modules;
+}
 
--- ---- one call
+-- ---- what surrounds a statement
 
--- the schema's table
-abbrev pub the_table : State → Table
-the_table s = table_at s.now 0
+pub record Running : Type 0 where
+  pub program : Program
+  pub text : ModuleText
+  pub procedure : Procedure
+  pub parameters : Parameters
+  pub state : State
 
--- whether a number is left for a new row
-abbrev pub has_number : State → Bool
-has_number s = nat_le (the_table s).next s.row_numbers
+abbrev pub surroundings : Running → Surroundings
+surroundings r = unit_of r.program.elements r.text r.procedure
 
-abbrev pub with_row : State → Values → State
-with_row s row = record s { now = with_table s.now 0 (inserted (the_table s) row) }
+abbrev pub setting : Running → Setting
+setting r = record {
+  elements = r.program.elements;
+  row_numbers = r.program.row_numbers;
+  content = r.state.tables;
+  inputs = inputs_of r.parameters;
+  user = r.text.authorization;
+}
 
-abbrev pub replied_with : Status → Reply
-replied_with status = record { status = status; outputs = [] }
+abbrev pub ends_with : Running → Status → Outcomes
+ends_with r s = (r.state, replied_with s)
 
-abbrev pub outputs_of : Values → List Target → List Output
-outputs_of row targets = map (λ t. record { name = t.name; value = slice_index_or row t.column Null }) targets
+-- the state of a cursor of the module, before and after
+abbrev pub cursor_now : Running → Name → CursorState
+cursor_now r name = cursor_at r.state r.text.name name
 
-abbrev pub reached : Table → List Target → Option ℕ → Reply
-reached t targets None = replied_with NoData
-reached t targets (Some number) = record { status = SuccessfulCompletion; outputs = outputs_of (row_under t number) targets }
+abbrev pub moved : Running → Name → CursorState → State
+moved r name state = with_cursor r.state r.text.name name state
 
-abbrev pub fetched : Table → List Target → CursorState → Reply
-fetched t targets Closed = replied_with InvalidCursorState
-fetched t targets (Opened c) = reached t targets (slice_get c.numbers c.consumed)
+-- ---- OPEN (13.2)
 
--- the state after a statement, with the values of the named parameters
-abbrev pub stepped : State → BoundStatement → Values → State
-stepped s (Insert places) values = if has_number s then with_row s (row_of places values) else s
-stepped s (Open place) values = if is_open (cursor_at s place) then s else with_cursor s place (opened (the_table s))
-stepped s (Fetch f) values = with_cursor s f.cursor (advanced (cursor_at s f.cursor))
-stepped s (Close place) values = with_cursor s place Closed
+abbrev pub sorted_query : Running → Cursor → List SortColumn → Outcome (List Row)
+sorted_query r c order =
+    ordered_rows (reading (setting r)) (kinds_by_name (tables_of r.program.elements) (surroundings r).parameters) (cursor_query (surroundings r) c) order (outer_env (setting r))
 
--- what the call answers
-abbrev pub replied : State → BoundStatement → Values → Reply
-replied s (Insert places) values = replied_with (if has_number s then SuccessfulCompletion else NoRowNumberLeft)
-replied s (Open place) values = replied_with (if is_open (cursor_at s place) then InvalidCursorState else SuccessfulCompletion)
-replied s (Fetch f) values = fetched (the_table s) f.targets (cursor_at s f.cursor)
-replied s (Close place) values = replied_with (if is_open (cursor_at s place) then SuccessfulCompletion else InvalidCursorState)
+-- the rows of the cursor's query, in their order
+abbrev pub cursor_rows : Running → Cursor → Outcome (List Row)
+cursor_rows r c = and_then (sort_columns (cursor_names (surroundings r) c) (listed_if_any c.order_by)) (sorted_query r c)
 
--- whether the table and the cursor that a statement speaks of are among so many
-abbrev pub is_among : ℕ → ℕ → BoundStatement → Bool
-is_among tables cursors (Insert places) = nat_lt 0 tables
-is_among tables cursors (Open place) = nat_lt 0 tables && nat_lt place cursors
-is_among tables cursors (Fetch f) = nat_lt 0 tables && nat_lt f.cursor cursors
-is_among tables cursors (Close place) = nat_lt place cursors
+-- an updatable cursor fixes the numbers of its rows, any other the rows
+abbrev pub numbers_or_rows : Running → Cursor → Option Target → Outcome CursorState
+numbers_or_rows r c None = and_then (cursor_rows r c) (λ found. Ok (before_rows found))
+numbers_or_rows r c (Some target) =
+    and_then (chosen_numbers (reading (setting r)) (outer_env (setting r)) target (rows_at (setting r) target.place)) (λ numbers. Ok (before_numbers numbers))
+
+abbrev pub opened : Running → Cursor → Outcome CursorState
+opened r c = numbers_or_rows r c (updatable_cursor (surroundings r) c)
+
+-- with a status the cursor stays closed
+abbrev pub open_by : Running → Name → Outcome CursorState → Outcomes
+open_by r name (Ok state) = (moved r name state, replied_with status.SuccessfulCompletion)
+open_by r name (Err s) = ends_with r s
+
+abbrev pub open_cursor : Running → Name → Cursor → Outcomes
+open_cursor r name c = if is_open (cursor_now r name) then ends_with r status.InvalidCursorState else open_by r name (opened r c)
+
+-- ---- FETCH (13.3)
+
+abbrev pub integer_of : Value → ℤ
+integer_of (value.Num n) = n.unscaled
+integer_of _ = pos 0
+
+abbrev pub parameter_integer : Parameters → Name → ℤ
+parameter_integer parameters name = integer_of (unwrap_or (option_map (λ p. p.value) (parameter_named parameters name)) value.Null)
+
+-- the number of ABSOLUTE and RELATIVE, read before any target is set
+abbrev pub position_integer : Parameters → Position → ℤ
+position_integer parameters (position_of.Number n) = (signed_number n).unscaled
+position_integer parameters (position_of.Parameter name) = parameter_integer parameters name
+
+abbrev pub move_of : Parameters → Option Orientation → Move
+move_of parameters None = Move.next
+move_of parameters (Some orientation.Next) = Move.next
+move_of parameters (Some orientation.Prior) = Move.prior
+move_of parameters (Some orientation.First) = Move.first
+move_of parameters (Some orientation.Last) = Move.last
+move_of parameters (Some (orientation.Absolute p)) = Move.absolute (position_integer parameters p)
+move_of parameters (Some (orientation.Relative p)) = Move.relative (position_integer parameters p)
+
+abbrev pub numbered_row : Setting → ℕ → ℕ → Option Row
+numbered_row s place number = option_map (λ r. r.row) (find (λ r. r.number == number) (rows_at s place))
+
+-- the row under a number, as an updatable cursor shows it now
+abbrev pub shown_now : Running → Option Target → ℕ → Option Row
+shown_now r None number = None
+shown_now r (Some target) number = option_map (λ row. in_columns row target.columns) (numbered_row (setting r) target.place number)
+
+-- no data where no row is reached; a failure of retrieving leaves the cursor where it came
+abbrev pub fetch_reply : Running → Fetch → Option Row → Reply
+fetch_reply r f None = replied_with status.NoData
+fetch_reply r f (Some row) = replied_row r.parameters (listed f.targets) row
+
+abbrev pub fetch_to : Running → Fetch → Fetched → Outcomes
+fetch_to r f reached = (moved r f.cursor reached.cursor, fetch_reply r f reached.row)
+
+abbrev pub fetch_cursor : Running → Fetch → Cursor → Outcomes
+fetch_cursor r f c =
+    if is_open (cursor_now r f.cursor)
+    then fetch_to r f (fetched (shown_now r (updatable_cursor (surroundings r) c)) (move_of r.parameters (orientation_of f)) (cursor_now r f.cursor))
+    else ends_with r status.InvalidCursorState
+
+-- ---- CLOSE (13.4)
+
+abbrev pub close_cursor : Running → Name → Outcomes
+close_cursor r name =
+    if is_open (cursor_now r name) then (moved r name CursorState.closed, replied_with status.SuccessfulCompletion) else ends_with r status.InvalidCursorState
+
+-- ---- SELECT INTO (13.5)
+
+-- the only row
+abbrev pub single_row : List Row → Outcome Row
+single_row [] = Err status.NoData
+single_row (row ∷ []) = Ok row
+single_row (row ∷ next ∷ others) = Err status.CardinalityViolation
+
+abbrev pub selected_row : Running → SelectStatement → Outcome Row
+selected_row r s = and_then (rows (reading (setting r)) (select_of_statement r.text.authorization s) (outer_env (setting r))) single_row
+
+abbrev pub select_reply : Running → SelectStatement → Outcome Row → Reply
+select_reply r s (Ok row) = replied_row r.parameters (listed s.targets) row
+select_reply r s (Err st) = replied_with st
+
+abbrev pub select_into : Running → SelectStatement → Outcomes
+select_into r s = (r.state, select_reply r s (selected_row r s))
+
+-- ---- INSERT, UPDATE and DELETE (13.6 to 13.10)
+
+-- a status leaves the database as it was
+abbrev pub change_by : Running → Outcome Content → Outcomes
+change_by r (Ok content) = (record r.state { tables = content }, replied_with status.SuccessfulCompletion)
+change_by r (Err s) = ends_with r s
+
+-- after a positioned DELETE the cursor is before the next row
+abbrev pub delete_at : Running → Name → Outcome Content → Outcomes
+delete_at r cursor (Ok content) = (record (moved r cursor (off_row (cursor_now r cursor))) { tables = content }, replied_with status.SuccessfulCompletion)
+delete_at r cursor (Err s) = ends_with r s
+
+-- the number that the cursor is on, if its row is there
+abbrev pub row_is_there : Running → Target → ℕ → Option ℕ
+row_is_there r target number = option_map (λ row. number) (numbered_row (setting r) target.place number)
+
+abbrev pub current_number : Running → Name → Option ℕ
+current_number r cursor =
+    option_and_then (λ c. option_and_then (λ target. option_and_then (row_is_there r target) (number_on (cursor_now r cursor))) (updatable_cursor (surroundings r) c))
+    (cursor_named r.text cursor)
+
+-- a positioned statement needs a cursor that is on a row that is there
+abbrev pub at_current : Running → Option ℕ → (ℕ → Outcomes) → Outcomes
+at_current r None go_on = ends_with r status.InvalidCursorState
+at_current r (Some number) go_on = go_on number
+
+abbrev pub where_clause_of : Name → Cond → Clause Named
+where_clause_of user c = present (cond_of user c)
+
+abbrev pub update_rows : Running → Update → Option Where → Outcomes
+update_rows r u None = change_by r (update_outcome (setting r) u (Which.searched absent))
+update_rows r u (Some (rows_where.Condition c)) = change_by r (update_outcome (setting r) u (Which.searched (where_clause_of r.text.authorization c)))
+update_rows r u (Some (rows_where.CurrentOf cursor)) = at_current r (current_number r cursor) (λ n. change_by r (update_outcome (setting r) u (Which.numbered n)))
+
+abbrev pub delete_rows : Running → Delete → Option Where → Outcomes
+delete_rows r x None = change_by r (delete_outcome (setting r) x (Which.searched absent))
+delete_rows r x (Some (rows_where.Condition c)) = change_by r (delete_outcome (setting r) x (Which.searched (where_clause_of r.text.authorization c)))
+delete_rows r x (Some (rows_where.CurrentOf cursor)) = at_current r (current_number r cursor) (λ n. delete_at r cursor (delete_outcome (setting r) x (Which.numbered n)))
+
+-- ---- COMMIT and ROLLBACK (14.3, 14.4) close all cursors
+
+abbrev pub committed_state : State → State
+committed_state s = record { tables = s.tables; committed = s.tables; cursors = all_closed s.cursors }
+
+abbrev pub rolled_back : State → State
+rolled_back s = record { tables = s.committed; committed = s.committed; cursors = all_closed s.cursors }
+
+-- ---- a statement
+
+-- the cursor that a statement names; that it is there is a rule of well-formed statements
+abbrev pub with_named : Running → Name → (Cursor → Outcomes) → Outcomes
+with_named r name go_on = unwrap_or (option_map go_on (cursor_named r.text name)) (ends_with r status.SyntaxErrorOrAccessRuleViolation)
+
+abbrev pub performed : Running → Statement → Outcomes
+performed r (statement.Open name) = with_named r name (open_cursor r name)
+performed r (statement.Fetch f) = with_named r f.cursor (fetch_cursor r f)
+performed r (statement.Close name) = close_cursor r name
+performed r (statement.Select s) = select_into r s
+performed r (statement.Insert i) = change_by r (insert_outcome (setting r) i)
+performed r (statement.Update u) = update_rows r u u.target
+performed r (statement.Delete x) = delete_rows r x x.target
+performed r (statement.Commit work) = (committed_state r.state, replied_with status.SuccessfulCompletion)
+performed r (statement.Rollback work) = (rolled_back r.state, replied_with status.SuccessfulCompletion)
+
+-- ---- a call
+
+-- a statement that is not well formed changes nothing
+abbrev pub performed_if : Bool → Running → Outcomes
+performed_if true r = performed r r.procedure.statement
+performed_if false r = ends_with r status.SyntaxErrorOrAccessRuleViolation
+
+abbrev pub running : Program → State → List Value → ModuleText → Procedure → Running
+running p s values m procedure = record {
+  program = p;
+  text = m;
+  procedure = procedure;
+  parameters = started_parameters (declared_parameters procedure) values;
+  state = s;
+}
+
+abbrev pub call_of : Program → State → List Value → ModuleText → Procedure → Outcomes
+call_of p s values m procedure = performed_if (is_well_formed_procedure p.elements m procedure) (running p s values m procedure)
+
+abbrev pub call_in : Program → State → Call → ModuleText → Option Outcomes
+call_in p s c m = option_map (call_of p s c.values m) (procedure_named m c.procedure)
+
+-- the state after a call, and what it answers; a script's calls name procedures that are there
+abbrev pub outcome : Program → State → Call → Outcomes
+outcome p s c = unwrap_or (option_and_then (call_in p s c) (module_named p.modules c.text)) (s, replied_with status.SyntaxErrorOrAccessRuleViolation)
+
+abbrev pub stepped : Program → State → Call → State
+stepped p s c = (outcome p s c).0
+
+abbrev pub replied : Program → State → Call → Reply
+replied p s c = (outcome p s c).1

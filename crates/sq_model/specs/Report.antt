@@ -1,34 +1,21 @@
 -- The report of a run: a line for each call, and the rows of each table that is shown (own form).
-use Rattle.std.specs.Prelude.{ℕ, List, [], ◌∷◌, ◌++◌, map, length, codes, Option, Some, None, if◌then◌else◌, ◌==◌}
-use Rattle.std.specs.List.{flat_map}
-use Rattle.std.specs.Fmt.{decimal}
-use Rattle.sq_lex.specs.declared.name.Name.{Name}
+use Rattle.std.specs.Prelude.{ℕ, List, [], ◌∷◌, ◌++◌, length, if◌then◌else◌, ◌==◌, codes, decimal, flat_map, unwrap_or, option_map}
 use Rattle.sq_value.specs.Spelling.{written}
 use Rattle.sq_value.specs.declared.value.Value.{Value}
-use Rattle.sq_value.specs.declared.value.Value.TheVariants.{Null, Num, Chars}
-use Rattle.sq_store.specs.declared.table.Table.{Table}
+use Rattle.sq_value.specs.declared.value.Value.TheVariants as value
+use Rattle.sq_store.specs.Content.{empty, table_at}
 use Rattle.sq_store.specs.declared.table.Numbered.{Numbered}
-use Rattle.sq_model.specs.Machine.{State, Values, replied, replied_with, the_table}
-use Rattle.sq_model.specs.Script.{performed, statement_at}
-use Rattle.sq_model.specs.declared.reply.Reply.{Reply}
-use Rattle.sq_model.specs.declared.reply.Output.{Output}
-use Rattle.sq_model.specs.declared.reply.Status.{Status}
-use Rattle.sq_model.specs.declared.reply.Status.TheVariants.{SuccessfulCompletion, NoData, InvalidCursorState, NoRowNumberLeft}
-use Rattle.sq_model.specs.declared.program.BoundProcedure.{BoundProcedure}
-use Rattle.sq_model.specs.declared.program.BoundStatement.{BoundStatement}
-use Rattle.sq_model.specs.declared.program.Action.{Action}
-use Rattle.sq_model.specs.declared.program.Action.TheVariants.{Call, Show}
-use Rattle.sq_model.specs.declared.program.CallAction.{CallAction}
+use Rattle.sq_store.specs.declared.table.Table.{Table}
+use Rattle.sq_meaning.specs.Environment.{TableName}
+use Rattle.sq_meaning.specs.Status.{sqlcode, sqlstate}
+use Rattle.sq_meaning.specs.declared.status.Status.{Status}
+use Rattle.sq_model.specs.Machine.{Call, Program, State, replied}
+use Rattle.sq_model.specs.Parameter.{Assignment, Reply}
+use Rattle.sq_model.specs.Run.{Item, after_item}
+use Rattle.sq_model.specs.Schema.{base_place}
 
 abbrev pub Bytes : Type 0
 Bytes = List ℕ
-
--- SQLSTATE and SQLCODE (22.1, 22.2; the codes below zero are an own rule)
-abbrev pub status_codes : Status → Bytes
-status_codes SuccessfulCompletion = codes "00000 0"
-status_codes NoData = codes "02000 100"
-status_codes InvalidCursorState = codes "24000 -2400"
-status_codes NoRowNumberLeft = codes "S1L00 -9001"
 
 -- a quote inside a text is written twice
 abbrev pub quoted_code : ℕ → Bytes
@@ -38,17 +25,22 @@ abbrev pub quoted : List ℕ → Bytes
 quoted text = codes "'" ++ flat_map quoted_code text ++ codes "'"
 
 abbrev pub value_codes : Value → Bytes
-value_codes Null = codes "NULL"
-value_codes (Num n) = written n
-value_codes (Chars text) = quoted text
+value_codes value.Null = codes "NULL"
+value_codes (value.Num n) = written n
+value_codes (value.Chars text) = quoted text
 
 -- ---- a call
 
-abbrev pub output_codes : Output → Bytes
+-- SQLSTATE, a blank and SQLCODE
+abbrev pub status_codes : Status → Bytes
+status_codes s = sqlstate s ++ codes " " ++ written (record { unscaled = sqlcode s; scale = 0 })
+
+abbrev pub output_codes : Assignment → Bytes
 output_codes o = codes " " ++ o.name ++ codes "=" ++ value_codes o.value
 
-abbrev pub call_line : CallAction → Reply → Bytes
-call_line c reply = c.«module» ++ codes "." ++ c.name ++ codes " " ++ status_codes reply.status ++ flat_map output_codes reply.outputs ++ codes "\n"
+abbrev pub call_line : Call → Reply → Bytes
+call_line c reply =
+    c.text ++ codes "." ++ c.procedure ++ codes " " ++ status_codes reply.status ++ flat_map output_codes reply.outputs ++ codes "\n"
 
 -- ---- a table
 
@@ -59,20 +51,18 @@ blank_value v = codes " " ++ value_codes v
 abbrev pub row_line : Numbered → Bytes
 row_line r = codes " " ++ flat_map blank_value r.row ++ codes "\n"
 
-abbrev pub table_lines : Name → Name → Table → Bytes
-table_lines user name t = codes "TABLE " ++ user ++ codes "." ++ name ++ codes " " ++ decimal (length t.rows) ++ codes "\n" ++ flat_map row_line t.rows
+abbrev pub table_lines : TableName → Table → Bytes
+table_lines name t = codes "TABLE " ++ name.user ++ codes "." ++ name.name ++ codes " " ++ decimal (length t.rows) ++ codes "\n" ++ flat_map row_line t.rows
 
--- ---- a run, of a module whose procedures are these
+-- ---- a run, item by item
 
-abbrev pub reply_by : State → Values → Option BoundStatement → Reply
-reply_by s values None = replied_with SuccessfulCompletion
-reply_by s values (Some statement) = replied s statement values
+abbrev pub shown_table : Program → State → TableName → Table
+shown_table p s name = unwrap_or (option_map (table_at s.tables) (base_place p.elements name)) empty
 
-abbrev pub action_lines : List BoundProcedure → State → Action → Bytes
-action_lines procedures s (Call c) = call_line c (reply_by s c.values (statement_at procedures c.procedure))
-action_lines procedures s (Show user table) = table_lines user table (the_table s)
+abbrev pub item_lines : Program → State → Item → Bytes
+item_lines p s (Item.call c) = call_line c (replied p s c)
+item_lines p s (Item.show name) = table_lines name (shown_table p s name)
 
--- item by item
-abbrev pub report : List BoundProcedure → State → List Action → Bytes
-report procedures s [] = []
-report procedures s (a ∷ rest) = action_lines procedures s a ++ report procedures (performed procedures s a) rest
+abbrev pub report : Program → State → List Item → Bytes
+report p s [] = []
+report p s (i ∷ rest) = item_lines p s i ++ report p (after_item p s i) rest

@@ -1,15 +1,11 @@
-//! What a program means: the table machine, its run over a script, and the report.
+//! What schemas, modules and calls mean (ISO/IEC 9075:1992, clauses 4, 10 to 14 and 22).
 //!
-//! The definitions stand in `specs/`; here are only the types that both they and the processor speak of.
+//! The definitions stand in `specs/`; here are only the types that both they and the processor speak of: the names of
+//! faults and refusals.
 #![tactic(auto)]
 
-mod cursor;
-mod program;
-mod reply;
+mod fault;
+mod refusal;
 
-pub use cursor::{CursorState, OpenCursor};
-pub use program::{
-    Action, BoundCursor, BoundFetch, BoundModule, BoundProcedure, BoundStatement, CallAction,
-    Target,
-};
-pub use reply::{Output, Reply, Status};
+pub use fault::BindingFault;
+pub use refusal::{ModuleFault, SchemaFault, ScriptFault};

@@ -34,7 +34,7 @@ impl<W> OutOf<W> {
         }
     }
 
-    /// Notes a writer's answer to so many bytes, and gives it on.
+    /// Records whether the writer failed, and passes its result on.
     fn noted(&mut self, answer: io::Result<usize>, offered: usize) -> Result<usize, OutFault>
         ensures noted { self.new ≡ record self.old { failed = self.old.failed || is_fault result offered } }
         ensures answer { MatchResult answer (λ count. result ≡ Ok count) (λ _. IsErr result) }

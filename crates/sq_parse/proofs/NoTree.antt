@@ -1,4 +1,4 @@
--- A text that is refused has no tree of the grammar that is at most 32 brackets deep.
+-- A text that is refused has no tree of the grammar within the limit of brackets.
 use Rattle.std.proofs.Common.{◌≡◌, ℕ, ◌-◌, ◌<◌, ◌≤◌, Bool, true, false, cond, [], length, Err, nat_lt, refl, sym, ◌∙◌, subst, arith}
 use Rattle.std.proofs.lemmas.Bool.{ltb-true, ltb-false}
 use Rattle.sq_grammar.specs.Reading.{Tokens, Parser, whole}
@@ -11,19 +11,10 @@ use Rattle.sq_reader.specs.declared.stop.Stop.{Stop}
 use Rattle.sq_reader.specs.declared.stop.Stop.TheVariants as stop
 use Rattle.sq_reader.specs.Reads.{Stops}
 use Rattle.sq_parse.specs.Refusal.{IsRefusal, HasNoTree, refusal_at, refusal}
+use Rattle.sq_grammar.specs.declared.brackets.TheConstants.{MAX_DEPTH}
 
--- what the refusal says of the tokens
-pub is_refusal : (ts : Tokens) (s : Stop) → IsRefusal ts (refusal ts s)
-is_refusal ts stop.NoMemory = tt
-is_refusal ts (stop.Unfit left) = by (nat_lt (length ts - left) (length ts)) (is_too_deep ts (length ts - left)) refl refl
-  where
-    by : (inside deep : Bool) → nat_lt (length ts - left) (length ts) ≡ inside → is_too_deep ts (length ts - left) ≡ deep → IsRefusal ts (cond inside (cond deep (TooDeep (length ts - left)) (Unexpected (length ts - left))) EndOfText)
-    by true true i d = d
-    by true false i d = (ltb-true _ _ i, d)
-    by false deep i d = tt
-
--- what it says of the trees, each of which the parser takes, but for its depth
-pub no_tree : {T : Type 0} (p : Parser T) (tokens_of : T → Tokens) (depth_of : T → ℕ) → ((tree : T) → Takes p (tokens_of tree) 0 0 (depth_of tree) 32 tree []) → (ts : Tokens) (s : Stop) → Stops (whole p ts) s → HasNoTree tokens_of depth_of ts (refusal ts s)
+-- what the refusal says of the trees, each of which the parser takes, but for its depth
+pub no_tree : {T : Type 0} (p : Parser T) (tokens_of : T → Tokens) (depth_of : T → ℕ) → ((tree : T) → Takes p (tokens_of tree) 0 0 (depth_of tree) MAX_DEPTH tree []) → (ts : Tokens) (s : Stop) → Stops (whole p ts) s → HasNoTree tokens_of depth_of ts (refusal ts s)
 no_tree p tokens_of depth_of takes ts stop.NoMemory stops = tt
 no_tree {T = T} p tokens_of depth_of takes ts (stop.Unfit left) stops = by (nat_lt (length ts - left) (length ts)) (is_too_deep ts (length ts - left)) refl refl
   where

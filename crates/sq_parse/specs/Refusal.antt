@@ -1,29 +1,49 @@
--- Where a text is refused, and what that says of the trees of the grammar.
-use Rattle.std.specs.Prelude.{◌≡◌, ℕ, ◌-◌, ◌<◌, false, if◌then◌else◌, nat_lt, length, IsTrue}
-use Rattle.sq_grammar.specs.Reading.{Tokens}
+-- What the parses answer: the tree, or where the text is refused and what that says of the trees of the grammar.
+use Rattle.std.specs.Prelude.{◌≡◌, ℕ, ◌-◌, ◌<◌, false, if◌then◌else◌, nat_lt, length, IsTrue, Result, Ok, Err}
+use Rattle.sq_grammar.specs.declared.brackets.TheConstants.{MAX_DEPTH}
+use Rattle.sq_grammar.specs.Reading.{Tokens, Outcome, Parser, whole}
 use Rattle.sq_grammar.specs.Brackets.{is_too_deep}
 use Rattle.sq_parse.specs.declared.error.ParseError.{ParseError}
 use Rattle.sq_parse.specs.declared.error.ParseError.TheVariants.{NoMemory, Unexpected, TooDeep, EndOfText}
 use Rattle.sq_reader.specs.declared.stop.Stop.{Stop}
 use Rattle.sq_reader.specs.declared.stop.Stop.TheVariants as stop
 
--- What a refusal says of the tokens. A bracket too many goes before any other fault of its token.
+-- The refusal at this place of a text's tokens. A bracket too many goes before any other fault of its token.
+abbrev pub refusal_at : Tokens → ℕ → ParseError
+refusal_at ts place = if nat_lt place (length ts) then (if is_too_deep ts place then TooDeep place else Unexpected place) else EndOfText
+
+-- What a reading of a text's tokens comes to: the tree, or the refusal at the token where the reading is stuck.
+abbrev pub answer : {T : Type 0} → Tokens → Outcome T → Result T ParseError
+answer ts (Ok read) = Ok read.0
+answer ts (Err left) = Err (refusal_at ts (length ts - left))
+
+-- what reading all of the tokens by a rule of the grammar comes to
+abbrev pub parsed : {T : Type 0} → Parser T → Tokens → Result T ParseError
+parsed rule ts = answer ts (whole rule ts)
+
+-- A parse answers this, unless memory ran out.
+abbrev pub Answers : {T : Type 0} → Result T ParseError → Result T ParseError → Type 0
+Answers wanted (Ok tree) = Ok tree ≡ wanted
+Answers wanted (Err NoMemory) = Unit {0}
+Answers wanted (Err fault) = Err fault ≡ wanted
+
+-- Any tree that is spelled by these tokens is this one.
+abbrev pub IsOnlyTree : {T : Type 0} → (T → Tokens) → Tokens → T → Type 0
+IsOnlyTree {T = T} tokens_of ts tree = (other : T) → tokens_of other ≡ ts → other ≡ tree
+
+-- What a refusal says of the tokens.
 abbrev pub IsRefusal : Tokens → ParseError → Type 0
 IsRefusal ts NoMemory = Unit {0}
 IsRefusal ts (Unexpected place) = (place < length ts) × (is_too_deep ts place ≡ false)
 IsRefusal ts (TooDeep place) = IsTrue (is_too_deep ts place)
 IsRefusal ts EndOfText = Unit {0}
 
--- What a refusal says of the trees of the grammar: none has these tokens, or each that has them is deeper than 32.
+-- What a refusal says of the trees of the grammar: none has these tokens, or each that has them is deeper than brackets may be.
 abbrev pub HasNoTree : {T : Type 0} → (T → Tokens) → (T → ℕ) → Tokens → ParseError → Type 0
 HasNoTree tokens_of depth_of ts NoMemory = Unit {0}
 HasNoTree {T = T} tokens_of depth_of ts (Unexpected place) = (tree : T) → tokens_of tree ≡ ts → ⊥
-HasNoTree {T = T} tokens_of depth_of ts (TooDeep place) = (tree : T) → tokens_of tree ≡ ts → 32 < depth_of tree
+HasNoTree {T = T} tokens_of depth_of ts (TooDeep place) = (tree : T) → tokens_of tree ≡ ts → MAX_DEPTH < depth_of tree
 HasNoTree {T = T} tokens_of depth_of ts EndOfText = (tree : T) → tokens_of tree ≡ ts → ⊥
-
--- the refusal at this place
-abbrev pub refusal_at : Tokens → ℕ → ParseError
-refusal_at ts place = if nat_lt place (length ts) then (if is_too_deep ts place then TooDeep place else Unexpected place) else EndOfText
 
 -- the refusal where reading stops
 abbrev pub refusal : Tokens → Stop → ParseError

@@ -5,6 +5,7 @@ ghost use Rattle.sq_lex.specs.Token.{lexemes};
 ghost use Rattle.sq_grammar.specs.Brackets as spec;
 ghost use Rattle.sq_parse.specs.Refusal as refusals;
 
+use sq_grammar::MAX_DEPTH;
 use sq_lex::{Lexeme, Symbol, Token};
 use sq_reader::{Reader, Stop};
 use thiserror::Error;
@@ -18,16 +19,13 @@ pub enum ParseError {
     /// The first token that no text of the grammar has after those before it.
     #[error("token {0} is unexpected")]
     Unexpected(usize),
-    /// An opening bracket before which 32 round brackets are open.
+    /// An opening bracket before which as many round brackets are open as may be.
     #[error("token {0} opens too many brackets")]
     TooDeep(usize),
     /// The tokens end where no text of the grammar does.
     #[error("the text ends too early")]
     EndOfText,
 }
-
-/// How many round brackets may be open at once.
-pub const MAX_DEPTH: usize = 32;
 
 /// How many brackets the tokens leave open.
 fn open_brackets(tokens: &[Token]) -> usize
@@ -45,7 +43,7 @@ fn open_brackets(tokens: &[Token]) -> usize
     open
 }
 
-/// Whether the token at this place is an opening bracket before which 32 are open.
+/// Whether the token at this place is an opening bracket, before which as many are open as may be.
 fn is_too_deep(tokens: &[Token], place: usize) -> bool
     requires { place ≤ length tokens.now }
     ensures { result ≡ spec.is_too_deep (lexemes tokens.now) place }

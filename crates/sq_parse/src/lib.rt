@@ -1,4 +1,4 @@
-//! The parser: from the tokens of a text to its tree.
+//! The parser: from the tokens of a text to its tree. Trees are dropped as in `sq_phrase`, by a call where reading stops.
 #![tactic(auto)]
 
 mod error;

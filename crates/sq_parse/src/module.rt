@@ -1,6 +1,7 @@
 //! Module texts. In each rule `left` brackets may be open at once.
 
 ghost use Rattle.std.specs.Prelude.{◌≡◌, ◌<◌, ◌≤◌, length, IfOk, OnOk, OnSome};
+ghost use Rattle.sq_grammar.specs.declared.brackets.TheConstants.{MAX_DEPTH};
 ghost use Rattle.sq_grammar.specs.Module as spec;
 ghost use Rattle.sq_grammar.specs.Reading.{all, listed, whole};
 ghost use Rattle.sq_reader.specs.Reads.{Reads};
@@ -94,8 +95,13 @@ fn declarations(alloc: Global, tokens: &mut Reader<'_>) -> Result<Declarations, 
 {
     if tokens.eat(Symbol::Open) {
         let declarations = bracketed_declarations(alloc, tokens)?;
-        tokens.expect(Symbol::Close)?;
-        return Ok(Declarations::Bracketed(declarations));
+        return match tokens.expect(Symbol::Close) {
+            Ok(()) => Ok(Declarations::Bracketed(declarations)),
+            Err(stop) => {
+                drop(declarations);
+                Err(stop)
+            }
+        };
     }
     let first = declaration(tokens)?;
     let rest = bare_declarations(alloc, tokens)?;
@@ -106,20 +112,35 @@ fn declarations(alloc: Global, tokens: &mut Reader<'_>) -> Result<Declarations, 
 #[tactic(auto, unfolding(sq_grammar::specs::Module::procedure))]
 fn procedure(alloc: Global, tokens: &mut Reader<'_>, left: usize) -> Result<Procedure, Stop>
     requires some { 0 < left }
-    requires small { left ≤ 32 }
+    requires small { left ≤ MAX_DEPTH }
     ensures value { Reads (spec.procedure left tokens.old) result tokens.new }
     ensures shorter { OnOk result (length tokens.new < length tokens.old) }
 {
     let name = tokens.name()?;
     let declarations = declarations(alloc, tokens)?;
-    tokens.expect(Symbol::Semicolon)?;
-    let statement = statement(alloc, tokens, left)?;
-    tokens.expect(Symbol::Semicolon)?;
-    Ok(Procedure {
-        name,
-        declarations,
-        statement,
-    })
+    if let Err(stop) = tokens.expect(Symbol::Semicolon) {
+        drop(declarations);
+        return Err(stop);
+    }
+    let statement = match statement(alloc, tokens, left) {
+        Ok(statement) => statement,
+        Err(stop) => {
+            drop(declarations);
+            return Err(stop);
+        }
+    };
+    match tokens.expect(Symbol::Semicolon) {
+        Ok(()) => Ok(Procedure {
+            name,
+            declarations,
+            statement,
+        }),
+        Err(stop) => {
+            drop(declarations);
+            drop(statement);
+            Err(stop)
+        }
+    }
 }
 
 #[tactic(auto, unfolding(sq_grammar::specs::Module::sort_key))]
@@ -186,21 +207,24 @@ fn ordered_query(
     tokens: &mut Reader<'_>,
     left: usize,
 ) -> Result<(Query, Option<CommaList<SortSpecification>>), Stop>
-    requires { left ≤ 32 }
+    requires { left ≤ MAX_DEPTH }
     ensures value { Reads (spec.ordered_query left tokens.old) result tokens.new }
     ensures shorter { OnOk result (length tokens.new < length tokens.old) }
 {
     let query = query(alloc, tokens, left)?;
     match order_by(alloc, tokens) {
         Ok(order_by) => Ok((query, order_by)),
-        Err(stop) => Err(stop),
+        Err(stop) => {
+            drop(query);
+            Err(stop)
+        }
     }
 }
 
 /// A cursor whose first word is read already.
 #[tactic(auto, unfolding(sq_grammar::specs::Module::cursor))]
 fn cursor(alloc: Global, tokens: &mut Reader<'_>, left: usize) -> Result<Cursor, Stop>
-    requires { left ≤ 32 }
+    requires { left ≤ MAX_DEPTH }
     ensures value { Reads (spec.cursor left tokens.old) result tokens.new }
     ensures shorter { OnOk result (length tokens.new < length tokens.old) }
 {
@@ -225,7 +249,7 @@ fn cursor(alloc: Global, tokens: &mut Reader<'_>, left: usize) -> Result<Cursor,
 #[tactic(auto, unfolding(sq_grammar::specs::Module::item))]
 fn item(alloc: Global, tokens: &mut Reader<'_>, left: usize) -> Result<Option<ModuleItem>, Stop>
     requires some { 0 < left }
-    requires small { left ≤ 32 }
+    requires small { left ≤ MAX_DEPTH }
     ensures value { Reads (spec.item left tokens.old) result tokens.new }
     ensures shorter { IfOk result (λ item. OnSome item (length tokens.new < length tokens.old)) }
     ensures no_longer { OnOk result (length tokens.new ≤ length tokens.old) }
@@ -243,7 +267,7 @@ fn item(alloc: Global, tokens: &mut Reader<'_>, left: usize) -> Result<Option<Mo
 
 fn all_items(alloc: Global, tokens: &mut Reader<'_>, left: usize) -> Result<Items<ModuleItem>, Stop>
     requires some { 0 < left }
-    requires small { left ≤ 32 }
+    requires small { left ≤ MAX_DEPTH }
     ensures value { Reads (all (spec.item left) tokens.old) result tokens.new }
     ensures no_longer { OnOk result (length tokens.new ≤ length tokens.old) }
 {
@@ -253,7 +277,7 @@ fn all_items(alloc: Global, tokens: &mut Reader<'_>, left: usize) -> Result<Item
 #[tactic(auto, unfolding(sq_grammar::specs::Module::module_text))]
 fn module_text(alloc: Global, tokens: &mut Reader<'_>, left: usize) -> Result<ModuleText, Stop>
     requires some { 0 < left }
-    requires small { left ≤ 32 }
+    requires small { left ≤ MAX_DEPTH }
     ensures { Reads (spec.module_text left tokens.old) result tokens.new }
 {
     tokens.expect_word(Word::Module)?;
@@ -274,7 +298,7 @@ fn module_text(alloc: Global, tokens: &mut Reader<'_>, left: usize) -> Result<Mo
 /// All of a module text.
 pub fn whole_module(alloc: Global, tokens: &mut Reader<'_>, left: usize) -> Result<ModuleText, Stop>
     requires some { 0 < left }
-    requires small { left ≤ 32 }
+    requires small { left ≤ MAX_DEPTH }
     ensures { Reads (whole (spec.module_text left) tokens.old) result tokens.new }
 {
     let text = module_text(alloc, tokens, left)?;

@@ -1,6 +1,7 @@
 //! Schema texts. In each rule the words up to where the rules differ are read already.
 
-ghost use Rattle.std.specs.Prelude.{◌≡◌, ◌<◌, ◌≤◌, length, IfOk, OnOk, OnSome};
+ghost use Rattle.std.specs.Prelude.{◌≡◌, ◌<◌, ◌≤◌, ◌-◌, length, IfOk, OnOk, OnSome};
+ghost use Rattle.sq_grammar.specs.declared.brackets.TheConstants.{MAX_DEPTH};
 ghost use Rattle.sq_grammar.specs.Reading.{all, listed, whole};
 ghost use Rattle.sq_reader.specs.Reads.{Reads};
 ghost use Rattle.sq_grammar.specs.Schema as spec;
@@ -67,8 +68,13 @@ fn check(alloc: Global, tokens: &mut Reader<'_>, left: usize) -> Result<Cond, St
 {
     tokens.expect(Symbol::Open)?;
     let cond = inner_cond(alloc, tokens, left)?;
-    tokens.expect(Symbol::Close)?;
-    Ok(cond)
+    match tokens.expect(Symbol::Close) {
+        Ok(()) => Ok(cond),
+        Err(stop) => {
+            drop(cond);
+            Err(stop)
+        }
+    }
 }
 
 /// A column constraint, if one comes.
@@ -135,13 +141,18 @@ fn column_definition(
 {
     let data_type = data_type(tokens)?;
     let default = default_clause(alloc, tokens)?;
-    let constraints = column_constraints(alloc, tokens, left)?;
-    Ok(ColumnDefinition {
-        name,
-        data_type,
-        default,
-        constraints,
-    })
+    match column_constraints(alloc, tokens, left) {
+        Ok(constraints) => Ok(ColumnDefinition {
+            name,
+            data_type,
+            default,
+            constraints,
+        }),
+        Err(stop) => {
+            drop(default);
+            Err(stop)
+        }
+    }
 }
 
 #[tactic(auto, unfolding(sq_grammar::specs::Schema::foreign_key, sq_grammar::specs::Schema::references))]
@@ -151,12 +162,20 @@ fn foreign_key(alloc: Global, tokens: &mut Reader<'_>) -> Result<ForeignKey, Sto
 {
     tokens.expect_word(Word::Key)?;
     let columns = columns(alloc, tokens)?;
-    tokens.expect_word(Word::References)?;
-    let references = references_from(alloc, tokens)?;
-    Ok(ForeignKey {
-        columns,
-        references,
-    })
+    if let Err(stop) = tokens.expect_word(Word::References) {
+        drop(columns);
+        return Err(stop);
+    }
+    match references_from(alloc, tokens) {
+        Ok(references) => Ok(ForeignKey {
+            columns,
+            references,
+        }),
+        Err(stop) => {
+            drop(columns);
+            Err(stop)
+        }
+    }
 }
 
 #[tactic(auto, unfolding(sq_grammar::specs::Schema::table_constraint))]
@@ -228,8 +247,13 @@ fn table_definition(
     let name = table_name(tokens)?;
     tokens.expect(Symbol::Open)?;
     let elements = table_elements(alloc, tokens, left)?;
-    tokens.expect(Symbol::Close)?;
-    Ok(TableDefinition { name, elements })
+    match tokens.expect(Symbol::Close) {
+        Ok(()) => Ok(TableDefinition { name, elements }),
+        Err(stop) => {
+            drop(elements);
+            Err(stop)
+        }
+    }
 }
 
 /// `[ WITH CHECK OPTION ]`.
@@ -252,21 +276,36 @@ fn view_definition(
     tokens: &mut Reader<'_>,
     left: usize,
 ) -> Result<ViewDefinition, Stop>
-    requires { left ≤ 32 }
+    requires { left ≤ MAX_DEPTH }
     ensures value { Reads (spec.view_definition left tokens.old) result tokens.new }
     ensures shorter { OnOk result (length tokens.new < length tokens.old) }
 {
     let name = table_name(tokens)?;
     let columns = columns_if_any(alloc, tokens)?;
-    tokens.expect_word(Word::As)?;
-    let query = query_specification(alloc, tokens, left)?;
-    let check_option = check_option(tokens)?;
-    Ok(ViewDefinition {
-        name,
-        columns,
-        query,
-        check_option,
-    })
+    if let Err(stop) = tokens.expect_word(Word::As) {
+        drop(columns);
+        return Err(stop);
+    }
+    let query = match query_specification(alloc, tokens, left) {
+        Ok(query) => query,
+        Err(stop) => {
+            drop(columns);
+            return Err(stop);
+        }
+    };
+    match check_option(tokens) {
+        Ok(check_option) => Ok(ViewDefinition {
+            name,
+            columns,
+            query,
+            check_option,
+        }),
+        Err(stop) => {
+            drop(columns);
+            drop(query);
+            Err(stop)
+        }
+    }
 }
 
 #[tactic(auto, unfolding(sq_grammar::specs::Schema::action))]
@@ -351,19 +390,43 @@ fn grant(alloc: Global, tokens: &mut Reader<'_>) -> Result<GrantStatement, Stop>
     ensures shorter { OnOk result (length tokens.new < length tokens.old) }
 {
     let privileges = privileges(alloc, tokens)?;
-    tokens.expect_word(Word::On)?;
+    if let Err(stop) = tokens.expect_word(Word::On) {
+        drop(privileges);
+        return Err(stop);
+    }
     let table_word = tokens.eat_word(Word::Table);
-    let table = table_name(tokens)?;
-    tokens.expect_word(Word::To)?;
-    let grantees = grantees(alloc, tokens)?;
-    let grant_option = grant_option(tokens)?;
-    Ok(GrantStatement {
-        privileges,
-        table_word,
-        table,
-        grantees,
-        grant_option,
-    })
+    let table = match table_name(tokens) {
+        Ok(table) => table,
+        Err(stop) => {
+            drop(privileges);
+            return Err(stop);
+        }
+    };
+    if let Err(stop) = tokens.expect_word(Word::To) {
+        drop(privileges);
+        return Err(stop);
+    }
+    let grantees = match grantees(alloc, tokens) {
+        Ok(grantees) => grantees,
+        Err(stop) => {
+            drop(privileges);
+            return Err(stop);
+        }
+    };
+    match grant_option(tokens) {
+        Ok(grant_option) => Ok(GrantStatement {
+            privileges,
+            table_word,
+            table,
+            grantees,
+            grant_option,
+        }),
+        Err(stop) => {
+            drop(privileges);
+            drop(grantees);
+            Err(stop)
+        }
+    }
 }
 
 /// Whether CREATE comes next, and behind it TABLE or VIEW.
@@ -381,16 +444,15 @@ fn created(
     alloc: Global,
     tokens: &mut Reader<'_>,
     left: usize,
-    inner: usize,
 ) -> Result<Option<SchemaElement>, Stop>
-    requires some { 0 < inner }
-    requires small { left ≤ 32 }
-    ensures value { Reads (spec.created left inner tokens.old) result tokens.new }
+    requires some { 1 < left }
+    requires small { left ≤ MAX_DEPTH }
+    ensures value { Reads (spec.created left (left - 1) tokens.old) result tokens.new }
     ensures shorter { OnOk result (length tokens.new < length tokens.old) }
 {
     tokens.expect_word(Word::Create)?;
     if tokens.eat_word(Word::Table) {
-        let table = table_definition(alloc, tokens, inner)?;
+        let table = table_definition(alloc, tokens, left - 1)?;
         return Ok(Some(SchemaElement::Table(table)));
     }
     tokens.expect_word(Word::View)?;
@@ -398,17 +460,16 @@ fn created(
     Ok(Some(SchemaElement::View(view)))
 }
 
-/// A table, a view or a grant, if one comes; `inner` brackets may be opened behind that of a table.
+/// A table, a view or a grant, if one comes.
 #[tactic(auto, unfolding(sq_grammar::specs::Schema::element))]
 fn element(
     alloc: Global,
     tokens: &mut Reader<'_>,
     left: usize,
-    inner: usize,
 ) -> Result<Option<SchemaElement>, Stop>
-    requires some { 0 < inner }
-    requires small { left ≤ 32 }
-    ensures value { Reads (spec.element left inner tokens.old) result tokens.new }
+    requires some { 1 < left }
+    requires small { left ≤ MAX_DEPTH }
+    ensures value { Reads (spec.element left (left - 1) tokens.old) result tokens.new }
     ensures shorter { IfOk result (λ item. OnSome item (length tokens.new < length tokens.old)) }
     ensures no_longer { OnOk result (length tokens.new ≤ length tokens.old) }
 {
@@ -417,7 +478,7 @@ fn element(
         return Ok(Some(SchemaElement::Grant(grant)));
     }
     if sees_created(tokens) {
-        return created(alloc, tokens, left, inner);
+        return created(alloc, tokens, left);
     }
     Ok(None)
 }
@@ -426,14 +487,13 @@ fn elements(
     alloc: Global,
     tokens: &mut Reader<'_>,
     left: usize,
-    inner: usize,
 ) -> Result<Items<SchemaElement>, Stop>
-    requires some { 0 < inner }
-    requires small { left ≤ 32 }
-    ensures value { Reads (all (spec.element left inner) tokens.old) result tokens.new }
+    requires some { 1 < left }
+    requires small { left ≤ MAX_DEPTH }
+    ensures value { Reads (all (spec.element left (left - 1)) tokens.old) result tokens.new }
     ensures no_longer { OnOk result (length tokens.new ≤ length tokens.old) }
 {
-    items(alloc, tokens, |tokens| element(alloc, tokens, left, inner))
+    items(alloc, tokens, |tokens| element(alloc, tokens, left))
 }
 
 /// A schema definition whose first word is read already.
@@ -442,17 +502,16 @@ fn schema_definition(
     alloc: Global,
     tokens: &mut Reader<'_>,
     left: usize,
-    inner: usize,
 ) -> Result<SchemaDefinition, Stop>
-    requires some { 0 < inner }
-    requires small { left ≤ 32 }
-    ensures value { Reads (spec.schema_definition left inner tokens.old) result tokens.new }
+    requires some { 1 < left }
+    requires small { left ≤ MAX_DEPTH }
+    ensures value { Reads (spec.schema_definition left (left - 1) tokens.old) result tokens.new }
     ensures shorter { OnOk result (length tokens.new < length tokens.old) }
 {
     tokens.expect_word(Word::Schema)?;
     tokens.expect_word(Word::Authorization)?;
     let authorization = tokens.name()?;
-    let elements = elements(alloc, tokens, left, inner)?;
+    let elements = elements(alloc, tokens, left)?;
     let semicolon = tokens.eat(Symbol::Semicolon);
     Ok(SchemaDefinition {
         authorization,
@@ -466,18 +525,17 @@ fn next_definition(
     alloc: Global,
     tokens: &mut Reader<'_>,
     left: usize,
-    inner: usize,
 ) -> Result<Option<SchemaDefinition>, Stop>
-    requires some { 0 < inner }
-    requires small { left ≤ 32 }
-    ensures value { Reads (spec.next_definition left inner tokens.old) result tokens.new }
+    requires some { 1 < left }
+    requires small { left ≤ MAX_DEPTH }
+    ensures value { Reads (spec.next_definition left (left - 1) tokens.old) result tokens.new }
     ensures shorter { IfOk result (λ item. OnSome item (length tokens.new < length tokens.old)) }
     ensures no_longer { OnOk result (length tokens.new ≤ length tokens.old) }
 {
     if !tokens.eat_word(Word::Create) {
         return Ok(None);
     }
-    let definition = schema_definition(alloc, tokens, left, inner)?;
+    let definition = schema_definition(alloc, tokens, left)?;
     Ok(Some(definition))
 }
 
@@ -485,34 +543,29 @@ fn more_definitions(
     alloc: Global,
     tokens: &mut Reader<'_>,
     left: usize,
-    inner: usize,
 ) -> Result<Items<SchemaDefinition>, Stop>
-    requires some { 0 < inner }
-    requires small { left ≤ 32 }
-    ensures value { Reads (all (spec.next_definition left inner) tokens.old) result tokens.new }
+    requires some { 1 < left }
+    requires small { left ≤ MAX_DEPTH }
+    ensures value { Reads (all (spec.next_definition left (left - 1)) tokens.old) result tokens.new }
     ensures no_longer { OnOk result (length tokens.new ≤ length tokens.old) }
 {
-    items(
-        alloc,
-        tokens,
-        |tokens| next_definition(alloc, tokens, left, inner),
-    )
+    items(alloc, tokens, |tokens| next_definition(alloc, tokens, left))
 }
 
-/// All of a schema text; `inner` brackets may be opened behind that of a table.
+/// All of a schema text.
 #[tactic(auto, unfolding(sq_grammar::specs::Schema::schema_text))]
-pub fn whole_schema(
-    alloc: Global,
-    tokens: &mut Reader<'_>,
-    left: usize,
-    inner: usize,
-) -> Result<SchemaText, Stop>
-    requires some { 0 < inner }
-    requires small { left ≤ 32 }
-    ensures { Reads (whole (spec.schema_text left inner) tokens.old) result tokens.new }
+pub fn whole_schema(alloc: Global, tokens: &mut Reader<'_>, left: usize) -> Result<SchemaText, Stop>
+    requires some { 1 < left }
+    requires small { left ≤ MAX_DEPTH }
+    ensures { Reads (whole (spec.schema_text left (left - 1)) tokens.old) result tokens.new }
 {
     tokens.expect_word(Word::Create)?;
-    let first = schema_definition(alloc, tokens, left, inner)?;
-    let rest = more_definitions(alloc, tokens, left, inner)?;
-    tokens.end(SchemaText { first, rest })
+    let first = schema_definition(alloc, tokens, left)?;
+    match more_definitions(alloc, tokens, left) {
+        Ok(rest) => tokens.end(SchemaText { first, rest }),
+        Err(stop) => {
+            drop(first);
+            Err(stop)
+        }
+    }
 }

@@ -45,8 +45,13 @@ fn arguments(alloc: Global, tokens: &mut Reader<'_>) -> Result<Arguments, Stop>
         return Ok(Arguments::Empty);
     }
     let arguments = listed_arguments(alloc, tokens)?;
-    tokens.expect(Symbol::Close)?;
-    Ok(Arguments::Listed(arguments))
+    match tokens.expect(Symbol::Close) {
+        Ok(()) => Ok(Arguments::Listed(arguments)),
+        Err(stop) => {
+            drop(arguments);
+            Err(stop)
+        }
+    }
 }
 
 #[tactic(auto, unfolding(sq_grammar::specs::Script::two_names))]
@@ -98,8 +103,13 @@ fn item(alloc: Global, tokens: &mut Reader<'_>) -> Result<Option<ScriptItem>, St
     }
     let (module, procedure) = two_names(tokens)?;
     let arguments = arguments(alloc, tokens)?;
-    tokens.expect(Symbol::Semicolon)?;
-    Ok(Some(ScriptItem::Call(module, procedure, arguments)))
+    match tokens.expect(Symbol::Semicolon) {
+        Ok(()) => Ok(Some(ScriptItem::Call(module, procedure, arguments))),
+        Err(stop) => {
+            drop(arguments);
+            Err(stop)
+        }
+    }
 }
 
 fn all_items(alloc: Global, tokens: &mut Reader<'_>) -> Result<Items<ScriptItem>, Stop>
@@ -109,8 +119,9 @@ fn all_items(alloc: Global, tokens: &mut Reader<'_>) -> Result<Items<ScriptItem>
     items(alloc, tokens, |tokens| item(alloc, tokens))
 }
 
+/// All of a script text.
 #[tactic(auto, unfolding(sq_grammar::specs::Script::script_text))]
-pub fn script_text(alloc: Global, tokens: &mut Reader<'_>) -> Result<ScriptText, Stop>
+pub fn whole_script(alloc: Global, tokens: &mut Reader<'_>) -> Result<ScriptText, Stop>
     ensures { Reads (whole spec.script_text tokens.old) result tokens.new }
 {
     let items = all_items(alloc, tokens)?;

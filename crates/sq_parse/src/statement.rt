@@ -1,6 +1,7 @@
 //! The statements of a procedure. In each rule `left` brackets may be open at once, and a statement's first word is read already.
 
 ghost use Rattle.std.specs.Prelude.{◌≡◌, ◌<◌, ◌≤◌, length, OnOk, OnSome};
+ghost use Rattle.sq_grammar.specs.declared.brackets.TheConstants.{MAX_DEPTH};
 ghost use Rattle.sq_grammar.specs.Expr as expressions;
 ghost use Rattle.sq_grammar.specs.Names.{parameter};
 ghost use Rattle.sq_grammar.specs.Reading.{listed, one_if_any};
@@ -133,21 +134,36 @@ fn target(alloc: Global, tokens: &mut Reader<'_>, left: usize) -> Result<Option<
 
 #[tactic(auto, unfolding(sq_grammar::specs::Statement::select))]
 fn select(alloc: Global, tokens: &mut Reader<'_>, left: usize) -> Result<Select, Stop>
-    requires { left ≤ 32 }
+    requires { left ≤ MAX_DEPTH }
     ensures value { Reads (spec.select left tokens.old) result tokens.new }
     ensures shorter { OnOk result (length tokens.new < length tokens.old) }
 {
     let quantifier = quantifier_if_any(tokens);
     let list = select_list(alloc, tokens, left)?;
-    tokens.expect_word(Word::Into)?;
-    let targets = targets(alloc, tokens)?;
-    let table = table_expression(alloc, tokens, left)?;
-    Ok(Select {
-        quantifier,
-        list,
-        targets,
-        table,
-    })
+    if let Err(stop) = tokens.expect_word(Word::Into) {
+        drop(list);
+        return Err(stop);
+    }
+    let targets = match targets(alloc, tokens) {
+        Ok(targets) => targets,
+        Err(stop) => {
+            drop(list);
+            return Err(stop);
+        }
+    };
+    match table_expression(alloc, tokens, left) {
+        Ok(table) => Ok(Select {
+            quantifier,
+            list,
+            targets,
+            table,
+        }),
+        Err(stop) => {
+            drop(list);
+            drop(targets);
+            Err(stop)
+        }
+    }
 }
 
 /// A value of a VALUES list, whose bracket is one of the `left` that could be opened before it.
@@ -179,15 +195,20 @@ fn listed_values(
 #[tactic(auto, unfolding(sq_grammar::specs::Statement::insert_source))]
 fn insert_source(alloc: Global, tokens: &mut Reader<'_>, left: usize) -> Result<InsertSource, Stop>
     requires some { 0 < left }
-    requires small { left ≤ 32 }
+    requires small { left ≤ MAX_DEPTH }
     ensures value { Reads (spec.insert_source left tokens.old) result tokens.new }
     ensures shorter { OnOk result (length tokens.new < length tokens.old) }
 {
     if tokens.eat_word(Word::Values) {
         tokens.expect(Symbol::Open)?;
         let values = listed_values(alloc, tokens, left)?;
-        tokens.expect(Symbol::Close)?;
-        return Ok(InsertSource::Values(values));
+        return match tokens.expect(Symbol::Close) {
+            Ok(()) => Ok(InsertSource::Values(values)),
+            Err(stop) => {
+                drop(values);
+                Err(stop)
+            }
+        };
     }
     let query = query_specification(alloc, tokens, left)?;
     Ok(InsertSource::Query(query))
@@ -196,19 +217,24 @@ fn insert_source(alloc: Global, tokens: &mut Reader<'_>, left: usize) -> Result<
 #[tactic(auto, unfolding(sq_grammar::specs::Statement::insert))]
 fn insert(alloc: Global, tokens: &mut Reader<'_>, left: usize) -> Result<Insert, Stop>
     requires some { 0 < left }
-    requires small { left ≤ 32 }
+    requires small { left ≤ MAX_DEPTH }
     ensures value { Reads (spec.insert left tokens.old) result tokens.new }
     ensures shorter { OnOk result (length tokens.new < length tokens.old) }
 {
     tokens.expect_word(Word::Into)?;
     let table = table_name(tokens)?;
     let columns = columns_if_any(alloc, tokens)?;
-    let source = insert_source(alloc, tokens, left)?;
-    Ok(Insert {
-        table,
-        columns,
-        source,
-    })
+    match insert_source(alloc, tokens, left) {
+        Ok(source) => Ok(Insert {
+            table,
+            columns,
+            source,
+        }),
+        Err(stop) => {
+            drop(columns);
+            Err(stop)
+        }
+    }
 }
 
 #[tactic(auto, unfolding(sq_grammar::specs::Statement::new_value))]
@@ -253,12 +279,17 @@ fn update(alloc: Global, tokens: &mut Reader<'_>, left: usize) -> Result<Update,
     let table = table_name(tokens)?;
     tokens.expect_word(Word::Set)?;
     let assignments = assignments(alloc, tokens, left)?;
-    let target = target(alloc, tokens, left)?;
-    Ok(Update {
-        table,
-        assignments,
-        target,
-    })
+    match target(alloc, tokens, left) {
+        Ok(target) => Ok(Update {
+            table,
+            assignments,
+            target,
+        }),
+        Err(stop) => {
+            drop(assignments);
+            Err(stop)
+        }
+    }
 }
 
 #[tactic(auto, unfolding(sq_grammar::specs::Statement::delete))]
@@ -303,7 +334,7 @@ fn verb_if_any(tokens: &mut Reader<'_>) -> Option<Verb>
 #[tactic(auto, unfolding(sq_grammar::specs::Statement::statement))]
 pub fn statement(alloc: Global, tokens: &mut Reader<'_>, left: usize) -> Result<Statement, Stop>
     requires some { 0 < left }
-    requires small { left ≤ 32 }
+    requires small { left ≤ MAX_DEPTH }
     ensures value { Reads (spec.statement left tokens.old) result tokens.new }
     ensures shorter { OnOk result (length tokens.new < length tokens.old) }
 {

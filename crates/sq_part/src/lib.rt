@@ -15,6 +15,3 @@ pub use module::take_module;
 pub use schema::take_schema;
 pub use script::take_script;
 pub use starts::{module_item_starts, schema_element_starts, script_item_starts};
-
-#[cfg(test)]
-mod tests;

@@ -36,7 +36,10 @@ impl<F: Fn(Global, &mut Reader<'_>, usize) -> Result<Mixed<Cond>, Stop>> Grammar
     {
         match (self.inner)(self.alloc, tokens, self.left)? {
             Mixed::Whole(cond) => Ok(cond),
-            Mixed::Bare(_) => Err(tokens.stop()),
+            Mixed::Bare(bare) => {
+                drop(bare);
+                Err(tokens.stop())
+            }
         }
     }
 
@@ -47,9 +50,13 @@ impl<F: Fn(Global, &mut Reader<'_>, usize) -> Result<Mixed<Cond>, Stop>> Grammar
         ensures value { Reads (spec.predicate_from self.now.left (spec.inside self.now.left) left tokens.old) result tokens.new }
         ensures no_longer { OnOk result (length tokens.new ≤ length tokens.old) }
     {
-        match self.tail(tokens)? {
-            Some(tail) => Ok(Mixed::Whole(Body::Predicate(left, tail))),
-            None => Ok(Mixed::Bare(left)),
+        match self.tail(tokens) {
+            Ok(Some(tail)) => Ok(Mixed::Whole(Body::Predicate(left, tail))),
+            Ok(None) => Ok(Mixed::Bare(left)),
+            Err(stop) => {
+                drop(left);
+                Err(stop)
+            }
         }
     }
 
@@ -61,7 +68,10 @@ impl<F: Fn(Global, &mut Reader<'_>, usize) -> Result<Mixed<Cond>, Stop>> Grammar
     {
         tokens.open(self.left)?;
         let inner = (self.inner)(self.alloc, tokens, self.left)?;
-        tokens.expect(Symbol::Close)?;
+        if let Err(stop) = tokens.expect(Symbol::Close) {
+            drop(inner);
+            return Err(stop);
+        }
         match inner {
             Mixed::Whole(cond) => {
                 let cond = Boxed::new(self.alloc, cond)?;
@@ -104,6 +114,7 @@ impl<F: Fn(Global, &mut Reader<'_>, usize) -> Result<Mixed<Cond>, Stop>> Grammar
             Mixed::Whole(body) => Ok(Mixed::Whole(Test { negated, body })),
             Mixed::Bare(bare) => {
                 if negated {
+                    drop(bare);
                     return Err(tokens.stop());
                 }
                 Ok(Mixed::Bare(bare))
@@ -119,7 +130,10 @@ impl<F: Fn(Global, &mut Reader<'_>, usize) -> Result<Mixed<Cond>, Stop>> Grammar
     {
         match self.test(tokens)? {
             Mixed::Whole(test) => Ok(test),
-            Mixed::Bare(_) => Err(tokens.stop()),
+            Mixed::Bare(bare) => {
+                drop(bare);
+                Err(tokens.stop())
+            }
         }
     }
 
@@ -146,8 +160,13 @@ impl<F: Fn(Global, &mut Reader<'_>, usize) -> Result<Mixed<Cond>, Stop>> Grammar
     {
         match self.test(tokens)? {
             Mixed::Whole(first) => {
-                let rest = self.more_tests(tokens)?;
-                Ok(Mixed::Whole(Conj { first, rest }))
+                match self.more_tests(tokens) {
+                    Ok(rest) => Ok(Mixed::Whole(Conj { first, rest })),
+                    Err(stop) => {
+                        drop(first);
+                        Err(stop)
+                    }
+                }
             }
             Mixed::Bare(bare) => Ok(Mixed::Bare(bare)),
         }
@@ -161,7 +180,10 @@ impl<F: Fn(Global, &mut Reader<'_>, usize) -> Result<Mixed<Cond>, Stop>> Grammar
     {
         match self.conj(tokens)? {
             Mixed::Whole(conj) => Ok(conj),
-            Mixed::Bare(_) => Err(tokens.stop()),
+            Mixed::Bare(bare) => {
+                drop(bare);
+                Err(tokens.stop())
+            }
         }
     }
 
@@ -189,8 +211,13 @@ impl<F: Fn(Global, &mut Reader<'_>, usize) -> Result<Mixed<Cond>, Stop>> Grammar
     {
         match self.conj(tokens)? {
             Mixed::Whole(first) => {
-                let rest = self.more_conjs(tokens)?;
-                Ok(Mixed::Whole(Cond { first, rest }))
+                match self.more_conjs(tokens) {
+                    Ok(rest) => Ok(Mixed::Whole(Cond { first, rest })),
+                    Err(stop) => {
+                        drop(first);
+                        Err(stop)
+                    }
+                }
             }
             Mixed::Bare(bare) => Ok(Mixed::Bare(bare)),
         }
@@ -219,7 +246,10 @@ pub fn cond(alloc: Global, tokens: &mut Reader<'_>, left: usize) -> Result<Cond,
 {
     match (Grammar { alloc, left, inner }).mixed(tokens)? {
         Mixed::Whole(cond) => Ok(cond),
-        Mixed::Bare(_) => Err(tokens.stop()),
+        Mixed::Bare(bare) => {
+            drop(bare);
+            Err(tokens.stop())
+        }
     }
 }
 

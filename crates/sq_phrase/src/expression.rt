@@ -97,7 +97,10 @@ impl<F: Fn(Global, &mut Reader<'_>, usize) -> Result<Expr, Stop>> Grammar<F> {
         }
         let quantifier = quantifier_if_any(tokens);
         let argument = (self.inner)(self.alloc, tokens, self.left)?;
-        tokens.expect(Symbol::Close)?;
+        if let Err(stop) = tokens.expect(Symbol::Close) {
+            drop(argument);
+            return Err(stop);
+        }
         let argument = Boxed::new(self.alloc, argument)?;
         Ok(Primary::SetFunction(function, quantifier, argument))
     }
@@ -110,7 +113,10 @@ impl<F: Fn(Global, &mut Reader<'_>, usize) -> Result<Expr, Stop>> Grammar<F> {
     {
         tokens.open(self.left)?;
         let inner = (self.inner)(self.alloc, tokens, self.left)?;
-        tokens.expect(Symbol::Close)?;
+        if let Err(stop) = tokens.expect(Symbol::Close) {
+            drop(inner);
+            return Err(stop);
+        }
         let inner = Boxed::new(self.alloc, inner)?;
         Ok(Primary::Bracketed(inner))
     }
@@ -189,8 +195,13 @@ impl<F: Fn(Global, &mut Reader<'_>, usize) -> Result<Expr, Stop>> Grammar<F> {
         ensures shorter { OnOk result (length tokens.new < length tokens.old) }
     {
         let first = self.factor(tokens)?;
-        let rest = self.all_scaled(tokens)?;
-        Ok(Term { first, rest })
+        match self.all_scaled(tokens) {
+            Ok(rest) => Ok(Term { first, rest }),
+            Err(stop) => {
+                drop(first);
+                Err(stop)
+            }
+        }
     }
 
     #[tactic(auto, unfolding(sq_grammar::specs::Expr::added))]
@@ -227,8 +238,13 @@ impl<F: Fn(Global, &mut Reader<'_>, usize) -> Result<Expr, Stop>> Grammar<F> {
         ensures shorter { OnOk result (length tokens.new < length tokens.old) }
     {
         let first = self.term(tokens)?;
-        let rest = self.all_added(tokens)?;
-        Ok(Expr { first, rest })
+        match self.all_added(tokens) {
+            Ok(rest) => Ok(Expr { first, rest }),
+            Err(stop) => {
+                drop(first);
+                Err(stop)
+            }
+        }
     }
 
     #[tactic(auto, unfolding(sq_grammar::specs::Expr::level_from))]
@@ -237,16 +253,25 @@ impl<F: Fn(Global, &mut Reader<'_>, usize) -> Result<Expr, Stop>> Grammar<F> {
         ensures value { Reads (spec.level_from self.now.left (spec.inside self.now.left) primary tokens.old) result tokens.new }
         ensures no_longer { OnOk result (length tokens.new ≤ length tokens.old) }
     {
-        let rest = self.all_scaled(tokens)?;
-        let first = Term {
-            first: Factor {
-                sign: None,
-                primary,
-            },
-            rest,
+        let rest = match self.all_scaled(tokens) {
+            Ok(rest) => rest,
+            Err(stop) => {
+                drop(primary);
+                return Err(stop);
+            }
         };
-        let rest = self.all_added(tokens)?;
-        Ok(Expr { first, rest })
+        let first = Factor {
+            sign: None,
+            primary,
+        };
+        let first = Term { first, rest };
+        match self.all_added(tokens) {
+            Ok(rest) => Ok(Expr { first, rest }),
+            Err(stop) => {
+                drop(first);
+                Err(stop)
+            }
+        }
     }
 }
 

@@ -114,9 +114,17 @@ impl<F: Fn(Global, &mut Reader<'_>, usize) -> Result<Mixed<Cond>, Stop>> Grammar
         ensures no_longer { OnOk result (length tokens.new ≤ length tokens.old) }
     {
         let low = expr(self.alloc, tokens, self.left)?;
-        tokens.expect_word(Word::And)?;
-        let high = expr(self.alloc, tokens, self.left)?;
-        Ok(Tail::Between(negated, low, high))
+        if let Err(stop) = tokens.expect_word(Word::And) {
+            drop(low);
+            return Err(stop);
+        }
+        match expr(self.alloc, tokens, self.left) {
+            Ok(high) => Ok(Tail::Between(negated, low, high)),
+            Err(stop) => {
+                drop(low);
+                Err(stop)
+            }
+        }
     }
 
     /// What follows IN.
@@ -129,13 +137,21 @@ impl<F: Fn(Global, &mut Reader<'_>, usize) -> Result<Mixed<Cond>, Stop>> Grammar
         tokens.open(self.left)?;
         if tokens.sees_word(Word::Select) {
             let query = self.inner_query(tokens)?;
-            tokens.expect(Symbol::Close)?;
+            if let Err(stop) = tokens.expect(Symbol::Close) {
+                drop(query);
+                return Err(stop);
+            }
             let query = Boxed::new(self.alloc, query)?;
             return Ok(Tail::InQuery(negated, query));
         }
         let values = self.inner_exprs(tokens)?;
-        tokens.expect(Symbol::Close)?;
-        Ok(Tail::InList(negated, values))
+        match tokens.expect(Symbol::Close) {
+            Ok(()) => Ok(Tail::InList(negated, values)),
+            Err(stop) => {
+                drop(values);
+                Err(stop)
+            }
+        }
     }
 
     /// `LIKE expr [ ESCAPE expr ]`, whose first word is read already.
@@ -145,8 +161,13 @@ impl<F: Fn(Global, &mut Reader<'_>, usize) -> Result<Mixed<Cond>, Stop>> Grammar
         ensures no_longer { OnOk result (length tokens.new ≤ length tokens.old) }
     {
         let pattern = expr(self.alloc, tokens, self.left)?;
-        let escape = escape(self.alloc, tokens, self.left)?;
-        Ok(Tail::Like(negated, pattern, escape))
+        match escape(self.alloc, tokens, self.left) {
+            Ok(escape) => Ok(Tail::Like(negated, pattern, escape)),
+            Err(stop) => {
+                drop(pattern);
+                Err(stop)
+            }
+        }
     }
 
     /// What may stand behind NOT.

@@ -4,6 +4,7 @@ ghost use Rattle.std.specs.Prelude.{◌≡◌, ◌<◌, ◌≤◌, length, OnOk}
 ghost use Rattle.sq_lex.specs.declared.lexeme.Lexeme.TheVariants as lexeme;
 ghost use Rattle.sq_lex.specs.declared.word.Word.TheVariants as word;
 ghost use Rattle.sq_phrase.specs.Nests.{Nests};
+ghost use Rattle.sq_grammar.specs.declared.brackets.TheConstants.{MAX_DEPTH};
 ghost use Rattle.sq_grammar.specs.Query as spec;
 ghost use Rattle.sq_grammar.specs.Reading.{all, behind};
 ghost use Rattle.sq_reader.specs.Reads.{Reads};
@@ -46,7 +47,10 @@ impl<F: Fn(Global, &mut Reader<'_>, usize) -> Result<Query, Stop>> Grammar<F> {
         let query = self.inner_query(tokens)?;
         match tokens.expect(Symbol::Close) {
             Ok(()) => Ok(query),
-            Err(stop) => Err(stop),
+            Err(stop) => {
+                drop(query);
+                Err(stop)
+            }
         }
     }
 
@@ -64,7 +68,7 @@ impl<F: Fn(Global, &mut Reader<'_>, usize) -> Result<Query, Stop>> Grammar<F> {
     #[tactic(auto, unfolding(sq_grammar::specs::Query::query_term))]
     fn query_term(&self, tokens: &mut Reader<'_>) -> Result<QueryTerm, Stop>
         requires nests { Nests spec.inside self.now.left (F.pre self.now.inner) (F.post self.now.inner) }
-        requires small { self.now.left ≤ 32 }
+        requires small { self.now.left ≤ MAX_DEPTH }
         ensures value { Reads (spec.query_term self.now.left (spec.inside self.now.left) tokens.old) result tokens.new }
         ensures shorter { OnOk result (length tokens.new < length tokens.old) }
     {
@@ -78,7 +82,7 @@ impl<F: Fn(Global, &mut Reader<'_>, usize) -> Result<Query, Stop>> Grammar<F> {
     #[tactic(auto, unfolding(sq_grammar::specs::Query::union_term))]
     fn union_term(&self, tokens: &mut Reader<'_>) -> Result<UnionTerm, Stop>
         requires nests { Nests spec.inside self.now.left (F.pre self.now.inner) (F.post self.now.inner) }
-        requires small { self.now.left ≤ 32 }
+        requires small { self.now.left ≤ MAX_DEPTH }
         ensures value { Reads (spec.union_term self.now.left (spec.inside self.now.left) tokens.old) result tokens.new }
         ensures shorter { OnOk result (length tokens.new < length tokens.old) }
     {
@@ -91,7 +95,7 @@ impl<F: Fn(Global, &mut Reader<'_>, usize) -> Result<Query, Stop>> Grammar<F> {
     #[tactic(auto, using(sq_grammar::proofs::Many::loops))]
     fn more_terms(&self, tokens: &mut Reader<'_>) -> Result<Items<UnionTerm>, Stop>
         requires nests { Nests spec.inside self.now.left (F.pre self.now.inner) (F.post self.now.inner) }
-        requires small { self.now.left ≤ 32 }
+        requires small { self.now.left ≤ MAX_DEPTH }
         ensures value { Reads (all (behind (lexeme.Word word.Union) (spec.union_term self.now.left (spec.inside self.now.left))) tokens.old) result tokens.new }
         ensures no_longer { OnOk result (length tokens.new ≤ length tokens.old) }
     {
@@ -106,14 +110,17 @@ impl<F: Fn(Global, &mut Reader<'_>, usize) -> Result<Query, Stop>> Grammar<F> {
     #[tactic(auto, unfolding(sq_grammar::specs::Query::level))]
     fn query(&self, tokens: &mut Reader<'_>) -> Result<Query, Stop>
         requires nests { Nests spec.inside self.now.left (F.pre self.now.inner) (F.post self.now.inner) }
-        requires small { self.now.left ≤ 32 }
+        requires small { self.now.left ≤ MAX_DEPTH }
         ensures value { Reads (spec.level self.now.left (spec.inside self.now.left) tokens.old) result tokens.new }
         ensures shorter { OnOk result (length tokens.new < length tokens.old) }
     {
         let first = self.query_term(tokens)?;
         match self.more_terms(tokens) {
             Ok(rest) => Ok(Query { first, rest }),
-            Err(stop) => Err(stop),
+            Err(stop) => {
+                drop(first);
+                Err(stop)
+            }
         }
     }
 }
@@ -121,7 +128,7 @@ impl<F: Fn(Global, &mut Reader<'_>, usize) -> Result<Query, Stop>> Grammar<F> {
 /// A query expression behind a bracket, which is one of the `left` that could be opened before it.
 fn inner(alloc: Global, tokens: &mut Reader<'_>, left: usize) -> Result<Query, Stop>
     requires some { 0 < left }
-    requires small { left ≤ 32 }
+    requires small { left ≤ MAX_DEPTH }
     ensures value { Reads (spec.inside left tokens.old) result tokens.new }
     ensures shorter { OnOk result (length tokens.new < length tokens.old) }
 {
@@ -135,7 +142,7 @@ fn inner(alloc: Global, tokens: &mut Reader<'_>, left: usize) -> Result<Query, S
 
 /// A query expression in which `left` brackets may be open at once (ISO/IEC 9075:1992, 7.10).
 pub fn query(alloc: Global, tokens: &mut Reader<'_>, left: usize) -> Result<Query, Stop>
-    requires { left ≤ 32 }
+    requires { left ≤ MAX_DEPTH }
     ensures value { Reads (spec.query left tokens.old) result tokens.new }
     ensures shorter { OnOk result (length tokens.new < length tokens.old) }
 {

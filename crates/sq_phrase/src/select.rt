@@ -1,6 +1,7 @@
 //! Query specifications.
 
 ghost use Rattle.std.specs.Prelude.{◌≡◌, ◌<◌, ◌≤◌, ◌+◌, length, IfOk, OnOk, OnSome};
+ghost use Rattle.sq_grammar.specs.declared.brackets.TheConstants.{MAX_DEPTH};
 ghost use Rattle.sq_grammar.specs.Cond as conditions;
 ghost use Rattle.sq_grammar.specs.Cond.{strictly};
 ghost use Rattle.sq_grammar.specs.Expr as expressions;
@@ -152,15 +153,35 @@ impl<F: Fn(Global, &mut Reader<'_>, usize) -> Result<Mixed<Cond>, Stop>> Grammar
         ensures shorter { OnOk result (length tokens.new < length tokens.old) }
     {
         let from = from_clause(self.alloc, tokens)?;
-        let where_clause = self.where_clause(tokens)?;
-        let group_by = group_by(self.alloc, tokens)?;
-        let having = self.having_clause(tokens)?;
-        Ok(TableExpression {
-            from,
-            where_clause,
-            group_by,
-            having,
-        })
+        let where_clause = match self.where_clause(tokens) {
+            Ok(where_clause) => where_clause,
+            Err(stop) => {
+                drop(from);
+                return Err(stop);
+            }
+        };
+        let group_by = match group_by(self.alloc, tokens) {
+            Ok(group_by) => group_by,
+            Err(stop) => {
+                drop(from);
+                drop(where_clause);
+                return Err(stop);
+            }
+        };
+        match self.having_clause(tokens) {
+            Ok(having) => Ok(TableExpression {
+                from,
+                where_clause,
+                group_by,
+                having,
+            }),
+            Err(stop) => {
+                drop(from);
+                drop(where_clause);
+                drop(group_by);
+                Err(stop)
+            }
+        }
     }
 
     /// A query specification behind a bracket.
@@ -174,12 +195,17 @@ impl<F: Fn(Global, &mut Reader<'_>, usize) -> Result<Mixed<Cond>, Stop>> Grammar
         tokens.expect_word(Word::Select)?;
         let quantifier = quantifier_if_any(tokens);
         let list = self.select_list(tokens)?;
-        let table = self.table_expression(tokens)?;
-        Ok(QuerySpecification {
-            quantifier,
-            list,
-            table,
-        })
+        match self.table_expression(tokens) {
+            Ok(table) => Ok(QuerySpecification {
+                quantifier,
+                list,
+                table,
+            }),
+            Err(stop) => {
+                drop(list);
+                Err(stop)
+            }
+        }
     }
 
     /// `"(" spec ")"`.
@@ -191,8 +217,13 @@ impl<F: Fn(Global, &mut Reader<'_>, usize) -> Result<Mixed<Cond>, Stop>> Grammar
     {
         tokens.open(self.left)?;
         let query = self.inner_query(tokens)?;
-        tokens.expect(Symbol::Close)?;
-        Ok(query)
+        match tokens.expect(Symbol::Close) {
+            Ok(()) => Ok(query),
+            Err(stop) => {
+                drop(query);
+                Err(stop)
+            }
+        }
     }
 }
 
@@ -200,7 +231,7 @@ impl<F: Fn(Global, &mut Reader<'_>, usize) -> Result<Mixed<Cond>, Stop>> Grammar
 ///
 /// It is read as behind a bracket that is one of `left + 1`, so the rules stand once.
 pub fn select_list(alloc: Global, tokens: &mut Reader<'_>, left: usize) -> Result<SelectList, Stop>
-    requires { left ≤ 32 }
+    requires { left ≤ MAX_DEPTH }
     ensures value { Reads (spec.select_list (expressions.expr left) tokens.old) result tokens.new }
     ensures shorter { OnOk result (length tokens.new < length tokens.old) }
 {
@@ -218,7 +249,7 @@ pub fn table_expression(
     tokens: &mut Reader<'_>,
     left: usize,
 ) -> Result<TableExpression, Stop>
-    requires { left ≤ 32 }
+    requires { left ≤ MAX_DEPTH }
     ensures value { Reads (spec.table_expression (conditions.cond left) tokens.old) result tokens.new }
     ensures shorter { OnOk result (length tokens.new < length tokens.old) }
 {
@@ -236,7 +267,7 @@ pub fn query_specification(
     tokens: &mut Reader<'_>,
     left: usize,
 ) -> Result<QuerySpecification, Stop>
-    requires { left ≤ 32 }
+    requires { left ≤ MAX_DEPTH }
     ensures value { Reads (conditions.query_specification left tokens.old) result tokens.new }
     ensures shorter { OnOk result (length tokens.new < length tokens.old) }
 {

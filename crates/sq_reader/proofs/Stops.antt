@@ -13,10 +13,6 @@ more_stops parser xs now mid found r (Unfit n) read e there s =
     let h : eat comma now ≡ Ok (true, mid) = e ∙ ap (λ b. Ok (b, mid)) there in
     front-err (behind comma parser) xs now r n read (rw h (rw s refl))
 
-pub item_stops : {A : Type 0} (parser : Parser (Option A)) (xs : List A) (now : Tokens) (r : Outcome (List A)) (stop : Stop) → with_front xs (all parser now) ≡ r → Stops (parser now) stop → Stops r stop
-item_stops parser xs now r NoMemory read s = tt
-item_stops parser xs now r (Unfit n) read s = front-err parser xs now r n read s
-
 -- A stop at a later part, and at this one.
 pub stops_after : {A B : Type 0} (p : Parser A) (f : A → Parser B) (ts mid : Tokens) (x : A) (stop : Stop) → p ts ≡ Ok (x, mid) → Stops (f x mid) stop → Stops ((p >>= f) ts) stop
 stops_after p f ts mid x NoMemory e s = tt

@@ -1,4 +1,5 @@
-//! Lists with commas, over what reads an item.
+//! Lists with commas, over what reads an item. Where an item stops, a `match` and not `?` ends the list, so that the proof
+//! has a name for the stop.
 
 ghost use Rattle.std.specs.Prelude.{◌≡◌, ◌<◌, ◌≤◌, Option, length, OnOk};
 ghost use Rattle.sq_reader.specs.List.{Advances, AdvancesIfAny, Follows};

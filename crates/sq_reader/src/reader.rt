@@ -248,17 +248,11 @@ impl<'a> Reader<'a> {
     }
 }
 
-fn symbol_place(symbol: Symbol) -> u8
-    ensures { result ≡ spec.symbol_place symbol }
-{
-    symbol as u8
-}
-
 fn is_symbol(lexeme: &Lexeme, symbol: Symbol) -> bool
     ensures { result ≡ spec.is_symbol symbol lexeme.now }
 {
     match lexeme {
-        Lexeme::Symbol(first) => symbol_place(*first) == symbol_place(symbol),
+        Lexeme::Symbol(first) => first.is(symbol),
         _ => false,
     }
 }

@@ -10,7 +10,7 @@ use std::alloc::{AllocError, AllocFailed};
 pub enum Stop {
     /// Memory ran out.
     NoMemory,
-    /// The next token does not fit; so many tokens are left, that one counted.
+    /// The next token does not fit; how many tokens are left, this one included.
     Unfit(usize),
 }
 

@@ -9,15 +9,15 @@ use Rattle.sq_first.specs.declared.script.Item.{Item}
 use Rattle.sq_first.specs.declared.script.Item.TheVariants as item
 use Rattle.sq_first.specs.declared.script.Call.{Call}
 use Rattle.sq_first.specs.declared.script.TableItem.{TableItem}
-use Rattle.sq_model.specs.declared.program.Action.{Action}
-use Rattle.sq_model.specs.declared.program.Action.TheVariants.{Call as Calls, Show}
-use Rattle.sq_model.specs.declared.program.BoundModule.{BoundModule}
-use Rattle.sq_model.specs.declared.program.BoundProcedure.{BoundProcedure}
-use Rattle.sq_model.specs.declared.program.BoundStatement.{BoundStatement}
-use Rattle.sq_model.specs.declared.program.BoundStatement.TheVariants.{Insert, Open, Fetch, Close}
-use Rattle.sq_model.specs.Program.{◌>>=◌, guarded, each_known, same_name, table_of, named}
-use Rattle.sq_model.specs.Machine.{is_among}
-use Rattle.sq_model.specs.Script.{action_of, called, called_in, called_at, shown, started, arguments_of, procedure_place, procedures_of, can_perform, all_among, table_count, schema_table}
+use Rattle.sq_first.specs.declared.program.Action.{Action}
+use Rattle.sq_first.specs.declared.program.Action.TheVariants.{Call as Calls, Show}
+use Rattle.sq_first.specs.declared.program.BoundModule.{BoundModule}
+use Rattle.sq_first.specs.declared.program.BoundProcedure.{BoundProcedure}
+use Rattle.sq_first.specs.declared.program.BoundStatement.{BoundStatement}
+use Rattle.sq_first.specs.declared.program.BoundStatement.TheVariants.{Insert, Open, Fetch, Close}
+use Rattle.sq_first.specs.Program.{◌>>=◌, guarded, each_known, same_name, table_of, named}
+use Rattle.sq_first.specs.Machine.{is_among}
+use Rattle.sq_first.specs.Script.{action_of, called, called_in, called_at, shown, started, arguments_of, procedure_place, procedures_of, can_perform, all_among, table_count, schema_table}
 
 none_is_some : {A : Type 0} (x : A) → None ≡ Some x → ⊥
 none_is_some x e = cc

@@ -4,10 +4,10 @@ use Rattle.std.proofs.lemmas.List.{take_more, set-get_or, append-nil}
 use Rattle.std.specs.List.{filter_map}
 use Rattle.std.proofs.lemmas.List.Elements.{filter_map-append}
 use Rattle.std.proofs.lemmas.Grind.{common_steps}
-use Rattle.sq_model.specs.Program.{each_known}
-use Rattle.sq_model.specs.Machine.{is_among}
-use Rattle.sq_model.specs.Script.{all_among}
-use Rattle.sq_model.specs.declared.program.BoundProcedure.{BoundProcedure}
+use Rattle.sq_first.specs.Program.{each_known}
+use Rattle.sq_first.specs.Machine.{is_among}
+use Rattle.sq_first.specs.Script.{all_among}
+use Rattle.sq_first.specs.declared.program.BoundProcedure.{BoundProcedure}
 
 -- where the first element is known and those after it are
 step : {A B : Type 0} (f : A → Option B) (z : A) (zs : List A) (y : B) (ys : List B) → f z ≡ Some y → each_known f zs ≡ Some ys → each_known f (z ∷ zs) ≡ Some (y ∷ ys)

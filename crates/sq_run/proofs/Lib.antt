@@ -1,6 +1,7 @@
 pub mod Can
 pub mod Known
 pub mod Named
+pub mod NoKeys
 pub mod Pushed
 pub mod Refused
 pub mod Runs

@@ -5,11 +5,11 @@ use Rattle.std.proofs.lemmas.Grind.{common_steps}
 use Rattle.std.proofs.lemmas.Bool.Decides.{nat_tests}
 use Rattle.std.proofs.lemmas.Option.{slice_get_read}
 use Rattle.sq_lex.specs.declared.name.Name.{Name}
-use Rattle.sq_model.specs.Program.{place_in, same_name, cursor_place}
-use Rattle.sq_model.specs.Script.{procedure_place, called_in, called_at}
+use Rattle.sq_first.specs.Program.{place_in, same_name, cursor_place}
+use Rattle.sq_first.specs.Script.{procedure_place, called_in, called_at}
 use Rattle.sq_first.specs.declared.script.Call.{Call}
-use Rattle.sq_model.specs.declared.program.BoundCursor.{BoundCursor}
-use Rattle.sq_model.specs.declared.program.BoundProcedure.{BoundProcedure}
+use Rattle.sq_first.specs.declared.program.BoundCursor.{BoundCursor}
+use Rattle.sq_first.specs.declared.program.BoundProcedure.{BoundProcedure}
 
 position-map : {A B : Type 0} (f : A → B) (test : B → Bool) (xs : List A) → position (λ x. test (f x)) xs ≡ position test (map f xs)
 position-map f test [] = refl

@@ -9,7 +9,7 @@ use Rattle.std.proofs.lemmas.Bool.Decides.{nat_tests}
 use Rattle.std.proofs.lemmas.List.Folds.{position_or_len_push}
 use Rattle.std.specs.List.{position_or_len}
 use Rattle.sq_lex.specs.declared.name.Name.{Name}
-use Rattle.sq_model.specs.Program.{place_in, same_name}
+use Rattle.sq_first.specs.Program.{place_in, same_name}
 use Rattle.sq_run.specs.Places.{HasPlaces}
 
 first_within : {A : Type 0} (test : A → Bool) (xs : List A) → position_or_len test xs ≤ length xs

@@ -4,16 +4,16 @@ use Rattle.std.proofs.lemmas.List.{take_more, append-nil, take-append-drop, drop
 use Rattle.std.proofs.lemmas.Grind.{common_steps, fold-append}
 use Rattle.std.specs.List.{list_all}
 use Rattle.std.specs.Io.KnownBytes.{Appends}
-use Rattle.sq_model.specs.declared.cursor.CursorState.{CursorState}
-use Rattle.sq_model.specs.declared.cursor.CursorState.TheVariants.{Closed}
-use Rattle.sq_model.specs.declared.program.Action.{Action}
-use Rattle.sq_model.specs.declared.program.Action.TheVariants.{Call, Show}
-use Rattle.sq_model.specs.declared.program.BoundProcedure.{BoundProcedure}
-use Rattle.sq_model.specs.declared.program.BoundStatement.{BoundStatement}
-use Rattle.sq_model.specs.declared.program.BoundStatement.TheVariants.{Insert, Open, Fetch, Close}
-use Rattle.sq_model.specs.Machine.{State, Values, stepped, has_number, is_open, cursor_at, with_row, with_cursor, row_of, opened, the_table, advanced}
-use Rattle.sq_model.specs.Script.{performed, after, stepped_by, statement_at}
-use Rattle.sq_model.specs.Report.{Bytes, action_lines, report}
+use Rattle.sq_first.specs.declared.cursor.CursorState.{CursorState}
+use Rattle.sq_first.specs.declared.cursor.CursorState.TheVariants.{Closed}
+use Rattle.sq_first.specs.declared.program.Action.{Action}
+use Rattle.sq_first.specs.declared.program.Action.TheVariants.{Call, Show}
+use Rattle.sq_first.specs.declared.program.BoundProcedure.{BoundProcedure}
+use Rattle.sq_first.specs.declared.program.BoundStatement.{BoundStatement}
+use Rattle.sq_first.specs.declared.program.BoundStatement.TheVariants.{Insert, Open, Fetch, Close}
+use Rattle.sq_first.specs.Machine.{State, Values, stepped, has_number, is_open, cursor_at, with_row, with_cursor, row_of, opened, the_table, advanced}
+use Rattle.sq_first.specs.Script.{performed, after, stepped_by, statement_at}
+use Rattle.sq_first.specs.Report.{Bytes, action_lines, report}
 
 -- ---- the report
 
@@ -72,7 +72,7 @@ stopped_write ps s items i a taken written old mid new lines lt e l w before les
 -- ---- the state keeps its tables and cursors
 
 pub record SameShape (s t : State) : Type 0 where
-  pub tables : length t.now ≡ length s.now
+  pub tables : length t.tables ≡ length s.tables
   pub cursors : length t.cursors ≡ length s.cursors
 
 either_shape : (s t u : State) (b : Bool) → SameShape s t → SameShape s u → SameShape s (if b then t else u)
@@ -86,7 +86,7 @@ pub shape_then : (s t u : State) → SameShape s t → SameShape t u → SameSha
 shape_then s t u p q = record { tables = q.tables ∙ p.tables; cursors = q.cursors ∙ p.cursors }
 
 with_row_shape : (s : State) (row : Values) → SameShape s (with_row s row)
-with_row_shape s row = record { tables = length-set s.now 0 _; cursors = refl }
+with_row_shape s row = record { tables = length-set s.tables 0 _; cursors = refl }
 
 with_cursor_shape : (s : State) (place : ℕ) (c : CursorState) → SameShape s (with_cursor s place c)
 with_cursor_shape s place c = record { tables = refl; cursors = length-set s.cursors place c }

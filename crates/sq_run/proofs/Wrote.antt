@@ -2,8 +2,8 @@
 use Rattle.std.proofs.Common.{◌≡◌, ℕ, zero, suc, List, Option, Result, Ok, Err, refl, true, false}
 use Rattle.std.specs.Prelude.{OnOk, IfErr}
 use Rattle.std.specs.Io.KnownBytes.{Appends}
-use Rattle.sq_model.specs.Script.{procedures_of, first_state}
-use Rattle.sq_model.specs.Report.{Bytes, report}
+use Rattle.sq_first.specs.Script.{procedures_of, first_state}
+use Rattle.sq_first.specs.Report.{Bytes, report}
 use Rattle.sq_run.specs.declared.prepare.Prepared.{Prepared}
 use Rattle.sq_run.specs.declared.refusal.RunFault.{RunFault}
 use Rattle.sq_run.specs.declared.refusal.RunFault.TheVariants.{SchemaRefused, ModuleRefused, ScriptRefused, Write, NoMemory}

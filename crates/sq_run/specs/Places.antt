@@ -4,9 +4,9 @@ use Rattle.std.specs.BTreeMap.{BTreeMap, get}
 use Rattle.std.specs.Ordering.{nat_cmp}
 use Rattle.std.specs.Cmp.Lexicographic.{slice_cmp}
 use Rattle.sq_lex.specs.declared.name.Name.{Name}
-use Rattle.sq_model.specs.Program.{place_in}
-use Rattle.sq_model.specs.declared.program.BoundCursor.{BoundCursor}
-use Rattle.sq_model.specs.declared.program.BoundProcedure.{BoundProcedure}
+use Rattle.sq_first.specs.Program.{place_in}
+use Rattle.sq_first.specs.declared.program.BoundCursor.{BoundCursor}
+use Rattle.sq_first.specs.declared.program.BoundProcedure.{BoundProcedure}
 
 -- the map has the place of the first of each name
 abbrev pub HasPlaces : BTreeMap Name ℕ → List Name → Type 0

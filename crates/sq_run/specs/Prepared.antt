@@ -6,8 +6,8 @@ use Rattle.sq_tree.specs.Module.{module_tokens}
 use Rattle.sq_tree.specs.Script.{script_tokens}
 use Rattle.sq_part.specs.Schema.{first_schema}
 use Rattle.sq_part.specs.Module.{first_module}
-use Rattle.sq_model.specs.Script.{IsBound, action_of, can_perform, cursors_of, procedures_of, table_count, schema_table}
-use Rattle.sq_model.specs.Report.{Bytes}
+use Rattle.sq_first.specs.Script.{IsBound, action_of, can_perform, cursors_of, procedures_of, table_count, schema_table}
+use Rattle.sq_first.specs.Report.{Bytes}
 use Rattle.sq_run.specs.Run.{Says, SaysAtMostOne, some_script}
 use Rattle.sq_run.specs.declared.prepare.Prepared.{Prepared}
 

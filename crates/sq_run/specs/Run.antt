@@ -16,10 +16,10 @@ use Rattle.sq_first.specs.declared.module_text.Module.{Module}
 use Rattle.sq_first.specs.declared.script.Script.{Script}
 use Rattle.sq_first.specs.declared.script.Item.{Item}
 use Rattle.sq_lex.specs.declared.lexeme.Lexeme.{Lexeme}
-use Rattle.sq_model.specs.declared.program.BoundModule.{BoundModule}
-use Rattle.sq_model.specs.declared.program.Action.{Action}
-use Rattle.sq_model.specs.Script.{IsBound, action_of, first_state, procedures_of}
-use Rattle.sq_model.specs.Report.{Bytes, report}
+use Rattle.sq_first.specs.declared.program.BoundModule.{BoundModule}
+use Rattle.sq_first.specs.declared.program.Action.{Action}
+use Rattle.sq_first.specs.Script.{IsBound, action_of, first_state, procedures_of}
+use Rattle.sq_first.specs.Report.{Bytes, report}
 
 -- the bytes of each text
 abbrev pub texts : List (Vec ℕ Global) → List Bytes
@@ -30,6 +30,12 @@ pub record Spells (text : Bytes) (lexed : List Lexeme) : Type 0 where
   pub tokens : List Token
   pub read : reading text ≡ Ok tokens
   pub same : lexemes tokens ≡ lexed
+
+-- tokens of a tree, out of which this part of the first language is taken
+pub record TokensSay {A B : Type 0} (tokens_of : A → List Lexeme) (part : A → Option B) (tokens : List Lexeme) (said : B) : Type 0 where
+  pub tree : A
+  pub spelled : tokens ≡ tokens_of tree
+  pub taken : part tree ≡ Some said
 
 -- a text that spells a tree, out of which this part of the first language is taken
 pub record Says {A B : Type 0} (tokens : A → List Lexeme) (part : A → Option B) (text : Bytes) (said : B) : Type 0 where

@@ -1,15 +1,15 @@
 -- How a run stops before its end.
 use Rattle.std.specs.Prelude.{◌≡◌, ◌<◌, ℕ, zero, suc, Bool, true, false, List, length, take, Option}
 use Rattle.std.specs.Io.KnownBytes.{Appends}
-use Rattle.sq_model.specs.Machine.{State}
-use Rattle.sq_model.specs.Report.{Bytes, report}
-use Rattle.sq_model.specs.declared.program.Action.{Action}
-use Rattle.sq_model.specs.declared.program.BoundProcedure.{BoundProcedure}
+use Rattle.sq_first.specs.Machine.{State}
+use Rattle.sq_first.specs.Report.{Bytes, report}
+use Rattle.sq_first.specs.declared.program.Action.{Action}
+use Rattle.sq_first.specs.declared.program.BoundProcedure.{BoundProcedure}
 use Rattle.sq_run.specs.Run.{Run, report_of, report_of_first}
 use Rattle.sq_run.specs.declared.refusal.RunFault.{RunFault}
 use Rattle.sq_run.specs.declared.refusal.RunFault.TheVariants.{SchemaRefused, ModuleRefused, ScriptRefused, Write, NoMemory}
 
--- a refusal, or want of memory before the first item's lines were written
+-- a refusal, or running out of memory before the first item's lines were written
 abbrev pub is_early : RunFault → Bool
 is_early (SchemaRefused refusal) = true
 is_early (ModuleRefused refusal) = true

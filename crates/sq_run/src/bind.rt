@@ -3,24 +3,24 @@ ghost use Rattle.std.specs.Prelude.{◌≡◌, ◌<◌, Some, true, length, IfOk
 ghost use Rattle.std.specs.Option.{option_copied};
 ghost use Rattle.std.specs.List.{filter_map};
 ghost use Rattle.sq_first.specs.ModuleText as spec;
-ghost use Rattle.sq_model.specs.Program as model;
-ghost use Rattle.sq_model.specs.Machine.{is_among};
-ghost use Rattle.sq_model.specs.Script.{table_count};
-ghost use Rattle.sq_model.specs.Program.{each_known};
+ghost use Rattle.sq_first.specs.Program as program;
+ghost use Rattle.sq_first.specs.Machine.{is_among};
+ghost use Rattle.sq_first.specs.Script.{table_count};
+ghost use Rattle.sq_first.specs.Program.{each_known};
 ghost use Rattle.sq_run.specs.Places.{cursor_names};
 
 use crate::places::Places;
 use sq_first::{
-    Cursor, FetchStatement, Names, Parameter, Procedure, Schema, Statement, TableDefinition,
+    BoundCursor, BoundFetch, BoundProcedure, BoundStatement, Cursor, FetchStatement, Names,
+    Parameter, Procedure, Schema, Statement, TableDefinition, Target,
 };
 use sq_items::Items;
 use sq_lex::Name;
-use sq_model::{BoundCursor, BoundFetch, BoundProcedure, BoundStatement, Target};
 use std::alloc::{AllocError, Global};
 
 /// The schema's table, where it is this user's.
 pub(crate) fn table_of<'a>(schema: Option<&'a Schema>, user: Name) -> Option<&'a TableDefinition>
-    ensures { option_copied result ≡ model.table_of (option_copied schema.entry) user }
+    ensures { option_copied result ≡ program.table_of (option_copied schema.entry) user }
 {
     let schema = schema?;
     if schema.user == user {
@@ -32,7 +32,7 @@ pub(crate) fn table_of<'a>(schema: Option<&'a Schema>, user: Name) -> Option<&'a
 
 /// The table, where it has this name.
 pub(crate) fn named<'a>(own: Option<&'a TableDefinition>, name: Name) -> Option<&'a TableDefinition>
-    ensures { option_copied result ≡ model.named (option_copied own.entry) name }
+    ensures { option_copied result ≡ program.named (option_copied own.entry) name }
 {
     let table = own?;
     if table.name == name {
@@ -53,7 +53,7 @@ fn names_of(alloc: Global, names: &Names) -> Result<Vec<Name>, AllocError>
 }
 
 pub(crate) fn column_names(alloc: Global, table: &TableDefinition) -> Result<Vec<Name>, AllocError>
-    ensures { IfOk result (λ names. names.items ≡ model.column_names table.now) }
+    ensures { IfOk result (λ names. names.items ≡ program.column_names table.now) }
 {
     let mut names = Vec::new(alloc);
     names.push(table.columns.first.name)?;
@@ -66,7 +66,7 @@ pub(crate) fn column_names(alloc: Global, table: &TableDefinition) -> Result<Vec
 /// The named parameters, in order of declaration.
 #[tactic(auto, using(crate::proofs::Known::knowns, std::proofs::lemmas::Grind::common_steps))]
 pub(crate) fn parameter_names(alloc: Global, procedure: &Procedure) -> Result<Vec<Name>, AllocError>
-    ensures { IfOk result (λ names. names.items ≡ model.parameter_names procedure.now) }
+    ensures { IfOk result (λ names. names.items ≡ program.parameter_names procedure.now) }
 {
     let mut names = Vec::new(alloc);
     if let Parameter::Named(name, _) = &procedure.parameters.first {
@@ -81,7 +81,7 @@ pub(crate) fn parameter_names(alloc: Global, procedure: &Procedure) -> Result<Ve
 }
 
 fn place_in(names: &[Name], name: Name) -> Option<usize>
-    ensures place { result ≡ model.place_in names.now name }
+    ensures place { result ≡ program.place_in names.now name }
     ensures within { IfSome result (λ place. place < length names.now) }
 {
     names.iter().position(|n| *n == name)
@@ -94,7 +94,7 @@ fn places_of(
     names: &[Name],
     wanted: &[Name],
 ) -> Result<Option<Items<usize>>, AllocError>
-    ensures { IfOk result (λ found. IfSome found (λ places. each_known (model.place_in names.now) wanted.now ≡ Some places)) }
+    ensures { IfOk result (λ found. IfSome found (λ places. each_known (program.place_in names.now) wanted.now ≡ Some places)) }
 {
     let mut places = Items::new(alloc);
     for name in wanted {
@@ -113,7 +113,7 @@ pub(crate) fn bind_cursor(
     cursor: &Cursor,
 ) -> Result<Option<BoundCursor>, AllocError>
     ensures own_table { IfOk result (λ found. IsSome found → IsSome own.entry) }
-    ensures bound { IfOk result (λ found. IfSome found (λ bound. model.bound_cursor (option_copied own.entry) cursor.now ≡ Some bound)) }
+    ensures bound { IfOk result (λ found. IfSome found (λ bound. program.bound_cursor (option_copied own.entry) cursor.now ≡ Some bound)) }
     ensures name { IfOk result (λ found. IfSome found (λ bound. bound.name ≡ cursor.now.name)) }
 {
     let Some(table) = named(own, cursor.table) else {
@@ -138,7 +138,7 @@ fn bind_insert(
     values: &Names,
 ) -> Result<Option<BoundStatement>, AllocError>
     ensures own_table { IfOk result (λ found. IsSome found → IsSome own.entry) }
-    ensures bound { IfOk result (λ found. IfSome found (λ bound. model.bound_insert (option_copied own.entry) parameters.now table (spec.names_of values.now) ≡ Some bound)) }
+    ensures bound { IfOk result (λ found. IfSome found (λ bound. program.bound_insert (option_copied own.entry) parameters.now table (spec.names_of values.now) ≡ Some bound)) }
 {
     let Some(table) = named(own, table) else {
         return Ok(None);
@@ -164,7 +164,7 @@ fn bind_fetch(
 ) -> Result<Option<BoundStatement>, AllocError>
     requires { places.now ≡ cursor_names cursors.now }
     ensures among { IfOk result (λ found. IfSome found (λ bound. is_among 1 (length cursors.now) bound ≡ true)) }
-    ensures bound { IfOk result (λ found. IfSome found (λ bound. model.bound_fetch cursors.now parameters.now fetch.now ≡ Some bound)) }
+    ensures bound { IfOk result (λ found. IfSome found (λ bound. program.bound_fetch cursors.now parameters.now fetch.now ≡ Some bound)) }
 {
     let Some(place) = places.place(fetch.cursor) else {
         return Ok(None);
@@ -190,7 +190,7 @@ fn targets_of(
     columns: &[usize],
 ) -> Result<Items<Target>, AllocError>
     requires { length targets.now ≡ length columns.now }
-    ensures { IfOk result (λ found. found ≡ filter_map (model.target_of targets.now columns.now) parameters.now) }
+    ensures { IfOk result (λ found. found ≡ filter_map (program.target_of targets.now columns.now) parameters.now) }
 {
     let mut found = Items::new(alloc);
     for name in parameters {
@@ -217,7 +217,7 @@ fn bind_statement(
     requires own_table { 0 < length cursors.now → IsSome own }
     requires names { places.now ≡ cursor_names cursors.now }
     ensures among { IfOk result (λ found. IfSome found (λ bound. is_among (table_count (option_copied own.entry)) (length cursors.now) bound ≡ true)) }
-    ensures bound { IfOk result (λ found. IfSome found (λ bound. model.bound_statement (option_copied own.entry) cursors.now parameters.now statement.now ≡ Some bound)) }
+    ensures bound { IfOk result (λ found. IfSome found (λ bound. program.bound_statement (option_copied own.entry) cursors.now parameters.now statement.now ≡ Some bound)) }
 {
     match statement {
         Statement::Insert(table, values) => bind_insert(alloc, own, parameters, *table, values),
@@ -238,7 +238,7 @@ pub(crate) fn bind_procedure(
     requires own_table { 0 < length cursors.now → IsSome own }
     requires names { places.now ≡ cursor_names cursors.now }
     ensures among { IfOk result (λ found. IfSome found (λ bound. is_among (table_count (option_copied own.entry)) (length cursors.now) bound.statement ≡ true)) }
-    ensures bound { IfOk result (λ found. IfSome found (λ bound. model.bound_procedure (option_copied own.entry) cursors.now procedure.now ≡ Some bound)) }
+    ensures bound { IfOk result (λ found. IfSome found (λ bound. program.bound_procedure (option_copied own.entry) cursors.now procedure.now ≡ Some bound)) }
 {
     let parameters = parameter_names(alloc, procedure)?;
     let names = parameters.as_slice();

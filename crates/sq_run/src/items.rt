@@ -1,9 +1,9 @@
 //! Looking up the names of a script's items.
 ghost use Rattle.std.specs.Prelude.{◌≡◌, Some, IfErr, IfOk, IfSome};
 ghost use Rattle.std.specs.Option.{option_copied};
-ghost use Rattle.sq_model.specs.Script as model;
-ghost use Rattle.sq_model.specs.Script.{procedures_of};
-ghost use Rattle.sq_model.specs.Program.{each_known};
+ghost use Rattle.sq_first.specs.Script as scripts;
+ghost use Rattle.sq_first.specs.Script.{procedures_of};
+ghost use Rattle.sq_first.specs.Program.{each_known};
 ghost use Rattle.std.specs.Result.{result_ok};
 ghost use Rattle.sq_value.specs.Storing as spec;
 ghost use Rattle.sq_run.specs.Fault.{IsItemMeaning};
@@ -12,9 +12,11 @@ ghost use Rattle.sq_run.specs.Places.{procedure_names};
 use crate::bind::{named, table_of};
 use crate::places::Places;
 use crate::refusal::RefusalName;
-use sq_first::{Argument, Arguments, Call, Item, Schema, Sign, TableItem};
+use sq_first::{
+    Action, Argument, Arguments, BoundModule, BoundProcedure, Call, CallAction, Item, Schema, Sign,
+    TableItem,
+};
 use sq_items::Items;
-use sq_model::{Action, BoundModule, BoundProcedure, CallAction};
 use sq_value::{Decimal, Domain, StoreFault, Value, store};
 use std::alloc::{AllocError, AllocFailed, Global};
 
@@ -48,7 +50,7 @@ impl<T: Drop> From<AllocFailed<T>> for ItemFault {
 }
 
 fn signed(sign: Option<Sign>, number: Decimal) -> Decimal
-    ensures { result ≡ model.signed sign number }
+    ensures { result ≡ scripts.signed sign number }
 {
     match sign {
         Some(Sign::Minus) => number.neg(),
@@ -58,7 +60,7 @@ fn signed(sign: Option<Sign>, number: Decimal) -> Decimal
 
 /// The value at which an INTEGER parameter starts, if it can hold what is handed in.
 fn started(alloc: Global, argument: &Argument) -> Result<Option<Value>, AllocError>
-    ensures { IfOk result (λ value. value ≡ model.started argument.now) }
+    ensures { IfOk result (λ value. value ≡ scripts.started argument.now) }
 {
     match argument {
         Argument::Null => Ok(Some(Value::Num(Decimal::new(0, 0)))),
@@ -84,7 +86,7 @@ fn stored(alloc: Global, number: Decimal) -> Result<Option<Value>, AllocError>
 /// The values of arguments, if each parameter can hold its own.
 #[tactic(auto, using(crate::proofs::Known::knowns, std::proofs::lemmas::Grind::common_steps))]
 fn started_values(alloc: Global, arguments: &[Argument]) -> Result<Option<Items<Value>>, AllocError>
-    ensures { IfOk result (λ found. IfSome found (λ values. each_known model.started arguments.now ≡ Some values)) }
+    ensures { IfOk result (λ found. IfSome found (λ values. each_known scripts.started arguments.now ≡ Some values)) }
 {
     let mut values = Items::new(alloc);
     for argument in arguments {
@@ -97,7 +99,7 @@ fn started_values(alloc: Global, arguments: &[Argument]) -> Result<Option<Items<
 }
 
 fn arguments_of(arguments: &Arguments) -> &[Argument]
-    ensures { result.now ≡ model.arguments_of arguments.now }
+    ensures { result.now ≡ scripts.arguments_of arguments.now }
 {
     match arguments {
         Arguments::Absent => &[],
@@ -112,7 +114,7 @@ fn called_at(
     place: usize,
     procedure: &BoundProcedure,
 ) -> Result<Action, ItemFault>
-    ensures action { IfOk result (λ action. model.called_at call.now place procedure.now ≡ Some action) }
+    ensures action { IfOk result (λ action. scripts.called_at call.now place procedure.now ≡ Some action) }
     ensures of_meaning { IfErr result IsItemMeaning }
 {
     let Some(values) = started_values(alloc, arguments_of(&call.values))? else {
@@ -138,7 +140,7 @@ fn called_in(
     call: &Call,
 ) -> Result<Action, ItemFault>
     requires { places.now ≡ procedure_names procedures.now }
-    ensures action { IfOk result (λ action. model.called_in procedures.now call.now ≡ Some action) }
+    ensures action { IfOk result (λ action. scripts.called_in procedures.now call.now ≡ Some action) }
     ensures of_meaning { IfErr result IsItemMeaning }
 {
     match places.place(call.procedure) {
@@ -154,7 +156,7 @@ fn called(
     call: &Call,
 ) -> Result<Action, ItemFault>
     requires { places.now ≡ procedure_names (procedures_of (option_copied bound)) }
-    ensures action { IfOk result (λ action. model.called (option_copied bound.entry) call.now ≡ Some action) }
+    ensures action { IfOk result (λ action. scripts.called (option_copied bound.entry) call.now ≡ Some action) }
     ensures of_meaning { IfErr result IsItemMeaning }
 {
     match bound {
@@ -167,7 +169,7 @@ fn called(
 
 /// The showing of a table.
 fn shown(schema: Option<&Schema>, item: &TableItem) -> Result<Action, ItemFault>
-    ensures action { IfOk result (λ action. model.shown (option_copied schema.entry) item.now ≡ Some action) }
+    ensures action { IfOk result (λ action. scripts.shown (option_copied schema.entry) item.now ≡ Some action) }
     ensures of_meaning { IfErr result IsItemMeaning }
 {
     match named(table_of(schema, item.user), item.table) {
@@ -185,7 +187,7 @@ pub(crate) fn action_of(
     item: &Item,
 ) -> Result<Action, ItemFault>
     requires { places.now ≡ procedure_names (procedures_of (option_copied bound)) }
-    ensures action { IfOk result (λ action. model.action_of (option_copied schema.entry) (option_copied bound.entry) item.now ≡ Some action) }
+    ensures action { IfOk result (λ action. scripts.action_of (option_copied schema.entry) (option_copied bound.entry) item.now ≡ Some action) }
     ensures of_meaning { IfErr result IsItemMeaning }
 {
     match item {

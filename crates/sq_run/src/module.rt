@@ -1,19 +1,21 @@
 //! Looking up the names of a whole module, and what the first language asks of it.
 ghost use Rattle.std.specs.Prelude.{◌≡◌, ◌<◌, ◌++◌, ◌∷◌, [], Some, true, length, IfOk, IsSome, OnOk};
 ghost use Rattle.std.specs.Option.{option_copied};
-ghost use Rattle.sq_model.specs.Script as model;
-ghost use Rattle.sq_model.specs.Script.{all_among, table_count};
-ghost use Rattle.sq_model.specs.Machine.{is_among};
-ghost use Rattle.sq_model.specs.Program as program;
-ghost use Rattle.sq_model.specs.Program.{bound_cursors_in, bound_procedures_in};
+ghost use Rattle.sq_first.specs.Script as scripts;
+ghost use Rattle.sq_first.specs.Script.{all_among, table_count};
+ghost use Rattle.sq_first.specs.Machine.{is_among};
+ghost use Rattle.sq_first.specs.Program as program;
+ghost use Rattle.sq_first.specs.Program.{bound_cursors_in, bound_procedures_in};
 ghost use Rattle.sq_run.specs.Places.{cursor_names, procedure_names};
 
 use crate::bind::{bind_cursor, bind_procedure, parameter_names};
 use crate::places::Places;
-use sq_first::{Cursor, Module, Names, Part, Procedure, Statement, TableDefinition};
+use sq_first::{
+    BoundCursor, BoundModule, BoundProcedure, BoundStatement, Cursor, Module, Names, Part,
+    Procedure, Statement, TableDefinition,
+};
 use sq_items::Items;
 use sq_lex::Name;
-use sq_model::{BoundCursor, BoundModule, BoundProcedure, BoundStatement};
 use std::alloc::{AllocError, AllocFailed, Global};
 
 /// The most columns, targets and parameters.
@@ -55,7 +57,7 @@ pub(crate) fn bind_module(
     own: Option<&TableDefinition>,
     module: &Module,
 ) -> Result<BoundModule, ModuleFault>
-    ensures bound { IfOk result (λ bound. model.bound_by (option_copied own.entry) module.now ≡ Some bound) }
+    ensures bound { IfOk result (λ bound. scripts.bound_by (option_copied own.entry) module.now ≡ Some bound) }
     ensures among { IfOk result (λ bound. all_among (table_count (option_copied own.entry)) (length bound.cursors) bound.procedures ≡ true) }
 {
     let parts = module.parts.as_slice();

@@ -1,9 +1,9 @@
 ghost use Rattle.std.specs.Prelude.{◌≡◌, ◌≤◌, ◌<◌, false, true, length, IfErr, IfOk, OnOk};
 ghost use Rattle.std.specs.List.{list_all};
 ghost use Rattle.std.specs.Io.KnownBytes.{Appends};
-ghost use Rattle.sq_model.specs.Script.{performed, can_perform, cursors_of, procedures_of, table_count, schema_table, first_state};
-ghost use Rattle.sq_model.specs.Report.{action_lines, report};
-ghost use Rattle.sq_run.specs.Refused.{RefusedText};
+ghost use Rattle.sq_first.specs.Script.{performed, can_perform, cursors_of, procedures_of, table_count, schema_table, first_state};
+ghost use Rattle.sq_first.specs.Report.{action_lines, report};
+ghost use Rattle.sq_run.specs.Refused.{InOrder, RefusedText};
 ghost use Rattle.sq_run.specs.Run.{Run, report_of, texts};
 ghost use Rattle.sq_run.specs.Stop.{StoppedAt, Wrote, is_write};
 
@@ -11,7 +11,7 @@ use crate::prepare::{Prepared, prepare};
 use crate::refusal::RunFault;
 use crate::report::call_line;
 use crate::session::Session;
-use sq_model::{Action, BoundProcedure};
+use sq_first::{Action, BoundProcedure};
 use sq_out::{Out, write_whole};
 use sq_store::{MOST_ROW_NUMBERS, Store};
 use std::alloc::{AllocError, Global};
@@ -43,14 +43,16 @@ pub fn run<S: Store, W: Out>(
     ensures report { OnOk result ((r : Run (texts schemas.now) (texts modules.now) script.now)
         × Appends (W.taken out.old) (W.taken out.new) (report_of limits.row_numbers r)) }
 
-    // A refusal comes with nothing written, want of memory with the lines of whole items, and an output fault with the
-    // first bytes of the report. The output has failed exactly where there is an output fault.
+    // After a refusal nothing was written; after running out of memory, only complete items; after an output fault, a
+    // prefix of the report. The output has failed exactly where there is an output fault.
     ensures stopped { IfErr result (Wrote (texts schemas.now) (texts modules.now) script.now limits.row_numbers (W.taken out.old) (W.taken out.new)) }
     ensures still { OnOk result (W.failed out.new ≡ false) }
     ensures failed { IfErr result (λ fault. W.failed out.new ≡ is_write fault) }
 
-    // A text is refused for its tokens or its grammar only where no tree of depth at most 32 spells it.
-    ensures unspelled { IfErr result (RefusedText (texts schemas.now) (texts modules.now) script.now) }
+    // A text is refused for its tokens with the first fault of its reading, and for its grammar only where no tree of
+    // depth at most 32 spells it; a module only where the schemas are read, the script only where both are.
+    ensures refused { IfErr result (RefusedText (texts schemas.now) (texts modules.now) script.now) }
+    ensures order { IfErr result (InOrder (texts schemas.now) (texts modules.now)) }
 {
     let prepared = prepare(alloc, schemas, modules, script)?;
     run_prepared::<S, W>(alloc, &prepared, limits, out)
@@ -100,7 +102,7 @@ fn perform_all<S: Store, W: Out>(
     out: &mut W,
 ) -> Result<(), RunFault>
     requires open_out { W.failed out.old ≡ false }
-    requires can { list_all (can_perform (length session.old.now) (length session.old.cursors) procedures.now) actions.now ≡ true }
+    requires can { list_all (can_perform (length session.old.tables) (length session.old.cursors) procedures.now) actions.now ≡ true }
     ensures report { OnOk result (Appends (W.taken out.old) (W.taken out.new) (report procedures.now session.old actions.now)) }
     ensures stopped { IfErr result (StoppedAt procedures.now session.old actions.now (W.taken out.old) (W.taken out.new)) }
     ensures still { OnOk result (W.failed out.new ≡ false) }
@@ -126,7 +128,7 @@ fn perform<S: Store>(
     procedures: &[BoundProcedure],
     action: &Action,
 ) -> Result<Vec<u8>, AllocError>
-    requires { can_perform (length session.old.now) (length session.old.cursors) procedures.now action.now ≡ true }
+    requires { can_perform (length session.old.tables) (length session.old.cursors) procedures.now action.now ≡ true }
     ensures state { OnOk result (session.new ≡ performed procedures.now session.old action.now) }
     ensures lines { IfOk result (λ lines. lines.items ≡ action_lines procedures.now session.old action.now) }
 {

@@ -1,6 +1,6 @@
 //! Names that are looked up by themselves.
 ghost use Rattle.std.specs.Prelude.{◌≡◌, ◌<◌, ◌++◌, ◌∷◌, [], length, is_none, IfOk, IfSome, OnOk};
-ghost use Rattle.sq_model.specs.Program as model;
+ghost use Rattle.sq_first.specs.Program as program;
 
 use sq_lex::Name;
 use std::alloc::{AllocError, Global};
@@ -41,7 +41,7 @@ impl Places {
     /// Adds a name, and says whether it is new.
     pub(crate) fn push(&mut self, name: Name) -> Result<bool, AllocError>
         ensures added { OnOk result (self.new ≡ self.old ++ name ∷ []) }
-        ensures is_new { IfOk result (λ is_new. is_new ≡ is_none (model.place_in self.old name)) }
+        ensures is_new { IfOk result (λ is_new. is_new ≡ is_none (program.place_in self.old name)) }
     {
         let place = self.names.len();
         self.names.push(name)?;
@@ -59,7 +59,7 @@ impl Places {
 
     /// The place of the first such name.
     pub(crate) fn place(&self, name: Name) -> Option<usize>
-        ensures place { result ≡ model.place_in self.now name }
+        ensures place { result ≡ program.place_in self.now name }
         ensures within { IfSome result (λ place. place < length self.now) }
     {
         self.by_name.get(&name).copied()

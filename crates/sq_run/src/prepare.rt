@@ -6,23 +6,24 @@ ghost use Rattle.sq_tree.specs.Schema.{schema_tokens, schema_depth};
 ghost use Rattle.sq_tree.specs.Module.{module_tokens, module_depth};
 ghost use Rattle.sq_part.specs.Schema.{first_schema};
 ghost use Rattle.sq_part.specs.Module.{first_module};
-ghost use Rattle.sq_model.specs.Script as model;
-ghost use Rattle.sq_model.specs.Script.{IsBound, all_among, can_perform, cursors_of, procedures_of, table_count, schema_table};
+ghost use Rattle.sq_first.specs.Script as scripts;
+ghost use Rattle.sq_first.specs.Script.{IsBound, all_among, can_perform, cursors_of, procedures_of, table_count, schema_table};
 ghost use Rattle.sq_tree.specs.Script.{script_tokens, script_depth};
-ghost use Rattle.sq_run.specs.Fault.{IsOfMeaning, FirstRefused, SomeRefused};
-ghost use Rattle.sq_run.specs.Refused.{RefusedText};
-ghost use Rattle.sq_run.specs.Run.{Says, SaysAtMostOne, Spells, some_script, texts};
+ghost use Rattle.sq_run.specs.Fault.{IsItemMeaning, IsOfMeaning, FirstRefused, SomeRefused, run_fault};
+ghost use Rattle.sq_run.specs.Refused.{InOrder, RefusedText};
+ghost use Rattle.sq_run.specs.Run.{Says, SaysAtMostOne, some_script, texts};
+ghost use Rattle.sq_run.specs.Places.{procedure_names};
 ghost use Rattle.sq_run.specs.Prepared.{IsPrepared};
 ghost use Rattle.sq_run.specs.Stop.{is_early};
 
 use crate::bind::{column_names, table_of};
 use crate::items::{ItemFault, action_of};
 use crate::module::{MOST_NAMES, ModuleFault, are_distinct, bind_module, procedure_places};
+use crate::places::Places;
 use crate::refusal::{RefusalName, RunFault};
 use crate::texts::{Text, TextFault, module_of, refused_at, schema_of, script_of};
-use sq_first::{Module, Schema, Script};
+use sq_first::{Action, BoundModule, BoundProcedure, Module, Schema, Script};
 use sq_items::Items;
-use sq_model::{Action, BoundModule, BoundProcedure};
 use std::alloc::Global;
 
 /// The trees of all texts, and what their names mean.
@@ -38,18 +39,31 @@ pub(crate) struct Prepared {
 /// The schema, if there is a text of one.
 fn read_schemas(alloc: Global, schemas: &[Vec<u8>]) -> Result<Option<Schema>, TextFault>
     ensures spelled { IfOk result (λ schema. SaysAtMostOne schema_tokens first_schema (texts schemas.now) schema) }
-    ensures no_tree { IfErr result (SomeRefused schema_tokens schema_depth (texts schemas.now)) }
+    ensures refused { IfErr result (SomeRefused schema_tokens schema_depth (texts schemas.now)) }
 {
     match schemas {
         [] => Ok(None),
-        [only] => {
-            let text = schema_of(alloc, only.as_slice())?;
-            check_columns(alloc, &text)?;
-            Ok(Some(text.into_said()))
-        }
+        [only] => Ok(Some(only_schema(alloc, only.as_slice())?)),
         [first, _, ..] => {
-            schema_of(alloc, first.as_slice())?;
+            let text = schema_of(alloc, first.as_slice())?;
+            drop(text);
             Err(refused_at(&[], 1, 0, RefusalName::NotYet))
+        }
+    }
+}
+
+/// The schema of a text, where its table is taken.
+#[tactic(auto, using(crate::proofs::Refused::of_meaning))]
+fn only_schema(alloc: Global, text: &[u8]) -> Result<Schema, TextFault>
+    ensures said { IfOk result (λ schema. Says schema_tokens first_schema text.now schema) }
+    ensures refused { IfErr result (FirstRefused schema_tokens schema_depth text.now) }
+{
+    let text = schema_of(alloc, text)?;
+    match check_columns(alloc, &text) {
+        Ok(()) => Ok(text.into_said()),
+        Err(fault) => {
+            drop(text);
+            Err(fault)
         }
     }
 }
@@ -70,13 +84,14 @@ fn check_columns(alloc: Global, text: &Text<Schema>) -> Result<(), TextFault>
 /// The module, if there is a text of one.
 fn read_modules(alloc: Global, modules: &[Vec<u8>]) -> Result<Option<Text<Module>>, TextFault>
     ensures spelled { IfOk result (λ text. SaysAtMostOne module_tokens first_module (texts modules.now) (option_map (λ t. t.said) text)) }
-    ensures no_tree { IfErr result (SomeRefused module_tokens module_depth (texts modules.now)) }
+    ensures refused { IfErr result (SomeRefused module_tokens module_depth (texts modules.now)) }
 {
     match modules {
         [] => Ok(None),
         [only] => Ok(Some(module_of(alloc, only.as_slice())?)),
         [first, _, ..] => {
-            module_of(alloc, first.as_slice())?;
+            let text = module_of(alloc, first.as_slice())?;
+            drop(text);
             Err(refused_at(&[], 1, 0, RefusalName::NotYet))
         }
     }
@@ -108,21 +123,53 @@ fn actions_of(
     text: &Text<Script>,
 ) -> Result<Items<Action>, TextFault>
     requires { all_among (table_count (schema_table (option_copied schema))) (length (cursors_of (option_copied bound))) (procedures_of (option_copied bound)) ≡ true }
-    ensures actions { IfOk result (λ actions. map (model.action_of (option_copied schema.entry) (option_copied bound.entry)) text.now.said.items ≡ map Some actions) }
+    ensures actions { IfOk result (λ actions. map (scripts.action_of (option_copied schema.entry) (option_copied bound.entry)) text.now.said.items ≡ map Some actions) }
     ensures can { IfOk result (λ actions. list_all (can_perform (table_count (schema_table (option_copied schema.entry))) (length (cursors_of (option_copied bound.entry))) (procedures_of (option_copied bound.entry))) actions ≡ true) }
     ensures of_meaning { IfErr result IsOfMeaning }
 {
     let places = procedure_places(alloc, procedures_in(bound))?;
+    let actions = actions_with(alloc, schema, bound, &places, text);
+    drop(places);
+    actions
+}
+
+/// The items of the script with their names looked up, where the procedures have these places.
+fn actions_with(
+    alloc: Global,
+    schema: Option<&Schema>,
+    bound: Option<&BoundModule>,
+    places: &Places,
+    text: &Text<Script>,
+) -> Result<Items<Action>, TextFault>
+    requires places { places.now ≡ procedure_names (procedures_of (option_copied bound)) }
+    requires among { all_among (table_count (schema_table (option_copied schema))) (length (cursors_of (option_copied bound))) (procedures_of (option_copied bound)) ≡ true }
+    ensures actions { IfOk result (λ actions. map (scripts.action_of (option_copied schema.entry) (option_copied bound.entry)) text.now.said.items ≡ map Some actions) }
+    ensures can { IfOk result (λ actions. list_all (can_perform (table_count (schema_table (option_copied schema.entry))) (length (cursors_of (option_copied bound.entry))) (procedures_of (option_copied bound.entry))) actions ≡ true) }
+    ensures of_meaning { IfErr result IsOfMeaning }
+{
     let mut actions = Items::new(alloc);
     let items = text.said.items.as_slice();
     for (place, item) in items.iter().enumerate() {
-        match action_of(alloc, schema, bound, &places, item) {
+        match action_of(alloc, schema, bound, places, item) {
             Ok(action) => actions.push(action)?,
-            Err(ItemFault::NoMemory) => return Err(TextFault::NoMemory),
-            Err(ItemFault::Refused(what)) => return Err(text.refused_part(place, what)),
+            Err(fault) => {
+                drop(actions);
+                return Err(item_fault(text, place, fault));
+            }
         }
     }
     Ok(actions)
+}
+
+/// What the fault of the item at a place is for its text.
+fn item_fault(text: &Text<Script>, place: usize, fault: ItemFault) -> TextFault
+    requires { IsItemMeaning fault }
+    ensures { IsOfMeaning result }
+{
+    match fault {
+        ItemFault::NoMemory => TextFault::NoMemory,
+        ItemFault::Refused(what) => text.refused_part(place, what),
+    }
 }
 
 /// Reads all texts, schemas first and the script last, and looks up all names. The first refusal is answered.
@@ -134,17 +181,19 @@ pub(crate) fn prepare(
 ) -> Result<Prepared, RunFault>
     ensures prepared { IfOk result (IsPrepared (texts schemas.now) (texts modules.now) script.now) }
     ensures early { IfErr result (λ fault. is_early fault ≡ true) }
-    ensures unspelled { IfErr result (RefusedText (texts schemas.now) (texts modules.now) script.now) }
+    ensures refused { IfErr result (RefusedText (texts schemas.now) (texts modules.now) script.now) }
+    ensures order { IfErr result (InOrder (texts schemas.now) (texts modules.now)) }
 {
     let schema = match read_schemas(alloc, schemas) {
         Ok(schema) => schema,
-        Err(TextFault::NoMemory) => return Err(RunFault::NoMemory(0)),
-        Err(TextFault::Refused(refusal)) => return Err(RunFault::SchemaRefused(refusal)),
+        Err(fault) => return Err(schema_fault(fault)),
     };
     let (module, bound) = match read_program(alloc, schema.as_ref(), modules) {
         Ok(read) => read,
-        Err(TextFault::NoMemory) => return Err(RunFault::NoMemory(0)),
-        Err(TextFault::Refused(refusal)) => return Err(RunFault::ModuleRefused(refusal)),
+        Err(fault) => {
+            drop(schema);
+            return Err(module_fault(fault));
+        }
     };
     match read_items(alloc, schema.as_ref(), bound.as_ref(), script) {
         Ok((script, actions)) => Ok(Prepared {
@@ -154,8 +203,12 @@ pub(crate) fn prepare(
             bound,
             actions,
         }),
-        Err(TextFault::NoMemory) => Err(RunFault::NoMemory(0)),
-        Err(TextFault::Refused(refusal)) => Err(RunFault::ScriptRefused(refusal)),
+        Err(fault) => {
+            drop(schema);
+            drop(module);
+            drop(bound);
+            Err(script_fault(fault))
+        }
     }
 }
 
@@ -168,13 +221,16 @@ fn read_program(
     ensures spelled { IfOk result (λ read. SaysAtMostOne module_tokens first_module (texts modules.now) read.0) }
     ensures bound { IfOk result (λ read. IsBound (option_copied schema.entry) read.0 read.1) }
     ensures among { IfOk result (λ read. all_among (table_count (schema_table (option_copied schema.entry))) (length (cursors_of read.1)) (procedures_of read.1) ≡ true) }
-    ensures no_tree { IfErr result (SomeRefused module_tokens module_depth (texts modules.now)) }
+    ensures refused { IfErr result (SomeRefused module_tokens module_depth (texts modules.now)) }
 {
     match read_modules(alloc, modules)? {
-        Some(text) => {
-            let bound = bind_text(alloc, schema, &text)?;
-            Ok((Some(text.into_said()), Some(bound)))
-        }
+        Some(text) => match bind_text(alloc, schema, &text) {
+            Ok(bound) => Ok((Some(text.into_said()), Some(bound))),
+            Err(fault) => {
+                drop(text);
+                Err(fault)
+            }
+        },
         None => Ok((None, None)),
     }
 }
@@ -188,13 +244,18 @@ fn read_items(
 ) -> Result<(Script, Items<Action>), TextFault>
     requires { all_among (table_count (schema_table (option_copied schema))) (length (cursors_of (option_copied bound))) (procedures_of (option_copied bound)) ≡ true }
     ensures spelled { IfOk result (λ read. Says script_tokens some_script script.now read.0) }
-    ensures actions { IfOk result (λ read. map (model.action_of (option_copied schema.entry) (option_copied bound.entry)) read.0.items ≡ map Some read.1) }
+    ensures actions { IfOk result (λ read. map (scripts.action_of (option_copied schema.entry) (option_copied bound.entry)) read.0.items ≡ map Some read.1) }
     ensures can { IfOk result (λ read. list_all (can_perform (table_count (schema_table (option_copied schema.entry))) (length (cursors_of (option_copied bound.entry))) (procedures_of (option_copied bound.entry))) read.1 ≡ true) }
-    ensures no_tree { IfErr result (FirstRefused (λ tree. Spells script.now (script_tokens tree)) script_depth) }
+    ensures refused { IfErr result (FirstRefused script_tokens script_depth script.now) }
 {
     let text = script_of(alloc, script)?;
-    let actions = actions_of(alloc, schema, bound, &text)?;
-    Ok((text.into_said(), actions))
+    match actions_of(alloc, schema, bound, &text) {
+        Ok(actions) => Ok((text.into_said(), actions)),
+        Err(fault) => {
+            drop(text);
+            Err(fault)
+        }
+    }
 }
 
 fn procedures_in(bound: Option<&BoundModule>) -> &[BoundProcedure]
@@ -203,6 +264,33 @@ fn procedures_in(bound: Option<&BoundModule>) -> &[BoundProcedure]
     match bound {
         Some(module) => module.procedures.as_slice(),
         None => &[],
+    }
+}
+
+fn schema_fault(fault: TextFault) -> RunFault
+    ensures { result ≡ run_fault RunFault.SchemaRefused fault }
+{
+    match fault {
+        TextFault::NoMemory => RunFault::NoMemory(0),
+        TextFault::Refused(refusal) => RunFault::SchemaRefused(refusal),
+    }
+}
+
+fn module_fault(fault: TextFault) -> RunFault
+    ensures { result ≡ run_fault RunFault.ModuleRefused fault }
+{
+    match fault {
+        TextFault::NoMemory => RunFault::NoMemory(0),
+        TextFault::Refused(refusal) => RunFault::ModuleRefused(refusal),
+    }
+}
+
+fn script_fault(fault: TextFault) -> RunFault
+    ensures { result ≡ run_fault RunFault.ScriptRefused fault }
+{
+    match fault {
+        TextFault::NoMemory => RunFault::NoMemory(0),
+        TextFault::Refused(refusal) => RunFault::ScriptRefused(refusal),
     }
 }
 

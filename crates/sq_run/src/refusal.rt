@@ -1,6 +1,8 @@
+//! Why a run stops before its end.
+use sq_lex::LexFaultKind;
 use thiserror::Error;
 
-/// Why a run did not end well.
+/// Why a run stops before its end.
 #[derive(Clone, Copy, Debug, PartialEq, Eq, Error)]
 pub enum RunFault {
     /// A schema text is refused. Nothing was written.
@@ -12,10 +14,10 @@ pub enum RunFault {
     /// The script is refused. Nothing was written.
     #[error("script refused: {0}")]
     ScriptRefused(Refusal),
-    /// The output failed. So many bytes of the report were taken in this run.
+    /// The output failed, after it took this many bytes of the report.
     #[error("output fault after {0} bytes")]
     Write(u128),
-    /// Memory was refused. The lines of so many script items are written whole.
+    /// Memory ran out. The lines of this many script items were written, and no others.
     #[error("want of memory after {0} items")]
     NoMemory(usize),
 }
@@ -24,7 +26,7 @@ pub enum RunFault {
 #[derive(Clone, Copy, Debug, PartialEq, Eq, Error)]
 #[error("{what}")]
 pub struct Refusal {
-    /// The text's place among those of its kind, from 0.
+    /// The text's index among those of its kind, from 0.
     pub text: usize,
     /// From 1; a line ends with LF.
     pub line: usize,
@@ -36,43 +38,28 @@ pub struct Refusal {
 /// The name of a refusal, which is what it prints.
 #[derive(Clone, Copy, Debug, PartialEq, Eq, Error)]
 pub enum RefusalName {
-    /// A byte that no token has here.
-    #[error("BadByte")]
-    BadByte,
-    /// A text literal without its closing quote.
-    #[error("OpenText")]
-    OpenText,
-    /// A word of more than 18 characters.
-    #[error("LongName")]
-    LongName,
-    /// A letter directly after a number.
-    #[error("NumberThenLetter")]
-    NumberThenLetter,
-    /// A number of more than 18 digits.
-    #[error("LongNumber")]
-    LongNumber,
-    /// A text literal of more than 240 characters.
-    #[error("LongText")]
-    LongText,
-    /// The first token that no text of the grammar has after those before it.
+    /// The bytes are no tokens.
+    #[error("{0:?}")]
+    Lexical(LexFaultKind),
+    /// The first token that cannot follow the tokens before it in any text of the grammar.
     #[error("Unexpected")]
     Unexpected,
     /// An opening bracket where 32 are open.
     #[error("TooDeep")]
     TooDeep,
-    /// The text ends too early.
+    /// The text ends where no text of the grammar does.
     #[error("EndOfText")]
     EndOfText,
-    /// Outside the language that is taken so far.
+    /// A part of the language that does not run yet.
     #[error("NotYet")]
     NotYet,
-    /// A call of no procedure of the modules.
+    /// A call of a procedure that no module has.
     #[error("UnknownProcedure")]
     UnknownProcedure,
-    /// No base table of the schemas.
+    /// A base table that no schema has.
     #[error("UnknownTable")]
     UnknownTable,
-    /// Not as many values as the procedure has named parameters, or one that its parameter can't hold.
+    /// Too few or too many values for the procedure's named parameters, or one that its parameter can't hold.
     #[error("BadArguments")]
     BadArguments,
 }

@@ -1,20 +1,20 @@
 //! The lines of the report.
-ghost use Rattle.std.specs.Prelude.{◌≡◌, ◌++◌, ◌<◌, length, map, OnOk, IfOk};
+ghost use Rattle.std.specs.Prelude.{◌≡◌, ◌++◌, ◌<◌, codes, length, map, OnOk, IfOk};
 ghost use Rattle.std.specs.List.{flat_map};
 ghost use Rattle.sq_store.specs.Content.{table_at};
-ghost use Rattle.sq_model.specs.Report as model;
+ghost use Rattle.sq_first.specs.Report as report;
 ghost use Rattle.sq_run.specs.Lent.{lent};
 
 use crate::session::rows_of;
+use sq_first::{CallAction, Output, Reply, Status};
 use sq_lex::Name;
-use sq_model::{CallAction, Output, Reply, Status};
 use sq_store::Store;
 use sq_value::{Row, Value};
 use std::alloc::{AllocError, Global};
 
 /// SQLSTATE and SQLCODE.
 fn status_codes(status: Status) -> &'static [u8]
-    ensures { result.now ≡ model.status_codes status }
+    ensures { result.now ≡ report.status_codes status }
 {
     match status {
         Status::SuccessfulCompletion => b"00000 0",
@@ -26,7 +26,7 @@ fn status_codes(status: Status) -> &'static [u8]
 
 /// Adds a value as it is spelled: digits, a quoted text or `NULL`.
 fn write_value(alloc: Global, value: &Value, line: &mut Vec<u8>) -> Result<(), AllocError>
-    ensures { OnOk result (line.new.items ≡ line.old.items ++ model.value_codes value.now) }
+    ensures { OnOk result (line.new.items ≡ line.old.items ++ report.value_codes value.now) }
 {
     match value {
         Value::Null => line.extend_from_slice(b"NULL"),
@@ -37,7 +37,7 @@ fn write_value(alloc: Global, value: &Value, line: &mut Vec<u8>) -> Result<(), A
 
 /// Adds a text in quotes; those inside it are written twice.
 fn write_text(text: &[u8], line: &mut Vec<u8>) -> Result<(), AllocError>
-    ensures { OnOk result (line.new.items ≡ line.old.items ++ model.quoted text.now) }
+    ensures { OnOk result (line.new.items ≡ line.old.items ++ report.quoted text.now) }
 {
     line.push(b'\'')?;
     for code in text {
@@ -50,19 +50,27 @@ fn write_text(text: &[u8], line: &mut Vec<u8>) -> Result<(), AllocError>
     Ok(())
 }
 
+/// Adds two names with a period between them and a blank behind.
+fn write_names(first: Name, second: Name, line: &mut Vec<u8>) -> Result<(), AllocError>
+    ensures { OnOk result (line.new.items ≡ line.old.items ++ first ++ codes "." ++ second ++ codes " ") }
+{
+    line.extend_from_slice(first.codes())?;
+    line.push(b'.')?;
+    line.extend_from_slice(second.codes())?;
+    line.push(b' ')?;
+    Ok(())
+}
+
 /// The line of a call.
 pub(crate) fn call_line(
     alloc: Global,
     call: &CallAction,
     reply: &Reply,
 ) -> Result<Vec<u8>, AllocError>
-    ensures { IfOk result (λ line. line.items ≡ model.call_line call.now reply.now) }
+    ensures { IfOk result (λ line. line.items ≡ report.call_line call.now reply.now) }
 {
     let mut line = Vec::new(alloc);
-    line.extend_from_slice(call.module.codes())?;
-    line.push(b'.')?;
-    line.extend_from_slice(call.name.codes())?;
-    line.push(b' ')?;
+    write_names(call.module, call.name, &mut line)?;
     line.extend_from_slice(status_codes(reply.status))?;
     write_outputs(alloc, reply.outputs.as_slice(), &mut line)?;
     line.push(b'\n')?;
@@ -70,7 +78,7 @@ pub(crate) fn call_line(
 }
 
 fn write_outputs(alloc: Global, outputs: &[Output], line: &mut Vec<u8>) -> Result<(), AllocError>
-    ensures { OnOk result (line.new.items ≡ line.old.items ++ flat_map model.output_codes outputs.now) }
+    ensures { OnOk result (line.new.items ≡ line.old.items ++ flat_map report.output_codes outputs.now) }
 {
     for output in outputs {
         line.push(b' ')?;
@@ -89,22 +97,27 @@ pub(crate) fn table_lines<S: Store>(
     table: Name,
 ) -> Result<Vec<u8>, AllocError>
     requires { 0 < length (S.content_now store.now) }
-    ensures { IfOk result (λ lines. lines.items ≡ model.table_lines user table (table_at (S.content_now store.now) 0)) }
+    ensures { IfOk result (λ lines. lines.items ≡ report.table_lines user table (table_at (S.content_now store.now) 0)) }
 {
     let rows = rows_of(alloc, store)?;
-    let mut lines = Vec::from_slice(alloc, b"TABLE ")?;
-    lines.extend_from_slice(user.codes())?;
-    lines.push(b'.')?;
-    lines.extend_from_slice(table.codes())?;
-    lines.push(b' ')?;
-    lines.extend_from_slice(rows.len().to_string(alloc)?.as_bytes())?;
-    lines.push(b'\n')?;
+    let mut lines = table_line(alloc, user, table, rows.len())?;
     write_rows(alloc, rows.as_slice(), &mut lines)?;
     Ok(lines)
 }
 
+/// The line before a table's rows.
+fn table_line(alloc: Global, user: Name, table: Name, rows: usize) -> Result<Vec<u8>, AllocError>
+    ensures { IfOk result (λ line. line.items ≡ report.table_line user table rows) }
+{
+    let mut line = Vec::from_slice(alloc, b"TABLE ")?;
+    write_names(user, table, &mut line)?;
+    line.extend_from_slice(rows.to_string(alloc)?.as_bytes())?;
+    line.push(b'\n')?;
+    Ok(line)
+}
+
 fn write_rows(alloc: Global, rows: &[(u64, &Row)], lines: &mut Vec<u8>) -> Result<(), AllocError>
-    ensures { OnOk result (lines.new.items ≡ lines.old.items ++ flat_map model.row_line (map lent rows.now)) }
+    ensures { OnOk result (lines.new.items ≡ lines.old.items ++ flat_map report.row_line (map lent rows.now)) }
 {
     for row in rows {
         lines.push(b' ')?;
@@ -116,7 +129,7 @@ fn write_rows(alloc: Global, rows: &[(u64, &Row)], lines: &mut Vec<u8>) -> Resul
 
 /// Adds the values of a row, each behind a blank.
 fn write_row(alloc: Global, row: &[Value], line: &mut Vec<u8>) -> Result<(), AllocError>
-    ensures { OnOk result (line.new.items ≡ line.old.items ++ flat_map model.blank_value row.now) }
+    ensures { OnOk result (line.new.items ≡ line.old.items ++ flat_map report.blank_value row.now) }
 {
     for value in row {
         line.push(b' ')?;

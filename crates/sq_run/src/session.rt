@@ -1,16 +1,20 @@
-ghost use Rattle.std.specs.Prelude.{◌≡◌, ◌<◌, ◌≤◌, replicate, true, [], length, map, slice_get, slice_index_or, ◌^◌, IfOk, IfSome, OnErr, OnOk};
+//! The tables and cursors of a run, and the calls that work on them.
+ghost use Rattle.std.specs.Prelude.{◌≡◌, ◌<◌, ◌≤◌, replicate, false, true, [], length, map, slice_get, slice_index_or, ◌^◌, IfOk, IfSome, IsOk, OnErr, OnOk};
 ghost use Rattle.sq_store.specs.Content.{no_rows, table_at};
+ghost use Rattle.sq_store.specs.Keys.{keys_of};
 ghost use Rattle.sq_run.specs.Lent.{lent};
-ghost use Rattle.sq_model.specs.Machine as machine;
-ghost use Rattle.sq_model.specs.Report as report;
-ghost use Rattle.sq_model.specs.Machine.{stepped, replied, is_among, outputs_of, row_under};
+ghost use Rattle.sq_run.specs.NoKeys.{has_no_keys};
+ghost use Rattle.sq_first.specs.Machine as machine;
+ghost use Rattle.sq_first.specs.Report as report;
+ghost use Rattle.sq_first.specs.Machine.{stepped, replied, is_among, outputs_of, row_under};
+ghost use Rattle.sq_run.specs.Session.{takes_memory};
 
 use crate::report::table_lines;
-use sq_items::Items;
-use sq_lex::Name;
-use sq_model::{
+use sq_first::{
     BoundFetch, BoundStatement, CursorState, OpenCursor, Output, Reply, Status, Target,
 };
+use sq_items::Items;
+use sq_lex::Name;
 use sq_store::{ApplyFault, Change, MOST_ROW_NUMBERS, Meter, Store};
 use sq_value::{Row, Value};
 use std::alloc::{AllocError, Global};
@@ -24,15 +28,19 @@ pub(crate) struct Session<S: Store> {
 }
 
 impl<S: Store> Model for Session<S> {
-    ghost use Rattle.sq_model.specs.Machine.{State};
+    ghost use Rattle.std.specs.Prelude.{◌≡◌, true};
+    ghost use Rattle.sq_first.specs.Machine.{State};
+    ghost use Rattle.sq_run.specs.NoKeys.{has_no_keys};
 
     ghost Value = { State };
 
-    ghost view = { λ s. record { now = S.content_now s.store; cursors = s.cursors.items; row_numbers = S.row_numbers s.store } };
+    ghost view = { λ s. record { tables = S.content_now s.store; cursors = s.cursors.items; row_numbers = S.row_numbers s.store } };
+
+    ghost invariant = { λ s. has_no_keys (S.key_columns s.store) ≡ true };
 }
 
 impl<S: Store> Session<S> {
-    /// A session over empty tables, with so many cursors, all closed.
+    /// A session over this many empty tables and closed cursors.
     pub(crate) fn new(
         alloc: Global,
         tables: usize,
@@ -41,7 +49,7 @@ impl<S: Store> Session<S> {
     ) -> Result<Session<S>, AllocError>
         requires { row_numbers ≤ MOST_ROW_NUMBERS }
         ensures { IfOk result (λ session. session
-            ≡ record { now = no_rows tables; cursors = replicate cursors CursorState.Closed; row_numbers = row_numbers }) }
+            ≡ record { tables = no_rows tables; cursors = replicate cursors CursorState.Closed; row_numbers = row_numbers }) }
     {
         Ok(Session {
             store: S::new(alloc, no_keys(alloc, tables)?.as_slice(), row_numbers)?,
@@ -49,17 +57,18 @@ impl<S: Store> Session<S> {
         })
     }
 
-    /// Makes one call; want of memory changes nothing.
+    /// Makes one call. Running out of memory changes nothing.
     pub(crate) fn call(
         &mut self,
         alloc: Global,
         statement: &BoundStatement,
         values: &[Value],
     ) -> Result<Reply, AllocError>
-        requires { is_among (length self.old.now) (length self.old.cursors) statement.now ≡ true }
+        requires { is_among (length self.old.tables) (length self.old.cursors) statement.now ≡ true }
         ensures state { OnOk result (self.new ≡ stepped self.old statement.now values.now) }
         ensures reply { IfOk result (λ reply. reply ≡ replied self.old statement.now values.now) }
         ensures err { OnErr result (self.new ≡ self.old) }
+        ensures memory { takes_memory statement.now ≡ false → IsOk result }
     {
         match statement {
             BoundStatement::Insert(places) => self.insert(alloc, places.as_slice(), values),
@@ -76,19 +85,20 @@ impl<S: Store> Session<S> {
         user: Name,
         table: Name,
     ) -> Result<Vec<u8>, AllocError>
-        requires { 0 < length self.now.now }
+        requires { 0 < length self.now.tables }
         ensures { IfOk result (λ lines. lines.items ≡ report.table_lines user table (machine.the_table self.now)) }
     {
         table_lines(alloc, &self.store, user, table)
     }
 
+    #[tactic(auto, using(crate::proofs::NoKeys::no_keys_held, crate::proofs::NoKeys::no_keys_distinct))]
     fn insert(
         &mut self,
         alloc: Global,
         places: &[usize],
         values: &[Value],
     ) -> Result<Reply, AllocError>
-        requires { 0 < length self.old.now }
+        requires { 0 < length self.old.tables }
         ensures state { OnOk result (self.new ≡ stepped self.old (BoundStatement.Insert places.now) values.now) }
         ensures reply { IfOk result (λ reply. reply ≡ replied self.old (BoundStatement.Insert places.now) values.now) }
         ensures err { OnErr result (self.new ≡ self.old) }
@@ -101,12 +111,13 @@ impl<S: Store> Session<S> {
         changes.push(Change::Insert(row))?;
         match self.store.apply(alloc, 0, changes) {
             Ok(()) => Ok(replied_with(alloc, Status::SuccessfulCompletion)),
+            Err(ApplyFault::Duplicate) => unreachable!(),
             Err(ApplyFault::NoMemory) => Err(AllocError),
         }
     }
 
     fn open(&mut self, alloc: Global, place: usize) -> Result<Reply, AllocError>
-        requires table { 0 < length self.old.now }
+        requires table { 0 < length self.old.tables }
         requires cursor { place < length self.old.cursors }
         ensures state { OnOk result (self.new ≡ stepped self.old (BoundStatement.Open place) []) }
         ensures reply { IfOk result (λ reply. reply ≡ replied self.old (BoundStatement.Open place) []) }
@@ -125,7 +136,7 @@ impl<S: Store> Session<S> {
 
     #[tactic(auto, using(crate::proofs::Known::knowns, std::proofs::lemmas::Grind::common_steps))]
     fn fetch(&mut self, alloc: Global, fetch: &BoundFetch) -> Result<Reply, AllocError>
-        requires table { 0 < length self.old.now }
+        requires table { 0 < length self.old.tables }
         requires cursor { fetch.now.cursor < length self.old.cursors }
         ensures state { OnOk result (self.new ≡ stepped self.old (BoundStatement.Fetch fetch.now) []) }
         ensures reply { IfOk result (λ reply. reply ≡ replied self.old (BoundStatement.Fetch fetch.now) []) }
@@ -162,8 +173,10 @@ impl<S: Store> Session<S> {
 }
 
 /// For each of so many tables that it has no keys.
+#[tactic(auto, using(crate::proofs::NoKeys::no_keys_push))]
 fn no_keys(alloc: Global, tables: usize) -> Result<Vec<Vec<Vec<usize>>>, AllocError>
-    ensures { IfOk result (λ keys. length keys.items ≡ tables) }
+    ensures tables { IfOk result (λ keys. length keys.items ≡ tables) }
+    ensures none { IfOk result (λ keys. has_no_keys (keys_of keys.items) ≡ true) }
 {
     let mut keys = Vec::new(alloc);
     for _ in 0..tables {

@@ -1,5 +1,5 @@
 //! Reading texts, and taking the first language out of their trees.
-ghost use Rattle.std.specs.Prelude.{◌≡◌, Ok, IfErr, IfOk};
+ghost use Rattle.std.specs.Prelude.{◌≡◌, Ok, Some, IfErr, IfOk};
 ghost use Rattle.sq_lex.specs.Reading.{reading};
 ghost use Rattle.sq_lex.specs.Token.{lexemes};
 ghost use Rattle.sq_tree.specs.Schema.{schema_tokens, schema_depth};
@@ -7,14 +7,13 @@ ghost use Rattle.sq_tree.specs.Module.{module_tokens, module_depth};
 ghost use Rattle.sq_tree.specs.Script.{script_tokens, script_depth};
 ghost use Rattle.sq_part.specs.Schema.{first_schema};
 ghost use Rattle.sq_part.specs.Module.{first_module};
-ghost use Rattle.sq_run.specs.Fault.{IsRefusal, IsParseFault, IsUnread, IsOfMeaning, FirstRefused};
-ghost use Rattle.sq_run.specs.Refused.{Grammar, matter};
-ghost use Rattle.sq_run.specs.Run.{Says, Spells, some_script};
+ghost use Rattle.sq_run.specs.Fault.{IsRefusal, IsParseFault, IsUnread, IsOfMeaning, FirstRefused, TokensRefused};
+ghost use Rattle.sq_run.specs.Run.{Says, TokensSay, some_script};
 
 use crate::refusal::{Refusal, RefusalName};
 use sq_first::{Module, Schema, Script};
 use sq_items::Items;
-use sq_lex::{LexError, LexFaultKind, Token, lex};
+use sq_lex::{LexError, Token, lex};
 use sq_parse::{ParseError, parse_module, parse_schema, parse_script};
 use sq_part::{
     TakeFault, module_item_starts, schema_element_starts, script_item_starts, take_module,
@@ -75,33 +74,20 @@ impl From<AllocError> for TextFault {
     }
 }
 
-/// The tokens of the text at this place among those of its kind.
-fn tokens_of(alloc: Global, text: usize, bytes: &[u8]) -> Result<Vec<Token>, TextFault>
+/// The tokens of the first text of its kind.
+fn tokens_of(alloc: Global, bytes: &[u8]) -> Result<Vec<Token>, TextFault>
     ensures read { IfOk result (λ tokens. reading bytes.now ≡ Ok tokens.items) }
-    ensures unread { IfErr result (IsUnread text bytes.now) }
+    ensures unread { IfErr result (IsUnread bytes.now) }
 {
     match lex(alloc, bytes) {
         Ok(tokens) => Ok(tokens),
         Err(LexError::NoMemory) => Err(TextFault::NoMemory),
         Err(LexError::Fault(fault)) => Err(TextFault::Refused(Refusal {
-            text,
+            text: 0,
             line: fault.line,
             column: fault.column,
-            what: lexical_name(fault.kind),
+            what: RefusalName::Lexical(fault.kind),
         })),
-    }
-}
-
-fn lexical_name(kind: LexFaultKind) -> RefusalName
-    ensures { matter result ≡ Grammar }
-{
-    match kind {
-        LexFaultKind::BadByte => RefusalName::BadByte,
-        LexFaultKind::OpenText => RefusalName::OpenText,
-        LexFaultKind::LongName => RefusalName::LongName,
-        LexFaultKind::NumberThenLetter => RefusalName::NumberThenLetter,
-        LexFaultKind::LongNumber => RefusalName::LongNumber,
-        LexFaultKind::LongText => RefusalName::LongText,
     }
 }
 
@@ -159,81 +145,146 @@ fn take_fault(tokens: &[Token], starts: &[usize], fault: TakeFault) -> TextFault
     }
 }
 
-fn schema_tree(alloc: Global, tokens: &[Token]) -> Result<SchemaText, TextFault>
-    ensures spelled { IfOk result (λ tree. lexemes tokens.now ≡ schema_tokens tree) }
-    ensures no_tree { IfErr result (FirstRefused (λ tree. schema_tokens tree ≡ lexemes tokens.now) schema_depth) }
-{
-    match parse_schema(alloc, tokens) {
-        Ok(tree) => Ok(tree),
-        Err(fault) => Err(parse_fault(tokens, fault)),
-    }
-}
-
+/// What a schema text says.
 pub(crate) fn schema_of(alloc: Global, bytes: &[u8]) -> Result<Text<Schema>, TextFault>
     ensures said { IfOk result (λ text. Says schema_tokens first_schema bytes.now text.said) }
-    ensures no_tree { IfErr result (FirstRefused (λ tree. Spells bytes.now (schema_tokens tree)) schema_depth) }
+    ensures refused { IfErr result (FirstRefused schema_tokens schema_depth bytes.now) }
 {
-    let tokens = tokens_of(alloc, 0, bytes)?;
-    let tree = schema_tree(alloc, tokens.as_slice())?;
-    let starts = schema_element_starts(alloc, &tree)?;
-    match take_schema(alloc, &tree) {
-        Ok(said) => Ok(Text {
+    let tokens = tokens_of(alloc, bytes)?;
+    match schema_in(alloc, tokens.as_slice()) {
+        Ok((starts, said)) => Ok(Text {
             tokens,
             starts,
             said,
         }),
-        Err(fault) => Err(take_fault(tokens.as_slice(), starts.as_slice(), fault)),
+        Err(fault) => {
+            drop(tokens);
+            Err(fault)
+        }
     }
 }
 
-fn module_tree(alloc: Global, tokens: &[Token]) -> Result<ModuleText, TextFault>
-    ensures spelled { IfOk result (λ tree. lexemes tokens.now ≡ module_tokens tree) }
-    ensures no_tree { IfErr result (FirstRefused (λ tree. module_tokens tree ≡ lexemes tokens.now) module_depth) }
+/// What a schema text of these tokens says, and where its parts start.
+fn schema_in(alloc: Global, tokens: &[Token]) -> Result<(Items<usize>, Schema), TextFault>
+    ensures said { IfOk result (λ found. TokensSay schema_tokens first_schema (lexemes tokens.now) found.1) }
+    ensures refused { IfErr result (TokensRefused schema_tokens schema_depth (lexemes tokens.now)) }
 {
-    match parse_module(alloc, tokens) {
-        Ok(tree) => Ok(tree),
+    match parse_schema(alloc, tokens) {
+        Ok(tree) => {
+            let found = schema_taken(alloc, tokens, &tree);
+            drop(tree);
+            found
+        }
         Err(fault) => Err(parse_fault(tokens, fault)),
     }
 }
 
+/// What the tree of a schema text says, and where its parts start.
+fn schema_taken(
+    alloc: Global,
+    tokens: &[Token],
+    tree: &SchemaText,
+) -> Result<(Items<usize>, Schema), TextFault>
+    ensures said { IfOk result (λ found. first_schema tree.now ≡ Some found.1) }
+    ensures of_meaning { IfErr result IsOfMeaning }
+{
+    let starts = schema_element_starts(alloc, tree)?;
+    match take_schema(alloc, tree) {
+        Ok(said) => Ok((starts, said)),
+        Err(fault) => Err(take_fault(tokens, starts.as_slice(), fault)),
+    }
+}
+
+/// What a module text says.
 pub(crate) fn module_of(alloc: Global, bytes: &[u8]) -> Result<Text<Module>, TextFault>
     ensures said { IfOk result (λ text. Says module_tokens first_module bytes.now text.said) }
-    ensures no_tree { IfErr result (FirstRefused (λ tree. Spells bytes.now (module_tokens tree)) module_depth) }
+    ensures refused { IfErr result (FirstRefused module_tokens module_depth bytes.now) }
 {
-    let tokens = tokens_of(alloc, 0, bytes)?;
-    let tree = module_tree(alloc, tokens.as_slice())?;
-    let starts = module_item_starts(alloc, &tree)?;
-    match take_module(alloc, &tree) {
-        Ok(said) => Ok(Text {
+    let tokens = tokens_of(alloc, bytes)?;
+    match module_in(alloc, tokens.as_slice()) {
+        Ok((starts, said)) => Ok(Text {
             tokens,
             starts,
             said,
         }),
-        Err(fault) => Err(take_fault(tokens.as_slice(), starts.as_slice(), fault)),
+        Err(fault) => {
+            drop(tokens);
+            Err(fault)
+        }
     }
 }
 
-fn script_tree(alloc: Global, tokens: &[Token]) -> Result<ScriptText, TextFault>
-    ensures spelled { IfOk result (λ tree. lexemes tokens.now ≡ script_tokens tree) }
-    ensures no_tree { IfErr result (FirstRefused (λ tree. script_tokens tree ≡ lexemes tokens.now) script_depth) }
+/// What a module text of these tokens says, and where its parts start.
+fn module_in(alloc: Global, tokens: &[Token]) -> Result<(Items<usize>, Module), TextFault>
+    ensures said { IfOk result (λ found. TokensSay module_tokens first_module (lexemes tokens.now) found.1) }
+    ensures refused { IfErr result (TokensRefused module_tokens module_depth (lexemes tokens.now)) }
 {
-    match parse_script(alloc, tokens) {
-        Ok(tree) => Ok(tree),
+    match parse_module(alloc, tokens) {
+        Ok(tree) => {
+            let found = module_taken(alloc, tokens, &tree);
+            drop(tree);
+            found
+        }
         Err(fault) => Err(parse_fault(tokens, fault)),
     }
 }
 
+/// What the tree of a module text says, and where its parts start.
+fn module_taken(
+    alloc: Global,
+    tokens: &[Token],
+    tree: &ModuleText,
+) -> Result<(Items<usize>, Module), TextFault>
+    ensures said { IfOk result (λ found. first_module tree.now ≡ Some found.1) }
+    ensures of_meaning { IfErr result IsOfMeaning }
+{
+    let starts = module_item_starts(alloc, tree)?;
+    match take_module(alloc, tree) {
+        Ok(said) => Ok((starts, said)),
+        Err(fault) => Err(take_fault(tokens, starts.as_slice(), fault)),
+    }
+}
+
+/// What a script says.
 pub(crate) fn script_of(alloc: Global, bytes: &[u8]) -> Result<Text<Script>, TextFault>
     ensures said { IfOk result (λ text. Says script_tokens some_script bytes.now text.said) }
-    ensures no_tree { IfErr result (FirstRefused (λ tree. Spells bytes.now (script_tokens tree)) script_depth) }
+    ensures refused { IfErr result (FirstRefused script_tokens script_depth bytes.now) }
 {
-    let tokens = tokens_of(alloc, 0, bytes)?;
-    let tree = script_tree(alloc, tokens.as_slice())?;
-    let starts = script_item_starts(alloc, &tree)?;
-    let said = take_script(alloc, &tree)?;
-    Ok(Text {
-        tokens,
-        starts,
-        said,
-    })
+    let tokens = tokens_of(alloc, bytes)?;
+    match script_in(alloc, tokens.as_slice()) {
+        Ok((starts, said)) => Ok(Text {
+            tokens,
+            starts,
+            said,
+        }),
+        Err(fault) => {
+            drop(tokens);
+            Err(fault)
+        }
+    }
+}
+
+/// What a script of these tokens says, and where its parts start.
+fn script_in(alloc: Global, tokens: &[Token]) -> Result<(Items<usize>, Script), TextFault>
+    ensures said { IfOk result (λ found. TokensSay script_tokens some_script (lexemes tokens.now) found.1) }
+    ensures refused { IfErr result (TokensRefused script_tokens script_depth (lexemes tokens.now)) }
+{
+    match parse_script(alloc, tokens) {
+        Ok(tree) => {
+            let found = script_taken(alloc, &tree);
+            drop(tree);
+            found
+        }
+        Err(fault) => Err(parse_fault(tokens, fault)),
+    }
+}
+
+/// What the tree of a script says, and where its parts start.
+fn script_taken(alloc: Global, tree: &ScriptText) -> Result<(Items<usize>, Script), TextFault>
+    ensures said { IfOk result (λ found. some_script tree.now ≡ Some found.1) }
+    ensures of_meaning { IfErr result IsOfMeaning }
+{
+    let starts = script_item_starts(alloc, tree)?;
+    let said = take_script(alloc, tree)?;
+    Ok((starts, said))
 }

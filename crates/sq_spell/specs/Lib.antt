@@ -1,1 +1,1 @@
-pub mod Measure
+pub mod Sinks

@@ -1,18 +1,22 @@
-//! How trees are spelled: the list of a tree's tokens, how many they are, and how deep round brackets nest.
+//! How trees are spelled: the list of a tree's tokens, how many they are, how deep round brackets nest, and where the
+//! parts of a text begin.
 #![tactic(auto)]
 
 mod cond;
 mod data_type;
 mod expr;
 mod list;
-mod measure;
 mod module;
 mod names;
 mod query;
 mod schema;
 mod script;
+mod sink;
+mod sinks;
+mod starts;
 mod statement;
 mod tree;
-mod writer;
 
+pub use sink::Sink;
+pub use starts::{module_item_start, schema_element_start, schema_start, script_item_start};
 pub use tree::{Tree, depth, token_count, write_tokens};

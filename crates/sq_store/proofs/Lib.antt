@@ -1,2 +1,3 @@
 pub mod Rises
 pub mod Search
+pub mod Sound

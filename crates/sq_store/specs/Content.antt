@@ -1,11 +1,11 @@
 -- What a store contains: for each base table its rows under rising numbers, and the number of the next new row
 -- (ISO/IEC 9075:1992, 4.9; the numbers are an own rule).
-use Rattle.std.specs.Prelude.{ℕ, ◌+◌, List, [], ◌∷◌, ◌++◌, Option, nat_le, find, fold, replicate, slice_set, slice_index_or}
+use Rattle.std.specs.Prelude.{ℕ, ◌+◌, List, [], ◌∷◌, ◌++◌, Option, not, nat_eq, nat_le, filter, find, fold, if◌then◌else◌, map, replicate, slice_set, slice_index_or}
 use Rattle.sq_value.specs.declared.value.Value.{Value}
 use Rattle.sq_store.specs.declared.table.Numbered.{Numbered}
 use Rattle.sq_store.specs.declared.table.Table.{Table}
 use Rattle.sq_store.specs.declared.change.Change.{Change}
-use Rattle.sq_store.specs.declared.change.Change.TheVariants.{Insert}
+use Rattle.sq_store.specs.declared.change.Change.TheVariants.{Insert, Replace, Remove}
 
 -- ---- one table
 
@@ -17,8 +17,18 @@ empty = record { rows = []; next = 1 }
 abbrev pub inserted : Table → List Value → Table
 inserted t row = record { rows = t.rows ++ record { number = t.next; row = row } ∷ []; next = t.next + 1 }
 
+-- another row under a number that has one
+abbrev pub replaced : Table → ℕ → List Value → Table
+replaced t number row = record { rows = map (λ r. if nat_eq r.number number then record { number = number; row = row } else r) t.rows; next = t.next }
+
+-- without the row under a number; the number isn't used again
+abbrev pub removed : Table → ℕ → Table
+removed t number = record { rows = filter (λ r. not (nat_eq r.number number)) t.rows; next = t.next }
+
 abbrev pub changed : Table → Change → Table
 changed t (Insert row) = inserted t row
+changed t (Replace number row) = replaced t number row
+changed t (Remove number) = removed t number
 
 -- all changes, one after the other
 abbrev pub changed_by : Table → List Change → Table
@@ -30,6 +40,10 @@ first_among rows number = find (λ r. nat_le number r.number) rows
 
 abbrev pub first_from : Table → ℕ → Option Numbered
 first_from t number = first_among t.rows number
+
+-- the row under a number
+abbrev pub row_at : Table → ℕ → Option Numbered
+row_at t number = find (λ r. nat_eq r.number number) t.rows
 
 -- ---- all tables
 

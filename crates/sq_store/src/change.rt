@@ -9,12 +9,19 @@ use thiserror::Error;
 pub enum Change {
     /// A new row, under the next number.
     Insert(Row),
+    /// Another row under a number. Where the number has no row, nothing changes.
+    Replace(u64, Row),
+    /// The row under a number goes. The number isn't used again.
+    Remove(u64),
 }
 
 /// Why none of some changes was made.
 #[derive(Debug, Drop, Error)]
 pub enum ApplyFault {
-    #[error("want of memory")]
+    /// After all changes two rows would have the same key.
+    #[error("two rows with the same key")]
+    Duplicate,
+    #[error("out of memory")]
     NoMemory,
 }
 

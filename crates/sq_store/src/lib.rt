@@ -2,16 +2,16 @@
 #![tactic(auto)]
 
 mod change;
+mod key;
 mod list_store;
 mod meter;
+mod saved;
 mod store;
 mod table;
 
 pub use change::{ApplyFault, Change};
-pub use list_store::ListStore;
+pub use key::are_same;
+pub use list_store::{ListStore, copy_keys};
 pub use meter::Meter;
 pub use store::{MOST_ROW_NUMBERS, Store};
 pub use table::{Numbered, Table};
-
-#[cfg(test)]
-mod tests;

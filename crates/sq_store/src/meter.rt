@@ -33,7 +33,7 @@ impl Meter {
     }
 
     /// Counts a row that is handed out.
-    pub(crate) fn hand_out(&mut self)
+    pub fn hand_out(&mut self)
         ensures { self.new ≡ counted self.old }
     {
         self.count = self.count.saturating_add(1);

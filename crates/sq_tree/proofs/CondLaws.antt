@@ -4,10 +4,14 @@ use Rattle.std.specs.List.{flat_map}
 use Rattle.std.proofs.lemmas.List.Folds.{flat_map-map}
 use Rattle.sq_lex.specs.declared.lexeme.Lexeme.TheVariants as lexeme
 use Rattle.sq_lex.specs.declared.word.Word.TheVariants as word
-use Rattle.sq_tree.specs.Tree.{Tokens, optional, bracketed, optional_depth, greatest}
-use Rattle.sq_tree.specs.List.{comma_tokens, comma_depth}
-use Rattle.sq_tree.specs.Expr.{expr_tokens, expr_depth, quantifier_tokens}
-use Rattle.sq_tree.specs.Cond.{cond_tokens, conj_tokens, test_tokens, body_tokens, tail_tokens, table_expression_tokens, query_specification_tokens, cond_depth, conj_depth, test_depth, body_depth, tail_depth, table_expression_depth, query_specification_depth, or_tokens, and_tokens, not_tokens, comparison_token, compared_tokens, escape_tokens, where_tokens, having_tokens, group_by_tokens, table_reference_tokens, select_list_tokens, select_list_depth}
+use Rattle.sq_tree.specs.Tree.{Tokens, optional, bracketed}
+use Rattle.sq_tree.proofs.TreeDepth.{optional_depth, greatest}
+use Rattle.sq_tree.specs.List.{comma_tokens}
+use Rattle.sq_tree.proofs.ListDepth.{comma_depth}
+use Rattle.sq_tree.specs.Expr.{expr_tokens, quantifier_tokens}
+use Rattle.sq_tree.proofs.ExprDepth.{expr_depth}
+use Rattle.sq_tree.specs.Cond.{cond_tokens, conj_tokens, test_tokens, body_tokens, tail_tokens, table_expression_tokens, query_specification_tokens, or_tokens, and_tokens, not_tokens, comparison_token, compared_tokens, escape_tokens, where_tokens, having_tokens, group_by_tokens, table_reference_tokens, select_list_tokens}
+use Rattle.sq_tree.proofs.CondDepth.{cond_depth, conj_depth, test_depth, body_depth, tail_depth, table_expression_depth, query_specification_depth, select_list_depth}
 use Rattle.sq_tree.specs.declared.list.CommaList.{CommaList}
 use Rattle.sq_tree.specs.declared.names.ColumnReference.{ColumnReference}
 use Rattle.sq_tree.specs.declared.cond.TableReference.{TableReference}

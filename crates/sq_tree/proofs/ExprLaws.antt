@@ -6,9 +6,11 @@ use Rattle.sq_lex.specs.declared.lexeme.Lexeme.TheVariants as lexeme
 use Rattle.sq_lex.specs.declared.symbol.Symbol.TheVariants as symbol
 use Rattle.sq_lex.specs.declared.word.Word.TheVariants as word
 use Rattle.sq_lex.specs.declared.number.Number.{Number}
-use Rattle.sq_tree.specs.Tree.{optional, bracketed, greatest}
+use Rattle.sq_tree.specs.Tree.{optional, bracketed}
+use Rattle.sq_tree.proofs.TreeDepth.{greatest}
 use Rattle.sq_tree.specs.Names.{parameter_tokens, column_reference_tokens}
-use Rattle.sq_tree.specs.Expr.{expr_tokens, added_tokens, term_tokens, scaled_tokens, factor_tokens, primary_tokens, sign_token, sign_tokens, times_token, function_token, quantifier_tokens, expr_depth, added_depth, term_depth, scaled_depth, factor_depth, primary_depth}
+use Rattle.sq_tree.specs.Expr.{expr_tokens, added_tokens, term_tokens, scaled_tokens, factor_tokens, primary_tokens, sign_token, sign_tokens, times_token, function_token, quantifier_tokens}
+use Rattle.sq_tree.proofs.ExprDepth.{expr_depth, added_depth, term_depth, scaled_depth, factor_depth, primary_depth}
 use Rattle.sq_tree.specs.declared.names.Parameter.{Parameter}
 use Rattle.sq_tree.specs.declared.names.ColumnReference.{ColumnReference}
 use Rattle.sq_tree.specs.declared.expr.Sign.{Sign}

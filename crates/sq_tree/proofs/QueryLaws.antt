@@ -4,9 +4,12 @@ use Rattle.std.specs.List.{flat_map}
 use Rattle.std.proofs.lemmas.List.Folds.{flat_map-map}
 use Rattle.sq_lex.specs.declared.lexeme.Lexeme.TheVariants as lexeme
 use Rattle.sq_lex.specs.declared.word.Word.TheVariants as word
-use Rattle.sq_tree.specs.Tree.{said, bracketed, greatest}
-use Rattle.sq_tree.specs.Cond.{query_specification_tokens, query_specification_depth}
-use Rattle.sq_tree.specs.Query.{query_tokens, query_term_tokens, union_term_tokens, query_depth, query_term_depth, union_term_depth}
+use Rattle.sq_tree.specs.Tree.{said, bracketed}
+use Rattle.sq_tree.proofs.TreeDepth.{greatest}
+use Rattle.sq_tree.specs.Cond.{query_specification_tokens}
+use Rattle.sq_tree.proofs.CondDepth.{query_specification_depth}
+use Rattle.sq_tree.specs.Query.{query_tokens, query_term_tokens, union_term_tokens}
+use Rattle.sq_tree.proofs.QueryDepth.{query_depth, query_term_depth, union_term_depth}
 use Rattle.sq_tree.specs.declared.cond.QuerySpecification.{QuerySpecification}
 use Rattle.sq_tree.specs.declared.query.Query.{Query, out-Query, fold_out-Query, roll-Query, out-roll-Query}
 use Rattle.sq_tree.specs.declared.query.UnionTerm.{UnionTerm, fold_out-UnionTerm}

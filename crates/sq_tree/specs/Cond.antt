@@ -1,14 +1,14 @@
--- Search conditions and query specifications (ISO/IEC 9075:1992, 6.3, 7.3 to 7.9, 7.11 and 8): their tokens and their depth.
-use Rattle.std.specs.Prelude.{ℕ, ◌+◌, max, Bool, [], ◌∷◌, ◌++◌}
+-- Search conditions and query specifications (ISO/IEC 9075:1992, 6.3, 7.3 to 7.9, 7.11 and 8): their tokens.
+use Rattle.std.specs.Prelude.{Bool, [], ◌∷◌, ◌++◌}
 use Rattle.std.specs.List.{flat_map}
 use Rattle.sq_lex.specs.declared.lexeme.Lexeme.{Lexeme}
 use Rattle.sq_lex.specs.declared.lexeme.Lexeme.TheVariants as lexeme
 use Rattle.sq_lex.specs.declared.symbol.Symbol.TheVariants as symbol
 use Rattle.sq_lex.specs.declared.word.Word.TheVariants as word
-use Rattle.sq_tree.specs.Tree.{Tokens, said, optional, bracketed, optional_depth, greatest}
-use Rattle.sq_tree.specs.List.{comma_tokens, comma_depth}
+use Rattle.sq_tree.specs.Tree.{Tokens, said, optional, bracketed}
+use Rattle.sq_tree.specs.List.{comma_tokens}
 use Rattle.sq_tree.specs.Names.{name_tokens, table_name_tokens, column_reference_tokens}
-use Rattle.sq_tree.specs.Expr.{expr_tokens, expr_depth, quantifier_tokens}
+use Rattle.sq_tree.specs.Expr.{expr_tokens, quantifier_tokens}
 use Rattle.sq_tree.specs.declared.list.CommaList.{CommaList}
 use Rattle.sq_tree.specs.declared.expr.Expr.{Expr}
 use Rattle.sq_tree.specs.declared.names.ColumnReference.{ColumnReference}
@@ -29,7 +29,7 @@ use Rattle.sq_tree.specs.declared.cond.Test.{Test, fold-Test, Test-F}
 use Rattle.sq_tree.specs.declared.cond.TableExpression.{TableExpression, fold-TableExpression, TableExpression-F}
 use Rattle.sq_tree.specs.declared.cond.QuerySpecification.{QuerySpecification, fold-QuerySpecification, QuerySpecification-F}
 
--- op = "=" | "<>" | "<" | ">" | "<=" | ">="
+-- comparison = "=" | "<>" | "<" | ">" | "<=" | ">="
 abbrev pub comparison_token : Comparison → Lexeme
 comparison_token comparison.Equal = lexeme.Symbol symbol.Equal
 comparison_token comparison.NotEqual = lexeme.Symbol symbol.NotEqual
@@ -59,7 +59,7 @@ escape_tokens e = lexeme.Word word.Escape ∷ expr_tokens e
 abbrev pub correlation_tokens : Correlation → Tokens
 correlation_tokens c = said c.as_word (lexeme.Word word.As ∷ []) ++ name_tokens c.name
 
--- tref = tname [ [ AS ] name ]
+-- table-ref = table-name [ [ AS ] name ]
 abbrev pub table_reference_tokens : TableReference → Tokens
 table_reference_tokens t = table_name_tokens t.table ++ optional correlation_tokens t.correlation
 
@@ -68,19 +68,19 @@ abbrev pub select_list_tokens : SelectList → Tokens
 select_list_tokens Star = lexeme.Symbol symbol.Star ∷ []
 select_list_tokens (Items items) = comma_tokens expr_tokens items
 
--- GROUP BY colref { "," colref }
+-- GROUP BY column-ref { "," column-ref }
 abbrev pub group_by_tokens : CommaList ColumnReference → Tokens
 group_by_tokens columns = lexeme.Word word.Group ∷ lexeme.Word word.By ∷ comma_tokens column_reference_tokens columns
 
 -- One level of a tree, with the tokens of each part in its place.
 
--- pred | "(" cond ")"
+-- predicate | "(" condition ")"
 abbrev pub body_layer : Body-F Tokens Tokens Tokens Tokens Tokens Tokens Tokens → Tokens
 body_layer (layer.Predicate left rest) = expr_tokens left ++ rest
 body_layer (layer.Exists query) = lexeme.Word word.Exists ∷ bracketed query
 body_layer (layer.Bracketed cond) = bracketed cond
 
--- pred, from its second part on
+-- predicate, from its second part on
 abbrev pub tail_layer : Tail-F Tokens Tokens Tokens Tokens Tokens Tokens Tokens → Tokens
 tail_layer (layer.Compare op right) = comparison_token op ∷ expr_tokens right
 tail_layer (layer.CompareQuery op q query) = comparison_token op ∷ optional compared_tokens q ++ bracketed query
@@ -90,7 +90,7 @@ tail_layer (layer.InList negated values) = not_tokens negated ++ lexeme.Word wor
 tail_layer (layer.Like negated pattern escape) = not_tokens negated ++ lexeme.Word word.Like ∷ expr_tokens pattern ++ optional escape_tokens escape
 tail_layer (layer.Null negated) = lexeme.Word word.Is ∷ not_tokens negated ++ lexeme.Word word.Null ∷ []
 
--- test = [ NOT ] ( pred | "(" cond ")" )
+-- test = [ NOT ] ( predicate | "(" condition ")" )
 abbrev pub test_layer : Test-F Tokens Tokens Tokens Tokens Tokens Tokens Tokens → Tokens
 test_layer t = not_tokens t.negated ++ t.body
 
@@ -98,31 +98,31 @@ test_layer t = not_tokens t.negated ++ t.body
 abbrev pub and_tokens : Tokens → Tokens
 and_tokens test = lexeme.Word word.And ∷ test
 
--- conj = test { AND test }
+-- conjunction = test { AND test }
 abbrev pub conj_layer : Conj-F Tokens Tokens Tokens Tokens Tokens Tokens Tokens → Tokens
 conj_layer c = c.first ++ flat_map and_tokens c.rest
 
--- OR conj
+-- OR conjunction
 abbrev pub or_tokens : Tokens → Tokens
 or_tokens conj = lexeme.Word word.Or ∷ conj
 
--- cond = conj { OR conj }
+-- condition = conjunction { OR conjunction }
 abbrev pub cond_layer : Cond-F Tokens Tokens Tokens Tokens Tokens Tokens Tokens → Tokens
 cond_layer c = c.first ++ flat_map or_tokens c.rest
 
--- WHERE cond
+-- WHERE condition
 abbrev pub where_tokens : Tokens → Tokens
 where_tokens cond = lexeme.Word word.Where ∷ cond
 
--- HAVING cond
+-- HAVING condition
 abbrev pub having_tokens : Tokens → Tokens
 having_tokens cond = lexeme.Word word.Having ∷ cond
 
--- tabexp = FROM tref { "," tref } [ WHERE cond ] [ GROUP BY colref { "," colref } ] [ HAVING cond ]
+-- table-exp = FROM table-ref { "," table-ref } [ WHERE condition ] [ GROUP BY column-ref { "," column-ref } ] [ HAVING condition ]
 abbrev pub table_expression_layer : TableExpression-F Tokens Tokens Tokens Tokens Tokens Tokens Tokens → Tokens
 table_expression_layer t = lexeme.Word word.From ∷ comma_tokens table_reference_tokens t.from ++ optional where_tokens t.where_clause ++ optional group_by_tokens t.group_by ++ optional having_tokens t.having
 
--- spec = SELECT [ ALL | DISTINCT ] list tabexp
+-- specification = SELECT [ ALL | DISTINCT ] list table-exp
 abbrev pub query_specification_layer : QuerySpecification-F Tokens Tokens Tokens Tokens Tokens Tokens Tokens → Tokens
 query_specification_layer s = lexeme.Word word.Select ∷ optional quantifier_tokens s.quantifier ++ select_list_tokens s.list ++ s.table
 
@@ -146,62 +146,3 @@ table_expression_tokens = fold-TableExpression Tokens Tokens Tokens Tokens Token
 
 unfoldable pub query_specification_tokens : QuerySpecification → Tokens
 query_specification_tokens = fold-QuerySpecification Tokens Tokens Tokens Tokens Tokens Tokens Tokens body_layer tail_layer cond_layer conj_layer query_specification_layer table_expression_layer test_layer
-
--- The same for the depth, the greatest number of round brackets open at once.
-
-abbrev pub select_list_depth : SelectList → ℕ
-select_list_depth Star = 0
-select_list_depth (Items items) = comma_depth expr_depth items
-
-abbrev pub body_height : Body-F ℕ ℕ ℕ ℕ ℕ ℕ ℕ → ℕ
-body_height (layer.Predicate left rest) = max (expr_depth left) rest
-body_height (layer.Exists query) = query + 1
-body_height (layer.Bracketed cond) = cond + 1
-
-abbrev pub tail_height : Tail-F ℕ ℕ ℕ ℕ ℕ ℕ ℕ → ℕ
-tail_height (layer.Compare op right) = expr_depth right
-tail_height (layer.CompareQuery op q query) = query + 1
-tail_height (layer.Between negated low high) = max (expr_depth low) (expr_depth high)
-tail_height (layer.InQuery negated query) = query + 1
-tail_height (layer.InList negated values) = comma_depth expr_depth values + 1
-tail_height (layer.Like negated pattern escape) = max (expr_depth pattern) (optional_depth expr_depth escape)
-tail_height (layer.Null negated) = 0
-
-abbrev pub test_height : Test-F ℕ ℕ ℕ ℕ ℕ ℕ ℕ → ℕ
-test_height t = t.body
-
-abbrev pub conj_height : Conj-F ℕ ℕ ℕ ℕ ℕ ℕ ℕ → ℕ
-conj_height c = max c.first (greatest c.rest)
-
-abbrev pub cond_height : Cond-F ℕ ℕ ℕ ℕ ℕ ℕ ℕ → ℕ
-cond_height c = max c.first (greatest c.rest)
-
-abbrev pub part_depth : ℕ → ℕ
-part_depth d = d
-
-abbrev pub table_expression_height : TableExpression-F ℕ ℕ ℕ ℕ ℕ ℕ ℕ → ℕ
-table_expression_height t = max (optional_depth part_depth t.where_clause) (optional_depth part_depth t.having)
-
-abbrev pub query_specification_height : QuerySpecification-F ℕ ℕ ℕ ℕ ℕ ℕ ℕ → ℕ
-query_specification_height s = max (select_list_depth s.list) s.table
-
-unfoldable pub body_depth : Body → ℕ
-body_depth = fold-Body ℕ ℕ ℕ ℕ ℕ ℕ ℕ body_height tail_height cond_height conj_height query_specification_height table_expression_height test_height
-
-unfoldable pub tail_depth : Tail → ℕ
-tail_depth = fold-Tail ℕ ℕ ℕ ℕ ℕ ℕ ℕ body_height tail_height cond_height conj_height query_specification_height table_expression_height test_height
-
-unfoldable pub test_depth : Test → ℕ
-test_depth = fold-Test ℕ ℕ ℕ ℕ ℕ ℕ ℕ body_height tail_height cond_height conj_height query_specification_height table_expression_height test_height
-
-unfoldable pub conj_depth : Conj → ℕ
-conj_depth = fold-Conj ℕ ℕ ℕ ℕ ℕ ℕ ℕ body_height tail_height cond_height conj_height query_specification_height table_expression_height test_height
-
-unfoldable pub cond_depth : Cond → ℕ
-cond_depth = fold-Cond ℕ ℕ ℕ ℕ ℕ ℕ ℕ body_height tail_height cond_height conj_height query_specification_height table_expression_height test_height
-
-unfoldable pub table_expression_depth : TableExpression → ℕ
-table_expression_depth = fold-TableExpression ℕ ℕ ℕ ℕ ℕ ℕ ℕ body_height tail_height cond_height conj_height query_specification_height table_expression_height test_height
-
-unfoldable pub query_specification_depth : QuerySpecification → ℕ
-query_specification_depth = fold-QuerySpecification ℕ ℕ ℕ ℕ ℕ ℕ ℕ body_height tail_height cond_height conj_height query_specification_height table_expression_height test_height

@@ -1,5 +1,5 @@
--- Data types (ISO/IEC 9075:1992, 6.1): their tokens and their depth.
-use Rattle.std.specs.Prelude.{ℕ, [], ◌∷◌, ◌++◌, Option, Some, None}
+-- Data types (ISO/IEC 9075:1992, 6.1): their tokens.
+use Rattle.std.specs.Prelude.{[], ◌∷◌, ◌++◌}
 use Rattle.sq_lex.specs.declared.lexeme.Lexeme.TheVariants as lexeme
 use Rattle.sq_lex.specs.declared.symbol.Symbol.TheVariants as symbol
 use Rattle.sq_lex.specs.declared.word.Word.TheVariants as word
@@ -55,14 +55,3 @@ data_type_tokens Int = lexeme.Word word.Int ∷ []
 data_type_tokens (Exact name precision) = exact_word_tokens name ++ optional precision_tokens precision
 data_type_tokens (Character name length) = character_word_tokens name ++ optional length_tokens length
 data_type_tokens (Varying name length) = varying_word_tokens name ++ length_tokens length
-
--- 1 where a part in brackets is written
-abbrev pub bracket_depth : {A : Type 0} → Option A → ℕ
-bracket_depth None = 0
-bracket_depth (Some x) = 1
-
-abbrev pub data_type_depth : DataType → ℕ
-data_type_depth (Exact name precision) = bracket_depth precision
-data_type_depth (Character name length) = bracket_depth length
-data_type_depth (Varying name length) = 1
-data_type_depth _ = 0

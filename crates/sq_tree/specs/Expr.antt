@@ -1,11 +1,11 @@
--- Value expressions, signed numbers and set functions (ISO/IEC 9075:1992, 5.3, 6.2, 6.5 and 6.11 to 6.13): their tokens and their depth.
-use Rattle.std.specs.Prelude.{ℕ, ◌+◌, max, [], ◌∷◌, ◌++◌}
+-- Value expressions, signed numbers and set functions (ISO/IEC 9075:1992, 5.3, 6.2, 6.5 and 6.11 to 6.13): their tokens.
+use Rattle.std.specs.Prelude.{[], ◌∷◌, ◌++◌}
 use Rattle.std.specs.List.{flat_map}
 use Rattle.sq_lex.specs.declared.lexeme.Lexeme.{Lexeme}
 use Rattle.sq_lex.specs.declared.lexeme.Lexeme.TheVariants as lexeme
 use Rattle.sq_lex.specs.declared.symbol.Symbol.TheVariants as symbol
 use Rattle.sq_lex.specs.declared.word.Word.TheVariants as word
-use Rattle.sq_tree.specs.Tree.{Tokens, optional, bracketed, greatest}
+use Rattle.sq_tree.specs.Tree.{Tokens, optional, bracketed}
 use Rattle.sq_tree.specs.Names.{parameter_tokens, column_reference_tokens}
 use Rattle.sq_tree.specs.declared.expr.Sign.{Sign}
 use Rattle.sq_tree.specs.declared.expr.Sign.TheVariants.{Plus, Minus}
@@ -59,7 +59,7 @@ signed_number_tokens n = optional sign_tokens n.sign ++ lexeme.Number n.number �
 
 -- One level of a tree, with the tokens of each part in its place.
 
--- primary = number | text | param | USER | colref | setfn | "(" expr ")"
+-- primary = number | text | parameter | USER | column-ref | set-function | "(" expr ")"
 abbrev pub primary_layer : Primary-F Tokens Tokens Tokens Tokens Tokens Tokens → Tokens
 primary_layer (layer.Number n) = lexeme.Number n ∷ []
 primary_layer (layer.Text characters) = lexeme.Text characters ∷ []
@@ -107,44 +107,3 @@ added_tokens = fold-Added Tokens Tokens Tokens Tokens Tokens Tokens primary_laye
 
 unfoldable pub expr_tokens : Expr → Tokens
 expr_tokens = fold-Expr Tokens Tokens Tokens Tokens Tokens Tokens primary_layer added_layer expr_layer factor_layer scaled_layer term_layer
-
--- The same for the depth, the greatest number of round brackets open at once.
-
-abbrev pub primary_height : Primary-F ℕ ℕ ℕ ℕ ℕ ℕ → ℕ
-primary_height layer.CountRows = 1
-primary_height (layer.SetFunction function quantifier expr) = expr + 1
-primary_height (layer.Bracketed expr) = expr + 1
-primary_height _ = 0
-
-abbrev pub factor_height : Factor-F ℕ ℕ ℕ ℕ ℕ ℕ → ℕ
-factor_height f = f.primary
-
-abbrev pub scaled_height : Scaled-F ℕ ℕ ℕ ℕ ℕ ℕ → ℕ
-scaled_height s = s.factor
-
-abbrev pub term_height : Term-F ℕ ℕ ℕ ℕ ℕ ℕ → ℕ
-term_height t = max t.first (greatest t.rest)
-
-abbrev pub added_height : Added-F ℕ ℕ ℕ ℕ ℕ ℕ → ℕ
-added_height a = a.term
-
-abbrev pub expr_height : Expr-F ℕ ℕ ℕ ℕ ℕ ℕ → ℕ
-expr_height e = max e.first (greatest e.rest)
-
-unfoldable pub primary_depth : Primary → ℕ
-primary_depth = fold-Primary ℕ ℕ ℕ ℕ ℕ ℕ primary_height added_height expr_height factor_height scaled_height term_height
-
-unfoldable pub factor_depth : Factor → ℕ
-factor_depth = fold-Factor ℕ ℕ ℕ ℕ ℕ ℕ primary_height added_height expr_height factor_height scaled_height term_height
-
-unfoldable pub scaled_depth : Scaled → ℕ
-scaled_depth = fold-Scaled ℕ ℕ ℕ ℕ ℕ ℕ primary_height added_height expr_height factor_height scaled_height term_height
-
-unfoldable pub term_depth : Term → ℕ
-term_depth = fold-Term ℕ ℕ ℕ ℕ ℕ ℕ primary_height added_height expr_height factor_height scaled_height term_height
-
-unfoldable pub added_depth : Added → ℕ
-added_depth = fold-Added ℕ ℕ ℕ ℕ ℕ ℕ primary_height added_height expr_height factor_height scaled_height term_height
-
-unfoldable pub expr_depth : Expr → ℕ
-expr_depth = fold-Expr ℕ ℕ ℕ ℕ ℕ ℕ primary_height added_height expr_height factor_height scaled_height term_height

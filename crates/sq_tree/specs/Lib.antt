@@ -9,3 +9,5 @@ pub mod Statement
 pub mod Module
 pub mod Schema
 pub mod Script
+pub mod Brackets
+pub mod Starts

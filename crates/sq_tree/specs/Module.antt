@@ -1,14 +1,15 @@
--- Module texts (ISO/IEC 9075:1992, 12.1, 12.3 and 13.1): their tokens and their depth.
-use Rattle.std.specs.Prelude.{ℕ, ◌+◌, max, [], ◌∷◌, ◌++◌}
+-- Module texts (ISO/IEC 9075:1992, 12.1, 12.3 and 13.1): their tokens.
+use Rattle.std.specs.Prelude.{ℕ, [], ◌∷◌, ◌++◌}
 use Rattle.sq_lex.specs.declared.lexeme.Lexeme.{Lexeme}
 use Rattle.sq_lex.specs.declared.lexeme.Lexeme.TheVariants as lexeme
 use Rattle.sq_lex.specs.declared.symbol.Symbol.TheVariants as symbol
 use Rattle.sq_lex.specs.declared.word.Word.TheVariants as word
 use Rattle.sq_tree.specs.Tree.{Tokens, said, optional, bracketed}
-use Rattle.sq_tree.specs.List.{comma_tokens, comma_depth, row_tokens, row_depth}
-use Rattle.sq_tree.specs.DataType.{data_type_tokens, data_type_depth}
-use Rattle.sq_tree.specs.Query.{query_tokens, query_depth}
-use Rattle.sq_tree.specs.Statement.{statement_tokens, statement_depth}
+use Rattle.sq_tree.specs.Brackets.{deepest}
+use Rattle.sq_tree.specs.List.{comma_tokens, row_tokens}
+use Rattle.sq_tree.specs.DataType.{data_type_tokens}
+use Rattle.sq_tree.specs.Query.{query_tokens}
+use Rattle.sq_tree.specs.Statement.{statement_tokens}
 use Rattle.sq_tree.specs.declared.list.CommaList.{CommaList}
 use Rattle.sq_tree.specs.declared.module.ModuleText.{ModuleText}
 use Rattle.sq_tree.specs.declared.module.ModuleItem.{ModuleItem}
@@ -44,26 +45,26 @@ sort_specification_tokens s = sort_key_token s.key ∷ optional direction_tokens
 abbrev pub order_by_tokens : CommaList SortSpecification → Tokens
 order_by_tokens sorts = lexeme.Word word.Order ∷ lexeme.Word word.By ∷ comma_tokens sort_specification_tokens sorts
 
--- cursor = DECLARE name [ INSENSITIVE ] [ SCROLL ] CURSOR FOR qexpr [ ORDER BY .. ], and [ ";" ]
+-- cursor = DECLARE name [ INSENSITIVE ] [ SCROLL ] CURSOR FOR query [ ORDER BY .. ], and [ ";" ]
 abbrev pub cursor_tokens : Cursor → Tokens
 cursor_tokens c = lexeme.Word word.Declare ∷ lexeme.Name c.name ∷ said c.insensitive (lexeme.Word word.Insensitive ∷ []) ++ said c.scroll (lexeme.Word word.Scroll ∷ []) ++ lexeme.Word word.Cursor ∷ lexeme.Word word.For ∷ query_tokens c.query ++ optional order_by_tokens c.order_by ++ said c.semicolon (lexeme.Symbol symbol.Semicolon ∷ [])
 
--- decl = ":" name type | SQLCODE | SQLSTATE
+-- declaration = ":" name type | SQLCODE | SQLSTATE
 abbrev pub declaration_tokens : Declaration → Tokens
 declaration_tokens (Parameter name data_type) = lexeme.Symbol symbol.Colon ∷ lexeme.Name name ∷ data_type_tokens data_type
 declaration_tokens Sqlcode = lexeme.Word word.Sqlcode ∷ []
 declaration_tokens Sqlstate = lexeme.Word word.Sqlstate ∷ []
 
--- [ "," ] decl
+-- [ "," ] declaration
 abbrev pub bare_declaration_tokens : BareDeclaration → Tokens
 bare_declaration_tokens b = said b.comma (lexeme.Symbol symbol.Comma ∷ []) ++ declaration_tokens b.declaration
 
--- params = "(" decl { "," decl } ")" | decl { [ "," ] decl }
+-- declarations = "(" declaration { "," declaration } ")" | declaration { [ "," ] declaration }
 abbrev pub declarations_tokens : Declarations → Tokens
 declarations_tokens (Bracketed declarations) = bracketed (comma_tokens declaration_tokens declarations)
 declarations_tokens (Bare first rest) = declaration_tokens first ++ row_tokens bare_declaration_tokens rest
 
--- procedure = PROCEDURE name params ";" statement ";"
+-- procedure = PROCEDURE name declarations ";" statement ";"
 abbrev pub procedure_tokens : Procedure → Tokens
 procedure_tokens p = lexeme.Word word.Procedure ∷ lexeme.Name p.name ∷ declarations_tokens p.declarations ++ lexeme.Symbol symbol.Semicolon ∷ statement_tokens p.statement ++ lexeme.Symbol symbol.Semicolon ∷ []
 
@@ -76,26 +77,6 @@ module_item_tokens (item.Procedure procedure) = procedure_tokens procedure
 abbrev pub module_tokens : ModuleText → Tokens
 module_tokens m = lexeme.Word word.Module ∷ lexeme.Name m.name ∷ lexeme.Word word.Language ∷ lexeme.Name m.language ∷ lexeme.Word word.Authorization ∷ lexeme.Name m.authorization ∷ row_tokens module_item_tokens m.items
 
-abbrev pub declaration_depth : Declaration → ℕ
-declaration_depth (Parameter name data_type) = data_type_depth data_type
-declaration_depth _ = 0
-
-abbrev pub bare_declaration_depth : BareDeclaration → ℕ
-bare_declaration_depth b = declaration_depth b.declaration
-
-abbrev pub declarations_depth : Declarations → ℕ
-declarations_depth (Bracketed declarations) = comma_depth declaration_depth declarations + 1
-declarations_depth (Bare first rest) = max (declaration_depth first) (row_depth bare_declaration_depth rest)
-
-abbrev pub cursor_depth : Cursor → ℕ
-cursor_depth c = query_depth c.query
-
-abbrev pub procedure_depth : Procedure → ℕ
-procedure_depth p = max (declarations_depth p.declarations) (statement_depth p.statement)
-
-abbrev pub module_item_depth : ModuleItem → ℕ
-module_item_depth (item.Cursor cursor) = cursor_depth cursor
-module_item_depth (item.Procedure procedure) = procedure_depth procedure
-
+-- the greatest number of round brackets open at once
 abbrev pub module_depth : ModuleText → ℕ
-module_depth m = row_depth module_item_depth m.items
+module_depth s = deepest (module_tokens s)

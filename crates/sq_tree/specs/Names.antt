@@ -20,15 +20,15 @@ name_tokens name = lexeme.Name name ∷ []
 abbrev pub name_dot : Name → Tokens
 name_dot name = lexeme.Name name ∷ lexeme.Symbol symbol.Dot ∷ []
 
--- tname = [ name "." ] name
+-- table-name = [ name "." ] name
 abbrev pub table_name_tokens : TableName → Tokens
 table_name_tokens t = optional name_dot t.schema ++ name_tokens t.table
 
--- tname "."
+-- table-name "."
 abbrev pub qualifier_dot : TableName → Tokens
 qualifier_dot q = table_name_tokens q ++ lexeme.Symbol symbol.Dot ∷ []
 
--- colref = [ tname "." ] name
+-- column-ref = [ table-name "." ] name
 abbrev pub column_reference_tokens : ColumnReference → Tokens
 column_reference_tokens c = optional qualifier_dot c.qualifier ++ name_tokens c.column
 
@@ -36,10 +36,10 @@ column_reference_tokens c = optional qualifier_dot c.qualifier ++ name_tokens c.
 abbrev pub indicator_tokens : Indicator → Tokens
 indicator_tokens i = said i.word (lexeme.Word word.Indicator ∷ []) ++ lexeme.Symbol symbol.Colon ∷ lexeme.Name i.name ∷ []
 
--- param = ":" name [ [ INDICATOR ] ":" name ]
+-- parameter = ":" name [ [ INDICATOR ] ":" name ]
 abbrev pub parameter_tokens : Parameter → Tokens
 parameter_tokens p = lexeme.Symbol symbol.Colon ∷ lexeme.Name p.name ∷ optional indicator_tokens p.indicator
 
--- cols = "(" name { "," name } ")"
+-- columns = "(" name { "," name } ")"
 abbrev pub columns_tokens : CommaList Name → Tokens
 columns_tokens names = bracketed (comma_tokens name_tokens names)

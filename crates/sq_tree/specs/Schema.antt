@@ -1,14 +1,15 @@
--- Schema texts (ISO/IEC 9075:1992, 10.3, 11.1, 11.3 to 11.9, 11.19 and 11.36): their tokens and their depth.
-use Rattle.std.specs.Prelude.{ℕ, ◌+◌, max, [], ◌∷◌, ◌++◌}
+-- Schema texts (ISO/IEC 9075:1992, 10.3, 11.1, 11.3 to 11.9, 11.19 and 11.36): their tokens.
+use Rattle.std.specs.Prelude.{ℕ, [], ◌∷◌, ◌++◌}
 use Rattle.sq_lex.specs.declared.lexeme.Lexeme.TheVariants as lexeme
 use Rattle.sq_lex.specs.declared.symbol.Symbol.TheVariants as symbol
 use Rattle.sq_lex.specs.declared.word.Word.TheVariants as word
 use Rattle.sq_tree.specs.Tree.{Tokens, said, optional, bracketed}
-use Rattle.sq_tree.specs.List.{comma_tokens, comma_depth, row_tokens, row_depth}
+use Rattle.sq_tree.specs.Brackets.{deepest}
+use Rattle.sq_tree.specs.List.{comma_tokens, row_tokens}
 use Rattle.sq_tree.specs.Names.{table_name_tokens, columns_tokens}
 use Rattle.sq_tree.specs.Expr.{signed_number_tokens}
-use Rattle.sq_tree.specs.DataType.{data_type_tokens, data_type_depth, bracket_depth}
-use Rattle.sq_tree.specs.Cond.{cond_tokens, cond_depth, query_specification_tokens, query_specification_depth}
+use Rattle.sq_tree.specs.DataType.{data_type_tokens}
+use Rattle.sq_tree.specs.Cond.{cond_tokens, query_specification_tokens}
 use Rattle.sq_tree.specs.declared.cond.Cond.{Cond}
 use Rattle.sq_tree.specs.declared.schema.SchemaText.{SchemaText}
 use Rattle.sq_tree.specs.declared.schema.SchemaDefinition.{SchemaDefinition}
@@ -33,11 +34,11 @@ use Rattle.sq_tree.specs.declared.schema.Action.TheVariants as action
 use Rattle.sq_tree.specs.declared.schema.Grantee.{Grantee}
 use Rattle.sq_tree.specs.declared.schema.Grantee.TheVariants as grantee
 
--- ref = REFERENCES tname [ cols ]
+-- references = REFERENCES table-name [ columns ]
 abbrev pub references_tokens : References → Tokens
 references_tokens r = lexeme.Word word.References ∷ table_name_tokens r.table ++ optional columns_tokens r.columns
 
--- FOREIGN KEY cols ref
+-- FOREIGN KEY columns references
 abbrev pub foreign_key_tokens : ForeignKey → Tokens
 foreign_key_tokens f = lexeme.Word word.Foreign ∷ lexeme.Word word.Key ∷ columns_tokens f.columns ++ references_tokens f.references
 
@@ -52,11 +53,11 @@ default_tokens default.Null = lexeme.Word word.Null ∷ []
 abbrev pub default_clause_tokens : DefaultValue → Tokens
 default_clause_tokens value = lexeme.Word word.Default ∷ default_tokens value
 
--- CHECK "(" cond ")"
+-- CHECK "(" condition ")"
 abbrev pub check_tokens : Cond → Tokens
 check_tokens cond = lexeme.Word word.Check ∷ bracketed (cond_tokens cond)
 
--- colcon = NOT NULL | UNIQUE | PRIMARY KEY | ref | CHECK "(" cond ")"
+-- constraint = NOT NULL | UNIQUE | PRIMARY KEY | references | CHECK "(" condition ")"
 abbrev pub column_constraint_tokens : ColumnConstraint → Tokens
 column_constraint_tokens constraint.NotNull = lexeme.Word word.Not ∷ lexeme.Word word.Null ∷ []
 column_constraint_tokens constraint.Unique = lexeme.Word word.Unique ∷ []
@@ -64,11 +65,11 @@ column_constraint_tokens constraint.PrimaryKey = lexeme.Word word.Primary ∷ le
 column_constraint_tokens (constraint.References references) = references_tokens references
 column_constraint_tokens (constraint.Check cond) = check_tokens cond
 
--- column = name type [ DEFAULT default ] { colcon }
+-- column = name type [ DEFAULT default ] { constraint }
 abbrev pub column_definition_tokens : ColumnDefinition → Tokens
 column_definition_tokens c = lexeme.Name c.name ∷ data_type_tokens c.data_type ++ optional default_clause_tokens c.default ++ row_tokens column_constraint_tokens c.constraints
 
--- item = column | UNIQUE cols | PRIMARY KEY cols | FOREIGN KEY cols ref | CHECK "(" cond ")"
+-- element = column | UNIQUE columns | PRIMARY KEY columns | FOREIGN KEY columns references | CHECK "(" condition ")"
 abbrev pub table_element_tokens : TableElement → Tokens
 table_element_tokens (element.Column column) = column_definition_tokens column
 table_element_tokens (element.Unique columns) = lexeme.Word word.Unique ∷ columns_tokens columns
@@ -76,15 +77,15 @@ table_element_tokens (element.PrimaryKey columns) = lexeme.Word word.Primary ∷
 table_element_tokens (element.ForeignKey key) = foreign_key_tokens key
 table_element_tokens (element.Check cond) = check_tokens cond
 
--- table = CREATE TABLE tname "(" item { "," item } ")"
+-- table = CREATE TABLE table-name "(" element { "," element } ")"
 abbrev pub table_definition_tokens : TableDefinition → Tokens
 table_definition_tokens t = lexeme.Word word.Create ∷ lexeme.Word word.Table ∷ table_name_tokens t.name ++ bracketed (comma_tokens table_element_tokens t.elements)
 
--- view = CREATE VIEW tname [ cols ] AS spec [ WITH CHECK OPTION ]
+-- view = CREATE VIEW table-name [ columns ] AS specification [ WITH CHECK OPTION ]
 abbrev pub view_definition_tokens : ViewDefinition → Tokens
 view_definition_tokens v = lexeme.Word word.Create ∷ lexeme.Word word.View ∷ table_name_tokens v.name ++ optional columns_tokens v.columns ++ lexeme.Word word.As ∷ query_specification_tokens v.query ++ said v.check_option (lexeme.Word word.With ∷ lexeme.Word word.Check ∷ lexeme.Word word.Option ∷ [])
 
--- priv = SELECT | INSERT | DELETE | UPDATE [ cols ] | REFERENCES [ cols ]
+-- action = SELECT | INSERT | DELETE | UPDATE [ columns ] | REFERENCES [ columns ]
 abbrev pub action_tokens : Action → Tokens
 action_tokens action.Select = lexeme.Word word.Select ∷ []
 action_tokens action.Insert = lexeme.Word word.Insert ∷ []
@@ -92,7 +93,7 @@ action_tokens action.Delete = lexeme.Word word.Delete ∷ []
 action_tokens (action.Update columns) = lexeme.Word word.Update ∷ optional columns_tokens columns
 action_tokens (action.References columns) = lexeme.Word word.References ∷ optional columns_tokens columns
 
--- privs = ALL PRIVILEGES | priv { "," priv }
+-- privileges = ALL PRIVILEGES | action { "," action }
 abbrev pub privileges_tokens : Privileges → Tokens
 privileges_tokens privileges.All = lexeme.Word word.All ∷ lexeme.Word word.Privileges ∷ []
 privileges_tokens (privileges.Actions actions) = comma_tokens action_tokens actions
@@ -102,7 +103,7 @@ abbrev pub grantee_tokens : Grantee → Tokens
 grantee_tokens grantee.Public = lexeme.Word word.Public ∷ []
 grantee_tokens (grantee.User name) = lexeme.Name name ∷ []
 
--- grant = GRANT privs ON [ TABLE ] tname TO grantee { "," grantee } [ WITH GRANT OPTION ]
+-- grant = GRANT privileges ON [ TABLE ] table-name TO grantee { "," grantee } [ WITH GRANT OPTION ]
 abbrev pub grant_tokens : GrantStatement → Tokens
 grant_tokens g = lexeme.Word word.Grant ∷ privileges_tokens g.privileges ++ lexeme.Word word.On ∷ said g.table_word (lexeme.Word word.Table ∷ []) ++ table_name_tokens g.table ++ lexeme.Word word.To ∷ comma_tokens grantee_tokens g.grantees ++ said g.grant_option (lexeme.Word word.With ∷ lexeme.Word word.Grant ∷ lexeme.Word word.Option ∷ [])
 
@@ -120,52 +121,6 @@ schema_definition_tokens s = lexeme.Word word.Create ∷ lexeme.Word word.Schema
 abbrev pub schema_tokens : SchemaText → Tokens
 schema_tokens s = schema_definition_tokens s.first ++ row_tokens schema_definition_tokens s.rest
 
-abbrev pub references_depth : References → ℕ
-references_depth r = bracket_depth r.columns
-
-abbrev pub foreign_key_depth : ForeignKey → ℕ
-foreign_key_depth f = 1
-
-abbrev pub column_constraint_depth : ColumnConstraint → ℕ
-column_constraint_depth (constraint.References references) = references_depth references
-column_constraint_depth (constraint.Check cond) = cond_depth cond + 1
-column_constraint_depth _ = 0
-
-abbrev pub column_definition_depth : ColumnDefinition → ℕ
-column_definition_depth c = max (data_type_depth c.data_type) (row_depth column_constraint_depth c.constraints)
-
-abbrev pub table_element_depth : TableElement → ℕ
-table_element_depth (element.Column column) = column_definition_depth column
-table_element_depth (element.Unique columns) = 1
-table_element_depth (element.PrimaryKey columns) = 1
-table_element_depth (element.ForeignKey key) = foreign_key_depth key
-table_element_depth (element.Check cond) = cond_depth cond + 1
-
-abbrev pub table_definition_depth : TableDefinition → ℕ
-table_definition_depth t = comma_depth table_element_depth t.elements + 1
-
-abbrev pub view_definition_depth : ViewDefinition → ℕ
-view_definition_depth v = max (bracket_depth v.columns) (query_specification_depth v.query)
-
-abbrev pub action_depth : Action → ℕ
-action_depth (action.Update columns) = bracket_depth columns
-action_depth (action.References columns) = bracket_depth columns
-action_depth _ = 0
-
-abbrev pub privileges_depth : Privileges → ℕ
-privileges_depth privileges.All = 0
-privileges_depth (privileges.Actions actions) = comma_depth action_depth actions
-
-abbrev pub grant_depth : GrantStatement → ℕ
-grant_depth g = privileges_depth g.privileges
-
-abbrev pub schema_element_depth : SchemaElement → ℕ
-schema_element_depth (Table table) = table_definition_depth table
-schema_element_depth (View view) = view_definition_depth view
-schema_element_depth (Grant grant) = grant_depth grant
-
-abbrev pub schema_definition_depth : SchemaDefinition → ℕ
-schema_definition_depth s = row_depth schema_element_depth s.elements
-
+-- the greatest number of round brackets open at once
 abbrev pub schema_depth : SchemaText → ℕ
-schema_depth s = max (schema_definition_depth s.first) (row_depth schema_definition_depth s.rest)
+schema_depth s = deepest (schema_tokens s)

@@ -1,10 +1,11 @@
--- Script texts (own rule): their tokens and their depth.
+-- Script texts (own rule): their tokens.
 use Rattle.std.specs.Prelude.{ℕ, [], ◌∷◌, ◌++◌, codes}
 use Rattle.sq_lex.specs.declared.lexeme.Lexeme.TheVariants as lexeme
 use Rattle.sq_lex.specs.declared.symbol.Symbol.TheVariants as symbol
 use Rattle.sq_lex.specs.declared.word.Word.TheVariants as word
 use Rattle.sq_tree.specs.Tree.{Tokens, bracketed}
-use Rattle.sq_tree.specs.List.{comma_tokens, row_tokens, row_depth}
+use Rattle.sq_tree.specs.Brackets.{deepest}
+use Rattle.sq_tree.specs.List.{comma_tokens, row_tokens}
 use Rattle.sq_tree.specs.Expr.{signed_number_tokens}
 use Rattle.sq_tree.specs.declared.script.ScriptText.{ScriptText}
 use Rattle.sq_tree.specs.declared.script.ScriptItem.{ScriptItem}
@@ -14,13 +15,13 @@ use Rattle.sq_tree.specs.declared.script.Arguments.TheVariants.{Unwritten, Empty
 use Rattle.sq_tree.specs.declared.script.Argument.{Argument}
 use Rattle.sq_tree.specs.declared.script.Argument.TheVariants as argument
 
--- value = [ "+" | "-" ] number | text | "*"
+-- argument = [ "+" | "-" ] number | text | "*"
 abbrev pub argument_tokens : Argument → Tokens
 argument_tokens (argument.Number n) = signed_number_tokens n
 argument_tokens (argument.Text characters) = lexeme.Text characters ∷ []
 argument_tokens argument.Null = lexeme.Symbol symbol.Star ∷ []
 
--- [ "(" [ value { "," value } ] ")" ]
+-- [ "(" [ argument { "," argument } ] ")" ]
 abbrev pub arguments_tokens : Arguments → Tokens
 arguments_tokens Unwritten = []
 arguments_tokens Empty = bracketed []
@@ -39,14 +40,6 @@ ended_item_tokens item = script_item_tokens item ++ lexeme.Symbol symbol.Semicol
 abbrev pub script_tokens : ScriptText → Tokens
 script_tokens s = row_tokens ended_item_tokens s.items
 
-abbrev pub arguments_depth : Arguments → ℕ
-arguments_depth Unwritten = 0
-arguments_depth Empty = 1
-arguments_depth (Listed arguments) = 1
-
-abbrev pub script_item_depth : ScriptItem → ℕ
-script_item_depth (Call «module» procedure arguments) = arguments_depth arguments
-script_item_depth (Table schema table) = 0
-
+-- the greatest number of round brackets open at once
 abbrev pub script_depth : ScriptText → ℕ
-script_depth s = row_depth script_item_depth s.items
+script_depth s = deepest (script_tokens s)

@@ -1,14 +1,13 @@
--- The statements of a procedure (ISO/IEC 9075:1992, 13.2 to 13.10, 14.3 and 14.4): their tokens and their depth.
-use Rattle.std.specs.Prelude.{ℕ, ◌+◌, max, Bool, [], ◌∷◌, ◌++◌}
+-- The statements of a procedure (ISO/IEC 9075:1992, 13.2 to 13.10, 14.3 and 14.4): their tokens.
+use Rattle.std.specs.Prelude.{Bool, [], ◌∷◌, ◌++◌}
 use Rattle.sq_lex.specs.declared.lexeme.Lexeme.TheVariants as lexeme
 use Rattle.sq_lex.specs.declared.symbol.Symbol.TheVariants as symbol
 use Rattle.sq_lex.specs.declared.word.Word.TheVariants as word
-use Rattle.sq_tree.specs.Tree.{Tokens, said, optional, bracketed, optional_depth}
-use Rattle.sq_tree.specs.List.{comma_tokens, comma_depth}
+use Rattle.sq_tree.specs.Tree.{Tokens, said, optional, bracketed}
+use Rattle.sq_tree.specs.List.{comma_tokens}
 use Rattle.sq_tree.specs.Names.{table_name_tokens, parameter_tokens, columns_tokens}
-use Rattle.sq_tree.specs.Expr.{expr_tokens, expr_depth, quantifier_tokens, signed_number_tokens}
-use Rattle.sq_tree.specs.Cond.{cond_tokens, cond_depth, select_list_tokens, select_list_depth, table_expression_tokens, table_expression_depth, query_specification_tokens, query_specification_depth}
-use Rattle.sq_tree.specs.DataType.{bracket_depth}
+use Rattle.sq_tree.specs.Expr.{expr_tokens, quantifier_tokens, signed_number_tokens}
+use Rattle.sq_tree.specs.Cond.{cond_tokens, select_list_tokens, table_expression_tokens, query_specification_tokens}
 use Rattle.sq_tree.specs.declared.statement.Statement.{Statement}
 use Rattle.sq_tree.specs.declared.statement.Statement.TheVariants as statement
 use Rattle.sq_tree.specs.declared.statement.Fetch.{Fetch}
@@ -34,7 +33,7 @@ abbrev pub position_tokens : Position → Tokens
 position_tokens (position.Number n) = signed_number_tokens n
 position_tokens (position.Parameter name) = lexeme.Symbol symbol.Colon ∷ lexeme.Name name ∷ []
 
--- orient = NEXT | PRIOR | FIRST | LAST | ( ABSOLUTE | RELATIVE ) ( [ "+" | "-" ] number | ":" name )
+-- orientation = NEXT | PRIOR | FIRST | LAST | ( ABSOLUTE | RELATIVE ) ( [ "+" | "-" ] number | ":" name )
 abbrev pub orientation_tokens : Orientation → Tokens
 orientation_tokens Next = lexeme.Word word.Next ∷ []
 orientation_tokens Prior = lexeme.Word word.Prior ∷ []
@@ -43,46 +42,46 @@ orientation_tokens Last = lexeme.Word word.Last ∷ []
 orientation_tokens (Absolute place) = lexeme.Word word.Absolute ∷ position_tokens place
 orientation_tokens (Relative place) = lexeme.Word word.Relative ∷ position_tokens place
 
--- [ orient ] FROM
+-- [ orientation ] FROM
 abbrev pub fetch_from_tokens : FetchFrom → Tokens
 fetch_from_tokens f = optional orientation_tokens f.orientation ++ lexeme.Word word.From ∷ []
 
--- FETCH [ [ orient ] FROM ] name INTO param { "," param }
+-- FETCH [ [ orientation ] FROM ] name INTO parameter { "," parameter }
 abbrev pub fetch_tokens : Fetch → Tokens
 fetch_tokens f = lexeme.Word word.Fetch ∷ optional fetch_from_tokens f.from ++ lexeme.Name f.cursor ∷ lexeme.Word word.Into ∷ comma_tokens parameter_tokens f.targets
 
--- SELECT [ ALL | DISTINCT ] list INTO param { "," param } tabexp
+-- SELECT [ ALL | DISTINCT ] list INTO parameter { "," parameter } table-exp
 abbrev pub select_tokens : Select → Tokens
 select_tokens s = lexeme.Word word.Select ∷ optional quantifier_tokens s.quantifier ++ select_list_tokens s.list ++ lexeme.Word word.Into ∷ comma_tokens parameter_tokens s.targets ++ table_expression_tokens s.table
 
--- val = expr | NULL
+-- value = expr | NULL
 abbrev pub new_value_tokens : NewValue → Tokens
 new_value_tokens (value.Expr e) = expr_tokens e
 new_value_tokens value.Null = lexeme.Word word.Null ∷ []
 
--- VALUES "(" val { "," val } ")" | spec
+-- VALUES "(" value { "," value } ")" | specification
 abbrev pub insert_source_tokens : InsertSource → Tokens
 insert_source_tokens (source.Values values) = lexeme.Word word.Values ∷ bracketed (comma_tokens new_value_tokens values)
 insert_source_tokens (source.Query spec) = query_specification_tokens spec
 
--- INSERT INTO tname [ cols ] ( .. )
+-- INSERT INTO table-name [ columns ] ( .. )
 abbrev pub insert_tokens : Insert → Tokens
 insert_tokens i = lexeme.Word word.Insert ∷ lexeme.Word word.Into ∷ table_name_tokens i.table ++ optional columns_tokens i.columns ++ insert_source_tokens i.source
 
--- where = WHERE cond | WHERE CURRENT OF name
+-- where = WHERE condition | WHERE CURRENT OF name
 abbrev pub target_tokens : Where → Tokens
 target_tokens (Condition cond) = lexeme.Word word.Where ∷ cond_tokens cond
 target_tokens (CurrentOf cursor) = lexeme.Word word.Where ∷ lexeme.Word word.Current ∷ lexeme.Word word.Of ∷ lexeme.Name cursor ∷ []
 
--- set = name "=" val
+-- assignment = name "=" value
 abbrev pub assignment_tokens : Assignment → Tokens
 assignment_tokens a = lexeme.Name a.column ∷ lexeme.Symbol symbol.Equal ∷ new_value_tokens a.value
 
--- UPDATE tname SET set { "," set } [ where ]
+-- UPDATE table-name SET assignment { "," assignment } [ where ]
 abbrev pub update_tokens : Update → Tokens
 update_tokens u = lexeme.Word word.Update ∷ table_name_tokens u.table ++ lexeme.Word word.Set ∷ comma_tokens assignment_tokens u.assignments ++ optional target_tokens u.target
 
--- DELETE FROM tname [ where ]
+-- DELETE FROM table-name [ where ]
 abbrev pub delete_tokens : Delete → Tokens
 delete_tokens d = lexeme.Word word.Delete ∷ lexeme.Word word.From ∷ table_name_tokens d.table ++ optional target_tokens d.target
 
@@ -100,37 +99,3 @@ statement_tokens (statement.Update update) = update_tokens update
 statement_tokens (statement.Delete delete) = delete_tokens delete
 statement_tokens (statement.Commit work) = lexeme.Word word.Commit ∷ work_tokens work
 statement_tokens (statement.Rollback work) = lexeme.Word word.Rollback ∷ work_tokens work
-
-abbrev pub select_depth : Select → ℕ
-select_depth s = max (select_list_depth s.list) (table_expression_depth s.table)
-
-abbrev pub new_value_depth : NewValue → ℕ
-new_value_depth (value.Expr e) = expr_depth e
-new_value_depth value.Null = 0
-
-abbrev pub insert_source_depth : InsertSource → ℕ
-insert_source_depth (source.Values values) = comma_depth new_value_depth values + 1
-insert_source_depth (source.Query spec) = query_specification_depth spec
-
-abbrev pub insert_depth : Insert → ℕ
-insert_depth i = max (bracket_depth i.columns) (insert_source_depth i.source)
-
-abbrev pub target_depth : Where → ℕ
-target_depth (Condition cond) = cond_depth cond
-target_depth (CurrentOf cursor) = 0
-
-abbrev pub assignment_depth : Assignment → ℕ
-assignment_depth a = new_value_depth a.value
-
-abbrev pub update_depth : Update → ℕ
-update_depth u = max (comma_depth assignment_depth u.assignments) (optional_depth target_depth u.target)
-
-abbrev pub delete_depth : Delete → ℕ
-delete_depth d = optional_depth target_depth d.target
-
-abbrev pub statement_depth : Statement → ℕ
-statement_depth (statement.Select select) = select_depth select
-statement_depth (statement.Insert insert) = insert_depth insert
-statement_depth (statement.Update update) = update_depth update
-statement_depth (statement.Delete delete) = delete_depth delete
-statement_depth _ = 0

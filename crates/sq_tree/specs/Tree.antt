@@ -1,5 +1,5 @@
--- Token lists, and how many round brackets a list has open at once. A tree is spelled by one list of tokens.
-use Rattle.std.specs.Prelude.{ℕ, max, Bool, true, false, List, [], ◌∷◌, ◌++◌, Option, Some, None}
+-- Token lists. A tree is spelled by one list of tokens.
+use Rattle.std.specs.Prelude.{Bool, true, false, List, [], ◌∷◌, ◌++◌, Option, Some, None}
 use Rattle.sq_lex.specs.declared.lexeme.Lexeme.{Lexeme}
 use Rattle.sq_lex.specs.declared.lexeme.Lexeme.TheVariants as lexeme
 use Rattle.sq_lex.specs.declared.symbol.Symbol.TheVariants as symbol
@@ -20,13 +20,3 @@ optional tokens (Some x) = tokens x
 -- "(" x ")"
 abbrev pub bracketed : Tokens → Tokens
 bracketed ts = lexeme.Symbol symbol.Open ∷ ts ++ lexeme.Symbol symbol.Close ∷ []
-
--- the depth of [ x ]
-abbrev pub optional_depth : {A : Type 0} → (A → ℕ) → Option A → ℕ
-optional_depth depth None = 0
-optional_depth depth (Some x) = depth x
-
--- the depth of a row of parts is the greatest of theirs
-abbrev pub greatest : List ℕ → ℕ
-greatest [] = 0
-greatest (d ∷ ds) = max d (greatest ds)

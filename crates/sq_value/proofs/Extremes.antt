@@ -11,7 +11,8 @@ use Rattle.std.specs.declared.cmp.Ordering.{Ordering}
 use Rattle.std.specs.declared.cmp.Ordering.TheVariants.{Less, Equal, Greater}
 use Rattle.std.specs.Ordering.{is_lt, flip_args, ordering_reverse}
 use Rattle.sq_value.specs.Comparison.{ordered}
-use Rattle.sq_value.specs.SetFunctions.{surpasses, first_unsurpassed, without_nulls, better_of, kept_best}
+use Rattle.sq_value.specs.SetFunctions.{surpasses, first_unsurpassed, without_nulls}
+use Rattle.sq_value.specs.private.SetFunctions.{better_of, kept_best}
 use Rattle.sq_value.specs.laws.ValueOrder.{values_total}
 use Rattle.sq_value.specs.declared.set_functions.Extreme.{Extreme}
 use Rattle.sq_value.specs.declared.set_functions.Extreme.TheVariants.{Least, Greatest}

@@ -2,7 +2,8 @@
 use Rattle.std.proofs.Common.{◌≡◌, ℕ, Bool, true, false, List, [], ◌∷◌, ap, ◌∙◌, Option, Ok, Err, cond, Result, get_or, arith}
 use Rattle.sq_value.specs.Truth.{known}
 use Rattle.sq_value.specs.declared.truth.Truth.{Truth}
-use Rattle.sq_value.specs.Pattern.{pattern_items, with_item, plain, is_escape, may_be_escaped, AreCuts, AreCutsAsRead, cut_as_read}
+use Rattle.sq_value.specs.Pattern.{pattern_items, with_item, plain, is_escape, may_be_escaped, cut_as_read}
+use Rattle.sq_value.specs.private.Pattern.{AreCuts, AreCutsAsRead}
 use Rattle.sq_value.specs.declared.fault.LikeFault.{LikeFault}
 use Rattle.sq_value.specs.declared.fault.LikeFault.TheVariants.{EscapeSequence}
 use Rattle.sq_value.specs.declared.pattern.Item.{Item}

@@ -5,7 +5,8 @@ use Rattle.std.proofs.lemmas.Int.{ints, to_z-of_z}
 use Rattle.std.proofs.lemmas.List.Sums.{fold_more}
 use Rattle.std.proofs.lemmas.List.Recursion.{is_count_by}
 use Rattle.sq_value.specs.Number.{Number}
-use Rattle.sq_value.specs.SetFunctions.{numbers, total, first_scale, is_number, unscaled_of}
+use Rattle.sq_value.specs.SetFunctions.{numbers, total}
+use Rattle.sq_value.specs.private.SetFunctions.{first_scale, is_number, unscaled_of}
 use Rattle.sq_value.specs.declared.value.Value.{Value}
 use Rattle.sq_value.specs.declared.value.Value.TheVariants.{Null, Num, Chars}
 

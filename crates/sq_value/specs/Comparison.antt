@@ -5,12 +5,13 @@ use Rattle.std.specs.declared.cmp.Ordering.TheVariants.{Less, Equal, Greater}
 use Rattle.std.specs.Ordering.{nat_cmp, is_eq}
 use Rattle.std.specs.Cmp.Lexicographic.{slice_cmp}
 use Rattle.sq_value.specs.Arithmetic.{compared}
+use Rattle.sq_value.specs.Characters.{blank}
 use Rattle.sq_value.specs.declared.value.Value.{Value}
 use Rattle.sq_value.specs.declared.value.Value.TheVariants.{Null, Num, Chars}
 
 -- a text with blanks after it, up to a length
 abbrev pub padded : ℕ → List ℕ → List ℕ
-padded n t = t ++ replicate (n - length t) 32
+padded n t = t ++ replicate (n - length t) blank
 
 -- texts compare by code, the shorter one padded with blanks
 abbrev pub texts_compared : List ℕ → List ℕ → Ordering
@@ -29,14 +30,9 @@ values_compared (Chars s) (Num b) = None
 -- not distinct (3.1): both null, or they compare equal
 abbrev pub is_same : Value → Value → Bool
 is_same Null Null = true
-is_same Null (Num b) = false
-is_same Null (Chars t) = false
-is_same (Num a) Null = false
 is_same (Num a) (Num b) = is_eq (compared a b)
-is_same (Num a) (Chars t) = false
-is_same (Chars s) Null = false
-is_same (Chars s) (Num b) = false
 is_same (Chars s) (Chars t) = is_eq (texts_compared s t)
+is_same v w = false
 
 -- the order of ORDER BY (13.1): null lowest (own rule). That numbers come before texts is never seen, since the values
 -- of one expression are of one kind
@@ -50,9 +46,3 @@ ordered (Num a) (Chars t) = Less
 ordered (Chars s) Null = Greater
 ordered (Chars s) (Num b) = Greater
 ordered (Chars s) (Chars t) = texts_compared s t
-
--- where a value stands among those of other kinds
-abbrev pub kind_rank : Value → ℕ
-kind_rank Null = 0
-kind_rank (Num n) = 1
-kind_rank (Chars t) = 2

@@ -1,6 +1,7 @@
 -- Domains of columns and parameters (ISO/IEC 9075:1992, 6.1). The greatest precision and length, and the ranges of
 -- SMALLINT and INTEGER, are own rules.
 use Rattle.std.specs.Prelude.{ℕ, pos, negsuc, ◌≡◌, ◌≤◌, ◌<◌, ◌^◌, ◌≤ℤ◌, length, unsigned_abs, ⊤, List, Bool, true, false, IsTrue, IsFalse, [], replicate}
+use Rattle.sq_value.specs.Characters.{blank}
 use Rattle.sq_value.specs.Number.{Number}
 use Rattle.sq_value.specs.declared.domain.Domain.{Domain}
 use Rattle.sq_value.specs.declared.domain.Domain.TheVariants.{Small, Int, Numeric, Char, VarChar}
@@ -60,7 +61,7 @@ domain_length (Numeric _ _) = 0
 domain_length (Char n) = n
 domain_length (VarChar n) = n
 
--- what is known of an expression's values besides which they are: a scale, a length, or a greatest length
+-- what is known of an expression's values before it is evaluated: a scale, a length, or a greatest length
 abbrev pub kind_of : Domain → Kind
 kind_of Small = NumKind 0
 kind_of Int = NumKind 0
@@ -82,5 +83,5 @@ abbrev pub start_value : Domain → Value
 start_value Small = Num (record { unscaled = pos 0; scale = 0 })
 start_value Int = Num (record { unscaled = pos 0; scale = 0 })
 start_value (Numeric p s) = Num (record { unscaled = pos 0; scale = s })
-start_value (Char n) = Chars (replicate n 32)
+start_value (Char n) = Chars (replicate n blank)
 start_value (VarChar n) = Chars []

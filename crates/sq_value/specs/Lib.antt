@@ -1,3 +1,5 @@
+pub mod Characters
+pub mod Memory
 pub mod Number
 pub mod Text
 pub mod Arithmetic
@@ -11,3 +13,4 @@ pub mod Retrieving
 pub mod Pattern
 pub mod Key
 pub mod laws
+pub mod private

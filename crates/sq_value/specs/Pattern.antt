@@ -1,6 +1,7 @@
 -- LIKE (ISO/IEC 9075:1992, 8.5).
-use Rattle.std.specs.Prelude.{ℕ, ◌≡◌, ⊤, ◌==◌, ◌&&◌, ◌||◌, Bool, true, false, IsTrue, Option, Some, None, Result, Ok, Err, if◌then◌else◌, List, [], ◌∷◌, ◌++◌, length, map, drop, slice_index_or, ◌+◌, ◌≤◌}
+use Rattle.std.specs.Prelude.{ℕ, ◌≡◌, ⊤, ◌==◌, ◌&&◌, ◌||◌, Bool, true, false, IsTrue, Option, Some, None, Result, Ok, Err, if◌then◌else◌, List, [], ◌∷◌, ◌++◌, map}
 use Rattle.std.specs.List.{list_any}
+use Rattle.sq_value.specs.Characters.{percent, underscore}
 use Rattle.sq_value.specs.Truth.{known}
 use Rattle.sq_value.specs.declared.fault.LikeFault.{LikeFault}
 use Rattle.sq_value.specs.declared.fault.LikeFault.TheVariants.{EscapeLength, EscapeSequence}
@@ -15,7 +16,7 @@ use Rattle.sq_value.specs.declared.value.Value.TheVariants.{Null, Num, Chars}
 
 -- a code of a pattern that is not escaped: `%` is any run, `_` any one code
 abbrev pub plain : ℕ → Item
-plain c = if c == 37 then AnyRun else (if c == 95 then AnyOne else This c)
+plain c = if c == percent then AnyRun else (if c == underscore then AnyOne else This c)
 
 abbrev pub is_escape : Option ℕ → ℕ → Bool
 is_escape None c = false
@@ -23,7 +24,7 @@ is_escape (Some e) c = c == e
 
 -- only `%`, `_` and the escape character itself may be escaped
 abbrev pub may_be_escaped : Option ℕ → ℕ → Bool
-may_be_escaped e c = c == 37 || c == 95 || is_escape e c
+may_be_escaped e c = c == percent || c == underscore || is_escape e c
 
 abbrev pub with_item : Item → Result (List Item) LikeFault → Result (List Item) LikeFault
 with_item i (Ok items) = Ok (i ∷ items)
@@ -104,20 +105,3 @@ liked (Chars text) Null escape = Ok Unknown
 liked (Chars text) (Num n) escape = Ok Unknown
 liked Null pattern escape = Ok Unknown
 liked (Num n) pattern escape = Ok Unknown
-
--- ---- what the code keeps
-
--- for each place of a text, whether what stands from there on can be cut
-pub record AreCuts (items : List Item) (text : List ℕ) (cuts : List Bool) : Type 0 where
-  pub long : length cuts ≡ length text + 1
-  pub each : (k : ℕ) → k ≤ length text → slice_index_or cuts k false ≡ can_be_cut items (drop k text)
-
-abbrev pub AreCutsAsRead : Result (List Item) LikeFault → List ℕ → List Bool → Type 0
-AreCutsAsRead (Ok items) text cuts = AreCuts items text cuts
-AreCutsAsRead (Err fault) text cuts = ⊥
-
--- an item of one code takes this code
-abbrev pub takes : Item → ℕ → Bool
-takes AnyRun c = false
-takes AnyOne c = true
-takes (This d) c = c == d

@@ -1,6 +1,6 @@
 -- Set functions over the values of one expression (ISO/IEC 9075:1992, 6.5), which are of one kind: nulls are left out,
 -- and only the final result is tested for its range.
-use Rattle.std.specs.Prelude.{All, ℕ, ℤ, pos, ◌+ℤ◌, int_div, Option, Some, None, is_some, Bool, Result, Ok, Err, List, [], ◌∷◌, length, fold, true, false, filter, not, find, unwrap_or, if◌then◌else◌}
+use Rattle.std.specs.Prelude.{All, ℤ, pos, ◌+ℤ◌, int_div, Option, Some, None, Bool, Result, Ok, Err, List, [], ◌∷◌, length, fold, true, false, filter, not, find, unwrap_or, if◌then◌else◌}
 use Rattle.std.specs.List.{filter_map, list_all}
 use Rattle.std.specs.Ordering.{is_lt}
 use Rattle.sq_value.specs.Comparison.{ordered}
@@ -23,22 +23,9 @@ number_in Null = None
 number_in (Num n) = Some n
 number_in (Chars t) = None
 
--- what a value adds to the sum of the unscaled values
-abbrev pub unscaled_of : Value → ℤ
-unscaled_of Null = pos 0
-unscaled_of (Num n) = n.unscaled
-unscaled_of (Chars t) = pos 0
-
 -- the numbers among the values
 abbrev pub numbers : List Value → List Number
 numbers vs = filter_map number_in vs
-
-abbrev pub first_scale : List Number → Option ℕ
-first_scale [] = None
-first_scale (n ∷ ns) = Some n.scale
-
-abbrev pub is_number : Value → Bool
-is_number v = is_some (number_in v)
 
 -- the sum of the unscaled values
 abbrev pub total : List Number → ℤ
@@ -89,11 +76,3 @@ first_unsurpassed e vs = find (is_unsurpassed e vs) vs
 -- MIN and MAX: among equals the first (own rule), and null on nothing
 abbrev pub extreme : Extreme → List Value → Value
 extreme e vs = unwrap_or (first_unsurpassed e (without_nulls vs)) Null
-
--- what the code keeps while it walks along the values
-abbrev pub better_of : Extreme → Option Value → Value → Option Value
-better_of e None v = Some v
-better_of e (Some best) v = if surpasses e v best then Some v else Some best
-
-abbrev pub kept_best : Extreme → Option Value → Value → Option Value
-kept_best e best v = if is_null v then best else better_of e best v

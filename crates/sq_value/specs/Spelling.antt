@@ -5,12 +5,13 @@ use Rattle.std.specs.List.{list_all, before_first, after_first}
 use Rattle.std.specs.Char.{is_ascii_digit}
 use Rattle.std.specs.Fmt.{sign_text}
 use Rattle.std.specs.Str.Parse.{digits_value}
+use Rattle.sq_value.specs.Characters.{point}
 use Rattle.sq_value.specs.Number.{Number}
 use Rattle.sq_value.specs.declared.fault.ReadFault.{ReadFault}
 use Rattle.sq_value.specs.declared.fault.ReadFault.TheVariants.{NotANumber, Range}
 
 abbrev pub is_point : ℕ → Bool
-is_point c = c == 46
+is_point c = c == point
 
 -- one digit or more, and nothing else
 abbrev pub are_digits : List ℕ → Bool
@@ -36,7 +37,7 @@ last_digits (suc k) n = last_digits k (n / 10) ++ (48 + n % 10) ∷ []
 -- a point and the digits after it, or nothing at scale 0
 abbrev pub fraction_written : ℕ → ℕ → List ℕ
 fraction_written zero n = []
-fraction_written (suc k) n = 46 ∷ last_digits (suc k) n
+fraction_written (suc k) n = point ∷ last_digits (suc k) n
 
 -- a sign where the number is below zero, the whole part, and as many digits after the point as the scale says
 abbrev pub written : Number → List ℕ

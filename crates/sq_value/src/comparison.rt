@@ -1,7 +1,8 @@
 //! Comparison of values.
 
 ghost use Rattle.std.specs.Prelude.{◌≡◌, slice_index_or};
-ghost use Rattle.sq_value.specs.Comparison.{texts_compared, values_compared, is_same, ordered, kind_rank};
+ghost use Rattle.sq_value.specs.Comparison.{texts_compared, values_compared, is_same, ordered};
+ghost use Rattle.sq_value.specs.private.Comparison.{kind_rank};
 
 use crate::value::Value;
 use std::cmp::Ordering;

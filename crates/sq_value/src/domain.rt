@@ -18,7 +18,7 @@ pub enum Domain {
     VarChar(u16),
 }
 
-/// What is known of the values of an expression, besides which they are.
+/// What is known of the values of an expression before it is evaluated.
 #[derive(Clone, Copy, Debug, PartialEq, Eq)]
 pub enum Kind {
     /// Numbers of a scale.

@@ -12,8 +12,6 @@ mod retrieving;
 mod set_functions;
 mod spelling;
 mod storing;
-#[cfg(test)]
-mod tests;
 mod text;
 mod truth;
 mod value;

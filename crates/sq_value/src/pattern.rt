@@ -2,7 +2,8 @@
 
 ghost use Rattle.std.specs.Prelude.{◌≡◌, ◌<◌, ◌+◌, ◌-◌, [], ◌&&◌, ◌||◌, ◌∷◌, ℕ, List, length, slice_index, slice_index_or, MatchResult, IsTrue, ◌↔◌, Ok, Err, false};
 ghost use Rattle.std.specs.Option.{option_copied};
-ghost use Rattle.sq_value.specs.Pattern.{liked, one_code, may_be_escaped, is_escape, plain, pattern_items, takes, AreCuts, AreCutsAsRead, cut_as_read, can_be_cut, CanBeCut};
+ghost use Rattle.sq_value.specs.Pattern.{liked, one_code, may_be_escaped, is_escape, plain, pattern_items, cut_as_read, can_be_cut, CanBeCut};
+ghost use Rattle.sq_value.specs.private.Pattern.{takes, AreCuts, AreCutsAsRead};
 
 use crate::fault::LikeFault;
 use crate::text::Text;

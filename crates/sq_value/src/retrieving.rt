@@ -1,7 +1,8 @@
 //! Retrieving a value into a parameter.
 
-ghost use Rattle.std.specs.Prelude.{◌≡◌, IfOk};
+ghost use Rattle.std.specs.Prelude.{◌≡◌, IfOk, false};
 ghost use Rattle.sq_value.specs.Domain.{IsDomain, FitsKind, IsInDomain};
+ghost use Rattle.sq_value.specs.Memory.{takes_memory};
 ghost use Rattle.sq_value.specs.Retrieving.{retrieved, text_retrieved, uncut_length, IsRetrieved};
 
 use crate::domain::Domain;
@@ -28,6 +29,7 @@ pub fn retrieve(alloc: Global, value: &Value, domain: Domain) -> Result<Retrieve
     requires kind { FitsKind domain value.now }
     ensures answer { IsRetrieved result (retrieved domain value.now) }
     ensures in_domain { IfOk result (λ r. IsInDomain domain r.value) }
+    ensures memory { takes_memory value.now ≡ false → result ≡ retrieved domain value.now }
 {
     match value {
         Value::Null => Ok(Retrieved {

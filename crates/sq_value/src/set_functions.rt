@@ -1,8 +1,10 @@
 //! Set functions over the values of one expression.
 
-ghost use Rattle.std.specs.Prelude.{◌≡◌, ◌≤◌, ◌<◌, ◌^◌, length, unsigned_abs, IfSome, IfOk};
+ghost use Rattle.std.specs.Prelude.{◌≡◌, ◌≤◌, ◌<◌, ◌^◌, length, unsigned_abs, IfSome, IfOk, false};
 ghost use Rattle.std.specs.Option.{option_copied, unwrap_or};
-ghost use Rattle.sq_value.specs.SetFunctions.{AreOfOneKind, numbers, total, summed, averaged, first_scale, is_number, unscaled_of, extreme, surpasses, first_unsurpassed, without_nulls, kept_best};
+ghost use Rattle.sq_value.specs.Memory.{takes_memory};
+ghost use Rattle.sq_value.specs.SetFunctions.{AreOfOneKind, numbers, total, summed, averaged, extreme, surpasses, first_unsurpassed, without_nulls};
+ghost use Rattle.sq_value.specs.private.SetFunctions.{first_scale, is_number, unscaled_of, kept_best};
 
 use crate::fault::ArithmeticFault;
 use crate::value::Value;
@@ -46,14 +48,16 @@ pub fn avg(values: &[Value]) -> Result<Value, ArithmeticFault>
 
 /// MIN of the values that are not null: of equal ones the first, and null where there is none (ISO/IEC 9075:1992, 6.5).
 pub fn least(alloc: Global, values: &[Value]) -> Result<Value, AllocError>
-    ensures { IfOk result (λ v. v ≡ extreme Extreme.Least values.now) }
+    ensures value { IfOk result (λ v. v ≡ extreme Extreme.Least values.now) }
+    ensures memory { let v = extreme Extreme.Least values.now in takes_memory v ≡ false → result ≡ Ok v }
 {
     copy_of(alloc, best_of(Extreme::Least, values))
 }
 
 /// MAX of the values that are not null: of equal ones the first, and null where there is none (ISO/IEC 9075:1992, 6.5).
 pub fn greatest(alloc: Global, values: &[Value]) -> Result<Value, AllocError>
-    ensures { IfOk result (λ v. v ≡ extreme Extreme.Greatest values.now) }
+    ensures value { IfOk result (λ v. v ≡ extreme Extreme.Greatest values.now) }
+    ensures memory { let v = extreme Extreme.Greatest values.now in takes_memory v ≡ false → result ≡ Ok v }
 {
     copy_of(alloc, best_of(Extreme::Greatest, values))
 }
@@ -79,7 +83,8 @@ impl Extreme {
 
 /// A copy of the value, or null.
 fn copy_of(alloc: Global, value: Option<&Value>) -> Result<Value, AllocError>
-    ensures { IfOk result (λ v. v ≡ unwrap_or (option_copied value.entry) Value.Null) }
+    ensures value { IfOk result (λ v. v ≡ unwrap_or (option_copied value.entry) Value.Null) }
+    ensures memory { let v = unwrap_or (option_copied value.entry) Value.Null in takes_memory v ≡ false → result ≡ Ok v }
 {
     match value {
         Some(value) => value.copy(alloc),

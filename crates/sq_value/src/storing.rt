@@ -1,7 +1,8 @@
 //! Storing a value in a domain.
 
-ghost use Rattle.std.specs.Prelude.{◌≡◌, ◌≤◌, ◌≤ℤ◌, ◌<◌, ◌^◌, unsigned_abs, neg_ℤ, pos, IfOk};
+ghost use Rattle.std.specs.Prelude.{◌≡◌, ◌≤◌, ◌≤ℤ◌, ◌<◌, ◌^◌, unsigned_abs, neg_ℤ, pos, IfOk, false};
 ghost use Rattle.sq_value.specs.Domain.{IsDomain, FitsKind, IsInDomain, start_value};
+ghost use Rattle.sq_value.specs.Memory.{takes_memory};
 ghost use Rattle.sq_value.specs.Arithmetic.{truncated};
 ghost use Rattle.sq_value.specs.Storing.{stored, fitted, kept, if_between, if_of_digits, IsStored};
 
@@ -22,6 +23,7 @@ pub fn store(alloc: Global, value: &Value, domain: Domain) -> Result<Value, Stor
     requires kind { FitsKind domain value.now }
     ensures answer { IsStored result (stored domain value.now) }
     ensures in_domain { IfOk result (λ v. IsInDomain domain v) }
+    ensures memory { takes_memory value.now ≡ false → result ≡ stored domain value.now }
 {
     match value {
         Value::Null => Ok(Value::Null),
@@ -42,6 +44,7 @@ pub fn start_value(alloc: Global, domain: Domain) -> Result<Value, AllocError>
     requires { IsDomain domain }
     ensures value { IfOk result (λ v. v ≡ start_value domain) }
     ensures in_domain { IfOk result (λ v. IsInDomain domain v) }
+    ensures memory { takes_memory (start_value domain) ≡ false → result ≡ Ok (start_value domain) }
 {
     match domain {
         Domain::Small | Domain::Int => Ok(Value::Num(Decimal::new(0, 0))),

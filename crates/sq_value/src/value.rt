@@ -1,6 +1,6 @@
 //! Values and rows of them.
 
-ghost use Rattle.std.specs.Prelude.{◌≡◌, IfOk};
+ghost use Rattle.std.specs.Prelude.{◌≡◌, IfOk, false};
 
 use crate::decimal::Decimal;
 use crate::text::Text;
@@ -19,9 +19,12 @@ pub enum Value {
 pub type Row = Items<Value>;
 
 impl Value {
+    ghost use Rattle.sq_value.specs.Memory.{takes_memory};
+
     /// A value equal to this one.
     pub fn copy(&self, alloc: Global) -> Result<Value, AllocError>
-        ensures { IfOk result (λ copy. copy ≡ self.now) }
+        ensures value { IfOk result (λ copy. copy ≡ self.now) }
+        ensures memory { takes_memory self.now ≡ false → result ≡ Ok self.now }
     {
         match self {
             Value::Null => Ok(Value::Null),

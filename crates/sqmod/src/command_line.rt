@@ -1,5 +1,7 @@
-ghost use Rattle.std.specs.Prelude.{◌≡◌, ◌≤◌, None, [], IfOk, codes, map, option_map, slice_get, unwrap_or};
+//! The command line, read by `clap`.
+ghost use Rattle.std.specs.Prelude.{◌≡◌, ◌≤◌, None, [], IfOk, codes, map, option_map, unwrap_or};
 ghost use Rattle.clap.specs.Words.{found_of, matched_of, one_text, raw_values};
+ghost use Rattle.sqmod.specs.CommandLine as spec;
 
 use crate::fault::Source;
 use clap::error::ErrorKind;
@@ -21,20 +23,22 @@ pub(crate) struct Request<'a> {
 
 impl<'a> Request<'a> {
     /// The name of the file of a text.
-    pub(crate) fn file(&self, source: Source) -> &'a str {
+    pub(crate) fn file(&self, source: Source) -> &'a str
+        ensures { result.now ≡ spec.file_of self.now source }
+    {
         match source {
-            Source::Schema(place) => name_at(self.schemas.as_slice(), place),
-            Source::Module(place) => name_at(self.modules.as_slice(), place),
+            Source::Schema(index) => name_at(self.schemas.as_slice(), index),
+            Source::Module(index) => name_at(self.modules.as_slice(), index),
             Source::Script => self.script,
         }
     }
 }
 
-/// The name at a place, or no name past the last.
-fn name_at<'a>(files: &[&'a str], place: usize) -> &'a str
-    ensures { result.now ≡ unwrap_or (option_map (λ file. file.now) (slice_get files.now place)) [] }
+/// The name at an index, or no name past the last.
+fn name_at<'a>(files: &[&'a str], index: usize) -> &'a str
+    ensures { result.now ≡ spec.name_at files.now index }
 {
-    files.get(place).copied().unwrap_or("")
+    files.get(index).copied().unwrap_or("")
 }
 
 /// Reads `sqmod run [--schema F]... [--module F]... --script F [--rows N]`.

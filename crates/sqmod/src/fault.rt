@@ -1,18 +1,19 @@
+//! Why a request was not carried out, and the status to end with.
 ghost use Rattle.std.specs.Prelude.{◌≡◌};
-ghost use Rattle.sqmod.specs.Status.{status_of};
+ghost use Rattle.sqmod.specs.Fault.{status_of};
 
 use sq_run::Refusal;
 
-/// The status of a file that is not read and of a writing that failed.
+/// The status where a file is not read, or the output fails.
 pub(crate) const FAILED: u8 = 1;
 
-/// The status of words and texts that are refused.
+/// The status where words or texts are refused.
 pub(crate) const REFUSED: u8 = 2;
 
-/// The status of a want of memory.
+/// The status where memory runs out.
 pub(crate) const NO_MEMORY: u8 = 3;
 
-/// Which of a request's texts.
+/// One of a request's texts, by its index among those of its kind.
 #[derive(Clone, Copy, Debug, PartialEq, Eq)]
 pub(crate) enum Source {
     Schema(usize),
@@ -20,16 +21,16 @@ pub(crate) enum Source {
     Script,
 }
 
-/// Why a request was not done.
+/// Why a request was not carried out.
 #[derive(Clone, Copy, Debug, PartialEq, Eq)]
 pub(crate) enum Fault {
     /// A file was not read.
     Unread(Source),
     /// A text was refused.
     Refused(Source, Refusal),
-    /// The output did not take the report.
+    /// The output did not take all of the report.
     Output,
-    /// Memory was wanting after so many items.
+    /// Memory ran out after this many items of the script.
     NoMemory(usize),
 }
 

@@ -1,12 +1,13 @@
-//! The program `sqmod`: it reads a command line and the files that it names, runs the script over them, and ends with
-//! a status and, unless all was done, a text on standard error.
+//! The program `sqmod`: it reads a command line and the files that it names, runs the script, and ends with a status
+//! and, unless all went well, a text on standard error.
 #![tactic(auto)]
 
-ghost use Rattle.std.specs.Prelude.{◌≤◌};
+ghost use Rattle.std.specs.Prelude.{◌≡◌, ◌≤◌};
+ghost use Rattle.sqmod.specs.Fault.{status_of};
 
 mod command_line;
 mod fault;
-mod session;
+mod request;
 mod texts;
 
 use clap::error::ErrorKind;
@@ -45,13 +46,13 @@ fn status_of_words<R: Files + Print + Eprint + AllocGlobal>(rt: &R, words: &[Str
 fn status_of_request<R: Files + Print + Eprint + AllocGlobal>(rt: &R, request: &Request<'_>) -> u8
     requires { request.now.row_numbers ≤ MOST_ROW_NUMBERS }
 {
-    match session::run_request(rt, request) {
+    match request::run_request(rt, request) {
         Ok(()) => 0,
         Err(fault) => report(rt, request, fault),
     }
 }
 
-/// Says what `clap` refused. Its want of memory is one after 0 items.
+/// Says what `clap` refused. Where it ran out of memory, no item was done.
 fn refuse_words<R: Eprint>(rt: &R, error: &clap::Error) -> u8 {
     if error.kind() == ErrorKind::OutOfMemory {
         return refuse_for_memory(rt);
@@ -60,7 +61,7 @@ fn refuse_words<R: Eprint>(rt: &R, error: &clap::Error) -> u8 {
     REFUSED
 }
 
-/// Says that the words could not be read: one is no text, or memory is wanting.
+/// Says that the words could not be read: one is not UTF-8, or memory ran out.
 fn refuse_unreadable_words<R: Eprint>(rt: &R, error: &io::Error) -> u8 {
     if error.kind() == io::ErrorKind::OutOfMemory {
         return refuse_for_memory(rt);
@@ -75,7 +76,9 @@ fn refuse_for_memory<R: Eprint>(rt: &R) -> u8 {
 }
 
 /// Says what went wrong and gives the status for it.
-fn report<R: Eprint>(rt: &R, request: &Request<'_>, fault: Fault) -> u8 {
+fn report<R: Eprint>(rt: &R, request: &Request<'_>, fault: Fault) -> u8
+    ensures { result ≡ status_of fault }
+{
     let _ = match fault {
         Fault::Unread(source) => {
             let file = request.file(source);

@@ -1,13 +1,11 @@
+//! What the command line asks for, and what the program prints to standard error.
 use crate::command_line::{Request, read_request};
 use crate::fault::{Fault, Source};
 use crate::recorder::Recorder;
-use crate::{report, status_of_words};
+use crate::{refuse_words, report};
 use sq_run::{Refusal, RefusalName};
 use std::alloc::{AllocError, Global};
-use std::process::Abort;
-use std::rt::Files;
 use std::test::Fail;
-use std::{fs, io};
 
 /// The words of a line, each parted from the next by a blank.
 fn words_of(alloc: Global, line: &str) -> Result<Vec<String>, AllocError> {
@@ -18,62 +16,54 @@ fn words_of(alloc: Global, line: &str) -> Result<Vec<String>, AllocError> {
     Ok(words)
 }
 
-#[test]
-fn reads_what_is_asked(rt: HostRuntime) -> Result<(), Fail> {
-    let alloc = rt.alloc();
-    let words = words_of(
-        alloc,
+/// Lines that are taken, with the number of rows that each asks for.
+const TAKEN: [(&str, u64); 5] = [
+    (
         "sqmod run --schema a --module m --script c --schema b",
-    )?;
+        1_000_000,
+    ),
+    (
+        "sqmod run --schema a --module m --script c --schema b --rows 1",
+        1,
+    ),
+    (
+        "sqmod run --schema a --schema=b --module=m --script c --rows +5",
+        5,
+    ),
+    (
+        "sqmod run --rows 007 --schema a --module m --schema b --script=c",
+        7,
+    ),
+    (
+        "sqmod run --script c --module m --schema a --schema b --rows 1000000000",
+        1_000_000_000,
+    ),
+];
+
+/// Whether a line asks for the schemas `a` and `b`, the module `m`, the script `c` and this many rows.
+fn asks_for(alloc: Global, line: &str, row_numbers: u64) -> Result<bool, Fail> {
+    let words = words_of(alloc, line)?;
     let request = read_request(alloc, words.as_slice())?;
-    assert!(rt; request.schemas.as_slice() == ["a", "b"].as_slice());
-    assert!(rt; request.modules.as_slice() == ["m"].as_slice());
-    assert!(rt; request.script == "c");
-    assert_eq!(rt; request.row_numbers, 1_000_000);
-    Ok(())
+    Ok(
+        request.schemas.as_slice() == ["a", "b"].as_slice()
+            && request.modules.as_slice() == ["m"].as_slice()
+            && request.script == "c"
+            && request.row_numbers == row_numbers,
+    )
 }
 
 #[test]
-fn reads_whole_numbers(rt: HostRuntime) -> Result<(), Fail> {
-    let alloc = rt.alloc();
-    for (text, number) in [
-        ("1", 1),
-        ("+5", 5),
-        ("007", 7),
-        ("1000000000", 1_000_000_000),
-    ] {
-        let mut words = words_of(alloc, "sqmod run --script c --rows")?;
-        words.push(String::from_str(alloc, text)?)?;
-        let request = read_request(alloc, words.as_slice())?;
-        assert_eq!(rt; request.row_numbers, number);
+fn reads_what_is_asked(rt: HostRuntime) -> Result<(), Fail> {
+    for (line, row_numbers) in TAKEN {
+        assert!(rt; asks_for(rt.alloc(), line, row_numbers)?, "{line}");
     }
     Ok(())
 }
 
-/// A command line with the status and what it prints to standard output and to standard error.
-type Run = (&'static str, u8, &'static str, &'static str);
-
-/// Does what a line asks, where standard output takes all or fails, and compares all that comes of it.
-fn runs<R: Abort + Files + AllocGlobal>(rt: &R, takes_output: bool, run: Run) -> Result<(), Fail> {
-    let (line, status, output, errors) = run;
-    let words = words_of(rt.alloc(), line)?;
-    let recorder = Recorder::new(rt, takes_output);
-    assert_eq!(rt;
-        status_of_words(&recorder, words.as_slice()),
-        status,
-        "{line}"
-    );
-    let printed = recorder.into_printed();
-    assert_eq!(rt; str::from_utf8(printed.0.as_slice())?, output, "{line}");
-    assert_eq!(rt; str::from_utf8(printed.1.as_slice())?, errors, "{line}");
-    Ok(())
-}
-
-const UNDONE: [Run; 13] = [
+/// Lines that are refused, with what is printed.
+const REFUSED: [(&str, &str); 10] = [
     (
         "sqmod run",
-        2,
-        "",
         "error: the following required arguments were not provided:
   --script <F>
 
@@ -84,8 +74,6 @@ For more information, try '--help'.
     ),
     (
         "sqmod run --script c --rows 0",
-        2,
-        "",
         "error: invalid value '0' for '--rows <N>': 0 is not in 1..=1000000000
 
 For more information, try '--help'.
@@ -93,8 +81,6 @@ For more information, try '--help'.
     ),
     (
         "sqmod run --script c --rows 1000000001",
-        2,
-        "",
         "error: invalid value '1000000001' for '--rows <N>': 1000000001 is not in 1..=1000000000
 
 For more information, try '--help'.
@@ -102,8 +88,6 @@ For more information, try '--help'.
     ),
     (
         "sqmod run --script c --rows=-5",
-        2,
-        "",
         "error: invalid value '-5' for '--rows <N>': invalid digit found in string
 
 For more information, try '--help'.
@@ -111,8 +95,6 @@ For more information, try '--help'.
     ),
     (
         "sqmod run --script c --rows 5.0",
-        2,
-        "",
         "error: invalid value '5.0' for '--rows <N>': invalid digit found in string
 
 For more information, try '--help'.
@@ -120,8 +102,6 @@ For more information, try '--help'.
     ),
     (
         "sqmod run --script c --script d",
-        2,
-        "",
         "error: the argument '--script <F>' cannot be used multiple times
 
 Usage: sqmod run [OPTIONS] --script <F>
@@ -131,8 +111,6 @@ For more information, try '--help'.
     ),
     (
         "sqmod walk",
-        2,
-        "",
         "error: unrecognized subcommand 'walk'
 
 Usage: sqmod <COMMAND>
@@ -142,8 +120,6 @@ For more information, try '--help'.
     ),
     (
         "sqmod",
-        2,
-        "",
         "error: 'sqmod' requires a subcommand but one was not provided
   [subcommands: run, help]
 
@@ -154,8 +130,6 @@ For more information, try '--help'.
     ),
     (
         "sqmod --help",
-        2,
-        "",
         "Processes SQL-92 schemas and modules, and runs a script of procedure calls
 
 Usage: sqmod <COMMAND>
@@ -170,8 +144,6 @@ Options:
     ),
     (
         "sqmod run --help",
-        2,
-        "",
         "Runs a script
 
 Usage: sqmod run [OPTIONS] --script <F>
@@ -184,198 +156,72 @@ Options:
   -h, --help        Print help
 ",
     ),
-    (
-        "sqmod run --script no-such-file",
-        1,
-        "",
-        "sqmod: no-such-file: cannot be read\n",
-    ),
-    (
-        "sqmod run --script none --schema no-such-file",
-        1,
-        "",
-        "sqmod: no-such-file: cannot be read\n",
-    ),
-    (
-        "sqmod run --module no-such-file --script none",
-        1,
-        "",
-        "sqmod: no-such-file: cannot be read\n",
-    ),
 ];
+
+/// Whether a line is refused with status 2 and this text.
+fn is_refused(alloc: Global, line: &str, text: &str) -> Result<bool, Fail> {
+    let words = words_of(alloc, line)?;
+    let recorder = Recorder::new(alloc);
+    match read_request(alloc, words.as_slice()) {
+        Ok(_) => Ok(false),
+        Err(error) => Ok(refuse_words(&recorder, &error) == 2 && recorder.has_printed(text)),
+    }
+}
 
 #[test]
 fn refuses_words(rt: HostRuntime) -> Result<(), Fail> {
-    for run in UNDONE {
-        runs(&rt, true, run)?;
+    for (line, text) in REFUSED {
+        assert!(rt; is_refused(rt.alloc(), line, text)?, "{line}");
     }
     Ok(())
 }
 
 const REFUSAL: Refusal = Refusal {
     text: 0,
-    line: 1,
-    column: 1,
+    line: 2,
+    column: 10,
     what: RefusalName::BadArguments,
 };
 
-/// The faults of a request of the schemas `s` and `t`, the module `m` and the script `c`, each with the status and the
-/// line.
-const FAULTS: [(Fault, u8, &str); 5] = [
+/// The faults of a request of the schemas `s` and `t`, the module `m` and the script `c`, each with its line.
+const FAULTS: [(Fault, &str); 6] = [
     (
         Fault::Unread(Source::Schema(1)),
-        1,
         "sqmod: t: cannot be read\n",
     ),
     (
-        Fault::Refused(Source::Module(0), REFUSAL),
-        2,
-        "sqmod: m:1:1: BadArguments\n",
+        Fault::Unread(Source::Module(0)),
+        "sqmod: m: cannot be read\n",
+    ),
+    (
+        Fault::Refused(Source::Schema(0), REFUSAL),
+        "sqmod: s:2:10: BadArguments\n",
     ),
     (
         Fault::Refused(Source::Script, REFUSAL),
-        2,
-        "sqmod: c:1:1: BadArguments\n",
+        "sqmod: c:2:10: BadArguments\n",
     ),
-    (Fault::Output, 1, "sqmod: output fault\n"),
-    (
-        Fault::NoMemory(7),
-        3,
-        "sqmod: want of memory after 7 items\n",
-    ),
+    (Fault::Output, "sqmod: output fault\n"),
+    (Fault::NoMemory(7), "sqmod: want of memory after 7 items\n"),
 ];
 
-#[test]
-fn reports_each_fault(rt: HostRuntime) -> Result<(), Fail> {
-    let alloc = rt.alloc();
+/// Whether a fault is reported by this line.
+fn is_reported(alloc: Global, fault: Fault, line: &str) -> Result<bool, Fail> {
     let request = Request {
         schemas: vec![in alloc; "s", "t"]?,
         modules: vec![in alloc; "m"]?,
         script: "c",
         row_numbers: 1,
     };
-    for (fault, status, line) in FAULTS {
-        let recorder = Recorder::new(&rt, true);
-        assert_eq!(rt; report(&recorder, &request, fault), status);
-        let (output, errors) = recorder.into_printed();
-        assert!(rt; output.is_empty());
-        assert_eq!(rt; str::from_utf8(errors.as_slice())?, line);
-    }
-    Ok(())
+    let recorder = Recorder::new(alloc);
+    let _ = report(&recorder, &request, fault);
+    Ok(recorder.has_printed(line))
 }
 
-/// The files of `RUNS`, which are written into this folder.
-const FOLDER: &str = "sqmod_test";
-
-const FILES: [(&str, &str); 6] = [
-    (
-        "sqmod_test/s",
-        "CREATE SCHEMA AUTHORIZATION U CREATE TABLE D (A INTEGER, B INTEGER)",
-    ),
-    (
-        "sqmod_test/m",
-        "MODULE M LANGUAGE C AUTHORIZATION U
-DECLARE X CURSOR FOR SELECT A, B FROM D
-PROCEDURE ADDROW (SQLCODE, :A INTEGER, :B INTEGER); INSERT INTO D VALUES (:A, :B);
-PROCEDURE OPX (SQLCODE); OPEN X;
-PROCEDURE NEXTROW (SQLCODE, :A INTEGER, :B INTEGER); FETCH X INTO :A, :B;
-PROCEDURE CLX (SQLCODE); CLOSE X;
-",
-    ),
-    (
-        "sqmod_test/c",
-        "CALL M.ADDROW (1, -2); CALL M.ADDROW (3, 4); CALL M.OPX;
-CALL M.NEXTROW (*, *); CALL M.NEXTROW (*, *); CALL M.NEXTROW (*, *); CALL M.NEXTROW (*, *);
-CALL M.CLX; CALL M.CLX; TABLE U.D;
-",
-    ),
-    (
-        "sqmod_test/few",
-        "CALL M.OPX; CALL M.ADDROW (1, *); CALL M.ADDROW (2, 3); CALL M.ADDROW (4, 5); \
-         CALL M.NEXTROW (*, *); CALL M.OPX; TABLE U.D;",
-    ),
-    ("sqmod_test/short", "CALL M.ADDROW (1);"),
-    ("sqmod_test/empty", ""),
-];
-
-const RUNS: [Run; 6] = [
-    (
-        "sqmod run --schema sqmod_test/s --module sqmod_test/m --script sqmod_test/c",
-        0,
-        "M.ADDROW 00000 0
-M.ADDROW 00000 0
-M.OPX 00000 0
-M.NEXTROW 00000 0 A=1 B=-2
-M.NEXTROW 00000 0 A=3 B=4
-M.NEXTROW 02000 100
-M.NEXTROW 02000 100
-M.CLX 00000 0
-M.CLX 24000 -2400
-TABLE U.D 2
-  1 -2
-  3 4
-",
-        "",
-    ),
-    (
-        "sqmod run --schema sqmod_test/s --module sqmod_test/m --script sqmod_test/few --rows 2",
-        0,
-        "M.OPX 00000 0
-M.ADDROW 00000 0
-M.ADDROW 00000 0
-M.ADDROW S1L00 -9001
-M.NEXTROW 02000 100
-M.OPX 24000 -2400
-TABLE U.D 2
-  1 0
-  2 3
-",
-        "",
-    ),
-    (
-        "sqmod run --schema sqmod_test/s --module sqmod_test/m --script sqmod_test/short",
-        2,
-        "",
-        "sqmod: sqmod_test/short:1:1: BadArguments\n",
-    ),
-    ("sqmod run --script sqmod_test/empty", 0, "", ""),
-    (
-        "sqmod run --module sqmod_test/empty --script sqmod_test/c",
-        2,
-        "",
-        "sqmod: sqmod_test/empty:1:1: EndOfText\n",
-    ),
-    (
-        "sqmod run --schema sqmod_test/s --module sqmod_test/none --script sqmod_test/c",
-        1,
-        "",
-        "sqmod: sqmod_test/none: cannot be read\n",
-    ),
-];
-
-fn write_files<R: Files>(rt: &R) -> io::Result<()> {
-    fs::create_dir(rt, FOLDER)?;
-    for (file, text) in FILES {
-        fs::write(rt, file, text)?;
-    }
-    Ok(())
-}
-
-/// Runs from files to printed lines. Where standard output fails, a run that has something to print says so.
 #[test]
-fn runs_files(rt: HostRuntime) -> Result<(), Fail> {
-    let _ = fs::remove_dir_all(&rt, FOLDER);
-    write_files(&rt)?;
-    for run in RUNS {
-        runs(&rt, true, run)?;
-        let (line, status, output, errors) = run;
-        let unprinted = if output.is_empty() {
-            (line, status, "", errors)
-        } else {
-            (line, 1, "", "sqmod: output fault\n")
-        };
-        runs(&rt, false, unprinted)?;
+fn reports_each_fault(rt: HostRuntime) -> Result<(), Fail> {
+    for (fault, line) in FAULTS {
+        assert!(rt; is_reported(rt.alloc(), fault, line)?, "{line}");
     }
-    fs::remove_dir_all(&rt, FOLDER)?;
     Ok(())
 }

@@ -1,3 +1,4 @@
+//! The files of a request.
 use crate::command_line::Request;
 use crate::fault::{Fault, Source};
 use std::fs;
@@ -16,26 +17,37 @@ pub(crate) fn read_texts<R: Files + AllocGlobal>(
     rt: &R,
     request: &Request<'_>,
 ) -> Result<Texts, Fault> {
-    let schemas = read_all(rt, request.schemas.as_slice()).map_err(|place| Fault::Unread(
-        Source::Schema(place),
-    ))?;
-    let modules = read_all(rt, request.modules.as_slice()).map_err(|place| Fault::Unread(
-        Source::Module(place),
-    ))?;
-    let script = fs::read(rt, request.script).map_err(|_| Fault::Unread(Source::Script))?;
-    Ok(Texts {
-        schemas,
-        modules,
-        script,
-    })
+    let schemas = match read_all(rt, request.schemas.as_slice()) {
+        Ok(schemas) => schemas,
+        Err(index) => return Err(Fault::Unread(Source::Schema(index))),
+    };
+    let modules = match read_all(rt, request.modules.as_slice()) {
+        Ok(modules) => modules,
+        Err(index) => {
+            drop(schemas);
+            return Err(Fault::Unread(Source::Module(index)));
+        }
+    };
+    match fs::read(rt, request.script) {
+        Ok(script) => Ok(Texts {
+            schemas,
+            modules,
+            script,
+        }),
+        Err(_) => {
+            drop(schemas);
+            drop(modules);
+            Err(Fault::Unread(Source::Script))
+        }
+    }
 }
 
-/// Reads files in order. An error is the place of the first that is not read, for any cause.
+/// Reads files in order. An error is the index of the first that can't be read, for any cause.
 fn read_all<R: Files + AllocGlobal>(rt: &R, files: &[&str]) -> Result<Vec<Vec<u8>>, usize> {
     let mut texts = Vec::new(rt.alloc());
-    for (place, file) in files.iter().enumerate() {
-        let text = fs::read(rt, *file).map_err(|_| place)?;
-        texts.push(text).map_err(|_| place)?;
+    for (index, file) in files.iter().enumerate() {
+        let text = fs::read(rt, *file).map_err(|_| index)?;
+        texts.push(text).map_err(|_| index)?;
     }
     Ok(texts)
 }

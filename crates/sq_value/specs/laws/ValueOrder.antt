@@ -11,7 +11,8 @@ use Rattle.std.specs.Hash as fed
 use Rattle.std.specs.Ordering.{nat_cmp, ordering_then, is_eq, on, then_cmp, eq_by_cmp}
 use Rattle.sq_value.specs.Number.{Number}
 use Rattle.sq_value.specs.Arithmetic.{compared, truncated, at_scale}
-use Rattle.sq_value.specs.Comparison.{ordered, is_same, kind_rank, texts_compared}
+use Rattle.sq_value.specs.Comparison.{ordered, is_same, texts_compared}
+use Rattle.sq_value.specs.private.Comparison.{kind_rank}
 use Rattle.sq_value.specs.Key.{value_writes}
 use Rattle.sq_value.specs.laws.NumberOrder.{numbers_total, times_twice, ten_positive}
 use Rattle.sq_value.specs.laws.TextOrder.{texts_total, same_trimmed}

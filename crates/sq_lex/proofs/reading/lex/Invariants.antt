@@ -1,4 +1,5 @@
-use Rattle.std.proofs.Common.{◌≡◌, ◌+◌, ◌≤◌, length}
+use Rattle.std.proofs.Common.{◌≡◌, ◌+◌, ◌≤◌, length, drop}
+use Rattle.sq_lex.specs.Row.{IsRow}
 use Rattle.sq_lex.specs.Reading.{tokens_from, followed, reading}
 use Rattle.sq_lex.proofs.reading.lex.Given as goal
 
@@ -6,6 +7,8 @@ use Rattle.sq_lex.proofs.reading.lex.Given as goal
 abbrev pub invariant-loop-rest : goal.invariant-loop-rest
 invariant-loop-rest l = record {
   whole : followed l.tokens.items (tokens_from l.place 0 l.rest) ≡ reading l.text;
+  row : IsRow l.text l.place.byte l.tokens.items;
+  left : drop l.place.byte l.text ≡ l.rest;
   byte : l.place.byte + length l.rest ≡ length l.text;
   line : l.place.line ≤ l.place.byte + 1;
   column : l.place.column ≤ l.place.byte + 1;

@@ -1,6 +1,7 @@
-use Rattle.std.proofs.Common.{Err, sym, ap, ◌∙◌}
+use Rattle.std.proofs.Common.{Err, refl, sym, ap, ◌∙◌}
 use Rattle.sq_lex.specs.Reading.{followed, fault_at}
 use Rattle.sq_lex.proofs.ReadingLemmas.{followed_push, tokens_from-separator, tokens_from-token, tokens_from-fault}
+use Rattle.sq_lex.proofs.Rows.{after_separator, after_token}
 use Rattle.sq_lex.proofs.reading.read_piece.Goals as goal
 
 pub returns-in-Separator-clause-read : goal.returns-in-Separator-clause-read
@@ -15,3 +16,11 @@ pub returns-in-Fault-clause-fault : goal.returns-in-Fault-clause-fault
 returns-in-Fault-clause-fault c =
     tokens_from-fault c.args.place c.args.rest.now _ _ _ c.requires.some c.in_ok-size.ensures.value c.in-Fault.is
     ∙ ap (λ place. Err (fault_at place c.in-Fault.kind)) (sym c.past-line.ensures.value)
+
+pub returns-in-Separator-clause-row : goal.returns-in-Separator-clause-row
+returns-in-Separator-clause-row c =
+    after_separator c.args.rest.now _ c.args.place.byte _ _ _ c.in_ok-size.ensures.spelled (sym c.in_ok-size.ensures.value ∙ c.in-Separator.is) refl
+
+pub returns-in_ok-push-in-Token-clause-row : goal.returns-in_ok-push-in-Token-clause-row
+returns-in_ok-push-in-Token-clause-row c =
+    after_token c.args.rest.now _ c.args.place.byte _ _ _ _ _ c.in_ok-size.ensures.spelled (sym c.in_ok-size.ensures.value ∙ c.in-Token.is) refl refl refl c.in_ok-push-in-Token.ensures.items

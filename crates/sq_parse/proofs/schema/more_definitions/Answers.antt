@@ -1,6 +1,6 @@
-use Rattle.std.proofs.Common.{rules}
+use Rattle.std.proofs.Common.{◌-◌, rules}
 use Rattle.sq_grammar.specs.Schema.{next_definition}
 use Rattle.sq_parse.proofs.schema.more_definitions.Goals as goal
 
 pub returns-clause-value : goal.returns-clause-value
-returns-clause-value c = c.items.ensures.value (next_definition c.args.left c.args.inner) (search rules)
+returns-clause-value c = c.items.ensures.value (next_definition c.args.left (c.args.left - 1)) (search rules)

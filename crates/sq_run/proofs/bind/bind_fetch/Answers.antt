@@ -1,7 +1,7 @@
 use Rattle.std.proofs.Common.{◌≡◌, ◌<◌, Some, length, rules, arith, sym, ◌∙◌, ap, refl, slice_get}
 use Rattle.std.proofs.lemmas.Grind.{common_steps}
 use Rattle.std.proofs.lemmas.Option.{slice_get_read}
-use Rattle.sq_model.specs.Program.{cursor_place}
+use Rattle.sq_first.specs.Program.{cursor_place}
 use Rattle.sq_run.proofs.Named.{cursor_place-names}
 use Rattle.sq_run.proofs.bind.bind_fetch.Goals as goal
 

@@ -1,6 +1,6 @@
 use Rattle.std.proofs.Common.{◌≡◌, ◌∷◌, take}
 use Rattle.std.specs.List.{filter_map}
-use Rattle.sq_model.specs.Program.{named_parameter}
+use Rattle.sq_first.specs.Program.{named_parameter}
 use Rattle.sq_run.proofs.bind.parameter_names.Given as goal
 
 abbrev pub invariant-loop-parameter : goal.invariant-loop-parameter

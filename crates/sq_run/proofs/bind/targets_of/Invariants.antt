@@ -1,6 +1,6 @@
 use Rattle.std.proofs.Common.{◌≡◌, take}
 use Rattle.std.specs.List.{filter_map}
-use Rattle.sq_model.specs.Program.{target_of}
+use Rattle.sq_first.specs.Program.{target_of}
 use Rattle.sq_run.proofs.bind.targets_of.Given as goal
 
 abbrev pub invariant-loop-name : goal.invariant-loop-name

@@ -1,7 +1,7 @@
 use Rattle.std.proofs.Common.{sym, arith}
 use Rattle.std.proofs.lemmas.Grind.{common_steps}
 use Rattle.std.specs.Option.{option_copied}
-use Rattle.sq_model.specs.Program.{bound_cursor, part_cursor}
+use Rattle.sq_first.specs.Program.{bound_cursor, part_cursor}
 use Rattle.sq_run.proofs.Known.{each_known-kind, each_known-other}
 use Rattle.sq_run.proofs.module.bind_cursors.Goals as goal
 use Rattle.sq_run.proofs.module.bind_cursors.Goals.{in-Some+in_ok-take_cursor+in_ok-push, in_default}

@@ -1,6 +1,6 @@
 use Rattle.std.proofs.Common.{◌≡◌, ◌<◌, Some, IsSome, length, take}
 use Rattle.std.specs.Option.{option_copied}
-use Rattle.sq_model.specs.Program.{bound_cursors_in}
+use Rattle.sq_first.specs.Program.{bound_cursors_in}
 use Rattle.sq_run.specs.Places.{cursor_names}
 use Rattle.sq_run.proofs.module.bind_cursors.Given as goal
 

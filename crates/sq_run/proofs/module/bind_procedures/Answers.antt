@@ -1,7 +1,7 @@
 use Rattle.std.proofs.Common.{sym, length}
 use Rattle.std.specs.Option.{option_copied}
-use Rattle.sq_model.specs.Program.{bound_procedure, part_procedure}
-use Rattle.sq_model.specs.Script.{table_count}
+use Rattle.sq_first.specs.Program.{bound_procedure, part_procedure}
+use Rattle.sq_first.specs.Script.{table_count}
 use Rattle.sq_run.proofs.Known.{each_known-kind, each_known-other, all_among-append}
 use Rattle.sq_run.proofs.module.bind_procedures.Goals as goal
 use Rattle.sq_run.proofs.module.bind_procedures.Goals.{in-Some+in_ok-push+else-not-branch+in_ok-take_procedure+in_ok-push-2, in_default}

@@ -1,6 +1,6 @@
 use Rattle.std.proofs.Common.{◌≡◌, ◌+◌, ◌++◌, length, take, arith, ap, sym, ◌∙◌, length-append}
-use Rattle.sq_model.specs.Script.{can_perform, performed, after}
-use Rattle.sq_model.specs.Report.{action_lines, report}
+use Rattle.sq_first.specs.Script.{can_perform, performed, after}
+use Rattle.sq_first.specs.Report.{action_lines, report}
 use Rattle.sq_run.proofs.Runs.{performed_shape, shape_then, after_more, report_more, appends_more, stopped_write, all_at}
 use Rattle.sq_run.proofs.perform.perform_all.Goals as goal
 
@@ -9,7 +9,7 @@ perform-requires g c =
     let first = c.args.session.now in
     let shape = c.loop-done.invariant.shape in
     rw shape.tables (rw shape.cursors
-    (all_at (can_perform (length first.now) (length first.cursors) c.args.procedures.now) c.args.actions.now c.loop-done.done c.index-actions-done.result c.loop-done-test.true c.index-actions-done.is c.requires.can))
+    (all_at (can_perform (length first.tables) (length first.cursors) c.args.procedures.now) c.args.actions.now c.loop-done.done c.index-actions-done.result c.loop-done-test.true c.index-actions-done.is c.requires.can))
 
 pub returns-in-Err-clause-stopped : goal.returns-in-Err-clause-stopped
 returns-in-Err-clause-stopped g c =

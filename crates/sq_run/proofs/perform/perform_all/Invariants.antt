@@ -1,7 +1,7 @@
 use Rattle.std.proofs.Common.{◌≡◌, ◌≤◌, ◌*◌, ◌^◌, false, length, take}
 use Rattle.std.specs.Io.KnownBytes.{Appends}
-use Rattle.sq_model.specs.Script.{after}
-use Rattle.sq_model.specs.Report.{report}
+use Rattle.sq_first.specs.Script.{after}
+use Rattle.sq_first.specs.Report.{report}
 use Rattle.sq_run.proofs.Runs.{SameShape}
 use Rattle.sq_run.proofs.perform.perform_all.Given as goal
 

@@ -1,5 +1,5 @@
 use Rattle.std.proofs.Common.{◌≡◌, take}
-use Rattle.sq_model.specs.Machine.{outputs_of}
+use Rattle.sq_first.specs.Machine.{outputs_of}
 use Rattle.sq_run.proofs.session.outputs_from.Given as goal
 
 abbrev pub invariant-loop-target : goal.invariant-loop-target

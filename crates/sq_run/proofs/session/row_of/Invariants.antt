@@ -1,5 +1,5 @@
 use Rattle.std.proofs.Common.{◌≡◌, take}
-use Rattle.sq_model.specs.Machine.{row_of}
+use Rattle.sq_first.specs.Machine.{row_of}
 use Rattle.sq_run.proofs.session.row_of.Given as goal
 
 abbrev pub invariant-loop-place : goal.invariant-loop-place

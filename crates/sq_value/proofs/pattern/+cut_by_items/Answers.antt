@@ -1,5 +1,6 @@
 use Rattle.std.proofs.Common.{◌∷◌, sym, subst, ap, ◌∙◌}
-use Rattle.sq_value.specs.Pattern.{AreCutsAsRead, pattern_items, with_item}
+use Rattle.sq_value.specs.Pattern.{pattern_items, with_item}
+use Rattle.sq_value.specs.private.Pattern.{AreCutsAsRead}
 use Rattle.sq_value.specs.declared.pattern.Item.TheVariants.{This}
 use Rattle.sq_value.proofs.Patterns.{plain_read, escaped_read, read_put}
 use Rattle.sq_value.proofs.pattern.+cut_by_items.Goals as goal

@@ -1,5 +1,5 @@
 use Rattle.std.proofs.Common.{◌≡◌, ◌-◌, ◌∷◌, false, length, get_or, sym, subst, ap, ◌∙◌, arith}
-use Rattle.sq_value.specs.Pattern.{AreCuts}
+use Rattle.sq_value.specs.private.Pattern.{AreCuts}
 use Rattle.sq_value.proofs.Cutting.{run_put, one_put, not_a_run}
 use Rattle.sq_value.proofs.pattern.put_before.Goals as goal
 

@@ -1,5 +1,5 @@
 use Rattle.std.proofs.Common.{◌≡◌, ℕ, ◌+◌, ◌≤◌, ◌<◌, ◌&&◌, false, get_or}
-use Rattle.sq_value.specs.Pattern.{takes}
+use Rattle.sq_value.specs.private.Pattern.{takes}
 use Rattle.sq_value.proofs.pattern.put_one_code.Given as goal
 
 abbrev pub invariant-loop-place : goal.invariant-loop-place

@@ -1,6 +1,6 @@
 use Rattle.std.proofs.Common.{None, fold, sym, ap, ◌∙◌}
 use Rattle.std.proofs.lemmas.List.{take_all}
-use Rattle.sq_value.specs.SetFunctions.{kept_best}
+use Rattle.sq_value.specs.private.SetFunctions.{kept_best}
 use Rattle.sq_value.proofs.Extremes.{best_is}
 use Rattle.sq_value.proofs.set_functions.best_of.Goals as goal
 

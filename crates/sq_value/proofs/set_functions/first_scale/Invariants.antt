@@ -1,5 +1,6 @@
 use Rattle.std.proofs.Common.{◌≡◌, drop}
-use Rattle.sq_value.specs.SetFunctions.{first_scale, numbers}
+use Rattle.sq_value.specs.SetFunctions.{numbers}
+use Rattle.sq_value.specs.private.SetFunctions.{first_scale}
 use Rattle.sq_value.proofs.set_functions.first_scale.Given as goal
 
 abbrev pub invariant-loop-value : goal.invariant-loop-value

@@ -1,6 +1,6 @@
 use Rattle.std.proofs.Common.{pos, ◌+ℤ◌, fold, sym, ap, ◌∙◌}
 use Rattle.std.proofs.lemmas.List.{take_all}
-use Rattle.sq_value.specs.SetFunctions.{unscaled_of}
+use Rattle.sq_value.specs.private.SetFunctions.{unscaled_of}
 use Rattle.sq_value.proofs.Totals.{total_is}
 use Rattle.sq_value.proofs.set_functions.total.Goals as goal
 

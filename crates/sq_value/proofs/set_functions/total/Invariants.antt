@@ -1,5 +1,5 @@
 use Rattle.std.proofs.Common.{◌≡◌, ◌≤◌, ◌*◌, ◌^◌, take, unsigned_abs, pos, ◌+ℤ◌, fold}
-use Rattle.sq_value.specs.SetFunctions.{unscaled_of}
+use Rattle.sq_value.specs.private.SetFunctions.{unscaled_of}
 use Rattle.sq_value.proofs.set_functions.total.Given as goal
 
 abbrev pub invariant-loop-value : goal.invariant-loop-value

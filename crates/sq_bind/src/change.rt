@@ -1,0 +1,394 @@
+//! INSERT, UPDATE and DELETE (ISO/IEC 9075:1992, 13.6 to 13.10).
+
+use crate::updatable::{Under, bind_target, enter_table, under_table};
+use sq_bound::{
+    Action, BindFault, BoundAssignment, BoundExpr, BoundInsert, BoundUpdate, ChangeTarget, Cursors,
+    InsertedRows, Names, PositionedTarget, ResultColumn, TableDesc, Target,
+};
+use sq_items::Items;
+use sq_lex::Name;
+use sq_scope::{Environment, ExprResult, Findings, Found, SetFunctions, bind_expr, must_agree};
+use sq_select::{SubqueryResult, bind_select, both, kept, named_table};
+use sq_tree::{Assignment, CommaList, Delete, Insert, InsertSource, NewValue, Update, Where};
+use sq_value::{Kind, Value};
+use std::alloc::Global;
+
+/// What is under a table that is to be changed.
+fn must_be_updatable(table: &TableDesc) -> Result<Under, BindFault> {
+    match under_table(table) {
+        Some(under) => Ok(under),
+        None => Err(BindFault::NotUpdatable),
+    }
+}
+
+/// A column that gets values: its position in the base table, and its kind.
+#[derive(Clone, Copy)]
+struct Receiver {
+    /// The position in the table that is named.
+    position: usize,
+    leaf_column: usize,
+    kind: Kind,
+}
+
+/// The column of this name.
+fn receiver_of(table: &TableDesc, name: Name) -> Result<Receiver, BindFault> {
+    for (position, column) in table.columns.as_slice().iter().enumerate() {
+        if column.name == name {
+            return Ok(Receiver {
+                position,
+                leaf_column: column.leaf_column,
+                kind: column.kind,
+            });
+        }
+    }
+    Err(BindFault::UnknownColumn)
+}
+
+/// Adds a column that is not among those before it.
+fn push_receiver(receivers: &mut Items<Receiver>, receiver: Receiver) -> Result<(), BindFault> {
+    if receivers
+        .as_slice()
+        .iter()
+        .any(|other| other.position == receiver.position)
+    {
+        return Err(BindFault::ColumnTwice);
+    }
+    receivers.push(receiver)?;
+    Ok(())
+}
+
+/// The columns of an insert statement: those that it lists, or all.
+fn insert_receivers(
+    alloc: Global,
+    table: &TableDesc,
+    columns: &Option<CommaList<Name>>,
+) -> Result<Items<Receiver>, BindFault> {
+    match columns {
+        Some(list) => listed_receivers(alloc, table, list),
+        None => all_receivers(alloc, table),
+    }
+}
+
+fn listed_receivers(
+    alloc: Global,
+    table: &TableDesc,
+    list: &CommaList<Name>,
+) -> Result<Items<Receiver>, BindFault> {
+    let mut receivers = Items::new(alloc);
+    push_receiver(&mut receivers, receiver_of(table, list.first)?)?;
+    for name in list.rest.as_slice() {
+        push_receiver(&mut receivers, receiver_of(table, *name)?)?;
+    }
+    Ok(receivers)
+}
+
+fn all_receivers(alloc: Global, table: &TableDesc) -> Result<Items<Receiver>, BindFault> {
+    let mut receivers = Items::new(alloc);
+    for (position, column) in table.columns.as_slice().iter().enumerate() {
+        receivers.push(Receiver {
+            position,
+            leaf_column: column.leaf_column,
+            kind: column.kind,
+        })?;
+    }
+    Ok(receivers)
+}
+
+/// The columns of the base table that get values.
+fn leaf_columns(alloc: Global, receivers: &[Receiver]) -> Result<Items<usize>, BindFault> {
+    let mut columns = Items::new(alloc);
+    for receiver in receivers {
+        columns.push(receiver.leaf_column)?;
+    }
+    Ok(columns)
+}
+
+/// A value that is to be stored in a column of a kind. NULL fits every column.
+fn new_value(
+    value: &NewValue,
+    kind: Kind,
+    environment: &Environment,
+) -> Result<Found<BoundExpr>, BindFault> {
+    match value {
+        NewValue::Null => Ok(Found {
+            part: BoundExpr::Literal(Value::Null),
+            findings: Findings::NONE,
+        }),
+        NewValue::Expr(expr) => {
+            let mut functions = SetFunctions::forbidden(environment.alloc);
+            let bound = bind_expr(expr, environment, &mut functions);
+            drop(functions);
+            of_kind(bound, kind)
+        }
+    }
+}
+
+fn of_kind(bound: ExprResult, kind: Kind) -> Result<Found<BoundExpr>, BindFault> {
+    let bound = bound?;
+    let test = must_agree(bound.part.kind, kind);
+    let Found { part, findings } = kept(bound, test)?;
+    Ok(Found {
+        part: part.expr,
+        findings,
+    })
+}
+
+/// An insert statement, and whether a privilege is missing.
+pub(crate) fn bind_insert<N: Names>(
+    insert: &Insert,
+    names: &N,
+    environment: &mut Environment,
+) -> Result<Found<BoundInsert>, BindFault> {
+    let table = named_table(names, environment.user, insert.table)?;
+    let under = must_be_updatable(table)?;
+    let receivers = insert_receivers(environment.alloc, table, &insert.columns)?;
+    let columns = leaf_columns(environment.alloc, receivers.as_slice());
+    let source = insert_source(&insert.source, names, environment, receivers.as_slice());
+    let (columns, source) = both(columns, source)?;
+    let may = names.may(environment.user, Action::Insert, table.full_name(), None);
+    Ok(Found {
+        part: BoundInsert {
+            table: under.table,
+            base: under.base,
+            columns,
+            source: source.part,
+        },
+        findings: source.findings.and(missing_unless(may)),
+    })
+}
+
+/// What is found where a privilege is missing.
+fn missing_unless(may: bool) -> Findings {
+    Findings {
+        lacks_privilege: !may,
+        ..Findings::NONE
+    }
+}
+
+fn insert_source<N: Names>(
+    source: &InsertSource,
+    names: &N,
+    environment: &mut Environment,
+    receivers: &[Receiver],
+) -> Result<Found<InsertedRows>, BindFault> {
+    match source {
+        InsertSource::Values(list) => insert_values(list, environment, receivers),
+        InsertSource::Query(query) => {
+            let query = bind_select(
+                &query.table,
+                query.quantifier,
+                &query.list,
+                names,
+                environment,
+            );
+            inserted_query(query, receivers)
+        }
+    }
+}
+
+fn inserted_query(
+    query: SubqueryResult,
+    receivers: &[Receiver],
+) -> Result<Found<InsertedRows>, BindFault> {
+    let query = query?;
+    let test = check_columns(query.part.columns.as_slice(), receivers);
+    let Found { part, findings } = kept(query, test)?;
+    Ok(Found {
+        part: InsertedRows::Query(part),
+        findings,
+    })
+}
+
+/// A query's columns must be as many as those that get its values, and of their kinds.
+fn check_columns(columns: &[ResultColumn], receivers: &[Receiver]) -> Result<(), BindFault> {
+    if columns.len() != receivers.len() {
+        return Err(BindFault::CountMismatch);
+    }
+    for (column, receiver) in columns.iter().zip(receivers) {
+        must_agree(column.kind, receiver.kind)?;
+    }
+    Ok(())
+}
+
+fn insert_values(
+    list: &CommaList<NewValue>,
+    environment: &Environment,
+    receivers: &[Receiver],
+) -> Result<Found<InsertedRows>, BindFault> {
+    let Some((first, others)) = receivers.split_first() else {
+        return Err(BindFault::CountMismatch);
+    };
+    if list.rest.len() != others.len() {
+        return Err(BindFault::CountMismatch);
+    }
+    let mut values = Items::new(environment.alloc);
+    push_value(&mut values, new_value(&list.first, first.kind, environment))?;
+    for (value, receiver) in list.rest.as_slice().iter().zip(others) {
+        push_value(&mut values, new_value(value, receiver.kind, environment))?;
+    }
+    Ok(Found {
+        part: InsertedRows::Values(values),
+        findings: Findings::NONE,
+    })
+}
+
+fn push_value(
+    values: &mut Items<BoundExpr>,
+    value: Result<Found<BoundExpr>, BindFault>,
+) -> Result<(), BindFault> {
+    values.push(value?.part)?;
+    Ok(())
+}
+
+/// The rows that an update or delete statement names, and what is found in its condition.
+fn change_target<N: Names, C: Cursors>(
+    target: &Option<Where>,
+    names: &N,
+    environment: &mut Environment,
+    cursors: &C,
+    table: &TableDesc,
+    under: Under,
+) -> Result<Found<ChangeTarget>, BindFault> {
+    match target {
+        Some(Where::CurrentOf(name)) => positioned(*name, cursors, table, under),
+        Some(Where::Condition(cond)) => {
+            searched(bind_target(Some(cond), names, environment, under))
+        }
+        None => searched(bind_target(None, names, environment, under)),
+    }
+}
+
+fn searched(target: Result<Found<Target>, BindFault>) -> Result<Found<ChangeTarget>, BindFault> {
+    let Found { part, findings } = target?;
+    Ok(Found {
+        part: ChangeTarget::Searched(part),
+        findings,
+    })
+}
+
+/// The row of an updatable cursor over the very table that is named.
+fn positioned<C: Cursors>(
+    name: Name,
+    cursors: &C,
+    table: &TableDesc,
+    under: Under,
+) -> Result<Found<ChangeTarget>, BindFault> {
+    let Some(known) = cursors.cursor(name) else {
+        return Err(BindFault::UnknownCursor);
+    };
+    let Some((user, name)) = known.cursor.table else {
+        return Err(BindFault::NotUpdatable);
+    };
+    if !table.is(user, name) {
+        return Err(BindFault::NotUpdatable);
+    }
+    Ok(Found {
+        part: ChangeTarget::Positioned(PositionedTarget {
+            cursor: known.number,
+            table: under.table,
+            base: under.base,
+        }),
+        findings: Findings::NONE,
+    })
+}
+
+/// Whether the user may read the columns of the table that is changed, where the statement reads one.
+fn reading<N: Names>(names: &N, user: Name, table: &TableDesc, findings: Findings) -> Findings {
+    let may = !findings.reads_outermost || names.may(user, Action::Select, table.full_name(), None);
+    findings.and(missing_unless(may))
+}
+
+/// A delete statement, and whether a privilege is missing.
+pub(crate) fn bind_delete<N: Names, C: Cursors>(
+    delete: &Delete,
+    names: &N,
+    environment: &mut Environment,
+    cursors: &C,
+) -> Result<Found<ChangeTarget>, BindFault> {
+    let table = named_table(names, environment.user, delete.table)?;
+    let under = must_be_updatable(table)?;
+    enter_table(environment, table, None)?;
+    let target = change_target(&delete.target, names, environment, cursors, table, under);
+    environment.leave();
+    let Found { part, findings } = target?;
+    let may = names.may(environment.user, Action::Delete, table.full_name(), None);
+    let findings = reading(names, environment.user, table, findings).and(missing_unless(may));
+    Ok(Found { part, findings })
+}
+
+/// The assignments of an update statement.
+#[derive(Drop)]
+struct Assignments {
+    receivers: Items<Receiver>,
+    bound: Items<BoundAssignment>,
+    findings: Findings,
+}
+
+/// An update statement, and whether a privilege is missing.
+pub(crate) fn bind_update<N: Names, C: Cursors>(
+    update: &Update,
+    names: &N,
+    environment: &mut Environment,
+    cursors: &C,
+) -> Result<Found<BoundUpdate>, BindFault> {
+    let table = named_table(names, environment.user, update.table)?;
+    let under = must_be_updatable(table)?;
+    enter_table(environment, table, None)?;
+    let assignments = assignments_of(&update.assignments, names, environment, table);
+    let target = change_target(&update.target, names, environment, cursors, table, under);
+    environment.leave();
+    let (assignments, target) = both(assignments, target)?;
+    let findings = assignments.findings.and(target.findings);
+    Ok(Found {
+        part: BoundUpdate {
+            target: target.part,
+            assignments: assignments.bound,
+        },
+        findings: reading(names, environment.user, table, findings),
+    })
+}
+
+fn assignments_of<N: Names>(
+    list: &CommaList<Assignment>,
+    names: &N,
+    environment: &Environment,
+    table: &TableDesc,
+) -> Result<Assignments, BindFault> {
+    let mut assignments = Assignments {
+        receivers: Items::new(environment.alloc),
+        bound: Items::new(environment.alloc),
+        findings: Findings::NONE,
+    };
+    assignments.add(&list.first, names, environment, table)?;
+    for assignment in list.rest.as_slice() {
+        assignments.add(assignment, names, environment, table)?;
+    }
+    Ok(assignments)
+}
+
+impl Assignments {
+    fn add<N: Names>(
+        &mut self,
+        assignment: &Assignment,
+        names: &N,
+        environment: &Environment,
+        table: &TableDesc,
+    ) -> Result<(), BindFault> {
+        let receiver = receiver_of(table, assignment.column)?;
+        push_receiver(&mut self.receivers, receiver)?;
+        let position = Some(receiver.position);
+        let may = names.may(
+            environment.user,
+            Action::Update,
+            table.full_name(),
+            position,
+        );
+        let Found { part, findings } = new_value(&assignment.value, receiver.kind, environment)?;
+        self.findings = self.findings.and(findings).and(missing_unless(may));
+        self.bound.push(BoundAssignment {
+            column: receiver.leaf_column,
+            value: part,
+        })?;
+        Ok(())
+    }
+}

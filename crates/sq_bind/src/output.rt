@@ -1,0 +1,76 @@
+//! Targets: the parameters that get the values of a row (ISO/IEC 9075:1992, 13.3, 13.5).
+
+use sq_bound::{BindFault, Output, ParameterDesc, ResultColumn};
+use sq_items::Items;
+use sq_scope::{indicator_of, must_agree, parameter_of};
+use sq_tree::{CommaList, Parameter};
+use std::alloc::Global;
+
+/// The targets of the columns: as many, each of a fitting kind, and no parameter among them or their indicators twice.
+pub(crate) fn bind_outputs(
+    alloc: Global,
+    parameters: &[ParameterDesc],
+    targets: &CommaList<Parameter>,
+    columns: &[ResultColumn],
+) -> Result<Items<Output>, BindFault> {
+    let outputs = listed_outputs(alloc, parameters, targets, columns)?;
+    check_distinct(outputs.as_slice())?;
+    Ok(outputs)
+}
+
+fn listed_outputs(
+    alloc: Global,
+    parameters: &[ParameterDesc],
+    targets: &CommaList<Parameter>,
+    columns: &[ResultColumn],
+) -> Result<Items<Output>, BindFault> {
+    let Some((first, others)) = columns.split_first() else {
+        return Err(BindFault::CountMismatch);
+    };
+    if targets.rest.len() != others.len() {
+        return Err(BindFault::CountMismatch);
+    }
+    let mut outputs = Items::new(alloc);
+    outputs.push(output_of(parameters, &targets.first, first)?)?;
+    for (target, column) in targets.rest.as_slice().iter().zip(others) {
+        outputs.push(output_of(parameters, target, column)?)?;
+    }
+    Ok(outputs)
+}
+
+fn output_of(
+    parameters: &[ParameterDesc],
+    target: &Parameter,
+    column: &ResultColumn,
+) -> Result<Output, BindFault> {
+    let (parameter, domain) = parameter_of(parameters, target.name)?;
+    let indicator = indicator_of(parameters, target.indicator)?;
+    must_agree(domain.kind(), column.kind)?;
+    Ok(Output {
+        parameter,
+        indicator,
+    })
+}
+
+fn check_distinct(outputs: &[Output]) -> Result<(), BindFault> {
+    for (number, output) in outputs.iter().enumerate() {
+        let earlier = &outputs[..number];
+        if sets_itself(output) || earlier.iter().any(|other| set_alike(other, output)) {
+            return Err(BindFault::TargetTwice);
+        }
+    }
+    Ok(())
+}
+
+/// Whether a target is its own indicator.
+fn sets_itself(output: &Output) -> bool {
+    output.indicator == Some(output.parameter)
+}
+
+/// Whether two targets set one parameter.
+fn set_alike(left: &Output, right: &Output) -> bool {
+    left.parameter == right.parameter
+        || left.indicator == Some(right.parameter)
+        || right.indicator == Some(left.parameter)
+        || (left.indicator.is_some() && left.indicator == right.indicator)
+}

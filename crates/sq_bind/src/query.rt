@@ -1,0 +1,353 @@
+//! Query expressions and cursors (ISO/IEC 9075:1992, 7.10, 13.1).
+
+use crate::updatable::bind_updatable;
+use sq_bound::{
+    BindFault, BoundCursor, BoundQuery, BoundTerm, BoundUnion, CursorBody, Names, ResultColumn,
+    SortColumn, UpdatableQuery,
+};
+use sq_items::{Boxed, Items};
+use sq_lex::{Name, Number};
+use sq_scope::{Environment, is_whole, number_value, union_kind};
+use sq_select::{SubqueryResult, bind_select, both, kept};
+use sq_tree::{
+    CommaList, Cursor, Query, QuerySpecification, QueryTerm, SortDirection, SortKey,
+    SortSpecification,
+};
+use std::alloc::Global;
+
+/// A query expression that is bound so far, and whether a privilege is missing.
+#[derive(Drop)]
+pub(crate) struct Joined {
+    query: BoundQuery,
+    lacks_privilege: bool,
+}
+
+type JoinedResult = Result<Joined, BindFault>;
+
+/// A query term with its columns.
+#[derive(Drop)]
+struct Term {
+    term: BoundTerm,
+    columns: Items<ResultColumn>,
+    lacks_privilege: bool,
+}
+
+type TermResult = Result<Term, BindFault>;
+
+#[cycle(bind_query)]
+pub(crate) fn bind_query<N: Names>(
+    query: &Query,
+    names: &N,
+    environment: &mut Environment,
+) -> JoinedResult {
+    let first = bind_query_term(&query.first, names, environment);
+    let mut joined = started(environment.alloc, first);
+    for union in query.rest.as_slice() {
+        let term = bind_query_term(&union.term, names, environment);
+        joined = with_union(environment.alloc, joined, union.all, term);
+    }
+    joined
+}
+
+#[cycle(bind_query)]
+fn bind_query_term<N: Names>(
+    term: &QueryTerm,
+    names: &N,
+    environment: &mut Environment,
+) -> TermResult {
+    match term {
+        QueryTerm::Specification(query) => {
+            let query = bind_select(
+                &query.table,
+                query.quantifier,
+                &query.list,
+                names,
+                environment,
+            );
+            specification_term(environment.alloc, query)
+        }
+        QueryTerm::Bracketed(query) => {
+            let query = bind_query(query.get(), names, environment);
+            bracketed_term(environment.alloc, query)
+        }
+    }
+}
+
+/// A copy of what is known of result columns.
+fn copied(alloc: Global, columns: &Items<ResultColumn>) -> Result<Items<ResultColumn>, BindFault> {
+    Ok(Items::from_slice(alloc, columns.as_slice())?)
+}
+
+fn specification_term(alloc: Global, query: SubqueryResult) -> TermResult {
+    let found = query?;
+    let lacks_privilege = found.findings.lacks_privilege;
+    let columns = copied(alloc, &found.part.columns);
+    let (query, columns) = both(Ok(found.part), columns)?;
+    Ok(Term {
+        term: BoundTerm::Specification(query),
+        columns,
+        lacks_privilege,
+    })
+}
+
+fn bracketed_term(alloc: Global, query: JoinedResult) -> TermResult {
+    let Joined {
+        query,
+        lacks_privilege,
+    } = query?;
+    let columns = copied(alloc, &query.columns);
+    let (query, columns) = both(boxed_query(alloc, query), columns)?;
+    Ok(Term {
+        term: BoundTerm::Bracketed(query),
+        columns,
+        lacks_privilege,
+    })
+}
+
+fn boxed_query(alloc: Global, query: BoundQuery) -> Result<Boxed<BoundQuery>, BindFault> {
+    Ok(Boxed::new(alloc, query)?)
+}
+
+fn started(alloc: Global, term: TermResult) -> JoinedResult {
+    let Term {
+        term,
+        columns,
+        lacks_privilege,
+    } = term?;
+    Ok(Joined {
+        query: BoundQuery {
+            first: term,
+            rest: Items::new(alloc),
+            columns,
+        },
+        lacks_privilege,
+    })
+}
+
+/// The query expression with a further term.
+fn with_union(alloc: Global, joined: JoinedResult, all: bool, term: TermResult) -> JoinedResult {
+    let (joined, term) = both(joined, term)?;
+    let columns = common_columns(
+        alloc,
+        joined.query.columns.as_slice(),
+        term.columns.as_slice(),
+    );
+    let ((joined, term), columns) = both(Ok((joined, term)), columns)?;
+    let copy = copied(alloc, &columns);
+    let ((joined, term), (columns, copy)) = both(Ok((joined, term)), both(Ok(columns), copy))?;
+    push_union(joined, term, all, columns, copy)
+}
+
+fn push_union(
+    joined: Joined,
+    term: Term,
+    all: bool,
+    columns: Items<ResultColumn>,
+    copy: Items<ResultColumn>,
+) -> JoinedResult {
+    let BoundQuery {
+        first,
+        mut rest,
+        columns: before,
+    } = joined.query;
+    drop(before);
+    let pushed = rest.push(BoundUnion {
+        all,
+        term: term.term,
+        columns: copy,
+    });
+    let lacks_privilege = joined.lacks_privilege || term.lacks_privilege;
+    let query = BoundQuery {
+        first,
+        rest,
+        columns,
+    };
+    let test = match pushed {
+        Ok(()) => Ok(()),
+        Err(_) => Err(BindFault::NoMemory),
+    };
+    kept(
+        Joined {
+            query,
+            lacks_privilege,
+        },
+        test,
+    )
+}
+
+/// The columns to which both sides of a UNION are brought. A column keeps its name where both sides have the same one.
+fn common_columns(
+    alloc: Global,
+    left: &[ResultColumn],
+    right: &[ResultColumn],
+) -> Result<Items<ResultColumn>, BindFault> {
+    if left.len() != right.len() {
+        return Err(BindFault::CountMismatch);
+    }
+    let mut columns = Items::new(alloc);
+    for (left, right) in left.iter().zip(right) {
+        let kind = union_kind(left.kind, right.kind)?;
+        columns.push(ResultColumn {
+            name: common_name(left.name, right.name),
+            kind,
+        })?;
+    }
+    Ok(columns)
+}
+
+fn common_name(left: Option<Name>, right: Option<Name>) -> Option<Name> {
+    let left = left?;
+    let right = right?;
+    if left == right { Some(left) } else { None }
+}
+
+/// The column that a sort specification names.
+fn sort_column(
+    columns: &[ResultColumn],
+    sort: &SortSpecification,
+) -> Result<SortColumn, BindFault> {
+    let column = match &sort.key {
+        SortKey::Column(name) => named_column(columns, *name)?,
+        SortKey::Position(number) => numbered_column(columns.len(), *number)?,
+    };
+    Ok(SortColumn {
+        column,
+        descending: matches!(sort.direction, Some(SortDirection::Desc)),
+    })
+}
+
+/// Whether the column has this name.
+fn is_named(column: &ResultColumn, wanted: Name) -> bool {
+    match column.name {
+        Some(name) => name == wanted,
+        None => false,
+    }
+}
+
+/// The position of the only column of this name.
+fn named_column(columns: &[ResultColumn], wanted: Name) -> Result<usize, BindFault> {
+    let mut found = None;
+    for (position, column) in columns.iter().enumerate() {
+        if is_named(column, wanted) {
+            if found.is_some() {
+                return Err(BindFault::BadSortKey);
+            }
+            found = Some(position);
+        }
+    }
+    match found {
+        Some(position) => Ok(position),
+        None => Err(BindFault::BadSortKey),
+    }
+}
+
+/// The position from 0 that a number written without a point counts from 1.
+fn numbered_column(count: usize, number: Number) -> Result<usize, BindFault> {
+    if !is_whole(number) {
+        return Err(BindFault::BadSortKey);
+    }
+    let position = number_value(number)?.unscaled();
+    if position < 1 || position as u64 > count as u64 {
+        return Err(BindFault::BadSortKey);
+    }
+    Ok((position - 1) as usize)
+}
+
+fn sort_columns(
+    alloc: Global,
+    columns: &[ResultColumn],
+    order_by: &Option<CommaList<SortSpecification>>,
+) -> Result<Items<SortColumn>, BindFault> {
+    let mut sorts = Items::new(alloc);
+    if let Some(list) = order_by {
+        sorts.push(sort_column(columns, &list.first)?)?;
+        for sort in list.rest.as_slice() {
+            sorts.push(sort_column(columns, sort)?)?;
+        }
+    }
+    Ok(sorts)
+}
+
+/// The query specification that a query expression is, if there is no UNION; brackets around it change nothing.
+#[cycle(sole_specification)]
+fn sole_specification(query: &Query) -> Option<&QuerySpecification> {
+    if query.rest.is_empty() {
+        sole_term(&query.first)
+    } else {
+        None
+    }
+}
+
+#[cycle(sole_specification)]
+fn sole_term(term: &QueryTerm) -> Option<&QuerySpecification> {
+    match term {
+        QueryTerm::Specification(query) => Some(query),
+        QueryTerm::Bracketed(query) => sole_specification(query.get()),
+    }
+}
+
+/// What an updatable cursor is over, if the cursor is updatable (13.1; own rule): its query is, and neither ORDER BY nor
+/// SCROLL nor INSENSITIVE is written.
+fn updatable_cursor<N: Names>(
+    cursor: &Cursor,
+    names: &N,
+    environment: &mut Environment,
+) -> Result<Option<((Name, Name), UpdatableQuery)>, BindFault> {
+    if cursor.insensitive || cursor.scroll || cursor.order_by.is_some() {
+        return Ok(None);
+    }
+    match sole_specification(&cursor.query) {
+        Some(query) => bind_updatable(query, names, environment),
+        None => Ok(None),
+    }
+}
+
+/// A cursor.
+pub(crate) fn cursor_of<N: Names>(
+    cursor: &Cursor,
+    names: &N,
+    environment: &mut Environment,
+) -> Result<BoundCursor, BindFault> {
+    let Joined {
+        query,
+        lacks_privilege,
+    } = bind_query(&cursor.query, names, environment)?;
+    let sorts = sort_columns(
+        environment.alloc,
+        query.columns.as_slice(),
+        &cursor.order_by,
+    );
+    let (query, sorts) = both(Ok(query), sorts)?;
+    if lacks_privilege {
+        drop(query);
+        return Err(BindFault::PrivilegeMissing);
+    }
+    let updatable = updatable_cursor(cursor, names, environment);
+    let columns = copied(environment.alloc, &query.columns);
+    let ((query, columns), updatable) = both(both(Ok(query), columns), updatable)?;
+    Ok(whole_cursor(cursor, query, sorts, columns, updatable))
+}
+
+fn whole_cursor(
+    cursor: &Cursor,
+    query: BoundQuery,
+    sorts: Items<SortColumn>,
+    columns: Items<ResultColumn>,
+    updatable: Option<((Name, Name), UpdatableQuery)>,
+) -> BoundCursor {
+    let (table, body) = match updatable {
+        None => (None, CursorBody::Rows(query, sorts)),
+        Some((table, updatable)) => {
+            drop(query);
+            drop(sorts);
+            (Some(table), CursorBody::Updatable(updatable))
+        }
+    };
+    BoundCursor {
+        insensitive: cursor.insensitive,
+        scroll: cursor.scroll,
+        table,
+        columns,
+        body,
+    }
+}

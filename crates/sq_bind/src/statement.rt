@@ -1,0 +1,324 @@
+//! Statements of procedures, cursors, views and CHECK conditions.
+
+use crate::change::{bind_delete, bind_insert, bind_update};
+use crate::output::bind_outputs;
+use crate::query::cursor_of;
+use crate::updatable::{bind_updatable, enter_table};
+use sq_bound::{
+    Action, BindFault, BoundCond, BoundCursor, BoundFetch, BoundInsert, BoundSelect,
+    BoundSpecification, BoundStatement, BoundUpdate, ChangeTarget, Cursors, Distance,
+    FetchOrientation, KnownCursor, Names, ParameterDesc, TableDesc, TablePlace, UpdatableQuery,
+};
+use sq_lex::Name;
+use sq_scope::{Environment, Found, SetFunctions, is_whole, parameter_of, signed_value};
+use sq_select::{bind_cond, bind_select, both, kept};
+use sq_tree::{
+    Cond, Cursor, Fetch, FetchFrom, Orientation, Position, QuerySpecification, Select,
+    SignedNumber, Statement,
+};
+use sq_value::Kind;
+use std::alloc::Global;
+
+/// A cursor's query with its names as places, for the parameters of the procedure that opens it.
+pub fn bind_cursor<N: Names>(
+    alloc: Global,
+    names: &N,
+    user: Name,
+    parameters: &[ParameterDesc],
+    cursor: &Cursor,
+) -> Result<BoundCursor, BindFault> {
+    let mut environment = Environment::new(alloc, user, parameters)?;
+    let bound = cursor_of(cursor, names, &mut environment);
+    drop(environment);
+    bound
+}
+
+/// A view's query with its names as places, and what it is over if it is updatable.
+#[derive(Drop)]
+pub struct BoundView {
+    pub query: BoundSpecification,
+    pub updatable: Option<UpdatableQuery>,
+    /// Whether the user may select from all tables that the query names.
+    pub may_select: bool,
+    /// Whether the user may grant SELECT on all of them.
+    pub may_grant_select: bool,
+}
+
+/// The query of a view of the user, which has no parameters. Privileges that the user lacks are no fault here.
+pub fn bind_view<N: Names>(
+    alloc: Global,
+    names: &N,
+    user: Name,
+    query: &QuerySpecification,
+) -> Result<BoundView, BindFault> {
+    let mut environment = Environment::new(alloc, user, &[])?;
+    let bound = bind_select(
+        &query.table,
+        query.quantifier,
+        &query.list,
+        names,
+        &mut environment,
+    );
+    let bound = match bound {
+        Ok(bound) => both(Ok(bound), bind_updatable(query, names, &mut environment)),
+        Err(fault) => Err(fault),
+    };
+    drop(environment);
+    whole_view(bound?)
+}
+
+fn whole_view(
+    bound: (
+        Found<BoundSpecification>,
+        Option<((Name, Name), UpdatableQuery)>,
+    ),
+) -> Result<BoundView, BindFault> {
+    let (Found { part, findings }, updatable) = bound;
+    Ok(BoundView {
+        query: part,
+        may_select: !findings.lacks_privilege,
+        may_grant_select: !findings.lacks_grant_option,
+        updatable: match updatable {
+            Some((_, updatable)) => Some(updatable),
+            None => None,
+        },
+    })
+}
+
+/// No privilege may be missing.
+fn granted(lacks_privilege: bool) -> Result<(), BindFault> {
+    if lacks_privilege {
+        Err(BindFault::PrivilegeMissing)
+    } else {
+        Ok(())
+    }
+}
+
+/// The names of a CHECK condition, which may name no table.
+#[derive(Clone, Copy)]
+struct NoNames;
+
+impl Names for NoNames {
+    fn table(&self, _user: Name, _name: Name) -> Option<&TableDesc> {
+        None
+    }
+
+    fn at(&self, _place: TablePlace) -> Option<&TableDesc> {
+        None
+    }
+
+    fn may(
+        &self,
+        _user: Name,
+        _action: Action,
+        _table: (Name, Name),
+        _column: Option<usize>,
+    ) -> bool {
+        false
+    }
+
+    fn may_grant(
+        &self,
+        _user: Name,
+        _action: Action,
+        _table: (Name, Name),
+        _column: Option<usize>,
+    ) -> bool {
+        false
+    }
+}
+
+/// A CHECK condition on the rows of a table (11.9), without subqueries, USER and parameters.
+pub fn bind_check(alloc: Global, table: &TableDesc, cond: &Cond) -> Result<BoundCond, BindFault> {
+    let mut environment = Environment::new(alloc, table.user, &[])?;
+    let bound = check_in(&mut environment, table, cond);
+    drop(environment);
+    checked(bound)
+}
+
+/// The condition over the rows of the table.
+fn check_in(
+    environment: &mut Environment,
+    table: &TableDesc,
+    cond: &Cond,
+) -> Result<Found<BoundCond>, BindFault> {
+    enter_table(environment, table, None)?;
+    let mut functions = SetFunctions::forbidden(environment.alloc);
+    let bound = bind_cond(cond, &NoNames, environment, &mut functions);
+    drop(functions);
+    bound
+}
+
+fn checked(cond: Result<Found<BoundCond>, BindFault>) -> Result<BoundCond, BindFault> {
+    let Found { part, findings } = cond?;
+    if findings.has_user || findings.has_subquery {
+        drop(part);
+        return Err(BindFault::NotInCheck);
+    }
+    Ok(part)
+}
+
+/// A statement of a procedure with these parameters, in a module with these cursors.
+pub fn bind_statement<N: Names, C: Cursors>(
+    alloc: Global,
+    names: &N,
+    user: Name,
+    parameters: &[ParameterDesc],
+    cursors: &C,
+    statement: &Statement,
+) -> Result<BoundStatement, BindFault> {
+    let mut environment = Environment::new(alloc, user, parameters)?;
+    let bound = statement_of(statement, names, &mut environment, cursors);
+    drop(environment);
+    bound
+}
+
+fn statement_of<N: Names, C: Cursors>(
+    statement: &Statement,
+    names: &N,
+    environment: &mut Environment,
+    cursors: &C,
+) -> Result<BoundStatement, BindFault> {
+    match statement {
+        Statement::Open(name) => opening(known(cursors, *name)),
+        Statement::Close(name) => closing(known(cursors, *name)),
+        Statement::Fetch(fetch) => bind_fetch(fetch, environment, cursors),
+        Statement::Select(select) => bind_row(select, names, environment),
+        Statement::Insert(insert) => inserting(bind_insert(insert, names, environment)),
+        Statement::Update(update) => updating(bind_update(update, names, environment, cursors)),
+        Statement::Delete(delete) => deleting(bind_delete(delete, names, environment, cursors)),
+        Statement::Commit(_) => Ok(BoundStatement::Commit),
+        Statement::Rollback(_) => Ok(BoundStatement::Rollback),
+    }
+}
+
+fn opening(cursor: Result<KnownCursor<'_>, BindFault>) -> Result<BoundStatement, BindFault> {
+    Ok(BoundStatement::Open(cursor?.number))
+}
+
+fn closing(cursor: Result<KnownCursor<'_>, BindFault>) -> Result<BoundStatement, BindFault> {
+    Ok(BoundStatement::Close(cursor?.number))
+}
+
+/// The part, if no privilege is missing.
+fn permitted<T: Drop>(found: Result<Found<T>, BindFault>) -> Result<T, BindFault> {
+    let Found { part, findings } = found?;
+    kept(part, granted(findings.lacks_privilege))
+}
+
+fn inserting(insert: Result<Found<BoundInsert>, BindFault>) -> Result<BoundStatement, BindFault> {
+    Ok(BoundStatement::Insert(permitted(insert)?))
+}
+
+fn updating(update: Result<Found<BoundUpdate>, BindFault>) -> Result<BoundStatement, BindFault> {
+    Ok(BoundStatement::Update(permitted(update)?))
+}
+
+fn deleting(delete: Result<Found<ChangeTarget>, BindFault>) -> Result<BoundStatement, BindFault> {
+    Ok(BoundStatement::Delete(permitted(delete)?))
+}
+
+/// The cursor of this name.
+fn known<C: Cursors>(cursors: &C, name: Name) -> Result<KnownCursor<'_>, BindFault> {
+    match cursors.cursor(name) {
+        Some(known) => Ok(known),
+        None => Err(BindFault::UnknownCursor),
+    }
+}
+
+/// A select statement of one row.
+fn bind_row<N: Names>(
+    select: &Select,
+    names: &N,
+    environment: &mut Environment,
+) -> Result<BoundStatement, BindFault> {
+    let query = bind_select(
+        &select.table,
+        select.quantifier,
+        &select.list,
+        names,
+        environment,
+    )?;
+    let outputs = bind_outputs(
+        environment.alloc,
+        environment.parameters.as_slice(),
+        &select.targets,
+        query.part.columns.as_slice(),
+    );
+    let (query, outputs) = both(Ok(query), outputs)?;
+    let (query, outputs) = both(permitted(Ok(query)), Ok(outputs))?;
+    Ok(BoundStatement::Select(BoundSelect { query, outputs }))
+}
+
+/// A fetch statement.
+fn bind_fetch<C: Cursors>(
+    fetch: &Fetch,
+    environment: &Environment,
+    cursors: &C,
+) -> Result<BoundStatement, BindFault> {
+    let known = known(cursors, fetch.cursor)?;
+    let parameters = environment.parameters.as_slice();
+    let orientation = fetch_orientation(&fetch.from, parameters)?;
+    if !known.cursor.scroll && !matches!(orientation, FetchOrientation::Next) {
+        return Err(BindFault::BadOrientation);
+    }
+    let columns = known.cursor.columns.as_slice();
+    let outputs = bind_outputs(environment.alloc, parameters, &fetch.targets, columns)?;
+    Ok(BoundStatement::Fetch(BoundFetch {
+        cursor: known.number,
+        orientation,
+        outputs,
+    }))
+}
+
+fn fetch_orientation(
+    from: &Option<FetchFrom>,
+    parameters: &[ParameterDesc],
+) -> Result<FetchOrientation, BindFault> {
+    match from {
+        None => Ok(FetchOrientation::Next),
+        Some(from) => match &from.orientation {
+            None => Ok(FetchOrientation::Next),
+            Some(orientation) => bound_orientation(orientation, parameters),
+        },
+    }
+}
+
+fn bound_orientation(
+    orientation: &Orientation,
+    parameters: &[ParameterDesc],
+) -> Result<FetchOrientation, BindFault> {
+    match orientation {
+        Orientation::Next => Ok(FetchOrientation::Next),
+        Orientation::Prior => Ok(FetchOrientation::Prior),
+        Orientation::First => Ok(FetchOrientation::First),
+        Orientation::Last => Ok(FetchOrientation::Last),
+        Orientation::Absolute(position) => {
+            Ok(FetchOrientation::Absolute(distance(position, parameters)?))
+        }
+        Orientation::Relative(position) => {
+            Ok(FetchOrientation::Relative(distance(position, parameters)?))
+        }
+    }
+}
+
+/// The number of an orientation: written without a point, or a parameter of scale 0.
+fn distance(position: &Position, parameters: &[ParameterDesc]) -> Result<Distance, BindFault> {
+    match position {
+        Position::Number(signed) => whole_distance(signed),
+        Position::Parameter(name) => {
+            let (parameter, domain) = parameter_of(parameters, *name)?;
+            match domain.kind() {
+                Kind::Num(0) => Ok(Distance::Parameter(parameter)),
+                _ => Err(BindFault::BadOrientation),
+            }
+        }
+    }
+}
+
+fn whole_distance(signed: &SignedNumber) -> Result<Distance, BindFault> {
+    if !is_whole(signed.number) {
+        return Err(BindFault::BadOrientation);
+    }
+    Ok(Distance::Number(signed_value(*signed)?.unscaled()))
+}

@@ -1,0 +1,30 @@
+//! What texts are bound to: trees whose names are places, the tables that names mean, and why a text can't be bound
+//! (ISO/IEC 9075:1992, clauses 6 to 8, 11 and 13).
+#![tactic(auto)]
+
+mod condition;
+mod domain;
+mod expression;
+mod fault;
+mod names;
+mod query;
+mod statement;
+
+pub use condition::{
+    BoundCond, BoundConj, BoundSpecification, BoundTest, Compared, Grouping, Predicate,
+    ResultColumn, TablePlace,
+};
+pub use domain::domain_of;
+pub use expression::{Aggregate, BoundExpr, Input, Operation, Operator, Place, SetFunctionCall};
+pub use fault::BindFault;
+pub use names::{
+    Action, BaseColumn, BaseTable, Column, ColumnDefault, Cursors, KnownCursor, Leaf, Names,
+    ParameterDesc, Reference, TableBody, TableDesc, View,
+};
+pub use query::{
+    BoundCursor, BoundQuery, BoundTerm, BoundUnion, CursorBody, SortColumn, Target, UpdatableQuery,
+};
+pub use statement::{
+    BoundAssignment, BoundFetch, BoundInsert, BoundSelect, BoundStatement, BoundUpdate,
+    ChangeTarget, Distance, FetchOrientation, InsertedRows, Output, PositionedTarget,
+};

@@ -1,0 +1,186 @@
+//! What names mean: tables and views, privileges, cursors and parameters.
+
+use crate::condition::{BoundCond, BoundSpecification, TablePlace};
+use crate::query::BoundCursor;
+use sq_items::Items;
+use sq_lex::Name;
+use sq_value::{Domain, Kind, Value};
+
+/// An action that a privilege allows (ISO/IEC 9075:1992, 10.3).
+#[derive(Clone, Copy, Debug, PartialEq, Eq, Hash)]
+pub enum Action {
+    Select,
+    Insert,
+    Delete,
+    Update,
+    References,
+}
+
+/// The tables, views and privileges that a user's texts may name.
+pub trait Names {
+    /// The base table or view of this owner and name.
+    fn table(&self, user: Name, name: Name) -> Option<&TableDesc>;
+
+    /// The base table or view at this place.
+    fn at(&self, place: TablePlace) -> Option<&TableDesc>;
+
+    /// Whether the user holds the action on the table of this owner and name, or on the column at a position of it.
+    fn may(&self, user: Name, action: Action, table: (Name, Name), column: Option<usize>) -> bool;
+
+    /// Whether the user holds it with the grant option.
+    fn may_grant(
+        &self,
+        user: Name,
+        action: Action,
+        table: (Name, Name),
+        column: Option<usize>,
+    ) -> bool;
+}
+
+/// The cursors of a module.
+pub trait Cursors {
+    /// The cursor of this name, where there is one and its query has no fault.
+    fn cursor(&self, name: Name) -> Option<KnownCursor<'_>>;
+}
+
+/// A cursor's number in its module, and the cursor.
+#[derive(Clone, Copy)]
+pub struct KnownCursor<'a> {
+    pub number: usize,
+    pub cursor: &'a BoundCursor,
+}
+
+/// A parameter of a procedure.
+#[derive(Clone, Copy)]
+pub struct ParameterDesc {
+    pub name: Name,
+    pub domain: Domain,
+}
+
+/// A base table or a view.
+#[derive(Drop)]
+pub struct TableDesc {
+    pub user: Name,
+    pub name: Name,
+    pub columns: Items<Column>,
+    pub body: TableBody,
+    /// For a base table and an updatable view, the rows under it.
+    pub leaf: Option<Leaf>,
+}
+
+/// A column, as a query sees it.
+#[derive(Clone, Copy)]
+pub struct Column {
+    pub name: Name,
+    pub kind: Kind,
+    /// The column of the base table that it is, and its own position in a view that is not updatable.
+    pub leaf_column: usize,
+}
+
+/// What a table is.
+#[derive(Drop)]
+pub enum TableBody {
+    Base(BaseTable),
+    View(View),
+}
+
+/// A base table: what its rows hold and obey (11.3 to 11.9).
+#[derive(Drop)]
+pub struct BaseTable {
+    /// Its place in the store.
+    pub place: usize,
+    pub columns: Items<BaseColumn>,
+    /// The column positions of each of its keys.
+    pub keys: Items<Items<usize>>,
+    /// Which of the keys is the primary one.
+    pub primary_key: Option<usize>,
+    pub references: Items<Reference>,
+    pub checks: Items<BoundCond>,
+}
+
+/// What a column of a base table holds.
+#[derive(Drop)]
+pub struct BaseColumn {
+    pub domain: Domain,
+    pub not_null: bool,
+    pub default: ColumnDefault,
+}
+
+/// The value of a column that an insert statement leaves out (11.5).
+#[derive(Drop)]
+pub enum ColumnDefault {
+    /// Null, or a value of the column's domain.
+    Value(Value),
+    User,
+}
+
+/// A reference (11.8): where no column of it is null, a row of the table has the same values in its columns.
+#[derive(Drop)]
+pub struct Reference {
+    pub columns: Items<usize>,
+    /// The place of the referenced table in the store.
+    pub table: usize,
+    /// Its key that is referenced.
+    pub key: usize,
+    /// For each column of that key, in its order, the position of the referencing column.
+    pub by_key: Items<usize>,
+}
+
+/// A view (11.19).
+#[derive(Drop)]
+pub struct View {
+    /// Its place among the views.
+    pub place: usize,
+    pub query: BoundSpecification,
+}
+
+/// The base table under an updatable view, or a base table itself.
+#[derive(Drop)]
+pub struct Leaf {
+    /// The place of the base table.
+    pub base: usize,
+    /// The view's own condition, on a row of the base table.
+    pub condition: Option<BoundCond>,
+    /// The places of the views between the base table and this table, from inside out, this one included.
+    pub views: Items<usize>,
+    /// How many of them, from inside out, demand their condition of new and changed rows.
+    pub demanded: usize,
+    /// Whether none of their conditions may answer a status.
+    pub is_quiet: bool,
+}
+
+impl TableDesc {
+    /// Where the table stands.
+    pub fn place(&self) -> TablePlace {
+        match &self.body {
+            TableBody::Base(table) => TablePlace::Base(table.place),
+            TableBody::View(view) => TablePlace::View(view.place),
+        }
+    }
+
+    /// Whether reading its rows may answer a status in the stead of rows.
+    pub fn can_fail(&self) -> bool {
+        match &self.body {
+            TableBody::Base(_) => false,
+            TableBody::View(view) => view.query.can_fail,
+        }
+    }
+
+    /// Its owner and its name.
+    pub fn full_name(&self) -> (Name, Name) {
+        (self.user, self.name)
+    }
+
+    /// Whether it has this owner and this name.
+    pub fn is(&self, user: Name, name: Name) -> bool {
+        self.user == user && self.name == name
+    }
+
+    /// The position of the column of this name.
+    pub fn column(&self, name: Name) -> Option<usize> {
+        self.columns
+            .as_slice()
+            .iter()
+            .position(|column| column.name == name)
+    }
+}

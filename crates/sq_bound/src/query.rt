@@ -1,0 +1,81 @@
+//! Query expressions and cursors with their names as places.
+
+use crate::condition::{BoundCond, BoundSpecification, ResultColumn, TablePlace};
+use sq_items::{Boxed, Items};
+use sq_lex::Name;
+
+/// A query expression (ISO/IEC 9075:1992, 7.10): a term, and further ones that are joined to it from left to right.
+#[cycle(bound_query)]
+#[derive(Drop)]
+pub struct BoundQuery {
+    pub first: BoundTerm,
+    pub rest: Items<BoundUnion>,
+    pub columns: Items<ResultColumn>,
+}
+
+/// UNION or UNION ALL, the term behind it, and the columns to which both sides are brought.
+#[cycle(bound_query)]
+#[derive(Drop)]
+pub struct BoundUnion {
+    pub all: bool,
+    pub term: BoundTerm,
+    pub columns: Items<ResultColumn>,
+}
+
+/// A query term.
+#[cycle(bound_query)]
+#[derive(Drop)]
+pub enum BoundTerm {
+    Specification(BoundSpecification),
+    Bracketed(Boxed<BoundQuery>),
+}
+
+/// A sort key (13.1): a result column, counted from 0, and its direction.
+#[derive(Clone, Copy, Debug, PartialEq, Eq)]
+pub struct SortColumn {
+    pub column: usize,
+    pub descending: bool,
+}
+
+/// The rows of a base table that a statement or cursor may change. The conditions of the views in between stand in the
+/// table's `Leaf`.
+#[derive(Drop)]
+pub struct Target {
+    /// The table or view that is named.
+    pub table: TablePlace,
+    /// The place of the base table under it.
+    pub base: usize,
+    /// The condition on a row of the base table.
+    pub condition: Option<BoundCond>,
+    /// The key of the base table whose columns the condition's first tests compare, each with a literal or a parameter.
+    pub key: Option<usize>,
+    /// Whether no condition, those of the views included, may answer a status.
+    pub is_quiet: bool,
+}
+
+/// What an updatable query is over, and the columns of the base table that its select list names.
+#[derive(Drop)]
+pub struct UpdatableQuery {
+    pub target: Target,
+    pub columns: Items<usize>,
+}
+
+/// A cursor (13.1).
+#[derive(Drop)]
+pub struct BoundCursor {
+    pub insensitive: bool,
+    pub scroll: bool,
+    /// The owner and the name of the table that an updatable cursor is over.
+    pub table: Option<(Name, Name)>,
+    pub columns: Items<ResultColumn>,
+    pub body: CursorBody,
+}
+
+/// What a cursor goes over.
+#[derive(Drop)]
+pub enum CursorBody {
+    /// The rows of a query, in the order of the sort keys.
+    Rows(BoundQuery, Items<SortColumn>),
+    /// The rows of a base table.
+    Updatable(UpdatableQuery),
+}

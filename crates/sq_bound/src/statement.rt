@@ -1,0 +1,110 @@
+//! Statements with their names as places.
+
+use crate::condition::{BoundSpecification, TablePlace};
+use crate::expression::BoundExpr;
+use crate::query::Target;
+use sq_items::Items;
+
+/// A statement of a procedure.
+#[derive(Drop)]
+pub enum BoundStatement {
+    /// The cursor's number.
+    Open(usize),
+    Fetch(BoundFetch),
+    Close(usize),
+    Select(BoundSelect),
+    Insert(BoundInsert),
+    Update(BoundUpdate),
+    Delete(ChangeTarget),
+    Commit,
+    Rollback,
+}
+
+/// A target: the place of the parameter that gets a column's value, and of its indicator parameter.
+#[derive(Clone, Copy, Debug, PartialEq, Eq)]
+pub struct Output {
+    pub parameter: usize,
+    pub indicator: Option<usize>,
+}
+
+/// A fetch statement (ISO/IEC 9075:1992, 13.3).
+#[derive(Drop)]
+pub struct BoundFetch {
+    pub cursor: usize,
+    pub orientation: FetchOrientation,
+    pub outputs: Items<Output>,
+}
+
+/// A fetch orientation.
+#[derive(Clone, Copy)]
+pub enum FetchOrientation {
+    Next,
+    Prior,
+    First,
+    Last,
+    Absolute(Distance),
+    Relative(Distance),
+}
+
+/// The number of an ABSOLUTE or RELATIVE fetch orientation.
+#[derive(Clone, Copy)]
+pub enum Distance {
+    Number(i64),
+    /// The place of a parameter.
+    Parameter(usize),
+}
+
+/// A select statement of one row (13.5).
+#[derive(Drop)]
+pub struct BoundSelect {
+    pub query: BoundSpecification,
+    pub outputs: Items<Output>,
+}
+
+/// An insert statement (13.8).
+#[derive(Drop)]
+pub struct BoundInsert {
+    pub table: TablePlace,
+    /// The place of the base table that gets the rows.
+    pub base: usize,
+    /// The columns of the base table that get the values, in the order of the values.
+    pub columns: Items<usize>,
+    pub source: InsertedRows,
+}
+
+/// Where inserted values come from.
+#[derive(Drop)]
+pub enum InsertedRows {
+    Values(Items<BoundExpr>),
+    Query(BoundSpecification),
+}
+
+/// Which rows an update or delete statement changes.
+#[derive(Drop)]
+pub enum ChangeTarget {
+    Searched(Target),
+    Positioned(PositionedTarget),
+}
+
+/// The row that a cursor is on.
+#[derive(Drop)]
+pub struct PositionedTarget {
+    pub cursor: usize,
+    pub table: TablePlace,
+    /// The place of the base table.
+    pub base: usize,
+}
+
+/// An update statement (13.9, 13.10).
+#[derive(Drop)]
+pub struct BoundUpdate {
+    pub target: ChangeTarget,
+    pub assignments: Items<BoundAssignment>,
+}
+
+/// A set clause: a column of the base table, and its value.
+#[derive(Drop)]
+pub struct BoundAssignment {
+    pub column: usize,
+    pub value: BoundExpr,
+}

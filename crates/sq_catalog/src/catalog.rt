@@ -1,0 +1,237 @@
+//! The catalog, built element by element (ISO/IEC 9075:1992, 11.1).
+
+use crate::fault::{CatalogFault, ElementFault, RefusalName, SchemaRefusal, refused_if};
+use crate::grants::{Held, Privilege};
+use crate::written::{add_name, pushed};
+use indexmap::{IndexMap, IndexSet};
+use sq_bound::{Action, Names, TableDesc, TablePlace};
+use sq_items::Items;
+use sq_lex::Name;
+use sq_tree::{SchemaDefinition, SchemaElement, SchemaText, TableName};
+use std::alloc::Global;
+
+/// The greatest number of tables and views (own rule).
+const MOST_TABLES: usize = 1000;
+
+/// Limits of a run.
+#[derive(Clone, Copy, Debug, PartialEq, Eq)]
+pub struct Limits {
+    /// The greatest number that a row of a table may have, at most 1000000000.
+    pub row_numbers: u64,
+}
+
+/// A name of a table or view: its owner, and its name in the owner's schema.
+#[derive(Clone, Copy, Debug, PartialEq, Eq, Hash)]
+pub(crate) struct FullName {
+    pub user: Name,
+    pub name: Name,
+}
+
+/// The tables, views and privileges that schema texts define.
+#[derive(Drop)]
+pub struct Catalog {
+    alloc: Global,
+    limits: Limits,
+    users: IndexSet<Name>,
+    places: IndexMap<FullName, TablePlace>,
+    pub(crate) bases: Vec<TableDesc>,
+    pub(crate) views: Vec<TableDesc>,
+    pub(crate) keys: Vec<Vec<Vec<usize>>>,
+    pub(crate) held: Held,
+}
+
+impl Catalog {
+    /// The catalog of schema texts, or the first refusal in the order of the texts, of their schema definitions, of their
+    /// elements, and of `RefusalName` within one element.
+    pub fn build(
+        alloc: Global,
+        texts: &[SchemaText],
+        limits: Limits,
+    ) -> Result<Catalog, CatalogFault> {
+        let mut catalog = Catalog {
+            alloc,
+            limits,
+            users: IndexSet::new(alloc),
+            places: IndexMap::new(alloc),
+            bases: Vec::new(alloc),
+            views: Vec::new(alloc),
+            keys: Vec::new(alloc),
+            held: Held::new(alloc),
+        };
+        for (number, text) in texts.iter().enumerate() {
+            catalog.add_text(number, text)?;
+        }
+        Ok(catalog)
+    }
+
+    /// The limits that it was built with.
+    pub fn limits(&self) -> Limits {
+        self.limits
+    }
+
+    /// For each base table in the order of the texts, the column positions of each of its keys.
+    pub fn keys(&self) -> &[Vec<Vec<usize>>] {
+        self.keys.as_slice()
+    }
+
+    pub(crate) fn alloc(&self) -> Global {
+        self.alloc
+    }
+
+    fn add_text(&mut self, text: usize, tree: &SchemaText) -> Result<(), CatalogFault> {
+        self.add_schema(text, 0, &tree.first)?;
+        for (number, schema) in tree.rest.as_slice().iter().enumerate() {
+            self.add_schema(text, number.saturating_add(1), schema)?;
+        }
+        Ok(())
+    }
+
+    fn add_schema(
+        &mut self,
+        text: usize,
+        schema: usize,
+        definition: &SchemaDefinition,
+    ) -> Result<(), CatalogFault> {
+        let user = definition.authorization;
+        placed(add_name(&mut self.users, user), text, schema, None)?;
+        for (number, element) in definition.elements.as_slice().iter().enumerate() {
+            let added = self.add_element(user, element);
+            placed(added, text, schema, Some(number))?;
+        }
+        Ok(())
+    }
+
+    fn add_element(&mut self, user: Name, element: &SchemaElement) -> Result<(), ElementFault> {
+        match element {
+            SchemaElement::Table(table) => self.create_table(user, table),
+            SchemaElement::View(view) => self.create_view(user, view),
+            SchemaElement::Grant(grant) => self.grant(user, grant),
+        }
+    }
+
+    /// Whether a table or view of the user's schema has the name that is to be created in it.
+    pub(crate) fn check_new_name(
+        &self,
+        user: Name,
+        full_name: &FullName,
+    ) -> Result<(), ElementFault> {
+        let is_used = full_name.user == user && self.places.contains_key(full_name);
+        refused_if(is_used, RefusalName::NameTwice)
+    }
+
+    /// A table or view stands under its schema's user, and there are at most 1000.
+    pub(crate) fn check_place(&self, user: Name, full_name: &FullName) -> Result<(), ElementFault> {
+        refused_if(full_name.user != user, RefusalName::OtherSchema)?;
+        refused_if(self.places.len() >= MOST_TABLES, RefusalName::TooManyTables)
+    }
+
+    /// The place of the next base table.
+    pub(crate) fn next_base(&self) -> usize {
+        self.bases.len()
+    }
+
+    /// The place of the next view.
+    pub(crate) fn next_view(&self) -> usize {
+        self.views.len()
+    }
+
+    /// Gives the table or view at a place its name.
+    pub(crate) fn name_table(
+        &mut self,
+        user: Name,
+        name: Name,
+        place: TablePlace,
+    ) -> Result<(), ElementFault> {
+        pushed(self.places.insert(FullName { user, name }, place).is_ok())
+    }
+
+    /// Where the table or view of this name stands.
+    pub(crate) fn place_of(&self, full_name: &FullName) -> Option<TablePlace> {
+        self.places.get(full_name).copied()
+    }
+
+    /// The table or view at a place.
+    pub(crate) fn table_at(&self, place: TablePlace) -> Option<&TableDesc> {
+        match place {
+            TablePlace::Base(place) => self.bases.get(place),
+            TablePlace::View(place) => self.views.get(place),
+        }
+    }
+
+    fn holds(
+        &self,
+        user: Name,
+        action: Action,
+        table: (Name, Name),
+        column: Option<usize>,
+        to_grant: bool,
+    ) -> bool {
+        let full_name = FullName {
+            user: table.0,
+            name: table.1,
+        };
+        let Some(place) = self.place_of(&full_name) else {
+            return false;
+        };
+        if matches!(place, TablePlace::Base(_)) && full_name.user == user {
+            return true;
+        }
+        let privilege = Privilege { action, column };
+        self.held.has(user, place, privilege, to_grant)
+    }
+}
+
+/// A fault of an element with the element's place.
+fn placed(
+    answer: Result<(), ElementFault>,
+    text: usize,
+    schema: usize,
+    element: Option<usize>,
+) -> Result<(), CatalogFault> {
+    match answer {
+        Ok(()) => Ok(()),
+        Err(ElementFault::Refused(name)) => Err(CatalogFault::Refused(SchemaRefusal {
+            name,
+            text,
+            schema,
+            element,
+        })),
+        Err(ElementFault::NoMemory) => Err(CatalogFault::NoMemory),
+    }
+}
+
+/// The full name that a text of a user writes.
+pub(crate) fn full_name(user: Name, written: TableName) -> FullName {
+    FullName {
+        user: match written.schema {
+            Some(owner) => owner,
+            None => user,
+        },
+        name: written.table,
+    }
+}
+
+impl Names for Catalog {
+    fn table(&self, user: Name, name: Name) -> Option<&TableDesc> {
+        let place = self.place_of(&FullName { user, name })?;
+        self.table_at(place)
+    }
+
+    fn at(&self, place: TablePlace) -> Option<&TableDesc> {
+        self.table_at(place)
+    }
+
+    fn may(&self, user: Name, action: Action, table: (Name, Name), column: Option<usize>) -> bool {
+        self.holds(user, action, table, column, false)
+    }
+
+    fn may_grant(
+        &self,
+        user: Name,
+        action: Action,
+        table: (Name, Name),
+        column: Option<usize>,
+    ) -> bool {
+        self.holds(user, action, table, column, true)
+    }
+}

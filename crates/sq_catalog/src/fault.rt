@@ -1,0 +1,136 @@
+//! Why schema texts are refused.
+
+ghost use Rattle.std.specs.Prelude.{◌≡◌};
+
+use sq_bound::BindFault;
+use std::alloc::AllocError;
+use thiserror::Error;
+
+/// What is wrong with a schema definition or one of its elements. The least that holds is answered.
+#[derive(Clone, Copy, Debug, PartialEq, Eq, Error)]
+pub enum RefusalName {
+    /// A user's second schema, a table or view name of the schema that is used, or a column name twice in one table or view.
+    #[error("NameTwice")]
+    NameTwice,
+    /// A table or column that a key, reference or grant names is not there.
+    #[error("UnknownName")]
+    UnknownName,
+    /// A precision, scale or length that is no whole number written without a point, or out of range.
+    #[error("BadType")]
+    BadType,
+    /// A key column is not declared NOT NULL.
+    #[error("NullableKey")]
+    NullableKey,
+    /// Two primary keys in a table, a column twice in a key or reference list, or more than 6 columns in one.
+    #[error("BadKey")]
+    BadKey,
+    /// A reference to a view or to columns that are no key; counts or kinds differ; no list and no primary key.
+    #[error("BadReference")]
+    BadReference,
+    /// A CHECK condition with a fault.
+    #[error("BadCheck")]
+    BadCheck,
+    /// A default of another kind, one that can't be stored, or USER in a text shorter than 18.
+    #[error("BadDefault")]
+    BadDefault,
+    /// A view whose query has a fault, whose column list has another count, or with a column without a name.
+    #[error("BadView")]
+    BadView,
+    /// A check option on a view that is not updatable.
+    #[error("BadCheckOption")]
+    BadCheckOption,
+    /// SELECT for a view, REFERENCES for a reference, or the grant option for a grant is missing.
+    #[error("PrivilegeMissing")]
+    PrivilegeMissing,
+    /// More than 64 columns in a table.
+    #[error("TooManyColumns")]
+    TooManyColumns,
+    /// A table or view under another user's name, or a column twice in a grant's list.
+    #[error("OtherSchema")]
+    OtherSchema,
+    /// More than 1000 tables and views.
+    #[error("TooManyTables")]
+    TooManyTables,
+}
+
+/// Why an element is not defined.
+#[derive(Clone, Copy, Debug, PartialEq, Eq)]
+pub(crate) enum ElementFault {
+    Refused(RefusalName),
+    NoMemory,
+}
+
+impl From<AllocError> for ElementFault {
+    ghost use Rattle.sq_catalog.specs.declared.fault.ElementFault.TheVariants.{NoMemory};
+
+    ghost from_gives = { λ _ fault. fault ≡ NoMemory };
+
+    fn from(_error: AllocError) -> ElementFault {
+        ElementFault::NoMemory
+    }
+}
+
+/// The refusal, if something is wrong.
+pub(crate) fn refused_if(is_wrong: bool, name: RefusalName) -> Result<(), ElementFault> {
+    if is_wrong {
+        Err(ElementFault::Refused(name))
+    } else {
+        Ok(())
+    }
+}
+
+/// A binding fault inside an element, which is refused by one name.
+pub(crate) fn refused_as(fault: BindFault, name: RefusalName) -> ElementFault {
+    match fault {
+        BindFault::NoMemory => ElementFault::NoMemory,
+        _ => ElementFault::Refused(name),
+    }
+}
+
+/// Two parts that must both be had. The fault of the first is answered first.
+pub(crate) fn both<T: Drop, U: Drop>(
+    left: Result<T, ElementFault>,
+    right: Result<U, ElementFault>,
+) -> Result<(T, U), ElementFault> {
+    match (left, right) {
+        (Ok(left), Ok(right)) => Ok((left, right)),
+        (Ok(left), Err(fault)) => {
+            drop(left);
+            Err(fault)
+        }
+        (Err(fault), right) => {
+            drop(right);
+            Err(fault)
+        }
+    }
+}
+
+/// A part, if what was looked at beside it is in order.
+pub(crate) fn kept<T: Drop>(part: T, test: Result<(), ElementFault>) -> Result<T, ElementFault> {
+    match test {
+        Ok(()) => Ok(part),
+        Err(fault) => {
+            drop(part);
+            Err(fault)
+        }
+    }
+}
+
+/// The first refusal: its name, the text, the schema definition in the text, and the element in the definition (all from
+/// 0); no element where the definition itself is a user's second.
+#[derive(Clone, Copy, Debug, PartialEq, Eq)]
+pub struct SchemaRefusal {
+    pub name: RefusalName,
+    pub text: usize,
+    pub schema: usize,
+    pub element: Option<usize>,
+}
+
+/// Why there is no catalog.
+#[derive(Clone, Copy, Debug, PartialEq, Eq, Error)]
+pub enum CatalogFault {
+    #[error("a schema is refused")]
+    Refused(SchemaRefusal),
+    #[error("out of memory")]
+    NoMemory,
+}

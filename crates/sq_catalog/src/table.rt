@@ -1,0 +1,379 @@
+//! CREATE TABLE (ISO/IEC 9075:1992, 11.3 to 11.9).
+
+ghost use Rattle.std.specs.Prelude.{IsTrue};
+ghost use Rattle.sq_value.specs.Domain.{IsDomain, FitsKind};
+
+use crate::catalog::{Catalog, FullName, full_name};
+use crate::fault::{ElementFault, RefusalName, both, kept, refused_as, refused_if};
+use crate::key::{Keys, is_not_null, keys_of};
+use crate::reference::{
+    FoundReference, OwnKeys, OwnTable, bound_references, check_lists, check_privileges,
+    references_of,
+};
+use crate::written::{Written, distinct_names, parts_of, pushed};
+use indexmap::IndexSet;
+use sq_bind::bind_check;
+use sq_bound::{
+    BaseColumn, BaseTable, BoundCond, Column, ColumnDefault, Leaf, TableBody, TableDesc,
+    TablePlace, domain_of,
+};
+use sq_items::Items;
+use sq_lex::Name;
+use sq_scope::{signed_value, text_value};
+use sq_tree::{ColumnDefinition, Cond, DefaultValue, TableDefinition};
+use sq_value::{Domain, StoreFault, Value, store};
+use std::alloc::Global;
+
+/// The greatest number of columns of a table (own rule).
+const MOST_COLUMNS: usize = 64;
+
+/// The length of USER (own rule).
+const USER_LENGTH: u16 = 18;
+
+/// What a table definition writes, with the names in it found.
+#[derive(Drop)]
+struct Draft<'t> {
+    written: Written<'t>,
+    keys: Keys,
+    references: Vec<FoundReference>,
+}
+
+impl Catalog {
+    /// CREATE TABLE by a user.
+    pub(crate) fn create_table(
+        &mut self,
+        user: Name,
+        definition: &TableDefinition,
+    ) -> Result<(), ElementFault> {
+        let name = full_name(user, definition.name);
+        self.check_new_name(user, &name)?;
+        let draft = self.draft(user, &name, definition)?;
+        let table = self.table_of(user, &name, &draft);
+        let keys = draft.keys.for_store(self.alloc());
+        drop(draft);
+        let (table, keys) = both(table, keys)?;
+        let place = TablePlace::Base(self.bases.len());
+        pushed(self.bases.push(table).is_ok())?;
+        pushed(self.keys.push(keys).is_ok())?;
+        self.name_table(name.user, name.name, place)
+    }
+
+    /// What a definition writes, each name of a column or table in it found.
+    fn draft<'t>(
+        &self,
+        user: Name,
+        name: &FullName,
+        definition: &'t TableDefinition,
+    ) -> Result<Draft<'t>, ElementFault> {
+        let written = parts_of(self.alloc(), definition)?;
+        let names = distinct_names(self.alloc(), written.columns.as_slice());
+        let found = match &names {
+            Ok(names) => self.found_names(user, name, names, &written),
+            Err(fault) => Err(*fault),
+        };
+        drop(names);
+        let (written, (keys, references)) = both(Ok(written), found)?;
+        Ok(Draft {
+            written,
+            keys,
+            references,
+        })
+    }
+
+    /// The keys and references of a table with their names found.
+    fn found_names(
+        &self,
+        user: Name,
+        full_name: &FullName,
+        names: &IndexSet<Name>,
+        written: &Written<'_>,
+    ) -> Result<(Keys, Vec<FoundReference>), ElementFault> {
+        let own = OwnTable {
+            user,
+            full_name: *full_name,
+            names,
+        };
+        let keys = keys_of(self.alloc(), names, written.keys.as_slice());
+        let references = references_of(self, &own, written.references.as_slice());
+        both(keys, references)
+    }
+
+    /// The table of a draft.
+    fn table_of(
+        &self,
+        user: Name,
+        name: &FullName,
+        draft: &Draft<'_>,
+    ) -> Result<TableDesc, ElementFault> {
+        let columns = columns_of(self.alloc(), draft.written.columns.as_slice())?;
+        draft.check_keys()?;
+        let base = (&*self).base_of(name, columns.as_slice(), &*draft);
+        let (columns, base) = both(Ok(columns), base)?;
+        let test = self.check_rest(user, name, draft, &base);
+        let (columns, base) = kept((columns, base), test)?;
+        described(self.alloc(), name, columns, base)
+    }
+
+    /// What the rows of the table hold and obey.
+    fn base_of<'x>(
+        &'x self,
+        name: &FullName,
+        columns: &'x [Column],
+        draft: &'x Draft<'_>,
+    ) -> Result<BaseTable, ElementFault> {
+        let own = OwnKeys {
+            place: self.next_base(),
+            columns,
+            keys: &draft.keys,
+        };
+        let references = bound_references(self, own, draft.references.as_slice())?;
+        let checks = bound_checks(self.alloc(), name, columns, draft.written.checks.as_slice());
+        let (references, checks) = both(Ok(references), checks)?;
+        let held = base_columns(self.alloc(), draft.written.columns.as_slice());
+        let keys = copied_keys(self.alloc(), draft.keys.columns.as_slice());
+        let ((references, checks), (columns, keys)) = both(
+            Ok((references, checks)),
+            both(held, keys),
+        )?;
+        Ok(BaseTable {
+            place: self.next_base(),
+            columns,
+            keys,
+            primary_key: draft.keys.primary,
+            references,
+            checks,
+        })
+    }
+
+    /// The privileges, the number of columns, the place of the table, and how many there are.
+    fn check_rest(
+        &self,
+        user: Name,
+        name: &FullName,
+        draft: &Draft<'_>,
+        base: &BaseTable,
+    ) -> Result<(), ElementFault> {
+        check_privileges(
+            self,
+            user,
+            draft.references.as_slice(),
+            base.references.as_slice(),
+        )?;
+        let is_wide = base.columns.len() > MOST_COLUMNS;
+        refused_if(is_wide, RefusalName::TooManyColumns)?;
+        self.check_place(user, name)
+    }
+}
+
+impl Draft<'_> {
+    /// Key columns are NOT NULL, and the lists of keys and references are in order.
+    fn check_keys(&self) -> Result<(), ElementFault> {
+        self.keys.check_not_null(self.written.columns.as_slice())?;
+        self.keys.check_lists()?;
+        check_lists(self.references.as_slice())
+    }
+}
+
+/// The columns as queries see them.
+fn columns_of(
+    alloc: Global,
+    definitions: &[&ColumnDefinition],
+) -> Result<Items<Column>, ElementFault> {
+    let mut columns = Items::new(alloc);
+    for (position, definition) in definitions.iter().enumerate() {
+        let Some(domain) = domain_of(&definition.data_type) else {
+            return Err(ElementFault::Refused(RefusalName::BadType));
+        };
+        columns.push(Column {
+            name: definition.name,
+            kind: domain.kind(),
+            leaf_column: position,
+        })?;
+    }
+    Ok(columns)
+}
+
+/// The columns as the table holds them.
+fn base_columns(
+    alloc: Global,
+    definitions: &[&ColumnDefinition],
+) -> Result<Items<BaseColumn>, ElementFault> {
+    let mut columns = Items::new(alloc);
+    for definition in definitions {
+        columns.push(base_column(alloc, definition)?)?;
+    }
+    Ok(columns)
+}
+
+fn base_column(alloc: Global, definition: &ColumnDefinition) -> Result<BaseColumn, ElementFault> {
+    let Some(domain) = domain_of(&definition.data_type) else {
+        return Err(ElementFault::Refused(RefusalName::BadType));
+    };
+    Ok(BaseColumn {
+        domain,
+        not_null: is_not_null(definition),
+        default: default_of(alloc, &definition.default, domain)?,
+    })
+}
+
+fn bad_default<T>() -> Result<T, ElementFault> {
+    Err(ElementFault::Refused(RefusalName::BadDefault))
+}
+
+/// The default of a column of the domain (11.5).
+fn default_of(
+    alloc: Global,
+    written: &Option<DefaultValue>,
+    domain: Domain,
+) -> Result<ColumnDefault, ElementFault>
+    requires { IsDomain domain }
+{
+    match written {
+        None | Some(DefaultValue::Null) => Ok(ColumnDefault::Value(Value::Null)),
+        Some(DefaultValue::User) => user_default(domain),
+        Some(DefaultValue::Number(signed)) => match signed_value(*signed) {
+            Ok(number) => stored_default(alloc, Value::Num(number), domain),
+            Err(_) => bad_default(),
+        },
+        Some(DefaultValue::Text(characters)) => {
+            match text_value(alloc, characters.as_slice()) {
+                Ok(value) => stored_default(alloc, value, domain),
+                Err(fault) => Err(refused_as(fault, RefusalName::BadDefault)),
+            }
+        }
+    }
+}
+
+fn user_default(domain: Domain) -> Result<ColumnDefault, ElementFault> {
+    match domain {
+        Domain::Char(length) | Domain::VarChar(length) if length >= USER_LENGTH => {
+            Ok(ColumnDefault::User)
+        }
+        _ => bad_default(),
+    }
+}
+
+/// A value as the domain stores it.
+fn stored_default(
+    alloc: Global,
+    value: Value,
+    domain: Domain,
+) -> Result<ColumnDefault, ElementFault>
+    requires { IsDomain domain }
+{
+    if !fits_kind(&value, domain) {
+        drop(value);
+        return bad_default();
+    }
+    match store(alloc, &value, domain) {
+        Ok(stored) => Ok(ColumnDefault::Value(stored)),
+        Err(StoreFault::NoMemory) => Err(ElementFault::NoMemory),
+        Err(_) => bad_default(),
+    }
+}
+
+/// Whether the value is a number in a domain of numbers, or a text in one of texts.
+fn fits_kind(value: &Value, domain: Domain) -> bool
+    ensures { IsTrue result → FitsKind domain value.now }
+{
+    match (value, domain) {
+        (Value::Num(_), Domain::Small | Domain::Int | Domain::Numeric(_, _)) => true,
+        (Value::Chars(_), Domain::Char(_) | Domain::VarChar(_)) => true,
+        _ => false,
+    }
+}
+
+/// The CHECK conditions, each on the columns of the table alone.
+fn bound_checks(
+    alloc: Global,
+    name: &FullName,
+    columns: &[Column],
+    checks: &[&Cond],
+) -> Result<Items<BoundCond>, ElementFault> {
+    let table = columns_only(alloc, name, columns)?;
+    let bound = bound_conds(alloc, &table, checks);
+    drop(table);
+    bound
+}
+
+fn bound_conds(
+    alloc: Global,
+    table: &TableDesc,
+    checks: &[&Cond],
+) -> Result<Items<BoundCond>, ElementFault> {
+    let mut bound = Ok(Items::new(alloc));
+    for check in checks {
+        let cond = match bind_check(alloc, table, check) {
+            Ok(cond) => Ok(cond),
+            Err(fault) => Err(refused_as(fault, RefusalName::BadCheck)),
+        };
+        bound = with_item(bound, cond);
+    }
+    bound
+}
+
+/// A list with a further item.
+fn with_item<T: Drop>(
+    list: Result<Items<T>, ElementFault>,
+    item: Result<T, ElementFault>,
+) -> Result<Items<T>, ElementFault> {
+    let (mut list, item) = both(list, item)?;
+    let pushed = match list.push(item) {
+        Ok(()) => Ok(()),
+        Err(_) => Err(ElementFault::NoMemory),
+    };
+    kept(list, pushed)
+}
+
+/// A table of which nothing but the columns is known yet.
+fn columns_only(
+    alloc: Global,
+    name: &FullName,
+    columns: &[Column],
+) -> Result<TableDesc, ElementFault> {
+    Ok(TableDesc {
+        user: name.user,
+        name: name.name,
+        columns: Items::from_slice(alloc, columns)?,
+        body: TableBody::Base(BaseTable {
+            place: 0,
+            columns: Items::new(alloc),
+            keys: Items::new(alloc),
+            primary_key: None,
+            references: Items::new(alloc),
+            checks: Items::new(alloc),
+        }),
+        leaf: None,
+    })
+}
+
+fn copied_keys(alloc: Global, keys: &[Items<usize>]) -> Result<Items<Items<usize>>, ElementFault> {
+    let mut copies = Items::new(alloc);
+    for key in keys {
+        copies.push(Items::from_slice(alloc, key.as_slice())?)?;
+    }
+    Ok(copies)
+}
+
+/// The base table as names see it: its rows are those of its leaf.
+fn described(
+    alloc: Global,
+    name: &FullName,
+    columns: Items<Column>,
+    base: BaseTable,
+) -> Result<TableDesc, ElementFault> {
+    let leaf = Leaf {
+        base: base.place,
+        condition: None,
+        views: Items::new(alloc),
+        demanded: 0,
+        is_quiet: true,
+    };
+    Ok(TableDesc {
+        user: name.user,
+        name: name.name,
+        columns,
+        body: TableBody::Base(base),
+        leaf: Some(leaf),
+    })
+}

@@ -1,0 +1,325 @@
+//! CREATE VIEW (ISO/IEC 9075:1992, 11.19).
+
+use crate::catalog::{Catalog, FullName, full_name};
+use crate::fault::{ElementFault, RefusalName, both, kept, refused_as, refused_if};
+use crate::grants::Privilege;
+use crate::written::{add_name, names_of, pushed};
+use indexmap::IndexSet;
+use sq_bind::{BoundView, bind_view};
+use sq_bound::{
+    Action, BindFault, BoundExpr, BoundSpecification, Column, Leaf, Names, ResultColumn, TableBody,
+    TableDesc, TablePlace, UpdatableQuery, View,
+};
+use sq_items::Items;
+use sq_lex::Name;
+use sq_tree::ViewDefinition;
+use std::alloc::Global;
+
+/// An action that a view's owner holds.
+#[derive(Clone, Copy)]
+struct OwnerGrant {
+    privilege: Privilege,
+    can_grant: bool,
+}
+
+/// A view that may be created, and what its owner holds on it.
+#[derive(Drop)]
+struct NewView {
+    table: TableDesc,
+    grants: Items<OwnerGrant>,
+}
+
+impl Catalog {
+    /// CREATE VIEW by a user.
+    pub(crate) fn create_view(
+        &mut self,
+        user: Name,
+        definition: &ViewDefinition,
+    ) -> Result<(), ElementFault> {
+        let name = full_name(user, definition.name);
+        self.check_new_name(user, &name)?;
+        let listed = listed_names(self.alloc(), definition)?;
+        let bound = bind_view(self.alloc(), self, user, &definition.query);
+        let view = self.new_view(user, &name, definition, listed, bound)?;
+        let NewView { table, grants } = view;
+        let place = TablePlace::View(self.views.len());
+        pushed(self.views.push(table).is_ok())?;
+        self.name_table(name.user, name.name, place)?;
+        self.add_owner_grants(name.user, place, grants.as_slice())
+    }
+
+    fn add_owner_grants(
+        &mut self,
+        owner: Name,
+        table: TablePlace,
+        grants: &[OwnerGrant],
+    ) -> Result<(), ElementFault> {
+        for held in grants {
+            self.held.add(Some(owner), table, held.privilege, false)?;
+            if held.can_grant {
+                self.held.add(Some(owner), table, held.privilege, true)?;
+            }
+        }
+        Ok(())
+    }
+
+    /// The view of a definition whose query was bound.
+    fn new_view(
+        &self,
+        user: Name,
+        name: &FullName,
+        definition: &ViewDefinition,
+        listed: Option<Items<Name>>,
+        bound: Result<BoundView, BindFault>,
+    ) -> Result<NewView, ElementFault> {
+        let bound = match bound {
+            Ok(bound) => bound,
+            Err(fault) => {
+                drop(listed);
+                return Err(refused_as(fault, RefusalName::BadView));
+            }
+        };
+        let names = column_names(self.alloc(), listed, bound.query.columns.as_slice());
+        let (bound, names) = both(Ok(bound), names)?;
+        let test = self.check_view(user, name, definition, &bound);
+        let (bound, names) = kept((bound, names), test)?;
+        let grants = self.owner_grants(user, &bound);
+        let ((bound, names), grants) = both(Ok((bound, names)), grants)?;
+        let table = self.described_view(name, definition.check_option, names, bound);
+        let (grants, table) = both(Ok(grants), table)?;
+        Ok(NewView { table, grants })
+    }
+
+    /// The check option, SELECT on what the query names, the place of the view, and how many there are.
+    fn check_view(
+        &self,
+        user: Name,
+        name: &FullName,
+        definition: &ViewDefinition,
+        bound: &BoundView,
+    ) -> Result<(), ElementFault> {
+        let is_bad_option = definition.check_option && bound.updatable.is_none();
+        refused_if(is_bad_option, RefusalName::BadCheckOption)?;
+        refused_if(!bound.may_select, RefusalName::PrivilegeMissing)?;
+        self.check_place(user, name)
+    }
+
+    /// What the owner of a view holds on it: SELECT, and on an updatable view what the owner holds on the table underneath.
+    fn owner_grants(
+        &self,
+        user: Name,
+        bound: &BoundView,
+    ) -> Result<Items<OwnerGrant>, ElementFault> {
+        let mut grants = Items::new(self.alloc());
+        grants.push(OwnerGrant {
+            privilege: Privilege {
+                action: Action::Select,
+                column: None,
+            },
+            can_grant: bound.may_grant_select,
+        })?;
+        if let Some(updatable) = &bound.updatable {
+            if let Some(under) = self.table_at(updatable.target.table) {
+                self.push_followed(&mut grants, user, under, &bound.query)?;
+            }
+        }
+        Ok(grants)
+    }
+
+    /// INSERT, DELETE and, column by column, UPDATE as they are held on the table underneath.
+    fn push_followed(
+        &self,
+        grants: &mut Items<OwnerGrant>,
+        user: Name,
+        under: &TableDesc,
+        query: &BoundSpecification,
+    ) -> Result<(), ElementFault> {
+        self.push_if_held(grants, user, under, Action::Insert, None, None)?;
+        self.push_if_held(grants, user, under, Action::Delete, None, None)?;
+        for (position, expr) in query.list.as_slice().iter().enumerate() {
+            if let BoundExpr::Column(place) = expr {
+                let below = Some(place.column);
+                self.push_if_held(grants, user, under, Action::Update, below, Some(position))?;
+            }
+        }
+        Ok(())
+    }
+
+    fn push_if_held(
+        &self,
+        grants: &mut Items<OwnerGrant>,
+        user: Name,
+        under: &TableDesc,
+        action: Action,
+        below: Option<usize>,
+        column: Option<usize>,
+    ) -> Result<(), ElementFault> {
+        if self.may(user, action, under.full_name(), below) {
+            grants.push(OwnerGrant {
+                privilege: Privilege { action, column },
+                can_grant: self.may_grant(user, action, under.full_name(), below),
+            })?;
+        }
+        Ok(())
+    }
+
+    /// The view as names see it.
+    fn described_view(
+        &self,
+        name: &FullName,
+        check_option: bool,
+        names: Items<Name>,
+        bound: BoundView,
+    ) -> Result<TableDesc, ElementFault> {
+        let BoundView {
+            query,
+            updatable,
+            ..
+        } = bound;
+        let columns = view_columns(
+            self.alloc(),
+            names.as_slice(),
+            query.columns.as_slice(),
+            &updatable,
+        );
+        drop(names);
+        let leaf = self.view_leaf(check_option, updatable);
+        let (query, (columns, leaf)) = both(Ok(query), both(columns, leaf))?;
+        Ok(TableDesc {
+            user: name.user,
+            name: name.name,
+            columns,
+            body: TableBody::View(View {
+                place: self.next_view(),
+                query,
+            }),
+            leaf,
+        })
+    }
+
+    /// The rows under an updatable view. With a check option it demands its own condition and all those below.
+    fn view_leaf(
+        &self,
+        check_option: bool,
+        updatable: Option<UpdatableQuery>,
+    ) -> Result<Option<Leaf>, ElementFault> {
+        let Some(UpdatableQuery { target, columns }) = updatable else {
+            return Ok(None);
+        };
+        drop(columns);
+        let views = self.views_to(target.table);
+        let (target, (views, demanded)) = both(Ok(target), views)?;
+        Ok(Some(Leaf {
+            base: target.base,
+            demanded: if check_option { views.len() } else { demanded },
+            views,
+            is_quiet: target.is_quiet,
+            condition: target.condition,
+        }))
+    }
+
+    /// The views from the base table to a new view over this table, the new one included, and how many of those below it
+    /// demand their condition.
+    fn views_to(&self, under: TablePlace) -> Result<(Items<usize>, usize), ElementFault> {
+        let mut views = Items::new(self.alloc());
+        let mut demanded = 0;
+        if let Some(table) = self.table_at(under) {
+            if let Some(leaf) = &table.leaf {
+                views = Items::from_slice(self.alloc(), leaf.views.as_slice())?;
+                demanded = leaf.demanded;
+            }
+        }
+        views.push(self.next_view())?;
+        Ok((views, demanded))
+    }
+}
+
+/// The names that a view's column list gives, none of them twice.
+fn listed_names(
+    alloc: Global,
+    definition: &ViewDefinition,
+) -> Result<Option<Items<Name>>, ElementFault> {
+    match &definition.columns {
+        None => Ok(None),
+        Some(list) => {
+            let names = names_of(alloc, list)?;
+            check_distinct(alloc, names.as_slice())?;
+            Ok(Some(names))
+        }
+    }
+}
+
+fn check_distinct(alloc: Global, names: &[Name]) -> Result<(), ElementFault> {
+    let mut seen = IndexSet::new(alloc);
+    for name in names {
+        add_name(&mut seen, *name)?;
+    }
+    Ok(())
+}
+
+fn bad_view<T>() -> Result<T, ElementFault> {
+    Err(ElementFault::Refused(RefusalName::BadView))
+}
+
+/// The names of a view's columns: those listed, or those of the query's columns.
+fn column_names(
+    alloc: Global,
+    listed: Option<Items<Name>>,
+    columns: &[ResultColumn],
+) -> Result<Items<Name>, ElementFault> {
+    match listed {
+        Some(names) => {
+            let test = refused_if(names.len() != columns.len(), RefusalName::BadView);
+            kept(names, test)
+        }
+        None => query_names(alloc, columns),
+    }
+}
+
+/// The names of a query's columns: none twice, and none missing.
+fn query_names(alloc: Global, columns: &[ResultColumn]) -> Result<Items<Name>, ElementFault> {
+    let mut names = Items::new(alloc);
+    for column in columns {
+        if let Some(name) = column.name {
+            names.push(name)?;
+        }
+    }
+    check_distinct(alloc, names.as_slice())?;
+    if names.len() < columns.len() {
+        return bad_view();
+    }
+    Ok(names)
+}
+
+/// The columns of a view as queries see them.
+fn view_columns(
+    alloc: Global,
+    names: &[Name],
+    columns: &[ResultColumn],
+    updatable: &Option<UpdatableQuery>,
+) -> Result<Items<Column>, ElementFault> {
+    let leaf_columns = match updatable {
+        Some(updatable) => Some(updatable.columns.as_slice()),
+        None => None,
+    };
+    let mut described = Items::new(alloc);
+    for (position, (name, column)) in names.iter().zip(columns).enumerate() {
+        described.push(Column {
+            name: *name,
+            kind: column.kind,
+            leaf_column: leaf_column(leaf_columns, position),
+        })?;
+    }
+    Ok(described)
+}
+
+/// The column of the base table at a position of an updatable view, and else the position itself.
+fn leaf_column(leaf_columns: Option<&[usize]>, position: usize) -> usize {
+    match leaf_columns {
+        Some(columns) => match columns.get(position) {
+            Some(column) => *column,
+            None => position,
+        },
+        None => position,
+    }
+}

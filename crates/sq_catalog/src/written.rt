@@ -1,0 +1,202 @@
+//! What a table definition writes, by kinds of its elements (ISO/IEC 9075:1992, 11.3, 11.4, 11.6).
+
+use crate::fault::{ElementFault, RefusalName, refused_if};
+use indexmap::IndexSet;
+use sq_items::Items;
+use sq_lex::Name;
+use sq_tree::{
+    ColumnConstraint, ColumnDefinition, CommaList, Cond, ForeignKey, References, TableDefinition,
+    TableElement,
+};
+use std::alloc::Global;
+
+/// A key as it is written.
+#[derive(Drop)]
+pub(crate) struct WrittenKey {
+    pub is_primary: bool,
+    pub columns: Items<Name>,
+}
+
+/// A reference as it is written.
+#[derive(Drop)]
+pub(crate) struct WrittenReference<'t> {
+    pub columns: Items<Name>,
+    pub to: &'t References,
+}
+
+/// The columns, keys, references and conditions of a table definition, each in the order of the text.
+#[derive(Drop)]
+pub(crate) struct Written<'t> {
+    pub columns: Vec<&'t ColumnDefinition>,
+    pub keys: Vec<WrittenKey>,
+    pub references: Vec<WrittenReference<'t>>,
+    pub checks: Vec<&'t Cond>,
+}
+
+/// The names of a list.
+pub(crate) fn names_of(alloc: Global, list: &CommaList<Name>) -> Result<Items<Name>, ElementFault> {
+    let mut names = Items::new(alloc);
+    names.push(list.first)?;
+    for name in list.rest.as_slice() {
+        names.push(*name)?;
+    }
+    Ok(names)
+}
+
+fn only_name(alloc: Global, name: Name) -> Result<Items<Name>, ElementFault> {
+    let mut names = Items::new(alloc);
+    names.push(name)?;
+    Ok(names)
+}
+
+/// What a table definition writes.
+pub(crate) fn parts_of<'t>(
+    alloc: Global,
+    definition: &'t TableDefinition,
+) -> Result<Written<'t>, ElementFault> {
+    let mut written = Written {
+        columns: Vec::new(alloc),
+        keys: Vec::new(alloc),
+        references: Vec::new(alloc),
+        checks: Vec::new(alloc),
+    };
+    written.add(alloc, &definition.elements.first)?;
+    for element in definition.elements.rest.as_slice() {
+        written.add(alloc, element)?;
+    }
+    Ok(written)
+}
+
+impl<'t> Written<'t> {
+    fn add(&mut self, alloc: Global, element: &'t TableElement) -> Result<(), ElementFault> {
+        match element {
+            TableElement::Column(column) => self.add_column(alloc, column),
+            TableElement::Unique(columns) => self.add_key(false, names_of(alloc, columns)),
+            TableElement::PrimaryKey(columns) => self.add_key(true, names_of(alloc, columns)),
+            TableElement::ForeignKey(
+                ForeignKey {
+                    columns,
+                    references,
+                },
+            ) => self.add_reference(names_of(alloc, columns), references),
+            TableElement::Check(cond) => self.add_check(cond),
+        }
+    }
+
+    fn add_column(
+        &mut self,
+        alloc: Global,
+        column: &'t ColumnDefinition,
+    ) -> Result<(), ElementFault> {
+        pushed(self.columns.push(column).is_ok())?;
+        for constraint in column.constraints.as_slice() {
+            self.add_constraint(alloc, column.name, constraint)?;
+        }
+        Ok(())
+    }
+
+    fn add_constraint(
+        &mut self,
+        alloc: Global,
+        name: Name,
+        constraint: &'t ColumnConstraint,
+    ) -> Result<(), ElementFault> {
+        match constraint {
+            ColumnConstraint::NotNull => Ok(()),
+            ColumnConstraint::Unique => self.add_key(false, only_name(alloc, name)),
+            ColumnConstraint::PrimaryKey => self.add_key(true, only_name(alloc, name)),
+            ColumnConstraint::References(references) => {
+                self.add_reference(only_name(alloc, name), references)
+            }
+            ColumnConstraint::Check(cond) => self.add_check(cond),
+        }
+    }
+
+    fn add_key(
+        &mut self,
+        is_primary: bool,
+        columns: Result<Items<Name>, ElementFault>,
+    ) -> Result<(), ElementFault> {
+        let columns = columns?;
+        pushed(
+            self.keys
+                .push(WrittenKey {
+                    is_primary,
+                    columns,
+                })
+                .is_ok(),
+        )
+    }
+
+    fn add_reference(
+        &mut self,
+        columns: Result<Items<Name>, ElementFault>,
+        to: &'t References,
+    ) -> Result<(), ElementFault> {
+        let columns = columns?;
+        pushed(
+            self.references
+                .push(WrittenReference { columns, to })
+                .is_ok(),
+        )
+    }
+
+    fn add_check(&mut self, cond: &'t Cond) -> Result<(), ElementFault> {
+        pushed(self.checks.push(cond).is_ok())
+    }
+}
+
+/// Whether a push found room.
+pub(crate) fn pushed(found_room: bool) -> Result<(), ElementFault> {
+    if found_room {
+        Ok(())
+    } else {
+        Err(ElementFault::NoMemory)
+    }
+}
+
+/// Column names, none of them twice.
+pub(crate) fn distinct_names(
+    alloc: Global,
+    columns: &[&ColumnDefinition],
+) -> Result<IndexSet<Name>, ElementFault> {
+    let mut names = IndexSet::new(alloc);
+    for column in columns {
+        add_name(&mut names, column.name)?;
+    }
+    Ok(names)
+}
+
+/// Adds a name that is not there yet.
+pub(crate) fn add_name(names: &mut IndexSet<Name>, name: Name) -> Result<(), ElementFault> {
+    match names.insert_full(name) {
+        Ok((_, added)) => refused_if(!added, RefusalName::NameTwice),
+        Err(_) => Err(ElementFault::NoMemory),
+    }
+}
+
+/// The positions of names among column names.
+pub(crate) fn positions_of(
+    alloc: Global,
+    names: &IndexSet<Name>,
+    wanted: &[Name],
+) -> Result<Items<usize>, ElementFault> {
+    let mut positions = Items::new(alloc);
+    for name in wanted {
+        match names.get_index_of(name) {
+            Some(position) => positions.push(position)?,
+            None => return Err(ElementFault::Refused(RefusalName::UnknownName)),
+        }
+    }
+    Ok(positions)
+}
+
+/// Whether a list of positions has one twice.
+pub(crate) fn has_twice(positions: &[usize]) -> bool {
+    for (number, position) in positions.iter().enumerate() {
+        if positions[..number].contains(position) {
+            return true;
+        }
+    }
+    false
+}

@@ -1,0 +1,246 @@
+-- Whether two rows have the same key can be seen from the changed rows, where no two had before.
+use Rattle.std.proofs.Common.{◌≡◌, ℕ, zero, suc, ◌+◌, ◌≤◌, Bool, true, false, ◌&&◌, ◌||◌, not, nat_eq, List, [], ◌∷◌, ◌++◌, length, take, slice_set, Some, None, ◌⊎◌, inl, inr, arith, refl, sym, ap, ◌∙◌}
+use Rattle.std.specs.List.{list_all, list_any}
+use Rattle.std.proofs.lemmas.Bool.{false≢true}
+use Rattle.std.proofs.lemmas.Grind.{common_steps}
+use Rattle.std.specs.Cmp.Lexicographic.{lists_equiv, pointwise}
+use Rattle.sq_value.specs.Comparison.{is_same}
+use Rattle.sq_value.specs.Key.{in_columns}
+use Rattle.sq_value.specs.laws.ValueOrder.{same_equiv}
+use Rattle.sq_value.specs.declared.value.Value.{Value}
+use Rattle.sq_store.specs.Keys.{Keys, are_distinct, has_distinct_keys, has_key}
+use Rattle.sq_heap.specs.Alone.{all_alone, is_alone, same_key, slot_alone}
+use Rattle.sq_heap.specs.Slots.{Slot, rows_from, slot_at, table_of}
+use Rattle.sq_heap.specs.Undo.{back, before_change, fits, is_last_or_in, length_back, length_before}
+use Rattle.sq_heap.proofs.Back.{fits_last, fits_pop}
+use Rattle.sq_heap.specs.declared.undo.Undo.{Undo}
+
+-- ---- tests
+
+both : {a b : Bool} → a ≡ true → b ≡ true → (a && b) ≡ true
+both {a = true} p q = q
+both {a = false} p q = p
+
+left_of : (a b : Bool) → (a && b) ≡ true → a ≡ true
+left_of true b h = refl
+left_of false b h = h
+
+right_of : (a b : Bool) → (a && b) ≡ true → b ≡ true
+right_of true b h = h
+right_of false b h = cc
+
+same_from : (a b : Bool) → (a ≡ true → b ≡ true) → (b ≡ true → a ≡ true) → a ≡ b
+same_from true b p q = sym (p refl)
+same_from false true p q = q refl
+same_from false false p q = refl
+
+not_true : (a : Bool) → (a ≡ true → ⊥) → a ≡ false
+not_true true h = absurd (h refl)
+not_true false h = refl
+
+by_test : (a : Bool) {P : Type 0} → (a ≡ true → P) → (a ≡ false → P) → P
+by_test true p q = p refl
+by_test false p q = q refl
+
+same_symm : (columns : List ℕ) (r q : List Value) → same_key columns r q ≡ true → same_key columns q r ≡ true
+same_symm columns r q h = sym ((lists_equiv same_equiv).symm (in_columns r columns) (in_columns q columns)) ∙ h
+
+-- ---- slots without two of the same key
+
+-- a row with a key is in a slot
+any_slot : (columns : List ℕ) (key : List Value) (n : ℕ) (ss : List Slot) → list_any (has_key columns key) (rows_from n ss) ≡ true → (j : ℕ) × (q : List Value) × (slot_at ss j ≡ Some q) × (pointwise is_same key (in_columns q columns) ≡ true)
+any_slot columns key n [] h = cc
+any_slot columns key n (None ∷ ss) h = let found = any_slot columns key (n + 1) ss h in (suc found.0, found.1, found.2, found.3)
+any_slot columns key n (Some q ∷ ss) h = by_test (pointwise is_same key (in_columns q columns))
+    (λ t. (0, q, refl, t))
+    (λ f. let found = any_slot columns key (n + 1) ss (grind (arith, common_steps)) in (suc found.0, found.1, found.2, found.3))
+
+slot_any : (columns : List ℕ) (key : List Value) (n : ℕ) (ss : List Slot) (j : ℕ) (q : List Value) → slot_at ss j ≡ Some q → pointwise is_same key (in_columns q columns) ≡ true → list_any (has_key columns key) (rows_from n ss) ≡ true
+slot_any columns key n [] j q e h = cc
+slot_any columns key n (None ∷ ss) zero q e h = cc
+slot_any columns key n (None ∷ ss) (suc j) q e h = slot_any columns key (n + 1) ss j q e h
+slot_any columns key n (Some r ∷ ss) zero q e h = grind (arith, common_steps)
+slot_any columns key n (Some r ∷ ss) (suc j) q e h = let later = slot_any columns key (n + 1) ss j q e h in grind (arith, common_steps)
+
+distinct_from_apart : (columns : List ℕ) (n : ℕ) (ss : List Slot) → ((i j : ℕ) (r q : List Value) → slot_at ss i ≡ Some r → slot_at ss j ≡ Some q → same_key columns r q ≡ true → i ≡ j) → are_distinct columns (rows_from n ss) ≡ true
+distinct_from_apart columns n [] apart = refl
+distinct_from_apart columns n (None ∷ ss) apart = distinct_from_apart columns (n + 1) ss (λ i j r q e f h. let k : suc i ≡ suc j = apart (suc i) (suc j) r q e f h in omega arith)
+distinct_from_apart columns n (Some row ∷ ss) apart =
+    let rest : are_distinct columns (rows_from (n + 1) ss) ≡ true = distinct_from_apart columns (n + 1) ss (λ i j r q e f h. let k : suc i ≡ suc j = apart (suc i) (suc j) r q e f h in omega arith) in
+    let none : list_any (has_key columns (in_columns row columns)) (rows_from (n + 1) ss) ≡ false
+    = not_true (list_any (has_key columns (in_columns row columns)) (rows_from (n + 1) ss)) (λ t. let found = any_slot columns (in_columns row columns) (n + 1) ss t in
+    let k : 0 ≡ suc found.0 = apart 0 (suc found.0) row found.1 refl found.2 found.3 in absurd (omega arith)) in
+    grind (arith, common_steps)
+
+none_later : (columns : List ℕ) (row : List Value) (n : ℕ) (ss : List Slot) → not (list_any (has_key columns (in_columns row columns)) (rows_from n ss)) ≡ true → (j : ℕ) (q : List Value) → slot_at ss j ≡ Some q → same_key columns row q ≡ true → ⊥
+none_later columns row n ss none j q e s =
+    let some : list_any (has_key columns (in_columns row columns)) (rows_from n ss) ≡ true = slot_any columns (in_columns row columns) n ss j q e s in
+    false≢true (sym (ap not some) ∙ none)
+
+apart_from_distinct : (columns : List ℕ) (n : ℕ) (ss : List Slot) → are_distinct columns (rows_from n ss) ≡ true → (i j : ℕ) (r q : List Value) → slot_at ss i ≡ Some r → slot_at ss j ≡ Some q → same_key columns r q ≡ true → i ≡ j
+apart_from_distinct columns n [] h i j r q e f s = cc
+apart_from_distinct columns n (None ∷ ss) h zero j r q e f s = cc
+apart_from_distinct columns n (None ∷ ss) h (suc i) zero r q e f s = cc
+apart_from_distinct columns n (None ∷ ss) h (suc i) (suc j) r q e f s = ap suc (apart_from_distinct columns (n + 1) ss h i j r q e f s)
+apart_from_distinct columns n (Some row ∷ ss) h zero zero r q e f s = refl
+apart_from_distinct columns n (Some row ∷ ss) h zero (suc j) r q e f s =
+    let here : row ≡ r = cc in
+    absurd (none_later columns row (n + 1) ss (left_of (not (list_any (has_key columns (in_columns row columns)) (rows_from (n + 1) ss))) (are_distinct columns (rows_from (n + 1) ss)) h) j q f (ap (λ (x : List Value). same_key columns x q) here ∙ s))
+apart_from_distinct columns n (Some row ∷ ss) h (suc i) zero r q e f s =
+    let here : row ≡ q = cc in
+    absurd (none_later columns row (n + 1) ss (left_of (not (list_any (has_key columns (in_columns row columns)) (rows_from (n + 1) ss))) (are_distinct columns (rows_from (n + 1) ss)) h) i r e (ap (λ (x : List Value). same_key columns x r) here ∙ same_symm columns r q s))
+apart_from_distinct columns n (Some row ∷ ss) h (suc i) (suc j) r q e f s =
+    ap suc (apart_from_distinct columns (n + 1) ss (right_of (not (list_any (has_key columns (in_columns row columns)) (rows_from (n + 1) ss))) (are_distinct columns (rows_from (n + 1) ss)) h) i j r q e f s)
+
+-- ---- one row
+
+only_at : (a b : Bool) → (a || not b) ≡ true → b ≡ true → a ≡ true
+only_at true b h s = refl
+only_at false true h s = cc
+only_at false false h s = cc
+
+alone_at : (columns : List ℕ) (row : List Value) (at n : ℕ) (ss : List Slot) (j : ℕ) (q : List Value) → is_alone columns row at n ss ≡ true → slot_at ss j ≡ Some q → same_key columns row q ≡ true → n + j ≡ at
+alone_at columns row at n [] j q h e s = cc
+alone_at columns row at n (None ∷ ss) zero q h e s = cc
+alone_at columns row at n (None ∷ ss) (suc j) q h e s = let k : n + 1 + j ≡ at = alone_at columns row at (n + 1) ss j q h e s in omega arith
+alone_at columns row at n (Some r ∷ ss) zero q h e s =
+    let same : r ≡ q = cc in
+    let here : same_key columns row r ≡ true = ap (λ (x : List Value). same_key columns row x) same ∙ s in
+    let equal : nat_eq n at ≡ true = only_at (nat_eq n at) (same_key columns row r) (left_of (nat_eq n at || not (same_key columns row r)) (is_alone columns row at (n + 1) ss) h) here in
+    grind (arith, common_steps)
+alone_at columns row at n (Some r ∷ ss) (suc j) q h e s =
+    let k : n + 1 + j ≡ at = alone_at columns row at (n + 1) ss j q (right_of (nat_eq n at || not (same_key columns row r)) (is_alone columns row at (n + 1) ss) h) e s in omega arith
+
+or_not : (a b : Bool) → b ≡ false → (a || not b) ≡ true
+or_not true b f = refl
+or_not false b f = ap not f
+
+or_rest : (a b : Bool) → a ≡ false → (a || b) ≡ true → b ≡ true
+or_rest true b f h = absurd (false≢true (sym f))
+or_rest false b f h = h
+
+or_right : (a b : Bool) → b ≡ true → (a || b) ≡ true
+or_right true b h = refl
+or_right false b h = h
+
+or_left : (a b : Bool) → a ≡ true → (a || b) ≡ true
+or_left true b h = refl
+or_left false b h = absurd (false≢true h)
+
+alone_from : (columns : List ℕ) (row : List Value) (at n : ℕ) (ss : List Slot) → ((j : ℕ) (q : List Value) → slot_at ss j ≡ Some q → same_key columns row q ≡ true → n + j ≡ at) → is_alone columns row at n ss ≡ true
+alone_from columns row at n [] only = refl
+alone_from columns row at n (None ∷ ss) only = alone_from columns row at (n + 1) ss (λ j q e s. let k : n + suc j ≡ at = only (suc j) q e s in omega arith)
+alone_from columns row at n (Some r ∷ ss) only =
+    let first : (nat_eq n at || not (same_key columns row r)) ≡ true
+    = by_test (same_key columns row r)
+    (λ t. let k : n + 0 ≡ at = only 0 r refl t in let same : nat_eq n at ≡ true = grind (arith, common_steps) in or_left (nat_eq n at) (not (same_key columns row r)) same)
+    (λ f. or_not (nat_eq n at) (same_key columns row r) f) in
+    let rest : is_alone columns row at (n + 1) ss ≡ true = alone_from columns row at (n + 1) ss (λ j q e s. let k : n + suc j ≡ at = only (suc j) q e s in omega arith) in
+    both first rest
+
+-- ---- changed slots
+
+length_set : (ss : List Slot) (i : ℕ) (s : Slot) → length (slice_set ss i s) ≡ length ss
+length_set [] i s = refl
+length_set (t ∷ ss) zero s = refl
+length_set (t ∷ ss) (suc i) s = ap suc (length_set ss i s)
+
+length_take : (ss : List Slot) (n : ℕ) → n ≤ length ss → length (take n ss) ≡ n
+length_take ss zero le = refl
+length_take [] (suc n) le = absurd (omega arith)
+length_take (t ∷ ss) (suc n) le = ap suc (length_take ss n (omega arith))
+
+before_length : (ss : List Slot) (at : ℕ) (old : Slot) → is_last_or_in (length ss) at old ≡ true → length (before_change ss at old) ≡ length_before (length ss) at old
+before_length ss at None h = length_take ss at (grind (arith, common_steps))
+before_length ss at (Some row) h = length_set ss at (Some row)
+
+-- the slots before the last change
+pub undone_fits : (ss : List Slot) (us : List Undo) (u : Undo) → fits (length ss) (us ++ u ∷ []) ≡ true → fits (length (before_change ss u.at u.old)) us ≡ true
+undone_fits ss us u h = ap (λ (n : ℕ). fits n us) (before_length ss u.at u.old (fits_last (length ss) us u h)) ∙ fits_pop (length ss) us u h
+
+back_length : (ss : List Slot) (us : List Undo) → fits (length ss) us ≡ true → length (back ss us) ≡ length_back (length ss) us
+back_length ss [] h = refl
+back_length ss (u ∷ us) h =
+    let rest : fits (length ss) us ≡ true = right_of (is_last_or_in (length_back (length ss) us) u.at u.old) (fits (length ss) us) h in
+    let first : is_last_or_in (length_back (length ss) us) u.at u.old ≡ true = left_of (is_last_or_in (length_back (length ss) us) u.at u.old) (fits (length ss) us) h in
+    let same : length (back ss us) ≡ length_back (length ss) us = back_length ss us rest in
+    before_length (back ss us) u.at u.old (ap (λ (n : ℕ). is_last_or_in n u.at u.old) same ∙ first) ∙ ap (λ (n : ℕ). length_before n u.at u.old) same
+
+set_other : (ss : List Slot) (at i : ℕ) (s : Slot) → nat_eq at i ≡ false → slot_at (slice_set ss at s) i ≡ slot_at ss i
+set_other [] at i s h = refl
+set_other (t ∷ ss) zero zero s h = grind (arith, common_steps)
+set_other (t ∷ ss) zero (suc i) s h = refl
+set_other (t ∷ ss) (suc at) zero s h = refl
+set_other (t ∷ ss) (suc at) (suc i) s h = set_other ss at i s (grind (arith, common_steps))
+
+take_other : (ss : List Slot) (at i : ℕ) → at + 1 ≡ length ss → nat_eq at i ≡ false → slot_at (take at ss) i ≡ slot_at ss i
+take_other [] at i e h = absurd (omega arith)
+take_other (t ∷ ss) zero zero e h = grind (arith, common_steps)
+take_other (t ∷ []) zero (suc i) e h = refl
+take_other (t ∷ s ∷ ss) zero (suc i) e h = absurd (omega arith)
+take_other (t ∷ ss) (suc at) zero e h = refl
+take_other (t ∷ ss) (suc at) (suc i) e h = take_other ss at i (omega arith) (grind (arith, common_steps))
+
+before_other : (ss : List Slot) (at : ℕ) (old : Slot) (i : ℕ) → is_last_or_in (length ss) at old ≡ true → nat_eq at i ≡ false → slot_at (before_change ss at old) i ≡ slot_at ss i
+before_other ss at None i h ne = take_other ss at i (grind (arith, common_steps)) ne
+before_other ss at (Some row) i h ne = set_other ss at i (Some row) ne
+
+-- a slot is changed, or as before
+changed_or_same : (ss : List Slot) (us : List Undo) (i : ℕ) → fits (length ss) us ≡ true → (list_any (λ u. nat_eq u.at i) us ≡ true) ⊎ (slot_at (back ss us) i ≡ slot_at ss i)
+changed_or_same ss [] i h = inr refl
+changed_or_same ss (u ∷ us) i h =
+    let rest : fits (length ss) us ≡ true = right_of (is_last_or_in (length_back (length ss) us) u.at u.old) (fits (length ss) us) h in
+    let first : is_last_or_in (length_back (length ss) us) u.at u.old ≡ true = left_of (is_last_or_in (length_back (length ss) us) u.at u.old) (fits (length ss) us) h in
+    let in' : is_last_or_in (length (back ss us)) u.at u.old ≡ true = ap (λ (n : ℕ). is_last_or_in n u.at u.old) (back_length ss us rest) ∙ first in
+    by_test (nat_eq u.at i)
+    (λ t. inl (or_left (nat_eq u.at i) (list_any (λ v. nat_eq v.at i) us) t))
+    (λ f. elim (changed_or_same ss us i rest) [
+      | inl changed ↦ inl (or_right (nat_eq u.at i) (list_any (λ v. nat_eq v.at i) us) changed)
+      | inr same ↦ inr (before_other (back ss us) u.at u.old i in' f ∙ same)
+    ])
+
+-- a changed row that is alone
+alone_one : (columns : List ℕ) (ss : List Slot) (us : List Undo) (i : ℕ) (r : List Value) → all_alone columns ss us ≡ true → list_any (λ u. nat_eq u.at i) us ≡ true → slot_at ss i ≡ Some r → is_alone columns r i 0 ss ≡ true
+alone_one columns ss [] i r h t e = cc
+alone_one columns ss (u ∷ us) i r h t e =
+    let here : slot_alone columns ss u.at (slot_at ss u.at) ≡ true = left_of (slot_alone columns ss u.at (slot_at ss u.at)) (all_alone columns ss us) h in
+    let rest : all_alone columns ss us ≡ true = right_of (slot_alone columns ss u.at (slot_at ss u.at)) (all_alone columns ss us) h in
+    by_test (nat_eq u.at i)
+    (λ y.
+    let at : u.at ≡ i = grind (arith, common_steps) in
+    let there : slot_alone columns ss i (slot_at ss i) ≡ true = sym (ap (λ (k : ℕ). slot_alone columns ss k (slot_at ss k)) at) ∙ here in
+    sym (ap (λ (s : Slot). slot_alone columns ss i s) e) ∙ there)
+    (λ f. alone_one columns ss us i r rest (or_rest (nat_eq u.at i) (list_any (λ v. nat_eq v.at i) us) f t) e)
+
+alone_slot : (columns : List ℕ) (ss : List Slot) (at : ℕ) (s : Slot) → ((i j : ℕ) (r q : List Value) → slot_at ss i ≡ Some r → slot_at ss j ≡ Some q → same_key columns r q ≡ true → i ≡ j) → slot_at ss at ≡ s → slot_alone columns ss at s ≡ true
+alone_slot columns ss at None apart e = refl
+alone_slot columns ss at (Some row) apart e = alone_from columns row at 0 ss (λ j q f s. let k : at ≡ j = apart at j row q e f s in omega arith)
+
+alone_each : (columns : List ℕ) (ss : List Slot) (us : List Undo) → ((i j : ℕ) (r q : List Value) → slot_at ss i ≡ Some r → slot_at ss j ≡ Some q → same_key columns r q ≡ true → i ≡ j) → all_alone columns ss us ≡ true
+alone_each columns ss [] apart = refl
+alone_each columns ss (u ∷ us) apart = both (alone_slot columns ss u.at (slot_at ss u.at) apart refl) (alone_each columns ss us apart)
+
+-- no two rows have the same key exactly where all changed rows are alone
+apart_later : (columns : List ℕ) (ss : List Slot) (us : List Undo) → fits (length ss) us ≡ true → are_distinct columns (rows_from 1 (back ss us)) ≡ true → all_alone columns ss us ≡ true
+    → (i j : ℕ) (r q : List Value) → slot_at ss i ≡ Some r → slot_at ss j ≡ Some q → same_key columns r q ≡ true → i ≡ j
+apart_later columns ss us h before alone i j r q e f s = elim (changed_or_same ss us i h) [
+  | inl changed ↦ let k : 0 + j ≡ i = alone_at columns r i 0 ss j q (alone_one columns ss us i r alone changed e) f s in omega arith
+  | inr same ↦ elim (changed_or_same ss us j h) [
+    | inl changed ↦ let k : 0 + i ≡ j = alone_at columns q j 0 ss i r (alone_one columns ss us j q alone changed f) e (same_symm columns r q s) in omega arith
+    | inr also ↦ apart_from_distinct columns 1 (back ss us) before i j r q (same ∙ e) (also ∙ f) s
+  ]
+]
+
+pub distinct_is_alone : (columns : List ℕ) (ss : List Slot) (us : List Undo) → fits (length ss) us ≡ true → are_distinct columns (rows_from 1 (back ss us)) ≡ true → are_distinct columns (rows_from 1 ss) ≡ all_alone columns ss us
+distinct_is_alone columns ss us h before = same_from (are_distinct columns (rows_from 1 ss)) (all_alone columns ss us)
+    (λ t. alone_each columns ss us (λ i j r q e f s. apart_from_distinct columns 1 ss t i j r q e f s))
+    (λ alone. distinct_from_apart columns 1 ss (λ i j r q e f s. apart_later columns ss us h before alone i j r q e f s))
+
+pub distinct_keys_alone : (keys : Keys) (ss : List Slot) (us : List Undo) → fits (length ss) us ≡ true → has_distinct_keys keys (table_of (back ss us)) ≡ true → has_distinct_keys keys (table_of ss) ≡ list_all (λ columns. all_alone columns ss us) keys
+distinct_keys_alone [] ss us h before = refl
+distinct_keys_alone (columns ∷ keys) ss us h before =
+    let here : are_distinct columns (rows_from 1 ss) ≡ all_alone columns ss us
+    = distinct_is_alone columns ss us h (left_of (are_distinct columns (rows_from 1 (back ss us))) (has_distinct_keys keys (table_of (back ss us))) before) in
+    let rest : has_distinct_keys keys (table_of ss) ≡ list_all (λ columns. all_alone columns ss us) keys
+    = distinct_keys_alone keys ss us h (right_of (are_distinct columns (rows_from 1 (back ss us))) (has_distinct_keys keys (table_of (back ss us))) before) in
+    λ i. here i && rest i

@@ -1,0 +1,6 @@
+pub mod Back
+pub mod Columns
+pub mod Distinct
+pub mod Heap
+pub mod OnResult
+pub mod Slots

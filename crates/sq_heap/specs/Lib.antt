@@ -1,0 +1,5 @@
+pub mod Alone
+pub mod Heap
+pub mod Room
+pub mod Slots
+pub mod Undo

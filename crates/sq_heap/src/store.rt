@@ -1,0 +1,240 @@
+ghost use Rattle.std.specs.Prelude.{◌≡◌, ◌≤◌, ◌<◌, ◌+◌, ◌++◌, ◌∷◌, [], ℕ, List, Option, false, true, Some, None, length, slice_set, IfOk, OnErr, OnOk};
+ghost use Rattle.std.specs.List.{list_all};
+ghost use Rattle.sq_store.specs.Change.{rows_put};
+ghost use Rattle.sq_store.specs.Content.{changed_by, no_rows, table_at};
+ghost use Rattle.sq_store.specs.Keys.{has_distinct_keys, has_keys, have_keys, keys_at, keys_of};
+ghost use Rattle.sq_store.specs.Saved.{is_sound_if};
+ghost use Rattle.sq_store.specs.Sound.{is_sound};
+ghost use Rattle.sq_store.specs.declared.store.TheConstants.{MOST_ROW_NUMBERS};
+ghost use Rattle.sq_heap.specs.declared.mark.Mark.{Mark};
+ghost use Rattle.sq_heap.specs.Heap.{all_before, all_committed, all_now, are_listed, are_within, is_mark_of};
+
+use crate::mark::Mark;
+use crate::table::HeapTable;
+use sq_items::Items;
+use sq_store::{ApplyFault, Change, MOST_ROW_NUMBERS, Meter, Store, copy_keys};
+use sq_value::{Key, Row};
+use std::alloc::{AllocError, Global};
+
+/// A store that keeps each table as slots by number, and what undoes the changes since the last commit.
+///
+/// `apply` costs what it changes, and for each row that it puts in and each key a walk over the table. `next_from` walks over
+/// the empty slots of rows that are gone. `take_back`, `commit` and `rollback` cost what changed.
+#[derive(Drop)]
+pub struct HeapStore {
+    /// Of each table the columns of each key.
+    keys: Items<Items<Items<usize>>>,
+    row_numbers: u64,
+    tables: Vec<HeapTable>,
+    /// The tables that were changed since the last commit.
+    listed: Vec<usize>,
+    last: Option<Mark>,
+    ghost limited: { row_numbers ≤ MOST_ROW_NUMBERS },
+    ghost sound: { is_sound row_numbers keys (all_now tables.items) ≡ true },
+    ghost committed_sound: { is_sound row_numbers keys (all_committed tables.items) ≡ true },
+    ghost before_sound: { is_sound_if row_numbers keys (all_before last tables.items) ≡ true },
+    ghost marked: { is_mark_of last (length tables.items) ≡ true },
+    ghost listed_there: { are_within (length tables.items) listed.items ≡ true },
+    ghost changes_listed: { are_listed listed.items 0 tables.items ≡ true },
+}
+
+impl Store for HeapStore {
+    ghost use Rattle.sq_store.specs.laws.Sound.{keyed_of, rises_of};
+
+    ghost content_now = { λ store. all_now store.tables.items };
+
+    ghost committed = { λ store. all_committed store.tables.items };
+
+    ghost before = { λ store. all_before store.last store.tables.items };
+
+    ghost key_columns = { λ store. store.keys };
+
+    ghost row_numbers = { λ store. store.row_numbers };
+
+    ghost limited = { λ store. store.limited };
+
+    ghost rises = { λ store. rises_of store.row_numbers store.keys (all_now store.tables.items) store.sound };
+
+    ghost keyed = { λ store. keyed_of store.row_numbers store.keys (all_now store.tables.items) store.sound };
+
+    #[tactic(auto, using(sq_store::proofs::Sound::sound_at_first))]
+    fn new(
+        alloc: Global,
+        keys: &[Vec<Vec<usize>>],
+        greatest: u64,
+    ) -> Result<HeapStore, AllocError> {
+        Ok(HeapStore {
+            keys: copy_keys(alloc, keys)?,
+            row_numbers: greatest,
+            tables: empty_tables(alloc, keys.len())?,
+            listed: Vec::new(alloc),
+            last: None,
+        })
+    }
+
+    fn next_from(&self, table: usize, number: u64, meter: &mut Meter) -> Option<(u64, &Row)> {
+        let found = self.tables[table].first_from(number)?;
+        meter.hand_out();
+        Some(found)
+    }
+
+    fn row(&self, table: usize, number: u64, meter: &mut Meter) -> Option<&Row> {
+        let row = self.tables[table].row_at(number)?;
+        meter.hand_out();
+        Some(row)
+    }
+
+    fn find_key(
+        &self,
+        table: usize,
+        key: usize,
+        values: &Key,
+        meter: &mut Meter,
+    ) -> Option<(u64, &Row)> {
+        let columns = self.keys_of(table)[key].as_slice();
+        let found = self.tables[table].first_with(columns, values)?;
+        meter.hand_out();
+        Some(found)
+    }
+
+    #[tactic(auto, using(crate::proofs::Heap::slots_within, crate::proofs::Heap::map_at))]
+    fn numbers_left(&self, table: usize) -> u64 {
+        self.row_numbers - self.tables[table].len() as u64
+    }
+
+    fn apply(
+        &mut self,
+        _alloc: Global,
+        table: usize,
+        changes: Vec<Change>,
+    ) -> Result<(), ApplyFault> {
+        self.listed.reserve(1)?;
+        let keys = keys_in(self.keys.as_slice(), table);
+        match apply_to(&mut self.tables, table, keys, changes) {
+            Ok(from) => {
+                self.listed.push(table).unwrap();
+                self.last = Some(Mark { table, from });
+                Ok(())
+            }
+            Err(fault) => Err(fault),
+        }
+    }
+
+    fn take_back(&mut self) {
+        match self.last.take() {
+            Some(mark) => take_back_to(&mut self.tables, mark),
+            None => unreachable!(),
+        }
+    }
+
+    fn commit(&mut self) {
+        self.last = None;
+        commit_all(&mut self.tables, &mut self.listed);
+    }
+
+    fn rollback(&mut self) {
+        self.last = None;
+        rollback_all(&mut self.tables, &mut self.listed);
+    }
+}
+
+impl HeapStore {
+    /// The columns of each key of a table.
+    #[tactic(auto, using(crate::proofs::Heap::tables_of_keys))]
+    fn keys_of(&self, table: usize) -> &[Items<usize>]
+        requires { table < length self.now.tables.items }
+        ensures { result.now ≡ keys_at self.now.keys table }
+    {
+        keys_in(self.keys.as_slice(), table)
+    }
+}
+
+/// The columns of each key of a table.
+fn keys_in(keys: &[Items<Items<usize>>], table: usize) -> &[Items<usize>]
+    requires { table < length keys.now }
+    ensures { result.now ≡ keys_at keys.now table }
+{
+    keys[table].as_slice()
+}
+
+/// So many tables without rows.
+#[tactic(auto, using(crate::proofs::Heap::now_push, crate::proofs::Heap::committed_push, crate::proofs::Heap::listed_new))]
+fn empty_tables(alloc: Global, count: usize) -> Result<Vec<HeapTable>, AllocError>
+    ensures now { IfOk result (λ tables. all_now tables.items ≡ no_rows count) }
+    ensures committed { IfOk result (λ tables. all_committed tables.items ≡ no_rows count) }
+    ensures listed { IfOk result (λ tables. are_listed [] 0 tables.items ≡ true) }
+{
+    let mut tables = Vec::new(alloc);
+    while tables.len() < count {
+        tables.push(HeapTable::new(alloc))?;
+    }
+    Ok(tables)
+}
+
+/// Makes all changes of a table, or none. Says how many changes of it there were before.
+fn apply_to(
+    tables: &mut Vec<HeapTable>,
+    table: usize,
+    keys: &[Items<usize>],
+    changes: Vec<Change>,
+) -> Result<usize, ApplyFault>
+    requires known { table < length tables.old.items }
+    requires columns { have_keys keys.now (table_at (all_now tables.old.items) table).rows ≡ true }
+    requires new_columns { list_all (has_keys keys.now) (rows_put changes.items) ≡ true }
+    requires distinct { has_distinct_keys keys.now (table_at (all_now tables.old.items) table) ≡ true }
+    ensures ok { OnOk result (all_now tables.new.items
+        ≡ slice_set (all_now tables.old.items) table (changed_by (table_at (all_now tables.old.items) table) changes.items)) }
+    ensures distinct { OnOk result (has_distinct_keys keys.now (changed_by (table_at (all_now tables.old.items) table) changes.items) ≡ true) }
+    ensures duplicate { result ≡ Err ApplyFault.Duplicate
+        → has_distinct_keys keys.now (changed_by (table_at (all_now tables.old.items) table) changes.items) ≡ false }
+    ensures before { IfOk result (λ from. all_before (Some (record { table = table; from = from })) tables.new.items ≡ Some (all_now tables.old.items)) }
+    ensures committed { all_committed tables.new.items ≡ all_committed tables.old.items }
+    ensures err { OnErr result (all_now tables.new.items ≡ all_now tables.old.items) }
+    ensures err_before { OnErr result ((mark : Option Mark) → all_before mark tables.new.items ≡ all_before mark tables.old.items) }
+    ensures err_listed { OnErr result ((listed : List ℕ) → are_listed listed 0 tables.old.items ≡ true → are_listed listed 0 tables.new.items ≡ true) }
+    ensures listed { OnOk result ((listed : List ℕ) → are_listed listed 0 tables.old.items ≡ true → are_listed (listed ++ table ∷ []) 0 tables.new.items ≡ true) }
+    ensures tables { length tables.new.items ≡ length tables.old.items }
+{
+    tables[table].apply(keys, changes)
+}
+
+/// Goes back to where the last changes of a table began.
+fn take_back_to(tables: &mut Vec<HeapTable>, mark: Mark)
+    requires { mark.table < length tables.old.items }
+    ensures now { all_before (Some mark) tables.old.items ≡ Some (all_now tables.new.items) }
+    ensures committed { all_committed tables.new.items ≡ all_committed tables.old.items }
+    ensures listed { (listed : List ℕ) → are_listed listed 0 tables.old.items ≡ true → are_listed listed 0 tables.new.items ≡ true }
+    ensures tables { length tables.new.items ≡ length tables.old.items }
+{
+    tables[mark.table].undo_to(mark.from);
+}
+
+/// Commits the tables that were changed.
+fn commit_all(tables: &mut Vec<HeapTable>, listed: &mut Vec<usize>)
+    requires listed { are_listed listed.old.items 0 tables.old.items ≡ true }
+    requires within { are_within (length tables.old.items) listed.old.items ≡ true }
+    ensures now { all_now tables.new.items ≡ all_now tables.old.items }
+    ensures committed { all_committed tables.new.items ≡ all_now tables.old.items }
+    ensures listed { are_listed listed.new.items 0 tables.new.items ≡ true }
+    ensures none { listed.new.items ≡ [] }
+    ensures tables { length tables.new.items ≡ length tables.old.items }
+{
+    while let Some(table) = listed.pop() {
+        tables[table].commit();
+    }
+}
+
+/// Undoes the changes of the tables that were changed.
+fn rollback_all(tables: &mut Vec<HeapTable>, listed: &mut Vec<usize>)
+    requires listed { are_listed listed.old.items 0 tables.old.items ≡ true }
+    requires within { are_within (length tables.old.items) listed.old.items ≡ true }
+    ensures now { all_now tables.new.items ≡ all_committed tables.old.items }
+    ensures committed { all_committed tables.new.items ≡ all_committed tables.old.items }
+    ensures listed { are_listed listed.new.items 0 tables.new.items ≡ true }
+    ensures none { listed.new.items ≡ [] }
+    ensures tables { length tables.new.items ≡ length tables.old.items }
+{
+    while let Some(table) = listed.pop() {
+        tables[table].undo_to(0);
+    }
+}

@@ -1,0 +1,15 @@
+pub mod Status
+pub mod Syntax
+pub mod Rows
+pub mod Environment
+pub mod Expression
+pub mod Placed
+pub mod Query
+pub mod Kind
+pub mod QueryExpression
+pub mod Assignment
+pub mod Spelled
+pub mod Tables
+pub mod SortKeys
+pub mod Target
+pub mod Quiet

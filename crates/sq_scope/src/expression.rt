@@ -1,0 +1,376 @@
+//! Value expressions: columns and parameters become places, and kinds are checked (ISO/IEC 9075:1992, 6.2 to 6.5, 6.11 to 6.13).
+
+use crate::findings::{Findings, Found};
+use crate::kinds::{is_number, operation_kind, set_function_kind};
+use crate::literal::{number_value, text_value};
+use crate::scope::{Environment, FoundColumn};
+use sq_bound::{
+    Aggregate, BindFault, BoundExpr, Input, Operation, Operator, ParameterDesc, Place,
+    SetFunctionCall,
+};
+use sq_items::{Boxed, Items};
+use sq_lex::{Name, Number};
+use sq_tree::{
+    ColumnReference, Expr, Factor, Indicator, Parameter, Primary, SetFunction, SetQuantifier, Sign,
+    Term, TimesSign,
+};
+use sq_value::{Domain, Kind, Value};
+use std::alloc::Global;
+
+/// A bound value expression and the kind of its values.
+#[derive(Drop)]
+pub struct Typed {
+    pub expr: BoundExpr,
+    pub kind: Kind,
+}
+
+/// What binding an expression answers.
+pub type ExprResult = Result<Found<Typed>, BindFault>;
+
+/// The set functions of a query that are bound so far.
+#[derive(Drop)]
+pub struct SetFunctions {
+    /// Whether set functions may stand here at all.
+    pub allowed: bool,
+    /// Whether computing one of them may answer a status.
+    pub can_fail: bool,
+    pub calls: Items<SetFunctionCall>,
+}
+
+impl SetFunctions {
+    /// Where no set function may stand.
+    pub fn forbidden(alloc: Global) -> SetFunctions {
+        SetFunctions {
+            allowed: false,
+            can_fail: false,
+            calls: Items::new(alloc),
+        }
+    }
+
+    /// Where set functions may stand, none so far.
+    pub fn allowed(alloc: Global) -> SetFunctions {
+        SetFunctions {
+            allowed: true,
+            can_fail: false,
+            calls: Items::new(alloc),
+        }
+    }
+}
+
+#[cycle(bind_expr)]
+pub fn bind_expr(
+    expr: &Expr,
+    environment: &Environment,
+    functions: &mut SetFunctions,
+) -> ExprResult {
+    let mut bound = bind_term(&expr.first, environment, functions);
+    for added in expr.rest.as_slice() {
+        let operator = match added.sign {
+            Sign::Plus => Operator::Plus,
+            Sign::Minus => Operator::Minus,
+        };
+        let term = bind_term(&added.term, environment, functions);
+        bound = operation(environment.alloc, bound, operator, term);
+    }
+    bound
+}
+
+#[cycle(bind_expr)]
+fn bind_term(term: &Term, environment: &Environment, functions: &mut SetFunctions) -> ExprResult {
+    let mut bound = bind_factor(&term.first, environment, functions);
+    for scaled in term.rest.as_slice() {
+        let operator = match scaled.sign {
+            TimesSign::Times => Operator::Times,
+            TimesSign::Over => Operator::Over,
+        };
+        let factor = bind_factor(&scaled.factor, environment, functions);
+        bound = operation(environment.alloc, bound, operator, factor);
+    }
+    bound
+}
+
+#[cycle(bind_expr)]
+fn bind_factor(
+    factor: &Factor,
+    environment: &Environment,
+    functions: &mut SetFunctions,
+) -> ExprResult {
+    let bound = bind_primary(&factor.primary, environment, functions);
+    match factor.sign {
+        None => bound,
+        Some(sign) => signed(environment.alloc, sign, bound),
+    }
+}
+
+#[cycle(bind_expr)]
+fn bind_primary(
+    primary: &Primary,
+    environment: &Environment,
+    functions: &mut SetFunctions,
+) -> ExprResult {
+    match primary {
+        Primary::Number(number) => number_literal(*number),
+        Primary::Text(characters) => text_literal(environment.alloc, characters.as_slice()),
+        Primary::Parameter(parameter) => parameter_value(
+            environment.parameters.as_slice(),
+            *parameter,
+        ),
+        Primary::User => Ok(user_value()),
+        Primary::Column(reference) => column_value(environment, reference),
+        Primary::CountRows => count_rows(functions),
+        Primary::SetFunction(function, quantifier, expr) => {
+            let mut inner = SetFunctions::forbidden(environment.alloc);
+            let operand = bind_expr(expr.get(), environment, &mut inner);
+            drop(inner);
+            set_function(*function, *quantifier, operand, functions)
+        }
+        Primary::Bracketed(expr) => bind_expr(expr.get(), environment, functions),
+    }
+}
+
+/// An expression about which nothing is found.
+fn plain(expr: BoundExpr, kind: Kind) -> Found<Typed> {
+    Found {
+        part: Typed { expr, kind },
+        findings: Findings::NONE,
+    }
+}
+
+fn number_literal(number: Number) -> ExprResult {
+    let value = number_value(number)?;
+    let kind = Kind::Num(value.scale());
+    Ok(plain(BoundExpr::Literal(Value::Num(value)), kind))
+}
+
+fn text_literal(alloc: Global, characters: &[u8]) -> ExprResult {
+    let value = text_value(alloc, characters)?;
+    let kind = Kind::Chars(characters.len() as u16);
+    Ok(plain(BoundExpr::Literal(value), kind))
+}
+
+/// USER, a text of 18 characters (6.2; the length is an own rule).
+fn user_value() -> Found<Typed> {
+    Found {
+        part: Typed {
+            expr: BoundExpr::User,
+            kind: Kind::Chars(18),
+        },
+        findings: Findings {
+            has_user: true,
+            ..Findings::NONE
+        },
+    }
+}
+
+/// The position of a parameter among those of the procedure.
+pub fn parameter_of(
+    parameters: &[ParameterDesc],
+    name: Name,
+) -> Result<(usize, Domain), BindFault> {
+    for (position, parameter) in parameters.iter().enumerate() {
+        if parameter.name == name {
+            return Ok((position, parameter.domain));
+        }
+    }
+    Err(BindFault::UnknownParameter)
+}
+
+/// The position of an indicator parameter, if one is written.
+pub fn indicator_of(
+    parameters: &[ParameterDesc],
+    indicator: Option<Indicator>,
+) -> Result<Option<usize>, BindFault> {
+    let Some(indicator) = indicator else {
+        return Ok(None);
+    };
+    let (position, domain) = parameter_of(parameters, indicator.name)?;
+    match domain {
+        Domain::Small | Domain::Int => Ok(Some(position)),
+        Domain::Numeric(precision, 0) if precision >= 3 => Ok(Some(position)),
+        _ => Err(BindFault::BadIndicator),
+    }
+}
+
+fn parameter_value(parameters: &[ParameterDesc], parameter: Parameter) -> ExprResult {
+    let (position, domain) = parameter_of(parameters, parameter.name)?;
+    let indicator = indicator_of(parameters, parameter.indicator)?;
+    let input = Input {
+        parameter: position,
+        indicator,
+    };
+    Ok(plain(BoundExpr::Parameter(input), domain.kind()))
+}
+
+fn column_value(environment: &Environment, reference: &ColumnReference) -> ExprResult {
+    let found = environment.column(reference)?;
+    let place = found.place;
+    if place.depth > 0 && !found.is_grouped {
+        return Err(BindFault::NotGrouped);
+    }
+    Ok(Found {
+        part: Typed {
+            expr: BoundExpr::Column(place),
+            kind: found.kind,
+        },
+        findings: column_findings(found),
+    })
+}
+
+/// What is found in a column reference.
+pub fn column_findings(found: FoundColumn) -> Findings {
+    let Place { depth, item, .. } = found.place;
+    let needed = item.saturating_add(1);
+    Findings {
+        items: if depth == 0 { needed } else { 0 },
+        outer_items: if depth == 1 { needed } else { 0 },
+        reach: depth,
+        reads_outermost: found.is_outermost,
+        has_ungrouped: depth == 0 && !found.is_grouped,
+        ..Findings::NONE
+    }
+}
+
+/// An operand with a sign before it (6.12). A plus changes nothing.
+fn signed(alloc: Global, sign: Sign, operand: ExprResult) -> ExprResult {
+    let Found { part, findings } = operand?;
+    let Typed { expr, kind } = part;
+    if !is_number(kind) {
+        drop(expr);
+        return Err(BindFault::KindMismatch);
+    }
+    let expr = match sign {
+        Sign::Plus => expr,
+        Sign::Minus => BoundExpr::Negated(Boxed::new(alloc, expr)?),
+    };
+    Ok(Found {
+        part: Typed { expr, kind },
+        findings,
+    })
+}
+
+/// Two operands and the operator between them.
+fn operation(alloc: Global, left: ExprResult, operator: Operator, right: ExprResult) -> ExprResult {
+    match (left, right) {
+        (Ok(left), Ok(right)) => operated(alloc, left, operator, right),
+        (Ok(left), Err(fault)) => {
+            drop(left);
+            Err(fault)
+        }
+        (Err(fault), right) => {
+            drop(right);
+            Err(fault)
+        }
+    }
+}
+
+fn operated(
+    alloc: Global,
+    left: Found<Typed>,
+    operator: Operator,
+    right: Found<Typed>,
+) -> ExprResult {
+    let kind = match operation_kind(left.part.kind, operator, right.part.kind) {
+        Ok(kind) => kind,
+        Err(fault) => {
+            drop(left);
+            drop(right);
+            return Err(fault);
+        }
+    };
+    let findings = left.findings.and(right.findings).failing();
+    let expr = with_operation(alloc, left.part.expr, operator, right.part.expr)?;
+    Ok(Found {
+        part: Typed { expr, kind },
+        findings,
+    })
+}
+
+/// The expression with a further operation behind it.
+fn with_operation(
+    alloc: Global,
+    left: BoundExpr,
+    operator: Operator,
+    operand: BoundExpr,
+) -> Result<BoundExpr, BindFault> {
+    let operation = Operation { operator, operand };
+    match left {
+        BoundExpr::Operations(first, mut rest) => match rest.push(operation) {
+            Ok(()) => Ok(BoundExpr::Operations(first, rest)),
+            Err(_) => {
+                drop(first);
+                drop(rest);
+                Err(BindFault::NoMemory)
+            }
+        },
+        first => begun(alloc, first, operation),
+    }
+}
+
+/// An operand with its first operation behind it.
+fn begun(alloc: Global, first: BoundExpr, operation: Operation) -> Result<BoundExpr, BindFault> {
+    let mut rest = Items::new(alloc);
+    let pushed = rest.push(operation);
+    match (Boxed::new(alloc, first), pushed) {
+        (Ok(first), Ok(())) => Ok(BoundExpr::Operations(first, rest)),
+        (first, _) => {
+            drop(first);
+            drop(rest);
+            Err(BindFault::NoMemory)
+        }
+    }
+}
+
+/// What a set function of a query is known by.
+fn numbered(number: usize, kind: Kind) -> Found<Typed> {
+    Found {
+        part: Typed {
+            expr: BoundExpr::SetFunction(number),
+            kind,
+        },
+        findings: Findings {
+            has_set_function: true,
+            ..Findings::NONE
+        },
+    }
+}
+
+fn count_rows(functions: &mut SetFunctions) -> ExprResult {
+    if !functions.allowed {
+        return Err(BindFault::MisplacedSetFunction);
+    }
+    let number = functions.calls.len();
+    functions.calls.push(SetFunctionCall::CountRows)?;
+    Ok(numbered(number, Kind::Num(0)))
+}
+
+/// A set function over an expression that reads columns of its own query alone (6.5).
+fn set_function(
+    function: SetFunction,
+    quantifier: Option<SetQuantifier>,
+    operand: ExprResult,
+    functions: &mut SetFunctions,
+) -> ExprResult {
+    let Found { part, findings } = operand?;
+    let Typed { expr, kind } = part;
+    if !functions.allowed || findings.reach > 0 {
+        drop(expr);
+        return Err(BindFault::MisplacedSetFunction);
+    }
+    let kind = match set_function_kind(function, kind) {
+        Ok(kind) => kind,
+        Err(fault) => {
+            drop(expr);
+            return Err(fault);
+        }
+    };
+    let number = functions.calls.len();
+    if findings.can_fail || matches!(function, SetFunction::Sum | SetFunction::Avg) {
+        functions.can_fail = true;
+    }
+    functions.calls.push(SetFunctionCall::Over(Aggregate {
+        function,
+        distinct: matches!(quantifier, Some(SetQuantifier::Distinct)),
+        operand: expr,
+    }))?;
+    Ok(numbered(number, kind))
+}

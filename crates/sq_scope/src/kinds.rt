@@ -1,0 +1,73 @@
+//! Kinds of results, and which kinds stand together.
+
+use sq_bound::{BindFault, Operator};
+use sq_tree::SetFunction;
+use sq_value::Kind;
+
+/// Whether the values are numbers.
+pub fn is_number(kind: Kind) -> bool {
+    matches!(kind, Kind::Num(_))
+}
+
+/// Both kinds must be of numbers, or both of texts (ISO/IEC 9075:1992, 8.2, 9.2).
+pub fn must_agree(left: Kind, right: Kind) -> Result<(), BindFault> {
+    if is_number(left) == is_number(right) {
+        Ok(())
+    } else {
+        Err(BindFault::KindMismatch)
+    }
+}
+
+/// The kind must be of texts (8.5).
+pub fn must_be_text(kind: Kind) -> Result<(), BindFault> {
+    if is_number(kind) {
+        Err(BindFault::KindMismatch)
+    } else {
+        Ok(())
+    }
+}
+
+/// The kind of a sum, difference, product or quotient (6.12).
+pub fn operation_kind(left: Kind, operator: Operator, right: Kind) -> Result<Kind, BindFault> {
+    match (left, right) {
+        (Kind::Num(left), Kind::Num(right)) => number_kind(left, operator, right),
+        _ => Err(BindFault::KindMismatch),
+    }
+}
+
+fn number_kind(left: u8, operator: Operator, right: u8) -> Result<Kind, BindFault> {
+    let greater = left.max(right);
+    match operator {
+        Operator::Plus | Operator::Minus => Ok(Kind::Num(greater)),
+        Operator::Times => match left.checked_add(right) {
+            Some(scale) if scale <= 18 => Ok(Kind::Num(scale)),
+            _ => Err(BindFault::TooWide),
+        },
+        Operator::Over if greater as u16 + right as u16 > 18 + left as u16 => {
+            Err(BindFault::TooWide)
+        }
+        Operator::Over => Ok(Kind::Num(greater)),
+    }
+}
+
+/// The kind of a set function over values of a kind (6.5).
+pub fn set_function_kind(function: SetFunction, operand: Kind) -> Result<Kind, BindFault> {
+    match function {
+        SetFunction::Count => Ok(Kind::Num(0)),
+        SetFunction::Min | SetFunction::Max => Ok(operand),
+        SetFunction::Sum | SetFunction::Avg if is_number(operand) => Ok(operand),
+        SetFunction::Sum | SetFunction::Avg => Err(BindFault::KindMismatch),
+    }
+}
+
+/// The kind to which both sides of a UNION are brought (7.10): the greater scale or length.
+pub fn union_kind(left: Kind, right: Kind) -> Result<Kind, BindFault> {
+    match (left, right) {
+        (Kind::Num(left), Kind::Num(right)) => Ok(Kind::Num(left.max(right))),
+        (Kind::Chars(left), Kind::Chars(right)) => Ok(Kind::Chars(left.max(right))),
+        (Kind::Chars(left) | Kind::Vary(left), Kind::Chars(right) | Kind::Vary(right)) => {
+            Ok(Kind::Vary(left.max(right)))
+        }
+        _ => Err(BindFault::KindMismatch),
+    }
+}

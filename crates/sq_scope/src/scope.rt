@@ -1,0 +1,233 @@
+//! What column references mean: FROM items in scopes, the nearest first (ISO/IEC 9075:1992, 6.3, 6.4).
+
+use sq_bound::{BindFault, ParameterDesc, Place, TableDesc};
+use sq_items::Items;
+use sq_lex::Name;
+use sq_tree::{ColumnReference, TableName};
+use sq_value::Kind;
+use std::alloc::Global;
+
+/// A column of a FROM item: its name, its position in the rows that are read, and its kind.
+#[derive(Clone, Copy)]
+pub struct ItemColumn {
+    pub name: Name,
+    pub position: usize,
+    pub kind: Kind,
+}
+
+/// An item of a FROM clause.
+#[derive(Drop)]
+pub struct FromItem {
+    /// The owner and the name of its table.
+    pub user: Name,
+    pub name: Name,
+    pub correlation: Option<Name>,
+    pub columns: Items<ItemColumn>,
+}
+
+/// The FROM items of a query.
+#[derive(Drop)]
+pub struct Scope {
+    pub items: Items<FromItem>,
+    /// Where other columns of this query may not stand outside set functions, its grouping columns.
+    pub grouping: Option<Items<Place>>,
+}
+
+/// Where a text stands: the user, the parameters, and the scopes around it, the nearest last.
+#[derive(Drop)]
+pub struct Environment {
+    pub alloc: Global,
+    pub user: Name,
+    pub parameters: Items<ParameterDesc>,
+    scopes: Vec<Scope>,
+}
+
+/// A column that a reference means.
+#[derive(Clone, Copy)]
+pub struct FoundColumn {
+    pub place: Place,
+    pub kind: Kind,
+    /// Whether it is a grouping column, or need not be one.
+    pub is_grouped: bool,
+    /// Whether no scope is around its own.
+    pub is_outermost: bool,
+}
+
+/// An item over a table. With `at_leaf` its columns are placed as those of the base table under it.
+pub fn item_over(
+    alloc: Global,
+    table: &TableDesc,
+    correlation: Option<Name>,
+    at_leaf: bool,
+) -> Result<FromItem, BindFault> {
+    let mut columns = Items::new(alloc);
+    for (position, column) in table.columns.as_slice().iter().enumerate() {
+        columns.push(ItemColumn {
+            name: column.name,
+            position: if at_leaf {
+                column.leaf_column
+            } else {
+                position
+            },
+            kind: column.kind,
+        })?;
+    }
+    Ok(FromItem {
+        user: table.user,
+        name: table.name,
+        correlation,
+        columns,
+    })
+}
+
+impl FromItem {
+    /// Whether the qualifier names the item: by its correlation name or, where it has none, by its table's name, with or
+    /// without the owner.
+    fn fits(&self, qualifier: Option<TableName>) -> bool {
+        let Some(qualifier) = qualifier else {
+            return true;
+        };
+        match (self.correlation, qualifier.schema) {
+            (Some(correlation), None) => correlation == qualifier.table,
+            (Some(_), Some(_)) => false,
+            (None, None) => self.name == qualifier.table,
+            (None, Some(user)) => self.user == user && self.name == qualifier.table,
+        }
+    }
+
+    /// Whether both items are exposed by one name.
+    fn clashes(&self, other: &FromItem) -> bool {
+        match (self.correlation, other.correlation) {
+            (Some(left), Some(right)) => left == right,
+            (None, None) => self.user == other.user && self.name == other.name,
+            _ => false,
+        }
+    }
+
+    /// The column that the reference fits.
+    fn column(&self, reference: &ColumnReference) -> Option<ItemColumn> {
+        if !self.fits(reference.qualifier) {
+            return None;
+        }
+        for column in self.columns.as_slice() {
+            if column.name == reference.column {
+                return Some(*column);
+            }
+        }
+        None
+    }
+}
+
+/// Whether an item before is exposed by the name of this one.
+pub fn is_exposed(items: &[FromItem], item: &FromItem) -> bool {
+    items.iter().any(|other| other.clashes(item))
+}
+
+impl Scope {
+    /// The items and columns of this scope that a reference fits: none, one, or a fault for more.
+    fn fitting(
+        &self,
+        reference: &ColumnReference,
+    ) -> Result<Option<(usize, ItemColumn)>, BindFault> {
+        let mut found = None;
+        for (number, item) in self.items.as_slice().iter().enumerate() {
+            if let Some(column) = item.column(reference) {
+                if found.is_some() {
+                    return Err(BindFault::AmbiguousName);
+                }
+                found = Some((number, column));
+            }
+        }
+        Ok(found)
+    }
+
+    /// Whether the column is among the grouping columns, where there are such.
+    fn is_grouped(&self, item: usize, column: usize) -> bool {
+        match &self.grouping {
+            None => true,
+            Some(places) => places
+                .as_slice()
+                .iter()
+                .any(|place| is_at(place, item, column)),
+        }
+    }
+}
+
+/// Whether a place is in its own query, at this item and column.
+fn is_at(place: &Place, item: usize, column: usize) -> bool {
+    place.depth == 0 && place.item == item && place.column == column
+}
+
+impl Environment {
+    /// Outside all queries.
+    pub fn new(
+        alloc: Global,
+        user: Name,
+        parameters: &[ParameterDesc],
+    ) -> Result<Environment, BindFault> {
+        Ok(Environment {
+            alloc,
+            user,
+            parameters: Items::from_slice(alloc, parameters)?,
+            scopes: Vec::new(alloc),
+        })
+    }
+
+    /// Goes into a query over these items.
+    pub fn enter(&mut self, items: Items<FromItem>) -> Result<(), BindFault> {
+        let scope = Scope {
+            items,
+            grouping: None,
+        };
+        match self.scopes.push(scope) {
+            Ok(()) => Ok(()),
+            Err(_) => Err(BindFault::NoMemory),
+        }
+    }
+
+    /// From here on, columns of the nearest query other than these may not stand outside set functions.
+    pub fn group(&mut self, columns: Items<Place>) {
+        match self.scopes.last_mut() {
+            Some(scope) => scope.grouping = Some(columns),
+            None => drop(columns),
+        }
+    }
+
+    /// Leaves the nearest query.
+    pub fn leave(&mut self) {
+        drop(self.scopes.pop());
+    }
+
+    /// The items of the nearest query.
+    pub fn nearest(&self) -> &[FromItem] {
+        match self.scopes.last() {
+            Some(scope) => scope.items.as_slice(),
+            None => &[],
+        }
+    }
+
+    /// The column of the nearest scope in which an item fits the reference.
+    pub fn column(&self, reference: &ColumnReference) -> Result<FoundColumn, BindFault> {
+        let mut depth: usize = 0;
+        for scope in self.scopes.iter().rev() {
+            if let Some((item, column)) = scope.fitting(reference)? {
+                return Ok(self.found(depth, scope, item, column));
+            }
+            depth = depth.saturating_add(1);
+        }
+        Err(BindFault::UnknownColumn)
+    }
+
+    fn found(&self, depth: usize, scope: &Scope, item: usize, column: ItemColumn) -> FoundColumn {
+        FoundColumn {
+            place: Place {
+                depth,
+                item,
+                column: column.position,
+            },
+            kind: column.kind,
+            is_grouped: scope.is_grouped(item, column.position),
+            is_outermost: depth.saturating_add(1) == self.scopes.len(),
+        }
+    }
+}

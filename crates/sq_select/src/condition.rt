@@ -1,0 +1,275 @@
+//! Search conditions and query specifications (ISO/IEC 9075:1992, 7.3 to 7.9, 7.11, 8.12).
+
+use crate::predicate::{
+    PredicateResult, SubqueryResult, between, compared, compared_query, exists, in_list, in_query,
+    like, null_test,
+};
+use crate::select::{FromClause, Selected, from_clause, group_by, make_specification, select_list};
+use sq_bound::{BindFault, BoundCond, BoundConj, BoundTest, Names, Predicate};
+use sq_items::{Boxed, Items};
+use sq_scope::{Environment, Findings, Found, SetFunctions, bind_expr};
+use sq_tree::{
+    Body, Cond, Conj, Expr, QuerySpecification, SelectList, SetQuantifier, TableExpression, Tail,
+    Test,
+};
+use std::alloc::Global;
+
+/// What binding a search condition answers.
+pub type CondResult = Result<Found<BoundCond>, BindFault>;
+
+/// Parts that are bound so far, with what was found in them.
+type Gathered<T> = Result<Found<Items<T>>, BindFault>;
+
+/// The parts with a further one.
+fn gathered<T: Drop>(parts: Gathered<T>, part: Result<Found<T>, BindFault>) -> Gathered<T> {
+    match (parts, part) {
+        (Ok(parts), Ok(part)) => with_part(parts, part),
+        (Ok(parts), Err(fault)) => {
+            drop(parts);
+            Err(fault)
+        }
+        (Err(fault), part) => {
+            drop(part);
+            Err(fault)
+        }
+    }
+}
+
+fn with_part<T: Drop>(parts: Found<Items<T>>, part: Found<T>) -> Gathered<T> {
+    let Found {
+        part: mut items,
+        findings,
+    } = parts;
+    let findings = findings.and(part.findings);
+    match items.push(part.part) {
+        Ok(()) => Ok(Found {
+            part: items,
+            findings,
+        }),
+        Err(_) => {
+            drop(items);
+            Err(BindFault::NoMemory)
+        }
+    }
+}
+
+/// No parts so far.
+fn none<T>(alloc: Global) -> Gathered<T> {
+    Ok(Found {
+        part: Items::new(alloc),
+        findings: Findings::NONE,
+    })
+}
+
+#[cycle(bind_cond)]
+pub fn bind_cond<N: Names>(
+    cond: &Cond,
+    names: &N,
+    environment: &mut Environment,
+    functions: &mut SetFunctions,
+) -> CondResult {
+    let first = bind_conj(&cond.first, names, environment, functions);
+    let mut terms = gathered(none(environment.alloc), first);
+    for conj in cond.rest.as_slice() {
+        let term = bind_conj(conj, names, environment, functions);
+        terms = gathered(terms, term);
+    }
+    whole_cond(terms)
+}
+
+fn whole_cond(terms: Gathered<BoundConj>) -> CondResult {
+    let Found { part, findings } = terms?;
+    Ok(Found {
+        part: BoundCond { terms: part },
+        findings,
+    })
+}
+
+#[cycle(bind_cond)]
+fn bind_conj<N: Names>(
+    conj: &Conj,
+    names: &N,
+    environment: &mut Environment,
+    functions: &mut SetFunctions,
+) -> Result<Found<BoundConj>, BindFault> {
+    let first = bind_test(&conj.first, names, environment, functions);
+    let mut tests = gathered(none(environment.alloc), first);
+    for test in conj.rest.as_slice() {
+        let factor = bind_test(test, names, environment, functions);
+        tests = gathered(tests, factor);
+    }
+    whole_conj(tests)
+}
+
+fn whole_conj(tests: Gathered<BoundTest>) -> Result<Found<BoundConj>, BindFault> {
+    let Found { part, findings } = tests?;
+    Ok(Found {
+        part: BoundConj { tests: part },
+        findings,
+    })
+}
+
+#[cycle(bind_cond)]
+fn bind_test<N: Names>(
+    test: &Test,
+    names: &N,
+    environment: &mut Environment,
+    functions: &mut SetFunctions,
+) -> Result<Found<BoundTest>, BindFault> {
+    let predicate = bind_body(&test.body, names, environment, functions);
+    whole_test(test.negated, predicate)
+}
+
+fn whole_test(negated: bool, predicate: PredicateResult) -> Result<Found<BoundTest>, BindFault> {
+    let Found { part, findings } = predicate?;
+    Ok(Found {
+        part: BoundTest {
+            negated,
+            predicate: part,
+            items: findings.items,
+            can_fail: findings.can_fail,
+        },
+        findings,
+    })
+}
+
+#[cycle(bind_cond)]
+fn bind_body<N: Names>(
+    body: &Body,
+    names: &N,
+    environment: &mut Environment,
+    functions: &mut SetFunctions,
+) -> PredicateResult {
+    match body {
+        Body::Predicate(left, tail) => bind_tail(tail, left, names, environment, functions),
+        Body::Exists(query) => exists(
+            environment.alloc,
+            bind_subquery(query.get(), names, environment),
+        ),
+        Body::Bracketed(cond) => bracketed(
+            environment.alloc,
+            bind_cond(cond.get(), names, environment, functions),
+        ),
+    }
+}
+
+fn bracketed(alloc: Global, cond: CondResult) -> PredicateResult {
+    let Found { part, findings } = cond?;
+    Ok(Found {
+        part: Predicate::Bracketed(Boxed::new(alloc, part)?),
+        findings,
+    })
+}
+
+#[cycle(bind_cond)]
+fn bind_tail<N: Names>(
+    tail: &Tail,
+    left: &Expr,
+    names: &N,
+    environment: &mut Environment,
+    functions: &mut SetFunctions,
+) -> PredicateResult {
+    let left = bind_expr(left, environment, functions);
+    match tail {
+        Tail::Compare(comparison, right) => {
+            let right = bind_expr(right, environment, functions);
+            compared(*comparison, left, right)
+        }
+        Tail::CompareQuery(comparison, quantifier, query) => {
+            let query = bind_subquery(query.get(), names, environment);
+            compared_query(environment.alloc, *comparison, *quantifier, left, query)
+        }
+        Tail::Between(negated, low, high) => {
+            between(*negated, left, low, high, environment, functions)
+        }
+        Tail::InQuery(negated, query) => {
+            let query = bind_subquery(query.get(), names, environment);
+            in_query(environment.alloc, *negated, left, query)
+        }
+        Tail::InList(negated, list) => in_list(*negated, left, list, environment, functions),
+        Tail::Like(negated, pattern, escape) => {
+            like(*negated, left, pattern, escape, environment, functions)
+        }
+        Tail::Null(negated) => null_test(*negated, left),
+    }
+}
+
+#[cycle(bind_cond)]
+fn bind_subquery<N: Names>(
+    query: &QuerySpecification,
+    names: &N,
+    environment: &mut Environment,
+) -> SubqueryResult {
+    bind_select(
+        &query.table,
+        query.quantifier,
+        &query.list,
+        names,
+        environment,
+    )
+}
+
+/// A query specification of these parts, within the scopes of the environment.
+#[cycle(bind_cond)]
+pub fn bind_select<N: Names>(
+    table: &TableExpression,
+    quantifier: Option<SetQuantifier>,
+    list: &SelectList,
+    names: &N,
+    environment: &mut Environment,
+) -> SubqueryResult {
+    let FromClause {
+        items,
+        tables,
+        findings,
+    } = from_clause(names, environment, &table.from)?;
+    environment.enter(items)?;
+    let mut no_functions = SetFunctions::forbidden(environment.alloc);
+    let condition = bind_optional(&table.where_clause, names, environment, &mut no_functions);
+    drop(no_functions);
+    let groups = group_by(environment, &table.group_by);
+    let mut functions = SetFunctions::allowed(environment.alloc);
+    let selected = select_list(list, environment, &mut functions);
+    let having = bind_optional(&table.having, names, environment, &mut functions);
+    environment.leave();
+    make_specification(Selected {
+        is_distinct: is_distinct(quantifier),
+        tables,
+        named: findings,
+        condition,
+        by_columns: table.group_by.is_some(),
+        groups,
+        selected,
+        having,
+        functions,
+    })
+}
+
+/// Whether DISTINCT is written.
+fn is_distinct(quantifier: Option<SetQuantifier>) -> bool {
+    matches!(quantifier, Some(SetQuantifier::Distinct))
+}
+
+#[cycle(bind_cond)]
+fn bind_optional<N: Names>(
+    cond: &Option<Cond>,
+    names: &N,
+    environment: &mut Environment,
+    functions: &mut SetFunctions,
+) -> Result<Found<Option<BoundCond>>, BindFault> {
+    match cond {
+        None => Ok(Found {
+            part: None,
+            findings: Findings::NONE,
+        }),
+        Some(cond) => optional(bind_cond(cond, names, environment, functions)),
+    }
+}
+
+fn optional(cond: CondResult) -> Result<Found<Option<BoundCond>>, BindFault> {
+    let Found { part, findings } = cond?;
+    Ok(Found {
+        part: Some(part),
+        findings,
+    })
+}

@@ -1,0 +1,11 @@
+//! Search conditions and query specifications: their names become places, and their kinds and groups are checked
+//! (ISO/IEC 9075:1992, clauses 7 and 8).
+#![tactic(auto)]
+
+mod condition;
+mod predicate;
+mod select;
+
+pub use condition::{CondResult, bind_cond, bind_select};
+pub use predicate::{SubqueryResult, both, kept};
+pub use select::{SelectedList, correlation_of, named_table, select_list};

@@ -1,8 +1,0 @@
-use Rattle.std.proofs.Common.{◌≡◌, ◌++◌, take}
-use Rattle.std.specs.List.{flat_map}
-use Rattle.sq_tree.specs.Query.{query_term_tokens, union_term_tokens}
-use Rattle.sq_tree.specs.declared.query.Query.{out-Query}
-use Rattle.sq_spell.proofs.query.+write_query.Given as goal
-
-abbrev pub invariant-QueryTree::write-loop-union : goal.invariant-QueryTree::write-loop-union
-invariant-QueryTree::write-loop-union l = l.out.lexemes ≡ l.fn.out.lexemes ++ (query_term_tokens (out-Query l.self).first ++ flat_map union_term_tokens (take l.union-index l.union-items))

@@ -1,0 +1,2 @@
+mod Rolled
+pub mod Spelled

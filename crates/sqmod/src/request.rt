@@ -1,0 +1,74 @@
+//! A request, from its files to the report on standard output.
+ghost use Rattle.std.specs.Prelude.{◌≡◌, ◌≤◌};
+ghost use Rattle.sqmod.specs.Request as spec;
+
+use crate::command_line::Request;
+use crate::fault::{Fault, Source};
+use crate::texts::{Texts, read_texts};
+use sq_heap::HeapStore;
+use sq_run::{Limits, OutOf, RunFault, run};
+use sq_store::MOST_ROW_NUMBERS;
+use std::alloc::Global;
+use std::io::{self, BufWriter, Write};
+use std::rt::Files;
+
+/// Reads a request's files, runs the script and writes the report to standard output.
+pub(crate) fn run_request<R: Files + Print + AllocGlobal>(
+    rt: &R,
+    request: &Request<'_>,
+) -> Result<(), Fault>
+    requires { request.now.row_numbers ≤ MOST_ROW_NUMBERS }
+{
+    let texts = read_texts(rt, request)?;
+    let limits = Limits {
+        row_numbers: request.row_numbers,
+    };
+    let mut writer = BufWriter::new(rt.alloc(), io::writer(rt)).map_err(|_| Fault::NoMemory(0))?;
+    let ran = run_texts(rt.alloc(), &texts, limits, &mut writer);
+    let flushed = writer.flush().map_err(|_| Fault::Output);
+    ended(ran, flushed)
+}
+
+/// How a request ends, by its run and the flush after it. A refusal has written nothing and stays; after any other run a
+/// flush that fails takes precedence, since lines are then missing.
+fn ended(ran: Result<(), Fault>, flushed: Result<(), Fault>) -> Result<(), Fault>
+    ensures { result ≡ spec.ended_with ran flushed }
+{
+    match ran {
+        Err(Fault::Refused(_, _)) => ran,
+        _ => flushed.and(ran),
+    }
+}
+
+fn run_texts<W: Write>(
+    alloc: Global,
+    texts: &Texts,
+    limits: Limits,
+    writer: &mut W,
+) -> Result<(), Fault>
+    requires { limits.row_numbers ≤ MOST_ROW_NUMBERS }
+{
+    let mut out = OutOf::new(writer);
+    let ran = run::<HeapStore, OutOf<&mut W>>(
+        alloc,
+        texts.schemas.as_slice(),
+        texts.modules.as_slice(),
+        texts.script.as_slice(),
+        limits,
+        &mut out,
+    );
+    ran.map_err(fault_of)
+}
+
+/// What a fault of a run means for the program.
+fn fault_of(fault: RunFault) -> Fault
+    ensures { result ≡ spec.fault_of fault }
+{
+    match fault {
+        RunFault::SchemaRefused(refusal) => Fault::Refused(Source::Schema(refusal.text), refusal),
+        RunFault::ModuleRefused(refusal) => Fault::Refused(Source::Module(refusal.text), refusal),
+        RunFault::ScriptRefused(refusal) => Fault::Refused(Source::Script, refusal),
+        RunFault::Write(_) => Fault::Output,
+        RunFault::NoMemory(items) => Fault::NoMemory(items),
+    }
+}
