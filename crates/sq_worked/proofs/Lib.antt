@@ -1,5 +1,7 @@
 mod Rolled
 pub mod Spelled
 pub mod Computed
-pub mod TrialA
-pub mod TrialB
+pub mod TrialC
+pub mod TrialD
+pub mod TrialE
+pub mod TrialF

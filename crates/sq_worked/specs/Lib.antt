@@ -1,2 +1,4 @@
 pub mod Kit
 pub mod Reads
+pub mod Answer
+pub mod Texts
