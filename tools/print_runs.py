@@ -1,45 +1,134 @@
 #!/usr/bin/env python3
-"""Prints runs as equations of sq_model's definitions, for the files of sq_worked: the report of a script's calls is the
-wanted bytes.
+"""Prints runs of crates/sq_cases/data as equations on the definitions, for the files of crates/sq_worked/proofs.
 
-    print_runs.py FILE
+    print_runs.py texts                          the texts of the kit, for specs/Texts.antt
+    print_runs.py runs DATA "WHAT THEY SHOW" NAME..   the runs of these names of a file of data
 
-FILE names a run on each line: a name, what it shows, and a folder that has script.txt, stdout and, if the run has words on
-the command line, args. The texts of the runs are those of specs/Kit.antt.
+Texts are printed byte for byte, a line at a time; a run is the equation that its texts come to its report.
 """
 
 import os
+import re
 import sys
 
-from print_trees import Parser, in_quotes, listed
+DATA = os.path.join(os.path.dirname(os.path.abspath(__file__)), "..", "crates", "sq_cases", "data")
+KIT = (("schema", "schema.sql"), ("first_module", "module.sql"), ("second_module", "second-module.sql"),
+       ("scrolling_module", "scrolling-module.sql"))
+USUAL_ROW_NUMBERS = "1000000"
 
 
-def read(path):
-    with open(path) as file:
-        return file.read()
+def unescaped(line):
+    return re.sub(r"\\(x[0-9a-f]{2}|.)", lambda m: {"r": "\r", "n": "\n", "t": "\t", "\\": "\\"}.get(m.group(1)) or chr(int(m.group(1)[1:], 16)), line)
 
 
-def script_items(text):
-    parser = Parser(text)
-    parser.script()
-    return [term for term, _ in parser.parts]
+class Run:
+    def __init__(self, name):
+        self.name, self.rows, self.schemas, self.modules, self.script, self.report, self.refused = name, USUAL_ROW_NUMBERS, [], [], "", "", None
 
 
-def row_numbers(folder):
-    path = os.path.join(folder, "args")
-    words = read(path).split() if os.path.exists(path) else []
-    return words[words.index("--rows") + 1] if "--rows" in words else "1000000"
+def runs_of(path):
+    """The runs of a file of data: see the lines at its head."""
+    runs, part = [], None
+    with open(path, newline="") as file:
+        lines = file.read().split("\n")
+    for line in lines:
+        words = line.split(" ")
+        if line[:1] in ("|", "."):
+            part.append(unescaped(line[1:]) + ("\n" if line[0] == "|" else ""))
+        elif words[0] == "run":
+            runs.append(Run(words[1]))
+        elif words[0] == "rows":
+            runs[-1].rows = words[1]
+        elif words[0] in ("schema", "module"):
+            part = []
+            (runs[-1].schemas if words[0] == "schema" else runs[-1].modules).append(part)
+        elif words[0] in ("script", "report"):
+            part = []
+            setattr(runs[-1], words[0], part)
+        elif words[0] == "refused":
+            runs[-1].refused = words[1:]
+    for run in runs:
+        run.schemas, run.modules = ["".join(p) for p in run.schemas], ["".join(p) for p in run.modules]
+        run.script, run.report = "".join(run.script), "".join(run.report)
+    return runs
 
 
-def lines_of(text):
-    """The bytes of a text, a line at a time."""
-    lines = text.splitlines(True)
-    return " ++ ".join('codes "%s"' % in_quotes(line) for line in lines) if lines else "[]"
+def quoted(text):
+    escapes = {"\\": "\\\\", '"': '\\"', "\n": "\\n", "\t": "\\t", "\r": "\\r"}
+    return 'codes "%s"' % "".join(escapes.get(c, c) for c in text)
 
 
-def run(name, shows, folder, program):
-    items = script_items(read(os.path.join(folder, "script.txt")))
-    print("-- ---- %s\n" % shows)
-    print("abbrev %s-script : List ScriptItem\n%s-script =\n    %s\n" % (name, name, " ∷\n    ".join(items + ["[]"])))
-    print("%s : reported (%s %s) %s-script ≡\n    %s" % (name, program, row_numbers(folder), name, lines_of(read(os.path.join(folder, "stdout")))))
-    print("unfolding computed\n%s = refl\n" % name)
+def text_term(text):
+    lines = text.splitlines(True) if "\r" not in text else re.findall(r"[^\n]*\n|[^\n]+", text)
+    return "\n    ++ ".join(quoted(line) for line in lines) if lines else "[]"
+
+
+def defined(name, text):
+    return "abbrev %s : Bytes\n%s =\n    %s\n" % (name, name, text_term(text))
+
+
+def kit_texts():
+    found = {}
+    for name, file in KIT:
+        with open(os.path.join(DATA, file)) as text:
+            found[name] = text.read()
+    return found
+
+
+def print_texts():
+    print("-- The texts of the kit: a schema and its modules. Printed by tools/print_runs.py.")
+    print("use Rattle.std.specs.Prelude.{◌++◌, codes}\nuse Rattle.sq_model.specs.Report.{Bytes}\n")
+    print("\n".join(defined(name, text).replace("abbrev ", "abbrev pub ", 1) for name, text in kit_texts().items()), end="")
+
+
+def print_run(run, kit):
+    used, defs = set(), []
+
+    def named(kind, texts):
+        names = []
+        for place, text in enumerate(texts):
+            shared = [name for name, same in kit.items() if same == text or same == text + "\n"]
+            if shared:
+                names.append(shared[0])
+                used.add(shared[0])
+            else:
+                names.append("%s-%s-%d" % (run.name, kind, place))
+                defs.append(defined(names[-1], text))
+        return " ∷ ".join(names + ["[]"])
+
+    schemas, modules = named("schema", run.schemas), named("module", run.modules)
+    defs.append(defined(run.name + "-script", run.script))
+    defs.append("%s : answered (%s) (%s) %s-script %s ≡ Answer.reported (\n    %s)\nunfolding computed\n%s = refl\n"
+                % (run.name, schemas, modules, run.name, run.rows, text_term(run.report), run.name))
+    return "-- ---- %s\n\n%s" % (run.name.replace("_", " "), "\n".join(defs)), used
+
+
+def print_runs(path, shows, names):
+    runs = {run.name: run for run in runs_of(os.path.join(DATA, path))}
+    kit, used, bodies = kit_texts(), set(), []
+    for name in names:
+        body, these = print_run(runs[name], kit)
+        bodies.append(body)
+        used |= these
+    print("-- %s. Printed by tools/print_runs.py from sq_cases/data/%s." % (shows, path))
+    print("use Rattle.std.specs.Prelude.{◌≡◌, List, [], ◌∷◌, ◌++◌, codes, refl}")
+    print("use Rattle.sq_model.specs.Report.{Bytes}")
+    print("use Rattle.sq_worked.specs.Answer.{Answer, answered}")
+    if used:
+        print("use Rattle.sq_worked.specs.Texts.{%s}" % ", ".join(name for name, _ in KIT if name in used))
+    print("use Rattle.sq_worked.proofs.Computed.{computed}\n")
+    print("\n".join(bodies), end="")
+
+
+def main():
+    words = sys.argv[1:]
+    if words[:1] == ["texts"]:
+        print_texts()
+    elif words[:1] == ["runs"] and len(words) > 3:
+        print_runs(words[1], words[2], words[3:])
+    else:
+        raise SystemExit(__doc__)
+
+
+if __name__ == "__main__":
+    main()

@@ -1,7 +1,29 @@
-mod Rolled
-pub mod Spelled
 pub mod Computed
-pub mod TrialC
-pub mod TrialD
-pub mod TrialE
-pub mod TrialF
+mod SetFunctions
+mod Numbers
+mod TextValues
+mod Keys
+mod Conditions
+mod Subqueries
+mod Cursors
+mod ScrollingCursors
+mod Transactions
+mod ViewsAndPrivileges
+mod Unions
+mod VaryingTexts
+mod Faults
+mod TakenTexts
+mod CutTexts
+mod NoData
+mod SeveralRows
+mod LongTexts
+mod NoIndicator
+mod OutOfRange
+mod ZeroDivisors
+mod EscapeLengths
+mod EscapeSequences
+mod BrokenConstraints
+mod CursorStates
+mod IllFormed
+mod CheckOptions
+mod NoRowNumbers
