@@ -4,7 +4,8 @@
     print_runs.py texts                          the texts of the kit, for specs/Texts.antt
     print_runs.py runs DATA "WHAT THEY SHOW" NAME..   the runs of these names of a file of data
 
-Texts are printed byte for byte, a line at a time; a run is the equation that its texts come to its report.
+Texts are printed byte for byte, a line at a time; a run is the equation that its texts come to its report, or to
+its refusal.
 """
 
 import os
@@ -15,6 +16,8 @@ DATA = os.path.join(os.path.dirname(os.path.abspath(__file__)), "..", "crates", 
 KIT = (("schema", "schema.sql"), ("first_module", "module.sql"), ("second_module", "second-module.sql"),
        ("scrolling_module", "scrolling-module.sql"))
 USUAL_ROW_NUMBERS = "1000000"
+FAULTS = (("lexical", "sq_lex.specs.declared.fault.LexFaultKind"), ("schema_fault", "sq_model.specs.declared.refusal.SchemaFault"),
+          ("module_fault", "sq_model.specs.declared.refusal.ModuleFault"), ("script_fault", "sq_model.specs.declared.refusal.ScriptFault"))
 
 
 def unescaped(line):
@@ -81,6 +84,28 @@ def print_texts():
     print("\n".join(defined(name, text).replace("abbrev ", "abbrev pub ", 1) for name, text in kit_texts().items()), end="")
 
 
+LEXICAL = {"BadByte", "OpenText", "LongName", "NumberThenLetter", "LongNumber", "LongText"}
+GRAMMAR = {"Unexpected": "unexpected", "TooDeep": "too_deep", "EndOfText": "end_of_text"}
+
+
+def cause_term(kind, name):
+    if name in LEXICAL:
+        return "(Cause.lexical lexical.%s)" % name
+    return "Cause.%s" % GRAMMAR[name] if name in GRAMMAR else "(Cause.of_%s %s_fault.%s)" % (kind, kind, name)
+
+
+def answer_term(run):
+    """The answer that is wanted: a report, or a refusal's text, place and name."""
+    if not run.refused:
+        return "Answer.reported (\n    %s)" % text_term(run.report)
+    kind, text, place, name = run.refused
+    line, column = place.split(":")
+    fault = "record { line = %s; column = %s; cause = %s }" % (line, column, cause_term(kind, name))
+    if kind == "script":
+        return "Answer.script_refused (%s)" % fault
+    return "Answer.%s_refused (record { text = %d; fault = %s })" % (kind, int(text) - 1, fault)
+
+
 def print_run(run, kit):
     used, defs = set(), []
 
@@ -98,8 +123,8 @@ def print_run(run, kit):
 
     schemas, modules = named("schema", run.schemas), named("module", run.modules)
     defs.append(defined(run.name + "-script", run.script))
-    defs.append("%s : answered (%s) (%s) %s-script %s ≡ Answer.reported (\n    %s)\nunfolding computed\n%s = refl\n"
-                % (run.name, schemas, modules, run.name, run.rows, text_term(run.report), run.name))
+    defs.append("%s : answered (%s) (%s) %s-script %s ≡ %s\nunfolding computed\n%s = refl\n"
+                % (run.name, schemas, modules, run.name, run.rows, answer_term(run), run.name))
     return "-- ---- %s\n\n%s" % (run.name.replace("_", " "), "\n".join(defs)), used
 
 
@@ -111,13 +136,17 @@ def print_runs(path, shows, names):
         bodies.append(body)
         used |= these
     print("-- %s. Printed by tools/print_runs.py from sq_cases/data/%s." % (shows, path))
+    text = "\n".join(bodies)
     print("use Rattle.std.specs.Prelude.{◌≡◌, List, [], ◌∷◌, ◌++◌, codes, refl}")
+    for alias, module in FAULTS:
+        if alias + "." in text:
+            print("use Rattle.%s.TheVariants as %s" % (module, alias))
     print("use Rattle.sq_model.specs.Report.{Bytes}")
-    print("use Rattle.sq_worked.specs.Answer.{Answer, answered}")
+    print("use Rattle.sq_worked.specs.Answer.{Answer, %sanswered}" % ("Cause, " if "Cause." in text else ""))
     if used:
         print("use Rattle.sq_worked.specs.Texts.{%s}" % ", ".join(name for name, _ in KIT if name in used))
     print("use Rattle.sq_worked.proofs.Computed.{computed}\n")
-    print("\n".join(bodies), end="")
+    print(text, end="")
 
 
 def main():

@@ -12,6 +12,9 @@ mod ViewsAndPrivileges
 mod Unions
 mod VaryingTexts
 mod Faults
+mod RefusedTexts
+mod RefusedSchemas
+mod RefusedModules
 mod TakenTexts
 mod CutTexts
 mod NoData
