@@ -57,12 +57,15 @@ def runs_of(path):
 
 
 def quoted(text):
+    """A line as codes; bytes that are no characters stand by their numbers."""
     escapes = {"\\": "\\\\", '"': '\\"', "\n": "\\n", "\t": "\\t", "\r": "\\r"}
-    return 'codes "%s"' % "".join(escapes.get(c, c) for c in text)
+    pieces = re.findall(r"[\t\n\r -~]+|[^\t\n\r -~]", text)
+    return " ++ ".join('codes "%s"' % "".join(escapes.get(c, c) for c in piece) if piece.isascii() and piece >= "\t" and piece != "\x7f"
+                       else "(%d ∷ [])" % ord(piece) for piece in pieces)
 
 
 def text_term(text):
-    lines = text.splitlines(True) if "\r" not in text else re.findall(r"[^\n]*\n|[^\n]+", text)
+    lines = re.findall(r"[^\n]*\n|[^\n]+", text)
     return "\n    ++ ".join(quoted(line) for line in lines) if lines else "[]"
 
 
