@@ -10,12 +10,13 @@ ghost use Rattle.sq_heap.specs.Slots.{slot_at, table_of};
 ghost use Rattle.sq_heap.specs.Room.{KeepsRoom};
 ghost use Rattle.sq_heap.specs.Undo.{GoesBack, back, fits};
 
-use crate::index::{Index, enter_all, enter_slots, enter_undo};
+use crate::index::Index;
+use crate::indexes::{empty_indexes, enter_all, index_of};
 use crate::keys::{all_alone, first_with};
 use crate::undo::Undo;
 use sq_items::Items;
 use sq_store::{ApplyFault, Change};
-use sq_value::{Key, Row};
+use sq_value::{Key, Row, Value};
 use std::alloc::{AllocError, Global};
 use std::mem;
 
@@ -106,6 +107,16 @@ impl HeapTable {
         Some(at)
     }
 
+    /// Adds entries for a row that is to be put into a slot.
+    fn enter(&mut self, row: &[Value], at: usize) -> Result<(), AllocError>
+        ensures slots { self.new.slots ≡ self.old.slots }
+        ensures undo { self.new.undo ≡ self.old.undo }
+        ensures keys { keys_of self.new.indexes.items ≡ keys_of self.old.indexes.items }
+        ensures entered { OnOk result (in_all self.new.indexes.items row.now at ≡ true) }
+    {
+        enter_all(&mut self.indexes, row, at)
+    }
+
     /// Adds a row in a new slot.
     #[tactic(auto, using(crate::proofs::Slots::table_push, crate::proofs::Back::goes_back_new, crate::proofs::Back::goes_back_none, crate::proofs::Back::fits_new))]
     fn push(&mut self, row: Row) -> Result<(), AllocError>
@@ -118,7 +129,7 @@ impl HeapTable {
         ensures undo_room { KeepsRoom self.old.undo self.new.undo }
     {
         let at = self.slots.len();
-        enter_all(&mut self.indexes, row.as_slice(), at)?;
+        self.enter(row.as_slice(), at)?;
         self.slots.push(Some(row)).unwrap();
         self.undo.push(Undo { at, old: None }).unwrap();
         Ok(())
@@ -151,7 +162,7 @@ impl HeapTable {
         ensures undo_room { KeepsRoom self.old.undo self.new.undo }
     {
         if let Some(at) = self.place_of(number) {
-            enter_all(&mut self.indexes, row.as_slice(), at)?;
+            self.enter(row.as_slice(), at)?;
             self.set(at, Some(row));
         }
         Ok(())
@@ -258,6 +269,7 @@ impl HeapTable {
     }
 
     /// Makes each index anew that so many entries more would make slow.
+    #[tactic(auto, using(crate::proofs::Entries::same_length))]
     fn renew_all(&mut self, alloc: Global, count: usize) -> Result<(), AllocError>
         ensures slots { self.new.slots ≡ self.old.slots }
         ensures undo { self.new.undo ≡ self.old.undo }
@@ -302,7 +314,7 @@ impl HeapTable {
     }
 
     /// Whether no row that was changed from a place on shares one of the keys with another row.
-    #[tactic(auto, using(crate::proofs::Columns::slots_of_keys))]
+    #[tactic(auto, using(crate::proofs::Columns::slots_of_keys, crate::proofs::Keyed::each_holds))]
     fn are_alone(&self, from: usize) -> bool
         requires place { from ≤ length self.now.undo.items }
         requires columns { have_keys (keys_of self.now.indexes.items) (table_of self.now.slots.items).rows ≡ true }
@@ -317,6 +329,7 @@ impl HeapTable {
     }
 
     /// The row with a key, and its number.
+    #[tactic(auto, using(crate::proofs::Keyed::columns_at_index, crate::proofs::Entries::length_keys))]
     pub(crate) fn first_with(&self, key: usize, values: &Key) -> Option<(u64, &Row)>
         requires key { key < length (keys_of self.now.indexes.items) }
         requires columns { have_keys (keys_of self.now.indexes.items) (table_of self.now.slots.items).rows ≡ true }
@@ -364,34 +377,4 @@ impl HeapTable {
     {
         self.undo.clear();
     }
-}
-
-/// An index without entries for each key.
-fn empty_indexes(alloc: Global, keys: &[Items<usize>]) -> Result<Vec<Index>, AllocError>
-    ensures { IfOk result (λ indexes. keys_of indexes.items ≡ keys.now) }
-{
-    let mut indexes = Vec::new(alloc);
-    for columns in keys {
-        let columns = Items::from_slice(alloc, columns.as_slice())?;
-        indexes.push(Index::new(alloc, columns, 0)?)?;
-    }
-    Ok(indexes)
-}
-
-/// An index with room for so many entries, those of the rows in slots and of the rows that undoing brings back.
-fn index_of(
-    alloc: Global,
-    columns: Items<usize>,
-    count: usize,
-    slots: &[Option<Row>],
-    undo: &[Undo],
-) -> Result<Index, AllocError>
-    ensures columns { IfOk result (λ index. index.columns ≡ columns) }
-    ensures slots { IfOk result (λ index. slots_hold (λ row at. is_in row at index) 0 slots.now ≡ true) }
-    ensures undo { IfOk result (λ index. undo_holds (λ row at. is_in row at index) undo.now ≡ true) }
-{
-    let mut index = Index::new(alloc, columns, count)?;
-    enter_slots(&mut index, slots)?;
-    enter_undo(&mut index, undo)?;
-    Ok(index)
 }
