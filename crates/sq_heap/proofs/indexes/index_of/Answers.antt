@@ -1,8 +1,7 @@
-use Rattle.std.proofs.Common.{rules, ◌≡◌, ℕ, List, true, IfOk, OnOk, ◌+◌, ◌-◌, ◌*◌, ◌<◌, ◌≤◌, length, ◌/◌, ◌%◌, Bool, false, nat_eq, nat_lt, [], ◌∷◌, ◌++◌, slice_index_or, slice_set, bit_and, bit_or, Fits, w8, w32, w64, Bor, MutBor}
-use Rattle.sq_value.specs.declared.value.Value.{Value as SqlValue}
-use Rattle.sq_heap.specs.Index.{in_all, is_in, keys_of, slot_holds, slots_hold, undo_holds}
+use Rattle.sq_heap.specs.Index.{is_in}
+use Rattle.sq_heap.proofs.Holds.{slots_give}
 use Rattle.sq_heap.proofs.indexes.index_of.Goals as goal
 
--- src/indexes.rt:26:1
 pub returns-clause-slots : goal.returns-clause-slots
-returns-clause-slots c = ?
+returns-clause-slots c =
+    slots_give (is_in c.enter_slots.new.index) (is_in c.enter_undo.new.index) c.enter_undo.ensures.keeps 0 c.args.slots.now c.in_ok-enter_slots.ensures.entered
