@@ -1,6 +1,6 @@
 -- The indexes of a table, and the entries of one of them.
-use Rattle.std.proofs.Common.{◌≡◌, ℕ, zero, suc, ◌+◌, ◌<◌, ◌%◌, Bool, true, false, ◌&&◌, List, [], ◌∷◌, ◌++◌, length, map, take, get_or, slice_set, slice_index_or, arith, refl, sym, ap, ◌∙◌}
-use Rattle.std.specs.List.{list_all, list_any, fold}
+use Rattle.std.proofs.Common.{◌≡◌, ℕ, zero, suc, ◌+◌, ◌<◌, Bool, true, List, [], ◌∷◌, length, take, get_or, slice_set, arith, refl, sym, ap, ◌∙◌}
+use Rattle.std.specs.List.{list_all, fold}
 use Rattle.std.specs.Cmp.Lexicographic.{pointwise}
 use Rattle.std.specs.Hash.{items_Alike}
 use Rattle.std.specs.Hash.FoldHasher as folding
@@ -9,8 +9,7 @@ use Rattle.sq_value.specs.Key.{in_columns}
 use Rattle.sq_value.specs.laws.ValueOrder.{same_fed}
 use Rattle.sq_value.specs.declared.value.Value.{Value}
 use Rattle.sq_store.specs.Keys.{Keys}
-use Rattle.sq_heap.specs.Index.{columns_of, has_entry, hash_of, in_all, is_in, keys_of}
-use Rattle.sq_heap.specs.declared.index.Entry.{Entry}
+use Rattle.sq_heap.specs.Index.{columns_of, has_entry, hash_of, is_in, keys_of}
 use Rattle.sq_heap.specs.declared.index.Index.{Index}
 use Rattle.sq_heap.proofs.Holds.{both, left_of, right_of}
 

@@ -1,5 +1,5 @@
 -- What holds of each row in slots, and of each that undoing brings back.
-use Rattle.std.proofs.Common.{◌≡◌, ℕ, zero, suc, ◌+◌, ◌<◌, Bool, true, false, ◌&&◌, List, [], ◌∷◌, ◌++◌, length, take, get_or, slice_set, Some, None, is_some, arith, refl, sym, ap, ◌∙◌}
+use Rattle.std.proofs.Common.{◌≡◌, ℕ, zero, suc, ◌+◌, ◌<◌, Bool, true, false, ◌&&◌, List, [], ◌∷◌, ◌++◌, length, take, get_or, slice_set, Some, None, arith, refl, sym, ap, ◌∙◌}
 use Rattle.sq_value.specs.declared.value.Value.{Value}
 use Rattle.sq_heap.specs.Index.{Test, slot_holds, slots_hold, undo_holds}
 use Rattle.sq_heap.specs.Slots.{Slot, slot_at}

@@ -1,5 +1,5 @@
 -- Rows found through an index, and whether they share its key.
-use Rattle.std.proofs.Common.{◌≡◌, ℕ, zero, suc, ◌+◌, ◌<◌, Bool, true, false, ◌&&◌, ◌||◌, not, nat_eq, find, List, [], ◌∷◌, length, get_or, slice_index_or, if◌then◌else◌, Some, None, arith, refl, sym, ap, ◌∙◌}
+use Rattle.std.proofs.Common.{◌≡◌, ℕ, zero, suc, ◌+◌, ◌<◌, Bool, true, false, not, nat_eq, find, List, [], ◌∷◌, length, get_or, slice_index_or, if◌then◌else◌, Some, None, arith, refl, sym, ap, ◌∙◌}
 use Rattle.std.specs.List.{list_all, list_any}
 use Rattle.std.proofs.lemmas.Bool.{false≢true}
 use Rattle.std.proofs.lemmas.Grind.{common_steps}
@@ -8,8 +8,8 @@ use Rattle.sq_value.specs.Comparison.{is_same}
 use Rattle.sq_value.specs.Key.{in_columns}
 use Rattle.sq_value.specs.laws.ValueOrder.{same_equiv}
 use Rattle.sq_value.specs.declared.value.Value.{Value}
-use Rattle.sq_store.specs.Keys.{Keys, are_distinct, has_columns, has_key}
-use Rattle.sq_heap.specs.Alone.{is_alone, same_key, slots_have}
+use Rattle.sq_store.specs.Keys.{are_distinct, has_columns, has_key}
+use Rattle.sq_heap.specs.Alone.{is_alone, slots_have}
 use Rattle.sq_heap.specs.Index.{bucket_of, columns_of, enters, has_entry, hash_of, in_all, is_entry, is_in, keys_of, named, names_key, names_other, slot_has_key, slots_hold}
 use Rattle.sq_heap.specs.Slots.{Slot, rows_from, slot_at}
 use Rattle.sq_heap.specs.declared.index.Entry.{Entry}

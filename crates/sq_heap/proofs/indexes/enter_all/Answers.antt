@@ -1,6 +1,5 @@
-use Rattle.std.proofs.Common.{◌≡◌, ◌∙◌, ◌<◌, ℕ, List, arith, length, true}
-use Rattle.sq_value.specs.declared.value.Value.{Value}
-use Rattle.sq_heap.specs.Index.{in_all, is_in, keys_of}
+use Rattle.std.proofs.Common.{◌∙◌, ◌<◌, arith, length}
+use Rattle.sq_heap.specs.Index.{is_in}
 use Rattle.sq_heap.proofs.Entries.{all_set, all_taken, in_keeps, keys_set, length_put}
 use Rattle.sq_heap.proofs.indexes.enter_all.Goals as goal
 

@@ -1,4 +1,4 @@
-use Rattle.std.proofs.Common.{◌≡◌, ◌≤◌, ℕ, List, length, take, true}
+use Rattle.std.proofs.Common.{◌≡◌, ℕ, List, length, take, true}
 use Rattle.sq_value.specs.declared.value.Value.{Value}
 use Rattle.sq_heap.specs.Index.{in_all, keys_of}
 use Rattle.sq_heap.proofs.indexes.enter_all.Given as goal

@@ -1,8 +1,7 @@
-use Rattle.std.proofs.Common.{◌≡◌, ◌∙◌, ◌+◌, ◌++◌, ◌∷◌, [], List, ap, arith, length, rules, sym, true, vec_len}
+use Rattle.std.proofs.Common.{◌≡◌, ◌∙◌, ◌+◌, ◌++◌, ◌∷◌, [], ap, arith, rules, vec_len}
 use Rattle.std.proofs.lemmas.Grind.{common_steps}
 use Rattle.sq_store.specs.Content.{no_rows}
 use Rattle.sq_heap.specs.Heap.{all_committed, all_keys, all_now, are_listed}
-use Rattle.sq_heap.specs.declared.table.HeapTable.{HeapTable}
 use Rattle.sq_heap.proofs.Heap.{committed_push, keys_push, listed_new, now_push}
 use Rattle.sq_heap.proofs.store.empty_tables.Goals as goal
 

@@ -1,4 +1,4 @@
-use Rattle.std.proofs.Common.{◌≡◌, ◌∙◌, ap, length, refl, true}
+use Rattle.std.proofs.Common.{◌≡◌, ◌∙◌, ap, length, refl}
 use Rattle.sq_store.specs.Content.{no_rows}
 use Rattle.sq_store.specs.Keys.{keys_of}
 use Rattle.sq_store.specs.Sound.{is_sound}

@@ -1,7 +1,6 @@
 use Rattle.std.proofs.Common.{◌≡◌, ◌∙◌, List, ap}
-use Rattle.sq_store.specs.declared.table.Table.{Table}
 use Rattle.sq_store.specs.Content.{changed_by}
-use Rattle.sq_store.specs.Keys.{Keys, have_keys}
+use Rattle.sq_store.specs.Keys.{have_keys}
 use Rattle.sq_store.proofs.Sound.{have_keys_changed_by}
 use Rattle.sq_heap.specs.Index.{keys_of}
 use Rattle.sq_heap.specs.Slots.{Slot, table_of}

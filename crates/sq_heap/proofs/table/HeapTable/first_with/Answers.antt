@@ -1,4 +1,4 @@
-use Rattle.std.proofs.Common.{◌≡◌, ◌∙◌, ◌<◌, List, ap, arith, length, true}
+use Rattle.std.proofs.Common.{◌≡◌, ◌∙◌, ◌<◌, List, ap, arith, length}
 use Rattle.sq_store.specs.Keys.{are_distinct}
 use Rattle.sq_heap.specs.Alone.{slots_have}
 use Rattle.sq_heap.specs.Index.{in_all, is_in, keys_of, slots_hold}

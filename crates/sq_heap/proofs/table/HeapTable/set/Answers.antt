@@ -1,4 +1,4 @@
-use Rattle.std.proofs.Common.{◌≡◌, ◌∙◌, ◌+◌, ◌++◌, ◌∷◌, [], None, Some, ap, arith, get_or, length, refl, rules, slice_set, sym, true}
+use Rattle.std.proofs.Common.{◌≡◌, ◌∙◌, ◌++◌, ◌∷◌, [], ap, arith, get_or, length, rules, slice_set, sym}
 use Rattle.std.proofs.lemmas.Grind.{common_steps}
 use Rattle.sq_heap.specs.Index.{in_all, slots_hold, undo_holds}
 use Rattle.sq_heap.specs.Slots.{Slot}
