@@ -1,26 +1,40 @@
-use Rattle.std.proofs.Common.{◌≡◌, ◌∙◌, ◌++◌, ◌∷◌, [], List, None, Some, ap, length, sym, take, true}
+use Rattle.std.proofs.Common.{◌≡◌, ◌∙◌, ◌++◌, ◌∷◌, [], List, None, Some, ap, arith, length, sym, take, true}
 use Rattle.sq_heap.specs.Slots.{Slot}
 use Rattle.sq_heap.specs.Undo.{before_change, fits}
+use Rattle.sq_heap.specs.Index.{in_all, slot_holds, slots_hold, undo_holds}
 use Rattle.sq_heap.proofs.Distinct.{undone_fits}
+use Rattle.sq_heap.proofs.Holds.{holds_set, holds_take, undo_last, undo_rest}
 use Rattle.sq_heap.proofs.table.HeapTable.undo_last.Goals as goal
 
 pub invariant_of-self : goal.invariant_of-self
 invariant_of-self c =
     let slots = c.args.self.now.slots.items in
     let rest = c.pop.new.self.items in
+    let xs = c.args.self.now.indexes.items in
     let u = c.in-Some.field-0 in
     let split : c.args.self.now.undo.items ≡ c.pop.new.self.items ++ c.in-Some.field-0 ∷ [] = c.in-Some.ensures.items in
     let whole : fits (length slots) (rest ++ u ∷ []) ≡ true = ap (fits (length slots)) (sym split) ∙ c.args.self.now.undoable in
     let some : c.in-Some.field-0.old ≡ Some c.in-Some-old.row = cc in
-    record { undoable = ap (λ (o : Slot). fits (length (before_change slots u.at o)) rest) (sym some) ∙ undone_fits slots rest u whole }
+    let undone : undo_holds (in_all xs) (rest ++ u ∷ []) ≡ true = ap (undo_holds (in_all xs)) (sym split) ∙ c.args.self.now.undo_entered in
+    record {
+      undoable = ap (λ (o : Slot). fits (length (before_change slots u.at o)) rest) (sym some) ∙ undone_fits slots rest u whole;
+      entered = holds_set (in_all xs) 0 slots u.at (Some c.in-Some-old.row) u.at (omega arith) c.args.self.now.entered (ap (slot_holds (in_all xs) u.at) (sym some) ∙ undo_last (in_all xs) rest u undone);
+      undo_entered = undo_rest (in_all xs) rest u undone;
+    }
 
 pub invariant_of-self-in-None : goal.invariant_of-self-in-None
 invariant_of-self-in-None c =
     let slots = c.args.self.now.slots.items in
     let rest = c.pop.new.self.items in
+    let xs = c.args.self.now.indexes.items in
     let u = c.in-Some.field-0 in
     let split : c.args.self.now.undo.items ≡ c.pop.new.self.items ++ c.in-Some.field-0 ∷ [] = c.in-Some.ensures.items in
     let whole : fits (length slots) (rest ++ u ∷ []) ≡ true = ap (fits (length slots)) (sym split) ∙ c.args.self.now.undoable in
     let none : c.in-Some.field-0.old ≡ None = cc in
     let items : c.truncate.new.self.items ≡ take c.in-Some.field-0.at c.args.self.now.slots.items = cc in
-    record { undoable = ap (λ (ss : List Slot). fits (length ss) rest) items ∙ ap (λ (o : Slot). fits (length (before_change slots u.at o)) rest) (sym none) ∙ undone_fits slots rest u whole }
+    let undone : undo_holds (in_all xs) (rest ++ u ∷ []) ≡ true = ap (undo_holds (in_all xs)) (sym split) ∙ c.args.self.now.undo_entered in
+    record {
+      undoable = ap (λ (ss : List Slot). fits (length ss) rest) items ∙ ap (λ (o : Slot). fits (length (before_change slots u.at o)) rest) (sym none) ∙ undone_fits slots rest u whole;
+      entered = ap (slots_hold (in_all xs) 0) items ∙ holds_take (in_all xs) 0 slots u.at c.args.self.now.entered;
+      undo_entered = undo_rest (in_all xs) rest u undone;
+    }
