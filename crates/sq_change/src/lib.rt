@@ -4,6 +4,13 @@
 //! where a text must stand. Such a statement ends with 42000, as in the definitions; binding makes none.
 #![tactic(auto)]
 
+mod complete;
+mod constraint;
+mod given;
+mod reference;
+mod setting;
 mod statement;
+mod storing;
+mod target;
 
 pub use statement::{delete, insert, update};
