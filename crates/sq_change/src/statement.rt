@@ -9,9 +9,11 @@ use crate::target::{
     all_keys, changed_table, keys_assigned, numbers_changed, removed, replaced,
 };
 use sq_bound::{BoundInsert, BoundUpdate, ChangeTarget, Names};
+use sq_lex::Name;
 use sq_meaning::Status;
 use sq_query::{Fault, Inputs};
-use sq_store::{Change, Meter, Store};
+use sq_store::{Meter, Store};
+use sq_value::Value;
 use std::alloc::Global;
 
 /// Performs an insert statement (ISO/IEC 9075:1992, 13.8).
@@ -28,8 +30,9 @@ pub fn insert<N: Names, S: Store>(
     ensures keys { S.key_columns store.new ≡ S.key_columns store.old }
     ensures numbers { S.row_numbers store.new ≡ S.row_numbers store.old }
 {
-    let changed = inserted(alloc, names, insert, &*store, &inputs, meter)?;
-    complete(alloc, names, changed, store, &inputs)
+    let Inputs { user, parameters } = inputs;
+    let changed = inserted(alloc, names, insert, &*store, user, parameters, meter)?;
+    complete(alloc, names, changed, store, user, parameters)
 }
 
 /// The new rows of an insert statement, which need as many row numbers (own rule).
@@ -38,10 +41,11 @@ fn inserted<'a, N: Names, S: Store>(
     names: &'a N,
     insert: &BoundInsert,
     store: &'a S,
-    inputs: &'a Inputs<'a>,
+    user: Name,
+    parameters: &'a [Value],
     meter: &mut Meter,
 ) -> Result<Changed, Fault> {
-    let setting = Setting::new(alloc, names, store, inputs);
+    let setting = Setting::new(alloc, names, store, user, parameters);
     let table = base_table(names, insert.base)?;
     if insert.base >= store.table_count() {
         return Err(Fault::NOT_WELL_FORMED);
@@ -74,8 +78,9 @@ pub fn update<N: Names, S: Store>(
     ensures keys { S.key_columns store.new ≡ S.key_columns store.old }
     ensures numbers { S.row_numbers store.new ≡ S.row_numbers store.old }
 {
-    let changed = updated(alloc, names, update, on, &*store, &inputs, meter)?;
-    complete(alloc, names, changed, store, &inputs)
+    let Inputs { user, parameters } = inputs;
+    let changed = updated(alloc, names, update, on, &*store, user, parameters, meter)?;
+    complete(alloc, names, changed, store, user, parameters)
 }
 
 /// The changed rows of an update statement.
@@ -85,10 +90,11 @@ fn updated<'a, N: Names, S: Store>(
     update: &BoundUpdate,
     on: Option<u64>,
     store: &'a S,
-    inputs: &'a Inputs<'a>,
+    user: Name,
+    parameters: &'a [Value],
     meter: &mut Meter,
 ) -> Result<Changed, Fault> {
-    let setting = Setting::new(alloc, names, store, inputs);
+    let setting = Setting::new(alloc, names, store, user, parameters);
     let (named, place) = changed_table(&update.target);
     let table = base_table(names, place)?;
     if place >= store.table_count() {
@@ -121,8 +127,9 @@ pub fn delete<N: Names, S: Store>(
     ensures keys { S.key_columns store.new ≡ S.key_columns store.old }
     ensures numbers { S.row_numbers store.new ≡ S.row_numbers store.old }
 {
-    let changed = deleted(alloc, names, target, on, &*store, &inputs, meter)?;
-    complete(alloc, names, changed, store, &inputs)
+    let Inputs { user, parameters } = inputs;
+    let changed = deleted(alloc, names, target, on, &*store, user, parameters, meter)?;
+    complete(alloc, names, changed, store, user, parameters)
 }
 
 /// The removed rows of a delete statement.
@@ -132,10 +139,11 @@ fn deleted<'a, N: Names, S: Store>(
     target: &ChangeTarget,
     on: Option<u64>,
     store: &'a S,
-    inputs: &'a Inputs<'a>,
+    user: Name,
+    parameters: &'a [Value],
     meter: &mut Meter,
 ) -> Result<Changed, Fault> {
-    let setting = Setting::new(alloc, names, store, inputs);
+    let setting = Setting::new(alloc, names, store, user, parameters);
     let (named, place) = changed_table(target);
     let table = base_table(names, place)?;
     let lost_keys = all_keys(alloc, table)?;
