@@ -6,8 +6,9 @@ ghost use Rattle.sq_store.specs.Change.{insert_count, rows_put};
 ghost use Rattle.sq_store.specs.Content.{table_at};
 ghost use Rattle.sq_store.specs.Keys.{has_keys, keys_at};
 
-use crate::constraint::{check_options_met, row_put, rows_satisfied};
+use crate::constraint::{check_options_met, rows_satisfied};
 use crate::reference::{Referenced, referenced_by, references_satisfied};
+use crate::row::has_columns;
 use crate::setting::{Setting, base_table};
 use sq_bound::{Names, TablePlace};
 use sq_items::Items;
@@ -130,10 +131,13 @@ fn all_have_keys(keys: &[Items<usize>], changes: &[Change]) -> bool
     ensures { result ≡ list_all (has_keys keys.now) (rows_put changes.now) }
 {
     for change in changes {
-        if let Some(row) = row_put(change) {
-            if !has_all_keys(keys, row.as_slice()) {
-                return false;
-            }
+        let fits = match change {
+            Change::Insert(row) => has_all_keys(keys, row.as_slice()),
+            Change::Replace(_, row) => has_all_keys(keys, row.as_slice()),
+            Change::Remove(_) => true,
+        };
+        if !fits {
+            return false;
         }
     }
     true
@@ -143,8 +147,12 @@ fn all_have_keys(keys: &[Items<usize>], changes: &[Change]) -> bool
 fn has_all_keys(keys: &[Items<usize>], row: &[Value]) -> bool
     ensures { result ≡ has_keys keys.now row.now }
 {
-    keys.iter()
-        .all(|columns| columns.as_slice().iter().all(|column| *column < row.len()))
+    for columns in keys {
+        if !has_columns(row, columns.as_slice()) {
+            return false;
+        }
+    }
+    true
 }
 
 /// How many new rows there are.

@@ -1,15 +1,14 @@
 //! References between tables after a change (ISO/IEC 9075:1992, 11.8).
 
-ghost use Rattle.std.specs.Prelude.{◌<◌, length, IsTrue};
-ghost use Rattle.sq_value.specs.Key.{HasColumns};
+ghost use Rattle.std.specs.Prelude.{◌<◌, length};
 
-use crate::constraint::{is_null, row_put};
+use crate::row::{has_columns, has_null, row_put};
 use crate::setting::base_table;
 use sq_bound::{BaseTable, Names, Reference};
 use sq_meaning::Status;
 use sq_query::Fault;
 use sq_store::{Change, Meter, Store};
-use sq_value::{Key, Row, Value};
+use sq_value::{Key, Row};
 use std::alloc::Global;
 
 /// A row that has to be there: the one with these values in a key of a table.
@@ -56,6 +55,7 @@ fn push_referenced(
 
 /// The values of a row's referencing columns, in the order of the referenced key. Where one is null, the row refers to no
 /// row.
+#[tactic(auto, using(sq_store::proofs::Sound::HasColumns_test))]
 fn values_referred(
     alloc: Global,
     reference: &Reference,
@@ -66,22 +66,10 @@ fn values_referred(
     if !has_columns(row, columns) {
         return Err(Fault::NOT_WELL_FORMED);
     }
-    if columns.iter().any(|column| is_null(&row[*column])) {
+    if has_null(row, columns) {
         return Ok(None);
     }
     Ok(Some(Key::of_columns(alloc, row, columns)?))
-}
-
-/// Whether a row has the columns.
-fn has_columns(row: &[Value], columns: &[usize]) -> bool
-    ensures { IsTrue result → HasColumns row.now columns.now }
-{
-    for column in columns {
-        if *column >= row.len() {
-            return false;
-        }
-    }
-    true
 }
 
 /// Whether references hold after a change of a table: those of the rows that were put in it, and those to the keys whose
