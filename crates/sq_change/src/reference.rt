@@ -56,11 +56,7 @@ fn push_referenced(
 /// The values of a row's referencing columns, in the order of the referenced key. Where one is null, the row refers to no
 /// row.
 #[tactic(auto, using(sq_store::proofs::Sound::HasColumns_test))]
-fn values_referred(
-    alloc: Global,
-    reference: &Reference,
-    row: &Row,
-) -> Result<Option<Key>, Fault> {
+fn values_referred(alloc: Global, reference: &Reference, row: &Row) -> Result<Option<Key>, Fault> {
     let row = row.as_slice();
     let columns = reference.by_key.as_slice();
     if !has_columns(row, columns) {

@@ -5,9 +5,7 @@ ghost use Rattle.std.specs.Prelude.{◌≡◌, OnErr};
 use crate::complete::{Changed, complete};
 use crate::given::new_rows;
 use crate::setting::{Setting, base_table};
-use crate::target::{
-    all_keys, changed_table, keys_assigned, numbers_changed, removed, replaced,
-};
+use crate::target::{all_keys, changed_table, keys_assigned, numbers_changed, removed, replaced};
 use sq_bound::{BoundInsert, BoundUpdate, ChangeTarget, Names};
 use sq_lex::Name;
 use sq_meaning::Status;
