@@ -45,7 +45,8 @@ pub(crate) fn complete<N: Names, S: Store>(
     ensures keys { S.key_columns store.new ≡ S.key_columns store.old }
     ensures numbers { S.row_numbers store.new ≡ S.row_numbers store.old }
 {
-    let referenced = match rows_admitted(alloc, names, &changed, &*store, user, parameters) {
+    let setting = Setting::new(alloc, names, &*store, user, parameters);
+    let referenced = match rows_admitted(&setting, &changed) {
         Ok(referenced) => referenced,
         Err(fault) => {
             drop(changed);
@@ -74,20 +75,15 @@ pub(crate) fn complete<N: Names, S: Store>(
 }
 
 /// Whether the rows that are put in a table may be there, and the rows to which they refer.
-fn rows_admitted<'a, N: Names, S: Store>(
-    alloc: Global,
-    names: &'a N,
+fn rows_admitted<N: Names, S: Store>(
+    setting: &Setting<'_, N, S>,
     changed: &Changed,
-    store: &'a S,
-    user: Name,
-    parameters: &'a [Value],
 ) -> Result<Vec<Referenced>, Fault> {
-    let setting = Setting::new(alloc, names, store, user, parameters);
-    let table = base_table(names, changed.place)?;
+    let table = base_table(setting.names, changed.place)?;
     let changes = changed.changes.as_slice();
-    check_options_met(&setting, changed.named, changes)?;
-    rows_satisfied(&setting, table, changes)?;
-    referenced_by(alloc, table, changes)
+    check_options_met(setting, changed.named, changes)?;
+    rows_satisfied(setting, table, changes)?;
+    referenced_by(setting.alloc, table, changes)
 }
 
 /// Makes changes in the store, where no two rows have the same key afterwards.

@@ -78,15 +78,21 @@ pub(crate) fn references_satisfied<N: Names, S: Store>(
     table: usize,
     lost_keys: &[usize],
 ) -> Result<(), Fault> {
-    for row in referenced {
-        is_there(store, row)?;
-    }
+    all_there(store, referenced)?;
     if lost_keys.is_empty() {
         return Ok(());
     }
     for place in 0..store.table_count() {
         let references = base_table(names, place)?.references.as_slice();
         references_to(alloc, store, place, references, table, lost_keys)?;
+    }
+    Ok(())
+}
+
+/// Whether there are all these rows.
+fn all_there<S: Store>(store: &S, referenced: &[Referenced]) -> Result<(), Fault> {
+    for row in referenced {
+        is_there(store, row)?;
     }
     Ok(())
 }
