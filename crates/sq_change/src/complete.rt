@@ -152,7 +152,7 @@ fn has_all_keys(keys: &[Items<usize>], row: &[Value]) -> bool
 }
 
 /// How many new rows there are.
-pub(crate) fn count_inserts(changes: &[Change]) -> u64
+fn count_inserts(changes: &[Change]) -> u64
     ensures { result ≡ insert_count changes.now }
 {
     let mut count: u64 = 0;

@@ -10,7 +10,7 @@ use sq_value::{Row, Truth, Value};
 use std::alloc::Global;
 
 /// What a statement reads: what names mean, the tables as they are before it, and its inputs.
-#[derive(Clone, Copy)]
+#[derive(Drop)]
 pub(crate) struct Setting<'a, N: Names, S: Store> {
     pub(crate) alloc: Global,
     pub(crate) names: &'a N,
