@@ -3,7 +3,6 @@
 use crate::condition::rows;
 use crate::context::Context;
 use crate::fault::Fault;
-use crate::inputs::Inputs;
 use crate::needed::{Needed, is_among, view_at};
 use crate::table::{BaseRows, ViewRows};
 use sq_bound::Names;
@@ -17,12 +16,12 @@ pub(crate) fn view_tables<N: Names>(
     names: &N,
     needed: &Needed,
     bases: &[BaseRows<'_>],
-    inputs: &Inputs<'_>,
+    user: Name,
 ) -> Result<Vec<ViewRows>, Fault> {
     let mut views = Vec::new(alloc);
     for place in 0..needed.view_end() {
         if is_among(place, needed.views.as_slice()) {
-            let view = view_rows(alloc, names, place, inputs.user, bases, views.as_slice())?;
+            let view = view_rows(alloc, names, place, user, &*bases, views.as_slice())?;
             views.push(view)?;
         }
     }
@@ -43,10 +42,8 @@ fn view_rows<'a, N: Names>(
     };
     let context = Context {
         alloc,
-        inputs: Inputs {
-            user,
-            parameters: &[],
-        },
+        user,
+        parameters: &[],
         bases,
         views,
     };
