@@ -61,7 +61,7 @@ fn called<S: Store>(
     name: Name,
     arguments: &Arguments,
 ) -> Result<Action, ItemFault>
-    ensures action { IfOk result (λ action. item_of action ≡ item_of_script (script.Call module name arguments.now)) }
+    ensures action { IfOk result (λ action. item_of action ≡ item_of_script (script.Call «module» name arguments.now)) }
     ensures there { IfOk result (λ action. is_there (length session.now.tables) action ≡ true) }
     ensures of_meaning { IfErr result IsItemFault }
 {
