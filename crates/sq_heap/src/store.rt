@@ -72,6 +72,16 @@ impl Store for HeapStore {
         })
     }
 
+    #[tactic(auto, using(crate::proofs::Heap::length_map))]
+    fn table_count(&self) -> usize {
+        self.tables.len()
+    }
+
+    #[tactic(auto, using(crate::proofs::Heap::tables_of_keys))]
+    fn keys(&self, table: usize) -> &[Items<usize>] {
+        keys_in(self.keys.as_slice(), table)
+    }
+
     fn next_from(&self, table: usize, number: u64, meter: &mut Meter) -> Option<(u64, &Row)> {
         let found = self.tables[table].first_from(number)?;
         meter.hand_out();
@@ -91,7 +101,7 @@ impl Store for HeapStore {
         values: &Key,
         meter: &mut Meter,
     ) -> Option<(u64, &Row)> {
-        let columns = self.keys_of(table)[key].as_slice();
+        let columns = self.keys(table)[key].as_slice();
         let found = self.tables[table].first_with(columns, values)?;
         meter.hand_out();
         Some(found)
@@ -135,17 +145,6 @@ impl Store for HeapStore {
     fn rollback(&mut self) {
         self.last = None;
         rollback_all(&mut self.tables, &mut self.listed);
-    }
-}
-
-impl HeapStore {
-    /// The columns of each key of a table.
-    #[tactic(auto, using(crate::proofs::Heap::tables_of_keys))]
-    fn keys_of(&self, table: usize) -> &[Items<usize>]
-        requires { table < length self.now.tables.items }
-        ensures { result.now ≡ keys_at self.now.keys table }
-    {
-        keys_in(self.keys.as_slice(), table)
     }
 }
 
