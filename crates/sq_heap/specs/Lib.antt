@@ -1,5 +1,6 @@
 pub mod Alone
 pub mod Heap
+pub mod Index
 pub mod Room
 pub mod Slots
 pub mod Undo
