@@ -4,6 +4,7 @@ use sq_items::Items;
 use sq_lex::Name;
 use sq_meaning::Status;
 use sq_value::Value;
+use std::alloc::Global;
 
 /// A status, and the targets and their indicators with what they were set to, in the order in which the parameters are
 /// declared.
@@ -20,4 +21,26 @@ pub struct Reply {
 pub struct Output {
     pub name: Name,
     pub value: Value,
+}
+
+/// How a statement ends.
+#[derive(Debug, Drop)]
+pub struct Done {
+    pub status: Status,
+    pub outputs: Items<Output>,
+}
+
+impl Done {
+    /// A status alone.
+    pub(crate) fn without_outputs(alloc: Global, status: Status) -> Done {
+        Done {
+            status,
+            outputs: Items::new(alloc),
+        }
+    }
+
+    /// The status of success alone.
+    pub(crate) fn successful(alloc: Global) -> Done {
+        Done::without_outputs(alloc, Status::SuccessfulCompletion)
+    }
 }
