@@ -9,7 +9,6 @@ use crate::context::Context;
 use crate::fault::Fault;
 use crate::found::Found;
 use crate::frame::{Frame, column_value};
-use crate::inputs::Inputs;
 use sq_bound::{BoundExpr, Input};
 use sq_value::{Row, Text, Value};
 
@@ -21,7 +20,7 @@ pub(crate) fn value<'a>(
 ) -> Result<Found<'a>, Fault> {
     match expr {
         BoundExpr::Literal(value) => Ok(Found::lent(value)),
-        BoundExpr::Parameter(input) => input_value(*input, &context.inputs),
+        BoundExpr::Parameter(input) => input_value(*input, context.parameters),
         BoundExpr::User => user_value(context),
         BoundExpr::Column(place) => column_value(*place, frame),
         BoundExpr::SetFunction(number) => function_value(*number, frame),
@@ -49,12 +48,12 @@ fn function_value<'a>(number: usize, frame: &Frame<'a>) -> Result<Found<'a>, Fau
 }
 
 /// A parameter's value, and null where its indicator is below zero.
-fn input_value<'a>(input: Input, inputs: &Inputs<'a>) -> Result<Found<'a>, Fault> {
-    let value = parameter_at(input.parameter, inputs)?;
+fn input_value<'a>(input: Input, parameters: &'a [Value]) -> Result<Found<'a>, Fault> {
+    let value = parameter_at(input.parameter, parameters)?;
     match input.indicator {
         None => Ok(Found::lent(value)),
         Some(indicator) => {
-            if is_below_zero(parameter_at(indicator, inputs)?) {
+            if is_below_zero(parameter_at(indicator, parameters)?) {
                 Ok(Found::made(Value::Null))
             } else {
                 Ok(Found::lent(value))
@@ -63,8 +62,8 @@ fn input_value<'a>(input: Input, inputs: &Inputs<'a>) -> Result<Found<'a>, Fault
     }
 }
 
-fn parameter_at<'a>(position: usize, inputs: &Inputs<'a>) -> Result<&'a Value, Fault> {
-    match inputs.parameters.get(position) {
+fn parameter_at(position: usize, parameters: &[Value]) -> Result<&Value, Fault> {
+    match parameters.get(position) {
         Some(value) => Ok(value),
         None => Err(Fault::NOT_WELL_FORMED),
     }
@@ -79,7 +78,7 @@ fn is_below_zero(value: &Value) -> bool {
 
 /// USER has 18 characters (own rule).
 fn user_value<'a>(context: &Context<'_>) -> Result<Found<'a>, Fault> {
-    let name = context.inputs.user;
+    let name = context.user;
     let mut codes = [b' '; 18];
     codes[..name.codes().len()].copy_from_slice(name.codes());
     if !is_text(&codes) {

@@ -11,7 +11,10 @@ use std::alloc::Global;
 
 /// The rows of a query expression: terms are joined from left to right.
 #[cycle(query_rows)]
-pub(crate) fn query_rows(query: &BoundQuery, context: &Context<'_>) -> Result<Vec<Row>, Fault> {
+pub(crate) fn query_rows<'a>(
+    query: &'a BoundQuery,
+    context: &'a Context<'a>,
+) -> Result<Vec<Row>, Fault> {
     let mut so_far = term_rows(&query.first, context)?;
     for union in query.rest.as_slice() {
         match term_rows(&union.term, context) {
@@ -23,7 +26,7 @@ pub(crate) fn query_rows(query: &BoundQuery, context: &Context<'_>) -> Result<Ve
 }
 
 #[cycle(query_rows)]
-fn term_rows(term: &BoundTerm, context: &Context<'_>) -> Result<Vec<Row>, Fault> {
+fn term_rows<'a>(term: &'a BoundTerm, context: &'a Context<'a>) -> Result<Vec<Row>, Fault> {
     match term {
         BoundTerm::Specification(query) => rows(query, None, context),
         BoundTerm::Bracketed(query) => query_rows(query.get(), context),

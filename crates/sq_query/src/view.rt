@@ -3,10 +3,10 @@
 use crate::condition::rows;
 use crate::context::Context;
 use crate::fault::Fault;
-use crate::inputs::Inputs;
 use crate::needed::{Needed, is_among, view_at};
 use crate::table::{BaseRows, ViewRows};
 use sq_bound::Names;
+use sq_lex::Name;
 use std::alloc::Global;
 
 /// The rows of the needed views. A view names only earlier ones, so they are evaluated by rising places. What a view
@@ -16,21 +16,12 @@ pub(crate) fn view_tables<N: Names>(
     names: &N,
     needed: &Needed,
     bases: &[BaseRows<'_>],
-    inputs: Inputs<'_>,
+    user: Name,
 ) -> Result<Vec<ViewRows>, Fault> {
     let mut views = Vec::new(alloc);
     for place in 0..needed.view_end() {
         if is_among(place, needed.views.as_slice()) {
-            let context = Context {
-                alloc,
-                inputs: Inputs {
-                    user: inputs.user,
-                    parameters: &[],
-                },
-                bases,
-                views: views.as_slice(),
-            };
-            let view = view_rows(names, place, &context)?;
+            let view = view_rows(alloc, names, place, user, &*bases, views.as_slice())?;
             views.push(view)?;
         }
     }
@@ -38,11 +29,25 @@ pub(crate) fn view_tables<N: Names>(
 }
 
 /// The rows of a view, or the status that its query ends with. Only what a statement then reads delivers the status.
-fn view_rows<N: Names>(names: &N, place: usize, context: &Context<'_>) -> Result<ViewRows, Fault> {
+fn view_rows<'a, N: Names>(
+    alloc: Global,
+    names: &'a N,
+    place: usize,
+    user: Name,
+    bases: &'a [BaseRows<'a>],
+    views: &'a [ViewRows],
+) -> Result<ViewRows, Fault> {
     let Some(view) = view_at(names, place) else {
         return Err(Fault::NOT_WELL_FORMED);
     };
-    match rows(&view.query, None, context) {
+    let context = Context {
+        alloc,
+        user,
+        parameters: &[],
+        bases,
+        views,
+    };
+    match rows(&view.query, None, &context) {
         Ok(rows) => Ok(ViewRows {
             place,
             rows,
@@ -50,7 +55,7 @@ fn view_rows<N: Names>(names: &N, place: usize, context: &Context<'_>) -> Result
         }),
         Err(Fault::Status(status)) => Ok(ViewRows {
             place,
-            rows: Vec::new(context.alloc),
+            rows: Vec::new(alloc),
             status: Some(status),
         }),
         Err(Fault::NoMemory) => Err(Fault::NoMemory),
