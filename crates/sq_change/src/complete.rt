@@ -9,10 +9,11 @@ ghost use Rattle.sq_store.specs.Keys.{has_keys, keys_at};
 use crate::constraint::{check_options_met, row_put, rows_satisfied};
 use crate::reference::{Referenced, referenced_by, references_satisfied};
 use crate::setting::{Setting, base_table};
-use sq_bound::{BaseTable, Names, TablePlace};
+use sq_bound::{Names, TablePlace};
 use sq_items::Items;
+use sq_lex::Name;
 use sq_meaning::Status;
-use sq_query::{Fault, Inputs};
+use sq_query::Fault;
 use sq_store::{ApplyFault, Change, Store};
 use sq_value::Value;
 use std::alloc::Global;
@@ -35,32 +36,27 @@ pub(crate) fn complete<N: Names, S: Store>(
     names: &N,
     changed: Changed,
     store: &mut S,
-    inputs: Inputs<'_>,
+    user: Name,
+    parameters: &[Value],
 ) -> Result<(), Fault>
     ensures err { OnErr result (S.content_now store.new ≡ S.content_now store.old) }
     ensures committed { S.committed store.new ≡ S.committed store.old }
     ensures keys { S.key_columns store.new ≡ S.key_columns store.old }
     ensures numbers { S.row_numbers store.new ≡ S.row_numbers store.old }
 {
-    let Changed {
-        named,
-        place,
-        changes,
-        lost_keys,
-    } = changed;
-    let setting = Setting {
-        alloc,
-        names,
-        store: &*store,
-        inputs,
-    };
-    let referenced = match rows_admitted(&setting, named, place, changes.as_slice()) {
+    let referenced = match rows_admitted(alloc, names, &changed, &*store, user, parameters) {
         Ok(referenced) => referenced,
         Err(fault) => {
-            drop(changes);
+            drop(changed);
             return Err(fault);
         }
     };
+    let Changed {
+        place,
+        changes,
+        lost_keys,
+        ..
+    } = changed;
     apply(alloc, store, place, changes)?;
     let satisfied = references_satisfied(
         alloc,
@@ -77,16 +73,20 @@ pub(crate) fn complete<N: Names, S: Store>(
 }
 
 /// Whether the rows that are put in a table may be there, and the rows to which they refer.
-fn rows_admitted<N: Names, S: Store>(
-    setting: &Setting<'_, N, S>,
-    named: TablePlace,
-    place: usize,
-    changes: &[Change],
+fn rows_admitted<'a, N: Names, S: Store>(
+    alloc: Global,
+    names: &'a N,
+    changed: &Changed,
+    store: &'a S,
+    user: Name,
+    parameters: &'a [Value],
 ) -> Result<Vec<Referenced>, Fault> {
-    let table = base_table(setting.names, place)?;
-    check_options_met(setting, named, changes)?;
-    rows_satisfied(setting, table, changes)?;
-    referenced_by(setting.alloc, table, changes)
+    let setting = Setting::new(alloc, names, store, user, parameters);
+    let table = base_table(names, changed.place)?;
+    let changes = changed.changes.as_slice();
+    check_options_met(&setting, changed.named, changes)?;
+    rows_satisfied(&setting, table, changes)?;
+    referenced_by(alloc, table, changes)
 }
 
 /// Makes changes in the store, where no two rows have the same key afterwards.
