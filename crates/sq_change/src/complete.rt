@@ -35,7 +35,7 @@ pub(crate) fn complete<N: Names, S: Store>(
     names: &N,
     changed: Changed,
     store: &mut S,
-    inputs: Inputs<'_>,
+    inputs: &Inputs<'_>,
 ) -> Result<(), Fault>
     ensures err { OnErr result (S.content_now store.new ≡ S.content_now store.old) }
     ensures committed { S.committed store.new ≡ S.committed store.old }
@@ -48,13 +48,7 @@ pub(crate) fn complete<N: Names, S: Store>(
         changes,
         lost_keys,
     } = changed;
-    let setting = Setting {
-        alloc,
-        names,
-        store: &*store,
-        inputs,
-    };
-    let referenced = match rows_admitted(&setting, named, place, changes.as_slice()) {
+    let referenced = match rows_admitted(alloc, names, named, place, changes.as_slice(), &*store, inputs) {
         Ok(referenced) => referenced,
         Err(fault) => {
             drop(changes);
@@ -77,16 +71,20 @@ pub(crate) fn complete<N: Names, S: Store>(
 }
 
 /// Whether the rows that are put in a table may be there, and the rows to which they refer.
-fn rows_admitted<N: Names, S: Store>(
-    setting: &Setting<'_, N, S>,
+fn rows_admitted<'a, N: Names, S: Store>(
+    alloc: Global,
+    names: &'a N,
     named: TablePlace,
     place: usize,
     changes: &[Change],
+    store: &'a S,
+    inputs: &'a Inputs<'a>,
 ) -> Result<Vec<Referenced>, Fault> {
-    let table = base_table(setting.names, place)?;
-    check_options_met(setting, named, changes)?;
-    rows_satisfied(setting, table, changes)?;
-    referenced_by(setting.alloc, table, changes)
+    let setting = Setting::new(alloc, names, store, inputs);
+    let table = base_table(names, place)?;
+    check_options_met(&setting, named, changes)?;
+    rows_satisfied(&setting, table, changes)?;
+    referenced_by(alloc, table, changes)
 }
 
 /// Makes changes in the store, where no two rows have the same key afterwards.

@@ -71,7 +71,7 @@ fn rows_found<N: Names, S: Store>(
         setting.names,
         query,
         setting.store,
-        setting.inputs,
+        setting.inputs(),
         meter,
     )?;
     if rows.is_empty() {

@@ -1,5 +1,7 @@
 //! What a statement reads.
 
+ghost use Rattle.std.specs.Prelude.{◌≡◌};
+
 use sq_bound::{BaseTable, BoundCond, BoundExpr, Leaf, Names, TableBody, TablePlace};
 use sq_query::{Fault, Inputs, truth_of, value_of};
 use sq_store::Store;
@@ -7,17 +9,42 @@ use sq_value::{Row, Truth, Value};
 use std::alloc::Global;
 
 /// What a statement reads: what names mean, the tables as they are before it, and its inputs.
+#[derive(Drop)]
 pub(crate) struct Setting<'a, N: Names, S: Store> {
     pub(crate) alloc: Global,
     pub(crate) names: &'a N,
     pub(crate) store: &'a S,
-    pub(crate) inputs: Inputs<'a>,
+    inputs: &'a Inputs<'a>,
 }
 
 impl<'a, N: Names, S: Store> Setting<'a, N, S> {
+    pub(crate) fn new(
+        alloc: Global,
+        names: &'a N,
+        store: &'a S,
+        inputs: &'a Inputs<'a>,
+    ) -> Setting<'a, N, S>
+        ensures { result.store.now ≡ store.now }
+    {
+        Setting {
+            alloc,
+            names,
+            store,
+            inputs,
+        }
+    }
+
+    /// The user and the parameters' values.
+    pub(crate) fn inputs(&self) -> Inputs<'a> {
+        Inputs {
+            user: self.inputs.user,
+            parameters: self.inputs.parameters,
+        }
+    }
+
     /// The value of an expression, which may read a row of a base table.
     pub(crate) fn value(&self, expr: &BoundExpr, row: Option<&Row>) -> Result<Value, Fault> {
-        value_of(self.alloc, self.names, expr, row, self.store, self.inputs)
+        value_of(self.alloc, self.names, expr, row, self.store, self.inputs())
     }
 
     /// Whether a condition holds of a row of a base table.
@@ -28,7 +55,7 @@ impl<'a, N: Names, S: Store> Setting<'a, N, S> {
             condition,
             row,
             self.store,
-            self.inputs,
+            self.inputs(),
         )
     }
 }

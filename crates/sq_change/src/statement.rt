@@ -28,28 +28,26 @@ pub fn insert<N: Names, S: Store>(
     ensures keys { S.key_columns store.new ≡ S.key_columns store.old }
     ensures numbers { S.row_numbers store.new ≡ S.row_numbers store.old }
 {
-    let setting = Setting {
-        alloc,
-        names,
-        store: &*store,
-        inputs,
-    };
-    let changed = inserted(&setting, insert, meter)?;
-    complete(alloc, names, changed, store, inputs)
+    let changed = inserted(alloc, names, insert, &*store, &inputs, meter)?;
+    complete(alloc, names, changed, store, &inputs)
 }
 
 /// The new rows of an insert statement, which need as many row numbers (own rule).
-fn inserted<N: Names, S: Store>(
-    setting: &Setting<'_, N, S>,
+fn inserted<'a, N: Names, S: Store>(
+    alloc: Global,
+    names: &'a N,
     insert: &BoundInsert,
+    store: &'a S,
+    inputs: &'a Inputs<'a>,
     meter: &mut Meter,
 ) -> Result<Changed, Fault> {
-    let table = base_table(setting.names, insert.base)?;
-    if insert.base >= setting.store.table_count() {
+    let setting = Setting::new(alloc, names, store, inputs);
+    let table = base_table(names, insert.base)?;
+    if insert.base >= store.table_count() {
         return Err(Fault::NOT_WELL_FORMED);
     }
-    let changes = new_rows(setting, insert, table, meter)?;
-    if changes.len() as u64 > setting.store.numbers_left(insert.base) {
+    let changes = new_rows(&setting, insert, table, meter)?;
+    if changes.len() as u64 > store.numbers_left(insert.base) {
         drop(changes);
         return Err(Fault::Status(Status::NoRowNumberLeft));
     }
@@ -57,7 +55,7 @@ fn inserted<N: Names, S: Store>(
         named: insert.table,
         place: insert.base,
         changes,
-        lost_keys: Vec::new(setting.alloc),
+        lost_keys: Vec::new(alloc),
     })
 }
 
@@ -76,32 +74,30 @@ pub fn update<N: Names, S: Store>(
     ensures keys { S.key_columns store.new ≡ S.key_columns store.old }
     ensures numbers { S.row_numbers store.new ≡ S.row_numbers store.old }
 {
-    let setting = Setting {
-        alloc,
-        names,
-        store: &*store,
-        inputs,
-    };
-    let changed = updated(&setting, update, on, meter)?;
-    complete(alloc, names, changed, store, inputs)
+    let changed = updated(alloc, names, update, on, &*store, &inputs, meter)?;
+    complete(alloc, names, changed, store, &inputs)
 }
 
 /// The changed rows of an update statement.
-fn updated<N: Names, S: Store>(
-    setting: &Setting<'_, N, S>,
+fn updated<'a, N: Names, S: Store>(
+    alloc: Global,
+    names: &'a N,
     update: &BoundUpdate,
     on: Option<u64>,
+    store: &'a S,
+    inputs: &'a Inputs<'a>,
     meter: &mut Meter,
 ) -> Result<Changed, Fault> {
+    let setting = Setting::new(alloc, names, store, inputs);
     let (named, place) = changed_table(&update.target);
-    let table = base_table(setting.names, place)?;
-    if place >= setting.store.table_count() {
+    let table = base_table(names, place)?;
+    if place >= store.table_count() {
         return Err(Fault::NOT_WELL_FORMED);
     }
     let assignments = update.assignments.as_slice();
-    let lost_keys = keys_assigned(setting.alloc, table, assignments)?;
-    let numbers = numbers_changed(setting, &update.target, on, meter)?;
-    let changes = replaced(setting, table, place, assignments, numbers.as_slice())?;
+    let lost_keys = keys_assigned(alloc, table, assignments)?;
+    let numbers = numbers_changed(&setting, &update.target, on, meter)?;
+    let changes = replaced(&setting, table, place, assignments, numbers.as_slice())?;
     Ok(Changed {
         named,
         place,
@@ -125,31 +121,29 @@ pub fn delete<N: Names, S: Store>(
     ensures keys { S.key_columns store.new ≡ S.key_columns store.old }
     ensures numbers { S.row_numbers store.new ≡ S.row_numbers store.old }
 {
-    let setting = Setting {
-        alloc,
-        names,
-        store: &*store,
-        inputs,
-    };
-    let changed = deleted(&setting, target, on, meter)?;
-    complete(alloc, names, changed, store, inputs)
+    let changed = deleted(alloc, names, target, on, &*store, &inputs, meter)?;
+    complete(alloc, names, changed, store, &inputs)
 }
 
 /// The removed rows of a delete statement.
-fn deleted<N: Names, S: Store>(
-    setting: &Setting<'_, N, S>,
+fn deleted<'a, N: Names, S: Store>(
+    alloc: Global,
+    names: &'a N,
     target: &ChangeTarget,
     on: Option<u64>,
+    store: &'a S,
+    inputs: &'a Inputs<'a>,
     meter: &mut Meter,
 ) -> Result<Changed, Fault> {
+    let setting = Setting::new(alloc, names, store, inputs);
     let (named, place) = changed_table(target);
-    let table = base_table(setting.names, place)?;
-    let lost_keys = all_keys(setting.alloc, table)?;
-    let numbers = numbers_changed(setting, target, on, meter)?;
+    let table = base_table(names, place)?;
+    let lost_keys = all_keys(alloc, table)?;
+    let numbers = numbers_changed(&setting, target, on, meter)?;
     Ok(Changed {
         named,
         place,
-        changes: removed(setting.alloc, numbers.as_slice())?,
+        changes: removed(alloc, numbers.as_slice())?,
         lost_keys,
     })
 }

@@ -35,7 +35,7 @@ pub(crate) fn numbers_changed<N: Names, S: Store>(
                 setting.names,
                 target,
                 setting.store,
-                setting.inputs,
+                setting.inputs(),
                 meter,
             )?;
             if numbers.is_empty() {
