@@ -6,14 +6,29 @@
 //! none.
 #![tactic(auto)]
 
+mod arithmetic;
+mod comparison;
+mod condition;
+mod context;
+mod expression;
 mod fault;
+mod found;
+mod frame;
+mod group;
 mod inputs;
+mod needed;
 mod order;
+mod predicate;
+mod row;
+mod select;
+mod set_function;
+mod table;
 mod target;
-mod value;
+mod union;
+mod view;
 
 pub use fault::Fault;
 pub use inputs::Inputs;
 pub use order::{ordered_rows, specification_rows};
-pub use target::{is_chosen, numbers_of, truth_of};
-pub use value::value_of;
+pub use row::{truth_of, value_of};
+pub use target::{is_chosen, numbers_of};
