@@ -121,6 +121,7 @@ pub(crate) fn row_at(rows: &[Row], place: usize) -> Option<&Row> {
 }
 
 /// The number and the row that a FETCH reaches, and how many numbers are passed then.
+#[derive(Clone, Copy)]
 pub(crate) struct Reached<'a> {
     pub(crate) passed: usize,
     pub(crate) number: u64,

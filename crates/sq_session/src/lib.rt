@@ -3,6 +3,7 @@
 #![tactic(auto)]
 
 mod admission;
+mod call;
 mod called;
 mod cursor;
 mod declared;

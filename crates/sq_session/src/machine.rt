@@ -1,7 +1,7 @@
 //! The tables and cursors of a session, and the statements that work on them.
 
 use crate::called::Called;
-use crate::cursor::{CursorState, NumbersCursor, next_there, opened, place_wanted, row_at};
+use crate::cursor::{CursorState, NumbersCursor, RowsCursor, next_there, opened, place_wanted, row_at};
 use crate::reply::Done;
 use crate::target::row_retrieved;
 use sq_bound::{
@@ -74,13 +74,13 @@ impl<S: Store> Machine<S> {
     }
 
     /// CLOSE (13.4).
-    pub(crate) fn close(&mut self, number: usize) -> Status {
+    pub(crate) fn close(&mut self, alloc: Global, number: usize) -> Result<Done, Fault> {
         match self.cursors.get(number) {
-            None => Status::SyntaxErrorOrAccessRuleViolation,
-            Some(CursorState::Closed) => Status::InvalidCursorState,
+            None => Err(Fault::NOT_WELL_FORMED),
+            Some(CursorState::Closed) => Err(Fault::Status(Status::InvalidCursorState)),
             Some(_) => {
                 self.cursors[number] = CursorState::Closed;
-                Status::SuccessfulCompletion
+                Ok(Done::successful(alloc))
             }
         }
     }
@@ -171,15 +171,17 @@ impl<S: Store> Machine<S> {
     }
 
     /// COMMIT (14.3) closes all cursors.
-    pub(crate) fn commit(&mut self) {
+    pub(crate) fn commit(&mut self, alloc: Global) -> Done {
         self.close_all();
         self.store.commit();
+        Done::successful(alloc)
     }
 
     /// ROLLBACK (14.4) closes all cursors.
-    pub(crate) fn rollback(&mut self) {
+    pub(crate) fn rollback(&mut self, alloc: Global) -> Done {
         self.close_all();
         self.store.rollback();
+        Done::successful(alloc)
     }
 
     /// The number that a positioned statement changes; none for a searched one.
@@ -238,7 +240,7 @@ fn number_on(cursor: &CursorState) -> Option<u64> {
 fn fetch_row(
     called: &Called<'_>,
     fetch: &BoundFetch,
-    cursor: &mut crate::cursor::RowsCursor,
+    cursor: &mut RowsCursor,
 ) -> Result<Done, Fault> {
     let rows = cursor.rows.as_slice();
     let place = place_wanted(fetch.orientation, called.values, rows.len(), cursor.place)?;

@@ -1,18 +1,15 @@
 //! A session: the modules, the tables, and the cursors.
 
 use crate::admission::admit;
-use crate::called::Called;
+use crate::call::{call, reply_of};
 use crate::machine::Machine;
-use crate::parameter::{all_fit, started_values};
-use crate::program::{BoundProcedure, Program};
+use crate::parameter::all_fit;
+use crate::program::Program;
 use crate::refusal::SessionFault;
-use crate::reply::{Done, Reply};
-use sq_bound::{BoundStatement, Names, TablePlace};
+use crate::reply::Reply;
+use sq_bound::{Names, TablePlace};
 use sq_catalog::Catalog;
-use sq_items::Items;
 use sq_lex::Name;
-use sq_meaning::Status;
-use sq_query::Fault;
 use sq_store::{Meter, Store};
 use sq_tree::ModuleText;
 use sq_value::{Row, Value};
@@ -67,37 +64,17 @@ impl<S: Store> Session<S> {
         procedure: usize,
         values: &[Value],
     ) -> Result<Reply, AllocError> {
-        let Some(procedure) = self.program.procedures.get(procedure) else {
-            return Ok(not_well_formed(alloc));
-        };
-        match &procedure.statement {
-            None => Ok(not_well_formed(alloc)),
-            Some(BoundStatement::Close(cursor)) => {
-                Ok(replied_with(alloc, self.machine.close(*cursor)))
-            }
-            Some(BoundStatement::Commit) => {
-                self.machine.commit();
-                Ok(replied_with(alloc, Status::SuccessfulCompletion))
-            }
-            Some(BoundStatement::Rollback) => {
-                self.machine.rollback();
-                Ok(replied_with(alloc, Status::SuccessfulCompletion))
-            }
-            Some(statement) => {
-                let mut meter = Meter::new();
-                let ended = perform(
-                    alloc,
-                    &self.catalog,
-                    &self.program,
-                    procedure,
-                    statement,
-                    values,
-                    &mut self.machine,
-                    &mut meter,
-                );
-                reply_of(alloc, ended, meter.count())
-            }
-        }
+        let mut meter = Meter::new();
+        let ended = call(
+            alloc,
+            &self.catalog,
+            &self.program,
+            procedure,
+            values,
+            &mut self.machine,
+            &mut meter,
+        );
+        reply_of(alloc, ended, meter.count())
     }
 
     /// The place of the base table of this owner and name.
@@ -111,63 +88,6 @@ impl<S: Store> Session<S> {
     /// The rows of the base table at a place, as they are now, with their numbers.
     pub fn rows(&self, alloc: Global, table: usize) -> Result<Vec<(u64, &Row)>, AllocError> {
         rows_of(alloc, &self.machine.store, table)
-    }
-}
-
-/// Performs a statement with the values stored in the parameters.
-fn perform<S: Store>(
-    alloc: Global,
-    catalog: &Catalog,
-    program: &Program,
-    procedure: &BoundProcedure,
-    statement: &BoundStatement,
-    values: &[Value],
-    machine: &mut Machine<S>,
-    meter: &mut Meter,
-) -> Result<Done, Fault> {
-    let values = started_values(alloc, procedure.parameters.as_slice(), values)?;
-    let called = Called {
-        alloc,
-        catalog,
-        cursors: program.cursors.as_slice(),
-        procedure,
-        values: values.as_slice(),
-    };
-    match statement {
-        BoundStatement::Open(cursor) => machine.open(&called, *cursor, meter),
-        BoundStatement::Fetch(fetch) => machine.fetch(&called, fetch, meter),
-        BoundStatement::Select(select) => machine.select(&called, select, meter),
-        BoundStatement::Insert(insert) => machine.insert(&called, insert, meter),
-        BoundStatement::Update(update) => machine.update(&called, update, meter),
-        BoundStatement::Delete(target) => machine.delete(&called, target, meter),
-        _ => Err(Fault::NOT_WELL_FORMED),
-    }
-}
-
-/// The reply of a statement that was performed, or of one that changed nothing.
-fn reply_of(alloc: Global, ended: Result<Done, Fault>, reads: u64) -> Result<Reply, AllocError> {
-    let Done { status, outputs } = match ended {
-        Ok(done) => done,
-        Err(Fault::Status(status)) => Done::without_outputs(alloc, status),
-        Err(Fault::NoMemory) => return Err(AllocError),
-    };
-    Ok(Reply {
-        status,
-        outputs,
-        reads,
-    })
-}
-
-fn not_well_formed(alloc: Global) -> Reply {
-    replied_with(alloc, Status::SyntaxErrorOrAccessRuleViolation)
-}
-
-/// A reply without outputs.
-fn replied_with(alloc: Global, status: Status) -> Reply {
-    Reply {
-        status,
-        outputs: Items::new(alloc),
-        reads: 0,
     }
 }
 
