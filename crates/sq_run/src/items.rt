@@ -108,7 +108,8 @@ fn listed_values(alloc: Global, arguments: &CommaList<Argument>) -> Result<Items
 {
     let mut values = Items::new(alloc);
     values.push(value_of(alloc, &arguments.first)?)?;
-    for argument in arguments.rest.as_slice() {
+    let rest = arguments.rest.as_slice();
+    for argument in rest {
         values.push(value_of(alloc, argument)?)?;
     }
     Ok(values)

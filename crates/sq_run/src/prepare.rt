@@ -194,7 +194,8 @@ fn actions_in<S: Store>(
     ensures of_meaning { IfErr result (IsOfMeaning 0) }
 {
     let mut actions = Vec::new(alloc);
-    for (place, item) in tree.items.as_slice().iter().enumerate() {
+    let items = tree.items.as_slice();
+    for (place, item) in items.iter().enumerate() {
         match action_of(alloc, session, item) {
             Ok(action) => actions.push(action)?,
             Err(fault) => {
