@@ -4,11 +4,11 @@ use Rattle.std.specs.Prelude.{OnOk, IfErr}
 use Rattle.sq_tree.specs.Schema.{schema_tokens}
 use Rattle.sq_tree.specs.Module.{module_tokens}
 use Rattle.sq_model.specs.Report.{Bytes}
-use Rattle.sq_session.specs.State.{State}
+use Rattle.sq_session.specs.Session.{Session}
 use Rattle.sq_run.specs.Asked.{AreAsked}
 use Rattle.sq_run.specs.Fault.{IsOpeningFault, IsScriptFault}
 use Rattle.sq_run.specs.Refused.{InOrder, RefusedText}
-use Rattle.sq_run.specs.Run.{Run, SomeTrees}
+use Rattle.sq_run.specs.Run.{IsStart, Run, SomeTrees}
 use Rattle.sq_run.specs.Steps.{Reported}
 use Rattle.sq_run.specs.Stop.{StoppedAt, Wrote, is_write}
 use Rattle.sq_run.specs.declared.action.Action.{Action}
@@ -17,9 +17,9 @@ use Rattle.sq_run.specs.declared.refusal.RunFault.TheVariants.{SchemaRefused, Mo
 
 -- ---- a session that performs what the script asks for
 
-abbrev pub run_of : {schemas modules : List Bytes} {script : Bytes} {tables : ℕ} (start : State) (actions : List Action)
-    → SomeTrees schema_tokens schemas → SomeTrees module_tokens modules → AreAsked tables script actions → Run schemas modules script
-run_of start actions s m asked = record {
+abbrev pub run_of : {schemas modules : List Bytes} {script : Bytes} (start : Session) (actions : List Action) → IsStart start
+    → SomeTrees schema_tokens schemas → SomeTrees module_tokens modules → AreAsked script actions → Run schemas modules script
+run_of start actions is_start s m asked = record {
   schema_trees = s.0;
   module_trees = m.0;
   script_tree = asked.tree;
@@ -27,35 +27,36 @@ run_of start actions s m asked = record {
   modules_spell = m.1;
   script_spells = asked.spells;
   start = start;
+  is_start = is_start;
   actions = actions;
-  are_items = asked.are.are_items;
+  are_items = asked.are_items;
 }
 
-pub wrote_all : (schemas modules : List Bytes) (script : Bytes) (tables : ℕ) (start : State) (actions : List Action) (old new : Option Bytes) (answer : Result (Unit {0}) RunFault)
-    → SomeTrees schema_tokens schemas → SomeTrees module_tokens modules → AreAsked tables script actions → OnOk answer (Reported actions start old new)
+pub wrote_all : (schemas modules : List Bytes) (script : Bytes) (start : Session) (actions : List Action) (old new : Option Bytes) (answer : Result (Unit {0}) RunFault)
+    → IsStart start → SomeTrees schema_tokens schemas → SomeTrees module_tokens modules → AreAsked script actions → OnOk answer (Reported actions start old new)
     → OnOk answer ((r : Run schemas modules script) × Reported r.actions r.start old new)
-wrote_all schemas modules script tables start actions old new (Ok u) s m asked done = (run_of start actions s m asked, done)
-wrote_all schemas modules script tables start actions old new (Err e) s m asked done = done
+wrote_all schemas modules script start actions old new (Ok u) is_start s m asked done = (run_of start actions is_start s m asked, done)
+wrote_all schemas modules script start actions old new (Err e) is_start s m asked done = done
 
-wrote_by : (schemas modules : List Bytes) (script : Bytes) (tables : ℕ) (start : State) (actions : List Action) (old new : Option Bytes) (fault : RunFault)
-    → SomeTrees schema_tokens schemas → SomeTrees module_tokens modules → AreAsked tables script actions → StoppedAt actions start old new fault
+wrote_by : (schemas modules : List Bytes) (script : Bytes) (start : Session) (actions : List Action) (old new : Option Bytes) (fault : RunFault)
+    → IsStart start → SomeTrees schema_tokens schemas → SomeTrees module_tokens modules → AreAsked script actions → StoppedAt actions start old new fault
     → Wrote schemas modules script old new fault
-wrote_by schemas modules script tables start actions old new (SchemaRefused refusal) s m asked stop = absurd stop
-wrote_by schemas modules script tables start actions old new (ModuleRefused refusal) s m asked stop = absurd stop
-wrote_by schemas modules script tables start actions old new (ScriptRefused refusal) s m asked stop = absurd stop
-wrote_by schemas modules script tables start actions old new (Write bytes) s m asked stop = (run_of start actions s m asked, stop)
-wrote_by schemas modules script tables start actions old new (NoMemory zero) s m asked stop = stop
-wrote_by schemas modules script tables start actions old new (NoMemory (suc items)) s m asked stop = (run_of start actions s m asked, stop.0, stop.1)
+wrote_by schemas modules script start actions old new (SchemaRefused refusal) is_start s m asked stop = absurd stop
+wrote_by schemas modules script start actions old new (ModuleRefused refusal) is_start s m asked stop = absurd stop
+wrote_by schemas modules script start actions old new (ScriptRefused refusal) is_start s m asked stop = absurd stop
+wrote_by schemas modules script start actions old new (Write bytes) is_start s m asked stop = (run_of start actions is_start s m asked, stop)
+wrote_by schemas modules script start actions old new (NoMemory zero) is_start s m asked stop = stop
+wrote_by schemas modules script start actions old new (NoMemory (suc items)) is_start s m asked stop = (run_of start actions is_start s m asked, stop.0, stop.1)
 
-pub wrote_some : (schemas modules : List Bytes) (script : Bytes) (tables : ℕ) (start : State) (actions : List Action) (old new : Option Bytes) (answer : Result (Unit {0}) RunFault)
-    → SomeTrees schema_tokens schemas → SomeTrees module_tokens modules → AreAsked tables script actions → IfErr answer (StoppedAt actions start old new)
+pub wrote_some : (schemas modules : List Bytes) (script : Bytes) (start : Session) (actions : List Action) (old new : Option Bytes) (answer : Result (Unit {0}) RunFault)
+    → IsStart start → SomeTrees schema_tokens schemas → SomeTrees module_tokens modules → AreAsked script actions → IfErr answer (StoppedAt actions start old new)
     → IfErr answer (Wrote schemas modules script old new)
-wrote_some schemas modules script tables start actions old new (Ok u) s m asked stop = stop
-wrote_some schemas modules script tables start actions old new (Err fault) s m asked stop = wrote_by schemas modules script tables start actions old new fault s m asked stop
+wrote_some schemas modules script start actions old new (Ok u) is_start s m asked stop = stop
+wrote_some schemas modules script start actions old new (Err fault) is_start s m asked stop = wrote_by schemas modules script start actions old new fault is_start s m asked stop
 
 -- ---- such a session refuses no text
 
-refused_by : (schemas modules : List Bytes) (script : Bytes) (start : State) (actions : List Action) (old new : Option Bytes) (fault : RunFault)
+refused_by : (schemas modules : List Bytes) (script : Bytes) (start : Session) (actions : List Action) (old new : Option Bytes) (fault : RunFault)
     → StoppedAt actions start old new fault → RefusedText schemas modules script fault
 refused_by schemas modules script start actions old new (SchemaRefused refusal) stop = absurd stop
 refused_by schemas modules script start actions old new (ModuleRefused refusal) stop = absurd stop
@@ -63,12 +64,12 @@ refused_by schemas modules script start actions old new (ScriptRefused refusal) 
 refused_by schemas modules script start actions old new (Write bytes) stop = tt
 refused_by schemas modules script start actions old new (NoMemory items) stop = tt
 
-pub refused_none : (schemas modules : List Bytes) (script : Bytes) (start : State) (actions : List Action) (old new : Option Bytes) (answer : Result (Unit {0}) RunFault)
+pub refused_none : (schemas modules : List Bytes) (script : Bytes) (start : Session) (actions : List Action) (old new : Option Bytes) (answer : Result (Unit {0}) RunFault)
     → IfErr answer (StoppedAt actions start old new) → IfErr answer (RefusedText schemas modules script)
 refused_none schemas modules script start actions old new (Ok u) stop = stop
 refused_none schemas modules script start actions old new (Err fault) stop = refused_by schemas modules script start actions old new fault stop
 
-in_order : (schemas modules : List Bytes) (start : State) (actions : List Action) (old new : Option Bytes) (fault : RunFault)
+in_order : (schemas modules : List Bytes) (start : Session) (actions : List Action) (old new : Option Bytes) (fault : RunFault)
     → StoppedAt actions start old new fault → InOrder schemas modules fault
 in_order schemas modules start actions old new (SchemaRefused refusal) stop = absurd stop
 in_order schemas modules start actions old new (ModuleRefused refusal) stop = absurd stop
@@ -76,7 +77,7 @@ in_order schemas modules start actions old new (ScriptRefused refusal) stop = ab
 in_order schemas modules start actions old new (Write bytes) stop = tt
 in_order schemas modules start actions old new (NoMemory items) stop = tt
 
-pub order_none : (schemas modules : List Bytes) (start : State) (actions : List Action) (old new : Option Bytes) (answer : Result (Unit {0}) RunFault)
+pub order_none : (schemas modules : List Bytes) (start : Session) (actions : List Action) (old new : Option Bytes) (answer : Result (Unit {0}) RunFault)
     → IfErr answer (StoppedAt actions start old new) → IfErr answer (InOrder schemas modules)
 order_none schemas modules start actions old new (Ok u) stop = stop
 order_none schemas modules start actions old new (Err fault) stop = in_order schemas modules start actions old new fault stop

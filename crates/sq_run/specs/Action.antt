@@ -1,6 +1,4 @@
 -- What a script asks a session for.
-use Rattle.std.specs.Prelude.{ℕ, Bool, true, nat_lt, List}
-use Rattle.std.specs.List.{list_all}
 use Rattle.sq_meaning.specs.Environment.{TableName}
 use Rattle.sq_model.specs.Machine.{Call as MachineCall}
 use Rattle.sq_model.specs.Run.{Item}
@@ -21,11 +19,3 @@ table_of s = record { user = s.user; name = s.name }
 abbrev pub item_of : Action → Item
 item_of (Call c) = Item.call (call_of c)
 item_of (Show s) = Item.show (table_of s)
-
--- the table that is shown is one of so many
-abbrev pub is_there : ℕ → Action → Bool
-is_there tables (Call c) = true
-is_there tables (Show s) = nat_lt s.table tables
-
-abbrev pub all_there : ℕ → List Action → Bool
-all_there tables actions = list_all (is_there tables) actions

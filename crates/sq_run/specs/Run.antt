@@ -11,9 +11,11 @@ use Rattle.sq_tree.specs.Script.{script_tokens}
 use Rattle.sq_tree.specs.declared.module.ModuleText.{ModuleText}
 use Rattle.sq_tree.specs.declared.schema.SchemaText.{SchemaText}
 use Rattle.sq_tree.specs.declared.script.ScriptText.{ScriptText}
+use Rattle.sq_store.specs.Content.{no_rows}
 use Rattle.sq_model.specs.Report.{Bytes}
 use Rattle.sq_model.specs.Run.{item_of_script}
-use Rattle.sq_session.specs.State.{State}
+use Rattle.sq_session.specs.Session.{Session}
+use Rattle.sq_session.specs.State.{AreClosed}
 use Rattle.sq_run.specs.Action.{item_of}
 use Rattle.sq_run.specs.declared.action.Action.{Action}
 
@@ -37,6 +39,13 @@ AllSpell tokens_of _ _ = ⊥
 abbrev pub SomeTrees : {T : Type 0} → (T → List Lexeme) → List Bytes → Type 0
 SomeTrees {T = T} tokens_of all = (trees : List T) × AllSpell tokens_of all trees
 
+-- a session with empty tables and closed cursors
+pub record IsStart (s : Session) : Type 0 where
+  pub tables : ℕ
+  pub empty : s.state.tables ≡ no_rows tables
+  pub committed : s.state.committed ≡ no_rows tables
+  pub closed : AreClosed s.state.cursors
+
 -- trees that the texts spell, a session as it is before the first call, and what it is asked for: the items of the script, each with its number or place there
 pub record Run (schemas modules : List Bytes) (script : Bytes) : Type 0 where
   pub schema_trees : List SchemaText
@@ -45,6 +54,7 @@ pub record Run (schemas modules : List Bytes) (script : Bytes) : Type 0 where
   pub schemas_spell : AllSpell schema_tokens schemas schema_trees
   pub modules_spell : AllSpell module_tokens modules module_trees
   pub script_spells : Spells script (script_tokens script_tree)
-  pub start : State
+  pub start : Session
+  pub is_start : IsStart start
   pub actions : List Action
   pub are_items : map item_of actions ≡ map item_of_script script_tree.items

@@ -1,7 +1,7 @@
 -- How a run stops before its end.
 use Rattle.std.specs.Prelude.{◌≡◌, ◌<◌, ◌+◌, ℕ, zero, suc, Bool, true, false, List, length, take, Option}
 use Rattle.sq_model.specs.Report.{Bytes}
-use Rattle.sq_session.specs.State.{State}
+use Rattle.sq_session.specs.Session.{Session}
 use Rattle.sq_run.specs.Run.{Run}
 use Rattle.sq_run.specs.Steps.{Reported, ReportedPart}
 use Rattle.sq_run.specs.declared.action.Action.{Action}
@@ -22,13 +22,13 @@ is_write (Write bytes) = true
 is_write _ = false
 
 -- the first bytes of the report of so many items and one more
-pub record StoppedInside (bytes : ℕ) (actions : List Action) (start : State) (old new : Option Bytes) : Type 0 where
+pub record StoppedInside (bytes : ℕ) (actions : List Action) (start : Session) (old new : Option Bytes) : Type 0 where
   pub items : ℕ
   pub there : items < length actions
   pub reported : ReportedPart bytes (take (items + 1) actions) start old new
 
 -- What a session wrote of these items from this state on, where it stopped so.
-abbrev pub StoppedAt : List Action → State → Option Bytes → Option Bytes → RunFault → Type 0
+abbrev pub StoppedAt : List Action → Session → Option Bytes → Option Bytes → RunFault → Type 0
 StoppedAt actions start old new (SchemaRefused refusal) = ⊥
 StoppedAt actions start old new (ModuleRefused refusal) = ⊥
 StoppedAt actions start old new (ScriptRefused refusal) = ⊥

@@ -1,11 +1,11 @@
 //! From a script's items to calls and tables that are there.
-ghost use Rattle.std.specs.Prelude.{◌≡◌, length, map, true, IfErr, IfOk, IsTrue};
+ghost use Rattle.std.specs.Prelude.{◌≡◌, map, IfErr, IfOk, IsTrue};
 ghost use Rattle.sq_value.specs.Text.{IsText};
 ghost use Rattle.sq_tree.specs.declared.script.ScriptItem.TheVariants as script;
 ghost use Rattle.sq_meaning.specs.Spelled.{listed, signed_number};
 ghost use Rattle.sq_model.specs.Script as model;
 ghost use Rattle.sq_model.specs.Run.{item_of_script};
-ghost use Rattle.sq_run.specs.Action.{is_there, item_of};
+ghost use Rattle.sq_run.specs.Action.{item_of};
 ghost use Rattle.sq_run.specs.Fault.{IsItemFault};
 
 use crate::action::{Action, CallAction, ShowAction};
@@ -43,7 +43,6 @@ pub(crate) fn action_of<S: Store>(
     item: &ScriptItem,
 ) -> Result<Action, ItemFault>
     ensures action { IfOk result (λ action. item_of action ≡ item_of_script item.now) }
-    ensures there { IfOk result (λ action. is_there (length session.now.tables) action ≡ true) }
     ensures of_meaning { IfErr result IsItemFault }
 {
     match item {
@@ -62,7 +61,6 @@ fn called<S: Store>(
     arguments: &Arguments,
 ) -> Result<Action, ItemFault>
     ensures action { IfOk result (λ action. item_of action ≡ item_of_script (script.Call «module» name arguments.now)) }
-    ensures there { IfOk result (λ action. is_there (length session.now.tables) action ≡ true) }
     ensures of_meaning { IfErr result IsItemFault }
 {
     let Some(procedure) = session.procedure(module, name) else {
@@ -82,7 +80,6 @@ fn called<S: Store>(
 
 fn shown<S: Store>(session: &Session<S>, user: Name, name: Name) -> Result<Action, ItemFault>
     ensures action { IfOk result (λ action. item_of action ≡ item_of_script (script.Table user name)) }
-    ensures there { IfOk result (λ action. is_there (length session.now.tables) action ≡ true) }
     ensures of_meaning { IfErr result IsItemFault }
 {
     match session.table(user, name) {

@@ -1,5 +1,4 @@
-ghost use Rattle.std.specs.Prelude.{◌≡◌, ◌≤◌, false, length, true, IfErr, IfOk, OnErr, OnOk};
-ghost use Rattle.sq_run.specs.Action.{all_there, is_there};
+ghost use Rattle.std.specs.Prelude.{◌≡◌, ◌≤◌, false, IfErr, IfOk, OnOk};
 ghost use Rattle.sq_run.specs.Refused.{InOrder, RefusedText};
 ghost use Rattle.sq_run.specs.Run.{Run, texts};
 ghost use Rattle.sq_run.specs.Steps.{Reported, Step};
@@ -58,7 +57,6 @@ fn perform_all<S: Store, W: Out>(
     out: &mut W,
 ) -> Result<(), RunFault>
     requires open_out { W.failed out.old ≡ false }
-    requires there { all_there (length session.old.tables) actions.now ≡ true }
     ensures report { OnOk result (Reported actions.now session.old (W.taken out.old) (W.taken out.new)) }
     ensures stopped { IfErr result (StoppedAt actions.now session.old (W.taken out.old) (W.taken out.new)) }
     ensures still { OnOk result (W.failed out.new ≡ false) }
@@ -83,7 +81,6 @@ fn perform<S: Store>(
     session: &mut Session<S>,
     action: &Action,
 ) -> Result<Vec<u8>, AllocError>
-    requires { is_there (length session.old.tables) action.now ≡ true }
     ensures step { IfOk result (λ lines. Step action.now session.old lines.items session.new) }
 {
     match action {

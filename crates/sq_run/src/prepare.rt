@@ -6,7 +6,7 @@ ghost use Rattle.sq_tree.specs.Module.{module_tokens, module_depth};
 ghost use Rattle.sq_tree.specs.Script.{script_tokens, script_depth};
 ghost use Rattle.sq_session.specs.Refusal.{IsOfSomeModule};
 ghost use Rattle.sq_run.specs.Fault.{IsItemFault, IsOfMeaning, IsOpeningFault, IsRefusedScript, IsScriptFault, SomeRefused, run_fault};
-ghost use Rattle.sq_run.specs.Run.{AllSpell, SomeTrees, texts};
+ghost use Rattle.sq_run.specs.Run.{AllSpell, IsStart, SomeTrees, texts};
 ghost use Rattle.sq_run.specs.Asked.{AreActions, AreAsked};
 
 use crate::action::Action;
@@ -30,6 +30,7 @@ pub(crate) fn open_session<S: Store>(
     requires numbers { limits.row_numbers ≤ MOST_ROW_NUMBERS }
     ensures schemas { IfOk result (λ _. SomeTrees schema_tokens (texts schemas.now)) }
     ensures modules { IfOk result (λ _. SomeTrees module_tokens (texts modules.now)) }
+    ensures start { IfOk result IsStart }
     ensures refused { IfErr result (IsOpeningFault (texts schemas.now) (texts modules.now)) }
 {
     let catalog = match catalog_of(alloc, schemas, limits) {
@@ -48,7 +49,7 @@ pub(crate) fn read_script<S: Store>(
     session: &Session<S>,
     script: &[u8],
 ) -> Result<Vec<Action>, RunFault>
-    ensures asked { IfOk result (λ actions. AreAsked (length session.now.tables) script.now actions.items) }
+    ensures asked { IfOk result (λ actions. AreAsked script.now actions.items) }
     ensures refused { IfErr result (IsScriptFault script.now) }
 {
     match actions_of(alloc, session, script) {
@@ -109,6 +110,7 @@ fn session_of<S: Store>(
 ) -> Result<Session<S>, TextFault>
     requires numbers { limits.row_numbers ≤ MOST_ROW_NUMBERS }
     ensures spelled { IfOk result (λ _. SomeTrees module_tokens (texts modules.now)) }
+    ensures start { IfOk result IsStart }
     ensures refused { IfErr result (SomeRefused module_tokens module_depth (texts modules.now)) }
 {
     let trees = match read_all::<ModuleText>(alloc, modules) {
@@ -137,6 +139,7 @@ fn session_over<S: Store>(
     limits: Limits,
 ) -> Result<Session<S>, SessionFault>
     requires numbers { limits.row_numbers ≤ MOST_ROW_NUMBERS }
+    ensures start { IfOk result IsStart }
     ensures refused { IfErr result (IsOfSomeModule (length modules.now)) }
 {
     match S::new(alloc, catalog.keys(), limits.row_numbers) {
@@ -174,7 +177,7 @@ fn actions_of<S: Store>(
     session: &Session<S>,
     script: &[u8],
 ) -> Result<Vec<Action>, TextFault>
-    ensures asked { IfOk result (λ actions. AreAsked (length session.now.tables) script.now actions.items) }
+    ensures asked { IfOk result (λ actions. AreAsked script.now actions.items) }
     ensures refused { IfErr result (IsRefusedScript script.now) }
 {
     let tree = read_text::<ScriptText>(alloc, 0, script)?;
@@ -190,7 +193,7 @@ fn actions_in<S: Store>(
     tree: &ScriptText,
 ) -> Result<Vec<Action>, TextFault>
     requires read { IsOk (reading script.now) }
-    ensures actions { IfOk result (λ actions. AreActions (length session.now.tables) tree.now.items actions.items) }
+    ensures actions { IfOk result (λ actions. AreActions tree.now.items actions.items) }
     ensures of_meaning { IfErr result (IsOfMeaning 0) }
 {
     let mut actions = Vec::new(alloc);

@@ -1,4 +1,4 @@
-use Rattle.std.proofs.Common.{◌≡◌, ◌≤◌, ◌*◌, ◌^◌, false, length}
+use Rattle.std.proofs.Common.{◌≡◌, ◌≤◌, ◌*◌, ◌^◌, false}
 use Rattle.sq_run.proofs.Steps.{SoFar}
 use Rattle.sq_run.proofs.perform.perform_all.Given as goal
 
@@ -8,7 +8,6 @@ invariant-loop-done g l =
     let taken = g.W.Out.taken in
     record {
       so_far : SoFar l.actions l.done first l.session l.written (taken l.initial.out) (taken l.out);
-      tables : length l.session.tables ≡ length first.tables;
       untouched : l.done ≡ 0 → taken l.out ≡ taken l.initial.out;
       small : l.written ≤ l.done * 2 ^ 64;
       open_yet : g.W.Out.failed l.out ≡ false;
