@@ -28,7 +28,7 @@ const LINES: [(&str, Kind); 5] = [
 
 /// Tables of whole runs.
 const RUNS: [&str; 6] = [
-    "runs-first-language.txt",
+    "runs-small.txt",
     "runs-worked.txt",
     "runs-accepted.txt",
     "runs-refused.txt",

@@ -36,7 +36,7 @@ pub(crate) fn assigned_to(
 }
 
 /// A value as a domain stores it.
-pub(crate) fn assigned(alloc: Global, domain: Domain, value: &Value) -> Result<Value, Fault> {
+pub fn assigned(alloc: Global, domain: Domain, value: &Value) -> Result<Value, Fault> {
     if !is_domain(domain) || !fits_kind(domain, value) {
         return Err(Fault::NOT_WELL_FORMED);
     }
@@ -47,7 +47,7 @@ pub(crate) fn assigned(alloc: Global, domain: Domain, value: &Value) -> Result<V
 }
 
 /// Whether a precision, scale or length is in its range.
-fn is_domain(domain: Domain) -> bool
+pub fn is_domain(domain: Domain) -> bool
     ensures { IsTrue result → IsDomain domain }
 {
     match domain {
@@ -60,7 +60,7 @@ fn is_domain(domain: Domain) -> bool
 }
 
 /// Whether the value is null, a number for a domain of numbers, or a text for one of texts.
-fn fits_kind(domain: Domain, value: &Value) -> bool
+pub fn fits_kind(domain: Domain, value: &Value) -> bool
     ensures { IsTrue result → FitsKind domain value.now }
 {
     match value {

@@ -1,0 +1,297 @@
+//! The tables and cursors of a session, and the statements that work on them.
+
+use crate::called::Called;
+use crate::cursor::{CursorState, NumbersCursor, RowsCursor, next_there, opened, place_wanted, row_at};
+use crate::reply::Done;
+use crate::target::row_retrieved;
+use sq_bound::{
+    BoundFetch, BoundInsert, BoundSelect, BoundUpdate, ChangeTarget, CursorBody, PositionedTarget,
+    UpdatableQuery,
+};
+use sq_change::{delete, insert, update};
+use sq_items::Items;
+use sq_meaning::Status;
+use sq_query::{Fault, specification_rows};
+use sq_store::{Meter, Store};
+use sq_value::Row;
+use std::alloc::{AllocError, Global};
+
+/// The tables and cursors that statements work on.
+#[derive(Drop)]
+pub(crate) struct Machine<S: Store> {
+    pub(crate) store: S,
+    cursors: Vec<CursorState>,
+}
+
+impl<S: Store> Machine<S> {
+    /// The tables of a store, and so many closed cursors.
+    pub(crate) fn new(alloc: Global, store: S, cursors: usize) -> Result<Machine<S>, AllocError> {
+        match closed_cursors(alloc, cursors) {
+            Ok(cursors) => Ok(Machine { store, cursors }),
+            Err(error) => {
+                drop(store);
+                Err(error)
+            }
+        }
+    }
+
+    /// OPEN (13.2).
+    pub(crate) fn open(
+        &mut self,
+        called: &Called<'_>,
+        number: usize,
+        meter: &mut Meter,
+    ) -> Result<Done, Fault> {
+        let Some(cursor) = called.cursors.get(number) else {
+            return Err(Fault::NOT_WELL_FORMED);
+        };
+        match self.cursors.get(number) {
+            None => return Err(Fault::NOT_WELL_FORMED),
+            Some(CursorState::Closed) => {}
+            Some(_) => return Err(Fault::Status(Status::InvalidCursorState)),
+        }
+        self.cursors[number] = opened(called, cursor, &self.store, meter)?;
+        Ok(Done::successful(called.alloc))
+    }
+
+    /// FETCH (13.3). A status of retrieving leaves the cursor where it came.
+    pub(crate) fn fetch(
+        &mut self,
+        called: &Called<'_>,
+        fetch: &BoundFetch,
+        meter: &mut Meter,
+    ) -> Result<Done, Fault> {
+        let Some(cursor) = self.cursors.get_mut(fetch.cursor) else {
+            return Err(Fault::NOT_WELL_FORMED);
+        };
+        match cursor {
+            CursorState::Closed => Err(Fault::Status(Status::InvalidCursorState)),
+            CursorState::Numbers(numbers) => {
+                fetch_number(called, fetch, numbers, &self.store, meter)
+            }
+            CursorState::Rows(rows) => fetch_row(called, fetch, rows),
+        }
+    }
+
+    /// CLOSE (13.4).
+    pub(crate) fn close(&mut self, alloc: Global, number: usize) -> Result<Done, Fault> {
+        match self.cursors.get(number) {
+            None => Err(Fault::NOT_WELL_FORMED),
+            Some(CursorState::Closed) => Err(Fault::Status(Status::InvalidCursorState)),
+            Some(_) => {
+                self.cursors[number] = CursorState::Closed;
+                Ok(Done::successful(alloc))
+            }
+        }
+    }
+
+    /// A select statement of one row (13.5).
+    pub(crate) fn select(
+        &self,
+        called: &Called<'_>,
+        select: &BoundSelect,
+        meter: &mut Meter,
+    ) -> Result<Done, Fault> {
+        let rows = specification_rows(
+            called.alloc,
+            called.catalog,
+            &select.query,
+            &self.store,
+            called.inputs(),
+            meter,
+        )?;
+        match rows.split_first() {
+            None => Err(Fault::Status(Status::NoData)),
+            Some((row, others)) if others.is_empty() => {
+                row_retrieved(called, select.outputs.as_slice(), row.as_slice())
+            }
+            Some(_) => Err(Fault::Status(Status::CardinalityViolation)),
+        }
+    }
+
+    /// INSERT (13.8).
+    pub(crate) fn insert(
+        &mut self,
+        called: &Called<'_>,
+        statement: &BoundInsert,
+        meter: &mut Meter,
+    ) -> Result<Done, Fault> {
+        insert(
+            called.alloc,
+            called.catalog,
+            statement,
+            &mut self.store,
+            called.inputs(),
+            meter,
+        )?;
+        Ok(Done::successful(called.alloc))
+    }
+
+    /// UPDATE (13.9, 13.10).
+    pub(crate) fn update(
+        &mut self,
+        called: &Called<'_>,
+        statement: &BoundUpdate,
+        meter: &mut Meter,
+    ) -> Result<Done, Fault> {
+        let on = self.current(&statement.target)?;
+        update(
+            called.alloc,
+            called.catalog,
+            statement,
+            on,
+            &mut self.store,
+            called.inputs(),
+            meter,
+        )?;
+        Ok(Done::successful(called.alloc))
+    }
+
+    /// DELETE (13.6, 13.7). After a positioned one the cursor is before the next row.
+    pub(crate) fn delete(
+        &mut self,
+        called: &Called<'_>,
+        target: &ChangeTarget,
+        meter: &mut Meter,
+    ) -> Result<Done, Fault> {
+        let on = self.current(target)?;
+        delete(
+            called.alloc,
+            called.catalog,
+            target,
+            on,
+            &mut self.store,
+            called.inputs(),
+            meter,
+        )?;
+        if let ChangeTarget::Positioned(positioned) = target {
+            self.leave_row(positioned.cursor);
+        }
+        Ok(Done::successful(called.alloc))
+    }
+
+    /// COMMIT (14.3) closes all cursors.
+    pub(crate) fn commit(&mut self, alloc: Global) -> Done {
+        self.close_all();
+        self.store.commit();
+        Done::successful(alloc)
+    }
+
+    /// ROLLBACK (14.4) closes all cursors.
+    pub(crate) fn rollback(&mut self, alloc: Global) -> Done {
+        self.close_all();
+        self.store.rollback();
+        Done::successful(alloc)
+    }
+
+    /// The number that a positioned statement changes; none for a searched one.
+    fn current(&self, target: &ChangeTarget) -> Result<Option<u64>, Fault> {
+        match target {
+            ChangeTarget::Searched(_) => Ok(None),
+            ChangeTarget::Positioned(positioned) => match self.number_there(positioned) {
+                Some(number) => Ok(Some(number)),
+                None => Err(Fault::Status(Status::InvalidCursorState)),
+            },
+        }
+    }
+
+    /// The number that a cursor is on, if its row is there.
+    fn number_there(&self, positioned: &PositionedTarget) -> Option<u64> {
+        let number = number_on(self.cursors.get(positioned.cursor)?)?;
+        if positioned.base >= self.store.table_count() {
+            return None;
+        }
+        match self.store.row(positioned.base, number, &mut Meter::new()) {
+            Some(_) => Some(number),
+            None => None,
+        }
+    }
+
+    fn leave_row(&mut self, cursor: usize) {
+        if let Some(CursorState::Numbers(numbers)) = self.cursors.get_mut(cursor) {
+            numbers.on = None;
+        }
+    }
+
+    fn close_all(&mut self) {
+        for cursor in self.cursors.iter_mut() {
+            *cursor = CursorState::Closed;
+        }
+    }
+}
+
+fn closed_cursors(alloc: Global, count: usize) -> Result<Vec<CursorState>, AllocError> {
+    let mut cursors = Vec::new(alloc);
+    for _ in 0..count {
+        cursors.push(CursorState::Closed)?;
+    }
+    Ok(cursors)
+}
+
+/// The number that a cursor is on.
+fn number_on(cursor: &CursorState) -> Option<u64> {
+    match cursor {
+        CursorState::Numbers(numbers) => numbers.on,
+        _ => None,
+    }
+}
+
+/// FETCH of a cursor over rows.
+fn fetch_row(
+    called: &Called<'_>,
+    fetch: &BoundFetch,
+    cursor: &mut RowsCursor,
+) -> Result<Done, Fault> {
+    let rows = cursor.rows.as_slice();
+    let place = place_wanted(fetch.orientation, called.values, rows.len(), cursor.place)?;
+    let done = match row_at(rows, place) {
+        None => Done::without_outputs(called.alloc, Status::NoData),
+        Some(row) => row_retrieved(called, fetch.outputs.as_slice(), row.as_slice())?,
+    };
+    cursor.place = place;
+    Ok(done)
+}
+
+/// FETCH of an updatable cursor: the next number under which there is a row now, and that row as it is now.
+fn fetch_number<S: Store>(
+    called: &Called<'_>,
+    fetch: &BoundFetch,
+    cursor: &mut NumbersCursor,
+    store: &S,
+    meter: &mut Meter,
+) -> Result<Done, Fault> {
+    let query = updatable_query(called, fetch.cursor)?;
+    let Some(reached) = next_there(store, query.target.base, cursor, meter) else {
+        cursor.passed = cursor.numbers.len();
+        cursor.on = None;
+        return Ok(Done::without_outputs(called.alloc, Status::NoData));
+    };
+    let row = shown(called.alloc, reached.row, query.columns.as_slice())?;
+    let done = row_retrieved(called, fetch.outputs.as_slice(), row.as_slice())?;
+    cursor.passed = reached.passed;
+    cursor.on = Some(reached.number);
+    Ok(done)
+}
+
+/// The query of an updatable cursor.
+fn updatable_query<'a>(called: &Called<'a>, cursor: usize) -> Result<&'a UpdatableQuery, Fault> {
+    match called.cursors.get(cursor) {
+        Some(cursor) => match &cursor.body {
+            CursorBody::Updatable(query) => Ok(query),
+            CursorBody::Rows(..) => Err(Fault::NOT_WELL_FORMED),
+        },
+        None => Err(Fault::NOT_WELL_FORMED),
+    }
+}
+
+/// The columns of a row that a query names.
+fn shown(alloc: Global, row: &Row, columns: &[usize]) -> Result<Row, Fault> {
+    let mut values = Items::new(alloc);
+    for column in columns {
+        match row.as_slice().get(*column) {
+            Some(value) => values.push(value.copy(alloc)?)?,
+            None => return Err(Fault::NOT_WELL_FORMED),
+        }
+    }
+    Ok(values)
+}

@@ -1,0 +1,111 @@
+//! A session: the modules, the tables, and the cursors.
+
+use crate::admission::admit;
+use crate::call::{call, reply_of};
+use crate::machine::Machine;
+use crate::parameter::all_fit;
+use crate::program::Program;
+use crate::refusal::SessionFault;
+use crate::reply::Reply;
+use sq_bound::{Names, TablePlace};
+use sq_catalog::Catalog;
+use sq_lex::Name;
+use sq_store::{Meter, Store};
+use sq_tree::ModuleText;
+use sq_value::{Row, Value};
+use std::alloc::{AllocError, Global};
+
+/// The modules, and the tables and cursors that their procedures work on.
+#[derive(Drop)]
+pub struct Session<S: Store> {
+    alloc: Global,
+    catalog: Catalog,
+    program: Program,
+    machine: Machine<S>,
+}
+
+impl<S: Store> Session<S> {
+    /// A session of these modules over a store of the catalog's tables, with all cursors closed; or the first refusal, module
+    /// by module.
+    pub fn new(
+        alloc: Global,
+        catalog: Catalog,
+        modules: &[ModuleText],
+        store: S,
+    ) -> Result<Session<S>, SessionFault> {
+        admit(alloc, modules)?;
+        let program = Program::bind(alloc, &catalog, modules)?;
+        let machine = Machine::new(alloc, store, program.cursors.len())?;
+        Ok(Session {
+            alloc,
+            catalog,
+            program,
+            machine,
+        })
+    }
+
+    /// The number of a procedure.
+    pub fn procedure(&self, module: Name, name: Name) -> Option<usize> {
+        self.program.number(module, name)
+    }
+
+    /// Whether there are as many values as the procedure has named parameters, each null or one that its parameter can store.
+    pub fn fits(&self, procedure: usize, values: &[Value]) -> bool {
+        match self.program.procedures.get(procedure) {
+            Some(procedure) => all_fit(self.alloc, procedure.parameters.as_slice(), values),
+            None => false,
+        }
+    }
+
+    /// Makes one call. Running out of memory changes nothing.
+    pub fn call(
+        &mut self,
+        alloc: Global,
+        procedure: usize,
+        values: &[Value],
+    ) -> Result<Reply, AllocError> {
+        let mut meter = Meter::new();
+        let ended = call(
+            alloc,
+            &self.catalog,
+            &self.program,
+            procedure,
+            values,
+            &mut self.machine,
+            &mut meter,
+        );
+        reply_of(alloc, ended, meter.count())
+    }
+
+    /// The place of the base table of this owner and name.
+    pub fn table(&self, user: Name, name: Name) -> Option<usize> {
+        match self.catalog.table(user, name)?.place() {
+            TablePlace::Base(place) => Some(place),
+            TablePlace::View(_) => None,
+        }
+    }
+
+    /// The rows of the base table at a place, as they are now, with their numbers.
+    pub fn rows(&self, alloc: Global, table: usize) -> Result<Vec<(u64, &Row)>, AllocError> {
+        rows_of(alloc, &self.machine.store, table)
+    }
+}
+
+/// A table's rows with their numbers.
+fn rows_of<S: Store>(
+    alloc: Global,
+    store: &S,
+    table: usize,
+) -> Result<Vec<(u64, &Row)>, AllocError> {
+    let mut rows = Vec::new(alloc);
+    if table >= store.table_count() {
+        return Ok(rows);
+    }
+    let mut meter = Meter::new();
+    let mut number = 0;
+    while let Some((found, row)) = store.next_from(table, number, &mut meter) {
+        rows.push((found, row))?;
+        number = found + 1;
+    }
+    Ok(rows)
+}
