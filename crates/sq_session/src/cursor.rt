@@ -1,5 +1,8 @@
 //! Cursors, and the place that a FETCH reaches (ISO/IEC 9075:1992, 4.21, 13.2 and 13.3).
 
+ghost use Rattle.std.specs.Prelude.{◌≡◌, IfOk, true};
+ghost use Rattle.sq_session.specs.State.{is_open};
+
 use crate::called::Called;
 use sq_bound::{BoundCursor, CursorBody, Distance, FetchOrientation};
 use sq_items::Items;
@@ -41,7 +44,9 @@ pub(crate) fn opened<S: Store>(
     cursor: &BoundCursor,
     store: &S,
     meter: &mut Meter,
-) -> Result<CursorState, Fault> {
+) -> Result<CursorState, Fault>
+    ensures { IfOk result (λ c. is_open c ≡ true) }
+{
     match &cursor.body {
         CursorBody::Rows(query, order) => {
             let rows = ordered_rows(
@@ -98,7 +103,18 @@ pub(crate) fn place_wanted(
             place as i128 + number_of(distance, values)? as i128
         }
     };
-    Ok(wanted.max(0).min(behind) as usize)
+    Ok(bounded(count, wanted))
+}
+
+/// The place, or the nearest one that there is.
+fn bounded(count: usize, wanted: i128) -> usize {
+    if wanted < 0 {
+        0
+    } else if wanted > count as i128 {
+        count.saturating_add(1)
+    } else {
+        wanted as usize
+    }
 }
 
 /// The number of an orientation.

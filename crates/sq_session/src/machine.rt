@@ -1,7 +1,16 @@
 //! The tables and cursors of a session, and the statements that work on them.
 
+ghost use Rattle.std.specs.Prelude.{◌≡◌, false, IfErr, IfOk, IfSome, IsSome, OnErr, OnOk, is_ok, is_some, replicate, slice_get};
+ghost use Rattle.sq_meaning.specs.declared.status.Status.TheVariants as status;
+ghost use Rattle.sq_query.specs.declared.fault.Fault.TheVariants as fault;
+ghost use Rattle.sq_session.specs.Kind.{delete_kind, update_kind};
+ghost use Rattle.sq_session.specs.State.{all_closed, committed_state, is_open, number_on, rolled_back};
+ghost use Rattle.sq_session.specs.Step.{MayChange, MayClose, MayFetch, MayOpen, MayStep, NotRefused, Touches, ended, ending, is_on_row, is_ready};
+
 use crate::called::Called;
-use crate::cursor::{CursorState, NumbersCursor, RowsCursor, next_there, opened, place_wanted, row_at};
+use crate::cursor::{
+    CursorState, NumbersCursor, RowsCursor, next_there, opened, place_wanted, row_at,
+};
 use crate::reply::Done;
 use crate::target::row_retrieved;
 use sq_bound::{
@@ -15,6 +24,7 @@ use sq_query::{Fault, specification_rows};
 use sq_store::{Meter, Store};
 use sq_value::Row;
 use std::alloc::{AllocError, Global};
+use std::marker::Model;
 
 /// The tables and cursors that statements work on.
 #[derive(Drop)]
@@ -23,9 +33,20 @@ pub(crate) struct Machine<S: Store> {
     cursors: Vec<CursorState>,
 }
 
+impl<S: Store> Model for Machine<S> {
+    ghost use Rattle.sq_session.specs.State.{State};
+
+    ghost Value = { State };
+
+    ghost view = { λ m. record { tables = S.content_now m.store; committed = S.committed m.store; cursors = m.cursors.items } };
+}
+
 impl<S: Store> Machine<S> {
     /// The tables of a store, and so many closed cursors.
-    pub(crate) fn new(alloc: Global, store: S, cursors: usize) -> Result<Machine<S>, AllocError> {
+    pub(crate) fn new(alloc: Global, store: S, cursors: usize) -> Result<Machine<S>, AllocError>
+        ensures { IfOk result (λ m. m
+            ≡ record { tables = S.content_now store; committed = S.committed store; cursors = replicate cursors CursorState.Closed }) }
+    {
         match closed_cursors(alloc, cursors) {
             Ok(cursors) => Ok(Machine { store, cursors }),
             Err(error) => {
@@ -41,15 +62,18 @@ impl<S: Store> Machine<S> {
         called: &Called<'_>,
         number: usize,
         meter: &mut Meter,
-    ) -> Result<Done, Fault> {
-        let Some(cursor) = called.cursors.get(number) else {
-            return Err(Fault::NOT_WELL_FORMED);
-        };
+    ) -> Result<Done, Fault>
+        ensures step { IfSome (ending result) (λ d. MayOpen (slice_get self.old.cursors number) number self.old d self.new) }
+        ensures err { OnErr result (self.new ≡ self.old) }
+    {
         match self.cursors.get(number) {
             None => return Err(Fault::NOT_WELL_FORMED),
             Some(CursorState::Closed) => {}
             Some(_) => return Err(Fault::Status(Status::InvalidCursorState)),
         }
+        let Some(cursor) = called.cursors.get(number) else {
+            return Err(Fault::NOT_WELL_FORMED);
+        };
         self.cursors[number] = opened(called, cursor, &self.store, meter)?;
         Ok(Done::successful(called.alloc))
     }
@@ -60,21 +84,22 @@ impl<S: Store> Machine<S> {
         called: &Called<'_>,
         fetch: &BoundFetch,
         meter: &mut Meter,
-    ) -> Result<Done, Fault> {
-        let Some(cursor) = self.cursors.get_mut(fetch.cursor) else {
-            return Err(Fault::NOT_WELL_FORMED);
-        };
-        match cursor {
-            CursorState::Closed => Err(Fault::Status(Status::InvalidCursorState)),
-            CursorState::Numbers(numbers) => {
-                fetch_number(called, fetch, numbers, &self.store, meter)
-            }
-            CursorState::Rows(rows) => fetch_row(called, fetch, rows),
+    ) -> Result<Done, Fault>
+        ensures step { IfSome (ending result) (λ d. MayFetch (slice_get self.old.cursors fetch.now.cursor) fetch.now.cursor self.old d self.new) }
+        ensures err { OnErr result (self.new ≡ self.old) }
+    {
+        match self.cursors.get_mut(fetch.cursor) {
+            None => Err(Fault::NOT_WELL_FORMED),
+            Some(cursor) => fetch_cursor(called, fetch, cursor, &self.store, meter),
         }
     }
 
     /// CLOSE (13.4).
-    pub(crate) fn close(&mut self, alloc: Global, number: usize) -> Result<Done, Fault> {
+    pub(crate) fn close(&mut self, alloc: Global, number: usize) -> Result<Done, Fault>
+        ensures step { IfSome (ending result) (λ d. MayClose (slice_get self.old.cursors number) number self.old d self.new) }
+        ensures err { OnErr result (self.new ≡ self.old) }
+        ensures memory { IsSome (ending result) }
+    {
         match self.cursors.get(number) {
             None => Err(Fault::NOT_WELL_FORMED),
             Some(CursorState::Closed) => Err(Fault::Status(Status::InvalidCursorState)),
@@ -115,7 +140,10 @@ impl<S: Store> Machine<S> {
         called: &Called<'_>,
         statement: &BoundInsert,
         meter: &mut Meter,
-    ) -> Result<Done, Fault> {
+    ) -> Result<Done, Fault>
+        ensures step { IfSome (ending result) (λ d. MayChange self.old d self.new) }
+        ensures err { OnErr result (self.new ≡ self.old) }
+    {
         insert(
             called.alloc,
             called.catalog,
@@ -133,7 +161,10 @@ impl<S: Store> Machine<S> {
         called: &Called<'_>,
         statement: &BoundUpdate,
         meter: &mut Meter,
-    ) -> Result<Done, Fault> {
+    ) -> Result<Done, Fault>
+        ensures step { IfSome (ending result) (λ d. MayStep (update_kind statement.now.target) self.old d self.new) }
+        ensures err { OnErr result (self.new ≡ self.old) }
+    {
         let on = self.current(&statement.target)?;
         update(
             called.alloc,
@@ -153,7 +184,10 @@ impl<S: Store> Machine<S> {
         called: &Called<'_>,
         target: &ChangeTarget,
         meter: &mut Meter,
-    ) -> Result<Done, Fault> {
+    ) -> Result<Done, Fault>
+        ensures step { IfSome (ending result) (λ d. MayStep (delete_kind target.now) self.old d self.new) }
+        ensures err { OnErr result (self.new ≡ self.old) }
+    {
         let on = self.current(target)?;
         delete(
             called.alloc,
@@ -171,21 +205,30 @@ impl<S: Store> Machine<S> {
     }
 
     /// COMMIT (14.3) closes all cursors.
-    pub(crate) fn commit(&mut self, alloc: Global) -> Done {
+    pub(crate) fn commit(&mut self, alloc: Global) -> Done
+        ensures state { self.new ≡ committed_state self.old }
+        ensures done { result ≡ ended status.SuccessfulCompletion }
+    {
         self.close_all();
         self.store.commit();
         Done::successful(alloc)
     }
 
     /// ROLLBACK (14.4) closes all cursors.
-    pub(crate) fn rollback(&mut self, alloc: Global) -> Done {
+    pub(crate) fn rollback(&mut self, alloc: Global) -> Done
+        ensures state { self.new ≡ rolled_back self.old }
+        ensures done { result ≡ ended status.SuccessfulCompletion }
+    {
         self.close_all();
         self.store.rollback();
         Done::successful(alloc)
     }
 
     /// The number that a positioned statement changes; none for a searched one.
-    fn current(&self, target: &ChangeTarget) -> Result<Option<u64>, Fault> {
+    fn current(&self, target: &ChangeTarget) -> Result<Option<u64>, Fault>
+        ensures ready { is_ok result ≡ is_ready self.now target.now }
+        ensures refused { IfErr result (λ f. f ≡ fault.Status status.InvalidCursorState) }
+    {
         match target {
             ChangeTarget::Searched(_) => Ok(None),
             ChangeTarget::Positioned(positioned) => match self.number_there(positioned) {
@@ -196,7 +239,9 @@ impl<S: Store> Machine<S> {
     }
 
     /// The number that a cursor is on, if its row is there.
-    fn number_there(&self, positioned: &PositionedTarget) -> Option<u64> {
+    fn number_there(&self, positioned: &PositionedTarget) -> Option<u64>
+        ensures { is_some result ≡ is_on_row self.now positioned.now }
+    {
         let number = number_on(self.cursors.get(positioned.cursor)?)?;
         if positioned.base >= self.store.table_count() {
             return None;
@@ -207,20 +252,26 @@ impl<S: Store> Machine<S> {
         }
     }
 
-    fn leave_row(&mut self, cursor: usize) {
+    fn leave_row(&mut self, cursor: usize)
+        ensures { Touches cursor self.old self.new }
+    {
         if let Some(CursorState::Numbers(numbers)) = self.cursors.get_mut(cursor) {
             numbers.on = None;
         }
     }
 
-    fn close_all(&mut self) {
+    fn close_all(&mut self)
+        ensures { self.new ≡ record self.old { cursors = all_closed self.old.cursors } }
+    {
         for cursor in self.cursors.iter_mut() {
             *cursor = CursorState::Closed;
         }
     }
 }
 
-fn closed_cursors(alloc: Global, count: usize) -> Result<Vec<CursorState>, AllocError> {
+fn closed_cursors(alloc: Global, count: usize) -> Result<Vec<CursorState>, AllocError>
+    ensures { IfOk result (λ cursors. cursors.items ≡ replicate count CursorState.Closed) }
+{
     let mut cursors = Vec::new(alloc);
     for _ in 0..count {
         cursors.push(CursorState::Closed)?;
@@ -229,10 +280,32 @@ fn closed_cursors(alloc: Global, count: usize) -> Result<Vec<CursorState>, Alloc
 }
 
 /// The number that a cursor is on.
-fn number_on(cursor: &CursorState) -> Option<u64> {
+fn number_on(cursor: &CursorState) -> Option<u64>
+    ensures { result ≡ number_on cursor.now }
+{
     match cursor {
         CursorState::Numbers(numbers) => numbers.on,
         _ => None,
+    }
+}
+
+/// FETCH of a cursor.
+fn fetch_cursor<S: Store>(
+    called: &Called<'_>,
+    fetch: &BoundFetch,
+    cursor: &mut CursorState,
+    store: &S,
+    meter: &mut Meter,
+) -> Result<Done, Fault>
+    ensures closed { is_open cursor.old ≡ false → result ≡ Err (fault.Status status.InvalidCursorState) }
+    ensures stays { is_open cursor.new ≡ is_open cursor.old }
+    ensures err { OnErr result (cursor.new ≡ cursor.old) }
+    ensures known { IfOk result (λ d. NotRefused d.status) }
+{
+    match cursor {
+        CursorState::Closed => Err(Fault::Status(Status::InvalidCursorState)),
+        CursorState::Numbers(numbers) => fetch_number(called, fetch, numbers, store, meter),
+        CursorState::Rows(rows) => fetch_row(called, fetch, rows),
     }
 }
 
@@ -241,7 +314,10 @@ fn fetch_row(
     called: &Called<'_>,
     fetch: &BoundFetch,
     cursor: &mut RowsCursor,
-) -> Result<Done, Fault> {
+) -> Result<Done, Fault>
+    ensures err { OnErr result (cursor.new ≡ cursor.old) }
+    ensures known { IfOk result (λ d. NotRefused d.status) }
+{
     let rows = cursor.rows.as_slice();
     let place = place_wanted(fetch.orientation, called.values, rows.len(), cursor.place)?;
     let done = match row_at(rows, place) {
@@ -259,7 +335,10 @@ fn fetch_number<S: Store>(
     cursor: &mut NumbersCursor,
     store: &S,
     meter: &mut Meter,
-) -> Result<Done, Fault> {
+) -> Result<Done, Fault>
+    ensures err { OnErr result (cursor.new ≡ cursor.old) }
+    ensures known { IfOk result (λ d. NotRefused d.status) }
+{
     let query = updatable_query(called, fetch.cursor)?;
     let Some(reached) = next_there(store, query.target.base, cursor, meter) else {
         cursor.passed = cursor.numbers.len();
