@@ -6,20 +6,21 @@ use Rattle.sq_bound.specs.declared.statement.ChangeTarget.{ChangeTarget}
 use Rattle.sq_bound.specs.declared.statement.ChangeTarget.TheVariants as target
 use Rattle.sq_bound.specs.declared.statement.PositionedTarget.{PositionedTarget}
 
--- a cursor is named by its number; INSERT and searched statements change rows of a table
+-- a cursor is named by its number; INSERT and a searched DELETE change rows, a searched UPDATE updates them
 pub data Kind : Type 0 where
   opens : ℕ → Kind
   fetches : ℕ → Kind
   closes : ℕ → Kind
   selects : Kind
   changes : Kind
+  updates : Kind
   updates_at : PositionedTarget → Kind
   deletes_at : PositionedTarget → Kind
   commits : Kind
   rolls_back : Kind
 
 abbrev pub update_kind : ChangeTarget → Kind
-update_kind (target.Searched t) = Kind.changes
+update_kind (target.Searched t) = Kind.updates
 update_kind (target.Positioned p) = Kind.updates_at p
 
 abbrev pub delete_kind : ChangeTarget → Kind

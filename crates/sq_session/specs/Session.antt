@@ -2,7 +2,7 @@
 use Rattle.std.specs.Prelude.{List, map, Option, option_map}
 use Rattle.sq_session.specs.Kind.{Kind, kind_of}
 use Rattle.sq_session.specs.State.{State}
-use Rattle.sq_session.specs.declared.program.BoundProcedure.{BoundProcedure}
+use Rattle.sq_module.specs.declared.program.BoundProcedure.{BoundProcedure}
 
 -- what the statement of each procedure is, none where it has a fault; and what calls work on
 pub record Session : Type 0 where

@@ -15,6 +15,7 @@ pub record State : Type 0 where
 abbrev pub is_open : CursorState → Bool
 is_open cursor.Closed = false
 is_open (cursor.Numbers c) = true
+is_open (cursor.Walking c) = true
 is_open (cursor.Rows c) = true
 
 abbrev pub cursor_at : State → ℕ → CursorState
@@ -41,6 +42,7 @@ AreClosed cursors = cursors ≡ all_closed cursors
 abbrev pub number_on : CursorState → Option ℕ
 number_on cursor.Closed = None
 number_on (cursor.Numbers c) = c.on
+number_on (cursor.Walking c) = c.on
 number_on (cursor.Rows c) = None
 
 -- ---- COMMIT and ROLLBACK (14.3, 14.4) close all cursors

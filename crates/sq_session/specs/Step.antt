@@ -1,7 +1,7 @@
 -- What one call may do to the tables and the cursors (ISO/IEC 9075:1992, 13.2 to 13.10, 14.3 and 14.4). CLOSE, COMMIT,
 -- ROLLBACK and every statement on a cursor that is not in the state that it needs are said whole; of the others, what they
 -- leave as it was.
-use Rattle.std.specs.Prelude.{◌≡◌, ℕ, Bool, true, false, [], is_some, slice_get, option_and_then, Option, Some, None, Result, Ok, Err}
+use Rattle.std.specs.Prelude.{◌≡◌, ℕ, Bool, true, false, [], map, is_some, slice_get, option_and_then, Option, Some, None, Result, Ok, Err}
 use Rattle.sq_store.specs.Content.{row_at, table_at}
 use Rattle.sq_bound.specs.declared.statement.ChangeTarget.{ChangeTarget}
 use Rattle.sq_bound.specs.declared.statement.ChangeTarget.TheVariants as target
@@ -50,31 +50,35 @@ abbrev pub OpensIf : Bool → ℕ → State → State → Type 0
 OpensIf true number before after = Touches number before after
 OpensIf false number before after = after ≡ before
 
+-- a cursor that is open already is left alone
+abbrev pub MayOpenIf : Bool → ℕ → State → Done → State → Type 0
+MayOpenIf true number before d after = Refuses status.InvalidCursorState before d after
+MayOpenIf false number before d after = (d.outputs ≡ []) × OpensIf (is_success d.status) number before after
+
 abbrev pub MayOpen : Option CursorState → ℕ → State → Done → State → Type 0
 MayOpen None number before d after = Refuses status.SyntaxErrorOrAccessRuleViolation before d after
-MayOpen (Some cursor.Closed) number before d after = (d.outputs ≡ []) × OpensIf (is_success d.status) number before after
-MayOpen (Some (cursor.Numbers c)) number before d after = Refuses status.InvalidCursorState before d after
-MayOpen (Some (cursor.Rows c)) number before d after = Refuses status.InvalidCursorState before d after
+MayOpen (Some c) number before d after = MayOpenIf (is_open c) number before d after
 
 -- FETCH (13.3): the cursor moves and stays open
 abbrev pub Moves : ℕ → State → Done → State → Type 0
 Moves number before d after = Touches number before after × (is_open (cursor_at after number) ≡ true) × (d.status ≡ status.SyntaxErrorOrAccessRuleViolation → after ≡ before)
 
+abbrev pub MayFetchIf : Bool → ℕ → State → Done → State → Type 0
+MayFetchIf true number before d after = Moves number before d after
+MayFetchIf false number before d after = Refuses status.InvalidCursorState before d after
+
 abbrev pub MayFetch : Option CursorState → ℕ → State → Done → State → Type 0
 MayFetch None number before d after = Refuses status.SyntaxErrorOrAccessRuleViolation before d after
-MayFetch (Some cursor.Closed) number before d after = Refuses status.InvalidCursorState before d after
-MayFetch (Some (cursor.Numbers c)) number before d after = Moves number before d after
-MayFetch (Some (cursor.Rows c)) number before d after = Moves number before d after
+MayFetch (Some c) number before d after = MayFetchIf (is_open c) number before d after
 
 -- CLOSE (13.4)
-abbrev pub Closes : ℕ → State → Done → State → Type 0
-Closes number before d after = (d ≡ ended status.SuccessfulCompletion) × (after ≡ with_cursor before number cursor.Closed)
+abbrev pub MayCloseIf : Bool → ℕ → State → Done → State → Type 0
+MayCloseIf true number before d after = (d ≡ ended status.SuccessfulCompletion) × (after ≡ with_cursor before number cursor.Closed)
+MayCloseIf false number before d after = Refuses status.InvalidCursorState before d after
 
 abbrev pub MayClose : Option CursorState → ℕ → State → Done → State → Type 0
 MayClose None number before d after = Refuses status.SyntaxErrorOrAccessRuleViolation before d after
-MayClose (Some cursor.Closed) number before d after = Refuses status.InvalidCursorState before d after
-MayClose (Some (cursor.Numbers c)) number before d after = Closes number before d after
-MayClose (Some (cursor.Rows c)) number before d after = Closes number before d after
+MayClose (Some c) number before d after = MayCloseIf (is_open c) number before d after
 
 -- ---- INSERT, UPDATE and DELETE (13.6 to 13.10)
 
@@ -86,6 +90,14 @@ ChangesIf false before after = after ≡ before
 abbrev pub MayChange : State → Done → State → Type 0
 MayChange before d after = (d.outputs ≡ []) × ChangesIf (is_success d.status) before after
 
+-- an UPDATE may also change how an updatable cursor keeps what is left to it
+abbrev pub UpdatesIf : Bool → State → State → Type 0
+UpdatesIf true before after = (after.committed ≡ before.committed) × (map is_open after.cursors ≡ map is_open before.cursors)
+UpdatesIf false before after = after ≡ before
+
+abbrev pub MayUpdate : State → Done → State → Type 0
+MayUpdate before d after = (d.outputs ≡ []) × UpdatesIf (is_success d.status) before after
+
 -- whether the cursor is on a row that is there
 abbrev pub is_on_row : State → PositionedTarget → Bool
 is_on_row s p = is_some (option_and_then (row_at (table_at s.tables p.base)) (number_on (cursor_at s p.cursor)))
@@ -96,7 +108,7 @@ is_ready s (target.Searched t) = true
 is_ready s (target.Positioned p) = is_on_row s p
 
 abbrev pub MayUpdateAt : Bool → State → Done → State → Type 0
-MayUpdateAt true before d after = MayChange before d after
+MayUpdateAt true before d after = MayUpdate before d after
 MayUpdateAt false before d after = Refuses status.InvalidCursorState before d after
 
 -- a positioned DELETE takes its cursor off the row
@@ -119,6 +131,7 @@ MayStep (Kind.fetches number) before d after = MayFetch (slice_get before.cursor
 MayStep (Kind.closes number) before d after = MayClose (slice_get before.cursors number) number before d after
 MayStep Kind.selects before d after = after ≡ before
 MayStep Kind.changes before d after = MayChange before d after
+MayStep Kind.updates before d after = MayUpdate before d after
 MayStep (Kind.updates_at p) before d after = MayUpdateAt (is_on_row before p) before d after
 MayStep (Kind.deletes_at p) before d after = MayDeleteAt (is_on_row before p) p.cursor before d after
 MayStep Kind.commits before d after = Ends (committed_state before) d after

@@ -1,9 +1,10 @@
 //! Cursors, and the place that a FETCH reaches (ISO/IEC 9075:1992, 4.21, 13.2 and 13.3).
 
 ghost use Rattle.std.specs.Prelude.{◌≡◌, IfOk, true};
-ghost use Rattle.sq_session.specs.State.{is_open};
+ghost use Rattle.sq_session.specs.State.{is_open, number_on};
 
 use crate::called::Called;
+use crate::walk::{WalkingCursor, started_walk};
 use sq_bound::{BoundCursor, CursorBody, Distance, FetchOrientation};
 use sq_items::Items;
 use sq_query::{Fault, numbers_of, ordered_rows};
@@ -16,6 +17,8 @@ pub enum CursorState {
     Closed,
     /// An updatable cursor: the numbers of its rows.
     Numbers(NumbersCursor),
+    /// An updatable cursor whose conditions answer no status: how far it has walked.
+    Walking(WalkingCursor),
     /// Any other cursor: its rows.
     Rows(RowsCursor),
 }
@@ -36,6 +39,17 @@ pub struct RowsCursor {
     pub rows: Items<Row>,
     /// 0 before the first row, n on the nth, and one more than their count behind the last.
     pub place: usize,
+}
+
+/// The number that a cursor is on.
+pub(crate) fn number_on(cursor: &CursorState) -> Option<u64>
+    ensures { result ≡ number_on cursor.now }
+{
+    match cursor {
+        CursorState::Numbers(numbers) => numbers.on,
+        CursorState::Walking(walk) => walk.on,
+        CursorState::Closed | CursorState::Rows(_) => None,
+    }
 }
 
 /// An open cursor, before its first row.
@@ -63,6 +77,9 @@ pub(crate) fn opened<S: Store>(
                 place: 0,
             }))
         }
+        CursorBody::Updatable(updatable) if updatable.target.is_quiet => Ok(CursorState::Walking(
+            started_walk(called, updatable.target.base, store)?,
+        )),
         CursorBody::Updatable(updatable) => {
             let numbers = numbers_of(
                 called.alloc,

@@ -4,25 +4,21 @@ ghost use Rattle.std.specs.Prelude.{◌≡◌, false, IfErr, IfOk, IfSome, IsSom
 ghost use Rattle.sq_meaning.specs.declared.status.Status.TheVariants as status;
 ghost use Rattle.sq_query.specs.declared.fault.Fault.TheVariants as fault;
 ghost use Rattle.sq_session.specs.Kind.{delete_kind, update_kind};
-ghost use Rattle.sq_session.specs.State.{all_closed, committed_state, is_open, number_on, rolled_back};
-ghost use Rattle.sq_session.specs.Step.{MayChange, MayClose, MayFetch, MayOpen, MayStep, NotRefused, Touches, ended, ending, is_on_row, is_ready};
+ghost use Rattle.sq_session.specs.State.{committed_state, rolled_back};
+ghost use Rattle.sq_session.specs.Step.{MayChange, MayClose, MayFetch, MayOpen, MayStep, ended, ending, is_on_row, is_ready};
 
 use crate::called::Called;
-use crate::cursor::{
-    CursorState, NumbersCursor, RowsCursor, next_there, opened, place_wanted, row_at,
-};
+use crate::cursor::{CursorState, number_on, opened};
+use crate::cursors::{close_all, closed_cursors, leave_row, put, put_lists};
+use crate::fetch::fetch_at;
 use crate::reply::Done;
 use crate::target::row_retrieved;
-use sq_bound::{
-    BoundFetch, BoundInsert, BoundSelect, BoundUpdate, ChangeTarget, CursorBody, PositionedTarget,
-    UpdatableQuery,
-};
+use crate::walk::{ListedCursor, listed_walk};
+use sq_bound::{BoundFetch, BoundInsert, BoundSelect, BoundUpdate, ChangeTarget, PositionedTarget};
 use sq_change::{delete, insert, update};
-use sq_items::Items;
 use sq_meaning::Status;
 use sq_query::{Fault, specification_rows};
 use sq_store::{Meter, Store};
-use sq_value::Row;
 use std::alloc::{AllocError, Global};
 use std::marker::Model;
 
@@ -71,10 +67,11 @@ impl<S: Store> Machine<S> {
             Some(CursorState::Closed) => {}
             Some(_) => return Err(Fault::Status(Status::InvalidCursorState)),
         }
-        let Some(cursor) = called.cursors.get(number) else {
+        let Some(declared) = called.cursors.get(number) else {
             return Err(Fault::NOT_WELL_FORMED);
         };
-        self.cursors[number] = opened(called, cursor, &self.store, meter)?;
+        let cursor = opened(called, &declared.cursor, &self.store, meter)?;
+        put(self.cursors.as_mut_slice(), number, cursor);
         Ok(Done::successful(called.alloc))
     }
 
@@ -88,10 +85,13 @@ impl<S: Store> Machine<S> {
         ensures step { IfSome (ending result) (λ d. MayFetch (slice_get self.old.cursors fetch.now.cursor) fetch.now.cursor self.old d self.new) }
         ensures err { OnErr result (self.new ≡ self.old) }
     {
-        match self.cursors.get_mut(fetch.cursor) {
-            None => Err(Fault::NOT_WELL_FORMED),
-            Some(cursor) => fetch_cursor(called, fetch, cursor, &self.store, meter),
-        }
+        fetch_at(
+            called,
+            fetch,
+            self.cursors.as_mut_slice(),
+            &self.store,
+            meter,
+        )
     }
 
     /// CLOSE (13.4).
@@ -166,7 +166,8 @@ impl<S: Store> Machine<S> {
         ensures err { OnErr result (self.new ≡ self.old) }
     {
         let on = self.current(&statement.target)?;
-        update(
+        let listed = self.listed(called, base_of(&statement.target))?;
+        let updated = update(
             called.alloc,
             called.catalog,
             statement,
@@ -174,8 +175,17 @@ impl<S: Store> Machine<S> {
             &mut self.store,
             called.inputs(),
             meter,
-        )?;
-        Ok(Done::successful(called.alloc))
+        );
+        match updated {
+            Ok(()) => {
+                put_lists(self.cursors.as_mut_slice(), listed);
+                Ok(Done::successful(called.alloc))
+            }
+            Err(fault) => {
+                drop(listed);
+                Err(fault)
+            }
+        }
     }
 
     /// DELETE (13.6, 13.7). After a positioned one the cursor is before the next row.
@@ -199,7 +209,7 @@ impl<S: Store> Machine<S> {
             meter,
         )?;
         if let ChangeTarget::Positioned(positioned) = target {
-            self.leave_row(positioned.cursor);
+            leave_row(self.cursors.as_mut_slice(), positioned.cursor);
         }
         Ok(Done::successful(called.alloc))
     }
@@ -209,7 +219,7 @@ impl<S: Store> Machine<S> {
         ensures state { self.new ≡ committed_state self.old }
         ensures done { result ≡ ended status.SuccessfulCompletion }
     {
-        self.close_all();
+        close_all(self.cursors.as_mut_slice());
         self.store.commit();
         Done::successful(alloc)
     }
@@ -219,7 +229,7 @@ impl<S: Store> Machine<S> {
         ensures state { self.new ≡ rolled_back self.old }
         ensures done { result ≡ ended status.SuccessfulCompletion }
     {
-        self.close_all();
+        close_all(self.cursors.as_mut_slice());
         self.store.rollback();
         Done::successful(alloc)
     }
@@ -252,125 +262,24 @@ impl<S: Store> Machine<S> {
         }
     }
 
-    fn leave_row(&mut self, cursor: usize)
-        ensures { Touches cursor self.old self.new }
-    {
-        if let Some(CursorState::Numbers(numbers)) = self.cursors.get_mut(cursor) {
-            numbers.on = None;
+    /// For each cursor that walks over a base table, the numbers of the rows that are left to it.
+    fn listed(&self, called: &Called<'_>, table: usize) -> Result<Vec<ListedCursor>, Fault> {
+        let mut listed = Vec::new(called.alloc);
+        for (number, cursor) in self.cursors.iter().enumerate() {
+            if let CursorState::Walking(walk) = cursor {
+                if let Some(numbers) = listed_walk(called, number, table, &self.store, walk)? {
+                    listed.push(ListedCursor { number, numbers })?;
+                }
+            }
         }
-    }
-
-    fn close_all(&mut self)
-        ensures { self.new ≡ record self.old { cursors = all_closed self.old.cursors } }
-    {
-        for cursor in self.cursors.iter_mut() {
-            *cursor = CursorState::Closed;
-        }
+        Ok(listed)
     }
 }
 
-fn closed_cursors(alloc: Global, count: usize) -> Result<Vec<CursorState>, AllocError>
-    ensures { IfOk result (λ cursors. cursors.items ≡ replicate count CursorState.Closed) }
-{
-    let mut cursors = Vec::new(alloc);
-    for _ in 0..count {
-        cursors.push(CursorState::Closed)?;
+/// The place of the base table that a statement changes.
+fn base_of(target: &ChangeTarget) -> usize {
+    match target {
+        ChangeTarget::Searched(target) => target.base,
+        ChangeTarget::Positioned(positioned) => positioned.base,
     }
-    Ok(cursors)
-}
-
-/// The number that a cursor is on.
-fn number_on(cursor: &CursorState) -> Option<u64>
-    ensures { result ≡ number_on cursor.now }
-{
-    match cursor {
-        CursorState::Numbers(numbers) => numbers.on,
-        _ => None,
-    }
-}
-
-/// FETCH of a cursor.
-fn fetch_cursor<S: Store>(
-    called: &Called<'_>,
-    fetch: &BoundFetch,
-    cursor: &mut CursorState,
-    store: &S,
-    meter: &mut Meter,
-) -> Result<Done, Fault>
-    ensures closed { is_open cursor.old ≡ false → result ≡ Err (fault.Status status.InvalidCursorState) }
-    ensures stays { is_open cursor.new ≡ is_open cursor.old }
-    ensures err { OnErr result (cursor.new ≡ cursor.old) }
-    ensures known { IfOk result (λ d. NotRefused d.status) }
-{
-    match cursor {
-        CursorState::Closed => Err(Fault::Status(Status::InvalidCursorState)),
-        CursorState::Numbers(numbers) => fetch_number(called, fetch, numbers, store, meter),
-        CursorState::Rows(rows) => fetch_row(called, fetch, rows),
-    }
-}
-
-/// FETCH of a cursor over rows.
-fn fetch_row(
-    called: &Called<'_>,
-    fetch: &BoundFetch,
-    cursor: &mut RowsCursor,
-) -> Result<Done, Fault>
-    ensures err { OnErr result (cursor.new ≡ cursor.old) }
-    ensures known { IfOk result (λ d. NotRefused d.status) }
-{
-    let rows = cursor.rows.as_slice();
-    let place = place_wanted(fetch.orientation, called.values, rows.len(), cursor.place)?;
-    let done = match row_at(rows, place) {
-        None => Done::without_outputs(called.alloc, Status::NoData),
-        Some(row) => row_retrieved(called, fetch.outputs.as_slice(), row.as_slice())?,
-    };
-    cursor.place = place;
-    Ok(done)
-}
-
-/// FETCH of an updatable cursor: the next number under which there is a row now, and that row as it is now.
-fn fetch_number<S: Store>(
-    called: &Called<'_>,
-    fetch: &BoundFetch,
-    cursor: &mut NumbersCursor,
-    store: &S,
-    meter: &mut Meter,
-) -> Result<Done, Fault>
-    ensures err { OnErr result (cursor.new ≡ cursor.old) }
-    ensures known { IfOk result (λ d. NotRefused d.status) }
-{
-    let query = updatable_query(called, fetch.cursor)?;
-    let Some(reached) = next_there(store, query.target.base, cursor, meter) else {
-        cursor.passed = cursor.numbers.len();
-        cursor.on = None;
-        return Ok(Done::without_outputs(called.alloc, Status::NoData));
-    };
-    let row = shown(called.alloc, reached.row, query.columns.as_slice())?;
-    let done = row_retrieved(called, fetch.outputs.as_slice(), row.as_slice())?;
-    cursor.passed = reached.passed;
-    cursor.on = Some(reached.number);
-    Ok(done)
-}
-
-/// The query of an updatable cursor.
-fn updatable_query<'a>(called: &Called<'a>, cursor: usize) -> Result<&'a UpdatableQuery, Fault> {
-    match called.cursors.get(cursor) {
-        Some(cursor) => match &cursor.body {
-            CursorBody::Updatable(query) => Ok(query),
-            CursorBody::Rows(..) => Err(Fault::NOT_WELL_FORMED),
-        },
-        None => Err(Fault::NOT_WELL_FORMED),
-    }
-}
-
-/// The columns of a row that a query names.
-fn shown(alloc: Global, row: &Row, columns: &[usize]) -> Result<Row, Fault> {
-    let mut values = Items::new(alloc);
-    for column in columns {
-        match row.as_slice().get(*column) {
-            Some(value) => values.push(value.copy(alloc)?)?,
-            None => return Err(Fault::NOT_WELL_FORMED),
-        }
-    }
-    Ok(values)
 }

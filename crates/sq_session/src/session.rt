@@ -7,16 +7,14 @@ ghost use Rattle.sq_session.specs.Kind.{kind_at, needs_memory};
 ghost use Rattle.sq_session.specs.State.{AreClosed};
 ghost use Rattle.sq_session.specs.Step.{MayCall};
 
-use crate::admission::admit;
 use crate::call::{call, reply_of};
 use crate::machine::Machine;
 use crate::parameter::all_fit;
-use crate::program::Program;
-use crate::refusal::SessionFault;
 use crate::reply::Reply;
 use sq_bound::{Names, TablePlace};
 use sq_catalog::Catalog;
 use sq_lex::Name;
+use sq_module::{Program, SessionFault, admit};
 use sq_store::{Meter, Store};
 use sq_tree::ModuleText;
 use sq_value::{Row, Value};
@@ -43,6 +41,7 @@ impl<S: Store> Model for Session<S> {
 impl<S: Store> Session<S> {
     /// A session of these modules over a store of the catalog's tables, with all cursors closed; or the first refusal, module
     /// by module.
+    #[tactic(auto, using(crate::proofs::Closed::replicated_closed))]
     pub fn new(
         alloc: Global,
         catalog: Catalog,

@@ -9,7 +9,7 @@ use sq_tree::{ModuleItem, ModuleText};
 use std::alloc::{AllocError, Global};
 
 /// The first refusal, module by module.
-pub(crate) fn admit(alloc: Global, modules: &[ModuleText]) -> Result<(), SessionFault> {
+pub fn admit(alloc: Global, modules: &[ModuleText]) -> Result<(), SessionFault> {
     let mut names = IndexSet::new(alloc);
     for (text, module) in modules.iter().enumerate() {
         if !is_new(&mut names, module.name)? {

@@ -1,6 +1,0 @@
-use Rattle.std.proofs.Common.{◌≡◌}
-use Rattle.sq_session.proofs.Closed.{closed_below}
-use Rattle.sq_session.proofs.machine.Machine.close_all.Given as goal
-
-abbrev pub invariant-loop-cursor : goal.invariant-loop-cursor
-invariant-loop-cursor g l = l.self.cursors.items ≡ closed_below l.cursor-index l.initial.self.cursors.items
