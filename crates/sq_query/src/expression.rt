@@ -9,8 +9,7 @@ use crate::context::Context;
 use crate::fault::Fault;
 use crate::found::Found;
 use crate::frame::{Frame, column_value};
-use crate::inputs::Inputs;
-use sq_bound::{BoundExpr, Input};
+use sq_bound::{BoundExpr, Input, Operator};
 use sq_value::{Row, Text, Value};
 
 /// The value of an expression.
@@ -21,21 +20,37 @@ pub(crate) fn value<'a>(
 ) -> Result<Found<'a>, Fault> {
     match expr {
         BoundExpr::Literal(value) => Ok(Found::lent(value)),
-        BoundExpr::Parameter(input) => input_value(*input, &context.inputs),
+        BoundExpr::Parameter(input) => input_value(*input, context.parameters),
         BoundExpr::User => user_value(context),
         BoundExpr::Column(place) => column_value(*place, frame),
         BoundExpr::SetFunction(number) => function_value(*number, frame),
-        BoundExpr::Negated(operand) => {
-            let operand = value(operand.get(), frame, context)?;
-            Ok(Found::made(negated(operand.get())?))
-        }
+        BoundExpr::Negated(operand) => negated_or_fault(value(operand.get(), frame, context)),
         BoundExpr::Operations(first, rest) => {
             let mut left = value(first.get(), frame, context)?;
             for operation in rest.as_slice() {
-                let right = value(&operation.operand, frame, context)?;
-                left = Found::made(calculated(operation.operator, left.get(), right.get())?);
+                let right = value(&operation.operand, frame, context);
+                left = calculated_or_fault(operation.operator, left, right)?;
             }
             Ok(left)
+        }
+    }
+}
+
+fn negated_or_fault<'a>(operand: Result<Found<'a>, Fault>) -> Result<Found<'a>, Fault> {
+    let operand = operand?;
+    Ok(Found::made(negated(operand.get())?))
+}
+
+fn calculated_or_fault<'a>(
+    operator: Operator,
+    left: Found<'a>,
+    right: Result<Found<'a>, Fault>,
+) -> Result<Found<'a>, Fault> {
+    match right {
+        Ok(right) => Ok(Found::made(calculated(operator, left.get(), right.get())?)),
+        Err(fault) => {
+            drop(left);
+            Err(fault)
         }
     }
 }
@@ -49,12 +64,12 @@ fn function_value<'a>(number: usize, frame: &Frame<'a>) -> Result<Found<'a>, Fau
 }
 
 /// A parameter's value, and null where its indicator is below zero.
-fn input_value<'a>(input: Input, inputs: &Inputs<'a>) -> Result<Found<'a>, Fault> {
-    let value = parameter_at(input.parameter, inputs)?;
+fn input_value<'a>(input: Input, parameters: &'a [Value]) -> Result<Found<'a>, Fault> {
+    let value = parameter_at(input.parameter, parameters)?;
     match input.indicator {
         None => Ok(Found::lent(value)),
         Some(indicator) => {
-            if is_below_zero(parameter_at(indicator, inputs)?) {
+            if is_below_zero(parameter_at(indicator, parameters)?) {
                 Ok(Found::made(Value::Null))
             } else {
                 Ok(Found::lent(value))
@@ -63,8 +78,8 @@ fn input_value<'a>(input: Input, inputs: &Inputs<'a>) -> Result<Found<'a>, Fault
     }
 }
 
-fn parameter_at<'a>(position: usize, inputs: &Inputs<'a>) -> Result<&'a Value, Fault> {
-    match inputs.parameters.get(position) {
+fn parameter_at(position: usize, parameters: &[Value]) -> Result<&Value, Fault> {
+    match parameters.get(position) {
         Some(value) => Ok(value),
         None => Err(Fault::NOT_WELL_FORMED),
     }
@@ -79,7 +94,7 @@ fn is_below_zero(value: &Value) -> bool {
 
 /// USER has 18 characters (own rule).
 fn user_value<'a>(context: &Context<'_>) -> Result<Found<'a>, Fault> {
-    let name = context.inputs.user;
+    let name = context.user;
     let mut codes = [b' '; 18];
     codes[..name.codes().len()].copy_from_slice(name.codes());
     if !is_text(&codes) {

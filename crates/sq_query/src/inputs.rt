@@ -9,13 +9,3 @@ pub struct Inputs<'a> {
     pub user: Name,
     pub parameters: &'a [Value],
 }
-
-impl Inputs<'_> {
-    /// The same inputs, lent for a shorter time.
-    pub(crate) fn lend(&self) -> Inputs<'_> {
-        Inputs {
-            user: self.user,
-            parameters: self.parameters,
-        }
-    }
-}
