@@ -3,6 +3,7 @@
 ghost use Rattle.std.specs.Prelude.{◌≡◌};
 
 use sq_bound::{BaseTable, BoundCond, BoundExpr, Leaf, Names, TableBody, TablePlace};
+use sq_lex::Name;
 use sq_query::{Fault, Inputs, truth_of, value_of};
 use sq_store::Store;
 use sq_value::{Row, Truth, Value};
@@ -14,7 +15,8 @@ pub(crate) struct Setting<'a, N: Names, S: Store> {
     pub(crate) alloc: Global,
     pub(crate) names: &'a N,
     pub(crate) store: &'a S,
-    inputs: &'a Inputs<'a>,
+    user: Name,
+    parameters: &'a [Value],
 }
 
 impl<'a, N: Names, S: Store> Setting<'a, N, S> {
@@ -22,7 +24,8 @@ impl<'a, N: Names, S: Store> Setting<'a, N, S> {
         alloc: Global,
         names: &'a N,
         store: &'a S,
-        inputs: &'a Inputs<'a>,
+        user: Name,
+        parameters: &'a [Value],
     ) -> Setting<'a, N, S>
         ensures { result.store.now ≡ store.now }
     {
@@ -30,15 +33,16 @@ impl<'a, N: Names, S: Store> Setting<'a, N, S> {
             alloc,
             names,
             store,
-            inputs,
+            user,
+            parameters,
         }
     }
 
     /// The user and the parameters' values.
     pub(crate) fn inputs(&self) -> Inputs<'a> {
         Inputs {
-            user: self.inputs.user,
-            parameters: self.inputs.parameters,
+            user: self.user,
+            parameters: self.parameters,
         }
     }
 
