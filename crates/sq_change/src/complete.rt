@@ -6,8 +6,9 @@ ghost use Rattle.sq_store.specs.Change.{insert_count, rows_put};
 ghost use Rattle.sq_store.specs.Content.{table_at};
 ghost use Rattle.sq_store.specs.Keys.{has_keys, keys_at};
 
-use crate::constraint::{check_options_met, row_put, rows_satisfied};
+use crate::constraint::{check_options_met, rows_satisfied};
 use crate::reference::{Referenced, referenced_by, references_satisfied};
+use crate::row::has_columns;
 use crate::setting::{Setting, base_table};
 use sq_bound::{Names, TablePlace};
 use sq_items::Items;
@@ -44,7 +45,8 @@ pub(crate) fn complete<N: Names, S: Store>(
     ensures keys { S.key_columns store.new ≡ S.key_columns store.old }
     ensures numbers { S.row_numbers store.new ≡ S.row_numbers store.old }
 {
-    let referenced = match rows_admitted(alloc, names, &changed, &*store, user, parameters) {
+    let setting = Setting::new(alloc, names, &*store, user, parameters);
+    let referenced = match rows_admitted(&setting, &changed) {
         Ok(referenced) => referenced,
         Err(fault) => {
             drop(changed);
@@ -73,20 +75,15 @@ pub(crate) fn complete<N: Names, S: Store>(
 }
 
 /// Whether the rows that are put in a table may be there, and the rows to which they refer.
-fn rows_admitted<'a, N: Names, S: Store>(
-    alloc: Global,
-    names: &'a N,
+fn rows_admitted<N: Names, S: Store>(
+    setting: &Setting<'_, N, S>,
     changed: &Changed,
-    store: &'a S,
-    user: Name,
-    parameters: &'a [Value],
 ) -> Result<Vec<Referenced>, Fault> {
-    let setting = Setting::new(alloc, names, store, user, parameters);
-    let table = base_table(names, changed.place)?;
+    let table = base_table(setting.names, changed.place)?;
     let changes = changed.changes.as_slice();
-    check_options_met(&setting, changed.named, changes)?;
-    rows_satisfied(&setting, table, changes)?;
-    referenced_by(alloc, table, changes)
+    check_options_met(setting, changed.named, changes)?;
+    rows_satisfied(setting, table, changes)?;
+    referenced_by(setting.alloc, table, changes)
 }
 
 /// Makes changes in the store, where no two rows have the same key afterwards.
@@ -130,10 +127,13 @@ fn all_have_keys(keys: &[Items<usize>], changes: &[Change]) -> bool
     ensures { result ≡ list_all (has_keys keys.now) (rows_put changes.now) }
 {
     for change in changes {
-        if let Some(row) = row_put(change) {
-            if !has_all_keys(keys, row.as_slice()) {
-                return false;
-            }
+        let fits = match change {
+            Change::Insert(row) => has_all_keys(keys, row.as_slice()),
+            Change::Replace(_, row) => has_all_keys(keys, row.as_slice()),
+            Change::Remove(_) => true,
+        };
+        if !fits {
+            return false;
         }
     }
     true
@@ -143,12 +143,16 @@ fn all_have_keys(keys: &[Items<usize>], changes: &[Change]) -> bool
 fn has_all_keys(keys: &[Items<usize>], row: &[Value]) -> bool
     ensures { result ≡ has_keys keys.now row.now }
 {
-    keys.iter()
-        .all(|columns| columns.as_slice().iter().all(|column| *column < row.len()))
+    for columns in keys {
+        if !has_columns(row, columns.as_slice()) {
+            return false;
+        }
+    }
+    true
 }
 
 /// How many new rows there are.
-pub(crate) fn count_inserts(changes: &[Change]) -> u64
+fn count_inserts(changes: &[Change]) -> u64
     ensures { result ≡ insert_count changes.now }
 {
     let mut count: u64 = 0;

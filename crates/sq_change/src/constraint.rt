@@ -1,5 +1,6 @@
 //! What new and changed rows have to meet: check options, NOT NULL and CHECK (ISO/IEC 9075:1992, 11.4, 11.9, 11.19).
 
+use crate::row::{is_null, row_put};
 use crate::setting::{Setting, leaf_of};
 use sq_bound::{BaseTable, BoundCond, Leaf, Names, TablePlace};
 use sq_meaning::Status;
@@ -28,15 +29,6 @@ fn demanded_views(leaf: &Leaf) -> Result<&[usize], Fault> {
         return Err(Fault::NOT_WELL_FORMED);
     }
     Ok(&leaf.views.as_slice()[..leaf.demanded])
-}
-
-/// The row that a change puts in its table.
-pub(crate) fn row_put(change: &Change) -> Option<&Row> {
-    match change {
-        Change::Insert(row) => Some(row),
-        Change::Replace(_, row) => Some(row),
-        Change::Remove(_) => None,
-    }
 }
 
 /// Whether the conditions of the views are true, one after the other.
@@ -98,13 +90,6 @@ fn lacks_value(table: &BaseTable, row: &[Value]) -> bool {
         }
     }
     false
-}
-
-pub(crate) fn is_null(value: &Value) -> bool {
-    match value {
-        Value::Null => true,
-        _ => false,
-    }
 }
 
 /// A CHECK is satisfied when it is not false.

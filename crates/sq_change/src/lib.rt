@@ -8,6 +8,7 @@ mod complete;
 mod constraint;
 mod given;
 mod reference;
+mod row;
 mod setting;
 mod statement;
 mod storing;

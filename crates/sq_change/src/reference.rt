@@ -1,15 +1,14 @@
 //! References between tables after a change (ISO/IEC 9075:1992, 11.8).
 
-ghost use Rattle.std.specs.Prelude.{◌<◌, length, IsTrue};
-ghost use Rattle.sq_value.specs.Key.{HasColumns};
+ghost use Rattle.std.specs.Prelude.{◌<◌, length};
 
-use crate::constraint::{is_null, row_put};
+use crate::row::{has_columns, has_null, row_put};
 use crate::setting::base_table;
 use sq_bound::{BaseTable, Names, Reference};
 use sq_meaning::Status;
 use sq_query::Fault;
 use sq_store::{Change, Meter, Store};
-use sq_value::{Key, Row, Value};
+use sq_value::{Key, Row};
 use std::alloc::Global;
 
 /// A row that has to be there: the one with these values in a key of a table.
@@ -56,32 +55,17 @@ fn push_referenced(
 
 /// The values of a row's referencing columns, in the order of the referenced key. Where one is null, the row refers to no
 /// row.
-fn values_referred(
-    alloc: Global,
-    reference: &Reference,
-    row: &Row,
-) -> Result<Option<Key>, Fault> {
+#[tactic(auto, using(sq_store::proofs::Sound::HasColumns_test))]
+fn values_referred(alloc: Global, reference: &Reference, row: &Row) -> Result<Option<Key>, Fault> {
     let row = row.as_slice();
     let columns = reference.by_key.as_slice();
     if !has_columns(row, columns) {
         return Err(Fault::NOT_WELL_FORMED);
     }
-    if columns.iter().any(|column| is_null(&row[*column])) {
+    if has_null(row, columns) {
         return Ok(None);
     }
     Ok(Some(Key::of_columns(alloc, row, columns)?))
-}
-
-/// Whether a row has the columns.
-fn has_columns(row: &[Value], columns: &[usize]) -> bool
-    ensures { IsTrue result → HasColumns row.now columns.now }
-{
-    for column in columns {
-        if *column >= row.len() {
-            return false;
-        }
-    }
-    true
 }
 
 /// Whether references hold after a change of a table: those of the rows that were put in it, and those to the keys whose
@@ -94,15 +78,21 @@ pub(crate) fn references_satisfied<N: Names, S: Store>(
     table: usize,
     lost_keys: &[usize],
 ) -> Result<(), Fault> {
-    for row in referenced {
-        is_there(store, row)?;
-    }
+    all_there(store, referenced)?;
     if lost_keys.is_empty() {
         return Ok(());
     }
     for place in 0..store.table_count() {
         let references = base_table(names, place)?.references.as_slice();
         references_to(alloc, store, place, references, table, lost_keys)?;
+    }
+    Ok(())
+}
+
+/// Whether there are all these rows.
+fn all_there<S: Store>(store: &S, referenced: &[Referenced]) -> Result<(), Fault> {
+    for row in referenced {
+        is_there(store, row)?;
     }
     Ok(())
 }

@@ -5,15 +5,11 @@ ghost use Rattle.std.specs.Prelude.{◌≡◌, OnErr};
 use crate::complete::{Changed, complete};
 use crate::given::new_rows;
 use crate::setting::{Setting, base_table};
-use crate::target::{
-    all_keys, changed_table, keys_assigned, numbers_changed, removed, replaced,
-};
+use crate::target::{all_keys, changed_table, keys_assigned, numbers_changed, removed, replaced};
 use sq_bound::{BoundInsert, BoundUpdate, ChangeTarget, Names};
-use sq_lex::Name;
 use sq_meaning::Status;
 use sq_query::{Fault, Inputs};
 use sq_store::{Meter, Store};
-use sq_value::Value;
 use std::alloc::Global;
 
 /// Performs an insert statement (ISO/IEC 9075:1992, 13.8).
@@ -31,27 +27,23 @@ pub fn insert<N: Names, S: Store>(
     ensures numbers { S.row_numbers store.new ≡ S.row_numbers store.old }
 {
     let Inputs { user, parameters } = inputs;
-    let changed = inserted(alloc, names, insert, &*store, user, parameters, meter)?;
+    let setting = Setting::new(alloc, names, &*store, user, parameters);
+    let changed = inserted(&setting, insert, meter)?;
     complete(alloc, names, changed, store, user, parameters)
 }
 
 /// The new rows of an insert statement, which need as many row numbers (own rule).
-fn inserted<'a, N: Names, S: Store>(
-    alloc: Global,
-    names: &'a N,
+fn inserted<N: Names, S: Store>(
+    setting: &Setting<'_, N, S>,
     insert: &BoundInsert,
-    store: &'a S,
-    user: Name,
-    parameters: &'a [Value],
     meter: &mut Meter,
 ) -> Result<Changed, Fault> {
-    let setting = Setting::new(alloc, names, store, user, parameters);
-    let table = base_table(names, insert.base)?;
-    if insert.base >= store.table_count() {
+    let table = base_table(setting.names, insert.base)?;
+    if insert.base >= setting.store.table_count() {
         return Err(Fault::NOT_WELL_FORMED);
     }
-    let changes = new_rows(&setting, insert, table, meter)?;
-    if changes.len() as u64 > store.numbers_left(insert.base) {
+    let changes = new_rows(setting, insert, table, meter)?;
+    if changes.len() as u64 > setting.store.numbers_left(insert.base) {
         drop(changes);
         return Err(Fault::Status(Status::NoRowNumberLeft));
     }
@@ -59,7 +51,7 @@ fn inserted<'a, N: Names, S: Store>(
         named: insert.table,
         place: insert.base,
         changes,
-        lost_keys: Vec::new(alloc),
+        lost_keys: Vec::new(setting.alloc),
     })
 }
 
@@ -79,31 +71,27 @@ pub fn update<N: Names, S: Store>(
     ensures numbers { S.row_numbers store.new ≡ S.row_numbers store.old }
 {
     let Inputs { user, parameters } = inputs;
-    let changed = updated(alloc, names, update, on, &*store, user, parameters, meter)?;
+    let setting = Setting::new(alloc, names, &*store, user, parameters);
+    let changed = updated(&setting, update, on, meter)?;
     complete(alloc, names, changed, store, user, parameters)
 }
 
 /// The changed rows of an update statement.
-fn updated<'a, N: Names, S: Store>(
-    alloc: Global,
-    names: &'a N,
+fn updated<N: Names, S: Store>(
+    setting: &Setting<'_, N, S>,
     update: &BoundUpdate,
     on: Option<u64>,
-    store: &'a S,
-    user: Name,
-    parameters: &'a [Value],
     meter: &mut Meter,
 ) -> Result<Changed, Fault> {
-    let setting = Setting::new(alloc, names, store, user, parameters);
     let (named, place) = changed_table(&update.target);
-    let table = base_table(names, place)?;
-    if place >= store.table_count() {
+    let table = base_table(setting.names, place)?;
+    if place >= setting.store.table_count() {
         return Err(Fault::NOT_WELL_FORMED);
     }
     let assignments = update.assignments.as_slice();
-    let lost_keys = keys_assigned(alloc, table, assignments)?;
-    let numbers = numbers_changed(&setting, &update.target, on, meter)?;
-    let changes = replaced(&setting, table, place, assignments, numbers.as_slice())?;
+    let lost_keys = keys_assigned(setting.alloc, table, assignments)?;
+    let numbers = numbers_changed(setting, &update.target, on, meter)?;
+    let changes = replaced(setting, table, place, assignments, numbers.as_slice())?;
     Ok(Changed {
         named,
         place,
@@ -128,30 +116,26 @@ pub fn delete<N: Names, S: Store>(
     ensures numbers { S.row_numbers store.new ≡ S.row_numbers store.old }
 {
     let Inputs { user, parameters } = inputs;
-    let changed = deleted(alloc, names, target, on, &*store, user, parameters, meter)?;
+    let setting = Setting::new(alloc, names, &*store, user, parameters);
+    let changed = deleted(&setting, target, on, meter)?;
     complete(alloc, names, changed, store, user, parameters)
 }
 
 /// The removed rows of a delete statement.
-fn deleted<'a, N: Names, S: Store>(
-    alloc: Global,
-    names: &'a N,
+fn deleted<N: Names, S: Store>(
+    setting: &Setting<'_, N, S>,
     target: &ChangeTarget,
     on: Option<u64>,
-    store: &'a S,
-    user: Name,
-    parameters: &'a [Value],
     meter: &mut Meter,
 ) -> Result<Changed, Fault> {
-    let setting = Setting::new(alloc, names, store, user, parameters);
     let (named, place) = changed_table(target);
-    let table = base_table(names, place)?;
-    let lost_keys = all_keys(alloc, table)?;
-    let numbers = numbers_changed(&setting, target, on, meter)?;
+    let table = base_table(setting.names, place)?;
+    let lost_keys = all_keys(setting.alloc, table)?;
+    let numbers = numbers_changed(setting, target, on, meter)?;
     Ok(Changed {
         named,
         place,
-        changes: removed(alloc, numbers.as_slice())?,
+        changes: removed(setting.alloc, numbers.as_slice())?,
         lost_keys,
     })
 }

@@ -1,7 +1,7 @@
 //! Values as the columns of a base table store them (ISO/IEC 9075:1992, 9.2).
 
-ghost use Rattle.std.specs.Prelude.{IsTrue};
-ghost use Rattle.sq_value.specs.Domain.{FitsKind, IsDomain};
+ghost use Rattle.std.specs.Prelude.{◌≡◌, IsTrue};
+ghost use Rattle.sq_value.specs.Domain.{FitsKind, IsDomain, is_of_numbers};
 
 use crate::setting::Setting;
 use sq_bound::{BaseTable, BoundExpr, Names};
@@ -71,7 +71,9 @@ pub fn fits_kind(domain: Domain, value: &Value) -> bool
 }
 
 /// Whether the domain is one of numbers.
-fn is_of_numbers(domain: Domain) -> bool {
+fn is_of_numbers(domain: Domain) -> bool
+    ensures { result ≡ is_of_numbers domain }
+{
     match domain {
         Domain::Small | Domain::Int | Domain::Numeric(_, _) => true,
         Domain::Char(_) | Domain::VarChar(_) => false,

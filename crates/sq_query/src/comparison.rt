@@ -26,8 +26,24 @@ pub(crate) fn compared(comparison: Comparison, left: &Value, right: &Value) -> T
     }
 }
 
-/// A value compared with the rows of a subquery of one column.
-pub(crate) fn compared_with_rows(
+/// A value compared with what a subquery of one column ended with.
+pub(crate) fn compared_with_query(
+    comparison: Comparison,
+    quantifier: Compared,
+    left: &Value,
+    rows: Result<Vec<Row>, Fault>,
+) -> Result<Truth, Fault> {
+    let rows = rows?;
+    compared_with_rows(comparison, quantifier, left, rows.as_slice())
+}
+
+/// Whether a subquery has a row.
+pub(crate) fn exists(rows: Result<Vec<Row>, Fault>) -> Result<Truth, Fault> {
+    let rows = rows?;
+    Ok(Truth::from(!rows.is_empty()))
+}
+
+fn compared_with_rows(
     comparison: Comparison,
     quantifier: Compared,
     left: &Value,
@@ -59,7 +75,7 @@ fn compared_with_all(comparison: Comparison, left: &Value, rows: &[Row]) -> Trut
 }
 
 /// False on no rows.
-pub(crate) fn compared_with_any(comparison: Comparison, left: &Value, rows: &[Row]) -> Truth {
+fn compared_with_any(comparison: Comparison, left: &Value, rows: &[Row]) -> Truth {
     let mut so_far = Truth::False;
     for row in rows {
         so_far = so_far.or(compared_with_row(comparison, left, row));

@@ -9,7 +9,7 @@ use crate::context::Context;
 use crate::fault::Fault;
 use crate::found::Found;
 use crate::frame::{Frame, column_value};
-use sq_bound::{BoundExpr, Input};
+use sq_bound::{BoundExpr, Input, Operator};
 use sq_value::{Row, Text, Value};
 
 /// The value of an expression.
@@ -24,17 +24,33 @@ pub(crate) fn value<'a>(
         BoundExpr::User => user_value(context),
         BoundExpr::Column(place) => column_value(*place, frame),
         BoundExpr::SetFunction(number) => function_value(*number, frame),
-        BoundExpr::Negated(operand) => {
-            let operand = value(operand.get(), frame, context)?;
-            Ok(Found::made(negated(operand.get())?))
-        }
+        BoundExpr::Negated(operand) => negated_or_fault(value(operand.get(), frame, context)),
         BoundExpr::Operations(first, rest) => {
             let mut left = value(first.get(), frame, context)?;
             for operation in rest.as_slice() {
-                let right = value(&operation.operand, frame, context)?;
-                left = Found::made(calculated(operation.operator, left.get(), right.get())?);
+                let right = value(&operation.operand, frame, context);
+                left = calculated_or_fault(operation.operator, left, right)?;
             }
             Ok(left)
+        }
+    }
+}
+
+fn negated_or_fault<'a>(operand: Result<Found<'a>, Fault>) -> Result<Found<'a>, Fault> {
+    let operand = operand?;
+    Ok(Found::made(negated(operand.get())?))
+}
+
+fn calculated_or_fault<'a>(
+    operator: Operator,
+    left: Found<'a>,
+    right: Result<Found<'a>, Fault>,
+) -> Result<Found<'a>, Fault> {
+    match right {
+        Ok(right) => Ok(Found::made(calculated(operator, left.get(), right.get())?)),
+        Err(fault) => {
+            drop(left);
+            Err(fault)
         }
     }
 }

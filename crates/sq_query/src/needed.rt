@@ -21,6 +21,30 @@ impl Needed {
         }
     }
 
+    /// The tables in the FROM clauses of a query specification.
+    pub(crate) fn of_specification(
+        alloc: Global,
+        query: &BoundSpecification,
+    ) -> Result<Needed, AllocError> {
+        let mut needed = Needed::new(alloc);
+        needed.add_of_specification(query)?;
+        Ok(needed)
+    }
+
+    /// The tables in the FROM clauses of a query expression.
+    pub(crate) fn of_query(alloc: Global, query: &BoundQuery) -> Result<Needed, AllocError> {
+        let mut needed = Needed::new(alloc);
+        needed.add_of_query(query)?;
+        Ok(needed)
+    }
+
+    /// The tables in the FROM clauses of a condition's subqueries.
+    pub(crate) fn of_condition(alloc: Global, condition: &BoundCond) -> Result<Needed, AllocError> {
+        let mut needed = Needed::new(alloc);
+        needed.add_of_condition(condition)?;
+        Ok(needed)
+    }
+
     /// A place above those of all views.
     pub(crate) fn view_end(&self) -> usize {
         let mut end: usize = 0;

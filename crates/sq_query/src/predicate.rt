@@ -10,8 +10,11 @@ use sq_tree::Comparison;
 use sq_value::{Truth, Value, like};
 
 /// The truth, or its negation where NOT is written.
-pub(crate) fn negated_if(is_negated: bool, truth: Truth) -> Truth {
-    if is_negated { truth.not() } else { truth }
+pub(crate) fn negated_if(is_negated: bool, truth: Result<Truth, Fault>) -> Result<Truth, Fault> {
+    match truth {
+        Ok(truth) if is_negated => Ok(truth.not()),
+        _ => truth,
+    }
 }
 
 /// `left op right`.
@@ -70,14 +73,36 @@ pub(crate) fn like_truth(
     context: &Context<'_>,
 ) -> Result<Truth, Fault> {
     let text = value(text, frame, context)?;
+    like_pattern(text.get(), pattern, escape, frame, context)
+}
+
+fn like_pattern(
+    text: &Value,
+    pattern: &BoundExpr,
+    escape: &Option<BoundExpr>,
+    frame: &Frame<'_>,
+    context: &Context<'_>,
+) -> Result<Truth, Fault> {
     let pattern = value(pattern, frame, context)?;
     match escape {
-        None => Ok(like(text.get(), pattern.get(), None)?),
-        Some(escape) => {
-            let escape = value(escape, frame, context)?;
-            Ok(like(text.get(), pattern.get(), Some(escape.get()))?)
-        }
+        None => like_or_status(text, pattern.get(), None),
+        Some(escape) => like_escape(text, pattern.get(), escape, frame, context),
     }
+}
+
+fn like_escape(
+    text: &Value,
+    pattern: &Value,
+    escape: &BoundExpr,
+    frame: &Frame<'_>,
+    context: &Context<'_>,
+) -> Result<Truth, Fault> {
+    let escape = value(escape, frame, context)?;
+    like_or_status(text, pattern, Some(escape.get()))
+}
+
+fn like_or_status(text: &Value, pattern: &Value, escape: Option<&Value>) -> Result<Truth, Fault> {
+    Ok(like(text, pattern, escape)?)
 }
 
 /// `operand IS NULL`.

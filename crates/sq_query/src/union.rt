@@ -6,7 +6,7 @@ use crate::context::Context;
 use crate::fault::Fault;
 use crate::select::distinct_rows;
 use sq_bound::{BoundQuery, BoundTerm, BoundUnion, ResultColumn};
-use sq_value::{Decimal, Domain, Kind, Row, Text, Value, store};
+use sq_value::{Decimal, Domain, Kind, Row, Value, store};
 use std::alloc::Global;
 
 /// The rows of a query expression: terms are joined from left to right.
@@ -77,7 +77,7 @@ fn brought_to(kind: Kind, value: &Value, alloc: Global) -> Result<Value, Fault> 
     match (kind, value) {
         (_, Value::Null) => Ok(Value::Null),
         (Kind::Num(scale), Value::Num(number)) => Ok(Value::Num(at_scale(scale, *number)?)),
-        (Kind::Chars(length), Value::Chars(text)) => padded(length, text, value, alloc),
+        (Kind::Chars(length), Value::Chars(_)) => padded(length, value, alloc),
         (Kind::Vary(_), Value::Chars(_)) => Ok(value.copy(alloc)?),
         _ => Err(Fault::NOT_WELL_FORMED),
     }
@@ -92,7 +92,10 @@ fn at_scale(scale: u8, number: Decimal) -> Result<Decimal, Fault> {
 }
 
 /// The text with blanks behind it, up to a length that is no smaller than its own.
-fn padded(length: u16, text: &Text, value: &Value, alloc: Global) -> Result<Value, Fault> {
+fn padded(length: u16, value: &Value, alloc: Global) -> Result<Value, Fault> {
+    let Value::Chars(text) = value else {
+        return Err(Fault::NOT_WELL_FORMED);
+    };
     if length == 0 || length > 240 || text.codes().len() > length as usize {
         return Err(Fault::NOT_WELL_FORMED);
     }
