@@ -1,0 +1,3 @@
+pub mod Besides
+pub mod Closed
+pub mod Walk

@@ -1,12 +1,18 @@
 //! A call: a procedure's statement with the values that are handed in (ISO/IEC 9075:1992, 12.3).
 
+ghost use Rattle.std.specs.Prelude.{◌≡◌, false, IfOk, IfSome, IsSome, None, OnErr, Some, true};
+ghost use Rattle.sq_query.specs.declared.fault.Fault.TheVariants as fault;
+ghost use Rattle.sq_session.specs.Kind.{kind_at, kind_of, needs_memory, takes_memory};
+ghost use Rattle.sq_session.specs.Session.{kinds_of};
+ghost use Rattle.sq_session.specs.Step.{MayCall, MayStep, ending};
+
 use crate::called::Called;
 use crate::machine::Machine;
 use crate::parameter::started_values;
-use crate::program::{BoundProcedure, Program};
 use crate::reply::{Done, Reply};
 use sq_bound::BoundStatement;
 use sq_catalog::Catalog;
+use sq_module::{BoundProcedure, Program};
 use sq_query::Fault;
 use sq_store::{Meter, Store};
 use sq_value::Value;
@@ -21,7 +27,12 @@ pub(crate) fn call<S: Store>(
     values: &[Value],
     machine: &mut Machine<S>,
     meter: &mut Meter,
-) -> Result<Done, Fault> {
+) -> Result<Done, Fault>
+    ensures step { IfSome (ending result) (λ d.
+        MayCall (kind_at (kinds_of program.now.procedures.items) procedure) machine.old d machine.new) }
+    ensures err { OnErr result (machine.new ≡ machine.old) }
+    ensures memory { needs_memory (kind_at (kinds_of program.now.procedures.items) procedure) ≡ false → IsSome (ending result) }
+{
     let Some(procedure) = program.procedures.get(procedure) else {
         return Err(Fault::NOT_WELL_FORMED);
     };
@@ -46,7 +57,11 @@ fn with_values<S: Store>(
     values: &[Value],
     machine: &mut Machine<S>,
     meter: &mut Meter,
-) -> Result<Done, Fault> {
+) -> Result<Done, Fault>
+    requires { takes_memory (kind_of statement.now) ≡ true }
+    ensures step { IfSome (ending result) (λ d. MayStep (kind_of statement.now) machine.old d machine.new) }
+    ensures err { OnErr result (machine.new ≡ machine.old) }
+{
     let values = started_values(alloc, procedure.parameters.as_slice(), values)?;
     let called = Called {
         alloc,
@@ -62,7 +77,8 @@ fn with_values<S: Store>(
         BoundStatement::Insert(insert) => machine.insert(&called, insert, meter),
         BoundStatement::Update(update) => machine.update(&called, update, meter),
         BoundStatement::Delete(target) => machine.delete(&called, target, meter),
-        _ => Err(Fault::NOT_WELL_FORMED),
+        BoundStatement::Close(_) | BoundStatement::Commit | BoundStatement::Rollback =>
+            unreachable!(),
     }
 }
 
@@ -71,7 +87,10 @@ pub(crate) fn reply_of(
     alloc: Global,
     ended: Result<Done, Fault>,
     reads: u64,
-) -> Result<Reply, AllocError> {
+) -> Result<Reply, AllocError>
+    ensures ends { IfOk result (λ r. ending ended ≡ Some (record { status = r.status; outputs = r.outputs })) }
+    ensures err { OnErr result (ending ended ≡ None) }
+{
     let Done { status, outputs } = match ended {
         Ok(done) => done,
         Err(Fault::Status(status)) => Done::without_outputs(alloc, status),

@@ -1,8 +1,7 @@
 //! What a statement is given besides the tables and cursors.
 
-use crate::program::BoundProcedure;
-use sq_bound::BoundCursor;
 use sq_catalog::Catalog;
+use sq_module::{BoundProcedure, DeclaredCursor};
 use sq_query::Inputs;
 use sq_value::Value;
 use std::alloc::Global;
@@ -12,7 +11,7 @@ use std::alloc::Global;
 pub(crate) struct Called<'a> {
     pub(crate) alloc: Global,
     pub(crate) catalog: &'a Catalog,
-    pub(crate) cursors: &'a [BoundCursor],
+    pub(crate) cursors: &'a [DeclaredCursor],
     pub(crate) procedure: &'a BoundProcedure,
     pub(crate) values: &'a [Value],
 }

@@ -1,6 +1,10 @@
 //! Cursors, and the place that a FETCH reaches (ISO/IEC 9075:1992, 4.21, 13.2 and 13.3).
 
+ghost use Rattle.std.specs.Prelude.{◌≡◌, IfOk, true};
+ghost use Rattle.sq_session.specs.State.{is_open, number_on};
+
 use crate::called::Called;
+use crate::walk::{WalkingCursor, started_walk};
 use sq_bound::{BoundCursor, CursorBody, Distance, FetchOrientation};
 use sq_items::Items;
 use sq_query::{Fault, numbers_of, ordered_rows};
@@ -13,6 +17,8 @@ pub enum CursorState {
     Closed,
     /// An updatable cursor: the numbers of its rows.
     Numbers(NumbersCursor),
+    /// An updatable cursor whose conditions answer no status: how far it has walked.
+    Walking(WalkingCursor),
     /// Any other cursor: its rows.
     Rows(RowsCursor),
 }
@@ -35,13 +41,26 @@ pub struct RowsCursor {
     pub place: usize,
 }
 
+/// The number that a cursor is on.
+pub(crate) fn number_on(cursor: &CursorState) -> Option<u64>
+    ensures { result ≡ number_on cursor.now }
+{
+    match cursor {
+        CursorState::Numbers(numbers) => numbers.on,
+        CursorState::Walking(walk) => walk.on,
+        CursorState::Closed | CursorState::Rows(_) => None,
+    }
+}
+
 /// An open cursor, before its first row.
 pub(crate) fn opened<S: Store>(
     called: &Called<'_>,
     cursor: &BoundCursor,
     store: &S,
     meter: &mut Meter,
-) -> Result<CursorState, Fault> {
+) -> Result<CursorState, Fault>
+    ensures { IfOk result (λ c. is_open c ≡ true) }
+{
     match &cursor.body {
         CursorBody::Rows(query, order) => {
             let rows = ordered_rows(
@@ -58,6 +77,9 @@ pub(crate) fn opened<S: Store>(
                 place: 0,
             }))
         }
+        CursorBody::Updatable(updatable) if updatable.target.is_quiet => Ok(CursorState::Walking(
+            started_walk(called, updatable.target.base, store)?,
+        )),
         CursorBody::Updatable(updatable) => {
             let numbers = numbers_of(
                 called.alloc,
@@ -98,7 +120,18 @@ pub(crate) fn place_wanted(
             place as i128 + number_of(distance, values)? as i128
         }
     };
-    Ok(wanted.max(0).min(behind) as usize)
+    Ok(bounded(count, wanted))
+}
+
+/// The place, or the nearest one that there is.
+fn bounded(count: usize, wanted: i128) -> usize {
+    if wanted < 0 {
+        0
+    } else if wanted > count as i128 {
+        count.saturating_add(1)
+    } else {
+        wanted as usize
+    }
 }
 
 /// The number of an orientation.

@@ -2,21 +2,20 @@
 //! 13.1 to 13.5, 14.3 and 14.4).
 #![tactic(auto)]
 
-mod admission;
 mod call;
 mod called;
 mod cursor;
-mod declared;
+mod cursors;
+mod fetch;
 mod machine;
-mod opener;
 mod parameter;
-mod program;
-mod refusal;
 mod reply;
 mod session;
 mod target;
+mod walk;
 
 pub use cursor::{CursorState, NumbersCursor, RowsCursor};
-pub use refusal::{ModuleRefusal, ModuleRefusalName, SessionFault};
 pub use reply::{Done, Output, Reply};
 pub use session::Session;
+pub use sq_module::{ModuleRefusal, ModuleRefusalName, SessionFault};
+pub use walk::WalkingCursor;

@@ -1,20 +1,26 @@
 //! The tables and cursors of a session, and the statements that work on them.
 
+ghost use Rattle.std.specs.Prelude.{◌≡◌, false, IfErr, IfOk, IfSome, IsSome, OnErr, OnOk, is_ok, is_some, replicate, slice_get};
+ghost use Rattle.sq_meaning.specs.declared.status.Status.TheVariants as status;
+ghost use Rattle.sq_query.specs.declared.fault.Fault.TheVariants as fault;
+ghost use Rattle.sq_session.specs.Kind.{delete_kind, update_kind};
+ghost use Rattle.sq_session.specs.State.{committed_state, rolled_back};
+ghost use Rattle.sq_session.specs.Step.{MayChange, MayClose, MayFetch, MayOpen, MayStep, ended, ending, is_on_row, is_ready};
+
 use crate::called::Called;
-use crate::cursor::{CursorState, NumbersCursor, RowsCursor, next_there, opened, place_wanted, row_at};
+use crate::cursor::{CursorState, number_on, opened};
+use crate::cursors::{close_all, closed_cursors, leave_row, put, put_lists};
+use crate::fetch::fetch_at;
 use crate::reply::Done;
 use crate::target::row_retrieved;
-use sq_bound::{
-    BoundFetch, BoundInsert, BoundSelect, BoundUpdate, ChangeTarget, CursorBody, PositionedTarget,
-    UpdatableQuery,
-};
+use crate::walk::{ListedCursor, listed_walk};
+use sq_bound::{BoundFetch, BoundInsert, BoundSelect, BoundUpdate, ChangeTarget, PositionedTarget};
 use sq_change::{delete, insert, update};
-use sq_items::Items;
 use sq_meaning::Status;
 use sq_query::{Fault, specification_rows};
 use sq_store::{Meter, Store};
-use sq_value::Row;
 use std::alloc::{AllocError, Global};
+use std::marker::Model;
 
 /// The tables and cursors that statements work on.
 #[derive(Drop)]
@@ -23,9 +29,20 @@ pub(crate) struct Machine<S: Store> {
     cursors: Vec<CursorState>,
 }
 
+impl<S: Store> Model for Machine<S> {
+    ghost use Rattle.sq_session.specs.State.{State};
+
+    ghost Value = { State };
+
+    ghost view = { λ m. record { tables = S.content_now m.store; committed = S.committed m.store; cursors = m.cursors.items } };
+}
+
 impl<S: Store> Machine<S> {
     /// The tables of a store, and so many closed cursors.
-    pub(crate) fn new(alloc: Global, store: S, cursors: usize) -> Result<Machine<S>, AllocError> {
+    pub(crate) fn new(alloc: Global, store: S, cursors: usize) -> Result<Machine<S>, AllocError>
+        ensures { IfOk result (λ m. m
+            ≡ record { tables = S.content_now store; committed = S.committed store; cursors = replicate cursors CursorState.Closed }) }
+    {
         match closed_cursors(alloc, cursors) {
             Ok(cursors) => Ok(Machine { store, cursors }),
             Err(error) => {
@@ -41,16 +58,20 @@ impl<S: Store> Machine<S> {
         called: &Called<'_>,
         number: usize,
         meter: &mut Meter,
-    ) -> Result<Done, Fault> {
-        let Some(cursor) = called.cursors.get(number) else {
-            return Err(Fault::NOT_WELL_FORMED);
-        };
+    ) -> Result<Done, Fault>
+        ensures step { IfSome (ending result) (λ d. MayOpen (slice_get self.old.cursors number) number self.old d self.new) }
+        ensures err { OnErr result (self.new ≡ self.old) }
+    {
         match self.cursors.get(number) {
             None => return Err(Fault::NOT_WELL_FORMED),
             Some(CursorState::Closed) => {}
             Some(_) => return Err(Fault::Status(Status::InvalidCursorState)),
         }
-        self.cursors[number] = opened(called, cursor, &self.store, meter)?;
+        let Some(declared) = called.cursors.get(number) else {
+            return Err(Fault::NOT_WELL_FORMED);
+        };
+        let cursor = opened(called, &declared.cursor, &self.store, meter)?;
+        put(self.cursors.as_mut_slice(), number, cursor);
         Ok(Done::successful(called.alloc))
     }
 
@@ -60,21 +81,25 @@ impl<S: Store> Machine<S> {
         called: &Called<'_>,
         fetch: &BoundFetch,
         meter: &mut Meter,
-    ) -> Result<Done, Fault> {
-        let Some(cursor) = self.cursors.get_mut(fetch.cursor) else {
-            return Err(Fault::NOT_WELL_FORMED);
-        };
-        match cursor {
-            CursorState::Closed => Err(Fault::Status(Status::InvalidCursorState)),
-            CursorState::Numbers(numbers) => {
-                fetch_number(called, fetch, numbers, &self.store, meter)
-            }
-            CursorState::Rows(rows) => fetch_row(called, fetch, rows),
-        }
+    ) -> Result<Done, Fault>
+        ensures step { IfSome (ending result) (λ d. MayFetch (slice_get self.old.cursors fetch.now.cursor) fetch.now.cursor self.old d self.new) }
+        ensures err { OnErr result (self.new ≡ self.old) }
+    {
+        fetch_at(
+            called,
+            fetch,
+            self.cursors.as_mut_slice(),
+            &self.store,
+            meter,
+        )
     }
 
     /// CLOSE (13.4).
-    pub(crate) fn close(&mut self, alloc: Global, number: usize) -> Result<Done, Fault> {
+    pub(crate) fn close(&mut self, alloc: Global, number: usize) -> Result<Done, Fault>
+        ensures step { IfSome (ending result) (λ d. MayClose (slice_get self.old.cursors number) number self.old d self.new) }
+        ensures err { OnErr result (self.new ≡ self.old) }
+        ensures memory { IsSome (ending result) }
+    {
         match self.cursors.get(number) {
             None => Err(Fault::NOT_WELL_FORMED),
             Some(CursorState::Closed) => Err(Fault::Status(Status::InvalidCursorState)),
@@ -115,7 +140,10 @@ impl<S: Store> Machine<S> {
         called: &Called<'_>,
         statement: &BoundInsert,
         meter: &mut Meter,
-    ) -> Result<Done, Fault> {
+    ) -> Result<Done, Fault>
+        ensures step { IfSome (ending result) (λ d. MayChange self.old d self.new) }
+        ensures err { OnErr result (self.new ≡ self.old) }
+    {
         insert(
             called.alloc,
             called.catalog,
@@ -133,9 +161,13 @@ impl<S: Store> Machine<S> {
         called: &Called<'_>,
         statement: &BoundUpdate,
         meter: &mut Meter,
-    ) -> Result<Done, Fault> {
+    ) -> Result<Done, Fault>
+        ensures step { IfSome (ending result) (λ d. MayStep (update_kind statement.now.target) self.old d self.new) }
+        ensures err { OnErr result (self.new ≡ self.old) }
+    {
         let on = self.current(&statement.target)?;
-        update(
+        let listed = self.listed(called, base_of(&statement.target))?;
+        let updated = update(
             called.alloc,
             called.catalog,
             statement,
@@ -143,8 +175,17 @@ impl<S: Store> Machine<S> {
             &mut self.store,
             called.inputs(),
             meter,
-        )?;
-        Ok(Done::successful(called.alloc))
+        );
+        match updated {
+            Ok(()) => {
+                put_lists(self.cursors.as_mut_slice(), listed);
+                Ok(Done::successful(called.alloc))
+            }
+            Err(fault) => {
+                drop(listed);
+                Err(fault)
+            }
+        }
     }
 
     /// DELETE (13.6, 13.7). After a positioned one the cursor is before the next row.
@@ -153,7 +194,10 @@ impl<S: Store> Machine<S> {
         called: &Called<'_>,
         target: &ChangeTarget,
         meter: &mut Meter,
-    ) -> Result<Done, Fault> {
+    ) -> Result<Done, Fault>
+        ensures step { IfSome (ending result) (λ d. MayStep (delete_kind target.now) self.old d self.new) }
+        ensures err { OnErr result (self.new ≡ self.old) }
+    {
         let on = self.current(target)?;
         delete(
             called.alloc,
@@ -165,27 +209,36 @@ impl<S: Store> Machine<S> {
             meter,
         )?;
         if let ChangeTarget::Positioned(positioned) = target {
-            self.leave_row(positioned.cursor);
+            leave_row(self.cursors.as_mut_slice(), positioned.cursor);
         }
         Ok(Done::successful(called.alloc))
     }
 
     /// COMMIT (14.3) closes all cursors.
-    pub(crate) fn commit(&mut self, alloc: Global) -> Done {
-        self.close_all();
+    pub(crate) fn commit(&mut self, alloc: Global) -> Done
+        ensures state { self.new ≡ committed_state self.old }
+        ensures done { result ≡ ended status.SuccessfulCompletion }
+    {
+        close_all(self.cursors.as_mut_slice());
         self.store.commit();
         Done::successful(alloc)
     }
 
     /// ROLLBACK (14.4) closes all cursors.
-    pub(crate) fn rollback(&mut self, alloc: Global) -> Done {
-        self.close_all();
+    pub(crate) fn rollback(&mut self, alloc: Global) -> Done
+        ensures state { self.new ≡ rolled_back self.old }
+        ensures done { result ≡ ended status.SuccessfulCompletion }
+    {
+        close_all(self.cursors.as_mut_slice());
         self.store.rollback();
         Done::successful(alloc)
     }
 
     /// The number that a positioned statement changes; none for a searched one.
-    fn current(&self, target: &ChangeTarget) -> Result<Option<u64>, Fault> {
+    fn current(&self, target: &ChangeTarget) -> Result<Option<u64>, Fault>
+        ensures ready { is_ok result ≡ is_ready self.now target.now }
+        ensures refused { IfErr result (λ f. f ≡ fault.Status status.InvalidCursorState) }
+    {
         match target {
             ChangeTarget::Searched(_) => Ok(None),
             ChangeTarget::Positioned(positioned) => match self.number_there(positioned) {
@@ -196,7 +249,9 @@ impl<S: Store> Machine<S> {
     }
 
     /// The number that a cursor is on, if its row is there.
-    fn number_there(&self, positioned: &PositionedTarget) -> Option<u64> {
+    fn number_there(&self, positioned: &PositionedTarget) -> Option<u64>
+        ensures { is_some result ≡ is_on_row self.now positioned.now }
+    {
         let number = number_on(self.cursors.get(positioned.cursor)?)?;
         if positioned.base >= self.store.table_count() {
             return None;
@@ -207,91 +262,24 @@ impl<S: Store> Machine<S> {
         }
     }
 
-    fn leave_row(&mut self, cursor: usize) {
-        if let Some(CursorState::Numbers(numbers)) = self.cursors.get_mut(cursor) {
-            numbers.on = None;
+    /// For each cursor that walks over a base table, the numbers of the rows that are left to it.
+    fn listed(&self, called: &Called<'_>, table: usize) -> Result<Vec<ListedCursor>, Fault> {
+        let mut listed = Vec::new(called.alloc);
+        for (number, cursor) in self.cursors.iter().enumerate() {
+            if let CursorState::Walking(walk) = cursor {
+                if let Some(numbers) = listed_walk(called, number, table, &self.store, walk)? {
+                    listed.push(ListedCursor { number, numbers })?;
+                }
+            }
         }
-    }
-
-    fn close_all(&mut self) {
-        for cursor in self.cursors.iter_mut() {
-            *cursor = CursorState::Closed;
-        }
+        Ok(listed)
     }
 }
 
-fn closed_cursors(alloc: Global, count: usize) -> Result<Vec<CursorState>, AllocError> {
-    let mut cursors = Vec::new(alloc);
-    for _ in 0..count {
-        cursors.push(CursorState::Closed)?;
+/// The place of the base table that a statement changes.
+fn base_of(target: &ChangeTarget) -> usize {
+    match target {
+        ChangeTarget::Searched(target) => target.base,
+        ChangeTarget::Positioned(positioned) => positioned.base,
     }
-    Ok(cursors)
-}
-
-/// The number that a cursor is on.
-fn number_on(cursor: &CursorState) -> Option<u64> {
-    match cursor {
-        CursorState::Numbers(numbers) => numbers.on,
-        _ => None,
-    }
-}
-
-/// FETCH of a cursor over rows.
-fn fetch_row(
-    called: &Called<'_>,
-    fetch: &BoundFetch,
-    cursor: &mut RowsCursor,
-) -> Result<Done, Fault> {
-    let rows = cursor.rows.as_slice();
-    let place = place_wanted(fetch.orientation, called.values, rows.len(), cursor.place)?;
-    let done = match row_at(rows, place) {
-        None => Done::without_outputs(called.alloc, Status::NoData),
-        Some(row) => row_retrieved(called, fetch.outputs.as_slice(), row.as_slice())?,
-    };
-    cursor.place = place;
-    Ok(done)
-}
-
-/// FETCH of an updatable cursor: the next number under which there is a row now, and that row as it is now.
-fn fetch_number<S: Store>(
-    called: &Called<'_>,
-    fetch: &BoundFetch,
-    cursor: &mut NumbersCursor,
-    store: &S,
-    meter: &mut Meter,
-) -> Result<Done, Fault> {
-    let query = updatable_query(called, fetch.cursor)?;
-    let Some(reached) = next_there(store, query.target.base, cursor, meter) else {
-        cursor.passed = cursor.numbers.len();
-        cursor.on = None;
-        return Ok(Done::without_outputs(called.alloc, Status::NoData));
-    };
-    let row = shown(called.alloc, reached.row, query.columns.as_slice())?;
-    let done = row_retrieved(called, fetch.outputs.as_slice(), row.as_slice())?;
-    cursor.passed = reached.passed;
-    cursor.on = Some(reached.number);
-    Ok(done)
-}
-
-/// The query of an updatable cursor.
-fn updatable_query<'a>(called: &Called<'a>, cursor: usize) -> Result<&'a UpdatableQuery, Fault> {
-    match called.cursors.get(cursor) {
-        Some(cursor) => match &cursor.body {
-            CursorBody::Updatable(query) => Ok(query),
-            CursorBody::Rows(..) => Err(Fault::NOT_WELL_FORMED),
-        },
-        None => Err(Fault::NOT_WELL_FORMED),
-    }
-}
-
-/// The columns of a row that a query names.
-fn shown(alloc: Global, row: &Row, columns: &[usize]) -> Result<Row, Fault> {
-    let mut values = Items::new(alloc);
-    for column in columns {
-        match row.as_slice().get(*column) {
-            Some(value) => values.push(value.copy(alloc)?)?,
-            None => return Err(Fault::NOT_WELL_FORMED),
-        }
-    }
-    Ok(values)
 }

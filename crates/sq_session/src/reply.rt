@@ -1,5 +1,9 @@
 //! What a call answers.
 
+ghost use Rattle.std.specs.Prelude.{◌≡◌};
+ghost use Rattle.sq_meaning.specs.declared.status.Status.TheVariants as status;
+ghost use Rattle.sq_session.specs.Step.{ended};
+
 use sq_items::Items;
 use sq_lex::Name;
 use sq_meaning::Status;
@@ -32,7 +36,9 @@ pub struct Done {
 
 impl Done {
     /// A status alone.
-    pub(crate) fn without_outputs(alloc: Global, status: Status) -> Done {
+    pub(crate) fn without_outputs(alloc: Global, status: Status) -> Done
+        ensures { result ≡ ended status }
+    {
         Done {
             status,
             outputs: Items::new(alloc),
@@ -40,7 +46,9 @@ impl Done {
     }
 
     /// The status of success alone.
-    pub(crate) fn successful(alloc: Global) -> Done {
+    pub(crate) fn successful(alloc: Global) -> Done
+        ensures { result ≡ ended status.SuccessfulCompletion }
+    {
         Done::without_outputs(alloc, Status::SuccessfulCompletion)
     }
 }

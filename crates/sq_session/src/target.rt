@@ -1,5 +1,8 @@
 //! Targets: the parameters that get the values of a row (ISO/IEC 9075:1992, 9.1).
 
+ghost use Rattle.std.specs.Prelude.{◌<◌, ◌^◌, unsigned_abs, IfOk};
+ghost use Rattle.sq_session.specs.Step.{NotRefused};
+
 use crate::called::Called;
 use crate::reply::{Done, Output};
 use sq_bound::ParameterDesc;
@@ -29,7 +32,9 @@ pub(crate) fn row_retrieved(
     called: &Called<'_>,
     targets: &[sq_bound::Output],
     row: &[Value],
-) -> Result<Done, Fault> {
+) -> Result<Done, Fault>
+    ensures { IfOk result (λ d. NotRefused d.status) }
+{
     match assignments_of(called, targets, row) {
         Ok(assignments) => done(called, &assignments),
         Err(Fault::Status(status)) if status != Status::SyntaxErrorOrAccessRuleViolation => {
@@ -40,7 +45,9 @@ pub(crate) fn row_retrieved(
 }
 
 /// The targets and their indicators, in the order in which the parameters are declared.
-fn done(called: &Called<'_>, assignments: &Assignments) -> Result<Done, Fault> {
+fn done(called: &Called<'_>, assignments: &Assignments) -> Result<Done, Fault>
+    ensures { IfOk result (λ d. NotRefused d.status) }
+{
     let parameters = called.procedure.parameters.as_slice();
     let outputs = outputs_of(called.alloc, parameters, assignments.list.as_slice())?;
     Ok(Done {
@@ -152,7 +159,9 @@ impl Assignments {
     }
 }
 
-/// A whole number of a SMALLINT.
-fn whole(number: i64) -> Value {
+/// A whole number.
+fn whole(number: i64) -> Value
+    requires { unsigned_abs number < 10 ^ 18 }
+{
     Value::Num(Decimal::new(number, 0))
 }

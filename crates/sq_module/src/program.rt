@@ -13,12 +13,20 @@ use std::alloc::{AllocError, Global};
 
 /// A procedure of a module.
 #[derive(Drop)]
-pub(crate) struct BoundProcedure {
+pub struct BoundProcedure {
     /// The user of its module.
-    pub(crate) user: Name,
-    pub(crate) parameters: Items<ParameterDesc>,
+    pub user: Name,
+    pub parameters: Items<ParameterDesc>,
     /// None where it has a fault: each call answers 42000.
-    pub(crate) statement: Option<BoundStatement>,
+    pub statement: Option<BoundStatement>,
+}
+
+/// A cursor of a module.
+#[derive(Drop)]
+pub struct DeclaredCursor {
+    /// The user of its module.
+    pub user: Name,
+    pub cursor: BoundCursor,
 }
 
 /// A procedure's module, and its name there.
@@ -30,24 +38,27 @@ struct ProcedureName {
 
 /// The procedures and cursors of all modules. Cursors with a fault are left out.
 #[derive(Drop)]
-pub(crate) struct Program {
-    pub(crate) procedures: Vec<BoundProcedure>,
+pub struct Program {
+    pub procedures: Vec<BoundProcedure>,
     names: IndexMap<ProcedureName, usize>,
-    pub(crate) cursors: Vec<BoundCursor>,
+    pub cursors: Vec<DeclaredCursor>,
 }
 
 /// The cursors of one module: for each name its number among all cursors.
 #[derive(Clone, Copy)]
 struct ModuleCursors<'a> {
     numbers: &'a IndexMap<Name, usize>,
-    cursors: &'a [BoundCursor],
+    cursors: &'a [DeclaredCursor],
 }
 
 impl<'a> Cursors for ModuleCursors<'a> {
     fn cursor(&self, name: Name) -> Option<KnownCursor<'_>> {
         let number = self.numbers.get(&name).copied()?;
         match self.cursors.get(number) {
-            Some(cursor) => Some(KnownCursor { number, cursor }),
+            Some(declared) => Some(KnownCursor {
+                number,
+                cursor: &declared.cursor,
+            }),
             None => None,
         }
     }
@@ -55,7 +66,7 @@ impl<'a> Cursors for ModuleCursors<'a> {
 
 impl Program {
     /// The modules, which are none that is refused, bound one after the other.
-    pub(crate) fn bind(
+    pub fn bind(
         alloc: Global,
         catalog: &Catalog,
         modules: &[ModuleText],
@@ -72,7 +83,7 @@ impl Program {
     }
 
     /// The number of a procedure.
-    pub(crate) fn number(&self, module: Name, name: Name) -> Option<usize> {
+    pub fn number(&self, module: Name, name: Name) -> Option<usize> {
         self.names.get(&ProcedureName { module, name }).copied()
     }
 
@@ -101,7 +112,7 @@ impl Program {
                 let parameters = openers_parameters(alloc, &openers, items, cursor.name)?;
                 let user = module.authorization;
                 let bound = bind_cursor(alloc, catalog, user, parameters.as_slice(), cursor);
-                self.add_cursor(&mut numbers, cursor.name, bound)?;
+                self.add_cursor(&mut numbers, user, cursor.name, bound)?;
             }
         }
         Ok(numbers)
@@ -111,13 +122,14 @@ impl Program {
     fn add_cursor(
         &mut self,
         numbers: &mut IndexMap<Name, usize>,
+        user: Name,
         name: Name,
         bound: Result<BoundCursor, BindFault>,
     ) -> Result<(), AllocError> {
         match without_fault(bound)? {
             Some(cursor) => {
                 let number = self.cursors.len();
-                self.cursors.push(cursor)?;
+                self.cursors.push(DeclaredCursor { user, cursor })?;
                 named(numbers.insert(name, number).is_ok())
             }
             None => Ok(()),

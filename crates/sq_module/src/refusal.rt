@@ -47,7 +47,7 @@ pub enum SessionFault {
 }
 
 impl From<AllocError> for SessionFault {
-    ghost use Rattle.sq_session.specs.declared.refusal.SessionFault.TheVariants.{NoMemory};
+    ghost use Rattle.sq_module.specs.declared.refusal.SessionFault.TheVariants.{NoMemory};
 
     ghost from_gives = { λ _ fault. fault ≡ NoMemory };
 
