@@ -6,3 +6,4 @@ pub mod CursorLaws
 pub mod Computed
 pub mod ComputedRules
 pub mod NameLaws
+pub mod FetchLaws
