@@ -86,11 +86,11 @@ fits_pop n (v ∷ us) u h =
 
 -- ---- one change more
 
-length_push : (ss : List Slot) (s : Slot) → length (ss ++ s ∷ []) ≡ length ss + 1
+pub length_push : (ss : List Slot) (s : Slot) → length (ss ++ s ∷ []) ≡ length ss + 1
 length_push [] s = refl
 length_push (t ∷ ss) s = let rest : length (ss ++ s ∷ []) ≡ length ss + 1 = length_push ss s in omega arith
 
-length_same : (ss : List Slot) (i : ℕ) (s : Slot) → length (slice_set ss i s) ≡ length ss
+pub length_same : (ss : List Slot) (i : ℕ) (s : Slot) → length (slice_set ss i s) ≡ length ss
 length_same [] i s = refl
 length_same (t ∷ ss) zero s = refl
 length_same (t ∷ ss) (suc i) s = ap suc (length_same ss i s)

@@ -7,3 +7,4 @@ pub mod Entries
 pub mod Keyed
 pub mod OnResult
 pub mod Slots
+pub mod Starts

@@ -5,9 +5,10 @@ ghost use Rattle.sq_store.specs.Change.{rows_put};
 ghost use Rattle.sq_store.specs.Keys.{Keys, has_distinct_keys, has_keys, have_keys, with_key};
 ghost use Rattle.sq_heap.specs.Alone.{all_alone};
 ghost use Rattle.sq_heap.specs.Index.{in_all, is_in, keys_of, slot_holds, slots_hold, undo_holds};
-ghost use Rattle.sq_store.specs.Content.{changed, changed_by, first_from, inserted, removed, replaced, row_at};
-ghost use Rattle.sq_heap.specs.Slots.{slot_at, table_of};
+ghost use Rattle.sq_store.specs.Content.{changed, changed_by, first_among, first_from, inserted, removed, replaced, row_at};
+ghost use Rattle.sq_heap.specs.Slots.{rows_from, slot_at, table_of};
 ghost use Rattle.sq_heap.specs.Room.{KeepsRoom};
+ghost use Rattle.sq_heap.specs.Start.{is_from, undo_from};
 ghost use Rattle.sq_heap.specs.Undo.{GoesBack, back, fits};
 
 use crate::index::Index;
@@ -29,9 +30,14 @@ pub(crate) struct HeapTable {
     slots: Vec<Option<Row>>,
     undo: Vec<Undo>,
     indexes: Vec<Index>,
+    /// Every slot before it is empty, now and after all undoing.
+    start: usize,
     ghost undoable: { fits (length slots.items) undo.items ≡ true },
     ghost entered: { slots_hold (in_all indexes.items) 0 slots.items ≡ true },
     ghost undo_entered: { undo_holds (in_all indexes.items) undo.items ≡ true },
+    ghost starts: { slots_hold (is_from start) 0 slots.items ≡ true },
+    ghost undo_starts: { undo_from start undo.items ≡ true },
+    ghost start_within: { start ≤ length slots.items },
 }
 
 impl HeapTable {
@@ -45,6 +51,7 @@ impl HeapTable {
             indexes: empty_indexes(alloc, keys)?,
             slots: Vec::new(alloc),
             undo: Vec::new(alloc),
+            start: 0,
         })
     }
 
@@ -68,19 +75,18 @@ impl HeapTable {
     }
 
     /// The first row at or after a number.
-    #[tactic(auto, using(crate::proofs::Slots::first_start))]
+    #[tactic(auto, using(crate::proofs::Slots::first_start, crate::proofs::Starts::first_at_start))]
     pub(crate) fn first_from(&self, number: u64) -> Option<(u64, &Row)>
         ensures { MatchOption result
             (first_from (table_of self.now.slots.items) number ≡ None)
             (λ r. first_from (table_of self.now.slots.items) number ≡ Some (record { number = r.0; row = r.1.now })) }
     {
-        let start = number.saturating_sub(1) as usize;
-        for at in start..self.slots.len() {
-            if let Some(row) = &self.slots[at] {
-                return Some((at as u64 + 1, row));
-            }
+        let asked = number.saturating_sub(1) as usize;
+        if asked < self.start {
+            first_from(self.slots.as_slice(), self.start, number)
+        } else {
+            first_from(self.slots.as_slice(), asked, number)
         }
-        None
     }
 
     /// The row under a number.
@@ -369,12 +375,44 @@ impl HeapTable {
         }
     }
 
-    /// Forgets how to undo the changes.
+    /// Forgets how to undo the changes, and moves the start past the slots that are then empty for good.
     pub(crate) fn commit(&mut self)
         ensures slots { self.new.slots.items ≡ self.old.slots.items }
         ensures undo { self.new.undo.items ≡ [] }
         ensures indexes { self.new.indexes ≡ self.old.indexes }
     {
         self.undo.clear();
+        self.start = start_of(self.slots.as_slice(), self.start);
     }
+}
+
+/// The first row at or after a number, where none is in a slot before a place.
+fn first_from(slots: &[Option<Row>], place: usize, number: u64) -> Option<(u64, &Row)>
+    requires low { number ≤ place + 1 }
+    requires none_before { first_among (rows_from 1 slots.now) number ≡ first_among (rows_from (1 + place) (drop place slots.now)) number }
+    ensures { MatchOption result
+        (first_among (rows_from 1 slots.now) number ≡ None)
+        (λ r. first_among (rows_from 1 slots.now) number ≡ Some (record { number = r.0; row = r.1.now })) }
+{
+    for at in place..slots.len() {
+        if let Some(row) = &slots[at] {
+            return Some((at as u64 + 1, row));
+        }
+    }
+    None
+}
+
+/// The place of the first row from a place on, before which there is none.
+#[tactic(auto, using(crate::proofs::Starts::start_past, crate::proofs::Slots::slot_is))]
+fn start_of(slots: &[Option<Row>], start: usize) -> usize
+    requires starts { slots_hold (is_from start) 0 slots.now ≡ true }
+    requires within { start ≤ length slots.now }
+    ensures starts { slots_hold (is_from result) 0 slots.now ≡ true }
+    ensures within { result ≤ length slots.now }
+{
+    let mut place = start;
+    while place < slots.len() && slots[place].is_none() {
+        place += 1;
+    }
+    place
 }

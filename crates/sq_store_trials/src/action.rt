@@ -8,8 +8,8 @@ use std::alloc::{AllocError, Global};
 #[derive(Clone, Copy)]
 pub(crate) enum Step {
     Nothing,
-    Insert(i64, i64),
-    Replace(u64, i64, i64),
+    Insert(u32, u32),
+    Replace(u64, u32, u32),
     Remove(u64),
 }
 
@@ -24,11 +24,11 @@ pub(crate) enum Action {
 }
 
 /// A number of scale 0.
-pub(crate) fn number(value: i64) -> Value {
-    Value::Num(Decimal::new(value, 0))
+pub(crate) fn number(value: u32) -> Value {
+    Value::Num(Decimal::new(value as i64, 0))
 }
 
-fn row(alloc: Global, first: i64, second: i64) -> Result<Row, AllocError> {
+fn row(alloc: Global, first: u32, second: u32) -> Result<Row, AllocError> {
     let mut row = Row::new(alloc);
     row.push(number(first))?;
     row.push(number(second))?;

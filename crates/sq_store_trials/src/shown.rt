@@ -71,7 +71,7 @@ pub(crate) fn show<S: Store>(rt: &impl Print, alloc: Global, store: &S) -> io::R
 fn found<S: Store>(
     alloc: Global,
     store: &S,
-    value: i64,
+    value: u32,
     meter: &mut Meter,
 ) -> Result<Option<u64>, AllocError> {
     let values = [number(value)];

@@ -11,4 +11,7 @@ invariant_of-self c =
       undoable = s.undoable;
       entered = slots_give P Q c.enter_all.ensures.keeps 0 s.slots.items s.entered;
       undo_entered = undo_gives P Q c.enter_all.ensures.keeps s.undo.items s.undo_entered;
+      starts = s.starts;
+      undo_starts = s.undo_starts;
+      start_within = s.start_within;
     }

@@ -16,6 +16,9 @@ invariant_of-self-2 c =
       undoable = s.undoable;
       entered = slots_together (in_all xs) (is_in y) (in_all (slice_set xs c.args.key y)) (λ r at p q. all_put (λ index. is_in index r at) xs c.args.key y p q) 0 s.slots.items s.entered slots;
       undo_entered = undo_together (in_all xs) (is_in y) (in_all (slice_set xs c.args.key y)) (λ r at p q. all_put (λ index. is_in index r at) xs c.args.key y p q) s.undo.items s.undo_entered undo;
+      starts = s.starts;
+      undo_starts = s.undo_starts;
+      start_within = s.start_within;
     }
 
 pub returns-clause-keys : goal.returns-clause-keys
