@@ -140,7 +140,7 @@ def print_runs(path, shows, names):
         used |= these
     print("-- %s. Printed by tools/print_runs.py from sq_cases/data/%s." % (shows, path))
     text = "\n".join(bodies)
-    print("use Rattle.std.specs.Prelude.{◌≡◌, List, [], ◌∷◌, ◌++◌, codes, refl}")
+    print("use Rattle.std.specs.Prelude.{◌≡◌, [], ◌∷◌, %scodes, refl}" % ("◌++◌, " if " ++ " in text else ""))
     for alias, module in FAULTS:
         if alias + "." in text:
             print("use Rattle.%s.TheVariants as %s" % (module, alias))

@@ -1,5 +1,5 @@
 -- Modules and scripts that are refused. Printed by tools/print_runs.py from sq_cases/data/runs-worked.txt.
-use Rattle.std.specs.Prelude.{◌≡◌, List, [], ◌∷◌, ◌++◌, codes, refl}
+use Rattle.std.specs.Prelude.{◌≡◌, [], ◌∷◌, ◌++◌, codes, refl}
 use Rattle.sq_model.specs.declared.refusal.ModuleFault.TheVariants as module_fault
 use Rattle.sq_model.specs.declared.refusal.ScriptFault.TheVariants as script_fault
 use Rattle.sq_model.specs.Report.{Bytes}
