@@ -13,10 +13,11 @@ use Rattle.sq_tree.specs.Schema.{schema_tokens, schema_depth}
 use Rattle.sq_tree.specs.Module.{module_tokens, module_depth}
 use Rattle.sq_tree.specs.Script.{script_tokens, script_depth}
 use Rattle.sq_model.specs.Report.{Bytes}
-use Rattle.sq_run.specs.Fault.{IsMisspelled, IsOfMeaning, IsOpeningFault, IsParseFault, IsRefusal, IsRefusedScript, IsRefusedText, IsScriptFault, IsUnread, SomeRefused, run_fault}
+use Rattle.sq_run.specs.Fault.{IsMisspelled, IsOfMeaning, IsOpeningFault, IsParseFault, IsRefusalIfAny, IsRefusedScript, IsRefusedText, IsScriptFault, IsUnread, SomeRefused, run_fault}
 use Rattle.sq_run.specs.Refused.{Matter, Tokens, Grammar, Depth, Meaning, IsRefused, OneRefused, matter, read_before}
 use Rattle.sq_run.specs.Run.{AllSpell, SomeTrees, Spells, texts}
 use Rattle.sq_run.specs.declared.refusal.Refusal.{Refusal}
+use Rattle.sq_run.specs.declared.refusal.RefusalName.{RefusalName}
 use Rattle.sq_run.specs.declared.refusal.RunFault.TheVariants as run
 use Rattle.sq_run.specs.declared.texts.TextFault.{TextFault}
 use Rattle.sq_run.specs.declared.texts.TextFault.TheVariants.{NoMemory, Refused}
@@ -107,6 +108,11 @@ one_of_meaning tokens_of depth_of all number text (Refused refusal) trees lt e s
   refused = subst (IsRefused tokens_of depth_of text.items refusal) (sym is.1) tt;
   before = (trees, rw is.1 spelled);
 }
+
+-- a refusal by a name that speaks of what a text means
+pub named : (number : ℕ) (what : RefusalName) (fault : TextFault) → matter what ≡ Meaning → IsRefusalIfAny number what fault → IsOfMeaning number fault
+named number what NoMemory e is = tt
+named number what (Refused refusal) e is = (is.0, ap matter is.1 ∙ e)
 
 -- ---- the script
 

@@ -21,7 +21,7 @@ pub spelled_length : {T : Type 0} (tokens_of : T → List Lexeme) (all : List By
 spelled_length tokens_of [] [] all = refl
 spelled_length tokens_of [] (t ∷ ts) all = absurd all
 spelled_length tokens_of (x ∷ xs) [] all = absurd all
-spelled_length tokens_of (x ∷ xs) (t ∷ ts) all = ap suc (spelled_length tokens_of xs ts all)
+spelled_length tokens_of (x ∷ xs) (t ∷ ts) all = ap suc (spelled_length tokens_of xs ts all.1)
 
 -- ---- the bytes of each text
 

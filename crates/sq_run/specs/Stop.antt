@@ -8,15 +8,6 @@ use Rattle.sq_run.specs.declared.action.Action.{Action}
 use Rattle.sq_run.specs.declared.refusal.RunFault.{RunFault}
 use Rattle.sq_run.specs.declared.refusal.RunFault.TheVariants.{SchemaRefused, ModuleRefused, ScriptRefused, Write, NoMemory}
 
--- a refusal, or running out of memory before the first item's lines were written
-abbrev pub is_early : RunFault → Bool
-is_early (SchemaRefused refusal) = true
-is_early (ModuleRefused refusal) = true
-is_early (ScriptRefused refusal) = true
-is_early (Write bytes) = false
-is_early (NoMemory zero) = true
-is_early (NoMemory (suc items)) = false
-
 abbrev pub is_write : RunFault → Bool
 is_write (Write bytes) = true
 is_write _ = false

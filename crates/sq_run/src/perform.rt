@@ -2,6 +2,7 @@ ghost use Rattle.std.specs.Prelude.{◌≡◌, ◌≤◌, false, IfErr, IfOk, On
 ghost use Rattle.sq_run.specs.Refused.{InOrder, RefusedText};
 ghost use Rattle.sq_run.specs.Run.{Run, texts};
 ghost use Rattle.sq_run.specs.Steps.{Reported, Step};
+ghost use Rattle.sq_run.specs.Performed.{IsScriptStop, Performed};
 ghost use Rattle.sq_run.specs.Stop.{StoppedAt, Wrote, is_write};
 
 use crate::action::Action;
@@ -18,7 +19,6 @@ use std::alloc::{AllocError, Global};
 ///
 /// All schemas are read and defined first, then the modules, then the script; the first refusal is answered, and nothing
 /// is written before all are accepted. The lines of a script item are written in one go.
-#[tactic(auto, using(crate::proofs::Wrote::early_writes_none))]
 pub fn run<S: Store, W: Out>(
     alloc: Global,
     schemas: &[Vec<u8>],
@@ -44,9 +44,29 @@ pub fn run<S: Store, W: Out>(
     ensures refused { IfErr result (RefusedText (texts schemas.now) (texts modules.now) script.now) }
     ensures order { IfErr result (InOrder (texts schemas.now) (texts modules.now)) }
 {
-    let mut session = open_session::<S>(alloc, schemas, modules, limits)?;
-    let actions = read_script(alloc, &session, script)?;
-    perform_all(alloc, &mut session, actions.as_slice(), out)
+    match open_session::<S>(alloc, schemas, modules, limits) {
+        Ok(mut session) => run_script(alloc, &mut session, script, out),
+        Err(fault) => Err(fault),
+    }
+}
+
+/// Does what a script asks a session for, and writes the report.
+fn run_script<S: Store, W: Out>(
+    alloc: Global,
+    session: &mut Session<S>,
+    script: &[u8],
+    out: &mut W,
+) -> Result<(), RunFault>
+    requires open_out { W.failed out.old ≡ false }
+    ensures report { OnOk result (Performed script.now session.old (W.taken out.old) (W.taken out.new)) }
+    ensures stopped { IfErr result (IsScriptStop script.now session.old (W.taken out.old) (W.taken out.new)) }
+    ensures still { OnOk result (W.failed out.new ≡ false) }
+    ensures failed { IfErr result (λ fault. W.failed out.new ≡ is_write fault) }
+{
+    match read_script(alloc, session, script) {
+        Ok(actions) => perform_all(alloc, session, actions.as_slice(), out),
+        Err(fault) => Err(fault),
+    }
 }
 
 /// Performs items one after the other, and writes the lines of each.
