@@ -235,7 +235,7 @@ checks_of_none elements n t = (
   ap (all_satisfied (row_satisfied t)) (no_base_row elements n t.name),
   ap (keys_satisfied t) (no_base_row elements n t.name) ∙ keys_of_none t,
   met (list_all (reference_satisfied elements (no_rows n) t) (table_references t.definition)) status.IntegrityConstraintViolation
-  (all_pass (reference_satisfied elements (no_rows n) t) (λ r. ap (list_all _) (no_base_row elements n t.name)) (table_references t.definition)),
+      (all_pass (reference_satisfied elements (no_rows n) t) (λ r. ap (list_all _) (no_base_row elements n t.name)) (table_references t.definition)),
 )
 
 domains_of_none : (elements : Elements) (n : ℕ) (t : BaseTable) → DomainsHold elements (no_rows n) t
