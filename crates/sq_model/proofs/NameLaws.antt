@@ -11,7 +11,7 @@ use Rattle.std.specs.List.{AllByRecursion, list_all, list_any, position, positio
 use Rattle.std.specs.Option.{option_or}
 use Rattle.std.specs.Prelude.{◌≡◌, ◌⊎◌, ℕ, zero, suc, ◌<◌, Bool, true, false, not, ◌&&◌, ◌||◌, List, [], ◌∷◌, ◌++◌, length, if◌then◌else◌, nat_eq, nat_lt, slice_get, find, fold, filter_map, flat_map, map, option_to_list, reverse, get_or, Option, option_map, refl, Some, None, Ok, ⊤}
 use Rattle.sq_lex.specs.declared.name.Name.{Name}
-use Rattle.sq_store.specs.Content.{Content, no_rows, table_at, empty}
+use Rattle.sq_store.specs.Content.{no_rows, table_at}
 use Rattle.sq_tree.specs.declared.«module».ModuleText.{ModuleText}
 use Rattle.sq_tree.specs.declared.schema.SchemaElement.{SchemaElement}
 use Rattle.sq_tree.specs.declared.schema.SchemaElement.TheVariants as element
@@ -21,7 +21,7 @@ use Rattle.sq_meaning.specs.Environment.{Row, TableName, same_table}
 use Rattle.sq_meaning.specs.Spelled.{table_of}
 use Rattle.sq_model.proofs.CallLaws.{NamesDiffer, StateHolds, constraints_hold_after}
 use Rattle.sq_model.specs.Catalog.{base_count, column_domain, tables_of}
-use Rattle.sq_model.specs.Constraints.{AreInDomains, ChecksHold, ConstraintsHold, DomainsHold, all_satisfied, demanded, key_satisfied, keys_satisfied, reference_satisfied, references_satisfied, row_satisfied, rows_of_base}
+use Rattle.sq_model.specs.Constraints.{AreInDomains, ChecksHold, ConstraintsHold, DomainsHold, all_satisfied, demanded, key_satisfied, keys_satisfied, reference_satisfied, row_satisfied, rows_of_base}
 use Rattle.sq_model.specs.Machine.{Call, Program, State, first_state, stepped}
 use Rattle.sq_model.specs.Run.{Item, after, program_of}
 use Rattle.sq_model.specs.Schema.{BaseTable, Element, Elements, base_place, base_table_of, base_tables, column_definitions, keys, table_references}
@@ -29,7 +29,6 @@ use Rattle.sq_model.specs.SchemaRefusal.{Part, elements_of, elements_with, first
 use Rattle.sq_meaning.specs.Tables.{rows_in}
 use Rattle.sq_meaning.specs.declared.status.Status.{Status}
 use Rattle.sq_meaning.specs.declared.status.Status.TheVariants as status
-use Rattle.sq_model.specs.declared.refusal.SchemaFault.{SchemaFault}
 
 -- ---- tests
 
@@ -236,7 +235,7 @@ checks_of_none elements n t = (
   ap (all_satisfied (row_satisfied t)) (no_base_row elements n t.name),
   ap (keys_satisfied t) (no_base_row elements n t.name) ∙ keys_of_none t,
   met (list_all (reference_satisfied elements (no_rows n) t) (table_references t.definition)) status.IntegrityConstraintViolation
-  (all_pass (reference_satisfied elements (no_rows n) t) (λ r. ap (list_all _) (no_base_row elements n t.name)) (table_references t.definition)),
+      (all_pass (reference_satisfied elements (no_rows n) t) (λ r. ap (list_all _) (no_base_row elements n t.name)) (table_references t.definition)),
 )
 
 domains_of_none : (elements : Elements) (n : ℕ) (t : BaseTable) → DomainsHold elements (no_rows n) t
