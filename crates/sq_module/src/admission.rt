@@ -1,6 +1,9 @@
 //! Which modules are refused (ISO/IEC 9075:1992, 12.1 to 12.3 and 13.1; that exactly one procedure opens each cursor is an
 //! own rule).
 
+ghost use Rattle.std.specs.Prelude.{IfErr, length};
+ghost use Rattle.sq_module.specs.Refusal.{IsOfModule, IsOfSomeModule};
+
 use crate::declared::{has_bad_parameter, has_bad_status, is_new, listed};
 use crate::opener::Openers;
 use crate::refusal::{ModuleRefusal, ModuleRefusalName, SessionFault};
@@ -9,7 +12,9 @@ use sq_tree::{ModuleItem, ModuleText};
 use std::alloc::{AllocError, Global};
 
 /// The first refusal, module by module.
-pub fn admit(alloc: Global, modules: &[ModuleText]) -> Result<(), SessionFault> {
+pub fn admit(alloc: Global, modules: &[ModuleText]) -> Result<(), SessionFault>
+    ensures refused { IfErr result (IsOfSomeModule (length modules.now)) }
+{
     let mut names = IndexSet::new(alloc);
     for (text, module) in modules.iter().enumerate() {
         if !is_new(&mut names, module.name)? {
@@ -25,7 +30,9 @@ pub fn admit(alloc: Global, modules: &[ModuleText]) -> Result<(), SessionFault> 
 }
 
 /// The first refusal of a module: each one is looked for over the whole module before the next.
-fn admit_module(alloc: Global, text: usize, items: &[ModuleItem]) -> Result<(), SessionFault> {
+fn admit_module(alloc: Global, text: usize, items: &[ModuleItem]) -> Result<(), SessionFault>
+    ensures refused { IfErr result (IsOfModule text) }
+{
     let place = second_procedure(alloc, items)?;
     refused_at(ModuleRefusalName::TwoProcedures, text, place)?;
     let place = second_cursor(alloc, items)?;
@@ -35,7 +42,9 @@ fn admit_module(alloc: Global, text: usize, items: &[ModuleItem]) -> Result<(), 
     admit_parameters(alloc, text, items)
 }
 
-fn admit_parameters(alloc: Global, text: usize, items: &[ModuleItem]) -> Result<(), SessionFault> {
+fn admit_parameters(alloc: Global, text: usize, items: &[ModuleItem]) -> Result<(), SessionFault>
+    ensures refused { IfErr result (IsOfModule text) }
+{
     let place = with_bad_status(alloc, items)?;
     refused_at(ModuleRefusalName::StatusParameter, text, place)?;
     let place = with_bad_parameter(alloc, items)?;
@@ -47,7 +56,9 @@ fn refused_at(
     name: ModuleRefusalName,
     text: usize,
     place: Option<usize>,
-) -> Result<(), SessionFault> {
+) -> Result<(), SessionFault>
+    ensures refused { IfErr result (IsOfModule text) }
+{
     match place {
         None => Ok(()),
         Some(item) => Err(SessionFault::Refused(ModuleRefusal {
