@@ -1,3 +1,4 @@
 pub mod Besides
 pub mod Closed
-pub mod Walk
+pub mod Kept
+pub mod TableWalk
