@@ -29,12 +29,12 @@ abbrev pub has_entry : List (List Entry) → ℕ → ℕ → Bool
 has_entry buckets hash at = list_any (is_entry hash at) (bucket_of buckets hash)
 
 -- there is an entry for a row in a slot
-abbrev pub is_in : List Value → ℕ → Index → Bool
-is_in row at index = has_entry index.buckets.items (hash_of (in_columns row index.columns)) at
+abbrev pub is_in : Index → List Value → ℕ → Bool
+is_in index row at = has_entry index.buckets.items (hash_of (in_columns row index.columns)) at
 
 -- in each index
 abbrev pub in_all : List Index → List Value → ℕ → Bool
-in_all indexes row at = list_all (is_in row at) indexes
+in_all indexes row at = list_all (λ index. is_in index row at) indexes
 
 -- ---- what holds of each row and its place
 
@@ -53,6 +53,10 @@ slots_hold test at (s ∷ slots) = slot_holds test at s && slots_hold test (at +
 -- of the rows that undoing brings back
 abbrev pub undo_holds : Test → List Undo → Bool
 undo_holds test undo = list_all (λ u. slot_holds test u.at u.old) undo
+
+-- an index has entries for the rows in slots
+abbrev pub enters : List Slot → Index → Bool
+enters slots index = slots_hold (is_in index) 0 slots
 
 -- ---- the keys of indexes
 

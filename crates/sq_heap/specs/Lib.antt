@@ -3,4 +3,5 @@ pub mod Heap
 pub mod Index
 pub mod Room
 pub mod Slots
+pub mod Start
 pub mod Undo

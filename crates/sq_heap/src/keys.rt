@@ -1,6 +1,6 @@
 //! Rows found by their keys, and whether they share them.
 
-ghost use Rattle.std.specs.Prelude.{◌≡◌, ◌×◌, find, false, true, Some, None, MatchOption};
+ghost use Rattle.std.specs.Prelude.{◌≡◌, find, false, true, Some, None, MatchOption};
 ghost use Rattle.std.specs.Cmp.Lexicographic.{pointwise};
 ghost use Rattle.std.specs.List.{list_any};
 ghost use Rattle.std.specs.Option.{option_copied};
@@ -11,19 +11,21 @@ ghost use Rattle.sq_heap.specs.Alone.{all_alone, is_alone, slots_have};
 ghost use Rattle.sq_heap.specs.Index.{is_in, named, names_key, names_other, slots_hold};
 ghost use Rattle.sq_heap.specs.Slots.{rows_from, slot_at};
 
-use crate::index::{Entry, Index, hash_of_key, hash_of_row};
+use crate::hash::{hash_of_key, hash_of_row};
+use crate::index::{Entry, Index};
 use crate::undo::Undo;
 use sq_store::are_same;
 use sq_value::{Key, Row, Value};
 
 /// The row with these values in the columns of an index, and its number.
+#[tactic(auto, using(crate::proofs::Keyed::none_with, crate::proofs::Keyed::found_with))]
 pub(crate) fn first_with<'a>(
     slots: &'a [Option<Row>],
     index: &Index,
     values: &Key,
 ) -> Option<(u64, &'a Row)>
     requires columns { slots_have index.now.columns slots.now ≡ true }
-    requires entered { slots_hold (λ row at. is_in row at index.now) 0 slots.now ≡ true }
+    requires entered { slots_hold (is_in index.now) 0 slots.now ≡ true }
     requires distinct { are_distinct index.now.columns (rows_from 1 slots.now) ≡ true }
     ensures { MatchOption result
         (find (has_key index.now.columns values.now) (rows_from 1 slots.now) ≡ None)
@@ -35,6 +37,7 @@ pub(crate) fn first_with<'a>(
 }
 
 /// The row with these values that one of the entries under a hash names, and its slot.
+#[tactic(auto, using(crate::proofs::Keyed::columns_of_named, crate::proofs::Keyed::slot_of_named))]
 fn among<'a>(
     slots: &'a [Option<Row>],
     entries: &[Entry],
@@ -58,6 +61,7 @@ fn among<'a>(
 }
 
 /// The row in the slot that an entry under a hash names.
+#[tactic(auto, using(crate::proofs::Slots::slot_is, crate::proofs::Slots::slot_past))]
 fn row_of<'a>(slots: &'a [Option<Row>], entry: &Entry, hash: u64) -> Option<&'a Row>
     ensures { option_copied result ≡ named slots.now hash entry.now }
 {
@@ -69,10 +73,11 @@ fn row_of<'a>(slots: &'a [Option<Row>], entry: &Entry, hash: u64) -> Option<&'a 
 }
 
 /// Whether no slot but one has a row with the key of this row.
+#[tactic(auto, using(crate::proofs::Keyed::alone_in))]
 fn is_alone(slots: &[Option<Row>], index: &Index, row: &[Value], at: usize) -> bool
     requires row { has_columns index.now.columns row.now ≡ true }
     requires slots { slots_have index.now.columns slots.now ≡ true }
-    requires entered { slots_hold (λ row at. is_in row at index.now) 0 slots.now ≡ true }
+    requires entered { slots_hold (is_in index.now) 0 slots.now ≡ true }
     ensures { result ≡ is_alone index.now.columns row.now at 0 slots.now }
 {
     let columns = index.columns();
@@ -81,6 +86,7 @@ fn is_alone(slots: &[Option<Row>], index: &Index, row: &[Value], at: usize) -> b
 }
 
 /// Whether one of the entries under a hash names another slot whose row has the key of this row.
+#[tactic(auto, using(crate::proofs::Keyed::columns_of_named))]
 fn has_other(
     slots: &[Option<Row>],
     entries: &[Entry],
@@ -106,9 +112,10 @@ fn has_other(
 }
 
 /// Whether no changed row shares the key of an index with another row.
+#[tactic(auto, using(crate::proofs::Columns::columns_of_slot))]
 pub(crate) fn all_alone(slots: &[Option<Row>], index: &Index, changes: &[Undo]) -> bool
     requires columns { slots_have index.now.columns slots.now ≡ true }
-    requires entered { slots_hold (λ row at. is_in row at index.now) 0 slots.now ≡ true }
+    requires entered { slots_hold (is_in index.now) 0 slots.now ≡ true }
     ensures { result ≡ all_alone index.now.columns slots.now changes.now }
 {
     for change in changes {

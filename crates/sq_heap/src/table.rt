@@ -5,17 +5,19 @@ ghost use Rattle.sq_store.specs.Change.{rows_put};
 ghost use Rattle.sq_store.specs.Keys.{Keys, has_distinct_keys, has_keys, have_keys, with_key};
 ghost use Rattle.sq_heap.specs.Alone.{all_alone};
 ghost use Rattle.sq_heap.specs.Index.{in_all, is_in, keys_of, slot_holds, slots_hold, undo_holds};
-ghost use Rattle.sq_store.specs.Content.{changed, changed_by, first_from, inserted, removed, replaced, row_at};
-ghost use Rattle.sq_heap.specs.Slots.{slot_at, table_of};
+ghost use Rattle.sq_store.specs.Content.{changed, changed_by, first_among, first_from, inserted, removed, replaced, row_at};
+ghost use Rattle.sq_heap.specs.Slots.{rows_from, slot_at, table_of};
 ghost use Rattle.sq_heap.specs.Room.{KeepsRoom};
+ghost use Rattle.sq_heap.specs.Start.{is_from, undo_from};
 ghost use Rattle.sq_heap.specs.Undo.{GoesBack, back, fits};
 
-use crate::index::{Index, enter_all, enter_slots, enter_undo};
+use crate::index::Index;
+use crate::indexes::{empty_indexes, enter_all, index_of};
 use crate::keys::{all_alone, first_with};
 use crate::undo::Undo;
 use sq_items::Items;
 use sq_store::{ApplyFault, Change};
-use sq_value::{Key, Row};
+use sq_value::{Key, Row, Value};
 use std::alloc::{AllocError, Global};
 use std::mem;
 
@@ -28,9 +30,14 @@ pub(crate) struct HeapTable {
     slots: Vec<Option<Row>>,
     undo: Vec<Undo>,
     indexes: Vec<Index>,
+    /// Every slot before it is empty, now and after all undoing.
+    start: usize,
     ghost undoable: { fits (length slots.items) undo.items ≡ true },
     ghost entered: { slots_hold (in_all indexes.items) 0 slots.items ≡ true },
     ghost undo_entered: { undo_holds (in_all indexes.items) undo.items ≡ true },
+    ghost starts: { slots_hold (is_from start) 0 slots.items ≡ true },
+    ghost undo_starts: { undo_from start undo.items ≡ true },
+    ghost start_within: { start ≤ length slots.items },
 }
 
 impl HeapTable {
@@ -44,6 +51,7 @@ impl HeapTable {
             indexes: empty_indexes(alloc, keys)?,
             slots: Vec::new(alloc),
             undo: Vec::new(alloc),
+            start: 0,
         })
     }
 
@@ -67,19 +75,18 @@ impl HeapTable {
     }
 
     /// The first row at or after a number.
-    #[tactic(auto, using(crate::proofs::Slots::first_start))]
+    #[tactic(auto, using(crate::proofs::Slots::first_start, crate::proofs::Starts::first_at_start))]
     pub(crate) fn first_from(&self, number: u64) -> Option<(u64, &Row)>
         ensures { MatchOption result
             (first_from (table_of self.now.slots.items) number ≡ None)
             (λ r. first_from (table_of self.now.slots.items) number ≡ Some (record { number = r.0; row = r.1.now })) }
     {
-        let start = number.saturating_sub(1) as usize;
-        for at in start..self.slots.len() {
-            if let Some(row) = &self.slots[at] {
-                return Some((at as u64 + 1, row));
-            }
+        let asked = number.saturating_sub(1) as usize;
+        if asked < self.start {
+            first_from(self.slots.as_slice(), self.start, number)
+        } else {
+            first_from(self.slots.as_slice(), asked, number)
         }
-        None
     }
 
     /// The row under a number.
@@ -106,6 +113,16 @@ impl HeapTable {
         Some(at)
     }
 
+    /// Adds entries for a row that is to be put into a slot.
+    fn enter(&mut self, row: &[Value], at: usize) -> Result<(), AllocError>
+        ensures slots { self.new.slots ≡ self.old.slots }
+        ensures undo { self.new.undo ≡ self.old.undo }
+        ensures keys { keys_of self.new.indexes.items ≡ keys_of self.old.indexes.items }
+        ensures entered { OnOk result (in_all self.new.indexes.items row.now at ≡ true) }
+    {
+        enter_all(&mut self.indexes, row, at)
+    }
+
     /// Adds a row in a new slot.
     #[tactic(auto, using(crate::proofs::Slots::table_push, crate::proofs::Back::goes_back_new, crate::proofs::Back::goes_back_none, crate::proofs::Back::fits_new))]
     fn push(&mut self, row: Row) -> Result<(), AllocError>
@@ -118,7 +135,7 @@ impl HeapTable {
         ensures undo_room { KeepsRoom self.old.undo self.new.undo }
     {
         let at = self.slots.len();
-        enter_all(&mut self.indexes, row.as_slice(), at)?;
+        self.enter(row.as_slice(), at)?;
         self.slots.push(Some(row)).unwrap();
         self.undo.push(Undo { at, old: None }).unwrap();
         Ok(())
@@ -151,7 +168,7 @@ impl HeapTable {
         ensures undo_room { KeepsRoom self.old.undo self.new.undo }
     {
         if let Some(at) = self.place_of(number) {
-            enter_all(&mut self.indexes, row.as_slice(), at)?;
+            self.enter(row.as_slice(), at)?;
             self.set(at, Some(row));
         }
         Ok(())
@@ -258,6 +275,7 @@ impl HeapTable {
     }
 
     /// Makes each index anew that so many entries more would make slow.
+    #[tactic(auto, using(crate::proofs::Entries::same_length))]
     fn renew_all(&mut self, alloc: Global, count: usize) -> Result<(), AllocError>
         ensures slots { self.new.slots ≡ self.old.slots }
         ensures undo { self.new.undo ≡ self.old.undo }
@@ -302,7 +320,7 @@ impl HeapTable {
     }
 
     /// Whether no row that was changed from a place on shares one of the keys with another row.
-    #[tactic(auto, using(crate::proofs::Columns::slots_of_keys))]
+    #[tactic(auto, using(crate::proofs::Columns::slots_of_keys, crate::proofs::Keyed::each_holds))]
     fn are_alone(&self, from: usize) -> bool
         requires place { from ≤ length self.now.undo.items }
         requires columns { have_keys (keys_of self.now.indexes.items) (table_of self.now.slots.items).rows ≡ true }
@@ -317,6 +335,7 @@ impl HeapTable {
     }
 
     /// The row with a key, and its number.
+    #[tactic(auto, using(crate::proofs::Keyed::columns_at_index, crate::proofs::Entries::length_keys))]
     pub(crate) fn first_with(&self, key: usize, values: &Key) -> Option<(u64, &Row)>
         requires key { key < length (keys_of self.now.indexes.items) }
         requires columns { have_keys (keys_of self.now.indexes.items) (table_of self.now.slots.items).rows ≡ true }
@@ -356,42 +375,44 @@ impl HeapTable {
         }
     }
 
-    /// Forgets how to undo the changes.
+    /// Forgets how to undo the changes, and moves the start past the slots that are then empty for good.
     pub(crate) fn commit(&mut self)
         ensures slots { self.new.slots.items ≡ self.old.slots.items }
         ensures undo { self.new.undo.items ≡ [] }
         ensures indexes { self.new.indexes ≡ self.old.indexes }
     {
         self.undo.clear();
+        self.start = start_of(self.slots.as_slice(), self.start);
     }
 }
 
-/// An index without entries for each key.
-fn empty_indexes(alloc: Global, keys: &[Items<usize>]) -> Result<Vec<Index>, AllocError>
-    ensures { IfOk result (λ indexes. keys_of indexes.items ≡ keys.now) }
+/// The first row at or after a number, where none is in a slot before a place.
+fn first_from(slots: &[Option<Row>], place: usize, number: u64) -> Option<(u64, &Row)>
+    requires low { number ≤ place + 1 }
+    requires none_before { first_among (rows_from 1 slots.now) number ≡ first_among (rows_from (1 + place) (drop place slots.now)) number }
+    ensures { MatchOption result
+        (first_among (rows_from 1 slots.now) number ≡ None)
+        (λ r. first_among (rows_from 1 slots.now) number ≡ Some (record { number = r.0; row = r.1.now })) }
 {
-    let mut indexes = Vec::new(alloc);
-    for columns in keys {
-        let columns = Items::from_slice(alloc, columns.as_slice())?;
-        indexes.push(Index::new(alloc, columns, 0)?)?;
+    for at in place..slots.len() {
+        if let Some(row) = &slots[at] {
+            return Some((at as u64 + 1, row));
+        }
     }
-    Ok(indexes)
+    None
 }
 
-/// An index with room for so many entries, those of the rows in slots and of the rows that undoing brings back.
-fn index_of(
-    alloc: Global,
-    columns: Items<usize>,
-    count: usize,
-    slots: &[Option<Row>],
-    undo: &[Undo],
-) -> Result<Index, AllocError>
-    ensures columns { IfOk result (λ index. index.columns ≡ columns) }
-    ensures slots { IfOk result (λ index. slots_hold (λ row at. is_in row at index) 0 slots.now ≡ true) }
-    ensures undo { IfOk result (λ index. undo_holds (λ row at. is_in row at index) undo.now ≡ true) }
+/// The place of the first row from a place on, before which there is none.
+#[tactic(auto, using(crate::proofs::Starts::start_past, crate::proofs::Slots::slot_is))]
+fn start_of(slots: &[Option<Row>], start: usize) -> usize
+    requires starts { slots_hold (is_from start) 0 slots.now ≡ true }
+    requires within { start ≤ length slots.now }
+    ensures starts { slots_hold (is_from result) 0 slots.now ≡ true }
+    ensures within { result ≤ length slots.now }
 {
-    let mut index = Index::new(alloc, columns, count)?;
-    enter_slots(&mut index, slots)?;
-    enter_undo(&mut index, undo)?;
-    Ok(index)
+    let mut place = start;
+    while place < slots.len() && slots[place].is_none() {
+        place += 1;
+    }
+    place
 }
