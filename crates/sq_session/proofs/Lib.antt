@@ -1,3 +1,3 @@
 pub mod Besides
 pub mod Closed
-pub mod Walk
+pub mod TableWalk

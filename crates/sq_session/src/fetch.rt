@@ -20,7 +20,7 @@ use sq_value::Row;
 use std::alloc::Global;
 
 /// FETCH of the cursor of a number. A status of retrieving leaves it where it came.
-#[tactic(auto, using(crate::proofs::Besides::besides_put, crate::proofs::Besides::cursor_put))]
+#[tactic(auto, using(crate::proofs::Besides::besides_put, crate::proofs::Besides::cursor_put, crate::proofs::Besides::put_same, crate::proofs::Besides::is_there))]
 pub(crate) fn fetch_at<S: Store>(
     called: &Called<'_>,
     fetch: &BoundFetch,

@@ -54,26 +54,45 @@ fn next_number<S: Store>(catalog: &Catalog, store: &S, table: usize) -> Result<u
     Ok(all.saturating_sub(store.numbers_left(table)))
 }
 
-/// The first row from a number on and below a mark that a target means.
-pub(crate) fn next_chosen<'a, S: Store>(
+/// A walk of a user's cursor, and what it walks over.
+#[derive(Clone, Copy)]
+struct Walk<'a> {
     alloc: Global,
-    catalog: &Catalog,
-    target: &Target,
-    store: &'a S,
-    inputs: Inputs<'_>,
-    from: u64,
+    catalog: &'a Catalog,
+    user: Name,
+    target: &'a Target,
+    values: &'a [Value],
     mark: u64,
+}
+
+impl<'a> Walk<'a> {
+    /// Whether the target means a row.
+    fn is_chosen<S: Store>(&self, row: &Row, store: &S) -> Result<bool, Fault> {
+        let inputs = Inputs {
+            user: self.user,
+            parameters: self.values,
+        };
+        is_chosen(self.alloc, self.catalog, self.target, row, store, inputs)
+    }
+}
+
+/// The first row from a number on, and before the mark, that the target means.
+#[tactic(auto, using(crate::proofs::TableWalk::found_behind))]
+fn next_chosen<'s, S: Store>(
+    walk: &Walk<'_>,
+    store: &'s S,
+    from: u64,
     meter: &mut Meter,
-) -> Result<Option<(u64, &'a Row)>, Fault>
-    requires { target.now.base < length (S.content_now store.now) }
-    ensures { IfOk result (λ found. IfSome found (λ r. (from ≤ r.0) × (r.0 < mark))) }
+) -> Result<Option<(u64, &'s Row)>, Fault>
+    requires { walk.now.target.now.base < length (S.content_now store.now) }
+    ensures { IfOk result (λ found. IfSome found (λ r. (from ≤ r.0) × (r.0 < walk.now.mark))) }
 {
     let mut number = from;
-    while let Some((found, row)) = store.next_from(target.base, number, meter) {
-        if found >= mark {
+    while let Some((found, row)) = store.next_from(walk.target.base, number, meter) {
+        if found >= walk.mark {
             return Ok(None);
         }
-        if is_chosen(alloc, catalog, target, row, store, inputs)? {
+        if walk.is_chosen(row, store)? {
             return Ok(Some((found, row)));
         }
         number = found + 1;
@@ -81,25 +100,26 @@ pub(crate) fn next_chosen<'a, S: Store>(
     Ok(None)
 }
 
-/// The next row of a walk.
-pub(crate) fn next_of_walk<'a, S: Store>(
+/// The next row of a walk of the procedure's module.
+pub(crate) fn next_of_walk<'s, S: Store>(
     called: &Called<'_>,
     target: &Target,
-    store: &'a S,
-    walk: &WalkingCursor,
+    store: &'s S,
+    cursor: &WalkingCursor,
     meter: &mut Meter,
-) -> Result<Option<(u64, &'a Row)>, Fault> {
+) -> Result<Option<(u64, &'s Row)>, Fault> {
     if target.base >= store.table_count() {
         return Err(Fault::NOT_WELL_FORMED);
     }
-    let inputs = Inputs {
+    let walk = Walk {
+        alloc: called.alloc,
+        catalog: called.catalog,
         user: called.procedure.user,
-        parameters: walk.values.as_slice(),
+        target,
+        values: cursor.values.as_slice(),
+        mark: cursor.mark,
     };
-    let Called { alloc, catalog, .. } = *called;
-    next_chosen(
-        alloc, catalog, target, store, inputs, walk.next, walk.mark, meter,
-    )
+    next_chosen(&walk, store, cursor.next, meter)
 }
 
 /// A cursor, and the numbers of the rows that are left to it.
@@ -135,43 +155,29 @@ fn rest_of_walk<S: Store>(
     user: Name,
     target: &Target,
     store: &S,
-    walk: &WalkingCursor,
+    cursor: &WalkingCursor,
 ) -> Result<Items<u64>, Fault> {
     if target.base >= store.table_count() {
         return Err(Fault::NOT_WELL_FORMED);
     }
-    let inputs = Inputs {
+    let walk = Walk {
+        alloc: called.alloc,
+        catalog: called.catalog,
         user,
-        parameters: walk.values.as_slice(),
-    };
-    numbers_from(
-        called.alloc,
-        called.catalog,
         target,
-        store,
-        inputs,
-        walk.next,
-        walk.mark,
-    )
+        values: cursor.values.as_slice(),
+        mark: cursor.mark,
+    };
+    numbers_from(&walk, store, cursor.next)
 }
 
-fn numbers_from<S: Store>(
-    alloc: Global,
-    catalog: &Catalog,
-    target: &Target,
-    store: &S,
-    inputs: Inputs<'_>,
-    from: u64,
-    mark: u64,
-) -> Result<Items<u64>, Fault>
-    requires { target.now.base < length (S.content_now store.now) }
+fn numbers_from<S: Store>(walk: &Walk<'_>, store: &S, from: u64) -> Result<Items<u64>, Fault>
+    requires { walk.now.target.now.base < length (S.content_now store.now) }
 {
-    let mut numbers = Items::new(alloc);
+    let mut numbers = Items::new(walk.alloc);
     let mut meter = Meter::new();
     let mut number = from;
-    while let Some((found, _)) = next_chosen(
-        alloc, catalog, target, store, inputs, number, mark, &mut meter,
-    )? {
+    while let Some((found, _)) = next_chosen(walk, store, number, &mut meter)? {
         numbers.push(found)?;
         number = found + 1;
     }

@@ -1,7 +1,7 @@
 use Rattle.std.proofs.Common.{length, arith, ap}
 use Rattle.std.proofs.lemmas.Grind.{common_steps}
 use Rattle.sq_store.specs.Content.{table_at}
-use Rattle.sq_session.proofs.Walk.{walked, walked_below, rows_from_none, rows_from_zero}
+use Rattle.sq_session.proofs.TableWalk.{walked, walked_below, rows_from_none, rows_from_zero}
 use Rattle.sq_session.proofs.session.rows_of.Goals as goal
 
 pub loop-found-init : goal.loop-found-init

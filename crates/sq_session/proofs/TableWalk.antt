@@ -75,3 +75,7 @@ walked_below row_numbers content table number f h e =
     let t = table_at content table in
     let below : f.number < t.next = found_below 1 number t.rows t.next f (rows_rise_at row_numbers content table h) e in
     omega (arith, below, next_at row_numbers content table h)
+
+-- what is found from a number is not before it
+pub found_behind : (content : Content) (table number : ℕ) (f : Numbered) → first_from (table_at content table) number ≡ Some f → number ≤ f.number
+found_behind content table number f e = found_from number (table_at content table).rows f e
