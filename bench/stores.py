@@ -2,8 +2,8 @@
 """Times the heap store beside SQLite in memory, on a million rows of two INTEGER columns.
 
 bench/stores.py: run anywhere, while nothing else runs. It writes a program into a new folder, with copies of the crates that it
-stands on, and has `rt try` compile and run it: unproved, with checks of indices and arithmetic in place, so the proved build is
-no slower. SQLite does the same work inside one statement each, so that no time goes to parsing or to calls from Python.
+stands on, and has `rt try` compile and run it: unproved, with a check at each access to memory and not optimized, so it is many
+times slower than a proved build, and its figures only compare with each other. SQLite does the same work inside one statement each, so that no time goes to parsing or to calls from Python.
 Figures are milliseconds, and bytes for each row. docs/BENCHMARKS.md has some.
 """
 
@@ -29,8 +29,8 @@ PROGRAM = """//! Times the heap store.
 use sq_heap::HeapStore;
 use sq_store::{Change, Meter, Store};
 use sq_value::{Decimal, Key, Row, Value};
-use std::alloc::{AllocError, Global};
-use std::fs;
+use std::alloc::{AllocError, AllocGlobal, Global};
+use std::fs::{self, Files};
 use std::io::{self, ErrorKind};
 use std::time::Instant;
 
@@ -68,7 +68,7 @@ fn keys(alloc: Global) -> Result<Vec<Vec<Vec<usize>>>, AllocError> {
     Ok(tables)
 }
 
-fn pages<R: Files + Alloc>(rt: &R) -> io::Result<u64> {
+fn pages<R: Files + AllocGlobal>(rt: &R) -> io::Result<u64> {
     let text = fs::read_to_string(rt, "/proc/self/statm")?;
     match text.split(' ').nth(1) {
         Some(word) => match word.parse::<u64>() {
@@ -155,7 +155,7 @@ def heap(keys):
             file.write("".join("%s: %s\n" % it for it in CRATES.items()))
         with open(os.path.join(room, "crates", "timed", "src", "main.rt"), "w") as file:
             file.write(PROGRAM.replace("@KEYS@", str(keys)))
-        done = subprocess.run(["rt", "try", "--steps", "1", "--seconds", "120"], cwd=os.path.join(room, "crates", "timed"), stdout=subprocess.PIPE, stderr=subprocess.PIPE, text=True)
+        done = subprocess.run(["rt", "try", "--steps", "1", "--seconds", "600"], cwd=os.path.join(room, "crates", "timed"), stdout=subprocess.PIPE, stderr=subprocess.PIPE, text=True)
         figures = {line.split()[0]: line.split()[1] for line in done.stdout.splitlines() if len(line.split()) > 1}
         if "gap" not in figures:
             sys.exit(done.stdout + done.stderr)
