@@ -1,6 +1,6 @@
 //! The cursors of a session, by their numbers.
 
-ghost use Rattle.std.specs.Prelude.{◌≡◌, ◌<◌, length, map, replicate, IfOk};
+ghost use Rattle.std.specs.Prelude.{◌≡◌, map, replicate, IfOk};
 ghost use Rattle.sq_session.specs.State.{all_closed, besides, is_open};
 
 use crate::cursor::CursorState;
@@ -28,13 +28,16 @@ pub(crate) fn close_all(cursors: &mut [CursorState])
     }
 }
 
-/// Puts a cursor in the stead of another.
+/// Puts a cursor in the stead of another, if there is one.
 #[tactic(auto, using(crate::proofs::Besides::besides_put))]
 pub(crate) fn put(cursors: &mut [CursorState], number: usize, cursor: CursorState)
-    requires { number < length cursors.old }
     ensures { besides number cursors.new ≡ besides number cursors.old }
 {
-    cursors[number] = cursor;
+    if number < cursors.len() {
+        cursors[number] = cursor;
+    } else {
+        drop(cursor);
+    }
 }
 
 /// Takes a cursor off its row.

@@ -5,7 +5,7 @@ ghost use Rattle.sq_meaning.specs.declared.status.Status.TheVariants as status;
 ghost use Rattle.sq_query.specs.declared.fault.Fault.TheVariants as fault;
 ghost use Rattle.sq_session.specs.Kind.{delete_kind, update_kind};
 ghost use Rattle.sq_session.specs.State.{committed_state, rolled_back};
-ghost use Rattle.sq_session.specs.Step.{MayChange, MayClose, MayFetch, MayOpen, MayStep, ended, ending, is_on_row, is_ready};
+ghost use Rattle.sq_session.specs.Step.{MayChange, MayClose, MayFetch, MayOpen, MayOpenIf, MayStep, ended, ending, is_on_row, is_ready};
 
 use crate::called::Called;
 use crate::cursor::{CursorState, number_on, opened};
@@ -63,10 +63,22 @@ impl<S: Store> Machine<S> {
         ensures err { OnErr result (self.new ≡ self.old) }
     {
         match self.cursors.get(number) {
-            None => return Err(Fault::NOT_WELL_FORMED),
-            Some(CursorState::Closed) => {}
-            Some(_) => return Err(Fault::Status(Status::InvalidCursorState)),
+            None => Err(Fault::NOT_WELL_FORMED),
+            Some(CursorState::Closed) => self.open_closed(called, number, meter),
+            Some(_) => Err(Fault::Status(Status::InvalidCursorState)),
         }
+    }
+
+    /// OPEN of a cursor that is closed.
+    fn open_closed(
+        &mut self,
+        called: &Called<'_>,
+        number: usize,
+        meter: &mut Meter,
+    ) -> Result<Done, Fault>
+        ensures step { IfSome (ending result) (λ d. MayOpenIf false number self.old d self.new) }
+        ensures err { OnErr result (self.new ≡ self.old) }
+    {
         let Some(declared) = called.cursors.get(number) else {
             return Err(Fault::NOT_WELL_FORMED);
         };

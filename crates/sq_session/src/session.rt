@@ -6,7 +6,7 @@ ghost use Rattle.sq_module.specs.Refusal.{IsOfSomeModule};
 ghost use Rattle.sq_session.specs.Lent.{lent};
 ghost use Rattle.sq_session.specs.Kind.{kind_at, needs_memory};
 ghost use Rattle.sq_session.specs.State.{AreClosed};
-ghost use Rattle.sq_session.specs.Step.{MayCall};
+ghost use Rattle.sq_session.specs.Step.{MayCall, is_success};
 
 use crate::call::{call, reply_of};
 use crate::machine::Machine;
@@ -76,7 +76,9 @@ impl<S: Store> Session<S> {
         }
     }
 
-    /// Makes one call. Running out of memory changes nothing.
+    /// Makes one call. Running out of memory changes nothing, and a call that ends with another status than success leaves
+    /// the tables as they were.
+    #[tactic(auto, using(crate::proofs::Kept::kept_by_failure))]
     pub fn call(
         &mut self,
         alloc: Global,
@@ -85,6 +87,7 @@ impl<S: Store> Session<S> {
     ) -> Result<Reply, AllocError>
         ensures step { IfOk result (λ r.
             MayCall (kind_at self.old.procedures procedure) self.old.state (record { status = r.status; outputs = r.outputs }) self.new.state) }
+        ensures kept { IfOk result (λ r. is_success r.status ≡ false → self.new.state.tables ≡ self.old.state.tables) }
         ensures procedures { self.new.procedures ≡ self.old.procedures }
         ensures err { OnErr result (self.new ≡ self.old) }
         ensures memory { needs_memory (kind_at self.old.procedures procedure) ≡ false → IsOk result }

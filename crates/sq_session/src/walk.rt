@@ -62,7 +62,6 @@ struct Walk<'a> {
     user: Name,
     target: &'a Target,
     values: &'a [Value],
-    mark: u64,
 }
 
 impl<'a> Walk<'a> {
@@ -76,20 +75,21 @@ impl<'a> Walk<'a> {
     }
 }
 
-/// The first row from a number on, and before the mark, that the target means.
+/// The first row from a number on, and before a mark, that the target means.
 #[tactic(auto, using(crate::proofs::TableWalk::found_behind))]
 fn next_chosen<'s, S: Store>(
     walk: &Walk<'_>,
     store: &'s S,
     from: u64,
+    mark: u64,
     meter: &mut Meter,
 ) -> Result<Option<(u64, &'s Row)>, Fault>
     requires { walk.now.target.now.base < length (S.content_now store.now) }
-    ensures { IfOk result (λ found. IfSome found (λ r. (from ≤ r.0) × (r.0 < walk.now.mark))) }
+    ensures { IfOk result (λ found. IfSome found (λ r. (from ≤ r.0) × (r.0 < mark))) }
 {
     let mut number = from;
     while let Some((found, row)) = store.next_from(walk.target.base, number, meter) {
-        if found >= walk.mark {
+        if found >= mark {
             return Ok(None);
         }
         if walk.is_chosen(row, store)? {
@@ -117,9 +117,8 @@ pub(crate) fn next_of_walk<'s, S: Store>(
         user: called.procedure.user,
         target,
         values: cursor.values.as_slice(),
-        mark: cursor.mark,
     };
-    next_chosen(&walk, store, cursor.next, meter)
+    next_chosen(&walk, store, cursor.next, cursor.mark, meter)
 }
 
 /// A cursor, and the numbers of the rows that are left to it.
@@ -166,18 +165,23 @@ fn rest_of_walk<S: Store>(
         user,
         target,
         values: cursor.values.as_slice(),
-        mark: cursor.mark,
     };
-    numbers_from(&walk, store, cursor.next)
+    numbers_from(&walk, store, cursor.next, cursor.mark)
 }
 
-fn numbers_from<S: Store>(walk: &Walk<'_>, store: &S, from: u64) -> Result<Items<u64>, Fault>
+/// The numbers, from one on and before a mark, of the rows that the target means.
+fn numbers_from<S: Store>(
+    walk: &Walk<'_>,
+    store: &S,
+    from: u64,
+    mark: u64,
+) -> Result<Items<u64>, Fault>
     requires { walk.now.target.now.base < length (S.content_now store.now) }
 {
     let mut numbers = Items::new(walk.alloc);
     let mut meter = Meter::new();
     let mut number = from;
-    while let Some((found, _)) = next_chosen(walk, store, number, &mut meter)? {
+    while let Some((found, _)) = next_chosen(walk, store, number, mark, &mut meter)? {
         numbers.push(found)?;
         number = found + 1;
     }

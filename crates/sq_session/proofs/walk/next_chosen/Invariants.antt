@@ -5,4 +5,4 @@ abbrev pub invariant-loop-found : goal.invariant-loop-found
 invariant-loop-found g l = l.from ≤ l.number
 
 abbrev pub decreases-loop-found : goal.decreases-loop-found
-decreases-loop-found g l = l.walk.now.mark - l.number
+decreases-loop-found g l = l.mark - l.number
