@@ -1,5 +1,5 @@
 -- Texts and the trees that they spell, one by one.
-use Rattle.std.proofs.Common.{◌≡◌, ℕ, zero, suc, ◌+◌, ◌<◌, ◌≤◌, List, [], ◌∷◌, ◌++◌, length, get_or, take, Ok, refl, ap, ◌∙◌, sym, arith, Vec}
+use Rattle.std.proofs.Common.{◌≡◌, ℕ, zero, suc, ◌+◌, ◌<◌, ◌≤◌, List, [], ◌∷◌, ◌++◌, length, get_or, take, Ok, refl, ap, ◌∙◌, sym, subst, arith, Vec}
 use Rattle.std.proofs.lemmas.List.{take_more}
 use Rattle.std.proofs.lemmas.Grind.{common_steps}
 use Rattle.std.specs.Prelude.{IsOk}
@@ -57,10 +57,15 @@ spelled_all tokens_of all i trees le spelled =
 pub spelled_count : {T : Type 0} (tokens_of : T → List Lexeme) (all : List (Vec ℕ Global)) (trees : List T) → AllSpell tokens_of (texts all) trees → length all ≡ length trees
 spelled_count tokens_of all trees spelled = sym (length_texts all) ∙ spelled_length tokens_of (texts all) trees spelled
 
+read_of : (text : Bytes) (lexed : List Lexeme) → Spells text lexed → IsOk (reading text)
+read_of text lexed spells = subst (λ answer. IsOk answer) (sym spells.read) refl
+
 -- a text that spells a tree has a reading
 pub spelled_read : {T : Type 0} (tokens_of : T → List Lexeme) (all : List (Vec ℕ Global)) (trees : List T) (i : ℕ) (text : Vec ℕ Global) → AllSpell tokens_of (texts all) trees
     → i < length all → text ≡ get_or all i text → IsOk (reading text.items)
 spelled_read tokens_of [] trees i text spelled lt e = absurd (omega arith)
 spelled_read tokens_of (v ∷ vs) [] i text spelled lt e = absurd spelled
-spelled_read tokens_of (v ∷ vs) (t ∷ ts) zero text spelled lt e = rw e (rw (spelled.0).read tt)
+spelled_read tokens_of (v ∷ vs) (t ∷ ts) zero text spelled lt e =
+    let same : v.items ≡ text.items = ap (λ w. w.items) (sym e) in
+    subst (λ bytes. IsOk (reading bytes)) same (read_of v.items (tokens_of t) spelled.0)
 spelled_read tokens_of (v ∷ vs) (t ∷ ts) (suc n) text spelled lt e = spelled_read tokens_of vs ts n text spelled.1 (omega arith) e

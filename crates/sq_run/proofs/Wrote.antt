@@ -95,7 +95,7 @@ refused_by : (schemas modules : List Bytes) (script : Bytes) (start : Session) (
     → IsScriptStop script start old new fault → RefusedText schemas modules script fault
 refused_by schemas modules script start old new (SchemaRefused refusal) stop = absurd stop
 refused_by schemas modules script start old new (ModuleRefused refusal) stop = absurd stop
-refused_by schemas modules script start old new (ScriptRefused refusal) stop = stop.1
+refused_by schemas modules script start old new (ScriptRefused refusal) stop = (stop.1, stop.2)
 refused_by schemas modules script start old new (Write bytes) stop = tt
 refused_by schemas modules script start old new (NoMemory items) stop = tt
 
