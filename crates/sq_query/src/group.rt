@@ -23,8 +23,23 @@ struct Groups<'a> {
 }
 
 impl<'a> Groups<'a> {
-    /// Adds a line to the group of its key.
-    fn add(&mut self, alloc: Global, key: Key, line: Scope<'a>) -> Result<(), Fault> {
+    /// Adds a line to the group of its key, unless it has none.
+    fn add(
+        &mut self,
+        alloc: Global,
+        key: Result<Key, Fault>,
+        line: Scope<'a>,
+    ) -> Result<(), Fault> {
+        match key {
+            Ok(key) => self.enter(alloc, key, line),
+            Err(fault) => {
+                drop(line);
+                Err(fault)
+            }
+        }
+    }
+
+    fn enter(&mut self, alloc: Global, key: Key, line: Scope<'a>) -> Result<(), Fault> {
         let (place, is_new) = self.keys.insert_full(key)?;
         if is_new {
             self.groups.push(Group {
@@ -92,7 +107,7 @@ fn groups_by_columns<'a>(
         groups: Vec::new(context.alloc),
     };
     for line in lines {
-        let key = grouping_key(columns, &line.frame(outer), context.alloc)?;
+        let key = grouping_key(columns, &line.frame(outer), context.alloc);
         groups.add(context.alloc, key, line)?;
     }
     Ok(groups)

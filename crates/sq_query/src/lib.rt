@@ -16,6 +16,7 @@ mod found;
 mod frame;
 mod group;
 mod inputs;
+mod item;
 mod needed;
 mod order;
 mod predicate;

@@ -38,18 +38,37 @@ fn listed_rows(
     Ok(rows)
 }
 
-/// Each row at its first occurrence.
-pub(crate) fn distinct_rows(alloc: Global, rows: Vec<Row>) -> Result<Vec<Row>, Fault> {
-    let mut seen = IndexSet::new(alloc);
-    let mut distinct = Vec::new(alloc);
-    for row in rows {
-        if is_new(alloc, &mut seen, &row)? {
-            distinct.push(row)?;
-        }
-    }
-    Ok(distinct)
+/// Rows, each at its first occurrence.
+#[derive(Drop)]
+struct DistinctRows {
+    keys: IndexSet<Key>,
+    rows: Vec<Row>,
 }
 
-fn is_new(alloc: Global, seen: &mut IndexSet<Key>, row: &Row) -> Result<bool, Fault> {
-    Ok(seen.insert(Key::new(alloc, row.as_slice())?)?)
+impl DistinctRows {
+    fn add(&mut self, alloc: Global, row: Row) -> Result<(), Fault> {
+        if self.is_new(alloc, &row)? {
+            self.rows.push(row)?;
+        }
+        Ok(())
+    }
+
+    fn is_new(&mut self, alloc: Global, row: &Row) -> Result<bool, Fault> {
+        let key = Key::new(alloc, row.as_slice())?;
+        Ok(self.keys.insert(key)?)
+    }
+}
+
+/// Each row at its first occurrence.
+pub(crate) fn distinct_rows(alloc: Global, rows: Vec<Row>) -> Result<Vec<Row>, Fault> {
+    let mut distinct = DistinctRows {
+        keys: IndexSet::new(alloc),
+        rows: Vec::new(alloc),
+    };
+    for row in rows {
+        distinct.add(alloc, row)?;
+    }
+    let DistinctRows { keys, rows } = distinct;
+    drop(keys);
+    Ok(rows)
 }

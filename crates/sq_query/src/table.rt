@@ -74,19 +74,8 @@ pub(crate) fn numbered_rows<'a, S: Store>(
     Ok(rows)
 }
 
-/// The rows of each item of a FROM clause.
-pub(crate) fn from_rows<'a>(
-    from: &[TablePlace],
-    context: &Context<'a>,
-) -> Result<Vec<Vec<&'a Row>>, Fault> {
-    let mut items = Vec::new(context.alloc);
-    for place in from {
-        items.push(rows_at(*place, context)?)?;
-    }
-    Ok(items)
-}
-
-fn rows_at<'a>(place: TablePlace, context: &Context<'a>) -> Result<Vec<&'a Row>, Fault> {
+/// The rows of a table or view.
+pub(crate) fn rows_at<'a>(place: TablePlace, context: &Context<'a>) -> Result<Vec<&'a Row>, Fault> {
     match place {
         TablePlace::Base(place) => match context.bases.iter().find(|base| base.place == place) {
             Some(base) => Ok(Vec::from_slice(context.alloc, base.rows.as_slice())?),

@@ -1,5 +1,4 @@
 use Rattle.std.proofs.Common.{length, arith, ap}
-use Rattle.std.proofs.lemmas.Grind.{common_steps}
 use Rattle.sq_query.proofs.Walk.{walked, walked_below}
 use Rattle.sq_query.proofs.table.numbered_rows.Goals as goal
 
