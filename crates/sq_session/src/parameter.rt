@@ -5,7 +5,7 @@ use sq_change::{assigned, fits_kind, is_domain};
 use sq_items::Items;
 use sq_query::Fault;
 use sq_value::{Domain, Value, start_value, store};
-use std::alloc::Global;
+use std::alloc::{AllocError, Global};
 
 /// Whether there are as many values as parameters, each null or one that its parameter can store.
 pub(crate) fn all_fit(alloc: Global, parameters: &[ParameterDesc], values: &[Value]) -> bool {
@@ -35,33 +35,42 @@ fn has_only_blanks_past(codes: &[u8], length: usize) -> bool {
     codes.len() <= length || codes[length..].iter().all(|code| *code == b' ')
 }
 
-/// The values at which the parameters start: what is handed in, stored.
+/// The values at which the parameters start: what is handed in, stored. A parameter whose domain is none, and those behind
+/// it, have no value.
 pub(crate) fn started_values(
     alloc: Global,
     parameters: &[ParameterDesc],
     values: &[Value],
-) -> Result<Items<Value>, Fault> {
+) -> Result<Items<Value>, AllocError> {
     let mut started = Items::new(alloc);
     for (parameter, value) in parameters.iter().zip(values) {
-        started.push(started_value(alloc, parameter.domain, value)?)?;
+        match started_value(alloc, parameter.domain, value)? {
+            Some(value) => started.push(value)?,
+            None => return Ok(started),
+        }
     }
     Ok(started)
 }
 
 /// Null starts a parameter at zero, at blanks or at the empty text (own rule).
-fn started_value(alloc: Global, domain: Domain, value: &Value) -> Result<Value, Fault> {
-    match value {
-        Value::Null => first_value(alloc, domain),
-        _ => match assigned(alloc, domain, value) {
-            Err(Fault::Status(_)) => first_value(alloc, domain),
-            stored => stored,
-        },
+fn started_value(
+    alloc: Global,
+    domain: Domain,
+    value: &Value,
+) -> Result<Option<Value>, AllocError> {
+    if let Value::Null = value {
+        return first_value(alloc, domain);
+    }
+    match assigned(alloc, domain, value) {
+        Ok(stored) => Ok(Some(stored)),
+        Err(Fault::Status(_)) => first_value(alloc, domain),
+        Err(Fault::NoMemory) => Err(AllocError),
     }
 }
 
-fn first_value(alloc: Global, domain: Domain) -> Result<Value, Fault> {
+fn first_value(alloc: Global, domain: Domain) -> Result<Option<Value>, AllocError> {
     if !is_domain(domain) {
-        return Err(Fault::NOT_WELL_FORMED);
+        return Ok(None);
     }
-    Ok(start_value(alloc, domain)?)
+    Ok(Some(start_value(alloc, domain)?))
 }
