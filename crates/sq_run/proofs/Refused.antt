@@ -1,5 +1,5 @@
 -- What a refusal says of a text, and of the texts of its kind.
-use Rattle.std.proofs.Common.{◌≡◌, ℕ, zero, suc, ◌+◌, ◌<◌, List, [], ◌∷◌, length, get_or, slice_get, take, map, Some, Ok, sym, ◌∙◌, ap, subst, refl, arith, Vec}
+use Rattle.std.proofs.Common.{◌≡◌, ℕ, zero, suc, ◌<◌, List, [], ◌∷◌, length, get_or, slice_get, take, Some, Ok, sym, ◌∙◌, ap, subst, refl, arith, Vec}
 use Rattle.std.specs.declared.alloc.Global.{Global}
 use Rattle.sq_lex.specs.declared.lexeme.Lexeme.{Lexeme}
 use Rattle.sq_lex.specs.declared.token.Token.{Token}
@@ -14,7 +14,7 @@ use Rattle.sq_tree.specs.Module.{module_tokens, module_depth}
 use Rattle.sq_tree.specs.Script.{script_tokens, script_depth}
 use Rattle.sq_model.specs.Report.{Bytes}
 use Rattle.sq_run.specs.Fault.{IsMisspelled, IsOfMeaning, IsOpeningFault, IsParseFault, IsRefusalIfAny, IsRefusedScript, IsRefusedText, IsScriptFault, IsUnread, SomeRefused, run_fault}
-use Rattle.sq_run.specs.Refused.{Matter, Tokens, Grammar, Depth, Meaning, IsRefused, OneRefused, matter, read_before}
+use Rattle.sq_run.specs.Refused.{Matter, Tokens, Grammar, Depth, Meaning, IsRefused, OneRefused, matter}
 use Rattle.sq_run.specs.Run.{AllSpell, SomeTrees, Spells, texts}
 use Rattle.sq_run.specs.declared.refusal.Refusal.{Refusal}
 use Rattle.sq_run.specs.declared.refusal.RefusalName.{RefusalName}

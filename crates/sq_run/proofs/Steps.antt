@@ -5,7 +5,7 @@ use Rattle.std.proofs.lemmas.Grind.{common_steps}
 use Rattle.std.specs.Io.KnownBytes.{Appends}
 use Rattle.sq_model.specs.Report.{Bytes}
 use Rattle.sq_session.specs.Session.{Session}
-use Rattle.sq_run.specs.Steps.{Step, Steps, Reported, ReportedPart}
+use Rattle.sq_run.specs.Steps.{Step, Steps, Reported}
 use Rattle.sq_run.specs.Stop.{StoppedInside}
 use Rattle.sq_run.specs.declared.action.Action.{Action}
 

@@ -1,9 +1,8 @@
 //! From texts to a session and what its script asks for.
-ghost use Rattle.std.specs.Prelude.{◌≡◌, ◌≤◌, ◌<◌, length, IfErr, IfOk, IsOk, true};
+ghost use Rattle.std.specs.Prelude.{◌≡◌, ◌≤◌, ◌<◌, length, IfErr, IfOk, IsOk};
 ghost use Rattle.sq_lex.specs.Reading.{reading};
 ghost use Rattle.sq_tree.specs.Schema.{schema_tokens, schema_depth};
 ghost use Rattle.sq_tree.specs.Module.{module_tokens, module_depth};
-ghost use Rattle.sq_tree.specs.Script.{script_tokens, script_depth};
 ghost use Rattle.sq_module.specs.Refusal.{IsOfSomeModule};
 ghost use Rattle.sq_run.specs.Fault.{IsItemFault, IsOfMeaning, IsOpeningFault, IsRefusedScript, IsScriptFault, SomeRefused, run_fault};
 ghost use Rattle.sq_run.specs.Run.{AllSpell, IsStart, SomeTrees, texts};

@@ -18,8 +18,8 @@ loop-done-preserved g c =
     let size : c.len.result ≡ length c.as_slice.result.now = c.len.ensures ∙ c.in-Ok.lines.ok.0 ∙ ap length (sym c.as_slice.ensures.value) in
     record {
       so_far = wrote_more c.args.actions.now c.loop-done.done c.index-actions-done.result c.args.session.now c.loop-done.session c.perform.new.session c.loop-done.written c.len.result
-      (taken c.args.out.now) (taken c.loop-done.out) (taken c.write_whole.new.out) c.as_slice.result.now
-      c.loop-done-test.true c.index-actions-done.is c.loop-done.invariant.so_far step size c.in_default-write_whole.ensures.ok;
+          (taken c.args.out.now) (taken c.loop-done.out) (taken c.write_whole.new.out) c.as_slice.result.now
+          c.loop-done-test.true c.index-actions-done.is c.loop-done.invariant.so_far step size c.in_default-write_whole.ensures.ok;
       untouched = λ none. absurd (omega arith);
       small = omega (arith, c.loop-done.invariant.small);
       open_yet = c.in_default-write_whole.ensures.still;
