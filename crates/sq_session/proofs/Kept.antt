@@ -1,9 +1,8 @@
 -- A call that ends with another status than success leaves the tables as they were.
 use Rattle.std.proofs.Common.{◌≡◌, ℕ, Bool, true, false, Option, Some, None, slice_get, ap, subst}
-use Rattle.sq_meaning.specs.declared.status.Status.TheVariants as status
 use Rattle.sq_session.specs.Kind.{Kind}
 use Rattle.sq_session.specs.State.{State, committed_state, is_open, rolled_back}
-use Rattle.sq_session.specs.Step.{ChangesIf, DeletesIf, Ends, MayCall, MayClose, MayCloseIf, MayDeleteAt, MayFetch, MayFetchIf, MayOpen, MayOpenIf, MayStep, MayUpdateAt, OpensIf, UpdatesIf, ended, is_on_row, is_success}
+use Rattle.sq_session.specs.Step.{ChangesIf, DeletesIf, Ends, MayCall, MayClose, MayCloseIf, MayDeleteAt, MayFetch, MayFetchIf, MayOpen, MayOpenIf, MayStep, MayUpdateAt, OpensIf, UpdatesIf, is_on_row, is_success}
 use Rattle.sq_session.specs.declared.cursor.CursorState.{CursorState}
 use Rattle.sq_session.specs.declared.reply.Done.{Done}
 

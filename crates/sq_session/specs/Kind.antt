@@ -1,5 +1,5 @@
 -- What a statement is to the tables and the cursors: which cursor it works on, and whether it may change rows.
-use Rattle.std.specs.Prelude.{ℕ, Bool, true, false, List, slice_index_or, Option, option_map, None, Some}
+use Rattle.std.specs.Prelude.{ℕ, Bool, true, false, List, slice_index_or, Option, None, Some}
 use Rattle.sq_bound.specs.declared.statement.BoundStatement.{BoundStatement}
 use Rattle.sq_bound.specs.declared.statement.BoundStatement.TheVariants as statement
 use Rattle.sq_bound.specs.declared.statement.ChangeTarget.{ChangeTarget}

@@ -1,5 +1,5 @@
 -- What calls work on (ISO/IEC 9075:1992, 4.21 and 4.28).
-use Rattle.std.specs.Prelude.{◌≡◌, ℕ, Bool, true, false, List, map, slice_index_or, slice_set, Option, Some, None}
+use Rattle.std.specs.Prelude.{◌≡◌, ℕ, Bool, true, false, List, map, slice_index_or, slice_set, Option, None}
 use Rattle.sq_store.specs.Content.{Content}
 use Rattle.sq_session.specs.declared.cursor.CursorState.{CursorState}
 use Rattle.sq_session.specs.declared.cursor.CursorState.TheVariants as cursor
