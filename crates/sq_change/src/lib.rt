@@ -14,5 +14,5 @@ mod statement;
 mod storing;
 mod target;
 
-pub use storing::{assigned, fits_kind, is_domain};
 pub use statement::{delete, insert, update};
+pub use storing::{assigned, fits_kind, is_domain};
