@@ -30,3 +30,4 @@ mod CursorStates
 mod IllFormed
 mod CheckOptions
 mod NoRowNumbers
+mod Done
