@@ -27,8 +27,9 @@ const LINES: [(&str, Kind); 5] = [
 ];
 
 /// Tables of whole runs.
-const RUNS: [&str; 6] = [
-    "runs-first-language.txt",
+const RUNS: [&str; 7] = [
+    "runs-small.txt",
+    "runs-statuses.txt",
     "runs-worked.txt",
     "runs-accepted.txt",
     "runs-refused.txt",

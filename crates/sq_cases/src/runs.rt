@@ -1,4 +1,4 @@
-//! Tables of whole runs: a line `run` and its name, then its lines. Those that `not-yet.txt` names are passed over.
+//! Tables of whole runs: a line `run` and its name, then its lines.
 use crate::run::Run;
 use crate::tally::Tally;
 use sq_heap::HeapStore;
@@ -7,16 +7,11 @@ use std::{fs, io, str};
 
 /// Tries each run of a table.
 pub fn try_table<R: Files + Print + AllocGlobal>(rt: &R, file: &str) -> io::Result<()> {
-    let not_yet = fs::read_to_string(rt, "not-yet.txt")?;
     let table = fs::read_to_string(rt, file)?;
     let mut tally = Tally::new();
     for block in table.split("\nrun ").skip(1) {
         let (name, lines) = block.split_once('\n').unwrap_or((block, ""));
-        if not_yet.lines().any(|line| line == name) {
-            tally.pass_over();
-        } else {
-            try_run(rt, &mut tally, name, lines)?;
-        }
+        try_run(rt, &mut tally, name, lines)?;
     }
     tally.print(rt, file)
 }

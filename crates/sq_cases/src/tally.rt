@@ -6,7 +6,6 @@ use std::io;
 pub struct Tally {
     cases: usize,
     differ: usize,
-    not_yet: usize,
 }
 
 impl Tally {
@@ -14,13 +13,7 @@ impl Tally {
         Tally {
             cases: 0,
             differ: 0,
-            not_yet: 0,
         }
-    }
-
-    /// Counts a case that is not tried yet.
-    pub fn pass_over(&mut self) {
-        self.not_yet = self.not_yet.saturating_add(1);
     }
 
     /// Counts a case, and prints it if it differs.
@@ -41,11 +34,7 @@ impl Tally {
 
     /// Prints what was counted in a table.
     pub fn print(self, rt: &impl Print, table: &str) -> io::Result<()> {
-        let Tally {
-            cases,
-            differ,
-            not_yet,
-        } = self;
-        println!(rt; "{table}: {cases} cases, {differ} differ, {not_yet} not yet")
+        let Tally { cases, differ } = self;
+        println!(rt; "{table}: {cases} cases, {differ} differ")
     }
 }

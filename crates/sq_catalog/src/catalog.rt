@@ -1,5 +1,8 @@
 //! The catalog, built element by element (ISO/IEC 9075:1992, 11.1).
 
+ghost use Rattle.std.specs.Prelude.{IfErr, length};
+ghost use Rattle.sq_catalog.specs.Fault.{IsOfSomeText, IsOfText};
+
 use crate::fault::{CatalogFault, ElementFault, RefusalName, SchemaRefusal, refused_if};
 use crate::grants::{Held, Privilege};
 use crate::written::{add_name, pushed};
@@ -47,7 +50,9 @@ impl Catalog {
         alloc: Global,
         texts: &[SchemaText],
         limits: Limits,
-    ) -> Result<Catalog, CatalogFault> {
+    ) -> Result<Catalog, CatalogFault>
+        ensures refused { IfErr result (IsOfSomeText (length texts.now)) }
+    {
         let mut catalog = Catalog {
             alloc,
             limits,
@@ -78,7 +83,9 @@ impl Catalog {
         self.alloc
     }
 
-    fn add_text(&mut self, text: usize, tree: &SchemaText) -> Result<(), CatalogFault> {
+    fn add_text(&mut self, text: usize, tree: &SchemaText) -> Result<(), CatalogFault>
+        ensures refused { IfErr result (IsOfText text) }
+    {
         self.add_schema(text, 0, &tree.first)?;
         for (number, schema) in tree.rest.as_slice().iter().enumerate() {
             self.add_schema(text, number.saturating_add(1), schema)?;
@@ -91,7 +98,9 @@ impl Catalog {
         text: usize,
         schema: usize,
         definition: &SchemaDefinition,
-    ) -> Result<(), CatalogFault> {
+    ) -> Result<(), CatalogFault>
+        ensures refused { IfErr result (IsOfText text) }
+    {
         let user = definition.authorization;
         placed(add_name(&mut self.users, user), text, schema, None)?;
         for (number, element) in definition.elements.as_slice().iter().enumerate() {
@@ -187,7 +196,9 @@ fn placed(
     text: usize,
     schema: usize,
     element: Option<usize>,
-) -> Result<(), CatalogFault> {
+) -> Result<(), CatalogFault>
+    ensures refused { IfErr result (IsOfText text) }
+{
     match answer {
         Ok(()) => Ok(()),
         Err(ElementFault::Refused(name)) => Err(CatalogFault::Refused(SchemaRefusal {

@@ -86,16 +86,16 @@ fits_pop n (v ∷ us) u h =
 
 -- ---- one change more
 
-length_push : (ss : List Slot) (s : Slot) → length (ss ++ s ∷ []) ≡ length ss + 1
+pub length_push : (ss : List Slot) (s : Slot) → length (ss ++ s ∷ []) ≡ length ss + 1
 length_push [] s = refl
 length_push (t ∷ ss) s = let rest : length (ss ++ s ∷ []) ≡ length ss + 1 = length_push ss s in omega arith
 
-length_same : (ss : List Slot) (i : ℕ) (s : Slot) → length (slice_set ss i s) ≡ length ss
+pub length_same : (ss : List Slot) (i : ℕ) (s : Slot) → length (slice_set ss i s) ≡ length ss
 length_same [] i s = refl
 length_same (t ∷ ss) zero s = refl
 length_same (t ∷ ss) (suc i) s = ap suc (length_same ss i s)
 
-there : (ss : List Slot) (i : ℕ) (old : Slot) → is_some (slot_at ss i) ≡ true → old ≡ get_or ss i old → (i < length ss) × (is_some old ≡ true)
+pub there : (ss : List Slot) (i : ℕ) (old : Slot) → is_some (slot_at ss i) ≡ true → old ≡ get_or ss i old → (i < length ss) × (is_some old ≡ true)
 there [] i old h e = cc
 there (t ∷ ss) zero old h e = (omega arith, ap is_some e ∙ h)
 there (t ∷ ss) (suc i) old h e = let rest = there ss i old h e in (omega arith, rest.1)

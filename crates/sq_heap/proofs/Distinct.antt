@@ -29,16 +29,16 @@ right_of : (a b : Bool) → (a && b) ≡ true → b ≡ true
 right_of true b h = h
 right_of false b h = cc
 
-same_from : (a b : Bool) → (a ≡ true → b ≡ true) → (b ≡ true → a ≡ true) → a ≡ b
+pub same_from : (a b : Bool) → (a ≡ true → b ≡ true) → (b ≡ true → a ≡ true) → a ≡ b
 same_from true b p q = sym (p refl)
 same_from false true p q = q refl
 same_from false false p q = refl
 
-not_true : (a : Bool) → (a ≡ true → ⊥) → a ≡ false
+pub not_true : (a : Bool) → (a ≡ true → ⊥) → a ≡ false
 not_true true h = absurd (h refl)
 not_true false h = refl
 
-by_test : (a : Bool) {P : Type 0} → (a ≡ true → P) → (a ≡ false → P) → P
+pub by_test : (a : Bool) {P : Type 0} → (a ≡ true → P) → (a ≡ false → P) → P
 by_test true p q = p refl
 by_test false p q = q refl
 
@@ -77,7 +77,7 @@ none_later columns row n ss none j q e s =
     let some : list_any (has_key columns (in_columns row columns)) (rows_from n ss) ≡ true = slot_any columns (in_columns row columns) n ss j q e s in
     false≢true (sym (ap not some) ∙ none)
 
-apart_from_distinct : (columns : List ℕ) (n : ℕ) (ss : List Slot) → are_distinct columns (rows_from n ss) ≡ true → (i j : ℕ) (r q : List Value) → slot_at ss i ≡ Some r → slot_at ss j ≡ Some q → same_key columns r q ≡ true → i ≡ j
+pub apart_from_distinct : (columns : List ℕ) (n : ℕ) (ss : List Slot) → are_distinct columns (rows_from n ss) ≡ true → (i j : ℕ) (r q : List Value) → slot_at ss i ≡ Some r → slot_at ss j ≡ Some q → same_key columns r q ≡ true → i ≡ j
 apart_from_distinct columns n [] h i j r q e f s = cc
 apart_from_distinct columns n (None ∷ ss) h zero j r q e f s = cc
 apart_from_distinct columns n (None ∷ ss) h (suc i) zero r q e f s = cc
@@ -99,7 +99,7 @@ only_at true b h s = refl
 only_at false true h s = cc
 only_at false false h s = cc
 
-alone_at : (columns : List ℕ) (row : List Value) (at n : ℕ) (ss : List Slot) (j : ℕ) (q : List Value) → is_alone columns row at n ss ≡ true → slot_at ss j ≡ Some q → same_key columns row q ≡ true → n + j ≡ at
+pub alone_at : (columns : List ℕ) (row : List Value) (at n : ℕ) (ss : List Slot) (j : ℕ) (q : List Value) → is_alone columns row at n ss ≡ true → slot_at ss j ≡ Some q → same_key columns row q ≡ true → n + j ≡ at
 alone_at columns row at n [] j q h e s = cc
 alone_at columns row at n (None ∷ ss) zero q h e s = cc
 alone_at columns row at n (None ∷ ss) (suc j) q h e s = let k : n + 1 + j ≡ at = alone_at columns row at (n + 1) ss j q h e s in omega arith
@@ -115,19 +115,19 @@ or_not : (a b : Bool) → b ≡ false → (a || not b) ≡ true
 or_not true b f = refl
 or_not false b f = ap not f
 
-or_rest : (a b : Bool) → a ≡ false → (a || b) ≡ true → b ≡ true
+pub or_rest : (a b : Bool) → a ≡ false → (a || b) ≡ true → b ≡ true
 or_rest true b f h = absurd (false≢true (sym f))
 or_rest false b f h = h
 
-or_right : (a b : Bool) → b ≡ true → (a || b) ≡ true
+pub or_right : (a b : Bool) → b ≡ true → (a || b) ≡ true
 or_right true b h = refl
 or_right false b h = h
 
-or_left : (a b : Bool) → a ≡ true → (a || b) ≡ true
+pub or_left : (a b : Bool) → a ≡ true → (a || b) ≡ true
 or_left true b h = refl
 or_left false b h = absurd (false≢true h)
 
-alone_from : (columns : List ℕ) (row : List Value) (at n : ℕ) (ss : List Slot) → ((j : ℕ) (q : List Value) → slot_at ss j ≡ Some q → same_key columns row q ≡ true → n + j ≡ at) → is_alone columns row at n ss ≡ true
+pub alone_from : (columns : List ℕ) (row : List Value) (at n : ℕ) (ss : List Slot) → ((j : ℕ) (q : List Value) → slot_at ss j ≡ Some q → same_key columns row q ≡ true → n + j ≡ at) → is_alone columns row at n ss ≡ true
 alone_from columns row at n [] only = refl
 alone_from columns row at n (None ∷ ss) only = alone_from columns row at (n + 1) ss (λ j q e s. let k : n + suc j ≡ at = only (suc j) q e s in omega arith)
 alone_from columns row at n (Some r ∷ ss) only =

@@ -7,11 +7,15 @@ use Rattle.std.proofs.lemmas.Grind.{common_steps}
 use Rattle.sq_store.specs.declared.table.Table.{Table}
 use Rattle.sq_store.specs.declared.change.Change.{Change}
 use Rattle.sq_store.specs.Content.{Content, changed_by, empty, no_rows, table_at}
+use Rattle.std.specs.Prelude.{Vec}
+use Rattle.std.specs.declared.alloc.Global.{Global}
+use Rattle.sq_store.specs.Keys.{keys_of as given_keys}
 use Rattle.sq_store.specs.Keys.{Keys, are_keyed, has_distinct_keys, have_keys, keys_at}
 use Rattle.sq_store.specs.Sound.{is_sound}
 use Rattle.sq_store.specs.laws.Sound.{keyed_of}
 use Rattle.sq_store.proofs.Sound.{columns_at, next_at, sound_length}
-use Rattle.sq_heap.specs.Heap.{all_before, all_committed, all_now, are_listed, are_within, before_of, committed_of, has_none, now_of}
+use Rattle.sq_heap.specs.Heap.{all_before, all_committed, all_keys, all_now, are_listed, are_within, before_of, committed_of, has_none, now_of, table_keys}
+use Rattle.sq_heap.specs.Index.{keys_of}
 use Rattle.sq_heap.specs.Alone.{slots_have}
 use Rattle.sq_heap.specs.Slots.{Slot, rows_from, table_of}
 use Rattle.sq_heap.specs.Undo.{back}
@@ -283,3 +287,31 @@ key_slots row_numbers keys ts i key columns t h lt e k c =
     one_key [] key columns ss h lt e = absurd (omega arith)
     one_key (k ∷ keys) zero columns ss h lt e = ap (λ (c : List ℕ). slots_have c ss) e ∙ left_of (slots_have k ss) (list_all (λ c. slots_have c ss) keys) h
     one_key (k ∷ keys) (suc key) columns ss h lt e = one_key keys key columns ss (right_of (slots_have k ss) (list_all (λ c. slots_have c ss) keys) h) (omega arith) e
+
+-- ---- the keys of each table
+
+pub all_keys_set : (ts : List HeapTable) (i : ℕ) (t u : HeapTable) → i < length ts → t ≡ get_or ts i t → keys_of u.indexes.items ≡ keys_of t.indexes.items → all_keys (slice_set ts i u) ≡ all_keys ts
+all_keys_set [] i t u lt e same = refl
+all_keys_set (v ∷ ts) zero t u lt e same = ap (λ (ks : Keys). ks ∷ all_keys ts) (same ∙ ap table_keys e)
+all_keys_set (v ∷ ts) (suc i) t u lt e same = ap (λ (ks : List Keys). table_keys v ∷ ks) (all_keys_set ts i t u (omega arith) e same)
+
+pub keys_of_table : (ts : List HeapTable) (i : ℕ) (t : HeapTable) → i < length ts → t ≡ get_or ts i t → keys_at (all_keys ts) i ≡ keys_of t.indexes.items
+keys_of_table [] i t lt e = absurd (omega arith)
+keys_of_table (v ∷ ts) zero t lt e = ap table_keys (sym e)
+keys_of_table (v ∷ ts) (suc i) t lt e = keys_of_table ts i t (omega arith) e
+
+pub length_given : (given : List (Vec (Vec ℕ Global) Global)) → length (given_keys given) ≡ length given
+length_given [] = refl
+length_given (k ∷ given) = ap suc (length_given given)
+
+pub keys_push : (ts : List HeapTable) (t : HeapTable) (keys : List Keys) (i : ℕ) (k : Keys) → i < length keys → k ≡ get_or keys i k → table_keys t ≡ k → all_keys ts ≡ take i keys → all_keys (ts ++ t ∷ []) ≡ take (i + 1) keys
+keys_push ts t keys i k lt o e h = all_push ts ∙ (λ j. h j ++ e j ∷ []) ∙ (let one : suc i ≡ i + 1 = omega arith in take_one keys i lt o ∙ ap (λ (n : ℕ). take n keys) one)
+  where
+    all_push : (ts : List HeapTable) → all_keys (ts ++ t ∷ []) ≡ all_keys ts ++ table_keys t ∷ []
+    all_push [] = refl
+    all_push (u ∷ ts) = ap (λ (ks : List Keys). table_keys u ∷ ks) (all_push ts)
+
+    take_one : (keys : List Keys) (i : ℕ) → i < length keys → k ≡ get_or keys i k → take i keys ++ k ∷ [] ≡ take (suc i) keys
+    take_one [] i lt o = absurd (omega arith)
+    take_one (l ∷ keys) zero lt o = ap (λ (m : Keys). m ∷ []) o
+    take_one (l ∷ keys) (suc i) lt o = ap (λ (ks : List Keys). l ∷ ks) (take_one keys i (omega arith) o)

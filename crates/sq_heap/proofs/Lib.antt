@@ -2,5 +2,9 @@ pub mod Back
 pub mod Columns
 pub mod Distinct
 pub mod Heap
+pub mod Holds
+pub mod Entries
+pub mod Keyed
 pub mod OnResult
 pub mod Slots
+pub mod Starts

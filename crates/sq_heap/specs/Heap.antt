@@ -3,6 +3,8 @@ use Rattle.std.specs.Prelude.{ℕ, ◌+◌, Bool, true, false, ◌&&◌, ◌||�
 use Rattle.std.specs.List.{list_any}
 use Rattle.sq_store.specs.declared.table.Table.{Table}
 use Rattle.sq_store.specs.Content.{Content, table_at}
+use Rattle.sq_store.specs.Keys.{Keys}
+use Rattle.sq_heap.specs.Index.{keys_of}
 use Rattle.sq_heap.specs.Slots.{table_of}
 use Rattle.sq_heap.specs.Undo.{back}
 use Rattle.sq_heap.specs.declared.mark.Mark.{Mark}
@@ -23,6 +25,13 @@ all_now tables = map now_of tables
 
 abbrev pub all_committed : List HeapTable → Content
 all_committed tables = map committed_of tables
+
+-- the keys of each table, as its indexes have them
+abbrev pub table_keys : HeapTable → Keys
+table_keys t = keys_of t.indexes.items
+
+abbrev pub all_keys : List HeapTable → List Keys
+all_keys tables = map table_keys tables
 
 -- the content before the last apply, which changed one table
 abbrev pub all_before : Option Mark → List HeapTable → Option Content

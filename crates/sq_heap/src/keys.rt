@@ -1,62 +1,126 @@
-//! Keys of the rows in slots.
+//! Rows found by their keys, and whether they share them.
 
-ghost use Rattle.std.specs.Prelude.{◌≡◌, ◌+◌, find, true, Some, None, MatchOption};
-ghost use Rattle.sq_store.specs.Keys.{has_columns, has_key};
-ghost use Rattle.sq_heap.specs.Alone.{all_alone, is_alone, slot_alone, slots_have};
+ghost use Rattle.std.specs.Prelude.{◌≡◌, find, false, true, Some, None, MatchOption};
+ghost use Rattle.std.specs.Cmp.Lexicographic.{pointwise};
+ghost use Rattle.std.specs.List.{list_any};
+ghost use Rattle.std.specs.Option.{option_copied};
+ghost use Rattle.sq_value.specs.Comparison.{is_same};
+ghost use Rattle.sq_value.specs.Key.{in_columns};
+ghost use Rattle.sq_store.specs.Keys.{are_distinct, has_columns, has_key};
+ghost use Rattle.sq_heap.specs.Alone.{all_alone, is_alone, slots_have};
+ghost use Rattle.sq_heap.specs.Index.{is_in, named, names_key, names_other, slots_hold};
 ghost use Rattle.sq_heap.specs.Slots.{rows_from, slot_at};
 
+use crate::hash::{hash_of_key, hash_of_row};
+use crate::index::{Entry, Index};
 use crate::undo::Undo;
 use sq_store::are_same;
 use sq_value::{Key, Row, Value};
 
-/// The row with these values in the columns of a key, and its number.
-#[tactic(auto, using(crate::proofs::Columns::columns_of_slot))]
+/// The row with these values in the columns of an index, and its number.
+#[tactic(auto, using(crate::proofs::Keyed::none_with, crate::proofs::Keyed::found_with))]
 pub(crate) fn first_with<'a>(
     slots: &'a [Option<Row>],
-    columns: &[usize],
+    index: &Index,
     values: &Key,
 ) -> Option<(u64, &'a Row)>
+    requires columns { slots_have index.now.columns slots.now ≡ true }
+    requires entered { slots_hold (is_in index.now) 0 slots.now ≡ true }
+    requires distinct { are_distinct index.now.columns (rows_from 1 slots.now) ≡ true }
+    ensures { MatchOption result
+        (find (has_key index.now.columns values.now) (rows_from 1 slots.now) ≡ None)
+        (λ r. find (has_key index.now.columns values.now) (rows_from 1 slots.now) ≡ Some (record { number = r.0; row = r.1.now })) }
+{
+    let hash = hash_of_key(values);
+    let (at, row) = among(slots, index.bucket(hash), index.columns(), values, hash)?;
+    Some((at as u64 + 1, row))
+}
+
+/// The row with these values that one of the entries under a hash names, and its slot.
+#[tactic(auto, using(crate::proofs::Keyed::columns_of_named, crate::proofs::Keyed::slot_of_named))]
+fn among<'a>(
+    slots: &'a [Option<Row>],
+    entries: &[Entry],
+    columns: &[usize],
+    values: &Key,
+    hash: u64,
+) -> Option<(usize, &'a Row)>
     requires { slots_have columns.now slots.now ≡ true }
     ensures { MatchOption result
-        (find (has_key columns.now values.now) (rows_from 1 slots.now) ≡ None)
-        (λ r. find (has_key columns.now values.now) (rows_from 1 slots.now) ≡ Some (record { number = r.0; row = r.1.now })) }
+        (list_any (names_key columns.now values.now slots.now hash) entries.now ≡ false)
+        (λ r. (slot_at slots.now r.0 ≡ Some r.1.now) × (pointwise is_same values.now (in_columns r.1.now columns.now) ≡ true)) }
 {
-    for at in 0..slots.len() {
-        if let Some(row) = &slots[at] {
+    for entry in entries {
+        if let Some(row) = row_of(slots, entry, hash) {
             if values.is_of(row.as_slice(), columns) {
-                return Some((at as u64 + 1, row));
+                return Some((entry.at, row));
             }
         }
     }
     None
 }
 
+/// The row in the slot that an entry under a hash names.
+#[tactic(auto, using(crate::proofs::Slots::slot_is, crate::proofs::Slots::slot_past))]
+fn row_of<'a>(slots: &'a [Option<Row>], entry: &Entry, hash: u64) -> Option<&'a Row>
+    ensures { option_copied result ≡ named slots.now hash entry.now }
+{
+    if entry.hash == hash && entry.at < slots.len() {
+        slots[entry.at].as_ref()
+    } else {
+        None
+    }
+}
+
 /// Whether no slot but one has a row with the key of this row.
-#[tactic(auto, using(crate::proofs::Columns::columns_of_slot))]
-fn is_alone(slots: &[Option<Row>], columns: &[usize], row: &[Value], at: usize) -> bool
+#[tactic(auto, using(crate::proofs::Keyed::alone_in))]
+fn is_alone(slots: &[Option<Row>], index: &Index, row: &[Value], at: usize) -> bool
+    requires row { has_columns index.now.columns row.now ≡ true }
+    requires slots { slots_have index.now.columns slots.now ≡ true }
+    requires entered { slots_hold (is_in index.now) 0 slots.now ≡ true }
+    ensures { result ≡ is_alone index.now.columns row.now at 0 slots.now }
+{
+    let columns = index.columns();
+    let hash = hash_of_row(row, columns);
+    !has_other(slots, index.bucket(hash), columns, row, at, hash)
+}
+
+/// Whether one of the entries under a hash names another slot whose row has the key of this row.
+#[tactic(auto, using(crate::proofs::Keyed::columns_of_named))]
+fn has_other(
+    slots: &[Option<Row>],
+    entries: &[Entry],
+    columns: &[usize],
+    row: &[Value],
+    at: usize,
+    hash: u64,
+) -> bool
     requires row { has_columns columns.now row.now ≡ true }
     requires slots { slots_have columns.now slots.now ≡ true }
-    ensures { result ≡ is_alone columns.now row.now at 0 slots.now }
+    ensures { result ≡ list_any (names_other columns.now (in_columns row.now columns.now) at slots.now hash) entries.now }
 {
-    for place in 0..slots.len() {
-        if let Some(other) = &slots[place] {
-            if place != at && are_same(row, other.as_slice(), columns) {
-                return false;
+    for entry in entries {
+        if entry.at != at {
+            if let Some(other) = row_of(slots, entry, hash) {
+                if are_same(row, other.as_slice(), columns) {
+                    return true;
+                }
             }
         }
     }
-    true
+    false
 }
 
-/// Whether no changed row shares a key with another row.
+/// Whether no changed row shares the key of an index with another row.
 #[tactic(auto, using(crate::proofs::Columns::columns_of_slot))]
-pub(crate) fn all_alone(slots: &[Option<Row>], columns: &[usize], changes: &[Undo]) -> bool
-    requires { slots_have columns.now slots.now ≡ true }
-    ensures { result ≡ all_alone columns.now slots.now changes.now }
+pub(crate) fn all_alone(slots: &[Option<Row>], index: &Index, changes: &[Undo]) -> bool
+    requires columns { slots_have index.now.columns slots.now ≡ true }
+    requires entered { slots_hold (is_in index.now) 0 slots.now ≡ true }
+    ensures { result ≡ all_alone index.now.columns slots.now changes.now }
 {
     for change in changes {
         if let Some(Some(row)) = slots.get(change.at) {
-            if !is_alone(slots, columns, row.as_slice(), change.at) {
+            if !is_alone(slots, index, row.as_slice(), change.at) {
                 return false;
             }
         }

@@ -1,6 +1,9 @@
 //! A store that keeps its tables as slots on the heap, with what undoes their changes.
 #![tactic(auto)]
 
+mod hash;
+mod index;
+mod indexes;
 mod keys;
 mod mark;
 mod store;

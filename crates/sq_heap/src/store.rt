@@ -7,7 +7,7 @@ ghost use Rattle.sq_store.specs.Saved.{is_sound_if};
 ghost use Rattle.sq_store.specs.Sound.{is_sound};
 ghost use Rattle.sq_store.specs.declared.store.TheConstants.{MOST_ROW_NUMBERS};
 ghost use Rattle.sq_heap.specs.declared.mark.Mark.{Mark};
-ghost use Rattle.sq_heap.specs.Heap.{all_before, all_committed, all_now, are_listed, are_within, is_mark_of};
+ghost use Rattle.sq_heap.specs.Heap.{all_before, all_committed, all_keys, all_now, are_listed, are_within, is_mark_of};
 
 use crate::mark::Mark;
 use crate::table::HeapTable;
@@ -18,8 +18,9 @@ use std::alloc::{AllocError, Global};
 
 /// A store that keeps each table as slots by number, and what undoes the changes since the last commit.
 ///
-/// `apply` costs what it changes, and for each row that it puts in and each key a walk over the table. `next_from` walks over
-/// the empty slots of rows that are gone. `take_back`, `commit` and `rollback` cost what changed.
+/// `apply`, `take_back`, `commit` and `rollback` cost what changes, and `find_key` looks at the rows with the key's hash. An
+/// index that is full is made anew over the whole table, which falls to each change as a part that doesn't grow with the
+/// table. `next_from` walks over the empty slots of rows that are gone.
 #[derive(Drop)]
 pub struct HeapStore {
     /// Of each table the columns of each key.
@@ -34,6 +35,7 @@ pub struct HeapStore {
     ghost committed_sound: { is_sound row_numbers keys (all_committed tables.items) ≡ true },
     ghost before_sound: { is_sound_if row_numbers keys (all_before last tables.items) ≡ true },
     ghost marked: { is_mark_of last (length tables.items) ≡ true },
+    ghost indexed: { all_keys tables.items ≡ keys },
     ghost listed_there: { are_within (length tables.items) listed.items ≡ true },
     ghost changes_listed: { are_listed listed.items 0 tables.items ≡ true },
 }
@@ -63,13 +65,25 @@ impl Store for HeapStore {
         keys: &[Vec<Vec<usize>>],
         greatest: u64,
     ) -> Result<HeapStore, AllocError> {
+        let keys = copy_keys(alloc, keys)?;
+        let tables = empty_tables(alloc, keys.as_slice())?;
         Ok(HeapStore {
-            keys: copy_keys(alloc, keys)?,
+            keys,
             row_numbers: greatest,
-            tables: empty_tables(alloc, keys.len())?,
+            tables,
             listed: Vec::new(alloc),
             last: None,
         })
+    }
+
+    #[tactic(auto, using(crate::proofs::Heap::length_map))]
+    fn table_count(&self) -> usize {
+        self.tables.len()
+    }
+
+    #[tactic(auto, using(crate::proofs::Heap::tables_of_keys))]
+    fn keys(&self, table: usize) -> &[Items<usize>] {
+        self.keys.as_slice()[table].as_slice()
     }
 
     fn next_from(&self, table: usize, number: u64, meter: &mut Meter) -> Option<(u64, &Row)> {
@@ -91,8 +105,7 @@ impl Store for HeapStore {
         values: &Key,
         meter: &mut Meter,
     ) -> Option<(u64, &Row)> {
-        let columns = self.keys_of(table)[key].as_slice();
-        let found = self.tables[table].first_with(columns, values)?;
+        let found = self.tables[table].first_with(key, values)?;
         meter.hand_out();
         Some(found)
     }
@@ -104,13 +117,12 @@ impl Store for HeapStore {
 
     fn apply(
         &mut self,
-        _alloc: Global,
+        alloc: Global,
         table: usize,
         changes: Vec<Change>,
     ) -> Result<(), ApplyFault> {
         self.listed.reserve(1)?;
-        let keys = keys_in(self.keys.as_slice(), table);
-        match apply_to(&mut self.tables, table, keys, changes) {
+        match apply_to(alloc, &mut self.tables, table, changes) {
             Ok(from) => {
                 self.listed.push(table).unwrap();
                 self.last = Some(Mark { table, from });
@@ -138,55 +150,36 @@ impl Store for HeapStore {
     }
 }
 
-impl HeapStore {
-    /// The columns of each key of a table.
-    #[tactic(auto, using(crate::proofs::Heap::tables_of_keys))]
-    fn keys_of(&self, table: usize) -> &[Items<usize>]
-        requires { table < length self.now.tables.items }
-        ensures { result.now ≡ keys_at self.now.keys table }
-    {
-        keys_in(self.keys.as_slice(), table)
-    }
-}
-
-/// The columns of each key of a table.
-fn keys_in(keys: &[Items<Items<usize>>], table: usize) -> &[Items<usize>]
-    requires { table < length keys.now }
-    ensures { result.now ≡ keys_at keys.now table }
-{
-    keys[table].as_slice()
-}
-
-/// So many tables without rows.
-#[tactic(auto, using(crate::proofs::Heap::now_push, crate::proofs::Heap::committed_push, crate::proofs::Heap::listed_new))]
-fn empty_tables(alloc: Global, count: usize) -> Result<Vec<HeapTable>, AllocError>
-    ensures now { IfOk result (λ tables. all_now tables.items ≡ no_rows count) }
-    ensures committed { IfOk result (λ tables. all_committed tables.items ≡ no_rows count) }
+/// A table without rows for each entry, which has the columns of each key.
+fn empty_tables(alloc: Global, keys: &[Items<Items<usize>>]) -> Result<Vec<HeapTable>, AllocError>
+    ensures now { IfOk result (λ tables. all_now tables.items ≡ no_rows (length keys.now)) }
+    ensures committed { IfOk result (λ tables. all_committed tables.items ≡ no_rows (length keys.now)) }
     ensures listed { IfOk result (λ tables. are_listed [] 0 tables.items ≡ true) }
+    ensures keys { IfOk result (λ tables. all_keys tables.items ≡ keys.now) }
 {
     let mut tables = Vec::new(alloc);
-    while tables.len() < count {
-        tables.push(HeapTable::new(alloc))?;
+    for keys in keys {
+        tables.push(HeapTable::new(alloc, keys.as_slice())?)?;
     }
     Ok(tables)
 }
 
 /// Makes all changes of a table, or none. Says how many changes of it there were before.
 fn apply_to(
+    alloc: Global,
     tables: &mut Vec<HeapTable>,
     table: usize,
-    keys: &[Items<usize>],
     changes: Vec<Change>,
 ) -> Result<usize, ApplyFault>
     requires known { table < length tables.old.items }
-    requires columns { have_keys keys.now (table_at (all_now tables.old.items) table).rows ≡ true }
-    requires new_columns { list_all (has_keys keys.now) (rows_put changes.items) ≡ true }
-    requires distinct { has_distinct_keys keys.now (table_at (all_now tables.old.items) table) ≡ true }
+    requires columns { have_keys (keys_at (all_keys tables.old.items) table) (table_at (all_now tables.old.items) table).rows ≡ true }
+    requires new_columns { list_all (has_keys (keys_at (all_keys tables.old.items) table)) (rows_put changes.items) ≡ true }
+    requires distinct { has_distinct_keys (keys_at (all_keys tables.old.items) table) (table_at (all_now tables.old.items) table) ≡ true }
     ensures ok { OnOk result (all_now tables.new.items
         ≡ slice_set (all_now tables.old.items) table (changed_by (table_at (all_now tables.old.items) table) changes.items)) }
-    ensures distinct { OnOk result (has_distinct_keys keys.now (changed_by (table_at (all_now tables.old.items) table) changes.items) ≡ true) }
+    ensures distinct { OnOk result (has_distinct_keys (keys_at (all_keys tables.old.items) table) (changed_by (table_at (all_now tables.old.items) table) changes.items) ≡ true) }
     ensures duplicate { result ≡ Err ApplyFault.Duplicate
-        → has_distinct_keys keys.now (changed_by (table_at (all_now tables.old.items) table) changes.items) ≡ false }
+        → has_distinct_keys (keys_at (all_keys tables.old.items) table) (changed_by (table_at (all_now tables.old.items) table) changes.items) ≡ false }
     ensures before { IfOk result (λ from. all_before (Some (record { table = table; from = from })) tables.new.items ≡ Some (all_now tables.old.items)) }
     ensures committed { all_committed tables.new.items ≡ all_committed tables.old.items }
     ensures err { OnErr result (all_now tables.new.items ≡ all_now tables.old.items) }
@@ -194,8 +187,9 @@ fn apply_to(
     ensures err_listed { OnErr result ((listed : List ℕ) → are_listed listed 0 tables.old.items ≡ true → are_listed listed 0 tables.new.items ≡ true) }
     ensures listed { OnOk result ((listed : List ℕ) → are_listed listed 0 tables.old.items ≡ true → are_listed (listed ++ table ∷ []) 0 tables.new.items ≡ true) }
     ensures tables { length tables.new.items ≡ length tables.old.items }
+    ensures keys { all_keys tables.new.items ≡ all_keys tables.old.items }
 {
-    tables[table].apply(keys, changes)
+    tables[table].apply(alloc, changes)
 }
 
 /// Goes back to where the last changes of a table began.
@@ -205,6 +199,7 @@ fn take_back_to(tables: &mut Vec<HeapTable>, mark: Mark)
     ensures committed { all_committed tables.new.items ≡ all_committed tables.old.items }
     ensures listed { (listed : List ℕ) → are_listed listed 0 tables.old.items ≡ true → are_listed listed 0 tables.new.items ≡ true }
     ensures tables { length tables.new.items ≡ length tables.old.items }
+    ensures keys { all_keys tables.new.items ≡ all_keys tables.old.items }
 {
     tables[mark.table].undo_to(mark.from);
 }
@@ -218,6 +213,7 @@ fn commit_all(tables: &mut Vec<HeapTable>, listed: &mut Vec<usize>)
     ensures listed { are_listed listed.new.items 0 tables.new.items ≡ true }
     ensures none { listed.new.items ≡ [] }
     ensures tables { length tables.new.items ≡ length tables.old.items }
+    ensures keys { all_keys tables.new.items ≡ all_keys tables.old.items }
 {
     while let Some(table) = listed.pop() {
         tables[table].commit();
@@ -233,6 +229,7 @@ fn rollback_all(tables: &mut Vec<HeapTable>, listed: &mut Vec<usize>)
     ensures listed { are_listed listed.new.items 0 tables.new.items ≡ true }
     ensures none { listed.new.items ≡ [] }
     ensures tables { length tables.new.items ≡ length tables.old.items }
+    ensures keys { all_keys tables.new.items ≡ all_keys tables.old.items }
 {
     while let Some(table) = listed.pop() {
         tables[table].undo_to(0);

@@ -24,30 +24,36 @@ use Rattle.sq_tree.specs.declared.expr.SignedNumber.{SignedNumber}
 use Rattle.sq_tree.specs.declared.expr.TimesSign.{TimesSign}
 use Rattle.sq_tree.specs.declared.expr.SetQuantifier.{SetQuantifier}
 use Rattle.sq_tree.specs.declared.expr.SetQuantifier.TheVariants.{All, Distinct}
-use Rattle.sq_tree.specs.declared.expr.Primary.{Primary, fold-Primary, Primary-F}
+use Rattle.sq_tree.specs.declared.expr.Primary.{Primary, Primary-F}
 use Rattle.sq_tree.specs.declared.expr.Primary.TheOpen as layer
-use Rattle.sq_tree.specs.declared.expr.Expr.{Expr as SpelledExpr, fold-Expr, Expr-F}
-use Rattle.sq_tree.specs.declared.expr.Term.{Term, fold-Term, Term-F}
-use Rattle.sq_tree.specs.declared.expr.Factor.{Factor, fold-Factor, Factor-F}
-use Rattle.sq_tree.specs.declared.expr.Added.{Added, fold-Added, Added-F}
-use Rattle.sq_tree.specs.declared.expr.Scaled.{Scaled, fold-Scaled, Scaled-F}
+use Rattle.sq_tree.specs.declared.expr.Expr.{Expr as SpelledExpr, Expr-F}
+use Rattle.sq_tree.specs.declared.expr.Term.{Term, Term-F}
+use Rattle.sq_tree.specs.declared.expr.Factor.{Factor, Factor-F}
+use Rattle.sq_tree.specs.declared.expr.Added.{Added, Added-F}
+use Rattle.sq_tree.specs.declared.expr.Scaled.{Scaled, Scaled-F}
 use Rattle.sq_tree.specs.declared.cond.Comparison.{Comparison}
 use Rattle.sq_tree.specs.declared.cond.Quantifier.{Quantifier}
 use Rattle.sq_tree.specs.declared.cond.TableReference.{TableReference as SpelledReference}
 use Rattle.sq_tree.specs.declared.cond.SelectList.{SelectList as SpelledList}
 use Rattle.sq_tree.specs.declared.cond.SelectList.TheVariants.{Star, Items}
-use Rattle.sq_tree.specs.declared.cond.Body.{Body, fold-Body, Body-F}
+use Rattle.sq_tree.specs.declared.cond.Body.{Body, Body-F}
 use Rattle.sq_tree.specs.declared.cond.Body.TheOpen as level
-use Rattle.sq_tree.specs.declared.cond.Tail.{Tail, fold-Tail, Tail-F}
-use Rattle.sq_tree.specs.declared.cond.Cond.{Cond as SpelledCond, fold-Cond, Cond-F}
-use Rattle.sq_tree.specs.declared.cond.Conj.{Conj, fold-Conj, Conj-F}
-use Rattle.sq_tree.specs.declared.cond.Test.{Test, fold-Test, Test-F}
-use Rattle.sq_tree.specs.declared.cond.TableExpression.{TableExpression, fold-TableExpression, TableExpression-F}
-use Rattle.sq_tree.specs.declared.cond.QuerySpecification.{QuerySpecification, fold-QuerySpecification, QuerySpecification-F}
-use Rattle.sq_tree.specs.declared.query.QueryTerm.{QueryTerm, fold-QueryTerm, QueryTerm-F}
+use Rattle.sq_tree.specs.declared.cond.Tail.{Tail, Tail-F}
+use Rattle.sq_tree.specs.declared.cond.Cond.{Cond as SpelledCond, Cond-F}
+use Rattle.sq_tree.specs.declared.cond.Conj.{Conj, Conj-F}
+use Rattle.sq_tree.specs.declared.cond.Test.{Test, Test-F}
+use Rattle.sq_tree.specs.declared.cond.TableExpression.{TableExpression, TableExpression-F}
+use Rattle.sq_tree.specs.declared.cond.QuerySpecification.{QuerySpecification, QuerySpecification-F}
+use Rattle.sq_tree.specs.declared.query.QueryTerm.{QueryTerm, QueryTerm-F}
 use Rattle.sq_tree.specs.declared.query.QueryTerm.TheOpen as query_term
-use Rattle.sq_tree.specs.declared.query.Query.{Query as SpelledQuery, fold-Query, Query-F}
-use Rattle.sq_tree.specs.declared.query.UnionTerm.{UnionTerm, fold-UnionTerm, UnionTerm-F}
+use Rattle.sq_tree.specs.declared.query.Query.{Query as SpelledQuery, Query-F}
+use Rattle.sq_tree.specs.declared.query.UnionTerm.{UnionTerm, UnionTerm-F}
+use Rattle.sq_tree.specs.declared.expr.Primary.TheBlock.{the_members as ExprPart, the_bodies as expr_bodies, the_fold as expr_fold, member-Primary, member-Added, member-Expr, member-Factor, member-Scaled, member-Term}
+use Rattle.sq_tree.specs.declared.expr.Primary.TheFolds.{family as expr_family, steps as expr_steps}
+use Rattle.sq_tree.specs.declared.cond.Body.TheBlock.{the_members as CondPart, the_bodies as cond_bodies, the_fold as cond_fold, member-Body, member-Tail, member-Cond, member-Conj, member-QuerySpecification, member-TableExpression, member-Test}
+use Rattle.sq_tree.specs.declared.cond.Body.TheFolds.{family as cond_family, steps as cond_steps}
+use Rattle.sq_tree.specs.declared.query.QueryTerm.TheBlock.{the_members as QueryPart, the_bodies as query_bodies, the_fold as query_fold, member-QueryTerm, member-Query, member-UnionTerm}
+use Rattle.sq_tree.specs.declared.query.QueryTerm.TheFolds.{family as query_family, steps as query_steps}
 use Rattle.sq_meaning.specs.Syntax.{Naming, Expr, literal, parameter, user, column, count_rows, set_function, signed, added, scaled, bracketed, SelectList, all_columns, expressions, Cond, Clause, Select, compare, compare_subquery, compare_quantified, between, in_subquery, in_list, like, is_null, exists, negated, conjunction, disjunction, absent, present, select, conds, Query, specification, union}
 use Rattle.sq_meaning.specs.Environment.{TableName, TableReference, Item}
 
@@ -163,24 +169,32 @@ added_level a = (a.sign, a.term)
 abbrev scaled_level : Scaled-F E (Sign × E) E E (TimesSign × E) E → TimesSign × E
 scaled_level s = (s.sign, s.factor)
 
+-- what each part of an expression is seen as, and all levels. The fold over them computes; the generated `fold-Expr` is
+-- the same function, but shut.
+abbrev pub ExprSeen : ExprPart → Type 0
+ExprSeen = expr_family E (Sign × E) E E (TimesSign × E) E
+
+abbrev pub expr_levels : (part : ExprPart) → (expr_bodies part).Of ExprSeen → ExprSeen part
+expr_levels = expr_steps E (Sign × E) E E (TimesSign × E) E primary_level added_level expr_level factor_level scaled_level term_level
+
 -- the value expression that a text spells, and its parts
 unfoldable pub expr_of : SpelledExpr → Expr Named
-expr_of = fold-Expr E (Sign × E) E E (TimesSign × E) E primary_level added_level expr_level factor_level scaled_level term_level
+expr_of = expr_fold ExprSeen expr_levels member-Expr
 
 unfoldable pub term_of : Term → Expr Named
-term_of = fold-Term E (Sign × E) E E (TimesSign × E) E primary_level added_level expr_level factor_level scaled_level term_level
+term_of = expr_fold ExprSeen expr_levels member-Term
 
 unfoldable pub factor_of : Factor → Expr Named
-factor_of = fold-Factor E (Sign × E) E E (TimesSign × E) E primary_level added_level expr_level factor_level scaled_level term_level
+factor_of = expr_fold ExprSeen expr_levels member-Factor
 
 unfoldable pub primary_of : Primary → Expr Named
-primary_of = fold-Primary E (Sign × E) E E (TimesSign × E) E primary_level added_level expr_level factor_level scaled_level term_level
+primary_of = expr_fold ExprSeen expr_levels member-Primary
 
 unfoldable pub added_of : Added → Sign × Expr Named
-added_of = fold-Added E (Sign × E) E E (TimesSign × E) E primary_level added_level expr_level factor_level scaled_level term_level
+added_of = expr_fold ExprSeen expr_levels member-Added
 
 unfoldable pub scaled_of : Scaled → TimesSign × Expr Named
-scaled_of = fold-Scaled E (Sign × E) E E (TimesSign × E) E primary_level added_level expr_level factor_level scaled_level term_level
+scaled_of = expr_fold ExprSeen expr_levels member-Scaled
 
 -- ---- search conditions and query specifications
 
@@ -243,28 +257,34 @@ table_expression_level own t distinct list = select distinct list (map (referenc
 abbrev query_specification_level : QuerySpecification-F C (E → C) C C S T C → S
 query_specification_level q = q.table (is_distinct_word q.quantifier) (list_of q.list)
 
+abbrev pub CondSeen : CondPart → Type 0
+CondSeen = cond_family C (E → C) C C S T C
+
+abbrev pub cond_levels : Name → (part : CondPart) → (cond_bodies part).Of CondSeen → CondSeen part
+cond_levels own = cond_steps C (E → C) C C S T C body_level tail_level cond_level conj_level query_specification_level (table_expression_level own) test_level
+
 -- the search condition that a text of this user spells, and its parts
 unfoldable pub cond_of : Name → SpelledCond → Cond Named
-cond_of own = fold-Cond C (E → C) C C S T C body_level tail_level cond_level conj_level query_specification_level (table_expression_level own) test_level
+cond_of own = cond_fold CondSeen (cond_levels own) member-Cond
 
 unfoldable pub conj_of : Name → Conj → Cond Named
-conj_of own = fold-Conj C (E → C) C C S T C body_level tail_level cond_level conj_level query_specification_level (table_expression_level own) test_level
+conj_of own = cond_fold CondSeen (cond_levels own) member-Conj
 
 unfoldable pub test_of : Name → Test → Cond Named
-test_of own = fold-Test C (E → C) C C S T C body_level tail_level cond_level conj_level query_specification_level (table_expression_level own) test_level
+test_of own = cond_fold CondSeen (cond_levels own) member-Test
 
 unfoldable pub body_of : Name → Body → Cond Named
-body_of own = fold-Body C (E → C) C C S T C body_level tail_level cond_level conj_level query_specification_level (table_expression_level own) test_level
+body_of own = cond_fold CondSeen (cond_levels own) member-Body
 
 unfoldable pub tail_of : Name → Tail → Expr Named → Cond Named
-tail_of own = fold-Tail C (E → C) C C S T C body_level tail_level cond_level conj_level query_specification_level (table_expression_level own) test_level
+tail_of own = cond_fold CondSeen (cond_levels own) member-Tail
 
 -- the query specification, and its table expression
 unfoldable pub select_of : Name → QuerySpecification → Select Named
-select_of own = fold-QuerySpecification C (E → C) C C S T C body_level tail_level cond_level conj_level query_specification_level (table_expression_level own) test_level
+select_of own = cond_fold CondSeen (cond_levels own) member-QuerySpecification
 
 unfoldable pub table_expression_of : Name → TableExpression → Bool → SelectList Named → Select Named
-table_expression_of own = fold-TableExpression C (E → C) C C S T C body_level tail_level cond_level conj_level query_specification_level (table_expression_level own) test_level
+table_expression_of own = cond_fold CondSeen (cond_levels own) member-TableExpression
 
 -- a query specification by its parts, as SELECT INTO has them
 abbrev pub select_of_parts : Name → Option SetQuantifier → SpelledList → TableExpression → Select Named
@@ -285,12 +305,18 @@ union_term_level u = (u.all, u.term)
 abbrev query_level : Query-F Q Q (Bool × Q) → Q
 query_level q = fold (λ left u. union u.0 left u.1) q.first q.rest
 
+abbrev pub QuerySeen : QueryPart → Type 0
+QuerySeen = query_family Q Q (Bool × Q)
+
+abbrev pub query_levels : Name → (part : QueryPart) → (query_bodies part).Of QuerySeen → QuerySeen part
+query_levels own = query_steps Q Q (Bool × Q) (query_term_level own) query_level union_term_level
+
 -- the query expression that a text of this user spells, and its parts
 unfoldable pub query_of : Name → SpelledQuery → Query Named
-query_of own = fold-Query Q Q (Bool × Q) (query_term_level own) query_level union_term_level
+query_of own = query_fold QuerySeen (query_levels own) member-Query
 
 unfoldable pub query_term_of : Name → QueryTerm → Query Named
-query_term_of own = fold-QueryTerm Q Q (Bool × Q) (query_term_level own) query_level union_term_level
+query_term_of own = query_fold QuerySeen (query_levels own) member-QueryTerm
 
 unfoldable pub union_term_of : Name → UnionTerm → Bool × Query Named
-union_term_of own = fold-UnionTerm Q Q (Bool × Q) (query_term_level own) query_level union_term_level
+union_term_of own = query_fold QuerySeen (query_levels own) member-UnionTerm

@@ -5,3 +5,5 @@ pub mod PrivilegeLaws
 pub mod CursorLaws
 pub mod Computed
 pub mod ComputedRules
+pub mod NameLaws
+pub mod FetchLaws

@@ -1,9 +1,4 @@
-pub mod Can
-pub mod Known
-pub mod Named
-pub mod NoKeys
-pub mod Pushed
 pub mod Refused
-pub mod Runs
-pub mod Walk
+pub mod Spelled
+pub mod Steps
 pub mod Wrote

@@ -1,25 +1,26 @@
--- Which text of a kind is refused, and that a run of accepted texts refuses none.
-use Rattle.std.proofs.Common.{◌≡◌, ℕ, ◌≤◌, List, [], ◌∷◌, length, get_or, slice_get, Option, Some, Result, Ok, Err, sym, ◌∙◌, ap, subst, arith, Vec}
-use Rattle.std.specs.Prelude.{IfErr}
+-- What a refusal says of a text, and of the texts of its kind.
+use Rattle.std.proofs.Common.{◌≡◌, ℕ, zero, suc, ◌<◌, List, [], ◌∷◌, length, get_or, slice_get, take, Some, Ok, sym, ◌∙◌, ap, subst, refl, arith, Vec}
 use Rattle.std.specs.declared.alloc.Global.{Global}
 use Rattle.sq_lex.specs.declared.lexeme.Lexeme.{Lexeme}
 use Rattle.sq_lex.specs.declared.token.Token.{Token}
 use Rattle.sq_lex.specs.Reading.{reading}
 use Rattle.sq_lex.specs.Token.{lexemes}
-use Rattle.sq_first.specs.Machine.{State}
-use Rattle.sq_first.specs.Report.{Bytes}
-use Rattle.sq_first.specs.declared.program.Action.{Action}
-use Rattle.sq_first.specs.declared.program.BoundProcedure.{BoundProcedure}
-use Rattle.sq_run.specs.declared.refusal.RefusalName.TheVariants.{NotYet}
+use Rattle.sq_grammar.specs.declared.brackets.TheConstants.{MAX_DEPTH}
+use Rattle.sq_parse.specs.Refusal.{HasNoTree}
+use Rattle.sq_parse.specs.declared.error.ParseError.{ParseError}
+use Rattle.sq_parse.specs.declared.error.ParseError.TheVariants as parse
+use Rattle.sq_tree.specs.Schema.{schema_tokens, schema_depth}
+use Rattle.sq_tree.specs.Module.{module_tokens, module_depth}
+use Rattle.sq_tree.specs.Script.{script_tokens, script_depth}
+use Rattle.sq_model.specs.Report.{Bytes}
+use Rattle.sq_run.specs.Fault.{IsMisspelled, IsOfMeaning, IsOpeningFault, IsParseFault, IsRefusalIfAny, IsRefusedScript, IsRefusedText, IsScriptFault, IsUnread, SomeRefused, run_fault}
+use Rattle.sq_run.specs.Refused.{Matter, Tokens, Grammar, Depth, Meaning, IsRefused, OneRefused, matter}
+use Rattle.sq_run.specs.Run.{AllSpell, SomeTrees, Spells, texts}
 use Rattle.sq_run.specs.declared.refusal.Refusal.{Refusal}
-use Rattle.sq_run.specs.declared.refusal.RunFault.{RunFault}
+use Rattle.sq_run.specs.declared.refusal.RefusalName.{RefusalName}
 use Rattle.sq_run.specs.declared.refusal.RunFault.TheVariants as run
 use Rattle.sq_run.specs.declared.texts.TextFault.{TextFault}
 use Rattle.sq_run.specs.declared.texts.TextFault.TheVariants.{NoMemory, Refused}
-use Rattle.sq_run.specs.Fault.{IsRefusal, IsOfMeaning, IsUnread, FirstRefused, SomeRefused, TokensRefused}
-use Rattle.sq_run.specs.Refused.{Matter, Tokens, Grammar, Depth, Meaning, HasNoTree, InOrder, IsRefused, matter, RefusedText}
-use Rattle.sq_run.specs.Run.{SaysAtMostOne, Spells, texts}
-use Rattle.sq_run.specs.Stop.{StoppedAt}
 
 -- ---- one text
 
@@ -28,91 +29,119 @@ spelled_by text tokens lexed read spells =
     let same : spells.tokens ≡ tokens = cc in
     sym spells.same ∙ ap lexemes same
 
--- what a refusal says of the tokens of a text, it says of the text
-of_tokens : {T : Type 0} (tokens_of : T → List Lexeme) (depth_of : T → ℕ) (text : Bytes) (tokens : List Token) (refusal : Refusal) (m : Matter)
-    → reading text ≡ Ok tokens → HasNoTree tokens_of depth_of (lexemes tokens) m → IsRefused tokens_of depth_of text refusal m
-of_tokens tokens_of depth_of text tokens refusal Tokens read none = absurd none
-of_tokens tokens_of depth_of text tokens refusal Grammar read none = λ tree spells. none tree (spelled_by text tokens (tokens_of tree) read spells)
-of_tokens tokens_of depth_of text tokens refusal Depth read none = λ tree spells. none tree (spelled_by text tokens (tokens_of tree) read spells)
-of_tokens tokens_of depth_of text tokens refusal Meaning read none = tt
+-- no tree has the tokens, so the text spells none
+misspelled : {T : Type 0} (tokens_of : T → List Lexeme) (depth_of : T → ℕ) (text : Bytes) (tokens : List Token) (refusal : Refusal)
+    → reading text ≡ Ok tokens → ((tree : T) → tokens_of tree ≡ lexemes tokens → ⊥) → IsMisspelled tokens_of depth_of text refusal Grammar
+misspelled tokens_of depth_of text tokens refusal read none = λ tree spells. none tree (spelled_by text tokens (tokens_of tree) read spells)
 
-pub tokens_refused : {T : Type 0} (tokens_of : T → List Lexeme) (depth_of : T → ℕ) (text : Bytes) (tokens : List Token) (fault : TextFault)
-    → reading text ≡ Ok tokens → TokensRefused tokens_of depth_of (lexemes tokens) fault → FirstRefused tokens_of depth_of text fault
-tokens_refused tokens_of depth_of text tokens NoMemory read none = tt
-tokens_refused tokens_of depth_of text tokens (Refused refusal) read none = (none.0, of_tokens tokens_of depth_of text tokens refusal (matter refusal.what) read none.1)
+too_deep : {T : Type 0} (tokens_of : T → List Lexeme) (depth_of : T → ℕ) (text : Bytes) (tokens : List Token) (refusal : Refusal)
+    → reading text ≡ Ok tokens → ((tree : T) → tokens_of tree ≡ lexemes tokens → MAX_DEPTH < depth_of tree) → IsMisspelled tokens_of depth_of text refusal Depth
+too_deep tokens_of depth_of text tokens refusal read deep = λ tree spells. deep tree (spelled_by text tokens (tokens_of tree) read spells)
 
-pub unread : {T : Type 0} (tokens_of : T → List Lexeme) (depth_of : T → ℕ) (text : Bytes) (fault : TextFault) → IsUnread text fault → FirstRefused tokens_of depth_of text fault
-unread tokens_of depth_of text NoMemory is = tt
-unread tokens_of depth_of text (Refused refusal) is = (is.0, subst (IsRefused tokens_of depth_of text refusal) (sym is.1) is.2)
+by_name : {T : Type 0} (tokens_of : T → List Lexeme) (depth_of : T → ℕ) (text : Bytes) (refusal : Refusal) (m : Matter)
+    → matter refusal.what ≡ m → IsMisspelled tokens_of depth_of text refusal m → IsMisspelled tokens_of depth_of text refusal (matter refusal.what)
+by_name tokens_of depth_of text refusal m e is = subst (IsMisspelled tokens_of depth_of text refusal) (sym e) is
 
-pub of_meaning : {T : Type 0} (tokens_of : T → List Lexeme) (depth_of : T → ℕ) (text : Bytes) (fault : TextFault) → IsOfMeaning fault → FirstRefused tokens_of depth_of text fault
-of_meaning tokens_of depth_of text NoMemory is = tt
-of_meaning tokens_of depth_of text (Refused refusal) is = (is.0, subst (IsRefused tokens_of depth_of text refusal) (sym is.1) tt)
+-- what a parse's fault says of the text
+pub unparsed : {T : Type 0} (tokens_of : T → List Lexeme) (depth_of : T → ℕ) (number : ℕ) (text : Bytes) (tokens : List Token) (error : ParseError) (fault : TextFault)
+    → reading text ≡ Ok tokens → HasNoTree tokens_of depth_of (lexemes tokens) error → IsParseFault number error fault → IsRefusedText number tokens_of depth_of text fault
+unparsed tokens_of depth_of number text tokens error NoMemory read none is = tt
+unparsed tokens_of depth_of number text tokens parse.NoMemory (Refused refusal) read none is = cc
+unparsed tokens_of depth_of number text tokens (parse.Unexpected token) (Refused refusal) read none is =
+    (is.0, by_name tokens_of depth_of text refusal Grammar (ap matter is.1) (misspelled tokens_of depth_of text tokens refusal read none))
+unparsed tokens_of depth_of number text tokens (parse.TooDeep token) (Refused refusal) read none is =
+    (is.0, by_name tokens_of depth_of text refusal Depth (ap matter is.1) (too_deep tokens_of depth_of text tokens refusal read none))
+unparsed tokens_of depth_of number text tokens parse.EndOfText (Refused refusal) read none is =
+    (is.0, by_name tokens_of depth_of text refusal Grammar (ap matter is.1) (misspelled tokens_of depth_of text tokens refusal read none))
 
-pub tokens_of_meaning : {T : Type 0} (tokens_of : T → List Lexeme) (depth_of : T → ℕ) (tokens : List Lexeme) (fault : TextFault) → IsOfMeaning fault → TokensRefused tokens_of depth_of tokens fault
-tokens_of_meaning tokens_of depth_of tokens NoMemory is = tt
-tokens_of_meaning tokens_of depth_of tokens (Refused refusal) is = (is.0, subst (HasNoTree tokens_of depth_of tokens) (sym is.1) tt)
+pub unread : {T : Type 0} (tokens_of : T → List Lexeme) (depth_of : T → ℕ) (number : ℕ) (text : Bytes) (fault : TextFault) → IsUnread number text fault
+    → IsRefusedText number tokens_of depth_of text fault
+unread tokens_of depth_of number text NoMemory is = tt
+unread tokens_of depth_of number text (Refused refusal) is = (is.0, by_name tokens_of depth_of text refusal Tokens is.1 is.2)
 
 -- ---- the texts of a kind
 
-pub at_first : {T : Type 0} (tokens_of : T → List Lexeme) (depth_of : T → ℕ) (all : List (Vec ℕ Global)) (first : Vec ℕ Global) (fault : TextFault)
-    → 1 ≤ length all → first ≡ get_or all 0 first → FirstRefused tokens_of depth_of first.items fault → SomeRefused tokens_of depth_of (texts all) fault
-at_first tokens_of depth_of [] first fault some e none = absurd (omega arith)
-at_first tokens_of depth_of (v ∷ vs) first NoMemory some e none = tt
-at_first tokens_of depth_of (v ∷ vs) first (Refused refusal) some e none = record {
-  text = first.items;
-  there = ap (slice_get (texts (v ∷ vs))) none.0 ∙ ap (λ w. Some w.items) (sym e);
-  refused = none.1;
-}
-
--- a second text is not taken
-pub at_second : {T : Type 0} (tokens_of : T → List Lexeme) (depth_of : T → ℕ) (all : List (Vec ℕ Global)) (fault : TextFault)
-    → 2 ≤ length all → IsRefusal 1 NotYet fault → SomeRefused tokens_of depth_of (texts all) fault
-at_second tokens_of depth_of [] fault two is = absurd (omega arith)
-at_second tokens_of depth_of (v ∷ []) fault two is = absurd (omega arith)
-at_second tokens_of depth_of (v ∷ w ∷ vs) NoMemory two is = absurd is
-at_second tokens_of depth_of (v ∷ w ∷ vs) (Refused refusal) two is = record {
-  text = w.items;
-  there = ap (slice_get (texts (v ∷ w ∷ vs))) is.0;
-  refused = subst (λ what. IsRefused tokens_of depth_of w.items refusal (matter what)) (sym is.1) tt;
-}
-
--- the only text says something, and is refused for what it means
-pub at_only : {A B : Type 0} (tokens_of : A → List Lexeme) (depth_of : A → ℕ) (part : A → Option B) (all : List Bytes) (said : B) (fault : TextFault)
-    → SaysAtMostOne tokens_of part all (Some said) → IsOfMeaning fault → SomeRefused tokens_of depth_of all fault
-at_only tokens_of depth_of part all said NoMemory says is = tt
-at_only tokens_of depth_of part [] said (Refused refusal) says is = absurd says
-at_only tokens_of depth_of part (text ∷ []) said (Refused refusal) says is = record {
+-- a text without a tree, behind texts that have theirs
+refused_by : {T : Type 0} (tokens_of : T → List Lexeme) (depth_of : T → ℕ) (all : List Bytes) (text : Bytes) (refusal : Refusal) (m : Matter) (trees : List T)
+    → slice_get all refusal.text ≡ Some text → AllSpell tokens_of (take refusal.text all) trees → matter refusal.what ≡ m → IsMisspelled tokens_of depth_of text refusal m
+    → OneRefused tokens_of depth_of all refusal
+refused_by tokens_of depth_of all text refusal Tokens trees there before e is = record {
   text = text;
-  there = ap (slice_get (text ∷ [])) is.0;
-  refused = subst (IsRefused tokens_of depth_of text refusal) (sym is.1) tt;
+  there = there;
+  refused = subst (IsRefused tokens_of depth_of text refusal) (sym e) is;
+  before = (trees, rw e before);
 }
-at_only tokens_of depth_of part (text ∷ other ∷ others) said (Refused refusal) says is = absurd says
+refused_by tokens_of depth_of all text refusal Grammar trees there before e is = record {
+  text = text;
+  there = there;
+  refused = subst (IsRefused tokens_of depth_of text refusal) (sym e) is;
+  before = (trees, rw e before);
+}
+refused_by tokens_of depth_of all text refusal Depth trees there before e is = record {
+  text = text;
+  there = there;
+  refused = subst (IsRefused tokens_of depth_of text refusal) (sym e) is;
+  before = (trees, rw e before);
+}
+refused_by tokens_of depth_of all text refusal Meaning trees there before e is = absurd is
 
--- ---- a run of accepted texts refuses none
+text_at : (all : List (Vec ℕ Global)) (number : ℕ) (text : Vec ℕ Global) → number < length all → text ≡ get_or all number text → slice_get (texts all) number ≡ Some text.items
+text_at [] number text lt e = absurd (omega arith)
+text_at (v ∷ vs) zero text lt e = ap (λ w. Some w.items) (sym e)
+text_at (v ∷ vs) (suc n) text lt e = text_at vs n text (omega arith) e
 
-stopped_by : (schemas modules : List Bytes) (script : Bytes) (ps : List BoundProcedure) (s : State) (actions : List Action) (old new : Option Bytes) (fault : RunFault)
-    → StoppedAt ps s actions old new fault → RefusedText schemas modules script fault
-stopped_by schemas modules script ps s actions old new (run.SchemaRefused refusal) stop = absurd stop
-stopped_by schemas modules script ps s actions old new (run.ModuleRefused refusal) stop = absurd stop
-stopped_by schemas modules script ps s actions old new (run.ScriptRefused refusal) stop = absurd stop
-stopped_by schemas modules script ps s actions old new (run.Write bytes) stop = tt
-stopped_by schemas modules script ps s actions old new (run.NoMemory items) stop = tt
+pub first_without : {T : Type 0} (tokens_of : T → List Lexeme) (depth_of : T → ℕ) (all : List (Vec ℕ Global)) (number : ℕ) (text : Vec ℕ Global) (fault : TextFault) (trees : List T)
+    → number < length all → text ≡ get_or all number text → AllSpell tokens_of (take number (texts all)) trees → IsRefusedText number tokens_of depth_of text.items fault
+    → SomeRefused tokens_of depth_of (texts all) fault
+first_without tokens_of depth_of all number text NoMemory trees lt e before is = tt
+first_without tokens_of depth_of all number text (Refused refusal) trees lt e before is =
+    refused_by tokens_of depth_of (texts all) text.items refusal (matter refusal.what) trees
+    (ap (slice_get (texts all)) is.0 ∙ text_at all number text lt e) (rw is.0 before) refl is.1
 
-pub refused_none : (schemas modules : List Bytes) (script : Bytes) (ps : List BoundProcedure) (s : State) (actions : List Action) (old new : Option Bytes) (answer : Result (Unit {0}) RunFault)
-    → IfErr answer (StoppedAt ps s actions old new) → IfErr answer (RefusedText schemas modules script)
-refused_none schemas modules script ps s actions old new (Ok u) stop = stop
-refused_none schemas modules script ps s actions old new (Err fault) stop = stopped_by schemas modules script ps s actions old new fault stop
+-- all texts have trees, and one is refused for what it means
+pub one_of_meaning : {T : Type 0} (tokens_of : T → List Lexeme) (depth_of : T → ℕ) (all : List (Vec ℕ Global)) (number : ℕ) (text : Vec ℕ Global) (fault : TextFault) (trees : List T)
+    → number < length all → text ≡ get_or all number text → AllSpell tokens_of (texts all) trees → IsOfMeaning number fault → SomeRefused tokens_of depth_of (texts all) fault
+one_of_meaning tokens_of depth_of all number text NoMemory trees lt e spelled is = tt
+one_of_meaning tokens_of depth_of all number text (Refused refusal) trees lt e spelled is = record {
+  text = text.items;
+  there = ap (slice_get (texts all)) is.0 ∙ text_at all number text lt e;
+  refused = subst (IsRefused tokens_of depth_of text.items refusal) (sym is.1) tt;
+  before = (trees, rw is.1 spelled);
+}
 
-in_order : (schemas modules : List Bytes) (ps : List BoundProcedure) (s : State) (actions : List Action) (old new : Option Bytes) (fault : RunFault)
-    → StoppedAt ps s actions old new fault → InOrder schemas modules fault
-in_order schemas modules ps s actions old new (run.SchemaRefused refusal) stop = absurd stop
-in_order schemas modules ps s actions old new (run.ModuleRefused refusal) stop = absurd stop
-in_order schemas modules ps s actions old new (run.ScriptRefused refusal) stop = absurd stop
-in_order schemas modules ps s actions old new (run.Write bytes) stop = tt
-in_order schemas modules ps s actions old new (run.NoMemory items) stop = tt
+-- a refusal by a name that speaks of what a text means
+pub named : (number : ℕ) (what : RefusalName) (fault : TextFault) → matter what ≡ Meaning → IsRefusalIfAny number what fault → IsOfMeaning number fault
+named number what NoMemory e is = tt
+named number what (Refused refusal) e is = (is.0, ap matter is.1 ∙ e)
 
-pub order_none : (schemas modules : List Bytes) (ps : List BoundProcedure) (s : State) (actions : List Action) (old new : Option Bytes) (answer : Result (Unit {0}) RunFault)
-    → IfErr answer (StoppedAt ps s actions old new) → IfErr answer (InOrder schemas modules)
-order_none schemas modules ps s actions old new (Ok u) stop = stop
-order_none schemas modules ps s actions old new (Err fault) stop = in_order schemas modules ps s actions old new fault stop
+-- ---- the script
+
+misspelled_is_refused : {T : Type 0} (tokens_of : T → List Lexeme) (depth_of : T → ℕ) (text : Bytes) (refusal : Refusal) (m : Matter)
+    → IsMisspelled tokens_of depth_of text refusal m → IsRefused tokens_of depth_of text refusal m
+misspelled_is_refused tokens_of depth_of text refusal Tokens is = is
+misspelled_is_refused tokens_of depth_of text refusal Grammar is = is
+misspelled_is_refused tokens_of depth_of text refusal Depth is = is
+misspelled_is_refused tokens_of depth_of text refusal Meaning is = absurd is
+
+pub script_without : (script : Bytes) (fault : TextFault) → IsRefusedText 0 script_tokens script_depth script fault → IsRefusedScript script fault
+script_without script NoMemory is = tt
+script_without script (Refused refusal) is = (is.0, misspelled_is_refused script_tokens script_depth script refusal (matter refusal.what) is.1)
+
+pub script_of_meaning : (script : Bytes) (fault : TextFault) → IsOfMeaning 0 fault → IsRefusedScript script fault
+script_of_meaning script NoMemory is = tt
+script_of_meaning script (Refused refusal) is = (is.0, subst (IsRefused script_tokens script_depth script refusal) (sym is.1) tt)
+
+-- ---- what the fault of a text is for a run
+
+pub of_schemas : (schemas modules : List Bytes) (fault : TextFault) → SomeRefused schema_tokens schema_depth schemas fault → IsOpeningFault schemas modules (run_fault run.SchemaRefused fault)
+of_schemas schemas modules NoMemory is = refl
+of_schemas schemas modules (Refused refusal) is = is
+
+pub of_modules : (schemas modules : List Bytes) (fault : TextFault) → SomeTrees schema_tokens schemas → SomeRefused module_tokens module_depth modules fault
+    → IsOpeningFault schemas modules (run_fault run.ModuleRefused fault)
+of_modules schemas modules NoMemory s is = refl
+of_modules schemas modules (Refused refusal) s is = (is, s)
+
+pub of_script : (script : Bytes) (fault : TextFault) → IsRefusedScript script fault → IsScriptFault script (run_fault run.ScriptRefused fault)
+of_script script NoMemory is = refl
+of_script script (Refused refusal) is = is

@@ -1,54 +1,150 @@
--- What prepared texts run is what a run of the texts is.
-use Rattle.std.proofs.Common.{◌≡◌, ℕ, zero, suc, List, Option, Result, Ok, Err, refl, true, false}
+-- What a session wrote of a script is what a run of the texts wrote.
+use Rattle.std.proofs.Common.{◌≡◌, zero, suc, List, Option, Result, Ok, Err, refl, false}
 use Rattle.std.specs.Prelude.{OnOk, IfErr}
-use Rattle.std.specs.Io.KnownBytes.{Appends}
-use Rattle.sq_first.specs.Script.{procedures_of, first_state}
-use Rattle.sq_first.specs.Report.{Bytes, report}
-use Rattle.sq_run.specs.declared.prepare.Prepared.{Prepared}
+use Rattle.sq_tree.specs.Schema.{schema_tokens}
+use Rattle.sq_tree.specs.Module.{module_tokens}
+use Rattle.sq_model.specs.Report.{Bytes}
+use Rattle.sq_session.specs.Session.{Session}
+use Rattle.sq_run.specs.Asked.{AreAsked}
+use Rattle.sq_run.specs.Fault.{IsOpeningFault, IsScriptFault}
+use Rattle.sq_run.specs.Performed.{IsScriptStop, Performed}
+use Rattle.sq_run.specs.Refused.{InOrder, RefusedText}
+use Rattle.sq_run.specs.Run.{IsStart, Run, SomeTrees}
+use Rattle.sq_run.specs.Steps.{Reported}
+use Rattle.sq_run.specs.Stop.{StoppedAt, Wrote, is_write}
+use Rattle.sq_run.specs.declared.action.Action.{Action}
 use Rattle.sq_run.specs.declared.refusal.RunFault.{RunFault}
 use Rattle.sq_run.specs.declared.refusal.RunFault.TheVariants.{SchemaRefused, ModuleRefused, ScriptRefused, Write, NoMemory}
-use Rattle.sq_run.specs.Prepared.{IsPrepared}
-use Rattle.sq_run.specs.Run.{Run, report_of}
-use Rattle.sq_run.specs.Stop.{StoppedAt, Wrote, is_early, is_write}
 
-abbrev pub run_of : {schemas modules : List Bytes} {script : Bytes} (p : Prepared) → IsPrepared schemas modules script p → Run schemas modules script
-run_of p h = record {
-  schema = p.schema;
-  «module» = p.«module»;
-  items = p.script.items;
-  schema_said = h.schema_said;
-  module_said = h.module_said;
-  script_said = h.script_said;
-  bound = p.bound;
-  is_bound = h.is_bound;
-  actions = p.actions;
-  are_items = h.are_items;
+-- ---- a script, as its items are performed
+
+pub performed_all : (script : Bytes) (start : Session) (actions : List Action) (old new : Option Bytes) (answer : Result (Unit {0}) RunFault)
+    → AreAsked script actions → OnOk answer (Reported actions start old new) → OnOk answer (Performed script start old new)
+performed_all script start actions old new (Ok u) asked done = record { actions = actions; asked = asked; reported = done }
+performed_all script start actions old new (Err e) asked done = done
+
+stop_of : (script : Bytes) (start : Session) (actions : List Action) (old new : Option Bytes) (fault : RunFault)
+    → AreAsked script actions → StoppedAt actions start old new fault → IsScriptStop script start old new fault
+stop_of script start actions old new (SchemaRefused refusal) asked stop = absurd stop
+stop_of script start actions old new (ModuleRefused refusal) asked stop = absurd stop
+stop_of script start actions old new (ScriptRefused refusal) asked stop = absurd stop
+stop_of script start actions old new (Write bytes) asked stop = record { actions = actions; asked = asked; inside = stop }
+stop_of script start actions old new (NoMemory zero) asked stop = stop
+stop_of script start actions old new (NoMemory (suc items)) asked stop = record { actions = actions; asked = asked; fewer = stop.0; reported = stop.1 }
+
+pub performed_some : (script : Bytes) (start : Session) (actions : List Action) (old new : Option Bytes) (answer : Result (Unit {0}) RunFault)
+    → AreAsked script actions → IfErr answer (StoppedAt actions start old new) → IfErr answer (IsScriptStop script start old new)
+performed_some script start actions old new (Ok u) asked stop = stop
+performed_some script start actions old new (Err fault) asked stop = stop_of script start actions old new fault asked stop
+
+-- nothing is done of a script that is refused
+pub refused_stop : (script : Bytes) (start : Session) (taken : Option Bytes) (fault : RunFault) → IsScriptFault script fault → IsScriptStop script start taken taken fault
+refused_stop script start taken (SchemaRefused refusal) is = is
+refused_stop script start taken (ModuleRefused refusal) is = is
+refused_stop script start taken (ScriptRefused refusal) is = (refl, is.0, is.1)
+refused_stop script start taken (Write bytes) is = absurd is
+refused_stop script start taken (NoMemory zero) is = refl
+refused_stop script start taken (NoMemory (suc items)) is = cc
+
+pub script_writes_none : (script : Bytes) (fault : RunFault) → IsScriptFault script fault → is_write fault ≡ false
+script_writes_none script (SchemaRefused refusal) is = refl
+script_writes_none script (ModuleRefused refusal) is = refl
+script_writes_none script (ScriptRefused refusal) is = refl
+script_writes_none script (Write bytes) is = absurd is
+script_writes_none script (NoMemory items) is = refl
+
+-- ---- a session of schemas and modules, as its script is performed
+
+abbrev pub run_of : {schemas modules : List Bytes} {script : Bytes} (start : Session) (actions : List Action) → IsStart start
+    → SomeTrees schema_tokens schemas → SomeTrees module_tokens modules → AreAsked script actions → Run schemas modules script
+run_of start actions is_start s m asked = record {
+  schema_trees = s.0;
+  module_trees = m.0;
+  script_tree = asked.tree;
+  schemas_spell = s.1;
+  modules_spell = m.1;
+  script_spells = asked.spells;
+  start = start;
+  is_start = is_start;
+  actions = actions;
+  are_items = asked.are_items;
 }
 
-pub wrote_all : (schemas modules : List Bytes) (script : Bytes) (p : Prepared) (row_numbers : ℕ) (old new : Option Bytes) (answer : Result (Unit {0}) RunFault) → IsPrepared schemas modules script p
-    → OnOk answer (Appends old new (report (procedures_of p.bound) (first_state p.schema p.bound row_numbers) p.actions))
-    → OnOk answer ((r : Run schemas modules script) × Appends old new (report_of row_numbers r))
-wrote_all schemas modules script p row_numbers old new (Ok u) h done = (run_of p h, done)
-wrote_all schemas modules script p row_numbers old new (Err e) h done = done
+pub wrote_all : (schemas modules : List Bytes) (script : Bytes) (start : Session) (old new : Option Bytes) (answer : Result (Unit {0}) RunFault)
+    → IsStart start → SomeTrees schema_tokens schemas → SomeTrees module_tokens modules → OnOk answer (Performed script start old new)
+    → OnOk answer ((r : Run schemas modules script) × Reported r.actions r.start old new)
+wrote_all schemas modules script start old new (Ok u) is_start s m done = (run_of start done.actions is_start s m done.asked, done.reported)
+wrote_all schemas modules script start old new (Err e) is_start s m done = done
 
-wrote_by : (schemas modules : List Bytes) (script : Bytes) (p : Prepared) (row_numbers : ℕ) (old new : Option Bytes) (fault : RunFault) → IsPrepared schemas modules script p
-    → StoppedAt (procedures_of p.bound) (first_state p.schema p.bound row_numbers) p.actions old new fault → Wrote schemas modules script row_numbers old new fault
-wrote_by schemas modules script p row_numbers old new (SchemaRefused refusal) h stop = absurd stop
-wrote_by schemas modules script p row_numbers old new (ModuleRefused refusal) h stop = absurd stop
-wrote_by schemas modules script p row_numbers old new (ScriptRefused refusal) h stop = absurd stop
-wrote_by schemas modules script p row_numbers old new (Write bytes) h stop = (run_of p h, stop.0, stop.1)
-wrote_by schemas modules script p row_numbers old new (NoMemory zero) h stop = stop
-wrote_by schemas modules script p row_numbers old new (NoMemory (suc items)) h stop = (run_of p h, stop.0, stop.1)
+wrote_by : (schemas modules : List Bytes) (script : Bytes) (start : Session) (old new : Option Bytes) (fault : RunFault)
+    → IsStart start → SomeTrees schema_tokens schemas → SomeTrees module_tokens modules → IsScriptStop script start old new fault → Wrote schemas modules script old new fault
+wrote_by schemas modules script start old new (SchemaRefused refusal) is_start s m stop = absurd stop
+wrote_by schemas modules script start old new (ModuleRefused refusal) is_start s m stop = absurd stop
+wrote_by schemas modules script start old new (ScriptRefused refusal) is_start s m stop = stop.0
+wrote_by schemas modules script start old new (Write bytes) is_start s m stop = (run_of start stop.actions is_start s m stop.asked, stop.inside)
+wrote_by schemas modules script start old new (NoMemory zero) is_start s m stop = stop
+wrote_by schemas modules script start old new (NoMemory (suc items)) is_start s m stop = (run_of start stop.actions is_start s m stop.asked, stop.fewer, stop.reported)
 
-pub wrote_some : (schemas modules : List Bytes) (script : Bytes) (p : Prepared) (row_numbers : ℕ) (old new : Option Bytes) (answer : Result (Unit {0}) RunFault) → IsPrepared schemas modules script p
-    → IfErr answer (StoppedAt (procedures_of p.bound) (first_state p.schema p.bound row_numbers) p.actions old new) → IfErr answer (Wrote schemas modules script row_numbers old new)
-wrote_some schemas modules script p row_numbers old new (Ok u) h stop = stop
-wrote_some schemas modules script p row_numbers old new (Err fault) h stop = wrote_by schemas modules script p row_numbers old new fault h stop
+pub wrote_some : (schemas modules : List Bytes) (script : Bytes) (start : Session) (old new : Option Bytes) (answer : Result (Unit {0}) RunFault)
+    → IsStart start → SomeTrees schema_tokens schemas → SomeTrees module_tokens modules → IfErr answer (IsScriptStop script start old new)
+    → IfErr answer (Wrote schemas modules script old new)
+wrote_some schemas modules script start old new (Ok u) is_start s m stop = stop
+wrote_some schemas modules script start old new (Err fault) is_start s m stop = wrote_by schemas modules script start old new fault is_start s m stop
 
--- what stops a run before its first lines is no output fault
-pub early_writes_none : (fault : RunFault) → is_early fault ≡ true → is_write fault ≡ false
-early_writes_none (SchemaRefused refusal) early = refl
-early_writes_none (ModuleRefused refusal) early = refl
-early_writes_none (ScriptRefused refusal) early = refl
-early_writes_none (Write bytes) early = cc
-early_writes_none (NoMemory items) early = refl
+refused_by : (schemas modules : List Bytes) (script : Bytes) (start : Session) (old new : Option Bytes) (fault : RunFault)
+    → IsScriptStop script start old new fault → RefusedText schemas modules script fault
+refused_by schemas modules script start old new (SchemaRefused refusal) stop = absurd stop
+refused_by schemas modules script start old new (ModuleRefused refusal) stop = absurd stop
+refused_by schemas modules script start old new (ScriptRefused refusal) stop = (stop.1, stop.2)
+refused_by schemas modules script start old new (Write bytes) stop = tt
+refused_by schemas modules script start old new (NoMemory items) stop = tt
+
+pub refused_some : (schemas modules : List Bytes) (script : Bytes) (start : Session) (old new : Option Bytes) (answer : Result (Unit {0}) RunFault)
+    → IfErr answer (IsScriptStop script start old new) → IfErr answer (RefusedText schemas modules script)
+refused_some schemas modules script start old new (Ok u) stop = stop
+refused_some schemas modules script start old new (Err fault) stop = refused_by schemas modules script start old new fault stop
+
+order_by : (schemas modules : List Bytes) (script : Bytes) (start : Session) (old new : Option Bytes) (fault : RunFault)
+    → SomeTrees schema_tokens schemas → SomeTrees module_tokens modules → IsScriptStop script start old new fault → InOrder schemas modules fault
+order_by schemas modules script start old new (SchemaRefused refusal) s m stop = absurd stop
+order_by schemas modules script start old new (ModuleRefused refusal) s m stop = absurd stop
+order_by schemas modules script start old new (ScriptRefused refusal) s m stop = (s, m)
+order_by schemas modules script start old new (Write bytes) s m stop = tt
+order_by schemas modules script start old new (NoMemory items) s m stop = tt
+
+pub order_some : (schemas modules : List Bytes) (script : Bytes) (start : Session) (old new : Option Bytes) (answer : Result (Unit {0}) RunFault)
+    → SomeTrees schema_tokens schemas → SomeTrees module_tokens modules → IfErr answer (IsScriptStop script start old new) → IfErr answer (InOrder schemas modules)
+order_some schemas modules script start old new (Ok u) s m stop = stop
+order_some schemas modules script start old new (Err fault) s m stop = order_by schemas modules script start old new fault s m stop
+
+-- ---- texts of which no session is made
+
+pub opening_wrote : (schemas modules : List Bytes) (script : Bytes) (taken : Option Bytes) (fault : RunFault) → IsOpeningFault schemas modules fault
+    → Wrote schemas modules script taken taken fault
+opening_wrote schemas modules script taken (SchemaRefused refusal) is = refl
+opening_wrote schemas modules script taken (ModuleRefused refusal) is = refl
+opening_wrote schemas modules script taken (ScriptRefused refusal) is = absurd is
+opening_wrote schemas modules script taken (Write bytes) is = absurd is
+opening_wrote schemas modules script taken (NoMemory zero) is = refl
+opening_wrote schemas modules script taken (NoMemory (suc items)) is = cc
+
+pub opening_refused : (schemas modules : List Bytes) (script : Bytes) (fault : RunFault) → IsOpeningFault schemas modules fault → RefusedText schemas modules script fault
+opening_refused schemas modules script (SchemaRefused refusal) is = is
+opening_refused schemas modules script (ModuleRefused refusal) is = is.0
+opening_refused schemas modules script (ScriptRefused refusal) is = absurd is
+opening_refused schemas modules script (Write bytes) is = tt
+opening_refused schemas modules script (NoMemory items) is = tt
+
+pub opening_order : (schemas modules : List Bytes) (fault : RunFault) → IsOpeningFault schemas modules fault → InOrder schemas modules fault
+opening_order schemas modules (SchemaRefused refusal) is = tt
+opening_order schemas modules (ModuleRefused refusal) is = is.1
+opening_order schemas modules (ScriptRefused refusal) is = absurd is
+opening_order schemas modules (Write bytes) is = tt
+opening_order schemas modules (NoMemory items) is = tt
+
+pub opening_writes_none : (schemas modules : List Bytes) (fault : RunFault) → IsOpeningFault schemas modules fault → is_write fault ≡ false
+opening_writes_none schemas modules (SchemaRefused refusal) is = refl
+opening_writes_none schemas modules (ModuleRefused refusal) is = refl
+opening_writes_none schemas modules (ScriptRefused refusal) is = refl
+opening_writes_none schemas modules (Write bytes) is = absurd is
+opening_writes_none schemas modules (NoMemory items) is = refl

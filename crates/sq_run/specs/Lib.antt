@@ -1,9 +1,8 @@
+pub mod Action
+pub mod Asked
 pub mod Fault
-pub mod Lent
-pub mod NoKeys
-pub mod Places
-pub mod Prepared
+pub mod Performed
 pub mod Refused
 pub mod Run
-pub mod Session
+pub mod Steps
 pub mod Stop

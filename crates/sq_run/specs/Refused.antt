@@ -1,5 +1,5 @@
 -- What the refusal of a text says of the text.
-use Rattle.std.specs.Prelude.{◌≡◌, ℕ, ◌<◌, List, slice_get, Option, Some, Err, ⊤}
+use Rattle.std.specs.Prelude.{◌≡◌, ℕ, ◌<◌, List, slice_get, take, Some, Err, ⊤}
 use Rattle.sq_grammar.specs.declared.brackets.TheConstants.{MAX_DEPTH}
 use Rattle.sq_lex.specs.declared.fault.LexFault.{LexFault}
 use Rattle.sq_lex.specs.Reading.{reading}
@@ -7,15 +7,11 @@ use Rattle.sq_lex.specs.declared.lexeme.Lexeme.{Lexeme}
 use Rattle.sq_tree.specs.Schema.{schema_tokens, schema_depth}
 use Rattle.sq_tree.specs.Module.{module_tokens, module_depth}
 use Rattle.sq_tree.specs.Script.{script_tokens, script_depth}
-use Rattle.sq_first.specs.Report.{Bytes}
-use Rattle.sq_first.specs.declared.module_text.Module.{Module}
-use Rattle.sq_first.specs.declared.schema.Schema.{Schema}
-use Rattle.sq_part.specs.Module.{first_module}
-use Rattle.sq_part.specs.Schema.{first_schema}
-use Rattle.sq_run.specs.Run.{SaysAtMostOne, Spells}
+use Rattle.sq_model.specs.Report.{Bytes}
+use Rattle.sq_run.specs.Run.{SomeTrees, Spells}
 use Rattle.sq_run.specs.declared.refusal.Refusal.{Refusal}
 use Rattle.sq_run.specs.declared.refusal.RefusalName.{RefusalName}
-use Rattle.sq_run.specs.declared.refusal.RefusalName.TheVariants.{Lexical, TooDeep, NotYet, UnknownProcedure, UnknownTable, BadArguments}
+use Rattle.sq_run.specs.declared.refusal.RefusalName.TheVariants.{Lexical, TooDeep, Unexpected, EndOfText}
 use Rattle.sq_run.specs.declared.refusal.RunFault.{RunFault}
 use Rattle.sq_run.specs.declared.refusal.RunFault.TheVariants.{SchemaRefused, ModuleRefused, ScriptRefused, Write, NoMemory}
 
@@ -28,12 +24,10 @@ pub data Matter : Type 0 where
 
 abbrev pub matter : RefusalName → Matter
 matter (Lexical kind) = Tokens
+matter Unexpected = Grammar
+matter EndOfText = Grammar
 matter TooDeep = Depth
-matter NotYet = Meaning
-matter UnknownProcedure = Meaning
-matter UnknownTable = Meaning
-matter BadArguments = Meaning
-matter _ = Grammar
+matter _ = Meaning
 
 -- the first fault of the text's reading, with its name and place
 pub record IsFirstFault (text : Bytes) (refusal : Refusal) : Type 0 where
@@ -58,13 +52,22 @@ IsRefused {T = T} tokens_of depth_of text refusal Grammar = (tree : T) → Spell
 IsRefused {T = T} tokens_of depth_of text refusal Depth = (tree : T) → Spells text (tokens_of tree) → MAX_DEPTH < depth_of tree
 IsRefused tokens_of depth_of text refusal Meaning = ⊤
 
--- the refused text is at its index among these
+-- the texts that were read before a refusal: those before the refused one, and all of its kind where it is refused for what it means
+abbrev pub read_before : Matter → ℕ → List Bytes → List Bytes
+read_before Tokens text all = take text all
+read_before Grammar text all = take text all
+read_before Depth text all = take text all
+read_before Meaning text all = all
+
+-- the refused text is at its index among these, and those that were read before spell trees
 pub record OneRefused {T : Type 0} (tokens_of : T → List Lexeme) (depth_of : T → ℕ) (all : List Bytes) (refusal : Refusal) : Type 0 where
   pub text : Bytes
   pub there : slice_get all refusal.text ≡ Some text
   pub refused : IsRefused tokens_of depth_of text refusal (matter refusal.what)
+  pub before : SomeTrees tokens_of (read_before (matter refusal.what) refusal.text all)
 
--- A text is refused for its tokens only with the first fault of its reading, and for its grammar only where no tree within that depth spells it.
+-- A text is refused for its tokens only with the first fault of its reading, and for its grammar only where no tree within that depth spells it. It is
+-- the first of its kind for which that holds.
 abbrev pub RefusedText : List Bytes → List Bytes → Bytes → RunFault → Type 0
 RefusedText schemas modules script (SchemaRefused refusal) = OneRefused schema_tokens schema_depth schemas refusal
 RefusedText schemas modules script (ModuleRefused refusal) = OneRefused module_tokens module_depth modules refusal
@@ -72,9 +75,8 @@ RefusedText schemas modules script (ScriptRefused refusal) = (refusal.text ≡ 0
 RefusedText schemas modules script (Write bytes) = ⊤
 RefusedText schemas modules script (NoMemory items) = ⊤
 
--- A module is refused only where the schemas are read, and the script only where the modules are read, too.
+-- A module is refused only where all schemas spell trees, and the script only where all modules do, too.
 abbrev pub InOrder : List Bytes → List Bytes → RunFault → Type 0
-InOrder schemas modules (ModuleRefused refusal) = (schema : Option Schema) × SaysAtMostOne schema_tokens first_schema schemas schema
-InOrder schemas modules (ScriptRefused refusal) =
-    (schema : Option Schema) × («module» : Option Module) × SaysAtMostOne schema_tokens first_schema schemas schema × SaysAtMostOne module_tokens first_module modules «module»
+InOrder schemas modules (ModuleRefused refusal) = SomeTrees schema_tokens schemas
+InOrder schemas modules (ScriptRefused refusal) = SomeTrees schema_tokens schemas × SomeTrees module_tokens modules
 InOrder schemas modules _ = ⊤

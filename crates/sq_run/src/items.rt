@@ -1,27 +1,25 @@
-//! Looking up the names of a script's items.
-ghost use Rattle.std.specs.Prelude.{◌≡◌, Some, IfErr, IfOk, IfSome};
-ghost use Rattle.std.specs.Option.{option_copied};
-ghost use Rattle.sq_first.specs.Script as scripts;
-ghost use Rattle.sq_first.specs.Script.{procedures_of};
-ghost use Rattle.sq_first.specs.Program.{each_known};
-ghost use Rattle.std.specs.Result.{result_ok};
-ghost use Rattle.sq_value.specs.Storing as spec;
-ghost use Rattle.sq_run.specs.Fault.{IsItemMeaning};
-ghost use Rattle.sq_run.specs.Places.{procedure_names};
+//! From a script's items to calls and tables that are there.
+ghost use Rattle.std.specs.Prelude.{◌≡◌, map, IfErr, IfOk, IsTrue};
+ghost use Rattle.sq_value.specs.Text.{IsText};
+ghost use Rattle.sq_tree.specs.declared.script.ScriptItem.TheVariants as script;
+ghost use Rattle.sq_meaning.specs.Spelled.{listed, signed_number};
+ghost use Rattle.sq_model.specs.Script as model;
+ghost use Rattle.sq_model.specs.Run.{item_of_script};
+ghost use Rattle.sq_run.specs.Action.{item_of};
+ghost use Rattle.sq_run.specs.Fault.{IsItemFault};
 
-use crate::bind::{named, table_of};
-use crate::places::Places;
+use crate::action::{Action, CallAction, ShowAction};
 use crate::refusal::RefusalName;
-use sq_first::{
-    Action, Argument, Arguments, BoundModule, BoundProcedure, Call, CallAction, Item, Schema, Sign,
-    TableItem,
-};
 use sq_items::Items;
-use sq_value::{Decimal, Domain, StoreFault, Value, store};
-use std::alloc::{AllocError, AllocFailed, Global};
+use sq_lex::Name;
+use sq_session::Session;
+use sq_store::Store;
+use sq_tree::{Argument, Arguments, CommaList, ScriptItem, Sign, SignedNumber};
+use sq_value::{Decimal, Text, Value};
+use std::alloc::{AllocError, Global};
 
 /// Why an item is not taken.
-#[derive(Debug, Drop)]
+#[derive(Clone, Copy, Debug)]
 pub(crate) enum ItemFault {
     NoMemory,
     Refused(RefusalName),
@@ -38,160 +36,121 @@ impl From<AllocError> for ItemFault {
     }
 }
 
-impl<T: Drop> From<AllocFailed<T>> for ItemFault {
-    ghost use Rattle.std.specs.Prelude.{◌≡◌};
-    ghost use Rattle.sq_run.specs.declared.items.ItemFault.TheVariants.{NoMemory};
-
-    ghost from_gives = { λ _ fault. fault ≡ NoMemory };
-
-    fn from(_error: AllocFailed<T>) -> ItemFault {
-        ItemFault::NoMemory
-    }
-}
-
-fn signed(sign: Option<Sign>, number: Decimal) -> Decimal
-    ensures { result ≡ scripts.signed sign number }
-{
-    match sign {
-        Some(Sign::Minus) => number.neg(),
-        Some(Sign::Plus) | None => number,
-    }
-}
-
-/// The value at which an INTEGER parameter starts, if it can hold what is handed in.
-fn started(alloc: Global, argument: &Argument) -> Result<Option<Value>, AllocError>
-    ensures { IfOk result (λ value. value ≡ scripts.started argument.now) }
-{
-    match argument {
-        Argument::Null => Ok(Some(Value::Num(Decimal::new(0, 0)))),
-        Argument::Number(sign, spelling) => match Decimal::read(spelling.codes()) {
-            Ok(number) => stored(alloc, signed(*sign, number)),
-            Err(_) => Ok(None),
-        },
-        Argument::Text(_) => Ok(None),
-    }
-}
-
-/// The number as an INTEGER holds it.
-fn stored(alloc: Global, number: Decimal) -> Result<Option<Value>, AllocError>
-    ensures { IfOk result (λ value. value ≡ result_ok (spec.stored Domain.Int (Value.Num number))) }
-{
-    match store(alloc, &Value::Num(number), Domain::Int) {
-        Ok(value) => Ok(Some(value)),
-        Err(StoreFault::NoMemory) => Err(AllocError),
-        Err(_) => Ok(None),
-    }
-}
-
-/// The values of arguments, if each parameter can hold its own.
-#[tactic(auto, using(crate::proofs::Known::knowns, std::proofs::lemmas::Grind::common_steps))]
-fn started_values(alloc: Global, arguments: &[Argument]) -> Result<Option<Items<Value>>, AllocError>
-    ensures { IfOk result (λ found. IfSome found (λ values. each_known scripts.started arguments.now ≡ Some values)) }
-{
-    let mut values = Items::new(alloc);
-    for argument in arguments {
-        match started(alloc, argument)? {
-            Some(value) => values.push(value)?,
-            None => return Ok(None),
-        }
-    }
-    Ok(Some(values))
-}
-
-fn arguments_of(arguments: &Arguments) -> &[Argument]
-    ensures { result.now ≡ scripts.arguments_of arguments.now }
-{
-    match arguments {
-        Arguments::Absent => &[],
-        Arguments::Bracketed(values) => values.as_slice(),
-    }
-}
-
-/// The call of a procedure at a place.
-fn called_at(
+/// An item with its names looked up.
+pub(crate) fn action_of<S: Store>(
     alloc: Global,
-    call: &Call,
-    place: usize,
-    procedure: &BoundProcedure,
+    session: &Session<S>,
+    item: &ScriptItem,
 ) -> Result<Action, ItemFault>
-    ensures action { IfOk result (λ action. scripts.called_at call.now place procedure.now ≡ Some action) }
-    ensures of_meaning { IfErr result IsItemMeaning }
+    ensures action { IfOk result (λ action. item_of action ≡ item_of_script item.now) }
+    ensures of_meaning { IfErr result IsItemFault }
 {
-    let Some(values) = started_values(alloc, arguments_of(&call.values))? else {
-        return Err(ItemFault::Refused(RefusalName::BadArguments));
+    match item {
+        ScriptItem::Call(module, name, arguments) => {
+            called(alloc, session, *module, *name, arguments)
+        }
+        ScriptItem::Table(user, name) => shown(session, *user, *name),
+    }
+}
+
+fn called<S: Store>(
+    alloc: Global,
+    session: &Session<S>,
+    module: Name,
+    name: Name,
+    arguments: &Arguments,
+) -> Result<Action, ItemFault>
+    ensures action { IfOk result (λ action. item_of action ≡ item_of_script (script.Call «module» name arguments.now)) }
+    ensures of_meaning { IfErr result IsItemFault }
+{
+    let Some(procedure) = session.procedure(module, name) else {
+        return Err(ItemFault::Refused(RefusalName::UnknownProcedure));
     };
-    if values.len() != procedure.parameters {
+    let values = values_of(alloc, arguments)?;
+    if !session.fits(procedure, values.as_slice()) {
         return Err(ItemFault::Refused(RefusalName::BadArguments));
     }
     Ok(Action::Call(CallAction {
-        module: call.module,
-        name: call.procedure,
-        procedure: place,
+        module,
+        name,
+        procedure,
         values,
     }))
 }
 
-/// A call with its procedure's place among these and its values.
-#[tactic(auto, using(crate::proofs::Named::named))]
-fn called_in(
-    alloc: Global,
-    procedures: &[BoundProcedure],
-    places: &Places,
-    call: &Call,
-) -> Result<Action, ItemFault>
-    requires { places.now ≡ procedure_names procedures.now }
-    ensures action { IfOk result (λ action. scripts.called_in procedures.now call.now ≡ Some action) }
-    ensures of_meaning { IfErr result IsItemMeaning }
+fn shown<S: Store>(session: &Session<S>, user: Name, name: Name) -> Result<Action, ItemFault>
+    ensures action { IfOk result (λ action. item_of action ≡ item_of_script (script.Table user name)) }
+    ensures of_meaning { IfErr result IsItemFault }
 {
-    match places.place(call.procedure) {
-        Some(place) => called_at(alloc, call, place, &procedures[place]),
-        None => Err(ItemFault::Refused(RefusalName::UnknownProcedure)),
-    }
-}
-
-fn called(
-    alloc: Global,
-    bound: Option<&BoundModule>,
-    places: &Places,
-    call: &Call,
-) -> Result<Action, ItemFault>
-    requires { places.now ≡ procedure_names (procedures_of (option_copied bound)) }
-    ensures action { IfOk result (λ action. scripts.called (option_copied bound.entry) call.now ≡ Some action) }
-    ensures of_meaning { IfErr result IsItemMeaning }
-{
-    match bound {
-        Some(module) if module.name == call.module => {
-            called_in(alloc, module.procedures.as_slice(), places, call)
-        }
-        _ => Err(ItemFault::Refused(RefusalName::UnknownProcedure)),
-    }
-}
-
-/// The showing of a table.
-fn shown(schema: Option<&Schema>, item: &TableItem) -> Result<Action, ItemFault>
-    ensures action { IfOk result (λ action. scripts.shown (option_copied schema.entry) item.now ≡ Some action) }
-    ensures of_meaning { IfErr result IsItemMeaning }
-{
-    match named(table_of(schema, item.user), item.table) {
-        Some(_) => Ok(Action::Show(item.user, item.table)),
+    match session.table(user, name) {
+        Some(table) => Ok(Action::Show(ShowAction { user, name, table })),
         None => Err(ItemFault::Refused(RefusalName::UnknownTable)),
     }
 }
 
-/// An item with its names looked up.
-pub(crate) fn action_of(
-    alloc: Global,
-    schema: Option<&Schema>,
-    bound: Option<&BoundModule>,
-    places: &Places,
-    item: &Item,
-) -> Result<Action, ItemFault>
-    requires { places.now ≡ procedure_names (procedures_of (option_copied bound)) }
-    ensures action { IfOk result (λ action. scripts.action_of (option_copied schema.entry) (option_copied bound.entry) item.now ≡ Some action) }
-    ensures of_meaning { IfErr result IsItemMeaning }
+/// The values that are handed in.
+fn values_of(alloc: Global, arguments: &Arguments) -> Result<Items<Value>, ItemFault>
+    ensures values { IfOk result (λ values. values ≡ model.argument_values arguments.now) }
+    ensures of_meaning { IfErr result IsItemFault }
 {
-    match item {
-        Item::Call(call) => called(alloc, bound, places, call),
-        Item::Table(table) => shown(schema, table),
+    match arguments {
+        Arguments::Unwritten | Arguments::Empty => Ok(Items::new(alloc)),
+        Arguments::Listed(arguments) => listed_values(alloc, arguments),
     }
+}
+
+fn listed_values(alloc: Global, arguments: &CommaList<Argument>) -> Result<Items<Value>, ItemFault>
+    ensures values { IfOk result (λ values. values ≡ map model.argument_value (listed arguments.now)) }
+    ensures of_meaning { IfErr result IsItemFault }
+{
+    let mut values = Items::new(alloc);
+    values.push(value_of(alloc, &arguments.first)?)?;
+    let rest = arguments.rest.as_slice();
+    for argument in rest {
+        values.push(value_of(alloc, argument)?)?;
+    }
+    Ok(values)
+}
+
+fn value_of(alloc: Global, argument: &Argument) -> Result<Value, ItemFault>
+    ensures value { IfOk result (λ v. v ≡ model.argument_value argument.now) }
+    ensures of_meaning { IfErr result IsItemFault }
+{
+    match argument {
+        Argument::Null => Ok(Value::Null),
+        Argument::Number(number) => Ok(Value::Num(number_of(number)?)),
+        Argument::Text(characters) => Ok(Value::Chars(text_of(alloc, characters.as_slice())?)),
+    }
+}
+
+/// The number of a numeric literal. One that spells no number fits no parameter; the lexer reads none.
+fn number_of(literal: &SignedNumber) -> Result<Decimal, ItemFault>
+    ensures value { IfOk result (λ number. number ≡ signed_number literal.now) }
+    ensures of_meaning { IfErr result IsItemFault }
+{
+    let Ok(number) = Decimal::read(literal.number.codes()) else {
+        return Err(ItemFault::Refused(RefusalName::BadArguments));
+    };
+    Ok(match literal.sign {
+        Some(Sign::Minus) => number.neg(),
+        Some(Sign::Plus) | None => number,
+    })
+}
+
+/// The text of a literal. One that is none of the language's fits no parameter; the lexer reads none.
+fn text_of(alloc: Global, characters: &[u8]) -> Result<Text, ItemFault>
+    ensures value { IfOk result (λ text. text ≡ characters.now) }
+    ensures of_meaning { IfErr result IsItemFault }
+{
+    if !is_text(characters) {
+        return Err(ItemFault::Refused(RefusalName::BadArguments));
+    }
+    Ok(Text::new(alloc, characters)?)
+}
+
+/// Whether there are at most 240 codes, each from 32 to 126.
+fn is_text(codes: &[u8]) -> bool
+    ensures { IsTrue result → IsText codes.now }
+{
+    codes.len() <= 240 && codes.iter().all(|code| 32 <= *code && *code <= 126)
 }

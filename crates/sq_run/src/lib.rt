@@ -1,17 +1,15 @@
-//! A run: schema, module and script texts in, the report of the table machine out.
+//! A run: schema, module and script texts in, the report of a session out.
 #![tactic(auto)]
 
-mod bind;
+mod action;
 mod items;
-mod module;
 mod perform;
-mod places;
 mod prepare;
 mod refusal;
 mod report;
-mod session;
 mod texts;
 
-pub use perform::{Limits, run};
+pub use perform::run;
 pub use refusal::{Refusal, RefusalName, RunFault};
+pub use sq_catalog::Limits;
 pub use sq_out::{Out, OutFault, OutOf};

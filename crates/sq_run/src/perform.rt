@@ -1,33 +1,24 @@
-ghost use Rattle.std.specs.Prelude.{◌≡◌, ◌≤◌, ◌<◌, false, true, length, IfErr, IfOk, OnOk};
-ghost use Rattle.std.specs.List.{list_all};
-ghost use Rattle.std.specs.Io.KnownBytes.{Appends};
-ghost use Rattle.sq_first.specs.Script.{performed, can_perform, cursors_of, procedures_of, table_count, schema_table, first_state};
-ghost use Rattle.sq_first.specs.Report.{action_lines, report};
+ghost use Rattle.std.specs.Prelude.{◌≡◌, ◌≤◌, false, IfErr, IfOk, OnOk};
 ghost use Rattle.sq_run.specs.Refused.{InOrder, RefusedText};
-ghost use Rattle.sq_run.specs.Run.{Run, report_of, texts};
+ghost use Rattle.sq_run.specs.Run.{Run, texts};
+ghost use Rattle.sq_run.specs.Steps.{Reported, Step};
+ghost use Rattle.sq_run.specs.Performed.{IsScriptStop, Performed};
 ghost use Rattle.sq_run.specs.Stop.{StoppedAt, Wrote, is_write};
 
-use crate::prepare::{Prepared, prepare};
+use crate::action::Action;
+use crate::prepare::{open_session, read_script};
 use crate::refusal::RunFault;
-use crate::report::call_line;
-use crate::session::Session;
-use sq_first::{Action, BoundProcedure};
+use crate::report::{call_line, table_lines};
+use sq_catalog::Limits;
 use sq_out::{Out, write_whole};
+use sq_session::Session;
 use sq_store::{MOST_ROW_NUMBERS, Store};
 use std::alloc::{AllocError, Global};
 
-/// What a run may use.
-#[derive(Clone, Copy, Debug)]
-pub struct Limits {
-    /// The greatest number that a row of a table may have.
-    pub row_numbers: u64,
-}
-
 /// Reads schema, module and script texts, makes the script's calls in memory, and writes the report.
 ///
-/// All schemas are read first, then the modules, then the script; the first refusal is answered, and nothing is written
-/// before all are accepted. The lines of a script item are written in one go.
-#[tactic(auto, using(crate::proofs::Wrote::early_writes_none))]
+/// All schemas are read and defined first, then the modules, then the script; the first refusal is answered, and nothing
+/// is written before all are accepted. The lines of a script item are written in one go.
 pub fn run<S: Store, W: Out>(
     alloc: Global,
     schemas: &[Vec<u8>],
@@ -40,12 +31,11 @@ pub fn run<S: Store, W: Out>(
     requires open_out { W.failed out.old ≡ false }
 
     // All is written: the report of a run of the trees that the texts spell.
-    ensures report { OnOk result ((r : Run (texts schemas.now) (texts modules.now) script.now)
-        × Appends (W.taken out.old) (W.taken out.new) (report_of limits.row_numbers r)) }
+    ensures report { OnOk result ((r : Run (texts schemas.now) (texts modules.now) script.now) × Reported r.actions r.start (W.taken out.old) (W.taken out.new)) }
 
     // After a refusal nothing was written; after running out of memory, only complete items; after an output fault, a
     // prefix of the report. The output has failed exactly where there is an output fault.
-    ensures stopped { IfErr result (Wrote (texts schemas.now) (texts modules.now) script.now limits.row_numbers (W.taken out.old) (W.taken out.new)) }
+    ensures stopped { IfErr result (Wrote (texts schemas.now) (texts modules.now) script.now (W.taken out.old) (W.taken out.new)) }
     ensures still { OnOk result (W.failed out.new ≡ false) }
     ensures failed { IfErr result (λ fault. W.failed out.new ≡ is_write fault) }
 
@@ -54,63 +44,47 @@ pub fn run<S: Store, W: Out>(
     ensures refused { IfErr result (RefusedText (texts schemas.now) (texts modules.now) script.now) }
     ensures order { IfErr result (InOrder (texts schemas.now) (texts modules.now)) }
 {
-    let prepared = prepare(alloc, schemas, modules, script)?;
-    run_prepared::<S, W>(alloc, &prepared, limits, out)
+    match open_session::<S>(alloc, schemas, modules, limits) {
+        Ok(mut session) => run_script(alloc, &mut session, script, out),
+        Err(fault) => Err(fault),
+    }
 }
 
-/// Makes the calls of texts that are accepted.
-fn run_prepared<S: Store, W: Out>(
+/// Does what a script asks a session for, and writes the report.
+fn run_script<S: Store, W: Out>(
     alloc: Global,
-    prepared: &Prepared,
-    limits: Limits,
+    session: &mut Session<S>,
+    script: &[u8],
     out: &mut W,
 ) -> Result<(), RunFault>
-    requires numbers { limits.row_numbers ≤ MOST_ROW_NUMBERS }
     requires open_out { W.failed out.old ≡ false }
-    requires can { list_all (can_perform (table_count (schema_table prepared.now.schema)) (length (cursors_of prepared.now.bound)) (procedures_of prepared.now.bound)) prepared.now.actions ≡ true }
-    ensures report { OnOk result (Appends (W.taken out.old) (W.taken out.new)
-        (report (procedures_of prepared.now.bound) (first_state prepared.now.schema prepared.now.bound limits.row_numbers) prepared.now.actions)) }
-    ensures stopped { IfErr result (StoppedAt (procedures_of prepared.now.bound) (first_state prepared.now.schema prepared.now.bound limits.row_numbers) prepared.now.actions
-        (W.taken out.old) (W.taken out.new)) }
+    ensures report { OnOk result (Performed script.now session.old (W.taken out.old) (W.taken out.new)) }
+    ensures stopped { IfErr result (IsScriptStop script.now session.old (W.taken out.old) (W.taken out.new)) }
     ensures still { OnOk result (W.failed out.new ≡ false) }
     ensures failed { IfErr result (λ fault. W.failed out.new ≡ is_write fault) }
 {
-    let session = Session::<S>::new(
-        alloc,
-        prepared.tables(),
-        prepared.cursors(),
-        limits.row_numbers,
-    );
-    let Ok(mut session) = session else {
-        return Err(RunFault::NoMemory(0));
-    };
-    perform_all(
-        alloc,
-        &mut session,
-        prepared.procedures(),
-        prepared.actions.as_slice(),
-        out,
-    )
+    match read_script(alloc, session, script) {
+        Ok(actions) => perform_all(alloc, session, actions.as_slice(), out),
+        Err(fault) => Err(fault),
+    }
 }
 
 /// Performs items one after the other, and writes the lines of each.
 fn perform_all<S: Store, W: Out>(
     alloc: Global,
     session: &mut Session<S>,
-    procedures: &[BoundProcedure],
     actions: &[Action],
     out: &mut W,
 ) -> Result<(), RunFault>
     requires open_out { W.failed out.old ≡ false }
-    requires can { list_all (can_perform (length session.old.tables) (length session.old.cursors) procedures.now) actions.now ≡ true }
-    ensures report { OnOk result (Appends (W.taken out.old) (W.taken out.new) (report procedures.now session.old actions.now)) }
-    ensures stopped { IfErr result (StoppedAt procedures.now session.old actions.now (W.taken out.old) (W.taken out.new)) }
+    ensures report { OnOk result (Reported actions.now session.old (W.taken out.old) (W.taken out.new)) }
+    ensures stopped { IfErr result (StoppedAt actions.now session.old (W.taken out.old) (W.taken out.new)) }
     ensures still { OnOk result (W.failed out.new ≡ false) }
     ensures failed { IfErr result (λ fault. W.failed out.new ≡ is_write fault) }
 {
     let mut written = 0u128;
     for (done, action) in actions.iter().enumerate() {
-        let Ok(lines) = perform(alloc, session, procedures, action) else {
+        let Ok(lines) = perform(alloc, session, action) else {
             return Err(RunFault::NoMemory(done));
         };
         if let Err(taken) = write_whole(out, lines.as_slice()) {
@@ -125,21 +99,15 @@ fn perform_all<S: Store, W: Out>(
 fn perform<S: Store>(
     alloc: Global,
     session: &mut Session<S>,
-    procedures: &[BoundProcedure],
     action: &Action,
 ) -> Result<Vec<u8>, AllocError>
-    requires { can_perform (length session.old.tables) (length session.old.cursors) procedures.now action.now ≡ true }
-    ensures state { OnOk result (session.new ≡ performed procedures.now session.old action.now) }
-    ensures lines { IfOk result (λ lines. lines.items ≡ action_lines procedures.now session.old action.now) }
+    ensures step { IfOk result (λ lines. Step action.now session.old lines.items session.new) }
 {
     match action {
         Action::Call(call) => {
-            let Some(procedure) = procedures.get(call.procedure) else {
-                unreachable!();
-            };
-            let reply = session.call(alloc, &procedure.statement, call.values.as_slice())?;
+            let reply = session.call(alloc, call.procedure, call.values.as_slice())?;
             call_line(alloc, call, &reply)
         }
-        Action::Show(user, table) => session.table_lines(alloc, *user, *table),
+        Action::Show(shown) => table_lines(alloc, session, shown),
     }
 }

@@ -1,5 +1,6 @@
 //! Why a run stops before its end.
 use sq_lex::LexFaultKind;
+use sq_session::ModuleRefusalName;
 use thiserror::Error;
 
 /// Why a run stops before its end.
@@ -50,9 +51,12 @@ pub enum RefusalName {
     /// The text ends where no text of the grammar does.
     #[error("EndOfText")]
     EndOfText,
-    /// A part of the language that does not run yet.
-    #[error("NotYet")]
-    NotYet,
+    /// A schema or one of its elements can't be defined.
+    #[error("{0}")]
+    Schema(sq_catalog::RefusalName),
+    /// A module, a cursor or a procedure breaks a rule that doesn't wait for its call.
+    #[error("{0}")]
+    Module(ModuleRefusalName),
     /// A call of a procedure that no module has.
     #[error("UnknownProcedure")]
     UnknownProcedure,

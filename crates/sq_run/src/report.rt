@@ -1,27 +1,28 @@
 //! The lines of the report.
-ghost use Rattle.std.specs.Prelude.{◌≡◌, ◌++◌, ◌<◌, codes, length, map, OnOk, IfOk};
+ghost use Rattle.std.specs.Prelude.{◌≡◌, ◌++◌, codes, decimal, map, OnOk, IfOk};
 ghost use Rattle.std.specs.List.{flat_map};
 ghost use Rattle.sq_store.specs.Content.{table_at};
-ghost use Rattle.sq_first.specs.Report as report;
-ghost use Rattle.sq_run.specs.Lent.{lent};
+ghost use Rattle.sq_model.specs.Report as report;
+ghost use Rattle.sq_session.specs.Lent.{lent};
+ghost use Rattle.sq_run.specs.Action.{call_of, table_of};
+ghost use Rattle.sq_run.specs.Steps.{told, told_output};
 
-use crate::session::rows_of;
-use sq_first::{CallAction, Output, Reply, Status};
+use crate::action::{CallAction, ShowAction};
 use sq_lex::Name;
+use sq_meaning::Status;
+use sq_session::{Output, Reply, Session};
 use sq_store::Store;
-use sq_value::{Row, Value};
+use sq_value::{Decimal, Row, Value};
 use std::alloc::{AllocError, Global};
 
-/// SQLSTATE and SQLCODE.
-fn status_codes(status: Status) -> &'static [u8]
-    ensures { result.now ≡ report.status_codes status }
+/// Adds SQLSTATE and SQLCODE.
+fn write_status(alloc: Global, status: Status, line: &mut Vec<u8>) -> Result<(), AllocError>
+    ensures { OnOk result (line.new.items ≡ line.old.items ++ report.status_codes status) }
 {
-    match status {
-        Status::SuccessfulCompletion => b"00000 0",
-        Status::NoData => b"02000 100",
-        Status::InvalidCursorState => b"24000 -2400",
-        Status::NoRowNumberLeft => b"S1L00 -9001",
-    }
+    let code = Decimal::new(status.sqlcode() as i64, 0);
+    line.extend_from_slice(&status.sqlstate())?;
+    line.push(b' ')?;
+    line.extend_from_slice(code.write(alloc)?.as_slice())
 }
 
 /// Adds a value as it is spelled: digits, a quoted text or `NULL`.
@@ -67,18 +68,18 @@ pub(crate) fn call_line(
     call: &CallAction,
     reply: &Reply,
 ) -> Result<Vec<u8>, AllocError>
-    ensures { IfOk result (λ line. line.items ≡ report.call_line call.now reply.now) }
+    ensures { IfOk result (λ line. line.items ≡ report.call_line (call_of call.now) (told reply.now)) }
 {
     let mut line = Vec::new(alloc);
     write_names(call.module, call.name, &mut line)?;
-    line.extend_from_slice(status_codes(reply.status))?;
+    write_status(alloc, reply.status, &mut line)?;
     write_outputs(alloc, reply.outputs.as_slice(), &mut line)?;
     line.push(b'\n')?;
     Ok(line)
 }
 
 fn write_outputs(alloc: Global, outputs: &[Output], line: &mut Vec<u8>) -> Result<(), AllocError>
-    ensures { OnOk result (line.new.items ≡ line.old.items ++ flat_map report.output_codes outputs.now) }
+    ensures { OnOk result (line.new.items ≡ line.old.items ++ flat_map report.output_codes (map told_output outputs.now)) }
 {
     for output in outputs {
         line.push(b' ')?;
@@ -92,22 +93,20 @@ fn write_outputs(alloc: Global, outputs: &[Output], line: &mut Vec<u8>) -> Resul
 /// The lines of a table: its names, how many rows it has, and the rows.
 pub(crate) fn table_lines<S: Store>(
     alloc: Global,
-    store: &S,
-    user: Name,
-    table: Name,
+    session: &Session<S>,
+    shown: &ShowAction,
 ) -> Result<Vec<u8>, AllocError>
-    requires { 0 < length (S.content_now store.now) }
-    ensures { IfOk result (λ lines. lines.items ≡ report.table_lines user table (table_at (S.content_now store.now) 0)) }
+    ensures { IfOk result (λ lines. lines.items ≡ report.table_lines (table_of shown.now) (table_at session.now.state.tables shown.now.table)) }
 {
-    let rows = rows_of(alloc, store)?;
-    let mut lines = table_line(alloc, user, table, rows.len())?;
+    let rows = session.rows(alloc, shown.table)?;
+    let mut lines = table_line(alloc, shown.user, shown.name, rows.len())?;
     write_rows(alloc, rows.as_slice(), &mut lines)?;
     Ok(lines)
 }
 
 /// The line before a table's rows.
 fn table_line(alloc: Global, user: Name, table: Name, rows: usize) -> Result<Vec<u8>, AllocError>
-    ensures { IfOk result (λ line. line.items ≡ report.table_line user table rows) }
+    ensures { IfOk result (λ line. line.items ≡ codes "TABLE " ++ user ++ codes "." ++ table ++ codes " " ++ decimal rows ++ codes "\n") }
 {
     let mut line = Vec::from_slice(alloc, b"TABLE ")?;
     write_names(user, table, &mut line)?;

@@ -1,60 +1,19 @@
-//! Reading texts, and taking the first language out of their trees.
-ghost use Rattle.std.specs.Prelude.{◌≡◌, Ok, Some, IfErr, IfOk};
+//! Reading texts: from bytes to trees, and from a token's number to its place.
+ghost use Rattle.std.specs.Prelude.{◌≡◌, Ok, IfErr, IfOk, IsOk};
 ghost use Rattle.sq_lex.specs.Reading.{reading};
 ghost use Rattle.sq_lex.specs.Token.{lexemes};
+ghost use Rattle.sq_parse.specs.Refusal.{HasNoTree};
 ghost use Rattle.sq_tree.specs.Schema.{schema_tokens, schema_depth};
 ghost use Rattle.sq_tree.specs.Module.{module_tokens, module_depth};
 ghost use Rattle.sq_tree.specs.Script.{script_tokens, script_depth};
-ghost use Rattle.sq_part.specs.Schema.{first_schema};
-ghost use Rattle.sq_part.specs.Module.{first_module};
-ghost use Rattle.sq_run.specs.Fault.{IsRefusal, IsParseFault, IsUnread, IsOfMeaning, FirstRefused, TokensRefused};
-ghost use Rattle.sq_run.specs.Run.{Says, TokensSay, some_script};
+ghost use Rattle.sq_run.specs.Fault.{IsParseFault, IsRefusal, IsRefusalIfAny, IsRefusedText, IsUnread, SomeRefused};
+ghost use Rattle.sq_run.specs.Run.{AllSpell, Spells, texts};
 
 use crate::refusal::{Refusal, RefusalName};
-use sq_first::{Module, Schema, Script};
-use sq_items::Items;
 use sq_lex::{LexError, Token, lex};
 use sq_parse::{ParseError, parse_module, parse_schema, parse_script};
-use sq_part::{
-    TakeFault, module_item_starts, schema_element_starts, script_item_starts, take_module,
-    take_schema, take_script,
-};
 use sq_tree::{ModuleText, SchemaText, ScriptText};
-use std::alloc::{AllocError, Global};
-
-/// What a text says, with what refusals need to name places: its tokens, and for each element, cursor, procedure or
-/// item the number of its first token.
-#[derive(Drop)]
-pub(crate) struct Text<T> {
-    pub tokens: Vec<Token>,
-    pub starts: Items<usize>,
-    pub said: T,
-}
-
-impl<T: Drop> Text<T> {
-    /// What the text says, alone.
-    pub(crate) fn into_said(self) -> T
-        ensures { result ≡ self.said }
-    {
-        let Text {
-            tokens,
-            starts,
-            said,
-        } = self;
-        drop(tokens);
-        drop(starts);
-        said
-    }
-}
-
-impl<T> Text<T> {
-    /// A refusal at the first token of an element, cursor, procedure or item.
-    pub(crate) fn refused_part(&self, part: usize, what: RefusalName) -> TextFault
-        ensures { IsRefusal 0 what result }
-    {
-        refused_part(self.tokens.as_slice(), self.starts.as_slice(), part, what)
-    }
-}
+use std::alloc::{AllocError, AllocFailed, Global};
 
 /// Why a text is not taken.
 #[derive(Clone, Copy, Debug)]
@@ -74,16 +33,107 @@ impl From<AllocError> for TextFault {
     }
 }
 
-/// The tokens of the first text of its kind.
-fn tokens_of(alloc: Global, bytes: &[u8]) -> Result<Vec<Token>, TextFault>
-    ensures read { IfOk result (λ tokens. reading bytes.now ≡ Ok tokens.items) }
-    ensures unread { IfErr result (IsUnread bytes.now) }
+impl<T: Drop> From<AllocFailed<T>> for TextFault {
+    ghost use Rattle.std.specs.Prelude.{◌≡◌};
+    ghost use Rattle.sq_run.specs.declared.texts.TextFault.TheVariants.{NoMemory};
+
+    ghost from_gives = { λ _ fault. fault ≡ NoMemory };
+
+    fn from(_error: AllocFailed<T>) -> TextFault {
+        TextFault::NoMemory
+    }
+}
+
+/// A kind of texts, named by the type of its trees.
+pub(crate) trait TextTree: Drop {
+    ghost use Rattle.std.specs.Prelude.{List, ℕ};
+    ghost use Rattle.sq_lex.specs.declared.lexeme.Lexeme.{Lexeme};
+
+    /// The list of a tree's tokens.
+    ghost tokens: { Self → List Lexeme };
+
+    /// The greatest number of round brackets that are open at once.
+    ghost depth: { Self → ℕ };
+
+    /// The tree of a text's tokens.
+    fn parse(alloc: Global, source: &[Token]) -> Result<Self, ParseError>
+        ensures spelled { IfOk result (λ tree. lexemes source.now ≡ tokens tree) }
+        ensures no_tree { IfErr result (HasNoTree tokens depth (lexemes source.now)) };
+}
+
+impl TextTree for SchemaText {
+    ghost tokens = { schema_tokens };
+
+    ghost depth = { schema_depth };
+
+    fn parse(alloc: Global, source: &[Token]) -> Result<SchemaText, ParseError> {
+        parse_schema(alloc, source)
+    }
+}
+
+impl TextTree for ModuleText {
+    ghost tokens = { module_tokens };
+
+    ghost depth = { module_depth };
+
+    fn parse(alloc: Global, source: &[Token]) -> Result<ModuleText, ParseError> {
+        parse_module(alloc, source)
+    }
+}
+
+impl TextTree for ScriptText {
+    ghost tokens = { script_tokens };
+
+    ghost depth = { script_depth };
+
+    fn parse(alloc: Global, source: &[Token]) -> Result<ScriptText, ParseError> {
+        parse_script(alloc, source)
+    }
+}
+
+/// The trees of all texts of a kind, or why the first that has none is not taken.
+pub(crate) fn read_all<T: TextTree>(alloc: Global, all: &[Vec<u8>]) -> Result<Vec<T>, TextFault>
+    ensures spelled { IfOk result (λ trees. AllSpell T.tokens (texts all.now) trees.items) }
+    ensures refused { IfErr result (SomeRefused T.tokens T.depth (texts all.now)) }
 {
-    match lex(alloc, bytes) {
+    let mut trees = Vec::new(alloc);
+    for (number, text) in all.iter().enumerate() {
+        match read_text(alloc, number, text.as_slice()) {
+            Ok(tree) => trees.push(tree)?,
+            Err(fault) => {
+                drop(trees);
+                return Err(fault);
+            }
+        }
+    }
+    Ok(trees)
+}
+
+/// The tree of the text of this number among its kind.
+pub(crate) fn read_text<T: TextTree>(
+    alloc: Global,
+    number: usize,
+    text: &[u8],
+) -> Result<T, TextFault>
+    ensures spelled { IfOk result (λ tree. Spells text.now (T.tokens tree)) }
+    ensures refused { IfErr result (IsRefusedText number T.tokens T.depth text.now) }
+{
+    let tokens = tokens_of(alloc, number, text)?;
+    match T::parse(alloc, tokens.as_slice()) {
+        Ok(tree) => Ok(tree),
+        Err(fault) => Err(parse_fault(tokens.as_slice(), number, fault)),
+    }
+}
+
+fn tokens_of(alloc: Global, number: usize, text: &[u8]) -> Result<Vec<Token>, TextFault>
+    ensures read { IfOk result (λ tokens. reading text.now ≡ Ok tokens.items) }
+    ensures unread { IfErr result (IsUnread number text.now) }
+{
+    match lex(alloc, text) {
         Ok(tokens) => Ok(tokens),
         Err(LexError::NoMemory) => Err(TextFault::NoMemory),
         Err(LexError::Fault(fault)) => Err(TextFault::Refused(Refusal {
-            text: 0,
+            text: number,
             line: fault.line,
             column: fault.column,
             what: RefusalName::Lexical(fault.kind),
@@ -91,200 +141,51 @@ fn tokens_of(alloc: Global, bytes: &[u8]) -> Result<Vec<Token>, TextFault>
     }
 }
 
+/// What a parse's fault means for a text. A text that ends too early is refused at its last token.
+fn parse_fault(tokens: &[Token], number: usize, fault: ParseError) -> TextFault
+    ensures { IsParseFault number fault result }
+{
+    match fault {
+        ParseError::NoMemory => TextFault::NoMemory,
+        ParseError::Unexpected(token) => refused_at(tokens, number, token, RefusalName::Unexpected),
+        ParseError::TooDeep(token) => refused_at(tokens, number, token, RefusalName::TooDeep),
+        ParseError::EndOfText => {
+            let last = tokens.len().saturating_sub(1);
+            refused_at(tokens, number, last, RefusalName::EndOfText)
+        }
+    }
+}
+
 /// A refusal at a token, or at the start of a text that has no such token.
-pub(crate) fn refused_at(
-    tokens: &[Token],
-    text: usize,
-    token: usize,
-    what: RefusalName,
-) -> TextFault
-    ensures { IsRefusal text what result }
+fn refused_at(tokens: &[Token], number: usize, token: usize, what: RefusalName) -> TextFault
+    ensures { IsRefusal number what result }
 {
     let (line, column) = match tokens.get(token) {
         Some(token) => (token.line, token.column),
         None => (1, 1),
     };
     TextFault::Refused(Refusal {
-        text,
+        text: number,
         line,
         column,
         what,
     })
 }
 
-fn refused_part(tokens: &[Token], starts: &[usize], part: usize, what: RefusalName) -> TextFault
-    ensures { IsRefusal 0 what result }
-{
-    let token = starts.get(part).copied().unwrap_or(0);
-    refused_at(tokens, 0, token, what)
-}
-
-/// What a parse's fault means for a text. A text that ends too early is refused at its last token.
-fn parse_fault(tokens: &[Token], fault: ParseError) -> TextFault
-    ensures { IsParseFault fault result }
-{
-    match fault {
-        ParseError::NoMemory => TextFault::NoMemory,
-        ParseError::Unexpected(token) => refused_at(tokens, 0, token, RefusalName::Unexpected),
-        ParseError::TooDeep(token) => refused_at(tokens, 0, token, RefusalName::TooDeep),
-        ParseError::EndOfText => {
-            let last = tokens.len().saturating_sub(1);
-            refused_at(tokens, 0, last, RefusalName::EndOfText)
-        }
-    }
-}
-
-/// What it means that a tree is not of the first language.
-fn take_fault(tokens: &[Token], starts: &[usize], fault: TakeFault) -> TextFault
-    ensures { IsOfMeaning result }
-{
-    match fault {
-        TakeFault::NoMemory => TextFault::NoMemory,
-        TakeFault::NotYet(part) => refused_part(tokens, starts, part, RefusalName::NotYet),
-        TakeFault::SecondSchema => refused_at(tokens, 0, 0, RefusalName::NotYet),
-    }
-}
-
-/// What a schema text says.
-pub(crate) fn schema_of(alloc: Global, bytes: &[u8]) -> Result<Text<Schema>, TextFault>
-    ensures said { IfOk result (λ text. Says schema_tokens first_schema bytes.now text.said) }
-    ensures refused { IfErr result (FirstRefused schema_tokens schema_depth bytes.now) }
-{
-    let tokens = tokens_of(alloc, bytes)?;
-    match schema_in(alloc, tokens.as_slice()) {
-        Ok((starts, said)) => Ok(Text {
-            tokens,
-            starts,
-            said,
-        }),
-        Err(fault) => {
-            drop(tokens);
-            Err(fault)
-        }
-    }
-}
-
-/// What a schema text of these tokens says, and where its parts start.
-fn schema_in(alloc: Global, tokens: &[Token]) -> Result<(Items<usize>, Schema), TextFault>
-    ensures said { IfOk result (λ found. TokensSay schema_tokens first_schema (lexemes tokens.now) found.1) }
-    ensures refused { IfErr result (TokensRefused schema_tokens schema_depth (lexemes tokens.now)) }
-{
-    match parse_schema(alloc, tokens) {
-        Ok(tree) => {
-            let found = schema_taken(alloc, tokens, &tree);
-            drop(tree);
-            found
-        }
-        Err(fault) => Err(parse_fault(tokens, fault)),
-    }
-}
-
-/// What the tree of a schema text says, and where its parts start.
-fn schema_taken(
+/// A refusal for what a text says, at a token. No tokens are kept once a text has its tree, so they are read once more.
+pub(crate) fn refused_again(
     alloc: Global,
-    tokens: &[Token],
-    tree: &SchemaText,
-) -> Result<(Items<usize>, Schema), TextFault>
-    ensures said { IfOk result (λ found. first_schema tree.now ≡ Some found.1) }
-    ensures of_meaning { IfErr result IsOfMeaning }
+    text: &[u8],
+    number: usize,
+    token: usize,
+    what: RefusalName,
+) -> TextFault
+    requires { IsOk (reading text.now) }
+    ensures { IsRefusalIfAny number what result }
 {
-    let starts = schema_element_starts(alloc, tree)?;
-    match take_schema(alloc, tree) {
-        Ok(said) => Ok((starts, said)),
-        Err(fault) => Err(take_fault(tokens, starts.as_slice(), fault)),
+    match lex(alloc, text) {
+        Ok(tokens) => refused_at(tokens.as_slice(), number, token, what),
+        Err(LexError::NoMemory) => TextFault::NoMemory,
+        Err(LexError::Fault(_)) => unreachable!(),
     }
-}
-
-/// What a module text says.
-pub(crate) fn module_of(alloc: Global, bytes: &[u8]) -> Result<Text<Module>, TextFault>
-    ensures said { IfOk result (λ text. Says module_tokens first_module bytes.now text.said) }
-    ensures refused { IfErr result (FirstRefused module_tokens module_depth bytes.now) }
-{
-    let tokens = tokens_of(alloc, bytes)?;
-    match module_in(alloc, tokens.as_slice()) {
-        Ok((starts, said)) => Ok(Text {
-            tokens,
-            starts,
-            said,
-        }),
-        Err(fault) => {
-            drop(tokens);
-            Err(fault)
-        }
-    }
-}
-
-/// What a module text of these tokens says, and where its parts start.
-fn module_in(alloc: Global, tokens: &[Token]) -> Result<(Items<usize>, Module), TextFault>
-    ensures said { IfOk result (λ found. TokensSay module_tokens first_module (lexemes tokens.now) found.1) }
-    ensures refused { IfErr result (TokensRefused module_tokens module_depth (lexemes tokens.now)) }
-{
-    match parse_module(alloc, tokens) {
-        Ok(tree) => {
-            let found = module_taken(alloc, tokens, &tree);
-            drop(tree);
-            found
-        }
-        Err(fault) => Err(parse_fault(tokens, fault)),
-    }
-}
-
-/// What the tree of a module text says, and where its parts start.
-fn module_taken(
-    alloc: Global,
-    tokens: &[Token],
-    tree: &ModuleText,
-) -> Result<(Items<usize>, Module), TextFault>
-    ensures said { IfOk result (λ found. first_module tree.now ≡ Some found.1) }
-    ensures of_meaning { IfErr result IsOfMeaning }
-{
-    let starts = module_item_starts(alloc, tree)?;
-    match take_module(alloc, tree) {
-        Ok(said) => Ok((starts, said)),
-        Err(fault) => Err(take_fault(tokens, starts.as_slice(), fault)),
-    }
-}
-
-/// What a script says.
-pub(crate) fn script_of(alloc: Global, bytes: &[u8]) -> Result<Text<Script>, TextFault>
-    ensures said { IfOk result (λ text. Says script_tokens some_script bytes.now text.said) }
-    ensures refused { IfErr result (FirstRefused script_tokens script_depth bytes.now) }
-{
-    let tokens = tokens_of(alloc, bytes)?;
-    match script_in(alloc, tokens.as_slice()) {
-        Ok((starts, said)) => Ok(Text {
-            tokens,
-            starts,
-            said,
-        }),
-        Err(fault) => {
-            drop(tokens);
-            Err(fault)
-        }
-    }
-}
-
-/// What a script of these tokens says, and where its parts start.
-fn script_in(alloc: Global, tokens: &[Token]) -> Result<(Items<usize>, Script), TextFault>
-    ensures said { IfOk result (λ found. TokensSay script_tokens some_script (lexemes tokens.now) found.1) }
-    ensures refused { IfErr result (TokensRefused script_tokens script_depth (lexemes tokens.now)) }
-{
-    match parse_script(alloc, tokens) {
-        Ok(tree) => {
-            let found = script_taken(alloc, &tree);
-            drop(tree);
-            found
-        }
-        Err(fault) => Err(parse_fault(tokens, fault)),
-    }
-}
-
-/// What the tree of a script says, and where its parts start.
-fn script_taken(alloc: Global, tree: &ScriptText) -> Result<(Items<usize>, Script), TextFault>
-    ensures said { IfOk result (λ found. some_script tree.now ≡ Some found.1) }
-    ensures of_meaning { IfErr result IsOfMeaning }
-{
-    let starts = script_item_starts(alloc, tree)?;
-    let said = take_script(alloc, tree)?;
-    Ok((starts, said))
 }

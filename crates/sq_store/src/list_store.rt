@@ -62,6 +62,15 @@ impl Store for ListStore {
         })
     }
 
+    fn table_count(&self) -> usize {
+        self.tables.len()
+    }
+
+    #[tactic(auto, using(crate::proofs::Sound::sound_length))]
+    fn keys(&self, table: usize) -> &[Items<usize>] {
+        self.keys.as_slice()[table].as_slice()
+    }
+
     #[tactic(auto, using(crate::proofs::Sound::rises_at))]
     fn next_from(&self, table: usize, number: u64, meter: &mut Meter) -> Option<(u64, &Row)> {
         let found = self.tables[table].first_from(number)?;
@@ -83,7 +92,7 @@ impl Store for ListStore {
         values: &Key,
         meter: &mut Meter,
     ) -> Option<(u64, &Row)> {
-        let columns = self.keys_of(table)[key].as_slice();
+        let columns = self.keys(table)[key].as_slice();
         let found = first_with(self.rows_of(table), columns, values)?;
         meter.hand_out();
         Some((found.number, &found.row))
@@ -101,7 +110,7 @@ impl Store for ListStore {
         table: usize,
         changes: Vec<Change>,
     ) -> Result<(), ApplyFault> {
-        let changed = self.tables[table].changed_with_keys(alloc, self.keys_of(table), changes)?;
+        let changed = self.tables[table].changed_with_keys(alloc, self.keys(table), changes)?;
         self.save(alloc)?;
         self.tables[table] = changed;
         Ok(())
@@ -136,15 +145,6 @@ impl Store for ListStore {
 }
 
 impl ListStore {
-    /// The columns of each key of a table.
-    #[tactic(auto, using(crate::proofs::Sound::sound_length))]
-    fn keys_of(&self, table: usize) -> &[Items<usize>]
-        requires { table < length self.now.tables.items }
-        ensures { result.now ≡ keys_at self.now.keys table }
-    {
-        self.keys.as_slice()[table].as_slice()
-    }
-
     /// The rows of a table.
     fn rows_of(&self, table: usize) -> &[Numbered]
         requires { table < length self.now.tables.items }

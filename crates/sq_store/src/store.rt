@@ -9,6 +9,7 @@ ghost use Rattle.sq_store.specs.declared.store.TheConstants.{MOST_ROW_NUMBERS};
 
 use crate::change::{ApplyFault, Change};
 use crate::meter::Meter;
+use sq_items::Items;
 use sq_value::{Key, Row};
 use std::alloc::{AllocError, Global};
 
@@ -39,6 +40,15 @@ pub trait Store: Drop {
         ensures before { IfOk result (λ store. before store ≡ None) }
         ensures keys { IfOk result (λ store. key_columns store ≡ keys_of keys.now) }
         ensures numbers { IfOk result (λ store. row_numbers store ≡ greatest) };
+
+    /// How many tables there are.
+    fn table_count(&self) -> usize
+        ensures { result ≡ length (content_now self.now) };
+
+    /// The columns of each key of a table.
+    fn keys(&self, table: usize) -> &[Items<usize>]
+        requires { table < length (content_now self.now) }
+        ensures { result.now ≡ keys_at (key_columns self.now) table };
 
     /// The first row at or after a number.
     fn next_from(&self, table: usize, number: u64, meter: &mut Meter) -> Option<(u64, &Row)>

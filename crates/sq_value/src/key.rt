@@ -8,6 +8,7 @@ ghost use Rattle.std.specs.Hash as fed;
 ghost use Rattle.sq_value.specs.Comparison.{is_same};
 ghost use Rattle.sq_value.specs.Key.{in_columns, HasColumns, value_writes};
 
+use crate::hashing::hash_value;
 use crate::value::Value;
 use smallvec::SmallVec;
 use std::alloc::{AllocError, Global};
@@ -175,16 +176,6 @@ impl Hash for Part {
     ghost respects_eq = { same_fed };
 
     fn hash<H: Hasher>(&self, state: &mut H) {
-        match &self.value {
-            Value::Null => state.write_u8(0),
-            Value::Num(number) => {
-                state.write_u8(1);
-                number.at_18().hash(state);
-            }
-            Value::Chars(text) => {
-                state.write_u8(2);
-                text.without_blanks().hash(state);
-            }
-        }
+        hash_value(&self.value, state);
     }
 }

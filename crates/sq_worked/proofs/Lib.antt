@@ -1,2 +1,33 @@
-mod Rolled
-pub mod Spelled
+pub mod Computed
+mod SetFunctions
+mod Numbers
+mod TextValues
+mod Keys
+mod Conditions
+mod Subqueries
+mod Cursors
+mod ScrollingCursors
+mod Transactions
+mod ViewsAndPrivileges
+mod Unions
+mod VaryingTexts
+mod Faults
+mod RefusedTexts
+mod RefusedSchemas
+mod RefusedModules
+mod TakenTexts
+mod CutTexts
+mod NoData
+mod SeveralRows
+mod LongTexts
+mod NoIndicator
+mod OutOfRange
+mod ZeroDivisors
+mod EscapeLengths
+mod EscapeSequences
+mod BrokenConstraints
+mod CursorStates
+mod IllFormed
+mod CheckOptions
+mod NoRowNumbers
+mod Done

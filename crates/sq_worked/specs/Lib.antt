@@ -1,2 +1,2 @@
-pub mod Kit
-pub mod Reads
+pub mod Answer
+pub mod Texts

@@ -1,3 +1,4 @@
-//! Worked texts as trees, for runs that are computed on the definitions: the texts of `specs/Kit.antt`, and in proofs/ that
-//! the bytes of each element read as the tokens of its tree. `tools/print_trees.py` prints both from the texts.
+//! Runs computed on the definitions, from the bytes of their texts to the bytes of their reports: `specs/Answer.antt` says
+//! what texts come to, and each file of `proofs/` has some runs, as equations that hold by computing. A lexical fault, a
+//! rule of the grammar or of SQL that was misread would show here. `tools/print_runs.py` prints them from the runs of sq_cases.
 #![tactic(auto)]

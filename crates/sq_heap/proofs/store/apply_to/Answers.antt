@@ -4,7 +4,7 @@ use Rattle.sq_heap.specs.Heap.{all_before, all_now, are_listed, committed_of, no
 use Rattle.sq_heap.specs.Slots.{table_of}
 use Rattle.sq_heap.specs.Undo.{back}
 use Rattle.sq_heap.specs.declared.mark.Mark.{Mark}
-use Rattle.sq_heap.proofs.Heap.{applied_before, applied_listed, applied_now, map_set_same, refused_before, refused_listed}
+use Rattle.sq_heap.proofs.Heap.{all_keys_set, applied_before, applied_listed, applied_now, map_set_same, refused_before, refused_listed}
 use Rattle.sq_heap.proofs.OnResult.{always_ok, if_ok, on_err, on_errs, on_ok}
 use Rattle.sq_heap.proofs.store.apply_to.Goals as goal
 
@@ -71,3 +71,6 @@ returns-clause-listed c =
     let u = c.apply.new.self in
     always_ok c.apply.result ((listed : List ℕ) → are_listed listed 0 ts ≡ true → are_listed (listed ++ i ∷ []) 0 (slice_set ts i u) ≡ true)
     (λ listed h. applied_listed listed ts i u h)
+
+pub returns-clause-keys : goal.returns-clause-keys
+returns-clause-keys c = all_keys_set c.args.tables.now.items c.args.table c.index_mut.result.now c.apply.new.self c.requires.known c.index_mut.ensures.value c.apply.ensures.keys

@@ -2,7 +2,11 @@ use Rattle.std.proofs.Common.{◌≡◌, ◌∙◌, ◌<◌, ◌++◌, ◌∷◌
 use Rattle.std.proofs.lemmas.Grind.{common_steps}
 use Rattle.sq_heap.specs.Heap.{are_listed, are_within, has_none, now_of}
 use Rattle.sq_heap.specs.Slots.{table_of}
-use Rattle.sq_heap.proofs.Heap.{listed_pop, length_set, map_set_same, none_listed, within_last, within_rest}
+use Rattle.sq_heap.specs.Index.{keys_of}
+use Rattle.sq_heap.specs.declared.index.Index.{Index}
+use Rattle.std.specs.Prelude.{Vec}
+use Rattle.std.specs.declared.alloc.Global.{Global}
+use Rattle.sq_heap.proofs.Heap.{all_keys_set, listed_pop, length_set, map_set_same, none_listed, within_last, within_rest}
 use Rattle.sq_heap.proofs.store.commit_all.Goals as goal
 
 pub index_mut-requires : goal.index_mut-requires
@@ -27,6 +31,7 @@ loop-table-preserved c =
     let long : length (slice_set ts i u) ≡ length ts = length_set ts i u in
     record {
       now = map_set_same now_of ts i c.index_mut.result.now u lt c.index_mut.ensures.value (ap table_of c.commit.ensures.slots) ∙ c.loop-table.invariant.now;
+      keys = all_keys_set ts i c.index_mut.result.now u lt c.index_mut.ensures.value (ap (λ (xs : Vec Index Global). keys_of xs.items) c.commit.ensures.indexes) ∙ c.loop-table.invariant.keys;
       tables = long ∙ c.loop-table.invariant.tables;
       listed = listed_pop rest i 0 ts i u (omega arith) none listed;
       within = ap (λ (n : ℕ). are_within n rest) long ∙ within_rest (length ts) rest i within;

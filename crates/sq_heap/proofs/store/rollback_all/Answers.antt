@@ -1,7 +1,11 @@
 use Rattle.std.proofs.Common.{◌≡◌, ◌∙◌, ◌<◌, ◌++◌, ◌∷◌, [], List, ℕ, ap, arith, length, slice_set, sym, true}
 use Rattle.std.proofs.lemmas.Grind.{common_steps}
 use Rattle.sq_heap.specs.Heap.{are_listed, are_within, has_none}
-use Rattle.sq_heap.proofs.Heap.{listed_pop, length_set, none_listed, took_back_committed, within_last, within_rest}
+use Rattle.sq_heap.specs.Index.{keys_of}
+use Rattle.sq_heap.specs.declared.index.Index.{Index}
+use Rattle.std.specs.Prelude.{Vec}
+use Rattle.std.specs.declared.alloc.Global.{Global}
+use Rattle.sq_heap.proofs.Heap.{all_keys_set, listed_pop, length_set, none_listed, took_back_committed, within_last, within_rest}
 use Rattle.sq_heap.proofs.store.rollback_all.Goals as goal
 
 pub index_mut-requires : goal.index_mut-requires
@@ -26,6 +30,7 @@ loop-table-preserved c =
     let long : length (slice_set ts i u) ≡ length ts = length_set ts i u in
     record {
       committed = took_back_committed ts i c.index_mut.result.now u 0 lt c.index_mut.ensures.value c.undo_to.ensures.slots c.undo_to.ensures.undo ∙ c.loop-table.invariant.committed;
+      keys = all_keys_set ts i c.index_mut.result.now u lt c.index_mut.ensures.value (ap (λ (xs : Vec Index Global). keys_of xs.items) c.undo_to.ensures.indexes) ∙ c.loop-table.invariant.keys;
       tables = long ∙ c.loop-table.invariant.tables;
       listed = listed_pop rest i 0 ts i u (omega arith) none listed;
       within = ap (λ (n : ℕ). are_within n rest) long ∙ within_rest (length ts) rest i within;

@@ -1,27 +1,43 @@
-use Rattle.sq_first.specs.Script.{procedures_of, first_state}
+use Rattle.std.proofs.Common.{sym, ◌∙◌}
 use Rattle.sq_run.specs.Run.{texts}
-use Rattle.sq_run.proofs.Refused.{order_none, refused_none}
-use Rattle.sq_run.proofs.Wrote.{wrote_all, wrote_some}
+use Rattle.sq_run.proofs.Wrote.{opening_order, opening_refused, opening_writes_none, opening_wrote, order_some, refused_some, wrote_all, wrote_some}
 use Rattle.sq_run.proofs.perform.run.Goals as goal
 
-pub returns-clause-report : goal.returns-clause-report
-returns-clause-report g c =
-    wrote_all (texts c.args.schemas.now) (texts c.args.modules.now) c.args.script.now c.in_ok-prepared.prepared c.args.limits.row_numbers (g.W.Out.taken c.args.out.now) (g.W.Out.taken c.run_prepared.new.out)
-    c.run_prepared.result c.in_ok-prepared.ensures.prepared c.run_prepared.ensures.report
+-- ---- a session is made
 
-pub returns-clause-stopped : goal.returns-clause-stopped
-returns-clause-stopped g c =
-    wrote_some (texts c.args.schemas.now) (texts c.args.modules.now) c.args.script.now c.in_ok-prepared.prepared c.args.limits.row_numbers (g.W.Out.taken c.args.out.now) (g.W.Out.taken c.run_prepared.new.out)
-    c.run_prepared.result c.in_ok-prepared.ensures.prepared c.run_prepared.ensures.stopped
+pub returns-in-Ok-clause-report : goal.returns-in-Ok-clause-report
+returns-in-Ok-clause-report g c =
+    wrote_all (texts c.args.schemas.now) (texts c.args.modules.now) c.args.script.now c.in-Ok.session (g.W.Out.taken c.args.out.now) (g.W.Out.taken c.run_script.new.out) c.run_script.result
+    c.in-Ok.ensures.start c.in-Ok.ensures.schemas c.in-Ok.ensures.modules c.run_script.ensures.report
 
-pub returns-clause-refused : goal.returns-clause-refused
-returns-clause-refused g c =
-    let p = c.in_ok-prepared.prepared in
-    refused_none (texts c.args.schemas.now) (texts c.args.modules.now) c.args.script.now (procedures_of p.bound) (first_state p.schema p.bound c.args.limits.row_numbers) p.actions
-    (g.W.Out.taken c.args.out.now) (g.W.Out.taken c.run_prepared.new.out) c.run_prepared.result c.run_prepared.ensures.stopped
+pub returns-in-Ok-clause-stopped : goal.returns-in-Ok-clause-stopped
+returns-in-Ok-clause-stopped g c =
+    wrote_some (texts c.args.schemas.now) (texts c.args.modules.now) c.args.script.now c.in-Ok.session (g.W.Out.taken c.args.out.now) (g.W.Out.taken c.run_script.new.out) c.run_script.result
+    c.in-Ok.ensures.start c.in-Ok.ensures.schemas c.in-Ok.ensures.modules c.run_script.ensures.stopped
 
-pub returns-clause-order : goal.returns-clause-order
-returns-clause-order g c =
-    let p = c.in_ok-prepared.prepared in
-    order_none (texts c.args.schemas.now) (texts c.args.modules.now) (procedures_of p.bound) (first_state p.schema p.bound c.args.limits.row_numbers) p.actions
-    (g.W.Out.taken c.args.out.now) (g.W.Out.taken c.run_prepared.new.out) c.run_prepared.result c.run_prepared.ensures.stopped
+pub returns-in-Ok-clause-refused : goal.returns-in-Ok-clause-refused
+returns-in-Ok-clause-refused g c =
+    refused_some (texts c.args.schemas.now) (texts c.args.modules.now) c.args.script.now c.in-Ok.session (g.W.Out.taken c.args.out.now) (g.W.Out.taken c.run_script.new.out) c.run_script.result
+    c.run_script.ensures.stopped
+
+pub returns-in-Ok-clause-order : goal.returns-in-Ok-clause-order
+returns-in-Ok-clause-order g c =
+    order_some (texts c.args.schemas.now) (texts c.args.modules.now) c.args.script.now c.in-Ok.session (g.W.Out.taken c.args.out.now) (g.W.Out.taken c.run_script.new.out) c.run_script.result
+    c.in-Ok.ensures.schemas c.in-Ok.ensures.modules c.run_script.ensures.stopped
+
+-- ---- none is made
+
+pub returns-in-Err-clause-stopped : goal.returns-in-Err-clause-stopped
+returns-in-Err-clause-stopped g c =
+    opening_wrote (texts c.args.schemas.now) (texts c.args.modules.now) c.args.script.now (g.W.Out.taken c.args.out.now) c.in-Err.fault c.in-Err.ensures.refused
+
+pub returns-in-Err-clause-failed : goal.returns-in-Err-clause-failed
+returns-in-Err-clause-failed g c =
+    c.requires.open_out ∙ sym (opening_writes_none (texts c.args.schemas.now) (texts c.args.modules.now) c.in-Err.fault c.in-Err.ensures.refused)
+
+pub returns-in-Err-clause-refused : goal.returns-in-Err-clause-refused
+returns-in-Err-clause-refused g c =
+    opening_refused (texts c.args.schemas.now) (texts c.args.modules.now) c.args.script.now c.in-Err.fault c.in-Err.ensures.refused
+
+pub returns-in-Err-clause-order : goal.returns-in-Err-clause-order
+returns-in-Err-clause-order g c = opening_order (texts c.args.schemas.now) (texts c.args.modules.now) c.in-Err.fault c.in-Err.ensures.refused

@@ -6,36 +6,26 @@ use Rattle.sq_store.specs.Content.{changed_by, table_at}
 use Rattle.sq_store.specs.Keys.{Keys, has_distinct_keys, has_keys, have_keys, keys_at}
 use Rattle.sq_store.specs.Saved.{is_sound_if}
 use Rattle.sq_store.specs.Sound.{is_sound}
-use Rattle.sq_store.proofs.Sound.{columns_at, sound_changed, sound_length}
+use Rattle.sq_store.proofs.Sound.{columns_at, sound_changed}
 use Rattle.sq_heap.specs.Heap.{all_now, are_listed, are_within, now_of}
 use Rattle.sq_heap.proofs.Heap.{distinct_at, length_map, within_push}
 use Rattle.sq_heap.proofs.store.HeapStoreStore.apply.Goals as goal
-
-pub keys_in-keys-requires : goal.keys_in-keys-requires
-keys_in-keys-requires c =
-    let s = c.args.self.now in
-    let long : length (all_now c.args.self.now.tables.items) ≡ length c.args.self.now.keys = sound_length s.row_numbers s.keys (all_now s.tables.items) s.sound in
-    let same : length c.as_slice.result.now ≡ length c.args.self.now.keys = ap length c.as_slice.ensures in
-    omega (arith, c.requires.known)
 
 pub apply_to-requires-clause-columns : goal.apply_to-requires-clause-columns
 apply_to-requires-clause-columns c =
     let s = c.args.self.now in
     let t = table_at (all_now s.tables.items) c.args.table in
-    let keys : c.keys_in-keys.result.now ≡ keys_at c.args.self.now.keys c.args.table = c.keys_in-keys.ensures ∙ ap (λ (k : List Keys). keys_at k c.args.table) c.as_slice.ensures in
-    ap (λ (k : Keys). have_keys k t.rows) keys ∙ columns_at s.row_numbers s.keys (all_now s.tables.items) c.args.table s.sound c.requires.known
+    ap (λ (k : List Keys). have_keys (keys_at k c.args.table) t.rows) s.indexed ∙ columns_at s.row_numbers s.keys (all_now s.tables.items) c.args.table s.sound c.requires.known
 
 pub apply_to-requires-clause-new_columns : goal.apply_to-requires-clause-new_columns
 apply_to-requires-clause-new_columns c =
-    let keys : c.keys_in-keys.result.now ≡ keys_at c.args.self.now.keys c.args.table = c.keys_in-keys.ensures ∙ ap (λ (k : List Keys). keys_at k c.args.table) c.as_slice.ensures in
-    ap (λ (k : Keys). list_all (has_keys k) (rows_put c.args.changes.items)) keys ∙ c.requires.columns
+    ap (λ (k : List Keys). list_all (has_keys (keys_at k c.args.table)) (rows_put c.args.changes.items)) c.args.self.now.indexed ∙ c.requires.columns
 
 pub apply_to-requires-clause-distinct : goal.apply_to-requires-clause-distinct
 apply_to-requires-clause-distinct c =
     let s = c.args.self.now in
     let t = table_at (all_now s.tables.items) c.args.table in
-    let keys : c.keys_in-keys.result.now ≡ keys_at c.args.self.now.keys c.args.table = c.keys_in-keys.ensures ∙ ap (λ (k : List Keys). keys_at k c.args.table) c.as_slice.ensures in
-    ap (λ (k : Keys). has_distinct_keys k t) keys ∙ distinct_at s.row_numbers s.keys (all_now s.tables.items) c.args.table s.sound c.requires.known
+    ap (λ (k : List Keys). has_distinct_keys (keys_at k c.args.table) t) s.indexed ∙ distinct_at s.row_numbers s.keys (all_now s.tables.items) c.args.table s.sound c.requires.known
 
 pub invariant_of-self-in-Ok : goal.invariant_of-self-in-Ok
 invariant_of-self-in-Ok c =
@@ -44,9 +34,8 @@ invariant_of-self-in-Ok c =
     let later = c.apply_to.new.tables.items in
     let i = c.args.table in
     let changes = c.args.changes.items in
-    let keys : c.keys_in-keys.result.now ≡ keys_at c.args.self.now.keys c.args.table = c.keys_in-keys.ensures ∙ ap (λ (k : List Keys). keys_at k c.args.table) c.as_slice.ensures in
     let distinct : has_distinct_keys (keys_at s.keys i) (changed_by (table_at (all_now ts) i) changes) ≡ true
-    = ap (λ (k : Keys). has_distinct_keys k (changed_by (table_at (all_now ts) i) changes)) (sym keys) ∙ c.in-Ok.ensures.distinct in
+    = ap (λ (k : List Keys). has_distinct_keys (keys_at k i) (changed_by (table_at (all_now ts) i) changes)) (sym s.indexed) ∙ c.in-Ok.ensures.distinct in
     let listed : c.push.new.self.items ≡ c.args.self.now.listed.items ++ c.args.table ∷ [] = first_of (search rules, grind (arith, common_steps)) in
     let long : length c.apply_to.new.tables.items ≡ length c.args.self.now.tables.items = c.in-Ok.ensures.tables in
     let all : length (all_now c.args.self.now.tables.items) ≡ length c.args.self.now.tables.items = length_map now_of ts in
@@ -58,6 +47,7 @@ invariant_of-self-in-Ok c =
       committed_sound = ap (is_sound s.row_numbers s.keys) c.in-Ok.ensures.committed ∙ s.committed_sound;
       before_sound = ap (is_sound_if s.row_numbers s.keys) c.in-Ok.ensures.before ∙ s.sound;
       marked = ap (nat_lt i) long ∙ within;
+      indexed = c.in-Ok.ensures.keys ∙ s.indexed;
       listed_there = ap (are_within (length later)) listed ∙ ap (λ (n : ℕ). are_within n (s.listed.items ++ i ∷ [])) long ∙ within_push (length ts) s.listed.items i known s.listed_there;
       changes_listed = ap (λ (l : List ℕ). are_listed l 0 later) listed ∙ c.in-Ok.ensures.listed s.listed.items s.changes_listed;
     }

@@ -1,13 +1,16 @@
-use Rattle.std.proofs.Common.{◌∙◌, List, ap}
-use Rattle.sq_store.specs.declared.table.Table.{Table}
+use Rattle.std.proofs.Common.{◌≡◌, ◌∙◌, List, ap}
 use Rattle.sq_store.specs.Content.{changed_by}
 use Rattle.sq_store.specs.Keys.{have_keys}
 use Rattle.sq_store.proofs.Sound.{have_keys_changed_by}
+use Rattle.sq_heap.specs.Index.{keys_of}
 use Rattle.sq_heap.specs.Slots.{Slot, table_of}
 use Rattle.sq_heap.proofs.table.HeapTable.apply.Goals as goal
 
 pub has_distinct_keys-requires-clause-columns : goal.has_distinct_keys-requires-clause-columns
 has_distinct_keys-requires-clause-columns c =
+    let s = c.args.self.now in
     let changes = c.args.changes.items in
-    ap (λ (t : Table). have_keys c.args.keys.now t.rows) (c.make_all.ensures.table ∙ ap (λ (ss : List Slot). changed_by (table_of ss) changes) c.in_ok-reserve.ensures.slots)
-    ∙ have_keys_changed_by c.args.keys.now (table_of c.args.self.now.slots.items) changes c.requires.columns c.requires.new_columns
+    let keys : keys_of c.make_all.new.self.indexes.items ≡ keys_of c.args.self.now.indexes.items = c.make_all.ensures.keys ∙ c.reserve.ensures.keys in
+    let table : table_of c.make_all.new.self.slots.items ≡ changed_by (table_of c.args.self.now.slots.items) c.args.changes.items
+    = c.in-Ok.ensures.table ∙ ap (λ (ss : List Slot). changed_by (table_of ss) changes) c.reserve.ensures.slots in
+    (λ i. have_keys (keys i) (table i).rows) ∙ have_keys_changed_by (keys_of s.indexes.items) (table_of s.slots.items) changes c.requires.columns c.requires.new_columns

@@ -1,4 +1,5 @@
 use Rattle.std.proofs.Common.{◌∙◌, drop, length, sym}
+use Rattle.sq_heap.specs.Index.{keys_of}
 use Rattle.sq_heap.proofs.Back.{fits_drop}
 use Rattle.sq_heap.proofs.Distinct.{distinct_keys_alone}
 use Rattle.sq_heap.proofs.table.HeapTable.has_distinct_keys.Goals as goal
@@ -8,4 +9,4 @@ returns c =
     let slots = c.args.self.now.slots.items in
     let undo = c.args.self.now.undo.items in
     c.are_alone.ensures
-    ∙ sym (distinct_keys_alone c.args.keys.now slots (drop c.args.from undo) (fits_drop (length slots) undo c.args.from c.args.self.now.undoable) c.requires.before)
+    ∙ sym (distinct_keys_alone (keys_of c.args.self.now.indexes.items) slots (drop c.args.from undo) (fits_drop (length slots) undo c.args.from c.args.self.now.undoable) c.requires.before)

@@ -1,5 +1,6 @@
 use Rattle.std.proofs.Common.{◌≡◌, ◌≤◌, ◌+◌, length, vec_capacity, vec_len}
 use Rattle.sq_store.specs.Content.{changed_by}
+use Rattle.sq_heap.specs.Index.{keys_of}
 use Rattle.sq_heap.specs.Slots.{table_of}
 use Rattle.sq_heap.specs.Undo.{GoesBack}
 use Rattle.sq_heap.proofs.table.HeapTable.make_all.Given as goal
@@ -9,6 +10,7 @@ invariant-loop-change l = record {
   can : (goal.iterator-loop-change).can_next l.change-iterator;
   ends : (goal.iterator-loop-change).is_finite l.change-iterator;
   so_far : table_of l.self.slots.items ≡ changed_by (table_of l.initial.self.slots.items) l.yielded;
+  keys : keys_of l.self.indexes.items ≡ keys_of l.initial.self.indexes.items;
   back : GoesBack l.initial.self.slots.items l.initial.self.undo.items l.self.slots.items l.self.undo.items;
   slots : vec_len l.self.slots ≤ vec_len l.initial.self.slots + length l.yielded;
   undo : vec_len l.self.undo ≤ vec_len l.initial.self.undo + length l.yielded;

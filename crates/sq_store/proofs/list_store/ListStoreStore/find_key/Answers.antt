@@ -9,6 +9,6 @@ first_with-requires c =
     let keys = keys_at c.args.self.now.keys c.args.table in
     let rows = (table_at c.args.self.now.tables.items c.args.table).rows in
     let held : have_keys keys rows ≡ true = columns_at c.args.self.now.row_numbers c.args.self.now.keys c.args.self.now.tables.items c.args.table c.args.self.now.sound c.requires.table in
-    let columns : c.index-keys_of-key.result ≡ get_or keys c.args.key c.index-keys_of-key.result
-    = c.index-keys_of-key.is ∙ ap (λ (ks : List (List ℕ)). get_or ks c.args.key c.index-keys_of-key.result) c.keys_of.ensures in
-    rw (c.as_slice-columns.ensures, c.rows_of.ensures) (have_columns keys rows c.args.key c.index-keys_of-key.result columns c.requires.key held)
+    let columns : c.index-keys-key.result ≡ get_or keys c.args.key c.index-keys-key.result
+    = c.index-keys-key.is ∙ ap (λ (ks : List (List ℕ)). get_or ks c.args.key c.index-keys-key.result) c.keys.ensures in
+    rw (c.as_slice-columns.ensures, c.rows_of.ensures) (have_columns keys rows c.args.key c.index-keys-key.result columns c.requires.key held)

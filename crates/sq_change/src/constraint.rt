@@ -1,0 +1,105 @@
+//! What new and changed rows have to meet: check options, NOT NULL and CHECK (ISO/IEC 9075:1992, 11.4, 11.9, 11.19).
+
+use crate::row::{is_null, row_put};
+use crate::setting::{Setting, leaf_of};
+use sq_bound::{BaseTable, BoundCond, Leaf, Names, TablePlace};
+use sq_meaning::Status;
+use sq_query::Fault;
+use sq_store::{Change, Store};
+use sq_value::{Row, Truth, Value};
+
+/// Whether the rows that are put in a table meet the check options of the table that the statement names.
+pub(crate) fn check_options_met<N: Names, S: Store>(
+    setting: &Setting<'_, N, S>,
+    named: TablePlace,
+    changes: &[Change],
+) -> Result<(), Fault> {
+    let views = demanded_views(leaf_of(setting.names, named)?)?;
+    for change in changes {
+        if let Some(row) = row_put(change) {
+            meets_check_option(setting, views, row)?;
+        }
+    }
+    Ok(())
+}
+
+/// The views, from inside out, whose conditions are demanded.
+fn demanded_views(leaf: &Leaf) -> Result<&[usize], Fault> {
+    if leaf.demanded > leaf.views.len() {
+        return Err(Fault::NOT_WELL_FORMED);
+    }
+    Ok(&leaf.views.as_slice()[..leaf.demanded])
+}
+
+/// Whether the conditions of the views are true, one after the other.
+fn meets_check_option<N: Names, S: Store>(
+    setting: &Setting<'_, N, S>,
+    views: &[usize],
+    row: &Row,
+) -> Result<(), Fault> {
+    for view in views {
+        let leaf = leaf_of(setting.names, TablePlace::View(*view))?;
+        if let Some(condition) = &leaf.condition {
+            is_or_violates(setting.truth(condition, row)?)?;
+        }
+    }
+    Ok(())
+}
+
+fn is_or_violates(truth: Truth) -> Result<(), Fault> {
+    match truth {
+        Truth::True => Ok(()),
+        _ => Err(Fault::Status(Status::CheckOptionViolation)),
+    }
+}
+
+/// Whether the rows that are put in a table satisfy its constraints on one row, row by row.
+pub(crate) fn rows_satisfied<N: Names, S: Store>(
+    setting: &Setting<'_, N, S>,
+    table: &BaseTable,
+    changes: &[Change],
+) -> Result<(), Fault> {
+    for change in changes {
+        if let Some(row) = row_put(change) {
+            row_satisfied(setting, table, row)?;
+        }
+    }
+    Ok(())
+}
+
+/// NOT NULL, and then each CHECK in the order of the text.
+fn row_satisfied<N: Names, S: Store>(
+    setting: &Setting<'_, N, S>,
+    table: &BaseTable,
+    row: &Row,
+) -> Result<(), Fault> {
+    if lacks_value(table, row.as_slice()) {
+        return Err(Fault::Status(Status::IntegrityConstraintViolation));
+    }
+    for check in table.checks.as_slice() {
+        check_satisfied(setting, check, row)?;
+    }
+    Ok(())
+}
+
+/// Whether a column is null that may not be.
+fn lacks_value(table: &BaseTable, row: &[Value]) -> bool {
+    for (column, value) in table.columns.as_slice().iter().zip(row) {
+        if column.not_null && is_null(value) {
+            return true;
+        }
+    }
+    false
+}
+
+/// A CHECK is satisfied when it is not false.
+fn check_satisfied<N: Names, S: Store>(
+    setting: &Setting<'_, N, S>,
+    check: &BoundCond,
+    row: &Row,
+) -> Result<(), Fault> {
+    match setting.truth(check, row)? {
+        Truth::False => Err(Fault::Status(Status::IntegrityConstraintViolation)),
+        _ => Ok(()),
+    }
+}

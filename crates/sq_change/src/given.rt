@@ -1,0 +1,163 @@
+//! The rows that an insert statement makes (ISO/IEC 9075:1992, 13.8).
+
+use crate::setting::Setting;
+use crate::storing::{assigned, assigned_to, stored_value};
+use sq_bound::{
+    BaseColumn, BaseTable, BoundExpr, BoundInsert, BoundSpecification, ColumnDefault, InsertedRows,
+    Names,
+};
+use sq_items::Items;
+use sq_meaning::Status;
+use sq_query::{Fault, specification_rows};
+use sq_store::{Change, Meter, Store};
+use sq_value::{Row, Value};
+use std::alloc::Global;
+
+/// The new rows of an insert statement. All that is given is stored before any row gets its defaults.
+pub(crate) fn new_rows<N: Names, S: Store>(
+    setting: &Setting<'_, N, S>,
+    insert: &BoundInsert,
+    table: &BaseTable,
+    meter: &mut Meter,
+) -> Result<Vec<Change>, Fault> {
+    let given = given_rows(setting, insert, table, meter)?;
+    completed_rows(setting, table, insert.columns.as_slice(), given.as_slice())
+}
+
+/// The values that are given, row by row. The rows of a query are all computed before any is stored.
+fn given_rows<N: Names, S: Store>(
+    setting: &Setting<'_, N, S>,
+    insert: &BoundInsert,
+    table: &BaseTable,
+    meter: &mut Meter,
+) -> Result<Vec<Row>, Fault> {
+    let columns = insert.columns.as_slice();
+    match &insert.source {
+        InsertedRows::Values(values) => {
+            let row = given_values(setting, table, columns, values.as_slice())?;
+            let mut rows = Vec::new(setting.alloc);
+            rows.push(row)?;
+            Ok(rows)
+        }
+        InsertedRows::Query(query) => {
+            let rows = rows_found(setting, query, meter)?;
+            stored_rows(setting.alloc, table, columns, rows.as_slice())
+        }
+    }
+}
+
+/// The values of VALUES, each stored before the next is evaluated.
+fn given_values<N: Names, S: Store>(
+    setting: &Setting<'_, N, S>,
+    table: &BaseTable,
+    columns: &[usize],
+    values: &[BoundExpr],
+) -> Result<Row, Fault> {
+    let mut row = Items::new(setting.alloc);
+    for (column, value) in columns.iter().zip(values) {
+        row.push(stored_value(setting, table, *column, value, None)?)?;
+    }
+    Ok(row)
+}
+
+/// The rows of a query, of which there has to be one.
+fn rows_found<N: Names, S: Store>(
+    setting: &Setting<'_, N, S>,
+    query: &BoundSpecification,
+    meter: &mut Meter,
+) -> Result<Vec<Row>, Fault> {
+    let rows = specification_rows(
+        setting.alloc,
+        setting.names,
+        query,
+        setting.store,
+        setting.inputs(),
+        meter,
+    )?;
+    if rows.is_empty() {
+        return Err(Fault::Status(Status::NoData));
+    }
+    Ok(rows)
+}
+
+/// Rows as the columns store them.
+fn stored_rows(
+    alloc: Global,
+    table: &BaseTable,
+    columns: &[usize],
+    rows: &[Row],
+) -> Result<Vec<Row>, Fault> {
+    let mut stored = Vec::new(alloc);
+    for row in rows {
+        stored.push(stored_row(alloc, table, columns, row.as_slice())?)?;
+    }
+    Ok(stored)
+}
+
+/// A row as the columns store it.
+fn stored_row(
+    alloc: Global,
+    table: &BaseTable,
+    columns: &[usize],
+    row: &[Value],
+) -> Result<Row, Fault> {
+    let mut stored = Items::new(alloc);
+    for (column, value) in columns.iter().zip(row) {
+        stored.push(assigned_to(alloc, table, *column, value)?)?;
+    }
+    Ok(stored)
+}
+
+/// The new rows, with a value for each column of the table.
+fn completed_rows<N: Names, S: Store>(
+    setting: &Setting<'_, N, S>,
+    table: &BaseTable,
+    columns: &[usize],
+    given: &[Row],
+) -> Result<Vec<Change>, Fault> {
+    let mut changes = Vec::new(setting.alloc);
+    for values in given {
+        let row = new_row(setting, table, columns, values.as_slice())?;
+        changes.push(Change::Insert(row))?;
+    }
+    Ok(changes)
+}
+
+/// A new row: each column has the value that is given for it, or else its default.
+fn new_row<N: Names, S: Store>(
+    setting: &Setting<'_, N, S>,
+    table: &BaseTable,
+    columns: &[usize],
+    given: &[Value],
+) -> Result<Row, Fault> {
+    let mut row = Items::new(setting.alloc);
+    for (place, column) in table.columns.as_slice().iter().enumerate() {
+        let given = given_at(columns, given, place);
+        row.push(value_or_default(setting, column, given)?)?;
+    }
+    Ok(row)
+}
+
+/// The value that is given for the column at a place.
+fn given_at<'a>(columns: &[usize], given: &'a [Value], place: usize) -> Option<&'a Value> {
+    let position = columns.iter().position(|column| *column == place)?;
+    given.get(position)
+}
+
+/// The value that is given, or the column's default (11.5). USER is the caller.
+fn value_or_default<N: Names, S: Store>(
+    setting: &Setting<'_, N, S>,
+    column: &BaseColumn,
+    given: Option<&Value>,
+) -> Result<Value, Fault> {
+    if let Some(value) = given {
+        return Ok(value.copy(setting.alloc)?);
+    }
+    match &column.default {
+        ColumnDefault::Value(value) => Ok(value.copy(setting.alloc)?),
+        ColumnDefault::User => {
+            let user = setting.value(&BoundExpr::User, None)?;
+            assigned(setting.alloc, column.domain, &user)
+        }
+    }
+}

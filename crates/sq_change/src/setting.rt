@@ -1,0 +1,87 @@
+//! What a statement reads.
+
+ghost use Rattle.std.specs.Prelude.{◌≡◌};
+
+use sq_bound::{BaseTable, BoundCond, BoundExpr, Leaf, Names, TableBody, TablePlace};
+use sq_lex::Name;
+use sq_query::{Fault, Inputs, truth_of, value_of};
+use sq_store::Store;
+use sq_value::{Row, Truth, Value};
+use std::alloc::Global;
+
+/// What a statement reads: what names mean, the tables as they are before it, and its inputs.
+#[derive(Drop)]
+pub(crate) struct Setting<'a, N: Names, S: Store> {
+    pub(crate) alloc: Global,
+    pub(crate) names: &'a N,
+    pub(crate) store: &'a S,
+    user: Name,
+    parameters: &'a [Value],
+}
+
+impl<'a, N: Names, S: Store> Setting<'a, N, S> {
+    pub(crate) fn new(
+        alloc: Global,
+        names: &'a N,
+        store: &'a S,
+        user: Name,
+        parameters: &'a [Value],
+    ) -> Setting<'a, N, S>
+        ensures { result.store.now ≡ store.now }
+    {
+        Setting {
+            alloc,
+            names,
+            store,
+            user,
+            parameters,
+        }
+    }
+
+    /// The user and the parameters' values.
+    pub(crate) fn inputs(&self) -> Inputs<'a> {
+        Inputs {
+            user: self.user,
+            parameters: self.parameters,
+        }
+    }
+
+    /// The value of an expression, which may read a row of a base table.
+    pub(crate) fn value(&self, expr: &BoundExpr, row: Option<&Row>) -> Result<Value, Fault> {
+        value_of(self.alloc, self.names, expr, row, self.store, self.inputs())
+    }
+
+    /// Whether a condition holds of a row of a base table.
+    pub(crate) fn truth(&self, condition: &BoundCond, row: &Row) -> Result<Truth, Fault> {
+        truth_of(
+            self.alloc,
+            self.names,
+            condition,
+            row,
+            self.store,
+            self.inputs(),
+        )
+    }
+}
+
+/// The base table at a place.
+pub(crate) fn base_table<N: Names>(names: &N, place: usize) -> Result<&BaseTable, Fault> {
+    let Some(table) = names.at(TablePlace::Base(place)) else {
+        return Err(Fault::NOT_WELL_FORMED);
+    };
+    match &table.body {
+        TableBody::Base(base) => Ok(base),
+        TableBody::View(_) => Err(Fault::NOT_WELL_FORMED),
+    }
+}
+
+/// What is under a table that may be changed.
+pub(crate) fn leaf_of<N: Names>(names: &N, place: TablePlace) -> Result<&Leaf, Fault> {
+    let Some(table) = names.at(place) else {
+        return Err(Fault::NOT_WELL_FORMED);
+    };
+    match &table.leaf {
+        Some(leaf) => Ok(leaf),
+        None => Err(Fault::NOT_WELL_FORMED),
+    }
+}

@@ -1,0 +1,81 @@
+//! Values as the columns of a base table store them (ISO/IEC 9075:1992, 9.2).
+
+ghost use Rattle.std.specs.Prelude.{◌≡◌, IsTrue};
+ghost use Rattle.sq_value.specs.Domain.{FitsKind, IsDomain, is_of_numbers};
+
+use crate::setting::Setting;
+use sq_bound::{BaseTable, BoundExpr, Names};
+use sq_query::Fault;
+use sq_store::Store;
+use sq_value::{Domain, Row, Value, store};
+use std::alloc::Global;
+
+/// The value of an expression as a column stores it.
+pub(crate) fn stored_value<N: Names, S: Store>(
+    setting: &Setting<'_, N, S>,
+    table: &BaseTable,
+    column: usize,
+    expr: &BoundExpr,
+    row: Option<&Row>,
+) -> Result<Value, Fault> {
+    let value = setting.value(expr, row)?;
+    assigned_to(setting.alloc, table, column, &value)
+}
+
+/// A value as a column stores it.
+pub(crate) fn assigned_to(
+    alloc: Global,
+    table: &BaseTable,
+    column: usize,
+    value: &Value,
+) -> Result<Value, Fault> {
+    match table.columns.as_slice().get(column) {
+        Some(column) => assigned(alloc, column.domain, value),
+        None => Err(Fault::NOT_WELL_FORMED),
+    }
+}
+
+/// A value as a domain stores it.
+pub fn assigned(alloc: Global, domain: Domain, value: &Value) -> Result<Value, Fault> {
+    if !is_domain(domain) || !fits_kind(domain, value) {
+        return Err(Fault::NOT_WELL_FORMED);
+    }
+    match store(alloc, value, domain) {
+        Ok(stored) => Ok(stored),
+        Err(fault) => Err(Fault::from(fault)),
+    }
+}
+
+/// Whether a precision, scale or length is in its range.
+pub fn is_domain(domain: Domain) -> bool
+    ensures { IsTrue result → IsDomain domain }
+{
+    match domain {
+        Domain::Small | Domain::Int => true,
+        Domain::Numeric(precision, scale) => {
+            1 <= precision && precision <= 18 && scale <= precision
+        }
+        Domain::Char(length) | Domain::VarChar(length) => 1 <= length && length <= 240,
+    }
+}
+
+/// Whether the value is null, a number for a domain of numbers, or a text for one of texts.
+pub fn fits_kind(domain: Domain, value: &Value) -> bool
+    ensures { IsTrue result → FitsKind domain value.now }
+{
+    match value {
+        Value::Null => true,
+        Value::Num(_) => is_of_numbers(domain),
+        Value::Chars(_) => !is_of_numbers(domain),
+    }
+}
+
+/// Whether the domain is one of numbers.
+fn is_of_numbers(domain: Domain) -> bool
+    ensures { result ≡ is_of_numbers domain }
+{
+    match domain {
+        Domain::Small | Domain::Int | Domain::Numeric(_, _) => true,
+        Domain::Char(_) | Domain::VarChar(_) => false,
+    }
+}

@@ -1,0 +1,138 @@
+//! The rows that UPDATE and DELETE change (ISO/IEC 9075:1992, 13.6, 13.7, 13.9 and 13.10).
+
+ghost use Rattle.std.specs.Prelude.{◌<◌, length};
+
+use crate::setting::Setting;
+use crate::storing::stored_value;
+use sq_bound::{BaseTable, BoundAssignment, ChangeTarget, Names, TablePlace};
+use sq_items::Items;
+use sq_meaning::Status;
+use sq_query::{Fault, numbers_of};
+use sq_store::{Change, Meter, Store};
+use sq_value::{Row, copy_row};
+use std::alloc::Global;
+
+/// The table that a statement names, and the place of the base table under it.
+pub(crate) fn changed_table(target: &ChangeTarget) -> (TablePlace, usize) {
+    match target {
+        ChangeTarget::Searched(target) => (target.table, target.base),
+        ChangeTarget::Positioned(target) => (target.table, target.base),
+    }
+}
+
+/// The numbers of the rows: of those that the search condition keeps, of which there has to be one, or of the row that a
+/// cursor is on.
+pub(crate) fn numbers_changed<N: Names, S: Store>(
+    setting: &Setting<'_, N, S>,
+    target: &ChangeTarget,
+    on: Option<u64>,
+    meter: &mut Meter,
+) -> Result<Vec<u64>, Fault> {
+    match target {
+        ChangeTarget::Searched(target) => {
+            let numbers = numbers_of(
+                setting.alloc,
+                setting.names,
+                target,
+                setting.store,
+                setting.inputs(),
+                meter,
+            )?;
+            if numbers.is_empty() {
+                return Err(Fault::Status(Status::NoData));
+            }
+            Ok(numbers)
+        }
+        ChangeTarget::Positioned(_) => only(setting.alloc, on),
+    }
+}
+
+/// The number of the row that a cursor is on.
+fn only(alloc: Global, on: Option<u64>) -> Result<Vec<u64>, Fault> {
+    let Some(number) = on else {
+        return Err(Fault::NOT_WELL_FORMED);
+    };
+    let mut numbers = Vec::new(alloc);
+    numbers.push(number)?;
+    Ok(numbers)
+}
+
+/// The rows under these numbers after the set clauses.
+pub(crate) fn replaced<N: Names, S: Store>(
+    setting: &Setting<'_, N, S>,
+    table: &BaseTable,
+    place: usize,
+    assignments: &[BoundAssignment],
+    numbers: &[u64],
+) -> Result<Vec<Change>, Fault>
+    requires { place < length (S.content_now setting.now.store.now) }
+{
+    let mut changes = Vec::new(setting.alloc);
+    let mut meter = Meter::new();
+    for number in numbers {
+        if let Some(row) = setting.store.row(place, *number, &mut meter) {
+            let row = updated_row(setting, table, assignments, row)?;
+            changes.push(Change::Replace(*number, row))?;
+        }
+    }
+    Ok(changes)
+}
+
+/// A row after the set clauses, which read the values before.
+fn updated_row<N: Names, S: Store>(
+    setting: &Setting<'_, N, S>,
+    table: &BaseTable,
+    assignments: &[BoundAssignment],
+    row: &Row,
+) -> Result<Row, Fault> {
+    let mut updated = copy_row(setting.alloc, row.as_slice())?.into_vec();
+    for assignment in assignments {
+        let column = assignment.column;
+        let value = stored_value(setting, table, column, &assignment.value, Some(row))?;
+        match updated.get_mut(column) {
+            Some(place) => *place = value,
+            None => return Err(Fault::NOT_WELL_FORMED),
+        }
+    }
+    Ok(Items::from_vec(updated))
+}
+
+/// The removal of the rows under these numbers.
+pub(crate) fn removed(alloc: Global, numbers: &[u64]) -> Result<Vec<Change>, Fault> {
+    let mut changes = Vec::new(alloc);
+    for number in numbers {
+        changes.push(Change::Remove(*number))?;
+    }
+    Ok(changes)
+}
+
+/// The keys of which rows lose their values where a set clause assigns a column of them.
+pub(crate) fn keys_assigned(
+    alloc: Global,
+    table: &BaseTable,
+    assignments: &[BoundAssignment],
+) -> Result<Vec<usize>, Fault> {
+    let mut keys = Vec::new(alloc);
+    for (key, columns) in table.keys.as_slice().iter().enumerate() {
+        if is_assigned(columns.as_slice(), assignments) {
+            keys.push(key)?;
+        }
+    }
+    Ok(keys)
+}
+
+/// Whether a set clause assigns one of the columns.
+fn is_assigned(columns: &[usize], assignments: &[BoundAssignment]) -> bool {
+    assignments
+        .iter()
+        .any(|assignment| columns.contains(&assignment.column))
+}
+
+/// All keys of a table.
+pub(crate) fn all_keys(alloc: Global, table: &BaseTable) -> Result<Vec<usize>, Fault> {
+    let mut keys = Vec::new(alloc);
+    for key in 0..table.keys.len() {
+        keys.push(key)?;
+    }
+    Ok(keys)
+}

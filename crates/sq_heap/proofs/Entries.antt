@@ -1,0 +1,66 @@
+-- The indexes of a table, and the entries of one of them.
+use Rattle.std.proofs.Common.{◌≡◌, ℕ, zero, suc, ◌+◌, ◌<◌, Bool, true, List, [], ◌∷◌, length, take, get_or, slice_set, arith, refl, sym, ap, ◌∙◌}
+use Rattle.std.specs.List.{list_all, fold}
+use Rattle.std.specs.Cmp.Lexicographic.{pointwise}
+use Rattle.std.specs.Hash.{items_Alike}
+use Rattle.std.specs.Hash.FoldHasher as folding
+use Rattle.sq_value.specs.Comparison.{is_same}
+use Rattle.sq_value.specs.Key.{in_columns}
+use Rattle.sq_value.specs.laws.ValueOrder.{same_fed}
+use Rattle.sq_value.specs.declared.value.Value.{Value}
+use Rattle.sq_store.specs.Keys.{Keys}
+use Rattle.sq_heap.specs.Index.{columns_of, has_entry, hash_of, is_in, keys_of}
+use Rattle.sq_heap.specs.declared.index.Index.{Index}
+use Rattle.sq_heap.proofs.Holds.{both, left_of, right_of}
+
+-- keys that are the same have one hash
+pub same_hash : (key other : List Value) → pointwise is_same key other ≡ true → hash_of key ≡ hash_of other
+same_hash key other h = ap (λ (ws : List (List ℕ)). folding.finish (fold folding.write folding.initial ws)) ((items_Alike (record { fed = same_fed })).fed key other h)
+
+-- an index that keeps its entries
+pub in_keeps : (x y : Index) → y.columns ≡ x.columns → ((hash place : ℕ) → has_entry x.buckets.items hash place ≡ true → has_entry y.buckets.items hash place ≡ true)
+    → (row : List Value) (at : ℕ) → is_in x row at ≡ true → is_in y row at ≡ true
+in_keeps x y e keeps row at h =
+    ap (λ (c : List ℕ). has_entry y.buckets.items (hash_of (in_columns row c)) at) e ∙ keeps (hash_of (in_columns row x.columns)) at h
+
+-- ---- one of them is another
+
+pub keys_set : (xs : List Index) (i : ℕ) (x y : Index) → i < length xs → x ≡ get_or xs i x → y.columns ≡ x.columns → keys_of (slice_set xs i y) ≡ keys_of xs
+keys_set [] i x y lt e same = refl
+keys_set (z ∷ xs) zero x y lt e same = ap (λ (c : List ℕ). c ∷ keys_of xs) (same ∙ ap columns_of e)
+keys_set (z ∷ xs) (suc i) x y lt e same = ap (λ (ks : Keys). z.columns ∷ ks) (keys_set xs i x y (omega arith) e same)
+
+pub all_set : (P : Index → Bool) (xs : List Index) (i : ℕ) (x y : Index) → i < length xs → x ≡ get_or xs i x → (P x ≡ true → P y ≡ true) → list_all P xs ≡ true → list_all P (slice_set xs i y) ≡ true
+all_set P [] i x y lt e keeps h = refl
+all_set P (z ∷ xs) zero x y lt e keeps h = both (keeps (ap P e ∙ left_of (P z) (list_all P xs) h)) (right_of (P z) (list_all P xs) h)
+all_set P (z ∷ xs) (suc i) x y lt e keeps h = both (left_of (P z) (list_all P xs) h) (all_set P xs i x y (omega arith) e keeps (right_of (P z) (list_all P xs) h))
+
+pub all_taken : (P : Index → Bool) (xs : List Index) (i : ℕ) (y : Index) → list_all P (take i xs) ≡ true → P y ≡ true → list_all P (take (i + 1) (slice_set xs i y)) ≡ true
+all_taken P xs i y h p = let k : i + 1 ≡ suc i = omega arith in ap (λ (m : ℕ). list_all P (take m (slice_set xs i y))) k ∙ one_more xs i h
+  where
+    one_more : (xs : List Index) (i : ℕ) → list_all P (take i xs) ≡ true → list_all P (take (suc i) (slice_set xs i y)) ≡ true
+    one_more [] i h = refl
+    one_more (z ∷ xs) zero h = both p refl
+    one_more (z ∷ xs) (suc i) h = both (left_of (P z) (list_all P (take i xs)) h) (one_more xs i (right_of (P z) (list_all P (take i xs)) h))
+
+pub all_at : (P : Index → Bool) (xs : List Index) (i : ℕ) (x : Index) → i < length xs → x ≡ get_or xs i x → list_all P xs ≡ true → P x ≡ true
+all_at P [] i x lt e h = absurd (omega arith)
+all_at P (z ∷ xs) zero x lt e h = ap P e ∙ left_of (P z) (list_all P xs) h
+all_at P (z ∷ xs) (suc i) x lt e h = all_at P xs i x (omega arith) e (right_of (P z) (list_all P xs) h)
+
+pub all_put : (P : Index → Bool) (xs : List Index) (i : ℕ) (y : Index) → list_all P xs ≡ true → P y ≡ true → list_all P (slice_set xs i y) ≡ true
+all_put P [] i y h p = refl
+all_put P (z ∷ xs) zero y h p = both p (right_of (P z) (list_all P xs) h)
+all_put P (z ∷ xs) (suc i) y h p = both (left_of (P z) (list_all P xs) h) (all_put P xs i y (right_of (P z) (list_all P xs) h) p)
+
+pub length_put : (xs : List Index) (i : ℕ) (y : Index) → length (slice_set xs i y) ≡ length xs
+length_put [] i y = refl
+length_put (z ∷ xs) zero y = refl
+length_put (z ∷ xs) (suc i) y = ap suc (length_put xs i y)
+
+pub length_keys : (xs : List Index) → length (keys_of xs) ≡ length xs
+length_keys [] = refl
+length_keys (z ∷ xs) = ap suc (length_keys xs)
+
+pub same_length : (xs ys : List Index) → keys_of ys ≡ keys_of xs → length ys ≡ length xs
+same_length xs ys e = sym (length_keys ys) ∙ ap length e ∙ length_keys xs

@@ -1,0 +1,162 @@
+-- Rows found through an index, and whether they share its key.
+use Rattle.std.proofs.Common.{◌≡◌, ℕ, zero, suc, ◌+◌, ◌<◌, Bool, true, false, not, nat_eq, find, List, [], ◌∷◌, length, get_or, slice_index_or, if◌then◌else◌, Some, None, arith, refl, sym, ap, ◌∙◌}
+use Rattle.std.specs.List.{list_all, list_any}
+use Rattle.std.proofs.lemmas.Bool.{false≢true}
+use Rattle.std.proofs.lemmas.Grind.{common_steps}
+use Rattle.std.specs.Cmp.Lexicographic.{lists_equiv, pointwise}
+use Rattle.sq_value.specs.Comparison.{is_same}
+use Rattle.sq_value.specs.Key.{in_columns}
+use Rattle.sq_value.specs.laws.ValueOrder.{same_equiv}
+use Rattle.sq_value.specs.declared.value.Value.{Value}
+use Rattle.sq_store.specs.Keys.{are_distinct, has_columns, has_key}
+use Rattle.sq_heap.specs.Alone.{is_alone, slots_have}
+use Rattle.sq_heap.specs.Index.{bucket_of, columns_of, enters, has_entry, hash_of, in_all, is_entry, is_in, keys_of, named, names_key, names_other, slot_has_key, slots_hold}
+use Rattle.sq_heap.specs.Slots.{Slot, rows_from, slot_at}
+use Rattle.sq_heap.specs.declared.index.Entry.{Entry}
+use Rattle.sq_heap.specs.declared.index.Index.{Index}
+use Rattle.sq_heap.proofs.Columns.{columns_of_slot}
+use Rattle.sq_heap.proofs.Distinct.{alone_at, alone_from, apart_from_distinct, by_test, not_true, or_left, or_rest, or_right, same_from}
+use Rattle.sq_heap.proofs.Holds.{both, holds_at, left_of, right_of, slots_give}
+use Rattle.sq_heap.proofs.Entries.{same_hash}
+
+-- ---- one of the indexes
+
+pub of_index : (P : List ℕ → Bool) (xs : List Index) (i : ℕ) (x : Index) → i < length xs → x ≡ get_or xs i x → list_all P (keys_of xs) ≡ true → P x.columns ≡ true
+of_index P [] i x lt e h = absurd (omega arith)
+of_index P (z ∷ xs) zero x lt e h = ap (λ (y : Index). P y.columns) e ∙ left_of (P z.columns) (list_all P (keys_of xs)) h
+of_index P (z ∷ xs) (suc i) x lt e h = of_index P xs i x (omega arith) e (right_of (P z.columns) (list_all P (keys_of xs)) h)
+
+pub columns_at_index : (xs : List Index) (i : ℕ) (x : Index) → i < length xs → x ≡ get_or xs i x → slice_index_or (keys_of xs) i [] ≡ x.columns
+columns_at_index [] i x lt e = absurd (omega arith)
+columns_at_index (z ∷ xs) zero x lt e = ap columns_of (sym e)
+columns_at_index (z ∷ xs) (suc i) x lt e = columns_at_index xs i x (omega arith) e
+
+-- each has the entries that all have
+pub each_holds : (xs : List Index) (ss : List Slot) → slots_hold (in_all xs) 0 ss ≡ true → list_all (enters ss) xs ≡ true
+each_holds [] ss h = refl
+each_holds (z ∷ xs) ss h =
+    both (slots_give (in_all (z ∷ xs)) (is_in z) (λ r k t. left_of (is_in z r k) (in_all xs r k) t) 0 ss h)
+    (each_holds xs ss (slots_give (in_all (z ∷ xs)) (in_all xs) (λ r k t. right_of (is_in z r k) (in_all xs r k) t) 0 ss h))
+
+-- ---- an entry and its slot
+
+pub slot_of_named : (ss : List Slot) (hash : ℕ) (e : Entry) (q : List Value) → named ss hash e ≡ Some q → slot_at ss e.at ≡ Some q
+slot_of_named ss hash e q h = by_test (nat_eq e.hash hash)
+    (λ t. ap (λ (b : Bool). if b then slot_at ss e.at else None) (sym t) ∙ h)
+    (λ f. let none : None ≡ Some q = ap (λ (b : Bool). if b then slot_at ss e.at else None) (sym f) ∙ h in cc)
+
+pub columns_of_named : (columns : List ℕ) (ss : List Slot) (hash : ℕ) (e : Entry) (q : List Value) → slots_have columns ss ≡ true → named ss hash e ≡ Some q → has_columns columns q ≡ true
+columns_of_named columns ss hash e q h n = columns_of_slot columns ss e.at q h (slot_of_named ss hash e q n)
+
+-- an entry of a row with the key names it
+is_named : (columns : List ℕ) (key : List Value) (ss : List Slot) (hash j : ℕ) (q : List Value) (e : Entry) → slot_at ss j ≡ Some q → pointwise is_same key (in_columns q columns) ≡ true → is_entry hash j e ≡ true → names_key columns key ss hash e ≡ true
+is_named columns key ss hash j q e s same h =
+    let under : nat_eq e.hash hash ≡ true = left_of (nat_eq e.hash hash) (nat_eq e.at j) h in
+    let place : nat_eq e.at j ≡ true = right_of (nat_eq e.hash hash) (nat_eq e.at j) h in
+    let at : e.at ≡ j = grind (arith, common_steps) in
+    ap (λ (b : Bool). slot_has_key columns key (if b then slot_at ss e.at else None)) under
+    ∙ ap (λ (k : ℕ). slot_has_key columns key (slot_at ss k)) at ∙ ap (slot_has_key columns key) s ∙ same
+
+names_one : (columns : List ℕ) (key : List Value) (ss : List Slot) (hash j : ℕ) (q : List Value) (es : List Entry) → slot_at ss j ≡ Some q → pointwise is_same key (in_columns q columns) ≡ true → list_any (is_entry hash j) es ≡ true → list_any (names_key columns key ss hash) es ≡ true
+names_one columns key ss hash j q [] s same h = cc
+names_one columns key ss hash j q (e ∷ es) s same h = by_test (is_entry hash j e)
+    (λ t. or_left (names_key columns key ss hash e) (list_any (names_key columns key ss hash) es) (is_named columns key ss hash j q e s same t))
+    (λ f. or_right (names_key columns key ss hash e) (list_any (names_key columns key ss hash) es) (names_one columns key ss hash j q es s same (or_rest (is_entry hash j e) (list_any (is_entry hash j) es) f h)))
+
+names_another : (columns : List ℕ) (key : List Value) (at : ℕ) (ss : List Slot) (hash j : ℕ) (q : List Value) (es : List Entry) → nat_eq j at ≡ false → slot_at ss j ≡ Some q → pointwise is_same key (in_columns q columns) ≡ true → list_any (is_entry hash j) es ≡ true → list_any (names_other columns key at ss hash) es ≡ true
+names_another columns key at ss hash j q [] other s same h = cc
+names_another columns key at ss hash j q (e ∷ es) other s same h = by_test (is_entry hash j e)
+    (λ t.
+    let place : nat_eq e.at j ≡ true = right_of (nat_eq e.hash hash) (nat_eq e.at j) t in
+    let same_place : e.at ≡ j = grind (arith, common_steps) in
+    let elsewhere : not (nat_eq e.at at) ≡ true = ap (λ (k : ℕ). not (nat_eq k at)) same_place ∙ ap not other in
+    or_left (names_other columns key at ss hash e) (list_any (names_other columns key at ss hash) es) (both elsewhere (is_named columns key ss hash j q e s same t)))
+    (λ f. or_right (names_other columns key at ss hash e) (list_any (names_other columns key at ss hash) es) (names_another columns key at ss hash j q es other s same (or_rest (is_entry hash j e) (list_any (is_entry hash j) es) f h)))
+
+row_of_slot : (columns : List ℕ) (key : List Value) (s : Slot) → slot_has_key columns key s ≡ true → (q : List Value) × (s ≡ Some q) × (pointwise is_same key (in_columns q columns) ≡ true)
+row_of_slot columns key None h = cc
+row_of_slot columns key (Some q) h = (q, refl, h)
+
+not_false : (a : Bool) → not a ≡ true → a ≡ false
+not_false true h = cc
+not_false false h = refl
+
+other_row : (columns : List ℕ) (key : List Value) (at : ℕ) (ss : List Slot) (hash : ℕ) (es : List Entry) → list_any (names_other columns key at ss hash) es ≡ true
+    → (j : ℕ) × (q : List Value) × (nat_eq j at ≡ false) × (slot_at ss j ≡ Some q) × (pointwise is_same key (in_columns q columns) ≡ true)
+other_row columns key at ss hash [] h = cc
+other_row columns key at ss hash (e ∷ es) h = by_test (names_other columns key at ss hash e)
+    (λ t.
+    let found = row_of_slot columns key (named ss hash e) (right_of (not (nat_eq e.at at)) (names_key columns key ss hash e) t) in
+    (e.at, found.0, not_false (nat_eq e.at at) (left_of (not (nat_eq e.at at)) (names_key columns key ss hash e) t), slot_of_named ss hash e found.0 found.1, found.2))
+    (λ f. other_row columns key at ss hash es (or_rest (names_other columns key at ss hash e) (list_any (names_other columns key at ss hash) es) f h))
+
+-- ---- a row in a slot has its entry under the hash of a key that is the same
+
+entry_under : (index : Index) (key : List Value) (ss : List Slot) (hash j : ℕ) (q : List Value) → hash ≡ hash_of key → slots_hold (is_in index) 0 ss ≡ true → slot_at ss j ≡ Some q → pointwise is_same key (in_columns q index.columns) ≡ true
+    → list_any (is_entry hash j) (bucket_of index.buckets.items hash) ≡ true
+entry_under index key ss hash j q e h s same =
+    let under : hash ≡ hash_of (in_columns q index.columns) = e ∙ same_hash key (in_columns q index.columns) same in
+    let k : j ≡ 0 + j = omega arith in
+    ap (λ (n : ℕ). has_entry index.buckets.items n j) under ∙ ap (is_in index q) k ∙ holds_at (is_in index) 0 ss j q h s
+
+-- ---- no row with a key
+
+no_key : (columns : List ℕ) (key : List Value) (n : ℕ) (ss : List Slot) → ((j : ℕ) (q : List Value) → slot_at ss j ≡ Some q → pointwise is_same key (in_columns q columns) ≡ false) → find (has_key columns key) (rows_from n ss) ≡ None
+no_key columns key n [] f = refl
+no_key columns key n (None ∷ ss) f = no_key columns key (n + 1) ss (λ j q e. f (suc j) q e)
+no_key columns key n (Some r ∷ ss) f =
+    let here : pointwise is_same key (in_columns r columns) ≡ false = f 0 r refl in
+    let rest : find (has_key columns key) (rows_from (n + 1) ss) ≡ None = no_key columns key (n + 1) ss (λ j q e. f (suc j) q e) in
+    grind (arith, common_steps)
+
+pub none_with : (index : Index) (key : List Value) (ss : List Slot) (hash : ℕ) → hash ≡ hash_of key → slots_hold (is_in index) 0 ss ≡ true → list_any (names_key index.columns key ss hash) (bucket_of index.buckets.items hash) ≡ false
+    → find (has_key index.columns key) (rows_from 1 ss) ≡ None
+none_with index key ss hash e h none = no_key index.columns key 1 ss (λ j q s. not_true (pointwise is_same key (in_columns q index.columns)) (λ same.
+    let some : list_any (names_key index.columns key ss hash) (bucket_of index.buckets.items hash) ≡ true
+    = names_one index.columns key ss hash j q (bucket_of index.buckets.items hash) s same (entry_under index key ss hash j q e h s same) in
+    false≢true (sym none ∙ some)))
+
+-- ---- the row with a key
+
+both_same : (columns : List ℕ) (key r q : List Value) → pointwise is_same key r ≡ true → pointwise is_same key q ≡ true → pointwise is_same r q ≡ true
+both_same columns key r q h k = sym ((lists_equiv same_equiv).congr key r q h) ∙ k
+
+pub found_with : (columns : List ℕ) (key : List Value) (n : ℕ) (ss : List Slot) (j : ℕ) (q : List Value) (number : ℕ) → number ≡ n + j → are_distinct columns (rows_from n ss) ≡ true → slot_at ss j ≡ Some q → pointwise is_same key (in_columns q columns) ≡ true
+    → find (has_key columns key) (rows_from n ss) ≡ Some (record { number = number; row = q })
+found_with columns key n [] j q number e h s same = cc
+found_with columns key n (None ∷ ss) zero q number e h s same = cc
+found_with columns key n (None ∷ ss) (suc j) q number e h s same = found_with columns key (n + 1) ss j q number (omega arith) h s same
+found_with columns key n (Some r ∷ ss) zero q number e h s same =
+    let row : r ≡ q = cc in
+    let here : pointwise is_same key (in_columns r columns) ≡ true = ap (λ (x : List Value). pointwise is_same key (in_columns x columns)) row ∙ same in
+    grind (arith, common_steps)
+found_with columns key n (Some r ∷ ss) (suc j) q number e h s same =
+    let other : pointwise is_same key (in_columns r columns) ≡ false
+    = not_true (pointwise is_same key (in_columns r columns)) (λ t.
+    let k : 0 ≡ suc j = apart_from_distinct columns n (Some r ∷ ss) h 0 (suc j) r q refl s (both_same columns key (in_columns r columns) (in_columns q columns) t same) in absurd (omega arith)) in
+    let rest : find (has_key columns key) (rows_from (n + 1) ss) ≡ Some (record { number = number; row = q })
+    = found_with columns key (n + 1) ss j q number (omega arith) (right_of (not (list_any (has_key columns (in_columns r columns)) (rows_from (n + 1) ss))) (are_distinct columns (rows_from (n + 1) ss)) h) s same in
+    grind (arith, common_steps)
+
+-- ---- a row that shares its key with no other
+
+pub alone_in : (index : Index) (row : List Value) (at : ℕ) (ss : List Slot) (hash : ℕ) → hash ≡ hash_of (in_columns row index.columns) → slots_hold (is_in index) 0 ss ≡ true
+    → not (list_any (names_other index.columns (in_columns row index.columns) at ss hash) (bucket_of index.buckets.items hash)) ≡ is_alone index.columns row at 0 ss
+alone_in index row at ss hash e h =
+    let columns = index.columns in
+    let key = in_columns row index.columns in
+    let es = bucket_of index.buckets.items hash in
+    let any = list_any (names_other index.columns (in_columns row index.columns) at ss hash) (bucket_of index.buckets.items hash) in
+    same_from (not any) (is_alone columns row at 0 ss)
+    (λ none. alone_from columns row at 0 ss (λ j q s same. by_test (nat_eq j at)
+    (λ t. let k : 0 + j ≡ at = grind (arith, common_steps) in k)
+    (λ f.
+    let some : any ≡ true = names_another columns key at ss hash j q es f s same (entry_under index key ss hash j q e h s same) in
+    absurd (false≢true (sym (not_false any none) ∙ some)))))
+    (λ alone. by_test any
+    (λ some.
+    let found = other_row columns key at ss hash es some in
+    let k : 0 + found.0 ≡ at = alone_at columns row at 0 ss found.0 found.1 alone found.3 found.4 in
+    let same : nat_eq found.0 at ≡ true = grind (arith, common_steps) in
+    absurd (false≢true (sym found.2 ∙ same)))
+    (λ none. ap not none))

@@ -1,0 +1,93 @@
+//! The indexes of a table, and how they get their entries.
+
+ghost use Rattle.std.specs.Prelude.{◌≡◌, ℕ, List, true, IfOk, OnOk};
+ghost use Rattle.sq_value.specs.declared.value.Value.{Value as SqlValue};
+ghost use Rattle.sq_heap.specs.Index.{in_all, is_in, keys_of, slot_holds, slots_hold, undo_holds};
+
+use crate::index::Index;
+use crate::undo::Undo;
+use sq_items::Items;
+use sq_value::{Row, Value};
+use std::alloc::{AllocError, Global};
+
+/// An index without entries for each key.
+pub(crate) fn empty_indexes(alloc: Global, keys: &[Items<usize>]) -> Result<Vec<Index>, AllocError>
+    ensures { IfOk result (λ indexes. keys_of indexes.items ≡ keys.now) }
+{
+    let mut indexes = Vec::new(alloc);
+    for columns in keys {
+        let columns = Items::from_slice(alloc, columns.as_slice())?;
+        indexes.push(Index::new(alloc, columns, 0)?)?;
+    }
+    Ok(indexes)
+}
+
+/// An index with room for so many entries, and with those of the rows in slots and of the rows that undoing brings back.
+pub(crate) fn index_of(
+    alloc: Global,
+    columns: Items<usize>,
+    count: usize,
+    slots: &[Option<Row>],
+    undo: &[Undo],
+) -> Result<Index, AllocError>
+    ensures columns { IfOk result (λ index. index.columns ≡ columns) }
+    ensures slots { IfOk result (λ index. slots_hold (is_in index) 0 slots.now ≡ true) }
+    ensures undo { IfOk result (λ index. undo_holds (is_in index) undo.now ≡ true) }
+{
+    let mut index = Index::new(alloc, columns, count)?;
+    enter_slots(&mut index, slots)?;
+    enter_undo(&mut index, undo)?;
+    Ok(index)
+}
+
+/// Adds an entry for the row in a slot, if there is one.
+#[tactic(auto, using(crate::proofs::Entries::in_keeps))]
+fn enter_slot(index: &mut Index, slot: &Option<Row>, at: usize) -> Result<(), AllocError>
+    ensures columns { index.new.columns ≡ index.old.columns }
+    ensures keeps { (row : List SqlValue) (place : ℕ) → is_in index.old row place ≡ true → is_in index.new row place ≡ true }
+    ensures entered { OnOk result (slot_holds (is_in index.new) at slot.now ≡ true) }
+{
+    match slot {
+        Some(row) => index.enter(row.as_slice(), at),
+        None => Ok(()),
+    }
+}
+
+/// Adds entries for the rows in slots.
+fn enter_slots(index: &mut Index, slots: &[Option<Row>]) -> Result<(), AllocError>
+    ensures columns { index.new.columns ≡ index.old.columns }
+    ensures entered { OnOk result (slots_hold (is_in index.new) 0 slots.now ≡ true) }
+{
+    for at in 0..slots.len() {
+        enter_slot(index, &slots[at], at)?;
+    }
+    Ok(())
+}
+
+/// Adds entries for the rows that undoing brings back.
+fn enter_undo(index: &mut Index, undo: &[Undo]) -> Result<(), AllocError>
+    ensures columns { index.new.columns ≡ index.old.columns }
+    ensures keeps { (row : List SqlValue) (place : ℕ) → is_in index.old row place ≡ true → is_in index.new row place ≡ true }
+    ensures entered { OnOk result (undo_holds (is_in index.new) undo.now ≡ true) }
+{
+    for change in undo {
+        enter_slot(index, &change.old, change.at)?;
+    }
+    Ok(())
+}
+
+/// Adds entries for a row to each index.
+pub(crate) fn enter_all(
+    indexes: &mut Vec<Index>,
+    row: &[Value],
+    at: usize,
+) -> Result<(), AllocError>
+    ensures keys { keys_of indexes.new.items ≡ keys_of indexes.old.items }
+    ensures keeps { (r : List SqlValue) (place : ℕ) → in_all indexes.old.items r place ≡ true → in_all indexes.new.items r place ≡ true }
+    ensures entered { OnOk result (in_all indexes.new.items row.now at ≡ true) }
+{
+    for place in 0..indexes.len() {
+        indexes[place].enter(row, at)?;
+    }
+    Ok(())
+}

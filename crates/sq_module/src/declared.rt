@@ -1,0 +1,105 @@
+//! Declarations of parameters (ISO/IEC 9075:1992, 12.3).
+
+use indexmap::IndexSet;
+use sq_bound::{ParameterDesc, domain_of};
+use sq_items::Items;
+use sq_lex::Name;
+use sq_tree::{BareDeclaration, Declaration, Declarations};
+use std::alloc::{AllocError, Global};
+
+/// The greatest number of named parameters (own rule).
+const MOST_PARAMETERS: usize = 64;
+
+/// The declarations in their order.
+pub(crate) fn listed(
+    alloc: Global,
+    declarations: &Declarations,
+) -> Result<Items<Declaration>, AllocError> {
+    match declarations {
+        Declarations::Bracketed(list) => bracketed(alloc, &list.first, list.rest.as_slice()),
+        Declarations::Bare(first, rest) => bare(alloc, first, rest.as_slice()),
+    }
+}
+
+fn bracketed(
+    alloc: Global,
+    first: &Declaration,
+    rest: &[Declaration],
+) -> Result<Items<Declaration>, AllocError> {
+    let mut list = Items::new(alloc);
+    list.push(*first)?;
+    for declaration in rest {
+        list.push(*declaration)?;
+    }
+    Ok(list)
+}
+
+fn bare(
+    alloc: Global,
+    first: &Declaration,
+    rest: &[BareDeclaration],
+) -> Result<Items<Declaration>, AllocError> {
+    let mut list = Items::new(alloc);
+    list.push(*first)?;
+    for bare in rest {
+        list.push(bare.declaration)?;
+    }
+    Ok(list)
+}
+
+/// Whether there is no status parameter, or one twice.
+pub(crate) fn has_bad_status(declarations: &[Declaration]) -> bool {
+    let mut codes: usize = 0;
+    let mut states: usize = 0;
+    for declaration in declarations {
+        match declaration {
+            Declaration::Sqlcode => codes = codes.saturating_add(1),
+            Declaration::Sqlstate => states = states.saturating_add(1),
+            Declaration::Parameter(..) => {}
+        }
+    }
+    (codes == 0 && states == 0) || codes > 1 || states > 1
+}
+
+/// Whether a named parameter is declared twice or of a bad type, or there are more than 64.
+pub(crate) fn has_bad_parameter(
+    alloc: Global,
+    declarations: &[Declaration],
+) -> Result<bool, AllocError> {
+    let mut names = IndexSet::new(alloc);
+    for declaration in declarations {
+        if let Declaration::Parameter(name, data_type) = declaration {
+            if !is_new(&mut names, *name)? || domain_of(data_type).is_none() {
+                return Ok(true);
+            }
+        }
+    }
+    Ok(names.len() > MOST_PARAMETERS)
+}
+
+/// Adds a name; whether it was not there.
+pub(crate) fn is_new(names: &mut IndexSet<Name>, name: Name) -> Result<bool, AllocError> {
+    match names.insert_full(name) {
+        Ok((_, is_new)) => Ok(is_new),
+        Err(_) => Err(AllocError),
+    }
+}
+
+/// The named parameters with their domains.
+pub(crate) fn parameters_of(
+    alloc: Global,
+    declarations: &[Declaration],
+) -> Result<Items<ParameterDesc>, AllocError> {
+    let mut parameters = Items::new(alloc);
+    for declaration in declarations {
+        if let Declaration::Parameter(name, data_type) = declaration {
+            if let Some(domain) = domain_of(data_type) {
+                parameters.push(ParameterDesc {
+                    name: *name,
+                    domain,
+                })?;
+            }
+        }
+    }
+    Ok(parameters)
+}

@@ -1,0 +1,13 @@
+//! Modules: which are refused, and their procedures and cursors with their names as places (ISO/IEC 9075:1992, clause 12 and
+//! 13.1).
+#![tactic(auto)]
+
+mod admission;
+mod declared;
+mod opener;
+mod program;
+mod refusal;
+
+pub use admission::admit;
+pub use program::{BoundProcedure, DeclaredCursor, Program};
+pub use refusal::{ModuleRefusal, ModuleRefusalName, SessionFault};

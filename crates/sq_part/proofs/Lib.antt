@@ -1,4 +1,0 @@
-mod Begins
-mod Levels
-mod Refusals
-mod Turns

@@ -1,0 +1,5 @@
+use Rattle.sq_value.specs.declared.domain.Kind.TheVariants.{Num}
+use Rattle.sq_query.proofs.set_function.are_of_one_scale.Goals as goal
+
+pub returns : goal.returns
+returns c = λ holds. (Num c.first_scale.result, c.are_of_scale.ensures holds)

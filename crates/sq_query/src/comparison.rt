@@ -1,0 +1,91 @@
+//! Comparison of values (ISO/IEC 9075:1992, 8.2 and 8.7).
+
+use crate::fault::Fault;
+use sq_bound::Compared;
+use sq_meaning::Status;
+use sq_tree::Comparison;
+use sq_value::{Row, Truth, Value};
+use std::cmp::Ordering;
+
+fn holds(comparison: Comparison, order: Ordering) -> bool {
+    match comparison {
+        Comparison::Equal => order.is_eq(),
+        Comparison::NotEqual => order.is_ne(),
+        Comparison::Less => order.is_lt(),
+        Comparison::Greater => order.is_gt(),
+        Comparison::LessOrEqual => order.is_le(),
+        Comparison::GreaterOrEqual => order.is_ge(),
+    }
+}
+
+/// Unknown where a value is null.
+pub(crate) fn compared(comparison: Comparison, left: &Value, right: &Value) -> Truth {
+    match left.cmp3(right) {
+        Some(order) => Truth::from(holds(comparison, order)),
+        None => Truth::Unknown,
+    }
+}
+
+/// A value compared with what a subquery of one column ended with.
+pub(crate) fn compared_with_query(
+    comparison: Comparison,
+    quantifier: Compared,
+    left: &Value,
+    rows: Result<Vec<Row>, Fault>,
+) -> Result<Truth, Fault> {
+    let rows = rows?;
+    compared_with_rows(comparison, quantifier, left, rows.as_slice())
+}
+
+/// Whether a subquery has a row.
+pub(crate) fn exists(rows: Result<Vec<Row>, Fault>) -> Result<Truth, Fault> {
+    let rows = rows?;
+    Ok(Truth::from(!rows.is_empty()))
+}
+
+fn compared_with_rows(
+    comparison: Comparison,
+    quantifier: Compared,
+    left: &Value,
+    rows: &[Row],
+) -> Result<Truth, Fault> {
+    match quantifier {
+        Compared::Scalar => compared_with_only(comparison, left, rows),
+        Compared::All => Ok(compared_with_all(comparison, left, rows)),
+        Compared::Any => Ok(compared_with_any(comparison, left, rows)),
+    }
+}
+
+/// A scalar subquery is null where it has no row, and may not have two.
+fn compared_with_only(comparison: Comparison, left: &Value, rows: &[Row]) -> Result<Truth, Fault> {
+    match rows {
+        [] => Ok(Truth::Unknown),
+        [row] => Ok(compared_with_row(comparison, left, row)),
+        _ => Err(Fault::Status(Status::CardinalityViolation)),
+    }
+}
+
+/// True on no rows.
+fn compared_with_all(comparison: Comparison, left: &Value, rows: &[Row]) -> Truth {
+    let mut so_far = Truth::True;
+    for row in rows {
+        so_far = so_far.and(compared_with_row(comparison, left, row));
+    }
+    so_far
+}
+
+/// False on no rows.
+fn compared_with_any(comparison: Comparison, left: &Value, rows: &[Row]) -> Truth {
+    let mut so_far = Truth::False;
+    for row in rows {
+        so_far = so_far.or(compared_with_row(comparison, left, row));
+    }
+    so_far
+}
+
+fn compared_with_row(comparison: Comparison, left: &Value, row: &Row) -> Truth {
+    match row.as_slice() {
+        [value, ..] => compared(comparison, left, value),
+        [] => Truth::Unknown,
+    }
+}

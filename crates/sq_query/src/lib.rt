@@ -1,0 +1,35 @@
+//! Queries and search conditions over any store: what value expressions are worth, when conditions are true, and which
+//! rows queries have (ISO/IEC 9075:1992, clauses 6 to 8 and 13.1).
+//!
+//! A bound tree could, as far as its type says, name a place, a parameter, a table or a set function that isn't there,
+//! or a number where a text must stand. Such a tree ends with the status of a rule that is broken, 42000; binding makes
+//! none.
+#![tactic(auto)]
+
+mod arithmetic;
+mod comparison;
+mod condition;
+mod context;
+mod expression;
+mod fault;
+mod found;
+mod frame;
+mod group;
+mod inputs;
+mod item;
+mod needed;
+mod order;
+mod predicate;
+mod row;
+mod select;
+mod set_function;
+mod table;
+mod target;
+mod union;
+mod view;
+
+pub use fault::Fault;
+pub use inputs::Inputs;
+pub use order::{ordered_rows, specification_rows};
+pub use row::{truth_of, value_of};
+pub use target::{is_chosen, numbers_of};

@@ -1,0 +1,168 @@
+//! Which tables a statement reads.
+
+use sq_bound::{
+    BoundCond, BoundConj, BoundQuery, BoundSpecification, BoundTerm, Grouping, Names, Predicate,
+    TableBody, TablePlace, View,
+};
+use std::alloc::{AllocError, Global};
+
+/// The places of the base tables and views that stand in FROM clauses, subqueries and views included.
+#[derive(Drop)]
+pub(crate) struct Needed {
+    pub bases: Vec<usize>,
+    pub views: Vec<usize>,
+}
+
+impl Needed {
+    pub(crate) fn new(alloc: Global) -> Needed {
+        Needed {
+            bases: Vec::new(alloc),
+            views: Vec::new(alloc),
+        }
+    }
+
+    /// The tables in the FROM clauses of a query specification.
+    pub(crate) fn of_specification(
+        alloc: Global,
+        query: &BoundSpecification,
+    ) -> Result<Needed, AllocError> {
+        let mut needed = Needed::new(alloc);
+        needed.add_of_specification(query)?;
+        Ok(needed)
+    }
+
+    /// The tables in the FROM clauses of a query expression.
+    pub(crate) fn of_query(alloc: Global, query: &BoundQuery) -> Result<Needed, AllocError> {
+        let mut needed = Needed::new(alloc);
+        needed.add_of_query(query)?;
+        Ok(needed)
+    }
+
+    /// The tables in the FROM clauses of a condition's subqueries.
+    pub(crate) fn of_condition(alloc: Global, condition: &BoundCond) -> Result<Needed, AllocError> {
+        let mut needed = Needed::new(alloc);
+        needed.add_of_condition(condition)?;
+        Ok(needed)
+    }
+
+    /// A place above those of all views.
+    pub(crate) fn view_end(&self) -> usize {
+        let mut end: usize = 0;
+        for view in self.views.as_slice() {
+            end = end.max(view.saturating_add(1));
+        }
+        end
+    }
+
+    /// Adds what the needed views need in turn. A view names only earlier ones.
+    pub(crate) fn add_of_views<N: Names>(&mut self, names: &N) -> Result<(), AllocError> {
+        for place in (0..self.view_end()).rev() {
+            if is_among(place, self.views.as_slice()) {
+                if let Some(view) = view_at(names, place) {
+                    self.add_of_specification(&view.query)?;
+                }
+            }
+        }
+        Ok(())
+    }
+
+    fn add(&mut self, table: TablePlace) -> Result<(), AllocError> {
+        match table {
+            TablePlace::Base(place) => add_place(place, &mut self.bases),
+            TablePlace::View(place) => add_place(place, &mut self.views),
+        }
+    }
+
+    #[cycle(needed_of_query)]
+    pub(crate) fn add_of_query(&mut self, query: &BoundQuery) -> Result<(), AllocError> {
+        self.add_of_term(&query.first)?;
+        for union in query.rest.as_slice() {
+            self.add_of_term(&union.term)?;
+        }
+        Ok(())
+    }
+
+    #[cycle(needed_of_query)]
+    fn add_of_term(&mut self, term: &BoundTerm) -> Result<(), AllocError> {
+        match term {
+            BoundTerm::Specification(specification) => self.add_of_specification(specification),
+            BoundTerm::Bracketed(query) => self.add_of_query(query.get()),
+        }
+    }
+
+    #[cycle(needed_of_cond)]
+    pub(crate) fn add_of_specification(
+        &mut self,
+        query: &BoundSpecification,
+    ) -> Result<(), AllocError> {
+        for table in query.from.as_slice() {
+            self.add(*table)?;
+        }
+        self.add_of_optional(&query.condition)?;
+        match &query.grouping {
+            Some(Grouping { having, .. }) => self.add_of_optional(having),
+            None => Ok(()),
+        }
+    }
+
+    #[cycle(needed_of_cond)]
+    pub(crate) fn add_of_optional(
+        &mut self,
+        condition: &Option<BoundCond>,
+    ) -> Result<(), AllocError> {
+        match condition {
+            Some(condition) => self.add_of_condition(condition),
+            None => Ok(()),
+        }
+    }
+
+    #[cycle(needed_of_cond)]
+    pub(crate) fn add_of_condition(&mut self, condition: &BoundCond) -> Result<(), AllocError> {
+        for term in condition.terms.as_slice() {
+            self.add_of_tests(term)?;
+        }
+        Ok(())
+    }
+
+    #[cycle(needed_of_cond)]
+    fn add_of_tests(&mut self, term: &BoundConj) -> Result<(), AllocError> {
+        for test in term.tests.as_slice() {
+            self.add_of_predicate(&test.predicate)?;
+        }
+        Ok(())
+    }
+
+    #[cycle(needed_of_cond)]
+    fn add_of_predicate(&mut self, predicate: &Predicate) -> Result<(), AllocError> {
+        match predicate {
+            Predicate::CompareQuery(_, _, _, query)
+            | Predicate::InQuery(_, _, query)
+            | Predicate::Exists(query) => self.add_of_specification(query.get()),
+            Predicate::Bracketed(condition) => self.add_of_condition(condition.get()),
+            _ => Ok(()),
+        }
+    }
+}
+
+/// Adds a place that isn't there yet.
+fn add_place(place: usize, places: &mut Vec<usize>) -> Result<(), AllocError> {
+    if !is_among(place, places.as_slice()) {
+        places.push(place)?;
+    }
+    Ok(())
+}
+
+pub(crate) fn is_among(place: usize, places: &[usize]) -> bool {
+    places.iter().any(|other| *other == place)
+}
+
+/// The view at a place.
+pub(crate) fn view_at<N: Names>(names: &N, place: usize) -> Option<&View> {
+    match names.at(TablePlace::View(place)) {
+        Some(table) => match &table.body {
+            TableBody::View(view) => Some(view),
+            TableBody::Base(_) => None,
+        },
+        None => None,
+    }
+}

@@ -1,0 +1,103 @@
+//! The rows of the tables that a statement reads.
+
+use crate::context::Context;
+use crate::fault::Fault;
+use sq_bound::TablePlace;
+use sq_meaning::Status;
+use sq_store::{Meter, Store};
+use sq_value::Row;
+use std::alloc::Global;
+
+/// The rows of a base table.
+#[derive(Drop)]
+pub(crate) struct BaseRows<'a> {
+    pub place: usize,
+    pub rows: Vec<&'a Row>,
+}
+
+/// The rows of a view, or the status that its query ended with.
+#[derive(Drop)]
+pub(crate) struct ViewRows {
+    pub place: usize,
+    pub rows: Vec<Row>,
+    pub status: Option<Status>,
+}
+
+/// The rows of these base tables.
+pub(crate) fn base_tables<'a, S: Store>(
+    alloc: Global,
+    store: &'a S,
+    places: &[usize],
+    meter: &mut Meter,
+) -> Result<Vec<BaseRows<'a>>, Fault> {
+    let mut tables = Vec::new(alloc);
+    for place in places {
+        tables.push(BaseRows {
+            place: *place,
+            rows: base_rows(alloc, store, *place, meter)?,
+        })?;
+    }
+    Ok(tables)
+}
+
+/// The rows of a base table, by rising numbers.
+fn base_rows<'a, S: Store>(
+    alloc: Global,
+    store: &'a S,
+    table: usize,
+    meter: &mut Meter,
+) -> Result<Vec<&'a Row>, Fault> {
+    let numbered = numbered_rows(alloc, store, table, meter)?;
+    let mut rows = Vec::new(alloc);
+    for (_, row) in numbered.as_slice() {
+        rows.push(*row)?;
+    }
+    Ok(rows)
+}
+
+/// The rows of a base table with their numbers, which rise.
+pub(crate) fn numbered_rows<'a, S: Store>(
+    alloc: Global,
+    store: &'a S,
+    table: usize,
+    meter: &mut Meter,
+) -> Result<Vec<(u64, &'a Row)>, Fault> {
+    if table >= store.table_count() {
+        return Err(Fault::NOT_WELL_FORMED);
+    }
+    let mut rows = Vec::new(alloc);
+    let mut number = 0;
+    while let Some((found, row)) = store.next_from(table, number, meter) {
+        rows.push((found, row))?;
+        number = found + 1;
+    }
+    Ok(rows)
+}
+
+/// The rows of a table or view.
+pub(crate) fn rows_at<'a>(place: TablePlace, context: &Context<'a>) -> Result<Vec<&'a Row>, Fault> {
+    match place {
+        TablePlace::Base(place) => match context.bases.iter().find(|base| base.place == place) {
+            Some(base) => Ok(Vec::from_slice(context.alloc, base.rows.as_slice())?),
+            None => Err(Fault::NOT_WELL_FORMED),
+        },
+        TablePlace::View(place) => match context.views.iter().find(|view| view.place == place) {
+            Some(view) => view.lend(context.alloc),
+            None => Err(Fault::NOT_WELL_FORMED),
+        },
+    }
+}
+
+impl ViewRows {
+    /// The rows, or the status.
+    fn lend(&self, alloc: Global) -> Result<Vec<&Row>, Fault> {
+        if let Some(status) = self.status {
+            return Err(Fault::Status(status));
+        }
+        let mut rows = Vec::new(alloc);
+        for row in self.rows.as_slice() {
+            rows.push(row)?;
+        }
+        Ok(rows)
+    }
+}

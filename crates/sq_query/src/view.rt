@@ -1,0 +1,101 @@
+//! The tables that a statement reads: its base tables, and its views, each evaluated once.
+
+use crate::condition::rows;
+use crate::context::Context;
+use crate::fault::Fault;
+use crate::needed::{Needed, is_among, view_at};
+use crate::table::{BaseRows, ViewRows, base_tables};
+use sq_bound::Names;
+use sq_lex::Name;
+use sq_store::{Meter, Store};
+use std::alloc::{AllocError, Global};
+
+/// The rows of the base tables and views that a statement reads.
+#[derive(Drop)]
+pub(crate) struct Tables<'a> {
+    pub bases: Vec<BaseRows<'a>>,
+    pub views: Vec<ViewRows>,
+}
+
+/// The rows of the tables that stand in a statement's own FROM clauses, and of those that its views read.
+pub(crate) fn tables_of<'a, N: Names, S: Store>(
+    names: &N,
+    needed: Result<Needed, AllocError>,
+    store: &'a S,
+    call: &Context<'_>,
+    meter: &mut Meter,
+) -> Result<Tables<'a>, Fault> {
+    let mut needed = needed?;
+    needed.add_of_views(names)?;
+    tables_at(names, &needed, store, call, meter)
+}
+
+fn tables_at<'a, N: Names, S: Store>(
+    names: &N,
+    needed: &Needed,
+    store: &'a S,
+    call: &Context<'_>,
+    meter: &mut Meter,
+) -> Result<Tables<'a>, Fault> {
+    let bases = base_tables(call.alloc, store, needed.bases.as_slice(), meter)?;
+    match view_tables(call.alloc, names, needed, bases.as_slice(), call.user) {
+        Ok(views) => Ok(Tables { bases, views }),
+        Err(fault) => {
+            drop(bases);
+            Err(fault)
+        }
+    }
+}
+
+/// The rows of the needed views. A view names only earlier ones, so they are evaluated by rising places. What a view
+/// shows depends on the tables and the user alone, and on no parameter and no query around.
+fn view_tables<N: Names>(
+    alloc: Global,
+    names: &N,
+    needed: &Needed,
+    bases: &[BaseRows<'_>],
+    user: Name,
+) -> Result<Vec<ViewRows>, Fault> {
+    let mut views = Vec::new(alloc);
+    for place in 0..needed.view_end() {
+        if is_among(place, needed.views.as_slice()) {
+            let view = view_rows(alloc, names, place, user, &*bases, views.as_slice())?;
+            views.push(view)?;
+        }
+    }
+    Ok(views)
+}
+
+/// The rows of a view, or the status that its query ends with. Only what a statement then reads delivers the status.
+fn view_rows<'a, N: Names>(
+    alloc: Global,
+    names: &'a N,
+    place: usize,
+    user: Name,
+    bases: &'a [BaseRows<'a>],
+    views: &'a [ViewRows],
+) -> Result<ViewRows, Fault> {
+    let Some(view) = view_at(names, place) else {
+        return Err(Fault::NOT_WELL_FORMED);
+    };
+    let context = Context {
+        alloc,
+        user,
+        parameters: &[],
+        bases,
+        views,
+    };
+    match rows(&view.query, None, &context) {
+        Ok(rows) => Ok(ViewRows {
+            place,
+            rows,
+            status: None,
+        }),
+        Err(Fault::Status(status)) => Ok(ViewRows {
+            place,
+            rows: Vec::new(alloc),
+            status: Some(status),
+        }),
+        Err(Fault::NoMemory) => Err(Fault::NoMemory),
+    }
+}

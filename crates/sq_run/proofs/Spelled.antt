@@ -1,0 +1,71 @@
+-- Texts and the trees that they spell, one by one.
+use Rattle.std.proofs.Common.{◌≡◌, ℕ, zero, suc, ◌+◌, ◌<◌, ◌≤◌, List, [], ◌∷◌, ◌++◌, length, get_or, take, refl, ap, ◌∙◌, sym, subst, arith, Vec}
+use Rattle.std.proofs.lemmas.List.{take_more}
+use Rattle.std.proofs.lemmas.Grind.{common_steps}
+use Rattle.std.specs.Prelude.{IsOk}
+use Rattle.std.specs.declared.alloc.Global.{Global}
+use Rattle.sq_lex.specs.declared.lexeme.Lexeme.{Lexeme}
+use Rattle.sq_lex.specs.Reading.{reading}
+use Rattle.sq_model.specs.Report.{Bytes}
+use Rattle.sq_run.specs.Run.{AllSpell, Spells, texts}
+
+pub spelled_append : {T : Type 0} (tokens_of : T → List Lexeme) (all : List Bytes) (trees : List T) (text : Bytes) (tree : T)
+    → AllSpell tokens_of all trees → Spells text (tokens_of tree) → AllSpell tokens_of (all ++ text ∷ []) (trees ++ tree ∷ [])
+spelled_append tokens_of [] [] text tree all one = (one, tt)
+spelled_append tokens_of [] (t ∷ ts) text tree all one = absurd all
+spelled_append tokens_of (x ∷ xs) [] text tree all one = absurd all
+spelled_append tokens_of (x ∷ xs) (t ∷ ts) text tree all one = (all.0, spelled_append tokens_of xs ts text tree all.1 one)
+
+-- as many texts as trees
+pub spelled_length : {T : Type 0} (tokens_of : T → List Lexeme) (all : List Bytes) (trees : List T) → AllSpell tokens_of all trees → length all ≡ length trees
+spelled_length tokens_of [] [] all = refl
+spelled_length tokens_of [] (t ∷ ts) all = absurd all
+spelled_length tokens_of (x ∷ xs) [] all = absurd all
+spelled_length tokens_of (x ∷ xs) (t ∷ ts) all = ap suc (spelled_length tokens_of xs ts all.1)
+
+-- ---- the bytes of each text
+
+length_texts : (all : List (Vec ℕ Global)) → length (texts all) ≡ length all
+length_texts [] = refl
+length_texts (v ∷ vs) = ap suc (length_texts vs)
+
+text_of : (all : List (Vec ℕ Global)) (i : ℕ) (text : Vec ℕ Global) → i < length all → text ≡ get_or all i text → get_or (texts all) i text.items ≡ text.items
+text_of [] i text lt e = absurd (omega arith)
+text_of (v ∷ vs) zero text lt e = ap (λ w. w.items) (sym e)
+text_of (v ∷ vs) (suc n) text lt e = text_of vs n text (omega arith) e
+
+-- one more text, and its tree
+pub spelled_more : {T : Type 0} (tokens_of : T → List Lexeme) (all : List (Vec ℕ Global)) (i : ℕ) (text : Vec ℕ Global) (trees : List T) (tree : T)
+    → i < length all → text ≡ get_or all i text → AllSpell tokens_of (take i (texts all)) trees → Spells text.items (tokens_of tree)
+    → AllSpell tokens_of (take (i + 1) (texts all)) (trees ++ tree ∷ [])
+spelled_more tokens_of all i text trees tree lt e before one =
+    let within : i < length (texts all) = rw (length_texts all) lt in
+    let more : take (i + 1) (texts all) ≡ take i (texts all) ++ text.items ∷ [] =
+    take_more (texts all) i text.items within ∙ ap (λ t. take i (texts all) ++ t ∷ []) (text_of all i text lt e) in
+    rw more (spelled_append tokens_of (take i (texts all)) trees text.items tree before one)
+
+pub spelled_all : {T : Type 0} (tokens_of : T → List Lexeme) (all : List (Vec ℕ Global)) (i : ℕ) (trees : List T) → length all ≤ i → AllSpell tokens_of (take i (texts all)) trees
+    → AllSpell tokens_of (texts all) trees
+spelled_all tokens_of all i trees le spelled =
+    let whole : take i (texts all) ≡ texts all = take_whole (texts all) i (rw (length_texts all) le) in
+    rw (← whole) spelled
+  where
+    take_whole : (xs : List Bytes) (n : ℕ) → length xs ≤ n → take n xs ≡ xs
+    take_whole xs n le = grind (arith, common_steps)
+
+-- as many texts as trees
+pub spelled_count : {T : Type 0} (tokens_of : T → List Lexeme) (all : List (Vec ℕ Global)) (trees : List T) → AllSpell tokens_of (texts all) trees → length all ≡ length trees
+spelled_count tokens_of all trees spelled = sym (length_texts all) ∙ spelled_length tokens_of (texts all) trees spelled
+
+read_of : (text : Bytes) (lexed : List Lexeme) → Spells text lexed → IsOk (reading text)
+read_of text lexed spells = subst (λ answer. IsOk answer) (sym spells.read) refl
+
+-- a text that spells a tree has a reading
+pub spelled_read : {T : Type 0} (tokens_of : T → List Lexeme) (all : List (Vec ℕ Global)) (trees : List T) (i : ℕ) (text : Vec ℕ Global) → AllSpell tokens_of (texts all) trees
+    → i < length all → text ≡ get_or all i text → IsOk (reading text.items)
+spelled_read tokens_of [] trees i text spelled lt e = absurd (omega arith)
+spelled_read tokens_of (v ∷ vs) [] i text spelled lt e = absurd spelled
+spelled_read tokens_of (v ∷ vs) (t ∷ ts) zero text spelled lt e =
+    let same : v.items ≡ text.items = ap (λ w. w.items) (sym e) in
+    subst (λ bytes. IsOk (reading bytes)) same (read_of v.items (tokens_of t) spelled.0)
+spelled_read tokens_of (v ∷ vs) (t ∷ ts) (suc n) text spelled lt e = spelled_read tokens_of vs ts n text spelled.1 (omega arith) e

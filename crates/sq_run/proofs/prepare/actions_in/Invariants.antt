@@ -1,0 +1,6 @@
+use Rattle.std.proofs.Common.{take}
+use Rattle.sq_run.specs.Asked.{AreActions}
+use Rattle.sq_run.proofs.prepare.actions_in.Given as goal
+
+abbrev pub invariant-loop-place : goal.invariant-loop-place
+invariant-loop-place g l = AreActions (take l.place l.items) l.actions.items

@@ -1,6 +1,0 @@
-use Rattle.std.proofs.Common.{◌≡◌, replicate}
-use Rattle.sq_first.specs.declared.cursor.CursorState.TheVariants.{Closed}
-use Rattle.sq_run.proofs.session.closed_cursors.Given as goal
-
-abbrev pub invariant-loop : goal.invariant-loop
-invariant-loop l = l.cursors.items ≡ replicate l.counter Closed

@@ -1,0 +1,28 @@
+//! What a script asks for.
+use sq_items::Items;
+use sq_lex::Name;
+use sq_value::Value;
+
+/// A script item whose names are looked up and whose values are read.
+#[derive(Debug, Drop)]
+pub(crate) enum Action {
+    Call(CallAction),
+    Show(ShowAction),
+}
+
+/// A call of a procedure, which has this number in its session.
+#[derive(Debug, Drop)]
+pub(crate) struct CallAction {
+    pub module: Name,
+    pub name: Name,
+    pub procedure: usize,
+    pub values: Items<Value>,
+}
+
+/// The showing of a base table, which stands at this place.
+#[derive(Clone, Copy, Debug)]
+pub(crate) struct ShowAction {
+    pub user: Name,
+    pub name: Name,
+    pub table: usize,
+}

@@ -1,0 +1,4 @@
+pub mod Besides
+pub mod Closed
+pub mod Kept
+pub mod TableWalk

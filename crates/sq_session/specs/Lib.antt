@@ -1,0 +1,5 @@
+pub mod Kind
+pub mod Lent
+pub mod Session
+pub mod State
+pub mod Step

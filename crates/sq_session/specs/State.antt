@@ -1,0 +1,54 @@
+-- What calls work on (ISO/IEC 9075:1992, 4.21 and 4.28).
+use Rattle.std.specs.Prelude.{◌≡◌, ℕ, Bool, true, false, List, map, slice_index_or, slice_set, Option, None}
+use Rattle.sq_store.specs.Content.{Content}
+use Rattle.sq_session.specs.declared.cursor.CursorState.{CursorState}
+use Rattle.sq_session.specs.declared.cursor.CursorState.TheVariants as cursor
+
+-- the tables now, the tables at the last COMMIT, and a cursor for each that a module declares
+pub record State : Type 0 where
+  pub tables : Content
+  pub committed : Content
+  pub cursors : List CursorState
+
+-- ---- cursors
+
+abbrev pub is_open : CursorState → Bool
+is_open cursor.Closed = false
+is_open (cursor.Numbers c) = true
+is_open (cursor.Walking c) = true
+is_open (cursor.Rows c) = true
+
+abbrev pub cursor_at : State → ℕ → CursorState
+cursor_at s number = slice_index_or s.cursors number cursor.Closed
+
+abbrev pub with_cursor : State → ℕ → CursorState → State
+with_cursor s number c = record s { cursors = slice_set s.cursors number c }
+
+-- the cursors but for one
+abbrev pub besides : ℕ → List CursorState → List CursorState
+besides number cursors = slice_set cursors number cursor.Closed
+
+abbrev pub closed : CursorState → CursorState
+closed c = cursor.Closed
+
+abbrev pub all_closed : List CursorState → List CursorState
+all_closed cursors = map closed cursors
+
+-- at first
+abbrev pub AreClosed : List CursorState → Type 0
+AreClosed cursors = cursors ≡ all_closed cursors
+
+-- the number of the row that a cursor is on
+abbrev pub number_on : CursorState → Option ℕ
+number_on cursor.Closed = None
+number_on (cursor.Numbers c) = c.on
+number_on (cursor.Walking c) = c.on
+number_on (cursor.Rows c) = None
+
+-- ---- COMMIT and ROLLBACK (14.3, 14.4) close all cursors
+
+abbrev pub committed_state : State → State
+committed_state s = record { tables = s.tables; committed = s.tables; cursors = all_closed s.cursors }
+
+abbrev pub rolled_back : State → State
+rolled_back s = record { tables = s.committed; committed = s.committed; cursors = all_closed s.cursors }

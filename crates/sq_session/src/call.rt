@@ -1,0 +1,104 @@
+//! A call: a procedure's statement with the values that are handed in (ISO/IEC 9075:1992, 12.3).
+
+ghost use Rattle.std.specs.Prelude.{◌≡◌, false, IfOk, IfSome, IsSome, None, OnErr, Some, true};
+ghost use Rattle.sq_query.specs.declared.fault.Fault.TheVariants as fault;
+ghost use Rattle.sq_session.specs.Kind.{kind_at, kind_of, needs_memory, takes_memory};
+ghost use Rattle.sq_session.specs.Session.{kinds_of};
+ghost use Rattle.sq_session.specs.Step.{MayCall, MayStep, ending};
+
+use crate::called::Called;
+use crate::machine::Machine;
+use crate::parameter::started_values;
+use crate::reply::{Done, Reply};
+use sq_bound::BoundStatement;
+use sq_catalog::Catalog;
+use sq_module::{BoundProcedure, Program};
+use sq_query::Fault;
+use sq_store::{Meter, Store};
+use sq_value::Value;
+use std::alloc::{AllocError, Global};
+
+/// Performs the statement of a procedure. One with a fault changes nothing.
+pub(crate) fn call<S: Store>(
+    alloc: Global,
+    catalog: &Catalog,
+    program: &Program,
+    procedure: usize,
+    values: &[Value],
+    machine: &mut Machine<S>,
+    meter: &mut Meter,
+) -> Result<Done, Fault>
+    ensures step { IfSome (ending result) (λ d.
+        MayCall (kind_at (kinds_of program.now.procedures.items) procedure) machine.old d machine.new) }
+    ensures err { OnErr result (machine.new ≡ machine.old) }
+    ensures memory { needs_memory (kind_at (kinds_of program.now.procedures.items) procedure) ≡ false → IsSome (ending result) }
+{
+    let Some(procedure) = program.procedures.get(procedure) else {
+        return Err(Fault::NOT_WELL_FORMED);
+    };
+    match &procedure.statement {
+        None => Err(Fault::NOT_WELL_FORMED),
+        Some(BoundStatement::Close(cursor)) => machine.close(alloc, *cursor),
+        Some(BoundStatement::Commit) => Ok(machine.commit(alloc)),
+        Some(BoundStatement::Rollback) => Ok(machine.rollback(alloc)),
+        Some(statement) => with_values(
+            alloc, catalog, program, procedure, statement, values, machine, meter,
+        ),
+    }
+}
+
+/// Stores the values in the parameters, and performs a statement that may read them.
+fn with_values<S: Store>(
+    alloc: Global,
+    catalog: &Catalog,
+    program: &Program,
+    procedure: &BoundProcedure,
+    statement: &BoundStatement,
+    values: &[Value],
+    machine: &mut Machine<S>,
+    meter: &mut Meter,
+) -> Result<Done, Fault>
+    requires { takes_memory (kind_of statement.now) ≡ true }
+    ensures step { IfSome (ending result) (λ d. MayStep (kind_of statement.now) machine.old d machine.new) }
+    ensures err { OnErr result (machine.new ≡ machine.old) }
+{
+    let values = started_values(alloc, procedure.parameters.as_slice(), values)?;
+    let called = Called {
+        alloc,
+        catalog,
+        cursors: program.cursors.as_slice(),
+        procedure,
+        values: values.as_slice(),
+    };
+    match statement {
+        BoundStatement::Open(cursor) => machine.open(&called, *cursor, meter),
+        BoundStatement::Fetch(fetch) => machine.fetch(&called, fetch, meter),
+        BoundStatement::Select(select) => machine.select(&called, select, meter),
+        BoundStatement::Insert(insert) => machine.insert(&called, insert, meter),
+        BoundStatement::Update(update) => machine.update(&called, update, meter),
+        BoundStatement::Delete(target) => machine.delete(&called, target, meter),
+        BoundStatement::Close(_) | BoundStatement::Commit | BoundStatement::Rollback =>
+            unreachable!(),
+    }
+}
+
+/// The reply of a statement that was performed, or of one that changed nothing.
+pub(crate) fn reply_of(
+    alloc: Global,
+    ended: Result<Done, Fault>,
+    reads: u64,
+) -> Result<Reply, AllocError>
+    ensures ends { IfOk result (λ r. ending ended ≡ Some (record { status = r.status; outputs = r.outputs })) }
+    ensures err { OnErr result (ending ended ≡ None) }
+{
+    let Done { status, outputs } = match ended {
+        Ok(done) => done,
+        Err(Fault::Status(status)) => Done::without_outputs(alloc, status),
+        Err(Fault::NoMemory) => return Err(AllocError),
+    };
+    Ok(Reply {
+        status,
+        outputs,
+        reads,
+    })
+}

@@ -1,0 +1,80 @@
+//! The cursors of a session, by their numbers.
+
+ghost use Rattle.std.specs.Prelude.{◌≡◌, map, replicate, IfOk};
+ghost use Rattle.sq_session.specs.State.{all_closed, besides, is_open};
+
+use crate::cursor::CursorState;
+use crate::walk::{ListedCursor, list_walk};
+use std::alloc::{AllocError, Global};
+
+/// So many closed cursors.
+pub(crate) fn closed_cursors(alloc: Global, count: usize) -> Result<Vec<CursorState>, AllocError>
+    ensures { IfOk result (λ cursors. cursors.items ≡ replicate count CursorState.Closed) }
+{
+    let mut cursors = Vec::new(alloc);
+    for _ in 0..count {
+        cursors.push(CursorState::Closed)?;
+    }
+    Ok(cursors)
+}
+
+/// Closes all cursors.
+#[tactic(auto, using(crate::proofs::Closed::closed_none, crate::proofs::Closed::closed_next, crate::proofs::Closed::closed_whole))]
+pub(crate) fn close_all(cursors: &mut [CursorState])
+    ensures { cursors.new ≡ all_closed cursors.old }
+{
+    for cursor in cursors.iter_mut() {
+        *cursor = CursorState::Closed;
+    }
+}
+
+/// Puts a cursor in the stead of another, if there is one.
+#[tactic(auto, using(crate::proofs::Besides::besides_put))]
+pub(crate) fn put(cursors: &mut [CursorState], number: usize, cursor: CursorState)
+    ensures { besides number cursors.new ≡ besides number cursors.old }
+{
+    if number < cursors.len() {
+        cursors[number] = cursor;
+    } else {
+        drop(cursor);
+    }
+}
+
+/// Takes a cursor off its row.
+#[tactic(auto, using(crate::proofs::Besides::besides_put))]
+pub(crate) fn leave_row(cursors: &mut [CursorState], number: usize)
+    ensures { besides number cursors.new ≡ besides number cursors.old }
+{
+    if number < cursors.len() {
+        off_row(&mut cursors[number]);
+    }
+}
+
+fn off_row(cursor: &mut CursorState) {
+    match cursor {
+        CursorState::Numbers(numbers) => numbers.on = None,
+        CursorState::Walking(walk) => walk.on = None,
+        CursorState::Closed | CursorState::Rows(_) => {}
+    }
+}
+
+/// Lets cursors go on over lists.
+pub(crate) fn put_lists(cursors: &mut [CursorState], listed: Vec<ListedCursor>)
+    ensures { map is_open cursors.new ≡ map is_open cursors.old }
+{
+    for one in listed {
+        put_list(cursors, one);
+    }
+}
+
+#[tactic(auto, using(crate::proofs::Besides::open_put))]
+fn put_list(cursors: &mut [CursorState], listed: ListedCursor)
+    ensures { map is_open cursors.new ≡ map is_open cursors.old }
+{
+    let ListedCursor { number, numbers } = listed;
+    if number < cursors.len() {
+        list_walk(&mut cursors[number], numbers);
+    } else {
+        drop(numbers);
+    }
+}

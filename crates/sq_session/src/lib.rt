@@ -1,0 +1,24 @@
+//! Modules, cursors and transactions: a session makes one procedure call after the other (ISO/IEC 9075:1992, 4.21, clause 12,
+//! 13.1 to 13.5, 14.3 and 14.4). What a call may do to the tables and cursors stands in `specs/Step.antt`.
+//!
+//! A bound statement could, as far as its type says, name a cursor, a parameter or a column that isn't there. Such a statement
+//! ends with 42000; binding makes none.
+#![tactic(auto)]
+
+mod call;
+mod called;
+mod cursor;
+mod cursors;
+mod fetch;
+mod machine;
+mod parameter;
+mod reply;
+mod session;
+mod target;
+mod walk;
+
+pub use cursor::{CursorState, NumbersCursor, RowsCursor};
+pub use reply::{Done, Output, Reply};
+pub use session::Session;
+pub use sq_module::{ModuleRefusal, ModuleRefusalName, SessionFault};
+pub use walk::WalkingCursor;

@@ -1,0 +1,314 @@
+//! The tables and cursors of a session, and the statements that work on them.
+
+ghost use Rattle.std.specs.Prelude.{◌≡◌, false, IfErr, IfOk, IfSome, IsSome, OnErr, OnOk, is_ok, is_some, replicate, slice_get};
+ghost use Rattle.sq_meaning.specs.declared.status.Status.TheVariants as status;
+ghost use Rattle.sq_query.specs.declared.fault.Fault.TheVariants as fault;
+ghost use Rattle.sq_session.specs.Kind.{delete_kind, update_kind};
+ghost use Rattle.sq_session.specs.State.{committed_state, rolled_back};
+ghost use Rattle.sq_session.specs.Step.{MayChange, MayClose, MayFetch, MayOpen, MayOpenIf, MayStep, Moves, ended, ending, is_on_row, is_ready};
+
+use crate::called::Called;
+use crate::cursor::{CursorState, number_on, opened};
+use crate::cursors::{close_all, closed_cursors, leave_row, put, put_lists};
+use crate::fetch::fetch_at;
+use crate::reply::Done;
+use crate::target::row_retrieved;
+use crate::walk::{ListedCursor, listed_walk};
+use sq_bound::{BoundFetch, BoundInsert, BoundSelect, BoundUpdate, ChangeTarget, PositionedTarget};
+use sq_change::{delete, insert, update};
+use sq_meaning::Status;
+use sq_query::{Fault, specification_rows};
+use sq_store::{Meter, Store};
+use std::alloc::{AllocError, Global};
+use std::marker::Model;
+
+/// The tables and cursors that statements work on.
+#[derive(Drop)]
+pub(crate) struct Machine<S: Store> {
+    pub(crate) store: S,
+    cursors: Vec<CursorState>,
+}
+
+impl<S: Store> Model for Machine<S> {
+    ghost use Rattle.sq_session.specs.State.{State};
+
+    ghost Value = { State };
+
+    ghost view = { λ m. record { tables = S.content_now m.store; committed = S.committed m.store; cursors = m.cursors.items } };
+}
+
+impl<S: Store> Machine<S> {
+    /// The tables of a store, and so many closed cursors.
+    pub(crate) fn new(alloc: Global, store: S, cursors: usize) -> Result<Machine<S>, AllocError>
+        ensures { IfOk result (λ m. m
+            ≡ record { tables = S.content_now store; committed = S.committed store; cursors = replicate cursors CursorState.Closed }) }
+    {
+        match closed_cursors(alloc, cursors) {
+            Ok(cursors) => Ok(Machine { store, cursors }),
+            Err(error) => {
+                drop(store);
+                Err(error)
+            }
+        }
+    }
+
+    /// OPEN (13.2).
+    pub(crate) fn open(
+        &mut self,
+        called: &Called<'_>,
+        number: usize,
+        meter: &mut Meter,
+    ) -> Result<Done, Fault>
+        ensures step { IfSome (ending result) (λ d. MayOpen (slice_get self.old.cursors number) number self.old d self.new) }
+        ensures err { OnErr result (self.new ≡ self.old) }
+    {
+        match self.cursors.get(number) {
+            None => Err(Fault::NOT_WELL_FORMED),
+            Some(CursorState::Closed) => self.open_closed(called, number, meter),
+            Some(_) => Err(Fault::Status(Status::InvalidCursorState)),
+        }
+    }
+
+    /// OPEN of a cursor that is closed.
+    fn open_closed(
+        &mut self,
+        called: &Called<'_>,
+        number: usize,
+        meter: &mut Meter,
+    ) -> Result<Done, Fault>
+        ensures step { IfSome (ending result) (λ d. MayOpenIf false number self.old d self.new) }
+        ensures err { OnErr result (self.new ≡ self.old) }
+    {
+        let Some(declared) = called.cursors.get(number) else {
+            return Err(Fault::NOT_WELL_FORMED);
+        };
+        let cursor = opened(called, &declared.cursor, &self.store, meter)?;
+        put(self.cursors.as_mut_slice(), number, cursor);
+        Ok(Done::successful(called.alloc))
+    }
+
+    /// FETCH (13.3). A status of retrieving leaves the cursor where it came.
+    pub(crate) fn fetch(
+        &mut self,
+        called: &Called<'_>,
+        fetch: &BoundFetch,
+        meter: &mut Meter,
+    ) -> Result<Done, Fault>
+        ensures step { IfSome (ending result) (λ d. MayFetch (slice_get self.old.cursors fetch.now.cursor) fetch.now.cursor self.old d self.new) }
+        ensures err { OnErr result (self.new ≡ self.old) }
+    {
+        match self.cursors.get(fetch.cursor) {
+            None => Err(Fault::NOT_WELL_FORMED),
+            Some(CursorState::Closed) => Err(Fault::Status(Status::InvalidCursorState)),
+            Some(_) => self.fetch_open(called, fetch, meter),
+        }
+    }
+
+    /// FETCH of a cursor that is open.
+    fn fetch_open(
+        &mut self,
+        called: &Called<'_>,
+        fetch: &BoundFetch,
+        meter: &mut Meter,
+    ) -> Result<Done, Fault>
+        ensures step { IfSome (ending result) (λ d. Moves fetch.now.cursor self.old d self.new) }
+        ensures err { OnErr result (self.new ≡ self.old) }
+    {
+        fetch_at(
+            called,
+            fetch,
+            self.cursors.as_mut_slice(),
+            &self.store,
+            meter,
+        )
+    }
+
+    /// CLOSE (13.4).
+    pub(crate) fn close(&mut self, alloc: Global, number: usize) -> Result<Done, Fault>
+        ensures step { IfSome (ending result) (λ d. MayClose (slice_get self.old.cursors number) number self.old d self.new) }
+        ensures err { OnErr result (self.new ≡ self.old) }
+        ensures memory { IsSome (ending result) }
+    {
+        match self.cursors.get(number) {
+            None => Err(Fault::NOT_WELL_FORMED),
+            Some(CursorState::Closed) => Err(Fault::Status(Status::InvalidCursorState)),
+            Some(_) => {
+                self.cursors[number] = CursorState::Closed;
+                Ok(Done::successful(alloc))
+            }
+        }
+    }
+
+    /// A select statement of one row (13.5).
+    pub(crate) fn select(
+        &self,
+        called: &Called<'_>,
+        select: &BoundSelect,
+        meter: &mut Meter,
+    ) -> Result<Done, Fault> {
+        let rows = specification_rows(
+            called.alloc,
+            called.catalog,
+            &select.query,
+            &self.store,
+            called.inputs(),
+            meter,
+        )?;
+        match rows.split_first() {
+            None => Err(Fault::Status(Status::NoData)),
+            Some((row, others)) if others.is_empty() => {
+                row_retrieved(called, select.outputs.as_slice(), row.as_slice())
+            }
+            Some(_) => Err(Fault::Status(Status::CardinalityViolation)),
+        }
+    }
+
+    /// INSERT (13.8).
+    pub(crate) fn insert(
+        &mut self,
+        called: &Called<'_>,
+        statement: &BoundInsert,
+        meter: &mut Meter,
+    ) -> Result<Done, Fault>
+        ensures step { IfSome (ending result) (λ d. MayChange self.old d self.new) }
+        ensures err { OnErr result (self.new ≡ self.old) }
+    {
+        insert(
+            called.alloc,
+            called.catalog,
+            statement,
+            &mut self.store,
+            called.inputs(),
+            meter,
+        )?;
+        Ok(Done::successful(called.alloc))
+    }
+
+    /// UPDATE (13.9, 13.10).
+    pub(crate) fn update(
+        &mut self,
+        called: &Called<'_>,
+        statement: &BoundUpdate,
+        meter: &mut Meter,
+    ) -> Result<Done, Fault>
+        ensures step { IfSome (ending result) (λ d. MayStep (update_kind statement.now.target) self.old d self.new) }
+        ensures err { OnErr result (self.new ≡ self.old) }
+    {
+        let on = self.current(&statement.target)?;
+        let listed = self.listed(called, base_of(&statement.target))?;
+        let updated = update(
+            called.alloc,
+            called.catalog,
+            statement,
+            on,
+            &mut self.store,
+            called.inputs(),
+            meter,
+        );
+        match updated {
+            Ok(()) => {
+                put_lists(self.cursors.as_mut_slice(), listed);
+                Ok(Done::successful(called.alloc))
+            }
+            Err(fault) => {
+                drop(listed);
+                Err(fault)
+            }
+        }
+    }
+
+    /// DELETE (13.6, 13.7). After a positioned one the cursor is before the next row.
+    pub(crate) fn delete(
+        &mut self,
+        called: &Called<'_>,
+        target: &ChangeTarget,
+        meter: &mut Meter,
+    ) -> Result<Done, Fault>
+        ensures step { IfSome (ending result) (λ d. MayStep (delete_kind target.now) self.old d self.new) }
+        ensures err { OnErr result (self.new ≡ self.old) }
+    {
+        let on = self.current(target)?;
+        delete(
+            called.alloc,
+            called.catalog,
+            target,
+            on,
+            &mut self.store,
+            called.inputs(),
+            meter,
+        )?;
+        if let ChangeTarget::Positioned(positioned) = target {
+            leave_row(self.cursors.as_mut_slice(), positioned.cursor);
+        }
+        Ok(Done::successful(called.alloc))
+    }
+
+    /// COMMIT (14.3) closes all cursors.
+    pub(crate) fn commit(&mut self, alloc: Global) -> Done
+        ensures state { self.new ≡ committed_state self.old }
+        ensures done { result ≡ ended status.SuccessfulCompletion }
+    {
+        close_all(self.cursors.as_mut_slice());
+        self.store.commit();
+        Done::successful(alloc)
+    }
+
+    /// ROLLBACK (14.4) closes all cursors.
+    pub(crate) fn rollback(&mut self, alloc: Global) -> Done
+        ensures state { self.new ≡ rolled_back self.old }
+        ensures done { result ≡ ended status.SuccessfulCompletion }
+    {
+        close_all(self.cursors.as_mut_slice());
+        self.store.rollback();
+        Done::successful(alloc)
+    }
+
+    /// The number that a positioned statement changes; none for a searched one.
+    fn current(&self, target: &ChangeTarget) -> Result<Option<u64>, Fault>
+        ensures ready { is_ok result ≡ is_ready self.now target.now }
+        ensures refused { IfErr result (λ f. f ≡ fault.Status status.InvalidCursorState) }
+    {
+        match target {
+            ChangeTarget::Searched(_) => Ok(None),
+            ChangeTarget::Positioned(positioned) => match self.number_there(positioned) {
+                Some(number) => Ok(Some(number)),
+                None => Err(Fault::Status(Status::InvalidCursorState)),
+            },
+        }
+    }
+
+    /// The number that a cursor is on, if its row is there.
+    fn number_there(&self, positioned: &PositionedTarget) -> Option<u64>
+        ensures { is_some result ≡ is_on_row self.now positioned.now }
+    {
+        let number = number_on(self.cursors.get(positioned.cursor)?)?;
+        if positioned.base >= self.store.table_count() {
+            return None;
+        }
+        match self.store.row(positioned.base, number, &mut Meter::new()) {
+            Some(_) => Some(number),
+            None => None,
+        }
+    }
+
+    /// For each cursor that walks over a base table, the numbers of the rows that are left to it.
+    fn listed(&self, called: &Called<'_>, table: usize) -> Result<Vec<ListedCursor>, Fault> {
+        let mut listed = Vec::new(called.alloc);
+        for (number, cursor) in self.cursors.iter().enumerate() {
+            if let CursorState::Walking(walk) = cursor {
+                if let Some(numbers) = listed_walk(called, number, table, &self.store, walk)? {
+                    listed.push(ListedCursor { number, numbers })?;
+                }
+            }
+        }
+        Ok(listed)
+    }
+}
+
+/// The place of the base table that a statement changes.
+fn base_of(target: &ChangeTarget) -> usize {
+    match target {
+        ChangeTarget::Searched(target) => target.base,
+        ChangeTarget::Positioned(positioned) => positioned.base,
+    }
+}

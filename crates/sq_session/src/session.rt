@@ -1,0 +1,141 @@
+//! A session: the modules, the tables, and the cursors.
+
+ghost use Rattle.std.specs.Prelude.{◌≡◌, ◌<◌, false, length, map, IfErr, IfOk, IsOk, OnErr, OnOk};
+ghost use Rattle.sq_store.specs.Content.{table_at};
+ghost use Rattle.sq_module.specs.Refusal.{IsOfSomeModule};
+ghost use Rattle.sq_session.specs.Lent.{lent};
+ghost use Rattle.sq_session.specs.Kind.{kind_at, needs_memory};
+ghost use Rattle.sq_session.specs.State.{AreClosed};
+ghost use Rattle.sq_session.specs.Step.{MayCall, is_success};
+
+use crate::call::{call, reply_of};
+use crate::machine::Machine;
+use crate::parameter::all_fit;
+use crate::reply::Reply;
+use sq_bound::{Names, TablePlace};
+use sq_catalog::Catalog;
+use sq_lex::Name;
+use sq_module::{Program, SessionFault, admit};
+use sq_store::{Meter, Store};
+use sq_tree::ModuleText;
+use sq_value::{Row, Value};
+use std::alloc::{AllocError, Global};
+use std::marker::Model;
+
+/// The modules, and the tables and cursors that their procedures work on.
+#[derive(Drop)]
+pub struct Session<S: Store> {
+    alloc: Global,
+    catalog: Catalog,
+    program: Program,
+    machine: Machine<S>,
+}
+
+impl<S: Store> Model for Session<S> {
+    ghost use Rattle.sq_session.specs.Session.{Session, kinds_of};
+
+    ghost Value = { Session };
+
+    ghost view = { λ s. record { procedures = kinds_of s.program.procedures.items; state = s.machine } };
+}
+
+impl<S: Store> Session<S> {
+    /// A session of these modules over a store of the catalog's tables, with all cursors closed; or the first refusal, module
+    /// by module.
+    #[tactic(auto, using(crate::proofs::Closed::replicated_closed))]
+    pub fn new(
+        alloc: Global,
+        catalog: Catalog,
+        modules: &[ModuleText],
+        store: S,
+    ) -> Result<Session<S>, SessionFault>
+        ensures start { IfOk result (λ s. (s.state.tables ≡ S.content_now store) × (s.state.committed ≡ S.committed store) × AreClosed s.state.cursors) }
+        ensures refused { IfErr result (IsOfSomeModule (length modules.now)) }
+    {
+        admit(alloc, modules)?;
+        let program = Program::bind(alloc, &catalog, modules)?;
+        let machine = Machine::new(alloc, store, program.cursors.len())?;
+        Ok(Session {
+            alloc,
+            catalog,
+            program,
+            machine,
+        })
+    }
+
+    /// The number of a procedure.
+    pub fn procedure(&self, module: Name, name: Name) -> Option<usize> {
+        self.program.number(module, name)
+    }
+
+    /// Whether there are as many values as the procedure has named parameters, each null or one that its parameter can store.
+    pub fn fits(&self, procedure: usize, values: &[Value]) -> bool {
+        match self.program.procedures.get(procedure) {
+            Some(procedure) => all_fit(self.alloc, procedure.parameters.as_slice(), values),
+            None => false,
+        }
+    }
+
+    /// Makes one call. Running out of memory changes nothing, and a call that ends with another status than success leaves
+    /// the tables as they were.
+    #[tactic(auto, using(crate::proofs::Kept::kept_by_failure))]
+    pub fn call(
+        &mut self,
+        alloc: Global,
+        procedure: usize,
+        values: &[Value],
+    ) -> Result<Reply, AllocError>
+        ensures step { IfOk result (λ r.
+            MayCall (kind_at self.old.procedures procedure) self.old.state (record { status = r.status; outputs = r.outputs }) self.new.state) }
+        ensures kept { IfOk result (λ r. is_success r.status ≡ false → self.new.state.tables ≡ self.old.state.tables) }
+        ensures procedures { self.new.procedures ≡ self.old.procedures }
+        ensures err { OnErr result (self.new ≡ self.old) }
+        ensures memory { needs_memory (kind_at self.old.procedures procedure) ≡ false → IsOk result }
+    {
+        let mut meter = Meter::new();
+        let ended = call(
+            alloc,
+            &self.catalog,
+            &self.program,
+            procedure,
+            values,
+            &mut self.machine,
+            &mut meter,
+        );
+        reply_of(alloc, ended, meter.count())
+    }
+
+    /// The place of the base table of this owner and name.
+    pub fn table(&self, user: Name, name: Name) -> Option<usize> {
+        match self.catalog.table(user, name)?.place() {
+            TablePlace::Base(place) => Some(place),
+            TablePlace::View(_) => None,
+        }
+    }
+
+    /// The rows of the base table at a place, as they are now, with their numbers; none where there is no such table.
+    pub fn rows(&self, alloc: Global, table: usize) -> Result<Vec<(u64, &Row)>, AllocError>
+        ensures { IfOk result (λ rows. map lent rows.items ≡ (table_at self.now.state.tables table).rows) }
+    {
+        let store = &self.machine.store;
+        if table >= store.table_count() {
+            return Ok(Vec::new(alloc));
+        }
+        rows_of(alloc, store, table)
+    }
+}
+
+/// A table's rows with their numbers.
+fn rows_of<S: Store>(alloc: Global, store: &S, table: usize) -> Result<Vec<(u64, &Row)>, AllocError>
+    requires { table < length (S.content_now store.now) }
+    ensures { IfOk result (λ rows. map lent rows.items ≡ (table_at (S.content_now store.now) table).rows) }
+{
+    let mut meter = Meter::new();
+    let mut rows = Vec::new(alloc);
+    let mut number = 0;
+    while let Some((found, row)) = store.next_from(table, number, &mut meter) {
+        rows.push((found, row))?;
+        number = found + 1;
+    }
+    Ok(rows)
+}

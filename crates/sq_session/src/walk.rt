@@ -1,0 +1,205 @@
+//! Updatable cursors whose conditions answer no status: they read their rows as late as they fetch them.
+//!
+//! Such a cursor means the same rows as a list of their numbers made at OPEN, as long as no UPDATE changes what its
+//! conditions read. So the rows that are left are listed before an UPDATE of the table.
+
+ghost use Rattle.std.specs.Prelude.{◌≡◌, ◌≤◌, ◌<◌, length, IfOk, IfSome};
+ghost use Rattle.sq_session.specs.State.{is_open};
+
+use crate::called::Called;
+use crate::cursor::{CursorState, NumbersCursor, number_on};
+use sq_bound::{CursorBody, Target};
+use sq_catalog::Catalog;
+use sq_items::Items;
+use sq_lex::Name;
+use sq_query::{Fault, Inputs, is_chosen};
+use sq_store::{Meter, Store};
+use sq_value::{Row, Value, copy_row};
+use std::alloc::Global;
+
+/// A cursor that walks over the rows of a base table.
+#[derive(Drop)]
+pub struct WalkingCursor {
+    /// The values of the parameters of the procedure that opened it.
+    pub values: Items<Value>,
+    /// The next FETCH looks at rows from this number on.
+    pub next: u64,
+    /// The rows from this number on were inserted after OPEN.
+    pub mark: u64,
+    /// The number that the cursor is on.
+    pub on: Option<u64>,
+}
+
+/// A cursor before the first row of a base table.
+pub(crate) fn started_walk<S: Store>(
+    called: &Called<'_>,
+    table: usize,
+    store: &S,
+) -> Result<WalkingCursor, Fault> {
+    let mark = next_number(called.catalog, store, table)?;
+    Ok(WalkingCursor {
+        values: copy_row(called.alloc, called.values)?,
+        next: 0,
+        mark,
+        on: None,
+    })
+}
+
+/// The number that the next new row of a base table takes.
+fn next_number<S: Store>(catalog: &Catalog, store: &S, table: usize) -> Result<u64, Fault> {
+    if table >= store.table_count() {
+        return Err(Fault::NOT_WELL_FORMED);
+    }
+    let all = catalog.limits().row_numbers.saturating_add(1);
+    Ok(all.saturating_sub(store.numbers_left(table)))
+}
+
+/// A walk of a user's cursor, and what it walks over.
+#[derive(Clone, Copy)]
+struct Walk<'a> {
+    alloc: Global,
+    catalog: &'a Catalog,
+    user: Name,
+    target: &'a Target,
+    values: &'a [Value],
+}
+
+impl<'a> Walk<'a> {
+    /// Whether the target means a row.
+    fn is_chosen<S: Store>(&self, row: &Row, store: &S) -> Result<bool, Fault> {
+        let inputs = Inputs {
+            user: self.user,
+            parameters: self.values,
+        };
+        is_chosen(self.alloc, self.catalog, self.target, row, store, inputs)
+    }
+}
+
+/// The first row from a number on, and before a mark, that the target means.
+#[tactic(auto, using(crate::proofs::TableWalk::found_behind))]
+fn next_chosen<'s, S: Store>(
+    walk: &Walk<'_>,
+    store: &'s S,
+    from: u64,
+    mark: u64,
+    meter: &mut Meter,
+) -> Result<Option<(u64, &'s Row)>, Fault>
+    requires { walk.now.target.now.base < length (S.content_now store.now) }
+    ensures { IfOk result (λ found. IfSome found (λ r. (from ≤ r.0) × (r.0 < mark))) }
+{
+    let mut number = from;
+    while let Some((found, row)) = store.next_from(walk.target.base, number, meter) {
+        if found >= mark {
+            return Ok(None);
+        }
+        if walk.is_chosen(row, store)? {
+            return Ok(Some((found, row)));
+        }
+        number = found + 1;
+    }
+    Ok(None)
+}
+
+/// The next row of a walk of the procedure's module.
+pub(crate) fn next_of_walk<'s, S: Store>(
+    called: &Called<'_>,
+    target: &Target,
+    store: &'s S,
+    cursor: &WalkingCursor,
+    meter: &mut Meter,
+) -> Result<Option<(u64, &'s Row)>, Fault> {
+    if target.base >= store.table_count() {
+        return Err(Fault::NOT_WELL_FORMED);
+    }
+    let walk = Walk {
+        alloc: called.alloc,
+        catalog: called.catalog,
+        user: called.procedure.user,
+        target,
+        values: cursor.values.as_slice(),
+    };
+    next_chosen(&walk, store, cursor.next, cursor.mark, meter)
+}
+
+/// A cursor, and the numbers of the rows that are left to it.
+#[derive(Drop)]
+pub(crate) struct ListedCursor {
+    pub(crate) number: usize,
+    pub(crate) numbers: Items<u64>,
+}
+
+/// The numbers of the rows that are left to the walk of a cursor, if it is one over this base table.
+pub(crate) fn listed_walk<S: Store>(
+    called: &Called<'_>,
+    number: usize,
+    table: usize,
+    store: &S,
+    walk: &WalkingCursor,
+) -> Result<Option<Items<u64>>, Fault> {
+    let Some(declared) = called.cursors.get(number) else {
+        return Err(Fault::NOT_WELL_FORMED);
+    };
+    match &declared.cursor.body {
+        CursorBody::Updatable(query) if query.target.base == table => {
+            let numbers = rest_of_walk(called, declared.user, &query.target, store, walk)?;
+            Ok(Some(numbers))
+        }
+        _ => Ok(None),
+    }
+}
+
+/// The numbers of the rows that are left to a walk of a user's cursor.
+fn rest_of_walk<S: Store>(
+    called: &Called<'_>,
+    user: Name,
+    target: &Target,
+    store: &S,
+    cursor: &WalkingCursor,
+) -> Result<Items<u64>, Fault> {
+    if target.base >= store.table_count() {
+        return Err(Fault::NOT_WELL_FORMED);
+    }
+    let walk = Walk {
+        alloc: called.alloc,
+        catalog: called.catalog,
+        user,
+        target,
+        values: cursor.values.as_slice(),
+    };
+    numbers_from(&walk, store, cursor.next, cursor.mark)
+}
+
+/// The numbers, from one on and before a mark, of the rows that the target means.
+fn numbers_from<S: Store>(
+    walk: &Walk<'_>,
+    store: &S,
+    from: u64,
+    mark: u64,
+) -> Result<Items<u64>, Fault>
+    requires { walk.now.target.now.base < length (S.content_now store.now) }
+{
+    let mut numbers = Items::new(walk.alloc);
+    let mut meter = Meter::new();
+    let mut number = from;
+    while let Some((found, _)) = next_chosen(walk, store, number, mark, &mut meter)? {
+        numbers.push(found)?;
+        number = found + 1;
+    }
+    Ok(numbers)
+}
+
+/// Lets a cursor that walks go on over a list.
+pub(crate) fn list_walk(cursor: &mut CursorState, numbers: Items<u64>)
+    ensures { is_open cursor.new ≡ is_open cursor.old }
+{
+    let on = number_on(cursor);
+    if let CursorState::Walking(_) = cursor {
+        *cursor = CursorState::Numbers(NumbersCursor {
+            numbers,
+            passed: 0,
+            on,
+        });
+    } else {
+        drop(numbers);
+    }
+}

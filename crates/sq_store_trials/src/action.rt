@@ -1,0 +1,54 @@
+//! What is done to a store in a trial.
+
+use sq_store::Change;
+use sq_value::{Decimal, Row, Value};
+use std::alloc::{AllocError, Global};
+
+/// A change of a table of two INTEGER columns.
+#[derive(Clone, Copy)]
+pub(crate) enum Step {
+    Nothing,
+    Insert(u32, u32),
+    Replace(u64, u32, u32),
+    Remove(u64),
+}
+
+/// A call that changes a store.
+#[derive(Clone, Copy)]
+pub(crate) enum Action {
+    Apply([Step; 3]),
+    /// Makes changes and takes them back.
+    Attempt([Step; 3]),
+    Commit,
+    Rollback,
+}
+
+/// A number of scale 0.
+pub(crate) fn number(value: u32) -> Value {
+    Value::Num(Decimal::new(value as i64, 0))
+}
+
+fn row(alloc: Global, first: u32, second: u32) -> Result<Row, AllocError> {
+    let mut row = Row::new(alloc);
+    row.push(number(first))?;
+    row.push(number(second))?;
+    Ok(row)
+}
+
+/// The changes that the steps stand for.
+pub(crate) fn changes_of(alloc: Global, steps: [Step; 3]) -> Result<Vec<Change>, AllocError> {
+    let mut changes = Vec::new(alloc);
+    for step in steps {
+        match step {
+            Step::Nothing => {}
+            Step::Insert(first, second) => {
+                changes.push(Change::Insert(row(alloc, first, second)?))?
+            }
+            Step::Replace(at, first, second) => {
+                changes.push(Change::Replace(at, row(alloc, first, second)?))?
+            }
+            Step::Remove(at) => changes.push(Change::Remove(at))?,
+        }
+    }
+    Ok(changes)
+}

@@ -1,0 +1,86 @@
+//! What a store shows of its content.
+
+use crate::action::number;
+use sq_store::{Meter, Store};
+use sq_value::{Key, Row, Value};
+use std::alloc::{AllocError, Global};
+use std::io;
+
+/// The greatest number that is asked for.
+const MOST: u64 = 12;
+
+/// The value of a column, 0 where it has no number.
+fn column(row: &Row, place: usize) -> i64 {
+    match row.as_slice().get(place) {
+        Some(Value::Num(number)) => number.unscaled(),
+        _ => 0,
+    }
+}
+
+/// For each row its number and two columns, and then how many numbers are left.
+pub(crate) fn content_of<S: Store>(alloc: Global, store: &S) -> Result<Vec<i64>, AllocError> {
+    let mut content = Vec::new(alloc);
+    if store.table_count() == 0 {
+        return Ok(content);
+    }
+    let mut meter = Meter::new();
+    for at in 1..=MOST {
+        if let Some(row) = store.row(0, at, &mut meter) {
+            content.push(at as i64)?;
+            content.push(column(row, 0))?;
+            content.push(column(row, 1))?;
+        }
+    }
+    content.push(store.numbers_left(0) as i64)?;
+    Ok(content)
+}
+
+/// The first number from each number on, as long as there is one.
+fn numbers_of<S: Store>(
+    alloc: Global,
+    store: &S,
+    meter: &mut Meter,
+) -> Result<Vec<u64>, AllocError> {
+    let mut numbers = Vec::new(alloc);
+    if store.table_count() == 0 {
+        return Ok(numbers);
+    }
+    for at in 1..=MOST {
+        if let Some((next, _)) = store.next_from(0, at, meter) {
+            numbers.push(next)?;
+        }
+    }
+    Ok(numbers)
+}
+
+/// Prints the rows, the first number from each number on, where the first key finds each value, and how many rows were
+/// handed out for that.
+pub(crate) fn show<S: Store>(rt: &impl Print, alloc: Global, store: &S) -> io::Result<()> {
+    let mut meter = Meter::new();
+    println!(rt; "  content {:?}", content_of(alloc, store)?)?;
+    println!(rt; "  from {:?}", numbers_of(alloc, store, &mut meter)?)?;
+    for value in 1..=9 {
+        if let Some(at) = found(alloc, store, value, &mut meter)? {
+            println!(rt; "  key {value}: {at}")?;
+        }
+    }
+    println!(rt; "  handed out {}", meter.count())
+}
+
+/// The number of the row whose first key is a number.
+fn found<S: Store>(
+    alloc: Global,
+    store: &S,
+    value: u32,
+    meter: &mut Meter,
+) -> Result<Option<u64>, AllocError> {
+    let values = [number(value)];
+    let key = Key::new(alloc, &values)?;
+    if store.table_count() == 0 || store.keys(0).is_empty() {
+        return Ok(None);
+    }
+    match store.find_key(0, 0, &key, meter) {
+        Some((at, _)) => Ok(Some(at)),
+        None => Ok(None),
+    }
+}

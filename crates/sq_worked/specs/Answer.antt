@@ -1,0 +1,176 @@
+-- What texts come to, from their bytes alone: the report of a run, or the first refusal with its place and cause. All
+-- schema texts are read and judged, then all modules, then the script; then the script runs.
+use Rattle.std.specs.Prelude.{ℕ, zero, suc, ◌+◌, ◌-◌, List, [], ◌∷◌, map, length, drop, slice_get, nat_lt, if◌then◌else◌, Option, option_map, Some, None, unwrap_or, Result, Ok, Err}
+use Rattle.sq_lex.specs.Reading.{reading}
+use Rattle.sq_lex.specs.Token.{lexemes}
+use Rattle.sq_lex.specs.declared.fault.LexFault.{LexFault}
+use Rattle.sq_lex.specs.declared.fault.LexFaultKind.{LexFaultKind}
+use Rattle.sq_lex.specs.declared.token.Token.{Token}
+use Rattle.sq_tree.specs.declared.«module».ModuleText.{ModuleText}
+use Rattle.sq_tree.specs.declared.schema.SchemaText.{SchemaText}
+use Rattle.sq_tree.specs.declared.script.ScriptText.{ScriptText}
+use Rattle.sq_grammar.specs.Brackets.{is_too_deep}
+use Rattle.sq_grammar.specs.declared.brackets.TheConstants.{MAX_DEPTH}
+use Rattle.sq_grammar.specs.Module.{item as module_item, module_text}
+use Rattle.sq_grammar.specs.Reading.{Outcome, Parser, Tokens, whole}
+use Rattle.sq_grammar.specs.Schema.{element as schema_element, next_definition, schema_text}
+use Rattle.sq_grammar.specs.Script.{item as script_item, script_text}
+use Rattle.sq_model.specs.Machine.{first_state}
+use Rattle.sq_model.specs.ModuleRefusal.{ModuleRefusal, first_module_refusal}
+use Rattle.sq_model.specs.Report.{Bytes, report}
+use Rattle.sq_model.specs.Run.{item_of_script, program_of}
+use Rattle.sq_model.specs.SchemaRefusal.{SchemaRefusal, elements_of, first_schema_refusal}
+use Rattle.sq_model.specs.Script.{ScriptRefusal, first_script_refusal}
+use Rattle.sq_model.specs.declared.refusal.ModuleFault.{ModuleFault}
+use Rattle.sq_model.specs.declared.refusal.SchemaFault.{SchemaFault}
+use Rattle.sq_model.specs.declared.refusal.ScriptFault.{ScriptFault}
+
+-- ---- what is answered
+
+pub data Cause : Type 0 where
+  lexical : LexFaultKind → Cause
+  unexpected : Cause
+  too_deep : Cause
+  end_of_text : Cause
+  of_schema : SchemaFault → Cause
+  of_module : ModuleFault → Cause
+  of_script : ScriptFault → Cause
+
+-- lines and columns from 1
+pub record Fault : Type 0 where
+  pub line : ℕ
+  pub column : ℕ
+  pub cause : Cause
+
+-- the text's number, from 0 among those of its kind
+pub record Refusal : Type 0 where
+  pub text : ℕ
+  pub fault : Fault
+
+pub data Answer : Type 0 where
+  schema_refused : Refusal → Answer
+  module_refused : Refusal → Answer
+  script_refused : Fault → Answer
+  reported : Bytes → Answer
+
+-- ---- a text
+
+pub record ReadText (T : Type 0) : Type 0 where
+  pub tokens : List Token
+  pub tree : T
+
+-- at a token, or at the first byte of a text without tokens
+abbrev pub fault_at_token : Option Token → Cause → Fault
+fault_at_token None cause = record { line = 1; column = 1; cause = cause }
+fault_at_token (Some t) cause = record { line = t.line; column = t.column; cause = cause }
+
+abbrev pub fault_at : List Token → ℕ → Cause → Fault
+fault_at tokens place cause = fault_at_token (slice_get tokens place) cause
+
+-- where reading is stuck: a bracket too many goes before any other fault of its token; past the end it is the last token
+abbrev pub grammar_fault : List Token → ℕ → Fault
+grammar_fault tokens place =
+    if nat_lt place (length tokens)
+    then fault_at tokens place (if is_too_deep (lexemes tokens) place then Cause.too_deep else Cause.unexpected)
+    else fault_at tokens (length tokens - 1) Cause.end_of_text
+
+abbrev pub of_outcome : {T : Type 0} → List Token → Outcome T → Result (ReadText T) Fault
+of_outcome tokens (Ok read) = Ok (record { tokens = tokens; tree = read.0 })
+of_outcome tokens (Err left) = Err (grammar_fault tokens (length tokens - left))
+
+abbrev pub of_tokens : {T : Type 0} → Parser T → Result (List Token) LexFault → Result (ReadText T) Fault
+of_tokens rule (Err fault) = Err (record { line = fault.line; column = fault.column; cause = Cause.lexical fault.kind })
+of_tokens rule (Ok tokens) = of_outcome tokens (whole rule (lexemes tokens))
+
+-- a text read by a rule of the grammar
+abbrev pub read_text : {T : Type 0} → Parser T → Bytes → Result (ReadText T) Fault
+read_text rule text = of_tokens rule (reading text)
+
+-- some texts, up to the first that has a fault
+abbrev pub with_first : {T : Type 0} → ℕ → Result (ReadText T) Fault → Result (List (ReadText T)) Refusal → Result (List (ReadText T)) Refusal
+with_first number (Err fault) others = Err (record { text = number; fault = fault })
+with_first number (Ok read) (Err refusal) = Err refusal
+with_first number (Ok read) (Ok others) = Ok (read ∷ others)
+
+abbrev pub read_texts : {T : Type 0} → Parser T → ℕ → List Bytes → Result (List (ReadText T)) Refusal
+read_texts rule number [] = Ok []
+read_texts rule number (text ∷ texts) = with_first number (read_text rule text) (read_texts rule (number + 1) texts)
+
+abbrev pub trees : {T : Type 0} → List (ReadText T) → List T
+trees texts = map (λ t. t.tree) texts
+
+-- ---- where the parts of a text begin
+
+abbrev pub behind_item : {A : Type 0} → Tokens → Outcome A → Tokens
+behind_item otherwise (Ok read) = read.1
+behind_item otherwise (Err left) = otherwise
+
+-- what is left behind so many items
+abbrev pub behind_items : {A : Type 0} → Parser A → ℕ → Tokens → Tokens
+behind_items item zero tokens = tokens
+behind_items item (suc n) tokens = behind_items item n (behind_item tokens (item tokens))
+
+-- a schema definition's own CREATE, or an element behind CREATE SCHEMA AUTHORIZATION name
+abbrev pub behind_schema_part : Option ℕ → Tokens → Tokens
+behind_schema_part None tokens = tokens
+behind_schema_part (Some n) tokens = behind_items (schema_element MAX_DEPTH (MAX_DEPTH - 1)) n (drop 4 tokens)
+
+abbrev pub behind_schemas : ℕ → Option ℕ → Tokens → Tokens
+behind_schemas schema part tokens = behind_schema_part part (behind_items (next_definition MAX_DEPTH (MAX_DEPTH - 1)) schema tokens)
+
+-- the module's first token, or an item behind MODULE name LANGUAGE name AUTHORIZATION name
+abbrev pub behind_module_part : Option ℕ → Tokens → Tokens
+behind_module_part None tokens = tokens
+behind_module_part (Some n) tokens = behind_items (module_item MAX_DEPTH) n (drop 6 tokens)
+
+-- a fault at the first token of what is left
+abbrev pub fault_before : List Token → Tokens → Cause → Fault
+fault_before tokens left cause = fault_at tokens (length tokens - length left) cause
+
+abbrev pub tokens_of : {T : Type 0} → List (ReadText T) → ℕ → List Token
+tokens_of texts number = unwrap_or (option_map (λ t. t.tokens) (slice_get texts number)) []
+
+-- ---- the script, the modules, the schemas
+
+abbrev pub of_script_refusal : Option ScriptRefusal → List SchemaText → List ModuleText → ReadText ScriptText → ℕ → Answer
+of_script_refusal (Some r) schemas modules script row_numbers =
+    Answer.script_refused (fault_before script.tokens (behind_items script_item r.item (lexemes script.tokens)) (Cause.of_script r.fault))
+of_script_refusal None schemas modules script row_numbers =
+    let p = program_of schemas modules row_numbers in Answer.reported (report p (first_state p) (map item_of_script script.tree.items))
+
+abbrev pub with_script : List SchemaText → List ModuleText → Result (ReadText ScriptText) Fault → ℕ → Answer
+with_script schemas modules (Err fault) row_numbers = Answer.script_refused fault
+with_script schemas modules (Ok script) row_numbers =
+    of_script_refusal (first_script_refusal (elements_of schemas) modules script.tree) schemas modules script row_numbers
+
+abbrev pub module_refusal : List (ReadText ModuleText) → ModuleRefusal → Refusal
+module_refusal texts r = record {
+  text = r.text;
+  fault = fault_before (tokens_of texts r.text) (behind_module_part r.item (lexemes (tokens_of texts r.text))) (Cause.of_module r.fault);
+}
+
+abbrev pub of_module_refusal : Option ModuleRefusal → List SchemaText → List (ReadText ModuleText) → Bytes → ℕ → Answer
+of_module_refusal (Some r) schemas modules script row_numbers = Answer.module_refused (module_refusal modules r)
+of_module_refusal None schemas modules script row_numbers = with_script schemas (trees modules) (read_text script_text script) row_numbers
+
+abbrev pub with_modules : List SchemaText → Result (List (ReadText ModuleText)) Refusal → Bytes → ℕ → Answer
+with_modules schemas (Err refusal) script row_numbers = Answer.module_refused refusal
+with_modules schemas (Ok modules) script row_numbers = of_module_refusal (first_module_refusal (trees modules)) schemas modules script row_numbers
+
+abbrev pub schema_refusal : List (ReadText SchemaText) → SchemaRefusal → Refusal
+schema_refusal texts r = record {
+  text = r.text;
+  fault = fault_before (tokens_of texts r.text) (behind_schemas r.schema r.element (lexemes (tokens_of texts r.text))) (Cause.of_schema r.fault);
+}
+
+abbrev pub of_schema_refusal : Option SchemaRefusal → List (ReadText SchemaText) → List Bytes → Bytes → ℕ → Answer
+of_schema_refusal (Some r) schemas modules script row_numbers = Answer.schema_refused (schema_refusal schemas r)
+of_schema_refusal None schemas modules script row_numbers = with_modules (trees schemas) (read_texts (module_text MAX_DEPTH) 0 modules) script row_numbers
+
+abbrev pub with_schemas : Result (List (ReadText SchemaText)) Refusal → List Bytes → Bytes → ℕ → Answer
+with_schemas (Err refusal) modules script row_numbers = Answer.schema_refused refusal
+with_schemas (Ok schemas) modules script row_numbers = of_schema_refusal (first_schema_refusal (trees schemas)) schemas modules script row_numbers
+
+-- schema texts, module texts, a script, and the greatest number of a row
+abbrev pub answered : List Bytes → List Bytes → Bytes → ℕ → Answer
+answered schemas modules script row_numbers = with_schemas (read_texts (schema_text MAX_DEPTH (MAX_DEPTH - 1)) 0 schemas) modules script row_numbers

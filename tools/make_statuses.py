@@ -1,0 +1,72 @@
+#!/usr/bin/env python3
+"""Makes docs/STATUSES.md of crates/sq_cases/data/runs-statuses.txt, whose runs the gate makes."""
+from pathlib import Path
+
+ROOT = Path(__file__).resolve().parent.parent
+PARTS = {
+    "Status": "## Statuses\n\nSQLSTATE (ISO/IEC 9075:1992, 22.1) and SQLCODE of a call. `S1L00` and the codes below zero are own choices.",
+    "Text": "## Refusals of any text\n\nFor its tokens or its grammar. Exit status 2; nothing is written.",
+    "Schema": "## Refusals of schemas\n\nOf several in one element, the first of this list is answered.",
+    "Module": "## Refusals of modules\n\nOf several in one module, `TwoModules` goes first, then this order.",
+    "Script": "## Refusals of scripts",
+    "Fault": "## Statements that are not well formed\n\nEach call of the procedure answers 42000. The name of the fault isn't printed.",
+}
+WIDEST = 160
+
+
+def shown(lines):
+    """A text's lines as a block; a long line is cut."""
+    return [line if len(line) <= WIDEST else line[:WIDEST] + " .." for line in lines]
+
+
+def texts(lines):
+    """The parts of a run: what each is, and its lines."""
+    parts = []
+    for line in lines:
+        if line.startswith("|"):
+            parts[-1][1].append(line[1:])
+        elif line:
+            parts.append((line, []))
+    return [(part, lines) for part, lines in parts if lines or part.startswith(("refused", "rows"))]
+
+
+def texts_block(parts):
+    """The texts of a run in one block, each behind a comment that says what it is."""
+    lines = []
+    for part, written in parts:
+        if part.startswith("rows"):
+            lines.append(f"-- run with --{part}")
+        else:
+            lines += [f"-- {part}", *shown(written[:4] + ["..", written[-1]] if len(written) > 8 else written)]
+    return ["```", *lines, "```", ""]
+
+
+def answer_block(part, lines):
+    """What the program prints."""
+    if part.startswith("refused"):
+        kind, _, place, name = part.split()[1:]
+        return ["On standard error, with the file's name:", "", "```", f"sqmod: {kind}:{place}: {name}", "```", ""]
+    return ["```", *lines, "```", ""]
+
+
+def main():
+    data = (ROOT / "crates/sq_cases/data/runs-statuses.txt").read_text()
+    page = ["# Statuses, refusals and faults", "",
+            "Each with a small text that shows it, and what the program prints. This page is made of",
+            "`crates/sq_cases/data/runs-statuses.txt` by `tools/make_statuses.py`; the gate runs each of these texts and compares.", ""]
+    seen = None
+    for run in data.split("\nrun ")[1:]:
+        name, *lines = run.split("\n")
+        kind, rest = name.split(" ", 1)
+        if kind != seen:
+            page += [PARTS[kind], ""]
+            seen = kind
+        title, says = rest.split(": ", 1)
+        page += [f"### `{title}`", "", says[0].upper() + says[1:] + ".", ""]
+        *parts, answer = texts(lines)
+        page += texts_block(parts) + answer_block(*answer)
+    (ROOT / "docs/STATUSES.md").write_text("\n".join(page).rstrip() + "\n")
+
+
+if __name__ == "__main__":
+    main()

@@ -1,0 +1,166 @@
+#!/usr/bin/env python3
+"""Prints runs of crates/sq_cases/data as equations on the definitions, for the files of crates/sq_worked/proofs.
+
+    print_runs.py texts                          the texts of the kit, for specs/Texts.antt
+    print_runs.py runs DATA "WHAT THEY SHOW" NAME..   the runs of these names of a file of data
+
+Texts are printed byte for byte, a line at a time; a run is the equation that its texts come to its report, or to
+its refusal.
+"""
+
+import os
+import re
+import sys
+
+DATA = os.path.join(os.path.dirname(os.path.abspath(__file__)), "..", "crates", "sq_cases", "data")
+KIT = (("schema", "schema.sql"), ("first_module", "module.sql"), ("second_module", "second-module.sql"),
+       ("scrolling_module", "scrolling-module.sql"))
+USUAL_ROW_NUMBERS = "1000000"
+FAULTS = (("lexical", "sq_lex.specs.declared.fault.LexFaultKind"), ("schema_fault", "sq_model.specs.declared.refusal.SchemaFault"),
+          ("module_fault", "sq_model.specs.declared.refusal.ModuleFault"), ("script_fault", "sq_model.specs.declared.refusal.ScriptFault"))
+
+
+def unescaped(line):
+    return re.sub(r"\\(x[0-9a-f]{2}|.)", lambda m: {"r": "\r", "n": "\n", "t": "\t", "\\": "\\"}.get(m.group(1)) or chr(int(m.group(1)[1:], 16)), line)
+
+
+class Run:
+    def __init__(self, name):
+        self.name, self.rows, self.schemas, self.modules, self.script, self.report, self.refused = name, USUAL_ROW_NUMBERS, [], [], "", "", None
+
+
+def runs_of(path):
+    """The runs of a file of data: see the lines at its head."""
+    runs, part = [], None
+    with open(path, newline="") as file:
+        lines = file.read().split("\n")
+    for line in lines:
+        words = line.split(" ")
+        if line[:1] in ("|", "."):
+            part.append(unescaped(line[1:]) + ("\n" if line[0] == "|" else ""))
+        elif words[0] == "run":
+            runs.append(Run(words[1]))
+        elif words[0] == "rows":
+            runs[-1].rows = words[1]
+        elif words[0] in ("schema", "module"):
+            part = []
+            (runs[-1].schemas if words[0] == "schema" else runs[-1].modules).append(part)
+        elif words[0] in ("script", "report"):
+            part = []
+            setattr(runs[-1], words[0], part)
+        elif words[0] == "refused":
+            runs[-1].refused = words[1:]
+    for run in runs:
+        run.schemas, run.modules = ["".join(p) for p in run.schemas], ["".join(p) for p in run.modules]
+        run.script, run.report = "".join(run.script), "".join(run.report)
+    return runs
+
+
+def quoted(text):
+    """A line as codes; bytes that are no characters stand by their numbers."""
+    escapes = {"\\": "\\\\", '"': '\\"', "\n": "\\n", "\t": "\\t", "\r": "\\r"}
+    pieces = re.findall(r"[\t\n\r -~]+|[^\t\n\r -~]", text)
+    return " ++ ".join('codes "%s"' % "".join(escapes.get(c, c) for c in piece) if piece.isascii() and piece >= "\t" and piece != "\x7f"
+                       else "(%d ∷ [])" % ord(piece) for piece in pieces)
+
+
+def text_term(text):
+    lines = re.findall(r"[^\n]*\n|[^\n]+", text)
+    return "\n    ++ ".join(quoted(line) for line in lines) if lines else "[]"
+
+
+def defined(name, text):
+    return "abbrev %s : Bytes\n%s =\n    %s\n" % (name, name, text_term(text))
+
+
+def kit_texts():
+    found = {}
+    for name, file in KIT:
+        with open(os.path.join(DATA, file)) as text:
+            found[name] = text.read()
+    return found
+
+
+def print_texts():
+    print("-- The texts of the kit: a schema and its modules. Printed by tools/print_runs.py.")
+    print("use Rattle.std.specs.Prelude.{◌++◌, codes}\nuse Rattle.sq_model.specs.Report.{Bytes}\n")
+    print("\n".join(defined(name, text).replace("abbrev ", "abbrev pub ", 1) for name, text in kit_texts().items()), end="")
+
+
+LEXICAL = {"BadByte", "OpenText", "LongName", "NumberThenLetter", "LongNumber", "LongText"}
+GRAMMAR = {"Unexpected": "unexpected", "TooDeep": "too_deep", "EndOfText": "end_of_text"}
+
+
+def cause_term(kind, name):
+    if name in LEXICAL:
+        return "(Cause.lexical lexical.%s)" % name
+    return "Cause.%s" % GRAMMAR[name] if name in GRAMMAR else "(Cause.of_%s %s_fault.%s)" % (kind, kind, name)
+
+
+def answer_term(run):
+    """The answer that is wanted: a report, or a refusal's text, place and name."""
+    if not run.refused:
+        return "Answer.reported (\n    %s)" % text_term(run.report)
+    kind, text, place, name = run.refused
+    line, column = place.split(":")
+    fault = "record { line = %s; column = %s; cause = %s }" % (line, column, cause_term(kind, name))
+    if kind == "script":
+        return "Answer.script_refused (%s)" % fault
+    return "Answer.%s_refused (record { text = %d; fault = %s })" % (kind, int(text) - 1, fault)
+
+
+def print_run(run, kit):
+    used, defs = set(), []
+
+    def named(kind, texts):
+        names = []
+        for place, text in enumerate(texts):
+            shared = [name for name, same in kit.items() if same == text or same == text + "\n"]
+            if shared:
+                names.append(shared[0])
+                used.add(shared[0])
+            else:
+                names.append("%s-%s-%d" % (run.name, kind, place))
+                defs.append(defined(names[-1], text))
+        return " ∷ ".join(names + ["[]"])
+
+    schemas, modules = named("schema", run.schemas), named("module", run.modules)
+    defs.append(defined(run.name + "-script", run.script))
+    defs.append("%s : answered (%s) (%s) %s-script %s ≡ %s\nunfolding computed\n%s = refl\n"
+                % (run.name, schemas, modules, run.name, run.rows, answer_term(run), run.name))
+    return "-- ---- %s\n\n%s" % (run.name.replace("_", " "), "\n".join(defs)), used
+
+
+def print_runs(path, shows, names):
+    runs = {run.name: run for run in runs_of(os.path.join(DATA, path))}
+    kit, used, bodies = kit_texts(), set(), []
+    for name in names:
+        body, these = print_run(runs[name], kit)
+        bodies.append(body)
+        used |= these
+    print("-- %s. Printed by tools/print_runs.py from sq_cases/data/%s." % (shows, path))
+    text = "\n".join(bodies)
+    print("use Rattle.std.specs.Prelude.{◌≡◌, [], ◌∷◌, %scodes, refl}" % ("◌++◌, " if " ++ " in text else ""))
+    for alias, module in FAULTS:
+        if alias + "." in text:
+            print("use Rattle.%s.TheVariants as %s" % (module, alias))
+    print("use Rattle.sq_model.specs.Report.{Bytes}")
+    print("use Rattle.sq_worked.specs.Answer.{Answer, %sanswered}" % ("Cause, " if "Cause." in text else ""))
+    if used:
+        print("use Rattle.sq_worked.specs.Texts.{%s}" % ", ".join(name for name, _ in KIT if name in used))
+    print("use Rattle.sq_worked.proofs.Computed.{computed}\n")
+    print(text, end="")
+
+
+def main():
+    words = sys.argv[1:]
+    if words[:1] == ["texts"]:
+        print_texts()
+    elif words[:1] == ["runs"] and len(words) > 3:
+        print_runs(words[1], words[2], words[3:])
+    else:
+        raise SystemExit(__doc__)
+
+
+if __name__ == "__main__":
+    main()
