@@ -10,7 +10,8 @@ use Rattle.sq_value.specs.laws.ValueOrder.{same_equiv}
 use Rattle.sq_value.specs.declared.value.Value.{Value}
 use Rattle.sq_store.specs.Keys.{are_distinct, has_columns, has_key}
 use Rattle.sq_heap.specs.Alone.{is_alone, slots_have}
-use Rattle.sq_heap.specs.Index.{bucket_of, columns_of, enters, has_entry, hash_of, in_all, is_entry, is_in, keys_of, named, names_key, names_other, slot_has_key, slots_hold}
+use Rattle.sq_heap.specs.Chain.{is_entry}
+use Rattle.sq_heap.specs.Index.{bucket_of, columns_of, enters, has_entry, hash_of, in_all, is_in, keys_of, named, names_key, names_other, slot_has_key, slots_hold}
 use Rattle.sq_heap.specs.Slots.{Slot, rows_from, slot_at}
 use Rattle.sq_heap.specs.declared.index.Entry.{Entry}
 use Rattle.sq_heap.specs.declared.index.Index.{Index}
@@ -93,11 +94,11 @@ other_row columns key at ss hash (e ∷ es) h = by_test (names_other columns key
 -- ---- a row in a slot has its entry under the hash of a key that is the same
 
 entry_under : (index : Index) (key : List Value) (ss : List Slot) (hash j : ℕ) (q : List Value) → hash ≡ hash_of key → slots_hold (is_in index) 0 ss ≡ true → slot_at ss j ≡ Some q → pointwise is_same key (in_columns q index.columns) ≡ true
-    → list_any (is_entry hash j) (bucket_of index.buckets.items hash) ≡ true
+    → list_any (is_entry hash j) (bucket_of index hash) ≡ true
 entry_under index key ss hash j q e h s same =
     let under : hash ≡ hash_of (in_columns q index.columns) = e ∙ same_hash key (in_columns q index.columns) same in
     let k : j ≡ 0 + j = omega arith in
-    ap (λ (n : ℕ). has_entry index.buckets.items n j) under ∙ ap (is_in index q) k ∙ holds_at (is_in index) 0 ss j q h s
+    ap (λ (n : ℕ). has_entry index n j) under ∙ ap (is_in index q) k ∙ holds_at (is_in index) 0 ss j q h s
 
 -- ---- no row with a key
 
@@ -109,11 +110,11 @@ no_key columns key n (Some r ∷ ss) f =
     let rest : find (has_key columns key) (rows_from (n + 1) ss) ≡ None = no_key columns key (n + 1) ss (λ j q e. f (suc j) q e) in
     grind (arith, common_steps)
 
-pub none_with : (index : Index) (key : List Value) (ss : List Slot) (hash : ℕ) → hash ≡ hash_of key → slots_hold (is_in index) 0 ss ≡ true → list_any (names_key index.columns key ss hash) (bucket_of index.buckets.items hash) ≡ false
+pub none_with : (index : Index) (key : List Value) (ss : List Slot) (hash : ℕ) → hash ≡ hash_of key → slots_hold (is_in index) 0 ss ≡ true → list_any (names_key index.columns key ss hash) (bucket_of index hash) ≡ false
     → find (has_key index.columns key) (rows_from 1 ss) ≡ None
 none_with index key ss hash e h none = no_key index.columns key 1 ss (λ j q s. not_true (pointwise is_same key (in_columns q index.columns)) (λ same.
-    let some : list_any (names_key index.columns key ss hash) (bucket_of index.buckets.items hash) ≡ true
-    = names_one index.columns key ss hash j q (bucket_of index.buckets.items hash) s same (entry_under index key ss hash j q e h s same) in
+    let some : list_any (names_key index.columns key ss hash) (bucket_of index hash) ≡ true
+    = names_one index.columns key ss hash j q (bucket_of index hash) s same (entry_under index key ss hash j q e h s same) in
     false≢true (sym none ∙ some)))
 
 -- ---- the row with a key
@@ -141,12 +142,12 @@ found_with columns key n (Some r ∷ ss) (suc j) q number e h s same =
 -- ---- a row that shares its key with no other
 
 pub alone_in : (index : Index) (row : List Value) (at : ℕ) (ss : List Slot) (hash : ℕ) → hash ≡ hash_of (in_columns row index.columns) → slots_hold (is_in index) 0 ss ≡ true
-    → not (list_any (names_other index.columns (in_columns row index.columns) at ss hash) (bucket_of index.buckets.items hash)) ≡ is_alone index.columns row at 0 ss
+    → not (list_any (names_other index.columns (in_columns row index.columns) at ss hash) (bucket_of index hash)) ≡ is_alone index.columns row at 0 ss
 alone_in index row at ss hash e h =
     let columns = index.columns in
     let key = in_columns row index.columns in
-    let es = bucket_of index.buckets.items hash in
-    let any = list_any (names_other index.columns (in_columns row index.columns) at ss hash) (bucket_of index.buckets.items hash) in
+    let es = bucket_of index hash in
+    let any = list_any (names_other index.columns (in_columns row index.columns) at ss hash) (bucket_of index hash) in
     same_from (not any) (is_alone columns row at 0 ss)
     (λ none. alone_from columns row at 0 ss (λ j q s same. by_test (nat_eq j at)
     (λ t. let k : 0 + j ≡ at = grind (arith, common_steps) in k)

@@ -1,4 +1,6 @@
 pub mod Back
+pub mod Blocks
+pub mod Chains
 pub mod Columns
 pub mod Distinct
 pub mod Heap
@@ -6,5 +8,4 @@ pub mod Holds
 pub mod Entries
 pub mod Keyed
 pub mod OnResult
-pub mod Slots
-pub mod Starts
+pub mod Rows

@@ -87,13 +87,13 @@ impl Store for HeapStore {
     }
 
     fn next_from(&self, table: usize, number: u64, meter: &mut Meter) -> Option<(u64, &Row)> {
-        let found = self.tables[table].first_from(number)?;
+        let found = self.tables[table].slots().first_from(number)?;
         meter.hand_out();
         Some(found)
     }
 
     fn row(&self, table: usize, number: u64, meter: &mut Meter) -> Option<&Row> {
-        let row = self.tables[table].row_at(number)?;
+        let row = self.tables[table].slots().row_at(number)?;
         meter.hand_out();
         Some(row)
     }
@@ -112,7 +112,7 @@ impl Store for HeapStore {
 
     #[tactic(auto, using(crate::proofs::Heap::slots_within, crate::proofs::Heap::map_at))]
     fn numbers_left(&self, table: usize) -> u64 {
-        self.row_numbers - self.tables[table].len() as u64
+        self.row_numbers - self.tables[table].slots().len() as u64
     }
 
     fn apply(

@@ -5,5 +5,5 @@ use Rattle.sq_heap.proofs.store.HeapStoreStore.numbers_left.Goals as goal
 pub overflow_sub-result : goal.overflow_sub-result
 overflow_sub-result c =
     let s = c.args.self.now in
-    let within : length c.index.result.now.slots.items ≤ s.row_numbers = slots_within s.row_numbers s.keys s.tables.items c.args.table c.index.result.now s.sound c.requires c.index.ensures in
+    let within : length c.index.result.now.slots.list.items ≤ s.row_numbers = slots_within s.row_numbers s.keys s.tables.items c.args.table c.index.result.now s.sound c.requires c.index.ensures in
     omega arith

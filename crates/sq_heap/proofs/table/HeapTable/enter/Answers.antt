@@ -9,7 +9,7 @@ invariant_of-self c =
     let Q = in_all c.enter_all.new.indexes.items in
     record {
       undoable = s.undoable;
-      entered = slots_give P Q c.enter_all.ensures.keeps 0 s.slots.items s.entered;
+      entered = slots_give P Q c.enter_all.ensures.keeps 0 s.slots.list.items s.entered;
       undo_entered = undo_gives P Q c.enter_all.ensures.keeps s.undo.items s.undo_entered;
       starts = s.starts;
       undo_starts = s.undo_starts;

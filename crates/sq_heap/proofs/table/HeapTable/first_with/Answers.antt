@@ -12,7 +12,7 @@ use Rattle.sq_heap.proofs.table.HeapTable.first_with.Goals as goal
 pub first_with-requires-clause-columns : goal.first_with-requires-clause-columns
 first_with-requires-clause-columns c =
     let xs = c.args.self.now.indexes.items in
-    let ss = c.args.self.now.slots.items in
+    let ss = c.args.self.now.slots.list.items in
     let x = c.index.result.now in
     let long : length (keys_of c.args.self.now.indexes.items) ≡ length c.args.self.now.indexes.items = length_keys xs in
     let lt : c.args.key < length c.args.self.now.indexes.items = omega (arith, c.requires.key) in
@@ -22,7 +22,7 @@ first_with-requires-clause-columns c =
 pub first_with-requires-clause-entered : goal.first_with-requires-clause-entered
 first_with-requires-clause-entered c =
     let xs = c.args.self.now.indexes.items in
-    let ss = c.args.self.now.slots.items in
+    let ss = c.args.self.now.slots.list.items in
     let x = c.index.result.now in
     let long : length (keys_of c.args.self.now.indexes.items) ≡ length c.args.self.now.indexes.items = length_keys xs in
     let lt : c.args.key < length c.args.self.now.indexes.items = omega (arith, c.requires.key) in
@@ -32,7 +32,7 @@ first_with-requires-clause-entered c =
 pub first_with-requires-clause-distinct : goal.first_with-requires-clause-distinct
 first_with-requires-clause-distinct c =
     let xs = c.args.self.now.indexes.items in
-    let ss = c.args.self.now.slots.items in
+    let ss = c.args.self.now.slots.list.items in
     let x = c.index.result.now in
     let long : length (keys_of c.args.self.now.indexes.items) ≡ length c.args.self.now.indexes.items = length_keys xs in
     let lt : c.args.key < length c.args.self.now.indexes.items = omega (arith, c.requires.key) in

@@ -15,9 +15,9 @@ loop-change-preserved c =
     record {
       can = tt {0};
       ends = tt {0};
-      so_far = c.in_ok-make.ensures.table ∙ ap (λ (t : Table). changed t change) c.loop-change.invariant.so_far ∙ sym (changed_by_push (table_of before.slots.items) c.loop-change.yielded change);
+      so_far = c.in_ok-make.ensures.table ∙ ap (λ (t : Table). changed t change) c.loop-change.invariant.so_far ∙ sym (changed_by_push (table_of before.slots.list.items) c.loop-change.yielded change);
       keys = c.make.ensures.keys ∙ c.loop-change.invariant.keys;
-      back = goes_back_then before.slots.items before.undo.items mid.slots.items mid.undo.items later.slots.items later.undo.items c.loop-change.invariant.back c.make.ensures.back;
+      back = goes_back_then before.slots.list.items before.undo.items mid.slots.list.items mid.undo.items later.slots.list.items later.undo.items c.loop-change.invariant.back c.make.ensures.back;
       slots = omega (arith, c.make.ensures.slot_room.len);
       undo = omega (arith, c.make.ensures.undo_room.len);
       slot_room = omega (arith, c.make.ensures.slot_room.room);

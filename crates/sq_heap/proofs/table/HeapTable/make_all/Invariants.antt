@@ -9,9 +9,9 @@ abbrev pub invariant-loop-change : goal.invariant-loop-change
 invariant-loop-change l = record {
   can : (goal.iterator-loop-change).can_next l.change-iterator;
   ends : (goal.iterator-loop-change).is_finite l.change-iterator;
-  so_far : table_of l.self.slots.items ≡ changed_by (table_of l.initial.self.slots.items) l.yielded;
+  so_far : table_of l.self.slots.list.items ≡ changed_by (table_of l.initial.self.slots.list.items) l.yielded;
   keys : keys_of l.self.indexes.items ≡ keys_of l.initial.self.indexes.items;
-  back : GoesBack l.initial.self.slots.items l.initial.self.undo.items l.self.slots.items l.self.undo.items;
+  back : GoesBack l.initial.self.slots.list.items l.initial.self.undo.items l.self.slots.list.items l.self.undo.items;
   slots : vec_len l.self.slots ≤ vec_len l.initial.self.slots + length l.yielded;
   undo : vec_len l.self.undo ≤ vec_len l.initial.self.undo + length l.yielded;
   slot_room : vec_capacity l.initial.self.slots ≤ vec_capacity l.self.slots;

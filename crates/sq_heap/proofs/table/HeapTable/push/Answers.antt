@@ -12,16 +12,16 @@ use Rattle.sq_heap.proofs.table.HeapTable.push.Goals as goal
 pub invariant_of-self : goal.invariant_of-self
 invariant_of-self c =
     let t = c.enter.new.self in
-    let ss = c.enter.new.self.slots.items in
+    let ss = c.enter.new.self.slots.list.items in
     let us = c.enter.new.self.undo.items in
     let at = c.len-at.result in
-    let slots : c.push.new.self.items ≡ c.enter.new.self.slots.items ++ Some c.args.row ∷ [] = first_of (search rules, grind (arith, common_steps)) in
+    let slots : c.push.new.self.items ≡ c.enter.new.self.slots.list.items ++ Some c.args.row ∷ [] = first_of (search rules, grind (arith, common_steps)) in
     let undo : c.push-2.new.self.items ≡ c.enter.new.self.undo.items ++ record { at = c.len-at.result; old = None } ∷ [] = first_of (search rules, grind (arith, common_steps)) in
-    let place : c.len-at.result ≡ length c.enter.new.self.slots.items = first_of (search rules, grind (arith, common_steps)) in
+    let place : c.len-at.result ≡ length c.enter.new.self.slots.list.items = first_of (search rules, grind (arith, common_steps)) in
     let entered : in_all c.enter.new.self.indexes.items c.args.row c.len-at.result ≡ true = ap (λ (r : List Value). in_all t.indexes.items r at) (sym c.as_slice.ensures) ∙ c.in_ok-enter.ensures.entered in
-    let within : c.enter.new.self.start ≤ length c.enter.new.self.slots.items = t.start_within in
+    let within : c.enter.new.self.start ≤ length c.enter.new.self.slots.list.items = t.start_within in
     let from : nat_le c.enter.new.self.start c.len-at.result ≡ true = grind (arith, common_steps) in
-    let long : length c.push.new.self.items ≡ length c.enter.new.self.slots.items + 1 = ap length slots ∙ length_push ss (Some c.args.row) in
+    let long : length c.push.new.self.items ≡ length c.enter.new.self.slots.list.items + 1 = ap length slots ∙ length_push ss (Some c.args.row) in
     record {
       undoable = (λ i. fits (length (slots i)) (undo i)) ∙ fits_new ss us (Some c.args.row) at place t.undoable;
       entered = ap (slots_hold (in_all t.indexes.items) 0) slots ∙ holds_push (in_all t.indexes.items) 0 ss (Some c.args.row) at (omega (arith, place)) t.entered entered;
