@@ -4,16 +4,11 @@ use Rattle.std.proofs.lemmas.Grind.{common_steps}
 use Rattle.std.proofs.lemmas.List.{get_or-set_same}
 use Rattle.std.proofs.Math.Nat.{div-add-mod, mod-lt}
 use Rattle.sq_store.specs.Content.{first_among}
-use Rattle.sq_heap.specs.Blocks.{row_in, rows_in}
+use Rattle.sq_heap.specs.Blocks.{row_in, rows_in, rows_of}
 use Rattle.sq_heap.specs.Slots.{Slot, rows_from, slot_at}
 use Rattle.sq_heap.specs.declared.slots.TheConstants.{BLOCK}
 use Rattle.sq_heap.proofs.Chains.{head_other}
 use Rattle.sq_heap.proofs.Distinct.{by_test}
-
--- how many rows a slot has
-abbrev pub rows_of : Slot → ℕ
-rows_of None = 0
-rows_of (Some row) = 1
 
 in_block : (b at : ℕ) (s : Slot) → nat_eq (at / BLOCK) b ≡ true → row_in b at s ≡ rows_of s
 in_block b at None t = refl
@@ -98,6 +93,22 @@ counted_alike cs ss later at s old counts turns e b =
     let same : row_in b at old ≡ row_in b at s = row_of_kind b at old s e in
     omega (arith, counts b, turns b)
 
+-- a slot's rows are among those of its block
+pub counted_least : (cs : List ℕ) (ss later : List Slot) (at q : ℕ) (old : Slot) → Counted cs ss → Turns at old None ss later → q ≡ at / BLOCK → rows_of old ≤ slice_index_or cs q 0
+counted_least cs ss later at q old counts turns e =
+    let here : nat_eq (at / BLOCK) q ≡ true = grind (arith, common_steps) in
+    let one : row_in q at old ≡ rows_of old = in_block q at old here in
+    omega (arith, counts q, one, turns q)
+
+-- nor are they more than the slots
+pub counted_most : (cs : List ℕ) (ss later : List Slot) (at q v : ℕ) (s old : Slot) → Counted cs ss → Turns at old s ss later → q ≡ at / BLOCK → v + rows_of old ≡ slice_index_or cs q 0 + rows_of s → v ≤ length later
+counted_most cs ss later at q v s old counts turns e sum =
+    let here : nat_eq (at / BLOCK) q ≡ true = grind (arith, common_steps) in
+    let one : row_in q at old ≡ rows_of old = in_block q at old here in
+    let two : row_in q at s ≡ rows_of s = in_block q at s here in
+    let most : rows_in q 0 later ≤ length later = at_most_all q 0 later in
+    omega (arith, counts q, one, two, turns q, most, sum)
+
 -- ---- a block without rows
 
 none_there : (b n k : ℕ) (s : Slot) → row_in b k s ≡ 0 → nat_eq (k / BLOCK) b ≡ true → s ≡ None
@@ -129,13 +140,15 @@ gap cs ss at j counts begins none le lt =
 
 past_one : (n : ℕ) (ss : List Slot) (k : ℕ) → slot_at ss k ≡ None → rows_from (n + k) (drop k ss) ≡ rows_from (n + k + 1) (drop (k + 1) ss)
 past_one n [] zero h = refl
-past_one n [] (suc k) h = refl
+past_one n [] (suc k) h = let more : suc k + 1 ≡ suc (k + 1) = omega arith in ap (λ (m : ℕ). rows_from (n + suc k + 1) (drop m [])) (sym more)
 past_one n (None ∷ ss) zero h = refl
 past_one n (Some row ∷ ss) zero h = cc
 past_one n (s ∷ ss) (suc k) h =
+    let more : suc (k + 1) ≡ suc k + 1 = omega arith in
     let one : n + suc k ≡ n + 1 + k = omega arith in
     let two : n + 1 + k + 1 ≡ n + suc k + 1 = omega arith in
     ap (λ (m : ℕ). rows_from m (drop k ss)) one ∙ past_one (n + 1) ss k h ∙ ap (λ (m : ℕ). rows_from m (drop (k + 1) ss)) two
+    ∙ ap (λ (m : ℕ). rows_from (n + suc k + 1) (drop m (s ∷ ss))) more
 
 past_all : (ss : List Slot) (at m : ℕ) → ((j : ℕ) → at ≤ j → j < at + m → slot_at ss j ≡ None) → rows_from (1 + at) (drop at ss) ≡ rows_from (1 + (at + m)) (drop (at + m) ss)
 past_all ss at zero none = let same : at ≡ at + 0 = omega arith in ap (λ (k : ℕ). rows_from (1 + k) (drop k ss)) same

@@ -3,7 +3,12 @@ use Rattle.std.specs.Prelude.{ℕ, ◌+◌, ◌/◌, nat_eq, if◌then◌else◌
 use Rattle.sq_heap.specs.Slots.{Slot}
 use Rattle.sq_heap.specs.declared.slots.TheConstants.{BLOCK}
 
--- how many rows of a block a slot has
+-- how many rows a slot has
+abbrev pub rows_of : Slot → ℕ
+rows_of None = 0
+rows_of (Some row) = 1
+
+-- how many rows of a block
 abbrev pub row_in : ℕ → ℕ → Slot → ℕ
 row_in block at None = 0
 row_in block at (Some row) = if nat_eq (at / BLOCK) block then 1 else 0

@@ -3,7 +3,7 @@
 ghost use Rattle.std.specs.Prelude.{◌≡◌, ◌<◌, ◌≤◌, ◌+◌, ◌-◌, ◌*◌, ◌++◌, ◌∷◌, [], ℕ, None, Some, is_some, true, length, slice_index_or, slice_set, take, vec_capacity, vec_len, MatchOption, OnOk};
 ghost use Rattle.std.specs.Option.{option_copied};
 ghost use Rattle.sq_store.specs.Content.{first_from, row_at};
-ghost use Rattle.sq_heap.specs.Blocks.{rows_in};
+ghost use Rattle.sq_heap.specs.Blocks.{rows_in, rows_of};
 ghost use Rattle.sq_heap.specs.Slots.{slot_at, table_of};
 ghost use Rattle.sq_heap.specs.declared.slots.TheConstants.{BLOCK};
 
@@ -150,9 +150,8 @@ impl Slots {
         requires { 0 < length self.old.list.items }
         ensures { self.new.list.items ≡ take (length self.old.list.items - 1) self.old.list.items }
     {
-        if let Some(Some(row)) = self.list.pop() {
-            drop(row);
-            self.counts[self.list.len() / BLOCK] -= 1;
+        if let Some(last) = self.list.pop() {
+            self.counts[self.list.len() / BLOCK] -= rows_of(&last);
         }
     }
 
@@ -163,13 +162,19 @@ impl Slots {
         ensures room { KeepsSlots self.old self.new }
         ensures was { result ≡ slice_index_or self.old.list.items at result }
     {
-        let comes = slot.is_some();
+        let come = rows_of(&slot);
         let old = mem::replace(&mut self.list[at], slot);
-        if comes && old.is_none() {
-            self.counts[at / BLOCK] += 1;
-        } else if !comes && old.is_some() {
-            self.counts[at / BLOCK] -= 1;
-        }
+        self.counts[at / BLOCK] = self.counts[at / BLOCK] - rows_of(&old) + come;
         old
+    }
+}
+
+/// How many rows a slot has.
+fn rows_of(slot: &Option<Row>) -> usize
+    ensures { result ≡ rows_of slot.now }
+{
+    match slot {
+        Some(_) => 1,
+        None => 0,
     }
 }
