@@ -56,9 +56,10 @@ chain_goes_on es link place e h l le is =
     let lt : place < length es = omega arith in
     let same : entry_at es place ≡ e = is_at es place e lt is in
     let next : link ≡ suc place = omega arith in
-    let before : (entry_at es place).next ≤ 0 + place = falls_at 0 es place h lt in
-    (ap (chain es (length es)) next ∙ chain_step es (length es) place h lt (omega arith) ∙ ap (λ (x : Entry). x ∷ chain es (length es) x.next) same,
-    (let sooner : e.next ≡ (entry_at es place).next = ap (λ (x : Entry). x.next) (sym same) in omega (arith, sooner, before, l)))
+    let before : (entry_at es place).next ≤ 0 + place = falls_at 0 es place h lt in (
+      ap (chain es (length es)) next ∙ chain_step es (length es) place h lt (omega arith) ∙ ap (λ (x : Entry). x ∷ chain es (length es) x.next) same,
+      (let sooner : e.next ≡ (entry_at es place).next = ap (λ (x : Entry). x.next) (sym same) in omega (arith, sooner, before, l)),
+    )
   where
     is_at : (es : List Entry) (k : ℕ) (e : Entry) → k < length es → e ≡ get_or es k e → entry_at es k ≡ e
     is_at [] k e lt is = absurd (omega arith)

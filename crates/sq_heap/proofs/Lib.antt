@@ -5,6 +5,7 @@ pub mod Columns
 pub mod Distinct
 pub mod Heap
 pub mod Holds
+pub mod Entering
 pub mod Entries
 pub mod Keyed
 pub mod OnResult

@@ -79,11 +79,7 @@ fn enter_undo(index: &mut Index, undo: &[Undo]) -> Result<(), AllocError>
 }
 
 /// Adds entries for a row to each index.
-fn enter_all(
-    indexes: &mut Vec<Index>,
-    row: &[Value],
-    at: usize,
-) -> Result<(), AllocError>
+fn enter_all(indexes: &mut Vec<Index>, row: &[Value], at: usize) -> Result<(), AllocError>
     ensures keys { keys_of indexes.new.items ≡ keys_of indexes.old.items }
     ensures keeps { (r : List SqlValue) (place : ℕ) → in_all indexes.old.items r place ≡ true → in_all indexes.new.items r place ≡ true }
     ensures entered { OnOk result (in_all indexes.new.items row.now at ≡ true) }
@@ -95,11 +91,7 @@ fn enter_all(
 }
 
 /// Adds the entries of the row that a change puts in, where a new row gets a slot. Says which slot the next new row gets.
-fn enter_change(
-    indexes: &mut Vec<Index>,
-    change: &Change,
-    next: usize,
-) -> Result<usize, AllocError>
+fn enter_change(indexes: &mut Vec<Index>, change: &Change, next: usize) -> Result<usize, AllocError>
     requires { next + 1 < 2 ^ 64 }
     ensures keys { keys_of indexes.new.items ≡ keys_of indexes.old.items }
     ensures keeps { (r : List SqlValue) (place : ℕ) → in_all indexes.old.items r place ≡ true → in_all indexes.new.items r place ≡ true }

@@ -1,4 +1,4 @@
-ghost use Rattle.std.specs.Prelude.{◌≡◌, ◌<◌, ◌≤◌, ◌+◌, ◌^◌, [], ℕ, false, true, drop, is_some, length, slice_index_or, slice_set, take, vec_capacity, vec_len, IfOk, MatchOption, None, Some, OnErr, OnOk};
+ghost use Rattle.std.specs.Prelude.{◌≡◌, ◌<◌, ◌≤◌, ◌+◌, ◌-◌, ◌^◌, [], ℕ, false, true, drop, is_some, length, slice_index_or, slice_set, take, vec_capacity, vec_len, IfOk, MatchOption, None, Some, OnErr, OnOk};
 ghost use Rattle.std.specs.List.{list_all};
 ghost use Rattle.sq_store.specs.Change.{rows_put};
 ghost use Rattle.sq_store.specs.Content.{changed, changed_by, inserted, removed, replaced};
@@ -315,7 +315,7 @@ impl HeapTable {
 
     /// Forgets how to undo the changes.
     pub(crate) fn commit(&mut self)
-        ensures slots { self.new.slots ≡ self.old.slots }
+        ensures slots { self.new.slots.list.items ≡ self.old.slots.list.items }
         ensures undo { self.new.undo.items ≡ [] }
         ensures indexes { self.new.indexes ≡ self.old.indexes }
     {

@@ -4,12 +4,12 @@ use Rattle.sq_heap.specs.Chain.{chain_of}
 use Rattle.sq_heap.specs.Index.{bucket_of, names_key}
 use Rattle.sq_heap.proofs.keys.among.Given as goal
 
-abbrev pub invariant-loop-link : goal.invariant-loop-link
-invariant-loop-link l = record {
+abbrev pub invariant-loop-entry : goal.invariant-loop-entry
+invariant-loop-entry l = record {
   within : l.link ≤ length l.index.entries.items;
   rest : list_any (names_key l.index.columns l.values l.slots l.hash) (bucket_of l.index l.hash)
       ≡ list_any (names_key l.index.columns l.values l.slots l.hash) (chain_of l.index.entries.items l.link);
 }
 
-abbrev pub decreases-loop-link : goal.decreases-loop-link
-decreases-loop-link l = l.link
+abbrev pub decreases-loop-entry : goal.decreases-loop-entry
+decreases-loop-entry l = l.link
