@@ -3,10 +3,9 @@ use Rattle.std.proofs.Common.{◌≡◌, ℕ, zero, suc, ◌+◌, ◌<◌, Bool,
 use Rattle.std.specs.List.{list_all, list_any}
 use Rattle.std.proofs.lemmas.Bool.{false≢true}
 use Rattle.std.proofs.lemmas.Grind.{common_steps}
-use Rattle.std.specs.Cmp.Lexicographic.{lists_equiv, pointwise}
+use Rattle.std.specs.Cmp.Lexicographic.{pointwise}
 use Rattle.sq_value.specs.Comparison.{is_same}
 use Rattle.sq_value.specs.Key.{in_columns}
-use Rattle.sq_value.specs.laws.ValueOrder.{same_equiv}
 use Rattle.sq_value.specs.declared.value.Value.{Value}
 use Rattle.sq_store.specs.Keys.{are_distinct, has_columns, has_key}
 use Rattle.sq_heap.specs.Alone.{is_alone, slots_have}
@@ -15,8 +14,10 @@ use Rattle.sq_heap.specs.Index.{bucket_of, columns_of, enters, has_entry, hash_o
 use Rattle.sq_heap.specs.Slots.{Slot, rows_from, slot_at}
 use Rattle.sq_heap.specs.declared.index.Entry.{Entry}
 use Rattle.sq_heap.specs.declared.index.Index.{Index}
+use Rattle.sq_store.proofs.Unique.{found_with as unique_found}
 use Rattle.sq_heap.proofs.Columns.{columns_of_slot}
-use Rattle.sq_heap.proofs.Distinct.{alone_at, alone_from, apart_from_distinct, by_test, not_true, or_left, or_rest, or_right, same_from}
+use Rattle.sq_heap.proofs.Rows.{row_there}
+use Rattle.sq_heap.proofs.Distinct.{alone_at, alone_from, by_test, not_true, or_left, or_rest, or_right, same_from}
 use Rattle.sq_heap.proofs.Holds.{both, holds_at, left_of, right_of, slots_give}
 use Rattle.sq_heap.proofs.Entries.{same_hash}
 
@@ -119,25 +120,9 @@ none_with index key ss hash e h none = no_key index.columns key 1 ss (λ j q s. 
 
 -- ---- the row with a key
 
-both_same : (columns : List ℕ) (key r q : List Value) → pointwise is_same key r ≡ true → pointwise is_same key q ≡ true → pointwise is_same r q ≡ true
-both_same columns key r q h k = sym ((lists_equiv same_equiv).congr key r q h) ∙ k
-
-pub found_with : (columns : List ℕ) (key : List Value) (n : ℕ) (ss : List Slot) (j : ℕ) (q : List Value) (number : ℕ) → number ≡ n + j → are_distinct columns (rows_from n ss) ≡ true → slot_at ss j ≡ Some q → pointwise is_same key (in_columns q columns) ≡ true
-    → find (has_key columns key) (rows_from n ss) ≡ Some (record { number = number; row = q })
-found_with columns key n [] j q number e h s same = cc
-found_with columns key n (None ∷ ss) zero q number e h s same = cc
-found_with columns key n (None ∷ ss) (suc j) q number e h s same = found_with columns key (n + 1) ss j q number (omega arith) h s same
-found_with columns key n (Some r ∷ ss) zero q number e h s same =
-    let row : r ≡ q = cc in
-    let here : pointwise is_same key (in_columns r columns) ≡ true = ap (λ (x : List Value). pointwise is_same key (in_columns x columns)) row ∙ same in
-    grind (arith, common_steps)
-found_with columns key n (Some r ∷ ss) (suc j) q number e h s same =
-    let other : pointwise is_same key (in_columns r columns) ≡ false
-    = not_true (pointwise is_same key (in_columns r columns)) (λ t.
-    let k : 0 ≡ suc j = apart_from_distinct columns n (Some r ∷ ss) h 0 (suc j) r q refl s (both_same columns key (in_columns r columns) (in_columns q columns) t same) in absurd (omega arith)) in
-    let rest : find (has_key columns key) (rows_from (n + 1) ss) ≡ Some (record { number = number; row = q })
-    = found_with columns key (n + 1) ss j q number (omega arith) (right_of (not (list_any (has_key columns (in_columns r columns)) (rows_from (n + 1) ss))) (are_distinct columns (rows_from (n + 1) ss)) h) s same in
-    grind (arith, common_steps)
+pub found_with : (columns : List ℕ) (key : List Value) (ss : List Slot) (j : ℕ) (q : List Value) (number : ℕ) → number ≡ 1 + j → are_distinct columns (rows_from 1 ss) ≡ true → slot_at ss j ≡ Some q → pointwise is_same key (in_columns q columns) ≡ true
+    → find (has_key columns key) (rows_from 1 ss) ≡ Some (record { number = number; row = q })
+found_with columns key ss j q number e distinct s same = unique_found columns key (rows_from 1 ss) number (record { number = number; row = q }) distinct (row_there 1 ss j number q e s) same
 
 -- ---- a row that shares its key with no other
 

@@ -1,6 +1,6 @@
 -- The entries of an index, in chains: each entry knows the one before it in its chain, and each chain its last entry. Who
 -- is before an entry is said by one more than its place, and by 0 where there is none.
-use Rattle.std.specs.Prelude.{ℕ, zero, suc, ◌+◌, Bool, true, false, ◌&&◌, nat_eq, nat_le, if◌then◌else◌, List, [], ◌∷◌, length, slice_index_or}
+use Rattle.std.specs.Prelude.{ℕ, zero, suc, ◌+◌, Bool, true, ◌&&◌, nat_eq, nat_le, if◌then◌else◌, List, [], ◌∷◌, length, slice_index_or}
 use Rattle.sq_heap.specs.declared.index.Entry.{Entry}
 
 abbrev pub entry_at : List Entry → ℕ → Entry

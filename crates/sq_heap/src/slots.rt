@@ -1,6 +1,6 @@
 //! The slots of a table, and how many rows each block of them has.
 
-ghost use Rattle.std.specs.Prelude.{◌≡◌, ◌<◌, ◌≤◌, ◌+◌, ◌-◌, ◌*◌, ◌++◌, ◌∷◌, [], ℕ, None, Some, is_some, true, length, slice_index_or, slice_set, take, vec_capacity, vec_len, MatchOption, OnOk};
+ghost use Rattle.std.specs.Prelude.{◌≡◌, ◌<◌, ◌≤◌, ◌+◌, ◌-◌, ◌*◌, ◌++◌, ◌∷◌, [], ℕ, None, Some, is_some, true, length, slice_index_or, slice_set, take, vec_capacity, vec_len, IsTrue, MatchOption, OnOk};
 ghost use Rattle.std.specs.Option.{option_copied};
 ghost use Rattle.sq_store.specs.Content.{first_from, row_at};
 ghost use Rattle.sq_heap.specs.Blocks.{rows_in, rows_of};
@@ -100,26 +100,23 @@ impl Slots {
     {
         let mut at = number.saturating_sub(1) as usize;
         while at < self.list.len() {
-            if let Some(row) = &self.list[at] {
+            if self.is_gap(at) {
+                at = at.saturating_add(BLOCK);
+            } else if let Some(row) = &self.list[at] {
                 return Some((at as u64 + 1, row));
+            } else {
+                at += 1;
             }
-            at = self.past(at);
         }
         None
     }
 
-    /// A place behind an empty slot, before which there is no row: behind its block, where that begins there and is empty.
-    fn past(&self, at: usize) -> usize
-        requires within { at < length self.now.list.items }
-        requires none { slot_at self.now.list.items at ≡ None }
-        ensures behind { at < result }
-        ensures none { (place : ℕ) → at ≤ place → place < result → slot_at self.now.list.items place ≡ None }
+    /// Whether a block without rows begins at a place.
+    fn is_gap(&self, at: usize) -> bool
+        requires { at < length self.now.list.items }
+        ensures { IsTrue result → (place : ℕ) → at ≤ place → place < at + BLOCK → slot_at self.now.list.items place ≡ None }
     {
-        if at % BLOCK == 0 && self.counts[at / BLOCK] == 0 {
-            at.saturating_add(BLOCK)
-        } else {
-            at + 1
-        }
+        at % BLOCK == 0 && self.counts[at / BLOCK] == 0
     }
 
     /// Makes room for so many more slots.

@@ -1,4 +1,4 @@
-use Rattle.std.proofs.Common.{◌≡◌, ◌≤◌, ℕ, length}
+use Rattle.std.proofs.Common.{◌≡◌, ◌≤◌, length}
 use Rattle.std.specs.List.{list_any}
 use Rattle.sq_heap.specs.Chain.{chain_of}
 use Rattle.sq_heap.specs.Index.{bucket_of, names_key}

@@ -1,10 +1,9 @@
-use Rattle.std.proofs.Common.{◌≡◌, ◌∙◌, ◌≤◌, ◌<◌, ◌+◌, ◌%◌, ◌++◌, ◌∷◌, [], List, ap, arith, length, refl, slice_index_or, slice_set, sym}
-use Rattle.std.specs.List.{list_all}
+use Rattle.std.proofs.Common.{◌≡◌, ◌∙◌, ◌≤◌, ◌%◌, ap, arith, length, refl, slice_set}
 use Rattle.std.proofs.Math.Nat.{mod-lt}
 use Rattle.std.proofs.lemmas.Grind.{common_steps}
-use Rattle.sq_heap.specs.Chain.{are_falling, is_within}
+use Rattle.sq_heap.specs.Chain.{are_falling}
 use Rattle.sq_heap.specs.declared.index.Entry.{Entry}
-use Rattle.sq_heap.proofs.Chains.{OneMore, falling_more, has_more, keeps_more, length_more, within_at, within_set}
+use Rattle.sq_heap.proofs.Chains.{falling_more, has_more, keeps_more, length_more, within_at, within_set}
 use Rattle.sq_heap.proofs.index.Index.add.Goals as goal
 
 pub invariant_of-self-2 : goal.invariant_of-self-2

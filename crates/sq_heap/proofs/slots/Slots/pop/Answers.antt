@@ -1,7 +1,6 @@
-use Rattle.std.proofs.Common.{◌≡◌, ◌∙◌, ◌≤◌, ◌<◌, ◌+◌, ◌-◌, ◌/◌, ◌++◌, ◌∷◌, [], List, None, ap, arith, length, refl, slice_index_or, sym}
+use Rattle.std.proofs.Common.{◌≡◌, ◌∙◌, ◌≤◌, ◌<◌, ◌-◌, ◌/◌, ◌++◌, ◌∷◌, [], None, ap, arith, length, refl, slice_index_or}
 use Rattle.std.proofs.lemmas.Grind.{common_steps}
 use Rattle.sq_heap.specs.Blocks.{rows_in, rows_of}
-use Rattle.sq_heap.specs.Slots.{Slot}
 use Rattle.sq_heap.specs.declared.slots.TheConstants.{BLOCK}
 use Rattle.sq_heap.proofs.Blocks.{Counted, counted_least, counted_turned, turns_pop}
 use Rattle.sq_heap.proofs.slots.Slots.pop.Goals as goal

@@ -1,8 +1,8 @@
-use Rattle.std.proofs.Common.{◌≡◌, ◌∙◌, ◌≤◌, ◌<◌, ◌+◌, ◌/◌, ◌++◌, ◌∷◌, [], None, Some, ap, arith, length, refl, slice_index_or, slice_set, sym, vec_capacity, vec_len}
+use Rattle.std.proofs.Common.{◌≡◌, ◌∙◌, ◌≤◌, ◌<◌, ◌+◌, ◌/◌, ◌++◌, ◌∷◌, [], None, Some, ap, arith, length, refl, slice_index_or, sym}
 use Rattle.std.proofs.lemmas.Grind.{common_steps}
 use Rattle.sq_heap.specs.Blocks.{rows_in}
 use Rattle.sq_heap.specs.declared.slots.TheConstants.{BLOCK}
-use Rattle.sq_heap.proofs.Blocks.{Counted, at_most_all, counted_turned, turns_push}
+use Rattle.sq_heap.proofs.Blocks.{at_most_all, counted_turned, turns_push}
 use Rattle.sq_heap.proofs.slots.Slots.push.Goals as goal
 
 pub overflow_add-index_mut : goal.overflow_add-index_mut

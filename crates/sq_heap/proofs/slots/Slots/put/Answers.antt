@@ -4,7 +4,7 @@ use Rattle.sq_heap.specs.Blocks.{rows_in, rows_of}
 use Rattle.sq_heap.specs.Slots.{Slot}
 use Rattle.sq_heap.specs.declared.slots.TheConstants.{BLOCK}
 use Rattle.sq_heap.proofs.Back.{length_same}
-use Rattle.sq_heap.proofs.Blocks.{Turns, counted_least, counted_most, counted_turned, turns_set}
+use Rattle.sq_heap.proofs.Blocks.{counted_least, counted_most, counted_turned, turns_set}
 use Rattle.sq_heap.proofs.slots.Slots.put.Goals as goal
 
 pub overflow_sub-index : goal.overflow_sub-index

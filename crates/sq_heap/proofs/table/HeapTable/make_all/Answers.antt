@@ -1,13 +1,11 @@
-use Rattle.std.proofs.Common.{◌≡◌, ◌∙◌, ◌+◌, ◌<◌, ◌++◌, ◌∷◌, [], List, ℕ, ap, arith, drop, get_or, length, refl, sym, true}
+use Rattle.std.proofs.Common.{◌≡◌, ◌∙◌, ◌+◌, ◌++◌, ◌∷◌, [], ℕ, ap, arith, drop, length, sym, true}
 use Rattle.std.proofs.lemmas.Iterator.Adapters.{YieldsList-from_vec}
 use Rattle.std.proofs.lemmas.Iterator.Consumers.{YieldsList-turn}
-use Rattle.sq_store.specs.declared.change.Change.{Change}
 use Rattle.sq_store.specs.declared.table.Table.{Table}
 use Rattle.sq_store.specs.Content.{changed}
-use Rattle.sq_heap.specs.Entered.{change_holds, changes_hold, next_slot}
-use Rattle.sq_heap.specs.Index.{Test, in_all}
+use Rattle.sq_heap.specs.Entered.{changes_hold, next_slot}
+use Rattle.sq_heap.specs.Index.{in_all}
 use Rattle.sq_heap.specs.Slots.{table_of}
-use Rattle.sq_heap.specs.declared.index.Index.{Index}
 use Rattle.sq_heap.proofs.Back.{changed_by_push, goes_back_then, length_changes}
 use Rattle.sq_heap.proofs.Entering.{holds_behind, holds_here, slots_after}
 use Rattle.sq_heap.proofs.table.HeapTable.make_all.Goals as goal

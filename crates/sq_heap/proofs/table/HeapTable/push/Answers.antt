@@ -1,5 +1,4 @@
-use Rattle.std.proofs.Common.{◌≡◌, ◌∙◌, ◌+◌, ◌++◌, ◌∷◌, [], List, None, Some, ap, arith, length, refl, true}
-use Rattle.std.proofs.lemmas.Grind.{common_steps}
+use Rattle.std.proofs.Common.{◌≡◌, ◌∙◌, None, Some, ap, arith, length, refl, true}
 use Rattle.sq_heap.specs.Index.{in_all, slots_hold, undo_holds}
 use Rattle.sq_heap.specs.Undo.{fits}
 use Rattle.sq_heap.proofs.Back.{fits_new}

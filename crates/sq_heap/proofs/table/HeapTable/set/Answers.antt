@@ -1,4 +1,4 @@
-use Rattle.std.proofs.Common.{◌≡◌, ◌∙◌, ◌++◌, ◌∷◌, [], ap, arith, get_or, length, slice_set}
+use Rattle.std.proofs.Common.{◌∙◌, ap, arith, length}
 use Rattle.sq_heap.specs.Index.{in_all, slots_hold, undo_holds}
 use Rattle.sq_heap.specs.Undo.{fits}
 use Rattle.sq_heap.proofs.Back.{fits_set, there}
