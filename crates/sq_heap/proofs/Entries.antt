@@ -18,10 +18,10 @@ pub same_hash : (key other : List Value) → pointwise is_same key other ≡ tru
 same_hash key other h = ap (λ (ws : List (List ℕ)). folding.finish (fold folding.write folding.initial ws)) ((items_Alike (record { fed = same_fed })).fed key other h)
 
 -- an index that keeps its entries
-pub in_keeps : (x y : Index) → y.columns ≡ x.columns → ((hash place : ℕ) → has_entry x.buckets.items hash place ≡ true → has_entry y.buckets.items hash place ≡ true)
+pub in_keeps : (x y : Index) → y.columns ≡ x.columns → ((hash place : ℕ) → has_entry x hash place ≡ true → has_entry y hash place ≡ true)
     → (row : List Value) (at : ℕ) → is_in x row at ≡ true → is_in y row at ≡ true
 in_keeps x y e keeps row at h =
-    ap (λ (c : List ℕ). has_entry y.buckets.items (hash_of (in_columns row c)) at) e ∙ keeps (hash_of (in_columns row x.columns)) at h
+    ap (λ (c : List ℕ). has_entry y (hash_of (in_columns row c)) at) e ∙ keeps (hash_of (in_columns row x.columns)) at h
 
 -- ---- one of them is another
 

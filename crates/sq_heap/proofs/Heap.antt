@@ -144,7 +144,7 @@ none_made ss (u ∷ us) h = absurd (false≢true h)
 pub none_listed : (n : ℕ) (ts : List HeapTable) → are_listed [] n ts ≡ true → all_committed ts ≡ all_now ts
 none_listed n [] h = refl
 none_listed n (t ∷ ts) h =
-    let here : table_of (back t.slots.items t.undo.items) ≡ table_of t.slots.items = none_made t.slots.items t.undo.items (left_of (has_none t.undo.items || false) (are_listed [] (n + 1) ts) h) in
+    let here : table_of (back t.slots.list.items t.undo.items) ≡ table_of t.slots.list.items = none_made t.slots.list.items t.undo.items (left_of (has_none t.undo.items || false) (are_listed [] (n + 1) ts) h) in
     let rest : all_committed ts ≡ all_now ts = none_listed (n + 1) ts (right_of (has_none t.undo.items || false) (are_listed [] (n + 1) ts) h) in
     λ i. here i ∷ rest i
 
@@ -164,10 +164,10 @@ within_push n (j ∷ listed) k lt h = both (left_of (nat_lt j n) (are_within n l
 
 -- ---- tables without rows
 
-now_new : (t : HeapTable) → t.slots.items ≡ [] → now_of t ≡ empty
+now_new : (t : HeapTable) → t.slots.list.items ≡ [] → now_of t ≡ empty
 now_new t e = ap table_of e
 
-committed_new : (t : HeapTable) → t.slots.items ≡ [] → t.undo.items ≡ [] → committed_of t ≡ empty
+committed_new : (t : HeapTable) → t.slots.list.items ≡ [] → t.undo.items ≡ [] → committed_of t ≡ empty
 committed_new t e f = (λ i. table_of (back (e i) (f i)))
 
 map_push : (f : HeapTable → Table) (ts : List HeapTable) (t : HeapTable) (n : ℕ) → f t ≡ empty → map f ts ≡ no_rows n → map f (ts ++ t ∷ []) ≡ no_rows (n + 1)
@@ -177,10 +177,10 @@ map_push f ts t n e h = map_end ts ∙ (λ i. h i ++ e i ∷ []) ∙ replicate_m
     map_end [] = refl
     map_end (u ∷ ts) = ap (λ us. f u ∷ us) (map_end ts)
 
-pub now_push : (ts : List HeapTable) (t : HeapTable) (n : ℕ) → t.slots.items ≡ [] → all_now ts ≡ no_rows n → all_now (ts ++ t ∷ []) ≡ no_rows (n + 1)
+pub now_push : (ts : List HeapTable) (t : HeapTable) (n : ℕ) → t.slots.list.items ≡ [] → all_now ts ≡ no_rows n → all_now (ts ++ t ∷ []) ≡ no_rows (n + 1)
 now_push ts t n e h = map_push now_of ts t n (now_new t e) h
 
-pub committed_push : (ts : List HeapTable) (t : HeapTable) (n : ℕ) → t.slots.items ≡ [] → t.undo.items ≡ [] → all_committed ts ≡ no_rows n → all_committed (ts ++ t ∷ []) ≡ no_rows (n + 1)
+pub committed_push : (ts : List HeapTable) (t : HeapTable) (n : ℕ) → t.slots.list.items ≡ [] → t.undo.items ≡ [] → all_committed ts ≡ no_rows n → all_committed (ts ++ t ∷ []) ≡ no_rows (n + 1)
 committed_push ts t n e f h = map_push committed_of ts t n (committed_new t e f) h
 
 pub listed_new : (n : ℕ) (ts : List HeapTable) (t : HeapTable) → t.undo.items ≡ [] → are_listed [] n ts ≡ true → are_listed [] n (ts ++ t ∷ []) ≡ true
@@ -199,26 +199,26 @@ map_at_set f [] i u lt = absurd (omega arith)
 map_at_set f (v ∷ ts) zero u lt = refl
 map_at_set f (v ∷ ts) (suc i) u lt = map_at_set f ts i u (omega arith)
 
-pub applied_before : (ts : List HeapTable) (i : ℕ) (t u : HeapTable) (from : ℕ) → i < length ts → t ≡ get_or ts i t → from ≡ length t.undo.items → back u.slots.items (drop (length t.undo.items) u.undo.items) ≡ t.slots.items
+pub applied_before : (ts : List HeapTable) (i : ℕ) (t u : HeapTable) (from : ℕ) → i < length ts → t ≡ get_or ts i t → from ≡ length t.undo.items → back u.slots.list.items (drop (length t.undo.items) u.undo.items) ≡ t.slots.list.items
     → all_before (Some (record { table = i; from = from })) (slice_set ts i u) ≡ Some (all_now ts)
 applied_before ts i t u from lt e f undone =
     let long : length (all_now ts) ≡ length ts = length_map now_of ts in
-    let back_to : before_of from u ≡ now_of t = ap (λ (n : ℕ). table_of (back u.slots.items (drop n u.undo.items))) f ∙ ap table_of undone in
+    let back_to : before_of from u ≡ now_of t = ap (λ (n : ℕ). table_of (back u.slots.list.items (drop n u.undo.items))) f ∙ ap table_of undone in
     ap Some (ap (λ (content : Content). slice_set content i (table_at (map (before_of from) (slice_set ts i u)) i)) (map_set now_of ts i u)
     ∙ set_twice (all_now ts) i (now_of u) (table_at (map (before_of from) (slice_set ts i u)) i)
     ∙ ap (slice_set (all_now ts) i) (map_at_set (before_of from) ts i u lt ∙ back_to)
     ∙ set_same (all_now ts) i (now_of t) (omega arith) (sym (map_at now_of ts i t lt e)))
 
 -- a table goes back
-pub took_back : (ts : List HeapTable) (i : ℕ) (t u : HeapTable) (from : ℕ) → i < length ts → t ≡ get_or ts i t → u.slots.items ≡ back t.slots.items (drop from t.undo.items)
+pub took_back : (ts : List HeapTable) (i : ℕ) (t u : HeapTable) (from : ℕ) → i < length ts → t ≡ get_or ts i t → u.slots.list.items ≡ back t.slots.list.items (drop from t.undo.items)
     → all_before (Some (record { table = i; from = from })) ts ≡ Some (all_now (slice_set ts i u))
 took_back ts i t u from lt e slots =
     ap Some (ap (slice_set (all_now ts) i) (map_at (before_of from) ts i t lt e ∙ sym (ap table_of slots)) ∙ sym (map_set now_of ts i u))
 
-pub took_back_committed : (ts : List HeapTable) (i : ℕ) (t u : HeapTable) (from : ℕ) → i < length ts → t ≡ get_or ts i t → u.slots.items ≡ back t.slots.items (drop from t.undo.items) → u.undo.items ≡ take from t.undo.items
+pub took_back_committed : (ts : List HeapTable) (i : ℕ) (t u : HeapTable) (from : ℕ) → i < length ts → t ≡ get_or ts i t → u.slots.list.items ≡ back t.slots.list.items (drop from t.undo.items) → u.undo.items ≡ take from t.undo.items
     → all_committed (slice_set ts i u) ≡ all_committed ts
 took_back_committed ts i t u from lt e slots undo =
-    map_set_same committed_of ts i t u lt e ((λ j. table_of (back (slots j) (undo j))) ∙ ap table_of (back_take_drop t.slots.items t.undo.items from))
+    map_set_same committed_of ts i t u lt e ((λ j. table_of (back (slots j) (undo j))) ∙ ap table_of (back_take_drop t.slots.list.items t.undo.items from))
 
 take_none : (us : List Undo) (from : ℕ) → has_none us ≡ true → has_none (take from us) ≡ true
 take_none [] zero h = refl
@@ -234,7 +234,7 @@ length_set (t ∷ ts) zero u = refl
 length_set (t ∷ ts) (suc i) u = ap suc (length_set ts i u)
 
 -- a table that was not changed
-pub refused_before : (ts : List HeapTable) (i : ℕ) (t u : HeapTable) (mark : Option Mark) → i < length ts → t ≡ get_or ts i t → u.slots.items ≡ t.slots.items → u.undo.items ≡ t.undo.items
+pub refused_before : (ts : List HeapTable) (i : ℕ) (t u : HeapTable) (mark : Option Mark) → i < length ts → t ≡ get_or ts i t → u.slots.list.items ≡ t.slots.list.items → u.undo.items ≡ t.undo.items
     → all_before mark (slice_set ts i u) ≡ all_before mark ts
 refused_before ts i t u None lt e slots undo = refl
 refused_before ts i t u (Some mark) lt e slots undo =
@@ -254,12 +254,12 @@ applied_listed listed ts i u h = listed_push listed i 0 ts i u (omega arith) h
 pub tables_of_keys : (row_numbers : ℕ) (keys : List Keys) (ts : List HeapTable) → is_sound row_numbers keys (all_now ts) ≡ true → length ts ≡ length keys
 tables_of_keys row_numbers keys ts h = sym (length_map now_of ts) ∙ sound_length row_numbers keys (all_now ts) h
 
-pub slots_within : (row_numbers : ℕ) (keys : List Keys) (ts : List HeapTable) (i : ℕ) (t : HeapTable) → is_sound row_numbers keys (all_now ts) ≡ true → i < length (all_now ts) → t ≡ get_or ts i t → length t.slots.items ≤ row_numbers
+pub slots_within : (row_numbers : ℕ) (keys : List Keys) (ts : List HeapTable) (i : ℕ) (t : HeapTable) → is_sound row_numbers keys (all_now ts) ≡ true → i < length (all_now ts) → t ≡ get_or ts i t → length t.slots.list.items ≤ row_numbers
 slots_within row_numbers keys ts i t h lt e =
     let long : length (all_now ts) ≡ length ts = length_map now_of ts in
     let within : i < length ts = omega arith in
     let next : (table_at (all_now ts) i).next ≤ row_numbers + 1 = next_at row_numbers keys (all_now ts) i h in
-    let same : (table_at (all_now ts) i).next ≡ length t.slots.items + 1 = ap (λ (u : Table). u.next) (map_at now_of ts i t within e) in
+    let same : (table_at (all_now ts) i).next ≡ length t.slots.list.items + 1 = ap (λ (u : Table). u.next) (map_at now_of ts i t within e) in
     omega arith
 
 keyed_distinct : (keys : List Keys) (ts : Content) (i : ℕ) → are_keyed keys ts ≡ true → i < length ts → has_distinct_keys (keys_at keys i) (table_at ts i) ≡ true
@@ -276,12 +276,12 @@ distinct_at row_numbers keys ts i h lt = keyed_distinct keys ts i (keyed_of row_
 
 -- the rows of a table have the columns of its keys
 pub key_slots : (row_numbers : ℕ) (keys : List Keys) (ts : List HeapTable) (i key : ℕ) (columns : List ℕ) (t : HeapTable) → is_sound row_numbers keys (all_now ts) ≡ true → i < length (all_now ts) → t ≡ get_or ts i t
-    → key < length (keys_at keys i) → columns ≡ get_or (keys_at keys i) key columns → slots_have columns t.slots.items ≡ true
+    → key < length (keys_at keys i) → columns ≡ get_or (keys_at keys i) key columns → slots_have columns t.slots.list.items ≡ true
 key_slots row_numbers keys ts i key columns t h lt e k c =
     let within : i < length ts = let long : length (all_now ts) ≡ length ts = length_map now_of ts in omega arith in
     let there : have_keys (keys_at keys i) (table_at (all_now ts) i).rows ≡ true = columns_at row_numbers keys (all_now ts) i h lt in
-    let here : have_keys (keys_at keys i) (rows_from 1 t.slots.items) ≡ true = ap (λ (u : Table). have_keys (keys_at keys i) u.rows) (sym (map_at now_of ts i t within e)) ∙ there in
-    one_key (keys_at keys i) key columns t.slots.items (slots_of_keys (keys_at keys i) 1 t.slots.items here) k c
+    let here : have_keys (keys_at keys i) (rows_from 1 t.slots.list.items) ≡ true = ap (λ (u : Table). have_keys (keys_at keys i) u.rows) (sym (map_at now_of ts i t within e)) ∙ there in
+    one_key (keys_at keys i) key columns t.slots.list.items (slots_of_keys (keys_at keys i) 1 t.slots.list.items here) k c
   where
     one_key : (keys : Keys) (key : ℕ) (columns : List ℕ) (ss : List Slot) → list_all (λ c. slots_have c ss) keys ≡ true → key < length keys → columns ≡ get_or keys key columns → slots_have columns ss ≡ true
     one_key [] key columns ss h lt e = absurd (omega arith)

@@ -3,19 +3,21 @@ use Rattle.std.proofs.Common.{◌≡◌, ℕ, zero, suc, ◌+◌, ◌<◌, Bool,
 use Rattle.std.specs.List.{list_all, list_any}
 use Rattle.std.proofs.lemmas.Bool.{false≢true}
 use Rattle.std.proofs.lemmas.Grind.{common_steps}
-use Rattle.std.specs.Cmp.Lexicographic.{lists_equiv, pointwise}
+use Rattle.std.specs.Cmp.Lexicographic.{pointwise}
 use Rattle.sq_value.specs.Comparison.{is_same}
 use Rattle.sq_value.specs.Key.{in_columns}
-use Rattle.sq_value.specs.laws.ValueOrder.{same_equiv}
 use Rattle.sq_value.specs.declared.value.Value.{Value}
 use Rattle.sq_store.specs.Keys.{are_distinct, has_columns, has_key}
 use Rattle.sq_heap.specs.Alone.{is_alone, slots_have}
-use Rattle.sq_heap.specs.Index.{bucket_of, columns_of, enters, has_entry, hash_of, in_all, is_entry, is_in, keys_of, named, names_key, names_other, slot_has_key, slots_hold}
+use Rattle.sq_heap.specs.Chain.{is_entry}
+use Rattle.sq_heap.specs.Index.{bucket_of, columns_of, enters, has_entry, hash_of, in_all, is_in, keys_of, named, names_key, names_other, slot_has_key, slots_hold}
 use Rattle.sq_heap.specs.Slots.{Slot, rows_from, slot_at}
 use Rattle.sq_heap.specs.declared.index.Entry.{Entry}
 use Rattle.sq_heap.specs.declared.index.Index.{Index}
+use Rattle.sq_store.proofs.Unique.{found_with as unique_found}
 use Rattle.sq_heap.proofs.Columns.{columns_of_slot}
-use Rattle.sq_heap.proofs.Distinct.{alone_at, alone_from, apart_from_distinct, by_test, not_true, or_left, or_rest, or_right, same_from}
+use Rattle.sq_heap.proofs.Rows.{row_there}
+use Rattle.sq_heap.proofs.Distinct.{alone_at, alone_from, by_test, not_true, or_left, or_rest, or_right, same_from}
 use Rattle.sq_heap.proofs.Holds.{both, holds_at, left_of, right_of, slots_give}
 use Rattle.sq_heap.proofs.Entries.{same_hash}
 
@@ -93,11 +95,11 @@ other_row columns key at ss hash (e ∷ es) h = by_test (names_other columns key
 -- ---- a row in a slot has its entry under the hash of a key that is the same
 
 entry_under : (index : Index) (key : List Value) (ss : List Slot) (hash j : ℕ) (q : List Value) → hash ≡ hash_of key → slots_hold (is_in index) 0 ss ≡ true → slot_at ss j ≡ Some q → pointwise is_same key (in_columns q index.columns) ≡ true
-    → list_any (is_entry hash j) (bucket_of index.buckets.items hash) ≡ true
+    → list_any (is_entry hash j) (bucket_of index hash) ≡ true
 entry_under index key ss hash j q e h s same =
     let under : hash ≡ hash_of (in_columns q index.columns) = e ∙ same_hash key (in_columns q index.columns) same in
     let k : j ≡ 0 + j = omega arith in
-    ap (λ (n : ℕ). has_entry index.buckets.items n j) under ∙ ap (is_in index q) k ∙ holds_at (is_in index) 0 ss j q h s
+    ap (λ (n : ℕ). has_entry index n j) under ∙ ap (is_in index q) k ∙ holds_at (is_in index) 0 ss j q h s
 
 -- ---- no row with a key
 
@@ -109,44 +111,28 @@ no_key columns key n (Some r ∷ ss) f =
     let rest : find (has_key columns key) (rows_from (n + 1) ss) ≡ None = no_key columns key (n + 1) ss (λ j q e. f (suc j) q e) in
     grind (arith, common_steps)
 
-pub none_with : (index : Index) (key : List Value) (ss : List Slot) (hash : ℕ) → hash ≡ hash_of key → slots_hold (is_in index) 0 ss ≡ true → list_any (names_key index.columns key ss hash) (bucket_of index.buckets.items hash) ≡ false
+pub none_with : (index : Index) (key : List Value) (ss : List Slot) (hash : ℕ) → hash ≡ hash_of key → slots_hold (is_in index) 0 ss ≡ true → list_any (names_key index.columns key ss hash) (bucket_of index hash) ≡ false
     → find (has_key index.columns key) (rows_from 1 ss) ≡ None
 none_with index key ss hash e h none = no_key index.columns key 1 ss (λ j q s. not_true (pointwise is_same key (in_columns q index.columns)) (λ same.
-    let some : list_any (names_key index.columns key ss hash) (bucket_of index.buckets.items hash) ≡ true
-    = names_one index.columns key ss hash j q (bucket_of index.buckets.items hash) s same (entry_under index key ss hash j q e h s same) in
+    let some : list_any (names_key index.columns key ss hash) (bucket_of index hash) ≡ true
+    = names_one index.columns key ss hash j q (bucket_of index hash) s same (entry_under index key ss hash j q e h s same) in
     false≢true (sym none ∙ some)))
 
 -- ---- the row with a key
 
-both_same : (columns : List ℕ) (key r q : List Value) → pointwise is_same key r ≡ true → pointwise is_same key q ≡ true → pointwise is_same r q ≡ true
-both_same columns key r q h k = sym ((lists_equiv same_equiv).congr key r q h) ∙ k
-
-pub found_with : (columns : List ℕ) (key : List Value) (n : ℕ) (ss : List Slot) (j : ℕ) (q : List Value) (number : ℕ) → number ≡ n + j → are_distinct columns (rows_from n ss) ≡ true → slot_at ss j ≡ Some q → pointwise is_same key (in_columns q columns) ≡ true
-    → find (has_key columns key) (rows_from n ss) ≡ Some (record { number = number; row = q })
-found_with columns key n [] j q number e h s same = cc
-found_with columns key n (None ∷ ss) zero q number e h s same = cc
-found_with columns key n (None ∷ ss) (suc j) q number e h s same = found_with columns key (n + 1) ss j q number (omega arith) h s same
-found_with columns key n (Some r ∷ ss) zero q number e h s same =
-    let row : r ≡ q = cc in
-    let here : pointwise is_same key (in_columns r columns) ≡ true = ap (λ (x : List Value). pointwise is_same key (in_columns x columns)) row ∙ same in
-    grind (arith, common_steps)
-found_with columns key n (Some r ∷ ss) (suc j) q number e h s same =
-    let other : pointwise is_same key (in_columns r columns) ≡ false
-    = not_true (pointwise is_same key (in_columns r columns)) (λ t.
-    let k : 0 ≡ suc j = apart_from_distinct columns n (Some r ∷ ss) h 0 (suc j) r q refl s (both_same columns key (in_columns r columns) (in_columns q columns) t same) in absurd (omega arith)) in
-    let rest : find (has_key columns key) (rows_from (n + 1) ss) ≡ Some (record { number = number; row = q })
-    = found_with columns key (n + 1) ss j q number (omega arith) (right_of (not (list_any (has_key columns (in_columns r columns)) (rows_from (n + 1) ss))) (are_distinct columns (rows_from (n + 1) ss)) h) s same in
-    grind (arith, common_steps)
+pub found_with : (columns : List ℕ) (key : List Value) (ss : List Slot) (j : ℕ) (q : List Value) (number : ℕ) → number ≡ 1 + j → are_distinct columns (rows_from 1 ss) ≡ true → slot_at ss j ≡ Some q → pointwise is_same key (in_columns q columns) ≡ true
+    → find (has_key columns key) (rows_from 1 ss) ≡ Some (record { number = number; row = q })
+found_with columns key ss j q number e distinct s same = unique_found columns key (rows_from 1 ss) number (record { number = number; row = q }) distinct (row_there 1 ss j number q e s) same
 
 -- ---- a row that shares its key with no other
 
 pub alone_in : (index : Index) (row : List Value) (at : ℕ) (ss : List Slot) (hash : ℕ) → hash ≡ hash_of (in_columns row index.columns) → slots_hold (is_in index) 0 ss ≡ true
-    → not (list_any (names_other index.columns (in_columns row index.columns) at ss hash) (bucket_of index.buckets.items hash)) ≡ is_alone index.columns row at 0 ss
+    → not (list_any (names_other index.columns (in_columns row index.columns) at ss hash) (bucket_of index hash)) ≡ is_alone index.columns row at 0 ss
 alone_in index row at ss hash e h =
     let columns = index.columns in
     let key = in_columns row index.columns in
-    let es = bucket_of index.buckets.items hash in
-    let any = list_any (names_other index.columns (in_columns row index.columns) at ss hash) (bucket_of index.buckets.items hash) in
+    let es = bucket_of index hash in
+    let any = list_any (names_other index.columns (in_columns row index.columns) at ss hash) (bucket_of index hash) in
     same_from (not any) (is_alone columns row at 0 ss)
     (λ none. alone_from columns row at 0 ss (λ j q s same. by_test (nat_eq j at)
     (λ t. let k : 0 + j ≡ at = grind (arith, common_steps) in k)

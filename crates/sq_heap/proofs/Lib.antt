@@ -1,10 +1,12 @@
 pub mod Back
+pub mod Blocks
+pub mod Chains
 pub mod Columns
 pub mod Distinct
 pub mod Heap
 pub mod Holds
+pub mod Entering
 pub mod Entries
 pub mod Keyed
 pub mod OnResult
-pub mod Slots
-pub mod Starts
+pub mod Rows

@@ -12,13 +12,13 @@ use Rattle.sq_heap.specs.declared.table.HeapTable.{HeapTable}
 use Rattle.sq_heap.specs.declared.undo.Undo.{Undo}
 
 abbrev pub now_of : HeapTable → Table
-now_of t = table_of t.slots.items
+now_of t = table_of t.slots.list.items
 
 abbrev pub committed_of : HeapTable → Table
-committed_of t = table_of (back t.slots.items t.undo.items)
+committed_of t = table_of (back t.slots.list.items t.undo.items)
 
 abbrev pub before_of : ℕ → HeapTable → Table
-before_of from t = table_of (back t.slots.items (drop from t.undo.items))
+before_of from t = table_of (back t.slots.list.items (drop from t.undo.items))
 
 abbrev pub all_now : List HeapTable → Content
 all_now tables = map now_of tables

@@ -1,4 +1,4 @@
--- A hashed index of the rows in slots, for one key: slots' places in buckets by the hash of the row that was put there.
+-- A hashed index of the rows in slots, for one key: slots' places in chains by the hash of the row that was put there.
 -- An entry may be stale, so whoever finds one looks at the row; but no row in a slot, and none that undoing brings back,
 -- lacks its entry.
 use Rattle.std.specs.Prelude.{ℕ, ◌+◌, ◌%◌, Bool, true, false, ◌&&◌, not, nat_eq, if◌then◌else◌, List, [], ◌∷◌, length, map, None, Some, slice_index_or}
@@ -10,6 +10,7 @@ use Rattle.sq_value.specs.Comparison.{is_same}
 use Rattle.sq_value.specs.Key.{in_columns, value_writes}
 use Rattle.sq_value.specs.declared.value.Value.{Value}
 use Rattle.sq_store.specs.Keys.{Keys}
+use Rattle.sq_heap.specs.Chain.{chain_of, is_entry}
 use Rattle.sq_heap.specs.Slots.{Slot, slot_at}
 use Rattle.sq_heap.specs.declared.index.Entry.{Entry}
 use Rattle.sq_heap.specs.declared.index.Index.{Index}
@@ -19,18 +20,16 @@ use Rattle.sq_heap.specs.declared.undo.Undo.{Undo}
 abbrev pub hash_of : List Value → ℕ
 hash_of values = folding.finish (fold folding.write folding.initial (fed.slice value_writes values))
 
-abbrev pub bucket_of : List (List Entry) → ℕ → List Entry
-bucket_of buckets hash = slice_index_or buckets (hash % length buckets) []
+-- the chain in which the entries under a hash are
+abbrev pub bucket_of : Index → ℕ → List Entry
+bucket_of index hash = chain_of index.entries.items (slice_index_or index.heads.items (hash % length index.heads.items) 0)
 
-abbrev pub is_entry : ℕ → ℕ → Entry → Bool
-is_entry hash at e = nat_eq e.hash hash && nat_eq e.at at
-
-abbrev pub has_entry : List (List Entry) → ℕ → ℕ → Bool
-has_entry buckets hash at = list_any (is_entry hash at) (bucket_of buckets hash)
+abbrev pub has_entry : Index → ℕ → ℕ → Bool
+has_entry index hash at = list_any (is_entry hash at) (bucket_of index hash)
 
 -- there is an entry for a row in a slot
 abbrev pub is_in : Index → List Value → ℕ → Bool
-is_in index row at = has_entry index.buckets.items (hash_of (in_columns row index.columns)) at
+is_in index row at = has_entry index (hash_of (in_columns row index.columns)) at
 
 -- in each index
 abbrev pub in_all : List Index → List Value → ℕ → Bool

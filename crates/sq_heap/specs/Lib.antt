@@ -1,7 +1,9 @@
 pub mod Alone
+pub mod Blocks
+pub mod Chain
+pub mod Entered
 pub mod Heap
 pub mod Index
 pub mod Room
 pub mod Slots
-pub mod Start
 pub mod Undo

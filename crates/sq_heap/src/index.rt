@@ -1,6 +1,8 @@
 //! A hashed index of the rows in slots, for one key.
 
-ghost use Rattle.std.specs.Prelude.{◌≡◌, ◌<◌, length, true, IfOk, OnOk};
+ghost use Rattle.std.specs.Prelude.{◌≡◌, ◌<◌, ◌≤◌, ◌∷◌, [], length, true, IfOk, MatchOption, OnOk};
+ghost use Rattle.std.specs.List.{list_all};
+ghost use Rattle.sq_heap.specs.Chain.{are_falling, chain_of, is_within};
 
 use crate::hash::hash_of_row;
 use sq_items::Items;
@@ -12,23 +14,24 @@ use std::alloc::{AllocError, Global};
 pub(crate) struct Entry {
     pub(crate) hash: u64,
     pub(crate) at: usize,
+    /// The entry before it in its chain: one more than its place, or 0 where there is none.
+    pub(crate) next: usize,
 }
 
-/// The places of rows by the hashes of their keys.
+/// The places of rows by the hashes of their keys, in chains of entries.
 ///
 /// Entries are only added. One whose slot has another row by now, or none, does no harm, as whoever finds it looks at the
 /// row. So nothing has to be put back where changes are undone, and that needs no memory.
 #[derive(Drop)]
 pub(crate) struct Index {
     columns: Items<usize>,
-    buckets: Vec<Items<Entry>>,
-    /// How many entries there are.
-    count: usize,
-    ghost some: { 0 < length buckets.items },
+    /// Of each chain the last entry: one more than its place, or 0 where there is none.
+    heads: Vec<usize>,
+    entries: Vec<Entry>,
+    ghost some: { 0 < length heads.items },
+    ghost within: { list_all (is_within (length entries.items)) heads.items ≡ true },
+    ghost falling: { are_falling 0 entries.items ≡ true },
 }
-
-/// How many entries a bucket has on average when an index is full.
-const FULL: usize = 4;
 
 impl Index {
     ghost use Rattle.std.specs.Prelude.{ℕ};
@@ -42,10 +45,12 @@ impl Index {
     ) -> Result<Index, AllocError>
         ensures { IfOk result (λ index. index.columns ≡ columns) }
     {
+        let mut heads = Vec::new(alloc);
+        heads.resize(count.max(1), 0)?;
         Ok(Index {
             columns,
-            buckets: empty_buckets(alloc, count / FULL)?,
-            count: 0,
+            heads,
+            entries: Vec::with_capacity(alloc, count)?,
         })
     }
 
@@ -58,38 +63,51 @@ impl Index {
 
     /// Whether so many entries more would make it slow.
     pub(crate) fn is_full(&self, more: usize) -> bool {
-        self.count.saturating_add(more) / FULL > self.buckets.len()
+        self.entries.len().saturating_add(more) > self.heads.len()
     }
 
-    /// The entries among which those under a hash are.
-    pub(crate) fn bucket(&self, hash: u64) -> &[Entry]
-        ensures { result.now ≡ bucket_of self.now.buckets.items hash }
+    /// The chain in which the entries under a hash are: one more than the place of its last entry, or 0.
+    pub(crate) fn last(&self, hash: u64) -> usize
+        ensures within { result ≤ length self.now.entries.items }
+        ensures chain { chain_of self.now.entries.items result ≡ bucket_of self.now hash }
     {
-        self.buckets[hash as usize % self.buckets.len()].as_slice()
+        self.heads[hash as usize % self.heads.len()]
+    }
+
+    /// The entry that a link names.
+    pub(crate) fn entry(&self, link: usize) -> Option<Entry>
+        requires { link ≤ length self.now.entries.items }
+        ensures { MatchOption result
+            (chain_of self.now.entries.items link ≡ [])
+            (λ e. (chain_of self.now.entries.items link ≡ e ∷ chain_of self.now.entries.items e.next) × (e.next < link)) }
+    {
+        if link == 0 {
+            None
+        } else {
+            Some(self.entries[link - 1])
+        }
     }
 
     /// Adds an entry for a row.
     pub(crate) fn enter(&mut self, row: &[Value], at: usize) -> Result<(), AllocError>
         ensures columns { self.new.columns ≡ self.old.columns }
-        ensures keeps { (hash place : ℕ) → has_entry self.old.buckets.items hash place ≡ true → has_entry self.new.buckets.items hash place ≡ true }
+        ensures keeps { (hash place : ℕ) → has_entry self.old hash place ≡ true → has_entry self.new hash place ≡ true }
         ensures entered { OnOk result (is_in self.new row.now at ≡ true) }
     {
         let hash = hash_of_row(row, self.columns.as_slice());
-        let bucket = hash as usize % self.buckets.len();
-        self.buckets[bucket].push(Entry { hash, at })?;
-        self.count = self.count.saturating_add(1);
+        self.add(hash, at)
+    }
+
+    /// Adds an entry under a hash, in front of its chain.
+    fn add(&mut self, hash: u64, at: usize) -> Result<(), AllocError>
+        ensures columns { self.new.columns ≡ self.old.columns }
+        ensures keeps { (other place : ℕ) → has_entry self.old other place ≡ true → has_entry self.new other place ≡ true }
+        ensures entered { OnOk result (has_entry self.new hash at ≡ true) }
+    {
+        let chain = hash as usize % self.heads.len();
+        let next = self.heads[chain];
+        self.entries.push(Entry { hash, at, next })?;
+        self.heads[chain] = self.entries.len();
         Ok(())
     }
-}
-
-/// At least one bucket, each without entries.
-fn empty_buckets(alloc: Global, count: usize) -> Result<Vec<Items<Entry>>, AllocError>
-    ensures { IfOk result (λ buckets. 0 < length buckets.items) }
-{
-    let mut buckets = Vec::with_capacity(alloc, count.saturating_add(1))?;
-    buckets.push(Items::new(alloc))?;
-    for _ in 0..count {
-        buckets.push(Items::new(alloc))?;
-    }
-    Ok(buckets)
 }

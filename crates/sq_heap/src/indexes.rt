@@ -1,12 +1,14 @@
 //! The indexes of a table, and how they get their entries.
 
-ghost use Rattle.std.specs.Prelude.{◌≡◌, ℕ, List, true, IfOk, OnOk};
+ghost use Rattle.std.specs.Prelude.{◌≡◌, ◌<◌, ◌+◌, ◌^◌, ℕ, List, length, true, IfOk, OnOk};
 ghost use Rattle.sq_value.specs.declared.value.Value.{Value as SqlValue};
+ghost use Rattle.sq_heap.specs.Entered.{change_holds, changes_hold, next_slot};
 ghost use Rattle.sq_heap.specs.Index.{in_all, is_in, keys_of, slot_holds, slots_hold, undo_holds};
 
 use crate::index::Index;
 use crate::undo::Undo;
 use sq_items::Items;
+use sq_store::Change;
 use sq_value::{Row, Value};
 use std::alloc::{AllocError, Global};
 
@@ -77,17 +79,52 @@ fn enter_undo(index: &mut Index, undo: &[Undo]) -> Result<(), AllocError>
 }
 
 /// Adds entries for a row to each index.
-pub(crate) fn enter_all(
-    indexes: &mut Vec<Index>,
-    row: &[Value],
-    at: usize,
-) -> Result<(), AllocError>
+fn enter_all(indexes: &mut Vec<Index>, row: &[Value], at: usize) -> Result<(), AllocError>
     ensures keys { keys_of indexes.new.items ≡ keys_of indexes.old.items }
     ensures keeps { (r : List SqlValue) (place : ℕ) → in_all indexes.old.items r place ≡ true → in_all indexes.new.items r place ≡ true }
     ensures entered { OnOk result (in_all indexes.new.items row.now at ≡ true) }
 {
     for place in 0..indexes.len() {
         indexes[place].enter(row, at)?;
+    }
+    Ok(())
+}
+
+/// Adds the entries of the row that a change puts in, where a new row gets a slot. Says which slot the next new row gets.
+fn enter_change(indexes: &mut Vec<Index>, change: &Change, next: usize) -> Result<usize, AllocError>
+    requires { next + 1 < 2 ^ 64 }
+    ensures keys { keys_of indexes.new.items ≡ keys_of indexes.old.items }
+    ensures keeps { (r : List SqlValue) (place : ℕ) → in_all indexes.old.items r place ≡ true → in_all indexes.new.items r place ≡ true }
+    ensures entered { OnOk result (change_holds (in_all indexes.new.items) next change.now ≡ true) }
+    ensures next { IfOk result (λ n. n ≡ next_slot next change.now) }
+{
+    match change {
+        Change::Insert(row) => {
+            enter_all(indexes, row.as_slice(), next)?;
+            Ok(next + 1)
+        }
+        Change::Replace(number, row) => {
+            enter_all(indexes, row.as_slice(), number.saturating_sub(1) as usize)?;
+            Ok(next)
+        }
+        Change::Remove(_) => Ok(next),
+    }
+}
+
+/// Adds the entries of the rows that changes put in, where the first new row gets a slot.
+pub(crate) fn enter_changes(
+    indexes: &mut Vec<Index>,
+    changes: &[Change],
+    first: usize,
+) -> Result<(), AllocError>
+    requires { first + length changes.now < 2 ^ 64 }
+    ensures keys { keys_of indexes.new.items ≡ keys_of indexes.old.items }
+    ensures keeps { (r : List SqlValue) (place : ℕ) → in_all indexes.old.items r place ≡ true → in_all indexes.new.items r place ≡ true }
+    ensures entered { OnOk result (changes_hold (in_all indexes.new.items) first changes.now ≡ true) }
+{
+    let mut next = first;
+    for change in changes {
+        next = enter_change(indexes, change, next)?;
     }
     Ok(())
 }

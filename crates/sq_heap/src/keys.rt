@@ -8,7 +8,7 @@ ghost use Rattle.sq_value.specs.Comparison.{is_same};
 ghost use Rattle.sq_value.specs.Key.{in_columns};
 ghost use Rattle.sq_store.specs.Keys.{are_distinct, has_columns, has_key};
 ghost use Rattle.sq_heap.specs.Alone.{all_alone, is_alone, slots_have};
-ghost use Rattle.sq_heap.specs.Index.{is_in, named, names_key, names_other, slots_hold};
+ghost use Rattle.sq_heap.specs.Index.{bucket_of, is_in, named, names_key, names_other, slots_hold};
 ghost use Rattle.sq_heap.specs.Slots.{rows_from, slot_at};
 
 use crate::hash::{hash_of_key, hash_of_row};
@@ -31,8 +31,7 @@ pub(crate) fn first_with<'a>(
         (find (has_key index.now.columns values.now) (rows_from 1 slots.now) ≡ None)
         (λ r. find (has_key index.now.columns values.now) (rows_from 1 slots.now) ≡ Some (record { number = r.0; row = r.1.now })) }
 {
-    let hash = hash_of_key(values);
-    let (at, row) = among(slots, index.bucket(hash), index.columns(), values, hash)?;
+    let (at, row) = among(slots, index, values, hash_of_key(values))?;
     Some((at as u64 + 1, row))
 }
 
@@ -40,30 +39,32 @@ pub(crate) fn first_with<'a>(
 #[tactic(auto, using(crate::proofs::Keyed::columns_of_named, crate::proofs::Keyed::slot_of_named))]
 fn among<'a>(
     slots: &'a [Option<Row>],
-    entries: &[Entry],
-    columns: &[usize],
+    index: &Index,
     values: &Key,
     hash: u64,
 ) -> Option<(usize, &'a Row)>
-    requires { slots_have columns.now slots.now ≡ true }
+    requires { slots_have index.now.columns slots.now ≡ true }
     ensures { MatchOption result
-        (list_any (names_key columns.now values.now slots.now hash) entries.now ≡ false)
-        (λ r. (slot_at slots.now r.0 ≡ Some r.1.now) × (pointwise is_same values.now (in_columns r.1.now columns.now) ≡ true)) }
+        (list_any (names_key index.now.columns values.now slots.now hash) (bucket_of index.now hash) ≡ false)
+        (λ r. (slot_at slots.now r.0 ≡ Some r.1.now) × (pointwise is_same values.now (in_columns r.1.now index.now.columns) ≡ true)) }
 {
-    for entry in entries {
+    let columns = index.columns();
+    let mut link = index.last(hash);
+    while let Some(entry) = index.entry(link) {
         if let Some(row) = row_of(slots, entry, hash) {
             if values.is_of(row.as_slice(), columns) {
                 return Some((entry.at, row));
             }
         }
+        link = entry.next;
     }
     None
 }
 
 /// The row in the slot that an entry under a hash names.
-#[tactic(auto, using(crate::proofs::Slots::slot_is, crate::proofs::Slots::slot_past))]
-fn row_of<'a>(slots: &'a [Option<Row>], entry: &Entry, hash: u64) -> Option<&'a Row>
-    ensures { option_copied result ≡ named slots.now hash entry.now }
+#[tactic(auto, using(crate::proofs::Rows::slot_is, crate::proofs::Rows::slot_past))]
+fn row_of<'a>(slots: &'a [Option<Row>], entry: Entry, hash: u64) -> Option<&'a Row>
+    ensures { option_copied result ≡ named slots.now hash entry }
 {
     if entry.hash == hash && entry.at < slots.len() {
         slots[entry.at].as_ref()
@@ -80,26 +81,20 @@ fn is_alone(slots: &[Option<Row>], index: &Index, row: &[Value], at: usize) -> b
     requires entered { slots_hold (is_in index.now) 0 slots.now ≡ true }
     ensures { result ≡ is_alone index.now.columns row.now at 0 slots.now }
 {
-    let columns = index.columns();
-    let hash = hash_of_row(row, columns);
-    !has_other(slots, index.bucket(hash), columns, row, at, hash)
+    let hash = hash_of_row(row, index.columns());
+    !has_other(slots, index, row, at, hash)
 }
 
 /// Whether one of the entries under a hash names another slot whose row has the key of this row.
 #[tactic(auto, using(crate::proofs::Keyed::columns_of_named))]
-fn has_other(
-    slots: &[Option<Row>],
-    entries: &[Entry],
-    columns: &[usize],
-    row: &[Value],
-    at: usize,
-    hash: u64,
-) -> bool
-    requires row { has_columns columns.now row.now ≡ true }
-    requires slots { slots_have columns.now slots.now ≡ true }
-    ensures { result ≡ list_any (names_other columns.now (in_columns row.now columns.now) at slots.now hash) entries.now }
+fn has_other(slots: &[Option<Row>], index: &Index, row: &[Value], at: usize, hash: u64) -> bool
+    requires row { has_columns index.now.columns row.now ≡ true }
+    requires slots { slots_have index.now.columns slots.now ≡ true }
+    ensures { result ≡ list_any (names_other index.now.columns (in_columns row.now index.now.columns) at slots.now hash) (bucket_of index.now hash) }
 {
-    for entry in entries {
+    let columns = index.columns();
+    let mut link = index.last(hash);
+    while let Some(entry) = index.entry(link) {
         if entry.at != at {
             if let Some(other) = row_of(slots, entry, hash) {
                 if are_same(row, other.as_slice(), columns) {
@@ -107,6 +102,7 @@ fn has_other(
                 }
             }
         }
+        link = entry.next;
     }
     false
 }

@@ -6,6 +6,7 @@ mod index;
 mod indexes;
 mod keys;
 mod mark;
+mod slots;
 mod store;
 mod table;
 mod undo;

@@ -20,7 +20,7 @@ use std::alloc::{AllocError, Global};
 ///
 /// `apply`, `take_back`, `commit` and `rollback` cost what changes, and `find_key` looks at the rows with the key's hash. An
 /// index that is full is made anew over the whole table, which falls to each change as a part that doesn't grow with the
-/// table. `next_from` walks over the empty slots of rows that are gone.
+/// table. `next_from` passes at most the slots of two blocks, and the blocks between that have no rows.
 #[derive(Drop)]
 pub struct HeapStore {
     /// Of each table the columns of each key.
@@ -87,13 +87,13 @@ impl Store for HeapStore {
     }
 
     fn next_from(&self, table: usize, number: u64, meter: &mut Meter) -> Option<(u64, &Row)> {
-        let found = self.tables[table].first_from(number)?;
+        let found = self.tables[table].slots().first_from(number)?;
         meter.hand_out();
         Some(found)
     }
 
     fn row(&self, table: usize, number: u64, meter: &mut Meter) -> Option<&Row> {
-        let row = self.tables[table].row_at(number)?;
+        let row = self.tables[table].slots().row_at(number)?;
         meter.hand_out();
         Some(row)
     }
@@ -111,8 +111,13 @@ impl Store for HeapStore {
     }
 
     #[tactic(auto, using(crate::proofs::Heap::slots_within, crate::proofs::Heap::map_at))]
+    fn next_number(&self, table: usize) -> u64 {
+        self.tables[table].slots().len() as u64 + 1
+    }
+
+    #[tactic(auto, using(crate::proofs::Heap::slots_within, crate::proofs::Heap::map_at))]
     fn numbers_left(&self, table: usize) -> u64 {
-        self.row_numbers - self.tables[table].len() as u64
+        self.row_numbers - self.tables[table].slots().len() as u64
     }
 
     fn apply(

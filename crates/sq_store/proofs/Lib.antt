@@ -1,3 +1,5 @@
 pub mod Rises
 pub mod Search
 pub mod Sound
+pub mod Unique
+pub mod Walk

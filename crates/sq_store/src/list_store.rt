@@ -98,6 +98,10 @@ impl Store for ListStore {
         Some((found.number, &found.row))
     }
 
+    fn next_number(&self, table: usize) -> u64 {
+        self.tables[table].next
+    }
+
     #[tactic(auto, using(crate::proofs::Sound::next_at))]
     fn numbers_left(&self, table: usize) -> u64 {
         self.row_numbers + 1 - self.tables[table].next

@@ -80,6 +80,11 @@ pub trait Store: Drop {
             MatchOption result (found ≡ None) (λ r. found ≡ Some (record { number = r.0; row = r.1.now })) }
         ensures metered { meter.new ≡ (if is_some result then counted meter.old else meter.old) };
 
+    /// The number of the next new row.
+    fn next_number(&self, table: usize) -> u64
+        requires { table < length (content_now self.now) }
+        ensures { result ≡ (table_at (content_now self.now) table).next };
+
     /// How many numbers are left for new rows.
     fn numbers_left(&self, table: usize) -> u64
         requires { table < length (content_now self.now) }

@@ -4,14 +4,12 @@
 #![tactic(auto)]
 
 mod action;
-mod admit;
 mod shown;
 
 use action::{Action, Step, changes_of};
-use admit::admits;
 use shown::{content_of, show};
 use sq_heap::HeapStore;
-use sq_store::{ApplyFault, Change, ListStore, Store};
+use sq_store::{ApplyFault, Change, ListStore, Store, can_apply};
 use std::alloc::{AllocError, Global};
 use std::io;
 
@@ -123,7 +121,7 @@ fn apply_once<S: Store>(
     changes: Vec<Change>,
     back: bool,
 ) -> Option<&'static str> {
-    if !admits(store, 0, changes.as_slice()) {
+    if !can_apply(store, 0, changes.as_slice()) {
         return Some("not admitted");
     }
     match store.apply(alloc, 0, changes) {

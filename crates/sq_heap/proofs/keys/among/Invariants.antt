@@ -1,7 +1,15 @@
-use Rattle.std.proofs.Common.{◌≡◌, drop}
+use Rattle.std.proofs.Common.{◌≡◌, ◌≤◌, length}
 use Rattle.std.specs.List.{list_any}
-use Rattle.sq_heap.specs.Index.{names_key}
+use Rattle.sq_heap.specs.Chain.{chain_of}
+use Rattle.sq_heap.specs.Index.{bucket_of, names_key}
 use Rattle.sq_heap.proofs.keys.among.Given as goal
 
 abbrev pub invariant-loop-entry : goal.invariant-loop-entry
-invariant-loop-entry l = list_any (names_key l.columns l.values l.slots l.hash) l.entries ≡ list_any (names_key l.columns l.values l.slots l.hash) (drop l.entry-index l.entries)
+invariant-loop-entry l = record {
+  within : l.link ≤ length l.index.entries.items;
+  rest : list_any (names_key l.index.columns l.values l.slots l.hash) (bucket_of l.index l.hash)
+      ≡ list_any (names_key l.index.columns l.values l.slots l.hash) (chain_of l.index.entries.items l.link);
+}
+
+abbrev pub decreases-loop-entry : goal.decreases-loop-entry
+decreases-loop-entry l = l.link

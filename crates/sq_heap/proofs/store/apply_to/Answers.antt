@@ -15,7 +15,7 @@ returns-clause-ok c =
     let t = c.index_mut.result.now in
     let u = c.apply.new.self in
     let changes = c.args.changes.items in
-    on_ok c.apply.result (table_of u.slots.items ≡ changed_by (table_of t.slots.items) changes) (all_now (slice_set ts i u) ≡ slice_set (all_now ts) i (changed_by (table_at (all_now ts) i) changes))
+    on_ok c.apply.result (table_of u.slots.list.items ≡ changed_by (table_of t.slots.list.items) changes) (all_now (slice_set ts i u) ≡ slice_set (all_now ts) i (changed_by (table_at (all_now ts) i) changes))
     (λ h. applied_now ts i t u changes c.requires.known c.index_mut.ensures.value h) c.apply.ensures.ok
 
 pub returns-clause-before : goal.returns-clause-before
@@ -24,7 +24,7 @@ returns-clause-before c =
     let i = c.args.table in
     let t = c.index_mut.result.now in
     let u = c.apply.new.self in
-    if_ok c.apply.result (length t.undo.items) (back u.slots.items (drop (length t.undo.items) u.undo.items) ≡ t.slots.items)
+    if_ok c.apply.result (length t.undo.items) (back u.slots.list.items (drop (length t.undo.items) u.undo.items) ≡ t.slots.list.items)
     (λ from. all_before (Some (record { table = i; from = from })) (slice_set ts i u) ≡ Some (all_now ts))
     (λ from e h. applied_before ts i t u from c.requires.known c.index_mut.ensures.value e h) c.apply.ensures.from c.apply.ensures.before
 
@@ -42,7 +42,7 @@ returns-clause-err c =
     let i = c.args.table in
     let t = c.index_mut.result.now in
     let u = c.apply.new.self in
-    on_err c.apply.result (u.slots.items ≡ t.slots.items) (all_now (slice_set ts i u) ≡ all_now ts)
+    on_err c.apply.result (u.slots.list.items ≡ t.slots.list.items) (all_now (slice_set ts i u) ≡ all_now ts)
     (λ h. map_set_same now_of ts i t u c.requires.known c.index_mut.ensures.value (ap table_of h)) c.apply.ensures.err
 
 pub returns-clause-err_before : goal.returns-clause-err_before
@@ -51,7 +51,7 @@ returns-clause-err_before c =
     let i = c.args.table in
     let t = c.index_mut.result.now in
     let u = c.apply.new.self in
-    on_errs c.apply.result (u.slots.items ≡ t.slots.items) (u.undo.items ≡ t.undo.items) ((mark : Option Mark) → all_before mark (slice_set ts i u) ≡ all_before mark ts)
+    on_errs c.apply.result (u.slots.list.items ≡ t.slots.list.items) (u.undo.items ≡ t.undo.items) ((mark : Option Mark) → all_before mark (slice_set ts i u) ≡ all_before mark ts)
     (λ h k mark. refused_before ts i t u mark c.requires.known c.index_mut.ensures.value h k) c.apply.ensures.err c.apply.ensures.err_undo
 
 pub returns-clause-err_listed : goal.returns-clause-err_listed

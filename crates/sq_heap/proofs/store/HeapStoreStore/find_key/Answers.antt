@@ -17,7 +17,7 @@ first_with-requires-clause-columns c =
     let long : length (all_now c.args.self.now.tables.items) ≡ length c.args.self.now.tables.items = length_map now_of ts in
     let lt : c.args.table < length c.args.self.now.tables.items = omega (arith, c.requires.table) in
     let keys : keys_of c.index.result.now.indexes.items ≡ keys_at c.args.self.now.keys c.args.table = sym (keys_of_table ts i t lt c.index.ensures) ∙ ap (λ (k : List Keys). keys_at k i) s.indexed in
-    let table : table_of c.index.result.now.slots.items ≡ table_at (all_now c.args.self.now.tables.items) c.args.table = sym (map_at now_of ts i t lt c.index.ensures) in
+    let table : table_of c.index.result.now.slots.list.items ≡ table_at (all_now c.args.self.now.tables.items) c.args.table = sym (map_at now_of ts i t lt c.index.ensures) in
     (λ j. have_keys (keys j) (table j).rows) ∙ columns_at s.row_numbers s.keys (all_now ts) i s.sound c.requires.table
 
 pub first_with-requires-clause-distinct : goal.first_with-requires-clause-distinct
@@ -29,5 +29,5 @@ first_with-requires-clause-distinct c =
     let long : length (all_now c.args.self.now.tables.items) ≡ length c.args.self.now.tables.items = length_map now_of ts in
     let lt : c.args.table < length c.args.self.now.tables.items = omega (arith, c.requires.table) in
     let keys : keys_of c.index.result.now.indexes.items ≡ keys_at c.args.self.now.keys c.args.table = sym (keys_of_table ts i t lt c.index.ensures) ∙ ap (λ (k : List Keys). keys_at k i) s.indexed in
-    let table : table_of c.index.result.now.slots.items ≡ table_at (all_now c.args.self.now.tables.items) c.args.table = sym (map_at now_of ts i t lt c.index.ensures) in
+    let table : table_of c.index.result.now.slots.list.items ≡ table_at (all_now c.args.self.now.tables.items) c.args.table = sym (map_at now_of ts i t lt c.index.ensures) in
     (λ j. has_distinct_keys (keys j) (table j)) ∙ distinct_at s.row_numbers s.keys (all_now ts) i s.sound c.requires.table

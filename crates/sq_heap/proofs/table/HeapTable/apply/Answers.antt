@@ -10,7 +10,7 @@ pub has_distinct_keys-requires-clause-columns : goal.has_distinct_keys-requires-
 has_distinct_keys-requires-clause-columns c =
     let s = c.args.self.now in
     let changes = c.args.changes.items in
-    let keys : keys_of c.make_all.new.self.indexes.items ≡ keys_of c.args.self.now.indexes.items = c.make_all.ensures.keys ∙ c.reserve.ensures.keys in
-    let table : table_of c.make_all.new.self.slots.items ≡ changed_by (table_of c.args.self.now.slots.items) c.args.changes.items
-    = c.in-Ok.ensures.table ∙ ap (λ (ss : List Slot). changed_by (table_of ss) changes) c.reserve.ensures.slots in
-    (λ i. have_keys (keys i) (table i).rows) ∙ have_keys_changed_by (keys_of s.indexes.items) (table_of s.slots.items) changes c.requires.columns c.requires.new_columns
+    let keys : keys_of c.make_all.new.self.indexes.items ≡ keys_of c.args.self.now.indexes.items = ap (λ xs. keys_of xs.items) c.make_all.ensures.indexes ∙ c.prepare.ensures.keys in
+    let table : table_of c.make_all.new.self.slots.list.items ≡ changed_by (table_of c.args.self.now.slots.list.items) c.args.changes.items
+    = c.make_all.ensures.table ∙ ap (λ (ss : List Slot). changed_by (table_of ss) changes) c.prepare.ensures.slots in
+    (λ i. have_keys (keys i) (table i).rows) ∙ have_keys_changed_by (keys_of s.indexes.items) (table_of s.slots.list.items) changes c.requires.columns c.requires.new_columns

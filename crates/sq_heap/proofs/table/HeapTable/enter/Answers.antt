@@ -6,12 +6,9 @@ pub invariant_of-self : goal.invariant_of-self
 invariant_of-self c =
     let s = c.args.self.now in
     let P = in_all c.args.self.now.indexes.items in
-    let Q = in_all c.enter_all.new.indexes.items in
+    let Q = in_all c.enter_changes.new.indexes.items in
     record {
       undoable = s.undoable;
-      entered = slots_give P Q c.enter_all.ensures.keeps 0 s.slots.items s.entered;
-      undo_entered = undo_gives P Q c.enter_all.ensures.keeps s.undo.items s.undo_entered;
-      starts = s.starts;
-      undo_starts = s.undo_starts;
-      start_within = s.start_within;
+      entered = slots_give P Q c.enter_changes.ensures.keeps 0 s.slots.list.items s.entered;
+      undo_entered = undo_gives P Q c.enter_changes.ensures.keeps s.undo.items s.undo_entered;
     }

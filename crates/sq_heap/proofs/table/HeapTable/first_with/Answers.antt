@@ -12,29 +12,29 @@ use Rattle.sq_heap.proofs.table.HeapTable.first_with.Goals as goal
 pub first_with-requires-clause-columns : goal.first_with-requires-clause-columns
 first_with-requires-clause-columns c =
     let xs = c.args.self.now.indexes.items in
-    let ss = c.args.self.now.slots.items in
+    let ss = c.args.self.now.slots.list.items in
     let x = c.index.result.now in
     let long : length (keys_of c.args.self.now.indexes.items) ≡ length c.args.self.now.indexes.items = length_keys xs in
     let lt : c.args.key < length c.args.self.now.indexes.items = omega (arith, c.requires.key) in
-    ap (λ (slots : List Slot). slots_have x.columns slots) c.as_slice.ensures.value
+    ap (λ (slots : List Slot). slots_have x.columns slots) c.as_slice.ensures
     ∙ of_index (λ columns. slots_have columns ss) xs c.args.key x lt c.index.ensures (slots_of_keys (keys_of xs) 1 ss c.requires.columns)
 
 pub first_with-requires-clause-entered : goal.first_with-requires-clause-entered
 first_with-requires-clause-entered c =
     let xs = c.args.self.now.indexes.items in
-    let ss = c.args.self.now.slots.items in
+    let ss = c.args.self.now.slots.list.items in
     let x = c.index.result.now in
     let long : length (keys_of c.args.self.now.indexes.items) ≡ length c.args.self.now.indexes.items = length_keys xs in
     let lt : c.args.key < length c.args.self.now.indexes.items = omega (arith, c.requires.key) in
-    ap (slots_hold (is_in x) 0) c.as_slice.ensures.value
+    ap (slots_hold (is_in x) 0) c.as_slice.ensures
     ∙ slots_give (in_all xs) (is_in x) (λ r k t. all_at (λ index. is_in index r k) xs c.args.key x lt c.index.ensures t) 0 ss c.args.self.now.entered
 
 pub first_with-requires-clause-distinct : goal.first_with-requires-clause-distinct
 first_with-requires-clause-distinct c =
     let xs = c.args.self.now.indexes.items in
-    let ss = c.args.self.now.slots.items in
+    let ss = c.args.self.now.slots.list.items in
     let x = c.index.result.now in
     let long : length (keys_of c.args.self.now.indexes.items) ≡ length c.args.self.now.indexes.items = length_keys xs in
     let lt : c.args.key < length c.args.self.now.indexes.items = omega (arith, c.requires.key) in
-    ap (λ (slots : List Slot). are_distinct x.columns (rows_from 1 slots)) c.as_slice.ensures.value
+    ap (λ (slots : List Slot). are_distinct x.columns (rows_from 1 slots)) c.as_slice.ensures
     ∙ of_index (λ columns. are_distinct columns (rows_from 1 ss)) xs c.args.key x lt c.index.ensures c.requires.distinct

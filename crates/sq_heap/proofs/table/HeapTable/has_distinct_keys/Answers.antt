@@ -6,7 +6,7 @@ use Rattle.sq_heap.proofs.table.HeapTable.has_distinct_keys.Goals as goal
 
 pub returns : goal.returns
 returns c =
-    let slots = c.args.self.now.slots.items in
+    let slots = c.args.self.now.slots.list.items in
     let undo = c.args.self.now.undo.items in
     c.are_alone.ensures
     ∙ sym (distinct_keys_alone (keys_of c.args.self.now.indexes.items) slots (drop c.args.from undo) (fits_drop (length slots) undo c.args.from c.args.self.now.undoable) c.requires.before)

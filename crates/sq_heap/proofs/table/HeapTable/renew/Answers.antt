@@ -10,15 +10,12 @@ invariant_of-self-2 c =
     let s = c.args.self.now in
     let xs = c.args.self.now.indexes.items in
     let y = c.in_ok-index.index in
-    let slots : slots_hold (is_in c.in_ok-index.index) 0 c.args.self.now.slots.items ≡ true = ap (slots_hold (is_in y) 0) (sym c.as_slice.ensures.value) ∙ c.in_ok-index.ensures.slots in
+    let slots : slots_hold (is_in c.in_ok-index.index) 0 c.args.self.now.slots.list.items ≡ true = ap (slots_hold (is_in y) 0) (sym c.as_slice.ensures) ∙ c.in_ok-index.ensures.slots in
     let undo : undo_holds (is_in c.in_ok-index.index) c.args.self.now.undo.items ≡ true = ap (undo_holds (is_in y)) (sym c.as_slice-2.ensures.value) ∙ c.in_ok-index.ensures.undo in
     record {
       undoable = s.undoable;
-      entered = slots_together (in_all xs) (is_in y) (in_all (slice_set xs c.args.key y)) (λ r at p q. all_put (λ index. is_in index r at) xs c.args.key y p q) 0 s.slots.items s.entered slots;
+      entered = slots_together (in_all xs) (is_in y) (in_all (slice_set xs c.args.key y)) (λ r at p q. all_put (λ index. is_in index r at) xs c.args.key y p q) 0 s.slots.list.items s.entered slots;
       undo_entered = undo_together (in_all xs) (is_in y) (in_all (slice_set xs c.args.key y)) (λ r at p q. all_put (λ index. is_in index r at) xs c.args.key y p q) s.undo.items s.undo_entered undo;
-      starts = s.starts;
-      undo_starts = s.undo_starts;
-      start_within = s.start_within;
     }
 
 pub returns-clause-keys : goal.returns-clause-keys

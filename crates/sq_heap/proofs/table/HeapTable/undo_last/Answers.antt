@@ -1,58 +1,46 @@
-use Rattle.std.proofs.Common.{◌≡◌, ◌∙◌, ◌≤◌, slice_set, ◌++◌, ◌∷◌, [], List, None, Some, ap, arith, length, sym, take, true}
+use Rattle.std.proofs.Common.{◌≡◌, ◌∙◌, ◌-◌, ◌++◌, ◌∷◌, [], List, None, Some, ap, arith, length, slice_set, sym, take, true}
+use Rattle.std.proofs.lemmas.Grind.{common_steps}
 use Rattle.sq_heap.specs.Slots.{Slot}
-use Rattle.sq_heap.specs.Start.{is_from, undo_from}
 use Rattle.sq_heap.specs.Undo.{before_change, fits, is_last_or_in}
-use Rattle.sq_heap.proofs.Back.{fits_last, length_same}
-use Rattle.sq_heap.proofs.Starts.{any_from, from_last, from_rest, taken_within}
 use Rattle.sq_heap.specs.Index.{in_all, slot_holds, slots_hold, undo_holds}
+use Rattle.sq_heap.proofs.Back.{fits_last}
 use Rattle.sq_heap.proofs.Distinct.{undone_fits}
 use Rattle.sq_heap.proofs.Holds.{holds_set, holds_take, undo_last, undo_rest}
 use Rattle.sq_heap.proofs.table.HeapTable.undo_last.Goals as goal
 
 pub invariant_of-self : goal.invariant_of-self
 invariant_of-self c =
-    let slots = c.args.self.now.slots.items in
+    let slots = c.args.self.now.slots.list.items in
     let rest = c.pop.new.self.items in
     let xs = c.args.self.now.indexes.items in
-    let start = c.args.self.now.start in
     let u = c.in-Some.field-0 in
     let split : c.args.self.now.undo.items ≡ c.pop.new.self.items ++ c.in-Some.field-0 ∷ [] = c.in-Some.ensures.items in
     let whole : fits (length slots) (rest ++ u ∷ []) ≡ true = ap (fits (length slots)) (sym split) ∙ c.args.self.now.undoable in
     let some : c.in-Some.field-0.old ≡ Some c.in-Some-old.row = cc in
+    let items : c.put.new.self.list.items ≡ slice_set c.args.self.now.slots.list.items c.in-Some.field-0.at (Some c.in-Some-old.row) = cc in
     let undone : undo_holds (in_all xs) (rest ++ u ∷ []) ≡ true = ap (undo_holds (in_all xs)) (sym split) ∙ c.args.self.now.undo_entered in
-    let from : undo_from c.args.self.now.start (c.pop.new.self.items ++ c.in-Some.field-0 ∷ []) ≡ true = ap (undo_from start) (sym split) ∙ c.args.self.now.undo_starts in
-    let within : c.args.self.now.start ≤ length c.args.self.now.slots.items = c.args.self.now.start_within in
-    let long : length (slice_set c.args.self.now.slots.items c.in-Some.field-0.at (Some c.in-Some-old.row)) ≡ length c.args.self.now.slots.items = length_same slots u.at (Some c.in-Some-old.row) in
     record {
-      undoable = ap (λ (o : Slot). fits (length (before_change slots u.at o)) rest) (sym some) ∙ undone_fits slots rest u whole;
-      entered = holds_set (in_all xs) 0 slots u.at (Some c.in-Some-old.row) u.at (omega arith) c.args.self.now.entered (ap (slot_holds (in_all xs) u.at) (sym some) ∙ undo_last (in_all xs) rest u undone);
+      undoable = ap (λ (ss : List Slot). fits (length ss) rest) items ∙ ap (λ (o : Slot). fits (length (before_change slots u.at o)) rest) (sym some) ∙ undone_fits slots rest u whole;
+      entered = ap (slots_hold (in_all xs) 0) items
+          ∙ holds_set (in_all xs) 0 slots u.at (Some c.in-Some-old.row) u.at (omega arith) c.args.self.now.entered (ap (slot_holds (in_all xs) u.at) (sym some) ∙ undo_last (in_all xs) rest u undone);
       undo_entered = undo_rest (in_all xs) rest u undone;
-      starts = holds_set (is_from start) 0 slots u.at (Some c.in-Some-old.row) u.at (omega arith) c.args.self.now.starts (any_from start u.at (Some c.in-Some-old.row) (from_last start rest u from));
-      undo_starts = from_rest start rest u from;
-      start_within = omega (arith, long, within);
     }
 
 pub invariant_of-self-in-None : goal.invariant_of-self-in-None
 invariant_of-self-in-None c =
-    let slots = c.args.self.now.slots.items in
+    let slots = c.args.self.now.slots.list.items in
     let rest = c.pop.new.self.items in
     let xs = c.args.self.now.indexes.items in
-    let start = c.args.self.now.start in
     let u = c.in-Some.field-0 in
     let split : c.args.self.now.undo.items ≡ c.pop.new.self.items ++ c.in-Some.field-0 ∷ [] = c.in-Some.ensures.items in
     let whole : fits (length slots) (rest ++ u ∷ []) ≡ true = ap (fits (length slots)) (sym split) ∙ c.args.self.now.undoable in
     let none : c.in-Some.field-0.old ≡ None = cc in
-    let items : c.truncate.new.self.items ≡ take c.in-Some.field-0.at c.args.self.now.slots.items = cc in
-    let undone : undo_holds (in_all xs) (rest ++ u ∷ []) ≡ true = ap (undo_holds (in_all xs)) (sym split) ∙ c.args.self.now.undo_entered in
-    let from : undo_from c.args.self.now.start (c.pop.new.self.items ++ c.in-Some.field-0 ∷ []) ≡ true = ap (undo_from start) (sym split) ∙ c.args.self.now.undo_starts in
     let last : is_last_or_in (length slots) u.at None ≡ true = ap (is_last_or_in (length slots) u.at) (sym none) ∙ fits_last (length slots) rest u whole in
-    let shorter : c.args.self.now.start ≤ length (take c.in-Some.field-0.at c.args.self.now.slots.items) = taken_within start slots u.at (from_last start rest u from) last in
-    let long : length c.truncate.new.self.items ≡ length (take c.in-Some.field-0.at c.args.self.now.slots.items) = ap length items in
+    let at : length c.args.self.now.slots.list.items - 1 ≡ c.in-Some.field-0.at = grind (arith, common_steps) in
+    let items : c.pop-in-None.new.self.list.items ≡ take c.in-Some.field-0.at c.args.self.now.slots.list.items = c.pop-in-None.ensures ∙ ap (λ n. take n slots) at in
+    let undone : undo_holds (in_all xs) (rest ++ u ∷ []) ≡ true = ap (undo_holds (in_all xs)) (sym split) ∙ c.args.self.now.undo_entered in
     record {
       undoable = ap (λ (ss : List Slot). fits (length ss) rest) items ∙ ap (λ (o : Slot). fits (length (before_change slots u.at o)) rest) (sym none) ∙ undone_fits slots rest u whole;
       entered = ap (slots_hold (in_all xs) 0) items ∙ holds_take (in_all xs) 0 slots u.at c.args.self.now.entered;
       undo_entered = undo_rest (in_all xs) rest u undone;
-      starts = ap (slots_hold (is_from start) 0) items ∙ holds_take (is_from start) 0 slots u.at c.args.self.now.starts;
-      undo_starts = from_rest start rest u from;
-      start_within = omega (arith, long, shorter);
     }

@@ -6,12 +6,14 @@ ghost use Rattle.sq_store.specs.Change.{insert_count, rows_put};
 ghost use Rattle.sq_store.specs.Content.{table_at};
 ghost use Rattle.sq_store.specs.Keys.{has_columns, has_keys, keys_at};
 
+use crate::change::Change;
+use crate::store::Store;
 use sq_items::Items;
-use sq_store::{Change, Store};
 use sq_value::Value;
 
-/// Whether the store has the table, each row has the columns of its keys, and the new rows fit in the numbers left.
-pub(crate) fn admits<S: Store>(store: &S, table: usize, changes: &[Change]) -> bool
+/// Whether the store has the table, each row that is put in it has the columns of its keys, and the new rows fit in the
+/// numbers that are left: what `Store::apply` asks for.
+pub fn can_apply<S: Store>(store: &S, table: usize, changes: &[Change]) -> bool
     ensures known { IsTrue result → table < length (S.content_now store.now) }
     ensures columns { IsTrue result → list_all (has_keys (keys_at (S.key_columns store.now) table)) (rows_put changes.now) ≡ true }
     ensures fits { IsTrue result → insert_count changes.now ≤ S.row_numbers store.now + 1 - (table_at (S.content_now store.now) table).next }
@@ -21,6 +23,7 @@ pub(crate) fn admits<S: Store>(store: &S, table: usize, changes: &[Change]) -> b
         && count_inserts(changes) <= store.numbers_left(table)
 }
 
+/// Whether each row that is put in a table has the columns of the keys.
 fn all_have_keys(keys: &[Items<usize>], changes: &[Change]) -> bool
     ensures { result ≡ list_all (has_keys keys.now) (rows_put changes.now) }
 {
@@ -37,6 +40,7 @@ fn all_have_keys(keys: &[Items<usize>], changes: &[Change]) -> bool
     true
 }
 
+/// Whether a row has the columns of the keys.
 fn has_all_keys(keys: &[Items<usize>], row: &[Value]) -> bool
     ensures { result ≡ has_keys keys.now row.now }
 {
@@ -48,12 +52,14 @@ fn has_all_keys(keys: &[Items<usize>], row: &[Value]) -> bool
     true
 }
 
+/// Whether a row has the columns of a key.
 fn has_columns(row: &[Value], columns: &[usize]) -> bool
     ensures { result ≡ has_columns columns.now row.now }
 {
     columns.iter().all(|column| *column < row.len())
 }
 
+/// How many new rows there are.
 fn count_inserts(changes: &[Change]) -> u64
     ensures { result ≡ insert_count changes.now }
 {
