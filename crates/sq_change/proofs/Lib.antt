@@ -1,1 +1,1 @@
-pub mod Walk
+pub mod Made

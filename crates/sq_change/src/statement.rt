@@ -1,6 +1,8 @@
 //! The three statements that change a table.
 
-ghost use Rattle.std.specs.Prelude.{◌≡◌, OnErr};
+ghost use Rattle.std.specs.Prelude.{◌≡◌, ◌<◌, true, vec_len, IfOk, OnErr, OnOk};
+ghost use Rattle.sq_change.specs.Changed.{Removals, Replacements, are_insertions};
+ghost use Rattle.sq_change.specs.Statement.{Deletes, Inserts, Updates, base_of};
 
 use crate::complete::{Changed, complete};
 use crate::given::new_rows;
@@ -12,6 +14,7 @@ use sq_store::{Meter, Store};
 use std::alloc::Global;
 
 /// Performs an insert statement (ISO/IEC 9075:1992, 13.8).
+#[tactic(auto, using(crate::proofs::Made::inserts))]
 pub fn insert<N: Names, S: Store>(
     alloc: Global,
     names: &N,
@@ -20,6 +23,7 @@ pub fn insert<N: Names, S: Store>(
     inputs: Inputs<'_>,
     meter: &mut Meter,
 ) -> Result<(), Fault>
+    ensures ok { OnOk result (Inserts insert.now.base (S.content_now store.old) (S.content_now store.new)) }
     ensures err { OnErr result (S.content_now store.new ≡ S.content_now store.old) }
     ensures committed { S.committed store.new ≡ S.committed store.old }
     ensures keys { S.key_columns store.new ≡ S.key_columns store.old }
@@ -36,7 +40,11 @@ fn inserted<N: Names, S: Store>(
     setting: &Setting<'_, N, S>,
     insert: &BoundInsert,
     meter: &mut Meter,
-) -> Result<Changed, Fault> {
+) -> Result<Changed, Fault>
+    ensures place { IfOk result (λ changed. changed.place ≡ insert.now.base) }
+    ensures insertions { IfOk result (λ changed. are_insertions changed.changes.items ≡ true) }
+    ensures some { IfOk result (λ changed. 0 < vec_len changed.changes) }
+{
     let table = base_table(setting.names, insert.base)?;
     if insert.base >= setting.store.table_count() {
         return Err(Fault::NOT_WELL_FORMED);
@@ -55,6 +63,7 @@ fn inserted<N: Names, S: Store>(
 }
 
 /// Performs an update statement (13.9, 13.10). `on` is the number of the row that the cursor is on, for a positioned one.
+#[tactic(auto, using(crate::proofs::Made::updates))]
 pub fn update<N: Names, S: Store>(
     alloc: Global,
     names: &N,
@@ -64,6 +73,7 @@ pub fn update<N: Names, S: Store>(
     inputs: Inputs<'_>,
     meter: &mut Meter,
 ) -> Result<(), Fault>
+    ensures ok { OnOk result (Updates update.now.target on (S.content_now store.old) (S.content_now store.new)) }
     ensures err { OnErr result (S.content_now store.new ≡ S.content_now store.old) }
     ensures committed { S.committed store.new ≡ S.committed store.old }
     ensures keys { S.key_columns store.new ≡ S.key_columns store.old }
@@ -81,7 +91,10 @@ fn updated<N: Names, S: Store>(
     update: &BoundUpdate,
     on: Option<u64>,
     meter: &mut Meter,
-) -> Result<Changed, Fault> {
+) -> Result<Changed, Fault>
+    ensures place { IfOk result (λ changed. changed.place ≡ base_of update.now.target) }
+    ensures replacements { IfOk result (λ changed. Replacements update.now.target on changed.changes.items) }
+{
     let (named, place) = changed_table(&update.target);
     let table = base_table(setting.names, place)?;
     if place >= setting.store.table_count() {
@@ -100,6 +113,7 @@ fn updated<N: Names, S: Store>(
 }
 
 /// Performs a delete statement (13.6, 13.7). `on` is the number of the row that the cursor is on, for a positioned one.
+#[tactic(auto, using(crate::proofs::Made::deletes))]
 pub fn delete<N: Names, S: Store>(
     alloc: Global,
     names: &N,
@@ -109,6 +123,7 @@ pub fn delete<N: Names, S: Store>(
     inputs: Inputs<'_>,
     meter: &mut Meter,
 ) -> Result<(), Fault>
+    ensures ok { OnOk result (Deletes target.now on (S.content_now store.old) (S.content_now store.new)) }
     ensures err { OnErr result (S.content_now store.new ≡ S.content_now store.old) }
     ensures committed { S.committed store.new ≡ S.committed store.old }
     ensures keys { S.key_columns store.new ≡ S.key_columns store.old }
@@ -126,7 +141,10 @@ fn deleted<N: Names, S: Store>(
     target: &ChangeTarget,
     on: Option<u64>,
     meter: &mut Meter,
-) -> Result<Changed, Fault> {
+) -> Result<Changed, Fault>
+    ensures place { IfOk result (λ changed. changed.place ≡ base_of target.now) }
+    ensures removals { IfOk result (λ changed. Removals target.now on changed.changes.items) }
+{
     let (named, place) = changed_table(target);
     let table = base_table(setting.names, place)?;
     let lost_keys = all_keys(setting.alloc, table)?;

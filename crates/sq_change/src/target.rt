@@ -1,6 +1,8 @@
 //! The rows that UPDATE and DELETE change (ISO/IEC 9075:1992, 13.6, 13.7, 13.9 and 13.10).
 
-ghost use Rattle.std.specs.Prelude.{◌<◌, length};
+ghost use Rattle.std.specs.Prelude.{◌≡◌, ◌<◌, length, map, true, IfOk};
+ghost use Rattle.sq_change.specs.Changed.{are_replacements};
+ghost use Rattle.sq_change.specs.Statement.{Chosen, IsOn, base_of};
 
 use crate::setting::Setting;
 use crate::storing::stored_value;
@@ -9,10 +11,12 @@ use sq_items::Items;
 use sq_query::{Failure, Fault, numbers_of};
 use sq_store::{Change, Meter, Store};
 use sq_value::{Row, copy_row};
-use std::alloc::Global;
+use std::alloc::{AllocError, Global};
 
 /// The table that a statement names, and the place of the base table under it.
-pub(crate) fn changed_table(target: &ChangeTarget) -> (TablePlace, usize) {
+pub(crate) fn changed_table(target: &ChangeTarget) -> (TablePlace, usize)
+    ensures { result.1 ≡ base_of target.now }
+{
     match target {
         ChangeTarget::Searched(target) => (target.table, target.base),
         ChangeTarget::Positioned(target) => (target.table, target.base),
@@ -26,7 +30,9 @@ pub(crate) fn numbers_changed<N: Names, S: Store>(
     target: &ChangeTarget,
     on: Option<u64>,
     meter: &mut Meter,
-) -> Result<Vec<u64>, Fault> {
+) -> Result<Vec<u64>, Fault>
+    ensures { IfOk result (λ numbers. Chosen target.now on numbers.items) }
+{
     match target {
         ChangeTarget::Searched(target) => {
             let numbers = numbers_of(
@@ -47,7 +53,9 @@ pub(crate) fn numbers_changed<N: Names, S: Store>(
 }
 
 /// The number of the row that a cursor is on.
-fn only(alloc: Global, on: Option<u64>) -> Result<Vec<u64>, Fault> {
+fn only(alloc: Global, on: Option<u64>) -> Result<Vec<u64>, Fault>
+    ensures { IfOk result (λ numbers. IsOn on numbers.items) }
+{
     let Some(number) = on else {
         return Err(Fault::NOT_WELL_FORMED);
     };
@@ -65,6 +73,7 @@ pub(crate) fn replaced<N: Names, S: Store>(
     numbers: &[u64],
 ) -> Result<Vec<Change>, Fault>
     requires { place < length (S.content_now setting.now.store.now) }
+    ensures { IfOk result (λ changes. are_replacements numbers.now changes.items ≡ true) }
 {
     let mut changes = Vec::new(setting.alloc);
     let mut meter = Meter::new();
@@ -97,12 +106,13 @@ fn updated_row<N: Names, S: Store>(
 }
 
 /// The removal of the rows under these numbers.
-pub(crate) fn removed(alloc: Global, numbers: &[u64]) -> Result<Vec<Change>, Fault> {
-    let mut changes = Vec::new(alloc);
-    for number in numbers {
-        changes.push(Change::Remove(*number))?;
-    }
-    Ok(changes)
+pub(crate) fn removed(alloc: Global, numbers: &[u64]) -> Result<Vec<Change>, AllocError>
+    ensures { IfOk result (λ changes. changes.items ≡ map Change.Remove numbers.now) }
+{
+    numbers
+        .iter()
+        .map(|number| Change::Remove(*number))
+        .collect(alloc)
 }
 
 /// The keys of which rows lose their values where a set clause assigns a column of them.

@@ -1,3 +1,4 @@
 pub mod Rises
 pub mod Search
 pub mod Sound
+pub mod Walk

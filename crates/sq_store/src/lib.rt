@@ -2,6 +2,7 @@
 #![tactic(auto)]
 
 mod change;
+mod fits;
 mod key;
 mod list_store;
 mod meter;
@@ -10,6 +11,7 @@ mod store;
 mod table;
 
 pub use change::{ApplyFault, Change};
+pub use fits::can_apply;
 pub use key::are_same;
 pub use list_store::{ListStore, copy_keys};
 pub use meter::Meter;

@@ -1,6 +1,6 @@
 use Rattle.std.proofs.Common.{◌≡◌, ◌+◌, ◌≤◌, drop}
 use Rattle.sq_store.specs.Change.{insert_count}
-use Rattle.sq_change.proofs.complete.count_inserts.Given as goal
+use Rattle.sq_store.proofs.fits.count_inserts.Given as goal
 
 abbrev pub invariant-loop-change : goal.invariant-loop-change
 invariant-loop-change l = record {
