@@ -141,10 +141,7 @@ pub(crate) fn bind_insert<N: Names>(
 ) -> Result<Found<BoundInsert>, BindFault> {
     let table = named_table(names, environment.user, insert.table)?;
     let under = must_be_updatable(table)?;
-    let receivers = insert_receivers(environment.alloc, table, &insert.columns)?;
-    let columns = leaf_columns(environment.alloc, receivers.as_slice());
-    let source = insert_source(&insert.source, names, environment, receivers.as_slice());
-    let (columns, source) = both(columns, source)?;
+    let (columns, source) = insert_parts(insert, names, environment, table)?;
     let may = names.may(environment.user, Action::Insert, table.full_name(), None);
     Ok(Found {
         part: BoundInsert {
@@ -155,6 +152,20 @@ pub(crate) fn bind_insert<N: Names>(
         },
         findings: source.findings.and(missing_unless(may)),
     })
+}
+
+/// The columns of the base table that get values, and the values.
+fn insert_parts<N: Names>(
+    insert: &Insert,
+    names: &N,
+    environment: &mut Environment,
+    table: &TableDesc,
+) -> Result<(Items<usize>, Found<InsertedRows>), BindFault> {
+    let receivers = insert_receivers(environment.alloc, table, &insert.columns)?;
+    let columns = leaf_columns(environment.alloc, receivers.as_slice());
+    let source = insert_source(&insert.source, names, environment, receivers.as_slice());
+    drop(receivers);
+    both(columns, source)
 }
 
 /// What is found where a privilege is missing.

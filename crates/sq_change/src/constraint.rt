@@ -13,7 +13,7 @@ pub(crate) fn check_options_met<N: Names, S: Store>(
     named: TablePlace,
     changes: &[Change],
 ) -> Result<(), Fault> {
-    let views = demanded_views(leaf_of(setting.names, named)?)?;
+    let views = demanded_views(leaf_of(setting.names, named)?);
     for change in changes {
         if let Some(row) = row_put(change) {
             meets_check_option(setting, views, row)?;
@@ -23,11 +23,8 @@ pub(crate) fn check_options_met<N: Names, S: Store>(
 }
 
 /// The views, from inside out, whose conditions are demanded.
-fn demanded_views(leaf: &Leaf) -> Result<&[usize], Fault> {
-    if leaf.demanded > leaf.views.len() {
-        return Err(Fault::NOT_WELL_FORMED);
-    }
-    Ok(&leaf.views.as_slice()[..leaf.demanded])
+fn demanded_views(leaf: &Leaf) -> &[usize] {
+    &leaf.views.as_slice()[..leaf.demanded]
 }
 
 /// Whether the conditions of the views are true, one after the other.

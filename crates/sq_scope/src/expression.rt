@@ -205,7 +205,7 @@ fn column_value(environment: &Environment, reference: &ColumnReference) -> ExprR
     let found = environment.column(reference)?;
     let place = found.place;
     if place.depth > 0 && !found.is_grouped {
-        return Err(BindFault::NotGrouped);
+        return Err(BindFault::UngroupedColumn);
     }
     Ok(Found {
         part: Typed {

@@ -83,7 +83,7 @@ pub fn from_clause<N: Names>(
     list: &CommaList<TableReference>,
 ) -> Result<FromClause, BindFault> {
     if list.rest.len() >= MOST_ITEMS {
-        return Err(BindFault::TooWide);
+        return Err(BindFault::LimitExceeded);
     }
     let mut clause = FromClause {
         items: Items::new(environment.alloc),
@@ -249,7 +249,7 @@ fn push_column(
 ) -> Result<(), BindFault> {
     if selected.columns.len() >= MOST_COLUMNS {
         drop(expr);
-        return Err(BindFault::TooWide);
+        return Err(BindFault::LimitExceeded);
     }
     selected.exprs.push(expr)?;
     selected.columns.push(ResultColumn { name, kind })?;
@@ -363,7 +363,7 @@ impl Parts {
             return Err(BindFault::CountMismatch);
         }
         if self.selected.findings.has_ungrouped || self.having.findings.has_ungrouped {
-            return Err(BindFault::NotGrouped);
+            return Err(BindFault::UngroupedColumn);
         }
         Ok(())
     }
