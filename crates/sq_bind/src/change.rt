@@ -7,8 +7,8 @@ use sq_bound::{
 };
 use sq_items::Items;
 use sq_lex::Name;
-use sq_scope::{Environment, ExprResult, Findings, Found, SetFunctions, bind_expr, must_agree};
-use sq_select::{SubqueryResult, bind_select, both, kept, named_table};
+use sq_scope::{Environment, ExprResult, Findings, Found, SetFunctions, bind_expr, both, kept, must_agree};
+use sq_select::{SubqueryResult, bind_select, named_table};
 use sq_tree::{Assignment, CommaList, Delete, Insert, InsertSource, NewValue, Update, Where};
 use sq_value::{Kind, Value};
 use std::alloc::Global;

@@ -6,8 +6,8 @@ use sq_bound::{
 };
 use sq_items::Items;
 use sq_lex::Name;
-use sq_scope::{Environment, Findings, Found, SetFunctions, item_over};
-use sq_select::{bind_cond, both, correlation_of, named_table, select_list};
+use sq_scope::{Environment, Findings, Found, SetFunctions, both, item_over};
+use sq_select::{bind_cond, correlation_of, named_table, select_list};
 use sq_tree::{Comparison, Cond, QuerySpecification, SelectList, SetQuantifier};
 use std::alloc::Global;
 

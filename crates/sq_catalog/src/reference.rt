@@ -1,7 +1,7 @@
 //! References of a table definition (ISO/IEC 9075:1992, 11.8).
 
 use crate::catalog::{Catalog, FullName, full_name};
-use crate::fault::{ElementFault, RefusalName, both, refused_if};
+use crate::fault::{ElementFault, RefusalName, refused_if};
 use crate::grants::columns_of;
 use crate::key::{Keys, is_bad_list};
 use crate::written::{WrittenReference, names_of, positions_of, pushed};
@@ -9,6 +9,7 @@ use indexmap::IndexSet;
 use sq_bound::{Action, Column, Names, Reference, TableBody, TableDesc};
 use sq_items::Items;
 use sq_lex::Name;
+use sq_scope::both;
 use sq_tree::References;
 use std::alloc::Global;
 

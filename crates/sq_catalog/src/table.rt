@@ -4,7 +4,7 @@ ghost use Rattle.std.specs.Prelude.{IsTrue};
 ghost use Rattle.sq_value.specs.Domain.{IsDomain, FitsKind};
 
 use crate::catalog::{Catalog, FullName, full_name};
-use crate::fault::{ElementFault, RefusalName, both, kept, refused_as, refused_if};
+use crate::fault::{ElementFault, RefusalName, refused_as, refused_if};
 use crate::key::{Keys, is_not_null, keys_of};
 use crate::reference::{
     FoundReference, OwnKeys, OwnTable, bound_references, check_lists, check_privileges,
@@ -18,7 +18,7 @@ use sq_bound::{
 };
 use sq_items::Items;
 use sq_lex::Name;
-use sq_scope::{signed_value, text_value};
+use sq_scope::{both, kept, signed_value, text_value};
 use sq_tree::{ColumnDefinition, Cond, DefaultValue, TableDefinition};
 use sq_value::{Domain, StoreFault, Value, store};
 use std::alloc::Global;

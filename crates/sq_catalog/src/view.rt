@@ -3,7 +3,7 @@
 ghost use Rattle.std.specs.Prelude.{◌≤◌, length, IfOk};
 
 use crate::catalog::{Catalog, FullName, full_name};
-use crate::fault::{ElementFault, RefusalName, both, kept, refused_as, refused_if};
+use crate::fault::{ElementFault, RefusalName, refused_as, refused_if};
 use crate::grants::Privilege;
 use crate::written::{add_name, names_of, pushed};
 use indexmap::IndexSet;
@@ -14,6 +14,7 @@ use sq_bound::{
 };
 use sq_items::Items;
 use sq_lex::Name;
+use sq_scope::{both, kept};
 use sq_tree::ViewDefinition;
 use std::alloc::Global;
 

@@ -1,16 +1,13 @@
 //! The parts of a query specification: FROM items, grouping columns, select lists (ISO/IEC 9075:1992, 7.4, 7.7, 7.9).
 
-use crate::predicate::{SubqueryResult, both, kept};
+use crate::predicate::SubqueryResult;
 use sq_bound::{
     Action, BindFault, BoundCond, BoundExpr, BoundSpecification, Grouping, Names, Place,
     ResultColumn, TableDesc, TablePlace,
 };
 use sq_items::Items;
 use sq_lex::Name;
-use sq_scope::{
-    Environment, ExprResult, Findings, Found, FromItem, SetFunctions, bind_expr, column_findings,
-    is_exposed, item_over,
-};
+use sq_scope::{Environment, ExprResult, Findings, Found, FromItem, SetFunctions, bind_expr, both, column_findings, is_exposed, item_over, kept};
 use sq_tree::{ColumnReference, CommaList, Expr, Primary, SelectList, TableName, TableReference};
 use sq_value::Kind;
 use std::alloc::Global;
