@@ -7,7 +7,9 @@ use sq_bound::{
 };
 use sq_items::Items;
 use sq_lex::Name;
-use sq_scope::{Environment, ExprResult, Findings, Found, SetFunctions, bind_expr, both, kept, must_agree};
+use sq_scope::{
+    Environment, ExprResult, Findings, Found, SetFunctions, bind_expr, both, kept, must_agree,
+};
 use sq_select::{SubqueryResult, bind_select, named_table};
 use sq_tree::{Assignment, CommaList, Delete, Insert, InsertSource, NewValue, Update, Where};
 use sq_value::{Kind, Value};
@@ -263,9 +265,9 @@ fn change_target<N: Names, C: Cursors>(
     match target {
         Some(Where::CurrentOf(name)) => positioned(*name, cursors, table, under),
         Some(Where::Condition(cond)) => {
-            searched(bind_target(Some(cond), names, environment, under))
+            searched(bind_target(Some(cond), names, environment, table, under))
         }
-        None => searched(bind_target(None, names, environment, under)),
+        None => searched(bind_target(None, names, environment, table, under)),
     }
 }
 

@@ -10,7 +10,9 @@ use sq_bound::{
     FetchOrientation, KnownCursor, Names, ParameterDesc, TableDesc, TablePlace, UpdatableQuery,
 };
 use sq_lex::Name;
-use sq_scope::{Environment, Found, SetFunctions, both, is_whole, kept, parameter_of, signed_value};
+use sq_scope::{
+    Environment, Found, SetFunctions, both, is_whole, kept, parameter_of, signed_value,
+};
 use sq_select::{bind_cond, bind_select};
 use sq_tree::{
     Cond, Cursor, Fetch, FetchFrom, Orientation, Position, QuerySpecification, Select,

@@ -1,6 +1,6 @@
 //! The three statements that change a table.
 
-ghost use Rattle.std.specs.Prelude.{◌≡◌, ◌<◌, true, vec_len, IfOk, OnErr, OnOk};
+ghost use Rattle.std.specs.Prelude.{◌≡◌, ◌<◌, true, vec_len, IfOk, Ok, OnErr, OnOk};
 ghost use Rattle.sq_change.specs.Changed.{Removals, Replacements, are_insertions};
 ghost use Rattle.sq_change.specs.Statement.{Deletes, Inserts, Updates, base_of};
 
@@ -8,9 +8,9 @@ use crate::complete::{Changed, complete};
 use crate::given::new_rows;
 use crate::setting::{Setting, base_table};
 use crate::target::{all_keys, changed_table, keys_assigned, numbers_changed, removed, replaced};
-use sq_bound::{BoundInsert, BoundUpdate, ChangeTarget, Names};
+use sq_bound::{BoundInsert, BoundUpdate, ChangeTarget, Names, TablePlace};
 use sq_query::{Failure, Fault, Inputs};
-use sq_store::{Meter, Store};
+use sq_store::{Change, Meter, Store};
 use std::alloc::Global;
 
 /// Performs an insert statement (ISO/IEC 9075:1992, 13.8).
@@ -101,15 +101,39 @@ fn updated<N: Names, S: Store>(
         return Err(Fault::NOT_WELL_FORMED);
     }
     let assignments = update.assignments.as_slice();
-    let lost_keys = keys_assigned(setting.alloc, table, assignments)?;
     let numbers = numbers_changed(setting, &update.target, on, meter)?;
-    let changes = replaced(setting, table, place, assignments, numbers.as_slice())?;
-    Ok(Changed {
-        named,
-        place,
-        changes,
-        lost_keys,
-    })
+    let changes = replaced(setting, table, place, assignments, numbers.as_slice());
+    drop(numbers);
+    let lost_keys = keys_assigned(setting.alloc, table, assignments);
+    changed(named, place, changes, lost_keys)
+}
+
+/// Changes, and the keys whose values rows may lose by them.
+fn changed(
+    named: TablePlace,
+    place: usize,
+    changes: Result<Vec<Change>, Fault>,
+    lost_keys: Result<Vec<usize>, Fault>,
+) -> Result<Changed, Fault>
+    ensures place { IfOk result (λ changed. changed.place ≡ place) }
+    ensures changes { IfOk result (λ changed. changes ≡ Ok changed.changes) }
+{
+    match (changes, lost_keys) {
+        (Ok(changes), Ok(lost_keys)) => Ok(Changed {
+            named,
+            place,
+            changes,
+            lost_keys,
+        }),
+        (Ok(changes), Err(fault)) => {
+            drop(changes);
+            Err(fault)
+        }
+        (Err(fault), lost_keys) => {
+            drop(lost_keys);
+            Err(fault)
+        }
+    }
 }
 
 /// Performs a delete statement (13.6, 13.7). `on` is the number of the row that the cursor is on, for a positioned one.
@@ -147,12 +171,8 @@ fn deleted<N: Names, S: Store>(
 {
     let (named, place) = changed_table(target);
     let table = base_table(setting.names, place)?;
-    let lost_keys = all_keys(setting.alloc, table)?;
     let numbers = numbers_changed(setting, target, on, meter)?;
-    Ok(Changed {
-        named,
-        place,
-        changes: removed(setting.alloc, numbers.as_slice())?,
-        lost_keys,
-    })
+    let changes = removed(setting.alloc, numbers.as_slice());
+    drop(numbers);
+    changed(named, place, changes, all_keys(setting.alloc, table))
 }

@@ -10,8 +10,8 @@ use sq_bound::{BaseTable, BoundAssignment, ChangeTarget, Names, TablePlace};
 use sq_items::Items;
 use sq_query::{Failure, Fault, numbers_of};
 use sq_store::{Change, Meter, Store};
-use sq_value::{Row, copy_row};
-use std::alloc::{AllocError, Global};
+use sq_value::{Row, Value, copy_row};
+use std::alloc::Global;
 
 /// The table that a statement names, and the place of the base table under it.
 pub(crate) fn changed_table(target: &ChangeTarget) -> (TablePlace, usize)
@@ -95,24 +95,39 @@ fn updated_row<N: Names, S: Store>(
 ) -> Result<Row, Fault> {
     let mut updated = copy_row(setting.alloc, row.as_slice())?.into_vec();
     for assignment in assignments {
-        let column = assignment.column;
-        let value = stored_value(setting, table, column, &assignment.value, Some(row))?;
-        match updated.get_mut(column) {
-            Some(place) => *place = value,
-            None => return Err(Fault::NOT_WELL_FORMED),
-        }
+        assign(setting, table, assignment, row, updated.as_mut_slice())?;
     }
     Ok(Items::from_vec(updated))
 }
 
+/// Performs a set clause on a copy of the row.
+fn assign<N: Names, S: Store>(
+    setting: &Setting<'_, N, S>,
+    table: &BaseTable,
+    assignment: &BoundAssignment,
+    row: &Row,
+    updated: &mut [Value],
+) -> Result<(), Fault> {
+    let column = assignment.column;
+    let value = stored_value(setting, table, column, &assignment.value, Some(row))?;
+    if column >= updated.len() {
+        drop(value);
+        return Err(Fault::NOT_WELL_FORMED);
+    }
+    updated[column] = value;
+    Ok(())
+}
+
 /// The removal of the rows under these numbers.
-pub(crate) fn removed(alloc: Global, numbers: &[u64]) -> Result<Vec<Change>, AllocError>
+pub(crate) fn removed(alloc: Global, numbers: &[u64]) -> Result<Vec<Change>, Fault>
     ensures { IfOk result (λ changes. changes.items ≡ map Change.Remove numbers.now) }
 {
-    numbers
-        .iter()
-        .map(|number| Change::Remove(*number))
-        .collect(alloc)
+    Ok(
+        numbers
+            .iter()
+            .map(|number| Change::Remove(*number))
+            .collect(alloc)?,
+    )
 }
 
 /// The keys of which rows lose their values where a set clause assigns a column of them.

@@ -3,10 +3,7 @@
 ghost use Rattle.std.specs.Prelude.{◌≡◌, IfOk, Ok};
 
 /// Two parts that must both be had. The fault of the first is answered first.
-pub fn both<T: Drop, U: Drop, E: Drop>(
-    left: Result<T, E>,
-    right: Result<U, E>,
-) -> Result<(T, U), E>
+pub fn both<T: Drop, U: Drop, E: Drop>(left: Result<T, E>, right: Result<U, E>) -> Result<(T, U), E>
     ensures { IfOk result (λ parts. (left ≡ Ok parts.0) × (right ≡ Ok parts.1)) }
 {
     match (left, right) {

@@ -2,7 +2,10 @@
 
 use sq_bound::{BindFault, BoundExpr, BoundSpecification, Compared, Predicate};
 use sq_items::{Boxed, Items};
-use sq_scope::{Environment, ExprResult, Findings, Found, SetFunctions, Typed, bind_expr, both, kept, must_agree, must_be_text};
+use sq_scope::{
+    Environment, ExprResult, Findings, Found, SetFunctions, Typed, bind_expr, both, kept,
+    must_agree, must_be_text,
+};
 use sq_tree::{CommaList, Comparison, Expr, Quantifier};
 use sq_value::Kind;
 use std::alloc::Global;

@@ -7,7 +7,10 @@ use sq_bound::{
 };
 use sq_items::Items;
 use sq_lex::Name;
-use sq_scope::{Environment, ExprResult, Findings, Found, FromItem, SetFunctions, bind_expr, both, column_findings, is_exposed, item_over, kept};
+use sq_scope::{
+    Environment, ExprResult, Findings, Found, FromItem, SetFunctions, bind_expr, both,
+    column_findings, is_exposed, item_over, kept,
+};
 use sq_tree::{ColumnReference, CommaList, Expr, Primary, SelectList, TableName, TableReference};
 use sq_value::Kind;
 use std::alloc::Global;
