@@ -1,16 +1,14 @@
 -- What the changes of a statement do to the tables.
-use Rattle.std.proofs.Common.{◌≡◌, ◌<◌, ℕ, ◌+◌, Bool, true, false, List, [], ◌∷◌, length, Option, map, fold, nat_eq, refl, arith}
-use Rattle.std.specs.List.{list_all, list_any}
+use Rattle.std.proofs.Common.{◌≡◌, ◌<◌, ℕ, true, List, [], ◌∷◌, length, Option, map, refl, arith}
 use Rattle.std.proofs.lemmas.Grind.{common_steps}
-use Rattle.sq_value.specs.declared.value.Value.{Value}
 use Rattle.sq_store.specs.declared.change.Change.{Change}
 use Rattle.sq_store.specs.declared.change.Change.TheVariants.{Insert, Replace, Remove}
 use Rattle.sq_store.specs.declared.table.Numbered.{Numbered}
 use Rattle.sq_store.specs.declared.table.Table.{Table}
 use Rattle.sq_store.specs.Change.{rows_put}
-use Rattle.sq_store.specs.Content.{Content, changed, changed_by, inserted, removed, replaced, table_at, with_table}
+use Rattle.sq_store.specs.Content.{Content, changed_by, inserted, removed, replaced, table_at, with_table}
 use Rattle.sq_bound.specs.declared.statement.ChangeTarget.{ChangeTarget}
-use Rattle.sq_change.specs.Changed.{Removals, Replacements, are_insertions, are_replacements, is_insertion, is_replacement}
+use Rattle.sq_change.specs.Changed.{Removals, Replacements, are_insertions, are_replacements}
 use Rattle.sq_change.specs.Statement.{Deletes, Inserts, Updates, are_numbered, base_of, with_replaced, with_rows, without}
 
 -- ---- INSERT
