@@ -160,7 +160,7 @@ impl Catalog {
         name: FullName,
         table: TableDesc,
     ) -> Result<(), ElementFault> {
-        pushed(self.bases.insert(name, table).is_ok())
+        insert_table(&mut self.bases, name, table)
     }
 
     /// Adds a view of a new name.
@@ -169,7 +169,7 @@ impl Catalog {
         name: FullName,
         table: TableDesc,
     ) -> Result<(), ElementFault> {
-        pushed(self.views.insert(name, table).is_ok())
+        insert_table(&mut self.views, name, table)
     }
 
     /// The place of the base table of this owner and name.
@@ -216,6 +216,24 @@ impl Catalog {
         }
         let privilege = Privilege { action, column };
         self.held.has(user, place, privilege, to_grant)
+    }
+}
+
+/// Adds a table or view of a new name.
+fn insert_table(
+    tables: &mut IndexMap<FullName, TableDesc>,
+    name: FullName,
+    table: TableDesc,
+) -> Result<(), ElementFault> {
+    match tables.insert(name, table) {
+        Ok(before) => {
+            drop(before);
+            Ok(())
+        }
+        Err(error) => {
+            drop(error);
+            Err(ElementFault::NoMemory)
+        }
     }
 }
 
