@@ -103,6 +103,10 @@ impl From<LikeFault> for Fault {
 }
 
 impl From<StoreFault> for Fault {
+    ghost use Rattle.sq_query.specs.Fault.{fault_of_storing};
+
+    ghost from_gives = { λ fault answer. answer ≡ fault_of_storing fault };
+
     fn from(fault: StoreFault) -> Fault {
         match fault {
             StoreFault::Range => Fault::Status(Failure::NumericValueOutOfRange),
