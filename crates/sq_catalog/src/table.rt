@@ -14,8 +14,7 @@ use crate::written::{Written, distinct_names, parts_of, pushed};
 use indexmap::IndexSet;
 use sq_bind::bind_check;
 use sq_bound::{
-    BaseColumn, BaseTable, BoundCond, Column, ColumnDefault, Leaf, TableBody, TableDesc,
-    TablePlace, domain_of,
+    BaseColumn, BaseTable, BoundCond, Column, ColumnDefault, Leaf, TableBody, TableDesc, domain_of,
 };
 use sq_items::Items;
 use sq_lex::Name;
@@ -52,10 +51,8 @@ impl Catalog {
         let keys = draft.keys.for_store(self.alloc());
         drop(draft);
         let (table, keys) = both(table, keys)?;
-        let place = TablePlace::Base(self.bases.len());
-        pushed(self.bases.push(table).is_ok())?;
-        pushed(self.keys.push(keys).is_ok())?;
-        self.name_table(name.user, name.name, place)
+        self.add_base(name, table)?;
+        pushed(self.keys.push(keys).is_ok())
     }
 
     /// What a definition writes, each name of a column or table in it found.

@@ -42,9 +42,8 @@ impl Catalog {
         let bound = bind_view(self.alloc(), self, user, &definition.query);
         let view = self.new_view(user, &name, definition, listed, bound)?;
         let NewView { table, grants } = view;
-        let place = TablePlace::View(self.views.len());
-        pushed(self.views.push(table).is_ok())?;
-        self.name_table(name.user, name.name, place)?;
+        let place = TablePlace::View(self.next_view());
+        self.add_view(name, table)?;
         self.add_owner_grants(name.user, place, grants.as_slice())
     }
 

@@ -1,5 +1,7 @@
 -- What a statement is to the tables and the cursors: which cursor it works on, and whether it may change rows.
-use Rattle.std.specs.Prelude.{ℕ, Bool, true, false, List, slice_index_or, Option, None, Some}
+use Rattle.std.specs.Prelude.{ℕ, Bool, true, false, List, slice_get, option_and_then, result_err, result_ok, Option, None, Some, Result}
+use Rattle.sq_lex.specs.declared.name.Name.{Name}
+use Rattle.sq_bound.specs.declared.fault.BindFault.{BindFault}
 use Rattle.sq_bound.specs.declared.statement.BoundStatement.{BoundStatement}
 use Rattle.sq_bound.specs.declared.statement.BoundStatement.TheVariants as statement
 use Rattle.sq_bound.specs.declared.statement.ChangeTarget.{ChangeTarget}
@@ -48,9 +50,19 @@ takes_memory _ = true
 
 -- ---- procedures
 
+-- the names of its module and its own, and what its statement is, or the fault that it has (12.3)
+pub record Procedure : Type 0 where
+  pub «module» : Name
+  pub name : Name
+  pub statement : Result Kind BindFault
+
 -- what the statement of a procedure is, if there is such a procedure and its statement has no fault
-abbrev pub kind_at : List (Option Kind) → ℕ → Option Kind
-kind_at procedures procedure = slice_index_or procedures procedure None
+abbrev pub kind_at : List Procedure → ℕ → Option Kind
+kind_at procedures number = option_and_then (λ p. result_ok p.statement) (slice_get procedures number)
+
+-- the fault for which a procedure answers 42000 at each call
+abbrev pub fault_at : List Procedure → ℕ → Option BindFault
+fault_at procedures number = option_and_then (λ p. result_err p.statement) (slice_get procedures number)
 
 abbrev pub needs_memory : Option Kind → Bool
 needs_memory None = false

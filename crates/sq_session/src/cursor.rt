@@ -171,15 +171,15 @@ pub(crate) fn next_there<'a, S: Store>(
     if table >= store.table_count() {
         return None;
     }
-    for (place, number) in cursor.numbers.as_slice().iter().enumerate() {
-        if place >= cursor.passed {
-            if let Some(row) = store.row(table, *number, meter) {
-                return Some(Reached {
-                    passed: place.saturating_add(1),
-                    number: *number,
-                    row,
-                });
-            }
+    let numbers = cursor.numbers.as_slice();
+    let passed = cursor.passed.min(numbers.len());
+    for (place, number) in numbers[passed..].iter().enumerate() {
+        if let Some(row) = store.row(table, *number, meter) {
+            return Some(Reached {
+                passed: passed + place + 1,
+                number: *number,
+                row,
+            });
         }
     }
     None
