@@ -26,7 +26,7 @@ procedure_number procedures «module» name = position (is_procedure «module» 
 -- ---- the procedures of a program
 
 abbrev pub procedure_of : ProcedureName × BoundProcedure → Procedure
-procedure_of p = record { «module» = p.0.«module»; name = p.0.name; statement = result_map kind_of p.1.statement }
+procedure_of p = record { «module» = p.0.«module»; name = p.0.name; statement = result_map (kind_of p.1.parameters) p.1.statement }
 
 abbrev pub procedures_of : List (ProcedureName × BoundProcedure) → List Procedure
 procedures_of procedures = map procedure_of procedures

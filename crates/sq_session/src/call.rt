@@ -58,8 +58,8 @@ fn with_values<S: Store>(
     machine: &mut Machine<S>,
     meter: &mut Meter,
 ) -> Result<Done, Fault>
-    requires { takes_memory (kind_of statement.now) ≡ true }
-    ensures step { IfSome (ending result) (λ d. MayStep (kind_of statement.now) machine.old d machine.new) }
+    requires { takes_memory (kind_of procedure.now.parameters statement.now) ≡ true }
+    ensures step { IfSome (ending result) (λ d. MayStep (kind_of procedure.now.parameters statement.now) machine.old d machine.new) }
     ensures err { OnErr result (machine.new ≡ machine.old) }
 {
     let values = started_values(alloc, procedure.parameters.as_slice(), values)?;

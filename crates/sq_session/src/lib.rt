@@ -20,5 +20,6 @@ mod walk;
 pub use cursor::{CursorState, NumbersCursor, RowsCursor};
 pub use reply::{Done, Output, Reply};
 pub use session::Session;
+pub use sq_bound::BindFault;
 pub use sq_module::{ModuleRefusal, ModuleRefusalName, SessionFault};
 pub use walk::WalkingCursor;
