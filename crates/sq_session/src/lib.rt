@@ -12,6 +12,7 @@ mod cursors;
 mod fetch;
 mod machine;
 mod parameter;
+mod reads;
 mod reply;
 mod session;
 mod target;

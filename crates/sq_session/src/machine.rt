@@ -200,7 +200,7 @@ impl<S: Store> Machine<S> {
         ensures err { OnErr result (self.new ≡ self.old) }
     {
         let on = self.current(&statement.target)?;
-        let listed = self.listed(called, base_of(&statement.target))?;
+        let listed = self.listed(called, statement)?;
         let updated = update(
             called.alloc,
             called.catalog,
@@ -296,24 +296,21 @@ impl<S: Store> Machine<S> {
         }
     }
 
-    /// For each cursor that walks over a base table, the numbers of the rows that are left to it.
-    fn listed(&self, called: &Called<'_>, table: usize) -> Result<Vec<ListedCursor>, Fault> {
+    /// For each cursor that walks, and whose conditions read what an UPDATE changes, the numbers of the rows that are left
+    /// to it.
+    fn listed(
+        &self,
+        called: &Called<'_>,
+        statement: &BoundUpdate,
+    ) -> Result<Vec<ListedCursor>, Fault> {
         let mut listed = Vec::new(called.alloc);
         for (number, cursor) in self.cursors.iter().enumerate() {
             if let CursorState::Walking(walk) = cursor {
-                if let Some(numbers) = listed_walk(called, number, table, &self.store, walk)? {
+                if let Some(numbers) = listed_walk(called, number, statement, &self.store, walk)? {
                     listed.push(ListedCursor { number, numbers })?;
                 }
             }
         }
         Ok(listed)
-    }
-}
-
-/// The place of the base table that a statement changes.
-fn base_of(target: &ChangeTarget) -> usize {
-    match target {
-        ChangeTarget::Searched(target) => target.base,
-        ChangeTarget::Positioned(positioned) => positioned.base,
     }
 }

@@ -1,7 +1,7 @@
 //! Updatable cursors whose conditions answer no status: they read their rows as late as they fetch them.
 //!
 //! Such a cursor means the same rows as a list of their numbers made at OPEN, as long as no UPDATE changes what its
-//! conditions read. So the rows that are left are listed before an UPDATE of the table.
+//! conditions read. So the rows that are left are listed before an UPDATE of a column that they read.
 
 ghost use Rattle.std.specs.Prelude.{◌≡◌, ◌≤◌, ◌<◌, length, None, true, IfErr, IfOk, IfSome};
 ghost use Rattle.sq_store.specs.Content.{table_at};
@@ -10,7 +10,8 @@ ghost use Rattle.sq_session.specs.Step.{Refusal};
 
 use crate::called::Called;
 use crate::cursor::{CursorState, NumbersCursor};
-use sq_bound::{CursorBody, Target};
+use crate::reads::reads_assigned;
+use sq_bound::{BoundUpdate, ChangeTarget, CursorBody, Target};
 use sq_catalog::Catalog;
 use sq_items::Items;
 use sq_lex::Name;
@@ -148,23 +149,40 @@ pub(crate) struct ListedCursor {
     pub(crate) numbers: Items<u64>,
 }
 
-/// The numbers of the rows that are left to the walk of a cursor, if it is one over this base table.
+/// The numbers of the rows that are left to the walk of a cursor, if it is over the base table that an UPDATE changes and
+/// its conditions read a column that is assigned to.
 pub(crate) fn listed_walk<S: Store>(
     called: &Called<'_>,
     number: usize,
-    table: usize,
+    statement: &BoundUpdate,
     store: &S,
     walk: &WalkingCursor,
 ) -> Result<Option<Items<u64>>, Fault> {
+    if walk.table != base_of(&statement.target) {
+        return Ok(None);
+    }
     let Some(declared) = called.cursors.get(number) else {
         return Err(Fault::NOT_WELL_FORMED);
     };
     match &declared.cursor.body {
-        CursorBody::Updatable(query) if walk.table == table => {
+        CursorBody::Updatable(query)
+            if reads_assigned(
+                called.catalog,
+                &query.target,
+                statement.assignments.as_slice(),
+            ) => {
             let numbers = rest_of_walk(called, declared.user, &query.target, store, walk)?;
             Ok(Some(numbers))
         }
         _ => Ok(None),
+    }
+}
+
+/// The place of the base table that a statement changes.
+fn base_of(target: &ChangeTarget) -> usize {
+    match target {
+        ChangeTarget::Searched(target) => target.base,
+        ChangeTarget::Positioned(positioned) => positioned.base,
     }
 }
 
