@@ -45,12 +45,12 @@ pub struct Catalog {
 }
 
 impl Model for Catalog {
-    ghost use Rattle.indexmap.specs.IndexMap.{keys};
+    ghost use Rattle.std.specs.Map.{keys_of};
     ghost use Rattle.sq_catalog.specs.Catalog.{Catalog};
 
     ghost Value = { Catalog };
 
-    ghost view = { λ c. record { tables = keys c.bases } };
+    ghost view = { λ c. record { tables = keys_of c.bases.entries } };
 }
 
 impl Catalog {
