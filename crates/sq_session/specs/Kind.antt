@@ -1,7 +1,8 @@
 -- What a statement is to the tables and the cursors: which cursor it works on, whether it may change rows, and which
 -- parameters it sets.
-use Rattle.std.specs.Prelude.{ℕ, suc, Bool, true, false, List, [], ◌∷◌, flat_map, if◌then◌else◌, nat_eq, option_to_list, slice_get, option_and_then, result_err, result_ok, Option, None, Some, Result}
+use Rattle.std.specs.Prelude.{ℕ, suc, Bool, true, false, List, [], ◌∷◌, flat_map, if◌then◌else◌, nat_eq, option_to_list, slice_get, option_and_then, Option, None, Some, Result}
 use Rattle.std.specs.List.{list_any}
+use Rattle.std.specs.Result.{result_err, result_ok}
 use Rattle.sq_lex.specs.declared.name.Name.{Name}
 use Rattle.sq_bound.specs.declared.fault.BindFault.{BindFault}
 use Rattle.sq_bound.specs.declared.names.ParameterDesc.{ParameterDesc}

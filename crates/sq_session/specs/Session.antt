@@ -1,6 +1,7 @@
 -- A session.
-use Rattle.std.specs.Prelude.{ℕ, Bool, ◌&&◌, ◌×◌, List, map, nat_eq, position, Option, result_map}
+use Rattle.std.specs.Prelude.{ℕ, Bool, ◌&&◌, List, map, nat_eq, position, Option}
 use Rattle.std.specs.Cmp.Lexicographic.{pointwise}
+use Rattle.std.specs.Result.{result_map_both}
 use Rattle.sq_lex.specs.declared.name.Name.{Name}
 use Rattle.sq_catalog.specs.declared.catalog.FullName.{FullName}
 use Rattle.sq_module.specs.declared.program.BoundProcedure.{BoundProcedure}
@@ -26,7 +27,7 @@ procedure_number procedures «module» name = position (is_procedure «module» 
 -- ---- the procedures of a program
 
 abbrev pub procedure_of : ProcedureName × BoundProcedure → Procedure
-procedure_of p = record { «module» = p.0.«module»; name = p.0.name; statement = result_map (kind_of p.1.parameters) p.1.statement }
+procedure_of p = record { «module» = p.0.«module»; name = p.0.name; statement = result_map_both (kind_of p.1.parameters) (λ f. f) p.1.statement }
 
 abbrev pub procedures_of : List (ProcedureName × BoundProcedure) → List Procedure
 procedures_of procedures = map procedure_of procedures

@@ -1,7 +1,7 @@
 -- What one call may do to the tables and the cursors (ISO/IEC 9075:1992, 13.2 to 13.10, 14.3 and 14.4). CLOSE, COMMIT,
 -- ROLLBACK and every statement on a cursor that is not in the state that it needs are said whole; of OPEN and FETCH, where
 -- the cursor is after them; of the others, what they leave as it was.
-use Rattle.std.specs.Prelude.{◌≡◌, ⊤, ⊥, ℕ, suc, ℤ, ◌≤◌, ◌<◌, ◌+◌, Bool, true, false, List, [], length, map, is_some, slice_get, option_and_then, Option, Some, None, Result, Ok, Err}
+use Rattle.std.specs.Prelude.{◌≡◌, ⊤, ℕ, suc, ℤ, ◌≤◌, ◌<◌, ◌+◌, Bool, true, false, List, [], length, map, is_some, slice_get, option_and_then, Option, Some, None, Result, Ok, Err}
 use Rattle.sq_lex.specs.declared.name.Name.{Name}
 use Rattle.sq_store.specs.declared.table.Table.{Table}
 use Rattle.sq_bound.specs.declared.statement.Distance.{Distance}

@@ -112,8 +112,8 @@ fn assignments_of(
         is_cut: false,
     };
     let parameters = called.procedure.parameters.as_slice();
-    for (target, value) in targets.iter().zip(row) {
-        assignments.set(called.alloc, parameters, *target, value)?;
+    for (place, target) in targets.iter().enumerate() {
+        assignments.set(called.alloc, parameters, *target, &row[place])?;
     }
     Ok(assignments)
 }

@@ -90,7 +90,7 @@ impl<'a> Walk<'a> {
 }
 
 /// The first row from a number on, and before a mark, that the target means.
-#[tactic(auto, using(crate::proofs::TableWalk::found_behind))]
+#[tactic(auto, using(crate::proofs::TableWalk::found_behind, crate::proofs::TableWalk::found_there))]
 fn next_chosen<'s, S: Store>(
     walk: &Walk<'_>,
     store: &'s S,
