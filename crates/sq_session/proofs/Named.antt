@@ -4,9 +4,10 @@ use Rattle.std.specs.Cmp.Lexicographic.{pointwise}
 use Rattle.std.specs.List.{position_or_len}
 use Rattle.sq_lex.specs.declared.name.Name.{Name}
 use Rattle.sq_bound.specs.declared.fault.BindFault.{BindFault}
+use Rattle.sq_bound.specs.declared.statement.BoundStatement.{BoundStatement}
 use Rattle.sq_module.specs.declared.program.BoundProcedure.{BoundProcedure}
 use Rattle.sq_module.specs.declared.program.ProcedureName.{ProcedureName}
-use Rattle.sq_session.specs.Kind.{fault_at}
+use Rattle.sq_session.specs.Kind.{fault_at, kind_at, kind_of}
 use Rattle.sq_session.specs.Session.{is_procedure, procedure_number, procedures_of}
 
 abbrev Entry : Type 0
@@ -26,6 +27,12 @@ same_length (e ∷ es) = ap (λ n. suc n) (same_length es)
 -- a procedure is found by the key of its entry
 pub number_is : («module» name : Name) (es : List Entry) → procedure_number (procedures_of es) «module» name ≡ position (is_name «module» name) (map (λ e. e.0) es)
 number_is «module» name es = ap₂ (λ n m. cond (nat_lt n m) (Some n) None) (same_place «module» name es) (same_length es)
+
+-- what its statement is, is so of its entry's
+pub kind_is : (es : List Entry) (n : ℕ) (e : Entry) (s : BoundStatement) → slice_get es n ≡ Some e → e.1.statement ≡ Ok s → kind_at (procedures_of es) n ≡ Some (kind_of e.1.parameters s)
+kind_is [] n e s h k = cc
+kind_is (x ∷ es) zero e s h k = grind (arith, h, k)
+kind_is (x ∷ es) (suc n) e s h k = kind_is es n e s h k
 
 -- and its fault is that of its entry
 pub fault_is : (es : List Entry) (n : ℕ) (e : Entry) (f : BindFault) → slice_get es n ≡ Some e → e.1.statement ≡ Err f → fault_at (procedures_of es) n ≡ Some f

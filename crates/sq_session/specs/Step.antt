@@ -99,7 +99,7 @@ MayOpen (Some c) number before d after = MayOpenIf (is_open c) number before d a
 
 -- ---- FETCH (13.3)
 
--- the number of an orientation; a parameter's is the value that it was handed
+-- the number of an orientation; which one a parameter has is not said here
 abbrev pub IsNumber : Distance → ℤ → Type 0
 IsNumber (distance.Number n) m = m ≡ n
 IsNumber (distance.Parameter p) m = ⊤

@@ -37,11 +37,33 @@ pub(crate) fn call<S: Store>(
         return Err(Fault::NOT_WELL_FORMED);
     };
     match &procedure.statement {
+        Ok(statement) => performed(
+            alloc, catalog, program, procedure, statement, values, machine, meter,
+        ),
         Err(_) => Err(Fault::NOT_WELL_FORMED),
-        Ok(BoundStatement::Close(cursor)) => machine.close(alloc, *cursor),
-        Ok(BoundStatement::Commit) => Ok(machine.commit(alloc)),
-        Ok(BoundStatement::Rollback) => Ok(machine.rollback(alloc)),
-        Ok(statement) => with_values(
+    }
+}
+
+/// Performs a statement of a procedure.
+fn performed<S: Store>(
+    alloc: Global,
+    catalog: &Catalog,
+    program: &Program,
+    procedure: &BoundProcedure,
+    statement: &BoundStatement,
+    values: &[Value],
+    machine: &mut Machine<S>,
+    meter: &mut Meter,
+) -> Result<Done, Fault>
+    ensures step { IfSome (ending result) (λ d. MayStep (kind_of procedure.now.parameters statement.now) machine.old d machine.new) }
+    ensures err { OnErr result (machine.new ≡ machine.old) }
+    ensures memory { takes_memory (kind_of procedure.now.parameters statement.now) ≡ false → IsSome (ending result) }
+{
+    match statement {
+        BoundStatement::Close(cursor) => machine.close(alloc, *cursor),
+        BoundStatement::Commit => Ok(machine.commit(alloc)),
+        BoundStatement::Rollback => Ok(machine.rollback(alloc)),
+        _ => with_values(
             alloc, catalog, program, procedure, statement, values, machine, meter,
         ),
     }
