@@ -1,6 +1,6 @@
 -- What INSERT, UPDATE and DELETE do to the tables where they succeed (ISO/IEC 9075:1992, 13.6 to 13.10): one base table
 -- changes, and no other. Which rows a search condition keeps, and which values are stored, is not said here.
-use Rattle.std.specs.Prelude.{◌≡◌, ◌<◌, ℕ, Bool, true, List, [], ◌∷◌, length, Option, None, Some, fold, nat_eq}
+use Rattle.std.specs.Prelude.{⊤, IsSome, ◌≡◌, ◌<◌, ℕ, Bool, true, List, [], ◌∷◌, length, Option, None, Some, fold, nat_eq}
 use Rattle.std.specs.List.{list_all, list_any}
 use Rattle.sq_value.specs.declared.value.Value.{Value}
 use Rattle.sq_store.specs.declared.table.Numbered.{Numbered}
@@ -27,6 +27,11 @@ pub record Inserts (base : ℕ) (before after : Content) : Type 0 where
 abbrev pub base_of : ChangeTarget → ℕ
 base_of (target.Searched t) = t.base
 base_of (target.Positioned p) = p.base
+
+-- a positioned statement is given the number of the row that the cursor is on
+abbrev pub IsGiven : ChangeTarget → Option ℕ → Type 0
+IsGiven (target.Searched t) on = ⊤
+IsGiven (target.Positioned p) on = IsSome on
 
 -- their numbers: some that the search condition keeps (13.7, 13.10), or that of the row that the cursor is on (13.6, 13.9)
 abbrev pub IsOn : Option ℕ → List ℕ → Type 0

@@ -2,7 +2,7 @@
 
 ghost use Rattle.std.specs.Prelude.{◌≡◌, ◌<◌, true, vec_len, IfOk, Ok, OnErr, OnOk};
 ghost use Rattle.sq_change.specs.Changed.{Removals, Replacements, are_insertions};
-ghost use Rattle.sq_change.specs.Statement.{Deletes, Inserts, Updates, base_of};
+ghost use Rattle.sq_change.specs.Statement.{Deletes, Inserts, IsGiven, Updates, base_of};
 
 use crate::complete::{Changed, complete};
 use crate::given::new_rows;
@@ -73,6 +73,7 @@ pub fn update<N: Names, S: Store>(
     inputs: Inputs<'_>,
     meter: &mut Meter,
 ) -> Result<(), Fault>
+    requires { IsGiven update.now.target on }
     ensures ok { OnOk result (Updates update.now.target on (S.content_now store.old) (S.content_now store.new)) }
     ensures err { OnErr result (S.content_now store.new ≡ S.content_now store.old) }
     ensures committed { S.committed store.new ≡ S.committed store.old }
@@ -92,6 +93,7 @@ fn updated<N: Names, S: Store>(
     on: Option<u64>,
     meter: &mut Meter,
 ) -> Result<Changed, Fault>
+    requires { IsGiven update.now.target on }
     ensures place { IfOk result (λ changed. changed.place ≡ base_of update.now.target) }
     ensures replacements { IfOk result (λ changed. Replacements update.now.target on changed.changes.items) }
 {
@@ -147,6 +149,7 @@ pub fn delete<N: Names, S: Store>(
     inputs: Inputs<'_>,
     meter: &mut Meter,
 ) -> Result<(), Fault>
+    requires { IsGiven target.now on }
     ensures ok { OnOk result (Deletes target.now on (S.content_now store.old) (S.content_now store.new)) }
     ensures err { OnErr result (S.content_now store.new ≡ S.content_now store.old) }
     ensures committed { S.committed store.new ≡ S.committed store.old }
@@ -166,6 +169,7 @@ fn deleted<N: Names, S: Store>(
     on: Option<u64>,
     meter: &mut Meter,
 ) -> Result<Changed, Fault>
+    requires { IsGiven target.now on }
     ensures place { IfOk result (λ changed. changed.place ≡ base_of target.now) }
     ensures removals { IfOk result (λ changed. Removals target.now on changed.changes.items) }
 {

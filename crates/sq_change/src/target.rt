@@ -1,8 +1,8 @@
 //! The rows that UPDATE and DELETE change (ISO/IEC 9075:1992, 13.6, 13.7, 13.9 and 13.10).
 
-ghost use Rattle.std.specs.Prelude.{◌≡◌, ◌<◌, length, map, true, IfOk};
+ghost use Rattle.std.specs.Prelude.{◌≡◌, ◌<◌, ◌∷◌, [], length, map, true, IfOk};
 ghost use Rattle.sq_change.specs.Changed.{are_replacements};
-ghost use Rattle.sq_change.specs.Statement.{Chosen, IsOn, base_of};
+ghost use Rattle.sq_change.specs.Statement.{Chosen, IsGiven, base_of};
 
 use crate::setting::Setting;
 use crate::storing::stored_value;
@@ -31,6 +31,7 @@ pub(crate) fn numbers_changed<N: Names, S: Store>(
     on: Option<u64>,
     meter: &mut Meter,
 ) -> Result<Vec<u64>, Fault>
+    requires { IsGiven target.now on }
     ensures { IfOk result (λ numbers. Chosen target.now on numbers.items) }
 {
     match target {
@@ -48,17 +49,17 @@ pub(crate) fn numbers_changed<N: Names, S: Store>(
             }
             Ok(numbers)
         }
-        ChangeTarget::Positioned(_) => only(setting.alloc, on),
+        ChangeTarget::Positioned(_) => match on {
+            Some(number) => only(setting.alloc, number),
+            None => unreachable!(),
+        },
     }
 }
 
 /// The number of the row that a cursor is on.
-fn only(alloc: Global, on: Option<u64>) -> Result<Vec<u64>, Fault>
-    ensures { IfOk result (λ numbers. IsOn on numbers.items) }
+fn only(alloc: Global, number: u64) -> Result<Vec<u64>, Fault>
+    ensures { IfOk result (λ numbers. numbers.items ≡ number ∷ []) }
 {
-    let Some(number) = on else {
-        return Err(Fault::NOT_WELL_FORMED);
-    };
     let mut numbers = Vec::new(alloc);
     numbers.push(number)?;
     Ok(numbers)
