@@ -5,7 +5,8 @@
 
 For each workload it prints processor seconds, the program's greatest memory, and sqlite3's processor seconds where the work
 can be said in it. The program's time includes reading the texts and writing the report; sqlite3 runs in this process over
-prepared statements, with the tables made before the clock starts.
+prepared statements, with the tables made before the clock starts. What can't be said in it: modules and grants, and a text as
+long as the longest here.
 """
 import argparse
 import os
@@ -20,8 +21,7 @@ ROOT = Path(__file__).resolve().parent.parent
 SCHEMA = "CREATE SCHEMA AUTHORIZATION U\n"
 MODULE = "MODULE M LANGUAGE C AUTHORIZATION U\n"
 KEYED = SCHEMA + "CREATE TABLE T (K INTEGER NOT NULL PRIMARY KEY, A INTEGER CHECK (A >= 0), C CHAR(5))\n"
-DIGITS = SCHEMA + "CREATE TABLE D (D INTEGER)\n"
-PUT_DIGIT = "PROCEDURE DIG (SQLCODE, :D INTEGER); INSERT INTO D VALUES (:D);\n"
+NUMBERS = SCHEMA + "CREATE TABLE D (D INTEGER)\nCREATE TABLE T (N INTEGER, A INTEGER)\n"
 INSERT = "PROCEDURE INS (SQLCODE, :K INTEGER, :A INTEGER); INSERT INTO T VALUES (:K, :A, 'ABC');\n"
 
 
@@ -33,138 +33,60 @@ def inserts(count):
     return calls(count, lambda i: f"CALL M.INS ({i}, {i % 97})")
 
 
-def digits():
-    return calls(10, lambda i: f"CALL M.DIG ({i})")
+def insert_in_lite(db, count=100_000):
+    db.executemany("INSERT INTO T VALUES (?, ?, 'ABC')", ((i, i % 97) for i in range(count)))
 
 
-def number_of(power):
-    """The whole number that `power` tables of digits make, and their FROM clause."""
-    number = " + ".join(f"{10 ** i} * D{i}.D" for i in range(power))
-    return number, ", ".join(f"D D{i}" for i in range(power))
+# ---- statements on rows
 
 
-def filled(power, table="T", columns="{n}, {n} - 97 * ({n} / 97)"):
-    """A procedure FILL that puts ten to the power of rows into a table."""
-    number, tables = number_of(power)
-    return f"PROCEDURE FILL (SQLCODE); INSERT INTO {table} SELECT {columns.format(n='(' + number + ')')} FROM {tables};\n"
+def keyed(statement="", run="", lite=None):
+    """100,000 inserts, and then a run of the procedures of a text; sqlite3 does what `lite` says after its inserts."""
+    def work(db):
+        insert_in_lite(db)
+        lite(db)
+    return lambda: (KEYED, MODULE + INSERT + statement, inserts(100_000) + run, work if lite else None)
 
 
-def keyed_inserts():
-    def lite(db, _):
-        db.executemany("INSERT INTO T VALUES (?, ?, 'ABC')", ((i, i % 97) for i in range(100_000)))
-    return KEYED, MODULE + INSERT, inserts(100_000), lite
+keyed_inserts = keyed(lite=lambda db: None)
+
+keyed_updates = keyed(
+    "PROCEDURE UPD (SQLCODE, :K INTEGER, :A INTEGER); UPDATE T SET A = :A WHERE K = :K;\n",
+    calls(100_000, lambda i: f"CALL M.UPD ({i}, 5)"),
+    lambda db: db.executemany("UPDATE T SET A = ? WHERE K = ?", ((5, i) for i in range(100_000))))
+
+keyed_deletes = keyed(
+    "PROCEDURE DEL (SQLCODE, :K INTEGER); DELETE FROM T WHERE K = :K;\n",
+    calls(100_000, lambda i: f"CALL M.DEL ({i})"),
+    lambda db: db.executemany("DELETE FROM T WHERE K = ?", ((i,) for i in range(100_000))))
+
+moved_keys = keyed(
+    "PROCEDURE SHK (SQLCODE); UPDATE T SET K = K - 1;\n",
+    "CALL M.SHK;\n",
+    lambda db: db.execute("UPDATE T SET K = K - 1"))
+
+rollback = keyed("PROCEDURE RBK (SQLCODE); ROLLBACK;\n", "CALL M.RBK;\n", lambda db: db.rollback())
 
 
-def keyed_updates():
-    module = MODULE + INSERT + "PROCEDURE UPD (SQLCODE, :K INTEGER, :A INTEGER); UPDATE T SET A = :A WHERE K = :K;\n"
-
-    def lite(db, _):
-        db.executemany("INSERT INTO T VALUES (?, ?, 'ABC')", ((i, i % 97) for i in range(100_000)))
-        db.executemany("UPDATE T SET A = ? WHERE K = ?", ((5, i) for i in range(100_000)))
-    return KEYED, module, inserts(100_000) + calls(100_000, lambda i: f"CALL M.UPD ({i}, 5)"), lite
-
-
-def keyed_deletes():
-    module = MODULE + INSERT + "PROCEDURE DEL (SQLCODE, :K INTEGER); DELETE FROM T WHERE K = :K;\n"
-
-    def lite(db, _):
-        db.executemany("INSERT INTO T VALUES (?, ?, 'ABC')", ((i, i % 97) for i in range(100_000)))
-        db.executemany("DELETE FROM T WHERE K = ?", ((i,) for i in range(100_000)))
-    return KEYED, module, inserts(100_000) + calls(100_000, lambda i: f"CALL M.DEL ({i})"), lite
-
+# ---- cursors
 
 CURSOR = ("DECLARE X CURSOR FOR SELECT K, A FROM T\nPROCEDURE OPX (SQLCODE); OPEN X;\n"
           "PROCEDURE FEX (SQLCODE, :K INTEGER, :A INTEGER); FETCH X INTO :K, :A;\n"
           "PROCEDURE UPX (SQLCODE); UPDATE T SET A = A + 1 WHERE CURRENT OF X;\n")
 
 
-def fetches():
-    def lite(db, _):
-        db.executemany("INSERT INTO T VALUES (?, ?, 'ABC')", ((i, i % 97) for i in range(100_000)))
-        for _row in db.execute("SELECT K, A FROM T"):
-            pass
-    return KEYED, MODULE + INSERT + CURSOR, inserts(100_000) + "CALL M.OPX;\n" + "CALL M.FEX (*, *);\n" * 100_000, lite
+def fetched_in_lite(db):
+    for _row in db.execute("SELECT K, A FROM T"):
+        pass
 
 
-def positioned_updates():
-    return KEYED, MODULE + INSERT + CURSOR, inserts(100_000) + "CALL M.OPX;\n" + "CALL M.FEX (*, *); CALL M.UPX;\n" * 100_000, None
+def updated_in_lite(db):
+    for row, _k, _a in db.execute("SELECT rowid, K, A FROM T"):
+        db.execute("UPDATE T SET A = A + 1 WHERE rowid = ?", (row,))
 
 
-def moved_keys():
-    module = MODULE + INSERT + "PROCEDURE SHK (SQLCODE); UPDATE T SET K = K + 1;\n"
-    return KEYED, module, inserts(100_000) + "CALL M.SHK;\n", None
-
-
-def rollback():
-    module = MODULE + INSERT + "PROCEDURE RBK (SQLCODE); ROLLBACK;\n"
-
-    def lite(db, _):
-        db.executemany("INSERT INTO T VALUES (?, ?, 'ABC')", ((i, i % 97) for i in range(100_000)))
-        db.rollback()
-    return KEYED, module, inserts(100_000) + "CALL M.RBK;\n", lite
-
-
-def from_digits(power, statements, tables="CREATE TABLE T (N INTEGER, A INTEGER)\n", query=None, more=""):
-    module = MODULE + PUT_DIGIT + filled(power) + statements
-
-    def lite(db, script):
-        db.executescript(script)
-        db.execute("CREATE TABLE D (D INTEGER)")
-        db.executemany("INSERT INTO D VALUES (?)", ((i,) for i in range(10)))
-        number, froms = number_of(power)
-        db.execute(f"INSERT INTO T SELECT {number}, ({number}) % 97 FROM {froms}")
-        for _row in db.execute(query):
-            pass
-    return DIGITS + tables, module, digits() + "CALL M.FILL;\n" + more + "CALL M.RUN;\n", lite if query else None
-
-
-def opened(query):
-    return f"DECLARE X CURSOR FOR {query}\nPROCEDURE RUN (SQLCODE); OPEN X;\n"
-
-
-def groups():
-    query = "SELECT A, COUNT(*), SUM(N) FROM T GROUP BY A"
-    return from_digits(6, opened(query), query=query)
-
-
-def distinct():
-    query = "SELECT DISTINCT A FROM T"
-    return from_digits(5, opened(query), query=query)
-
-
-def union():
-    query = "SELECT N FROM T UNION SELECT A FROM T"
-    return from_digits(5, opened(query), query=query)
-
-
-def order_by():
-    query = "SELECT A, N FROM T ORDER BY 1 DESC"
-    return from_digits(5, opened(query), query=query)
-
-
-def join():
-    query = "SELECT P.A, COUNT(*) FROM T P, T Q WHERE P.N = Q.N GROUP BY P.A"
-    return from_digits(5, opened(query), query=query)
-
-
-def exists():
-    query = "SELECT COUNT(*) FROM T P WHERE EXISTS (SELECT N FROM T Q WHERE Q.N > P.N AND Q.A = P.A) AND P.N < 2000"
-    return from_digits(3, opened(query.replace(" AND P.N < 2000", "")), query=query)
-
-
-def ten_tables():
-    tables = "CREATE TABLE T (N INTEGER, A INTEGER)\n"
-    names = [f"P{i}" for i in range(10)]
-    tests = " AND ".join(f"{a}.N = {b}.N" for a, b in zip(names, names[1:]))
-    query = f"SELECT COUNT(*) FROM {', '.join('T ' + n for n in names)} WHERE {tests}"
-    return from_digits(2, opened(query), tables=tables, query=query)
-
-
-def nested_subqueries():
-    query = "SELECT N FROM T"
-    for _ in range(10):
-        query = f"SELECT N FROM T WHERE N IN ({query})"
-    return from_digits(3, opened(query), query=query)
+fetches = keyed(CURSOR, "CALL M.OPX;\n" + "CALL M.FEX (*, *);\n" * 100_000, fetched_in_lite)
+positioned_updates = keyed(CURSOR, "CALL M.OPX;\n" + "CALL M.FEX (*, *); CALL M.UPX;\n" * 100_000, updated_in_lite)
 
 
 def many_cursors():
@@ -177,7 +99,51 @@ def many_cursors():
         modules.append(text)
     script = inserts(1000) + "".join(f"CALL M{m}.OP{c};\n" for m in range(10) for c in range(10))
     script += "".join(f"CALL M{m}.FE{c} (*, *);\n" for _ in range(1000) for m in range(10) for c in range(10))
-    return KEYED, [MODULE + INSERT, *modules], script, None
+
+    def lite(db):
+        insert_in_lite(db, 1000)
+        cursors = [db.execute(f"SELECT K, A FROM T WHERE A >= {c}") for _ in range(10) for c in range(10)]
+        for _ in range(1000):
+            for cursor in cursors:
+                cursor.fetchone()
+    return KEYED, [MODULE + INSERT, *modules], script, lite
+
+
+# ---- queries over a table T (N, A) of the numbers from 0 on, which a procedure makes from a table of digits
+
+
+def numbers(power, rows):
+    """The first so many numbers of `power` digits, as a query, without its SELECT."""
+    number = " + ".join(f"{10 ** i} * D{i}.D" for i in range(power))
+    tables = ", ".join(f"D D{i}" for i in range(power))
+    return f"{number}, ({number}) - 97 * (({number}) / 97) FROM {tables} WHERE {number} < {rows}"
+
+
+def queried(query, power, rows=None):
+    fill = f"INSERT INTO T SELECT {numbers(power, rows or 10 ** power)}"
+    module = (MODULE + "PROCEDURE DIG (SQLCODE, :D INTEGER); INSERT INTO D VALUES (:D);\n"
+              + f"PROCEDURE FILL (SQLCODE); {fill};\nDECLARE X CURSOR FOR {query}\nPROCEDURE RUN (SQLCODE); OPEN X;\n")
+    script = calls(10, lambda i: f"CALL M.DIG ({i})") + "CALL M.FILL;\nCALL M.RUN;\n"
+
+    def lite(db):
+        db.executemany("INSERT INTO D VALUES (?)", ((i,) for i in range(10)))
+        db.execute(fill)
+        for _row in db.execute(query):
+            pass
+    return lambda: (NUMBERS, module, script, lite)
+
+
+def join_of(count):
+    names = [f"P{i}" for i in range(count)]
+    tests = " AND ".join(f"{a}.N = {b}.N" for a, b in zip(names, names[1:]))
+    return f"SELECT COUNT(*) FROM {', '.join('T ' + n for n in names)} WHERE {tests}"
+
+
+def nested(depth):
+    return "SELECT N FROM T" if depth == 0 else f"SELECT N FROM T WHERE N IN ({nested(depth - 1)})"
+
+
+# ---- large texts
 
 
 def large_catalog():
@@ -195,7 +161,10 @@ def large_module():
 
 def large_script():
     module = MODULE + "PROCEDURE INS (SQLCODE, :K INTEGER, :A INTEGER); INSERT INTO T VALUES (:K, :A);\n"
-    return SCHEMA + "CREATE TABLE T (K INTEGER, A INTEGER)\n", module, calls(1_000_000, lambda i: f"CALL M.INS ({i:09}, {i % 100000:05})"), None
+
+    def lite(db):
+        db.executemany("INSERT INTO T VALUES (?, ?)", ((i, i % 100000) for i in range(1_000_000)))
+    return SCHEMA + "CREATE TABLE T (K INTEGER, A INTEGER)\n", module, calls(1_000_000, lambda i: f"CALL M.INS ({i:09}, {i % 100000:05})"), lite
 
 
 WORKLOADS = {
@@ -204,18 +173,20 @@ WORKLOADS = {
     "the same inserts, and 100,000 keyed deletes": keyed_deletes,
     "the same inserts, and 100,000 FETCHes": fetches,
     "the same with a positioned UPDATE of each row": positioned_updates,
-    "the same inserts, and an UPDATE that moves all keys": moved_keys,
+    "the same inserts, and an UPDATE that moves all keys by one": moved_keys,
     "the same inserts, and ROLLBACK": rollback,
-    "GROUP BY of a million rows": groups,
-    "DISTINCT of 100,000 rows": distinct,
-    "UNION of 100,000 and 100,000 rows": union,
-    "ORDER BY of 100,000 rows": order_by,
-    "join of 100,000 and 100,000 rows by an equality, grouped": join,
-    "correlated EXISTS over 1,000 by 1,000 rows": exists,
-    "ten tables of 100 rows joined by equalities": ten_tables,
-    "IN subqueries nested ten deep, 1,000 rows": nested_subqueries,
+    "GROUP BY of a million rows": queried("SELECT A, COUNT(*), SUM(N) FROM T GROUP BY A", 6),
+    "DISTINCT of 100,000 rows": queried("SELECT DISTINCT A FROM T", 5),
+    "UNION of 100,000 and 100,000 rows": queried("SELECT N FROM T UNION SELECT A FROM T", 5),
+    "ORDER BY of 100,000 rows": queried("SELECT A, N FROM T ORDER BY 1 DESC", 5),
+    "join of 100,000 and 100,000 rows by an equality, grouped":
+        queried("SELECT P.A, COUNT(*) FROM T P, T Q WHERE P.N = Q.N GROUP BY P.A", 5),
+    "correlated EXISTS over 2,000 by 2,000 rows":
+        queried("SELECT COUNT(*) FROM T P WHERE EXISTS (SELECT N FROM T Q WHERE Q.N > P.N AND Q.A = P.A)", 4, 2_000),
+    "ten tables of 100 rows joined by equalities": queried(join_of(10), 2),
+    "IN subqueries nested ten deep, 1,000 rows": queried(nested(10), 3),
     "100 cursors of 10 modules, 100,000 FETCHes in turn": many_cursors,
-    "900 tables, 100 views, 10,000 grants, 10,000 procedures": large_catalog,
+    "900 tables, 100 views in a chain, 10,000 grants, 10,000 procedures": large_catalog,
     "a module text of 20 MB": large_module,
     "a script of a million calls": large_script,
 }
@@ -235,16 +206,11 @@ def timed(program, schema, modules, script):
 
 
 def timed_lite(schema, work):
+    """Processor seconds of the same work in sqlite3."""
     db = sqlite3.connect(":memory:")
-    tables = schema.replace("CREATE SCHEMA AUTHORIZATION U\n", "").replace(")\nCREATE", ");\nCREATE").rstrip() + ";"
-    if "CREATE TABLE D (D" in tables:
-        tables = tables.replace("CREATE TABLE D (D INTEGER);", "")
-        start = time.process_time()
-        work(db, tables)
-    else:
-        db.executescript(tables)
-        start = time.process_time()
-        work(db, None)
+    db.executescript(schema.replace(SCHEMA, "").replace(")\n", ");\n"))
+    start = time.process_time()
+    work(db)
     return time.process_time() - start
 
 

@@ -7,8 +7,10 @@ use sq_bound::{
 };
 use sq_items::Items;
 use sq_lex::Name;
-use sq_scope::{Environment, ExprResult, Findings, Found, SetFunctions, bind_expr, must_agree};
-use sq_select::{SubqueryResult, bind_select, both, kept, named_table};
+use sq_scope::{
+    Environment, ExprResult, Findings, Found, SetFunctions, bind_expr, both, kept, must_agree,
+};
+use sq_select::{SubqueryResult, bind_select, named_table};
 use sq_tree::{Assignment, CommaList, Delete, Insert, InsertSource, NewValue, Update, Where};
 use sq_value::{Kind, Value};
 use std::alloc::Global;
@@ -141,10 +143,7 @@ pub(crate) fn bind_insert<N: Names>(
 ) -> Result<Found<BoundInsert>, BindFault> {
     let table = named_table(names, environment.user, insert.table)?;
     let under = must_be_updatable(table)?;
-    let receivers = insert_receivers(environment.alloc, table, &insert.columns)?;
-    let columns = leaf_columns(environment.alloc, receivers.as_slice());
-    let source = insert_source(&insert.source, names, environment, receivers.as_slice());
-    let (columns, source) = both(columns, source)?;
+    let (columns, source) = insert_parts(insert, names, environment, table)?;
     let may = names.may(environment.user, Action::Insert, table.full_name(), None);
     Ok(Found {
         part: BoundInsert {
@@ -155,6 +154,20 @@ pub(crate) fn bind_insert<N: Names>(
         },
         findings: source.findings.and(missing_unless(may)),
     })
+}
+
+/// The columns of the base table that get values, and the values.
+fn insert_parts<N: Names>(
+    insert: &Insert,
+    names: &N,
+    environment: &mut Environment,
+    table: &TableDesc,
+) -> Result<(Items<usize>, Found<InsertedRows>), BindFault> {
+    let receivers = insert_receivers(environment.alloc, table, &insert.columns)?;
+    let columns = leaf_columns(environment.alloc, receivers.as_slice());
+    let source = insert_source(&insert.source, names, environment, receivers.as_slice());
+    drop(receivers);
+    both(columns, source)
 }
 
 /// What is found where a privilege is missing.
@@ -252,9 +265,9 @@ fn change_target<N: Names, C: Cursors>(
     match target {
         Some(Where::CurrentOf(name)) => positioned(*name, cursors, table, under),
         Some(Where::Condition(cond)) => {
-            searched(bind_target(Some(cond), names, environment, under))
+            searched(bind_target(Some(cond), names, environment, table, under))
         }
-        None => searched(bind_target(None, names, environment, under)),
+        None => searched(bind_target(None, names, environment, table, under)),
     }
 }
 

@@ -31,11 +31,21 @@ fn listed_outputs(
         return Err(BindFault::CountMismatch);
     }
     let mut outputs = Items::new(alloc);
-    outputs.push(output_of(parameters, &targets.first, first)?)?;
+    push_output(&mut outputs, parameters, &targets.first, first)?;
     for (target, column) in targets.rest.as_slice().iter().zip(others) {
-        outputs.push(output_of(parameters, target, column)?)?;
+        push_output(&mut outputs, parameters, target, column)?;
     }
     Ok(outputs)
+}
+
+fn push_output(
+    outputs: &mut Items<Output>,
+    parameters: &[ParameterDesc],
+    target: &Parameter,
+    column: &ResultColumn,
+) -> Result<(), BindFault> {
+    outputs.push(output_of(parameters, target, column)?)?;
+    Ok(())
 }
 
 fn output_of(

@@ -7,8 +7,8 @@ use sq_bound::{
 };
 use sq_items::{Boxed, Items};
 use sq_lex::{Name, Number};
-use sq_scope::{Environment, is_whole, number_value, union_kind};
-use sq_select::{SubqueryResult, bind_select, both, kept};
+use sq_scope::{Environment, both, is_whole, kept, number_value, union_kind};
+use sq_select::{SubqueryResult, bind_select};
 use sq_tree::{
     CommaList, Cursor, Query, QuerySpecification, QueryTerm, SortDirection, SortKey,
     SortSpecification,

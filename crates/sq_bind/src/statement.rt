@@ -10,8 +10,10 @@ use sq_bound::{
     FetchOrientation, KnownCursor, Names, ParameterDesc, TableDesc, TablePlace, UpdatableQuery,
 };
 use sq_lex::Name;
-use sq_scope::{Environment, Found, SetFunctions, is_whole, parameter_of, signed_value};
-use sq_select::{bind_cond, bind_select, both, kept};
+use sq_scope::{
+    Environment, Found, SetFunctions, both, is_whole, kept, parameter_of, signed_value,
+};
+use sq_select::{bind_cond, bind_select};
 use sq_tree::{
     Cond, Cursor, Fetch, FetchFrom, Orientation, Position, QuerySpecification, Select,
     SignedNumber, Statement,

@@ -6,8 +6,8 @@ use sq_bound::{
 };
 use sq_items::Items;
 use sq_lex::Name;
-use sq_scope::{Environment, Findings, Found, SetFunctions, item_over};
-use sq_select::{bind_cond, both, correlation_of, named_table, select_list};
+use sq_scope::{Environment, Findings, Found, SetFunctions, both, item_over};
+use sq_select::{bind_cond, correlation_of, named_table, select_list};
 use sq_tree::{Comparison, Cond, QuerySpecification, SelectList, SetQuantifier};
 use std::alloc::Global;
 
@@ -49,7 +49,8 @@ pub(crate) fn bind_updatable<N: Names>(
     let correlation = correlation_of(&query.table.from.first);
     enter_table(environment, table, correlation)?;
     let columns = plain_columns(&query.list, environment);
-    let target = bind_target(query.table.where_clause.as_ref(), names, environment, under);
+    let cond = query.table.where_clause.as_ref();
+    let target = bind_target(cond, names, environment, table, under);
     environment.leave();
     let (columns, target) = both(columns, target)?;
     Ok(updatable(table.full_name(), columns, target))
@@ -153,11 +154,12 @@ fn distinct_columns(alloc: Global, exprs: &[BoundExpr]) -> Result<Option<Items<u
     Ok(Some(columns))
 }
 
-/// The rows under a table, with a condition on the rows of the base table.
+/// The rows under a table that may be changed, with a condition on the rows of the base table.
 pub(crate) fn bind_target<N: Names>(
     cond: Option<&Cond>,
     names: &N,
     environment: &mut Environment,
+    table: &TableDesc,
     under: Under,
 ) -> Result<Found<Target>, BindFault> {
     let Some(cond) = cond else {
@@ -170,10 +172,7 @@ pub(crate) fn bind_target<N: Names>(
     let key = if findings.has_subquery {
         None
     } else {
-        match names.at(under.table) {
-            Some(table) => key_of(&part, table),
-            None => None,
-        }
+        key_of(&part, table)
     };
     Ok(whole_target(Some(part), findings, key, under))
 }

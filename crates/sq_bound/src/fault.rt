@@ -1,4 +1,5 @@
-//! Why a statement, a query or a condition is not well formed.
+//! Why a statement, a query or a condition is not well formed. The faults have the names of the definition's
+//! (`BindingFault` of sq_model); `NotInCheck` and `BadLiteral` are none of a statement.
 
 ghost use Rattle.std.specs.Prelude.{◌≡◌};
 
@@ -20,15 +21,15 @@ pub enum BindFault {
     /// A number stands where a text must stand, or the reverse (6.5, 6.12, 8.2, 9.2).
     #[error("a number where a text must stand, or the reverse")]
     KindMismatch,
-    /// A scale passes 18, or there are too many columns or FROM items (own rules).
+    /// A scale passes 18, or there are more than 64 columns or 16 FROM items (own rules).
     #[error("too many digits, columns or FROM items")]
-    TooWide,
+    LimitExceeded,
     /// A set function stands outside a select list or HAVING, inside another one, or over an outer reference (6.5).
     #[error("a set function may not stand here")]
     MisplacedSetFunction,
     /// In a grouped query a column that is no grouping column stands outside set functions (7.8, 7.9).
     #[error("the column is no grouping column")]
-    NotGrouped,
+    UngroupedColumn,
     /// Two lists that must have one length differ, or a subquery has another number of columns than one (7.10, 7.11).
     #[error("the numbers of columns differ")]
     CountMismatch,

@@ -1,5 +1,7 @@
 //! What names mean: tables and views, privileges, cursors and parameters.
 
+ghost use Rattle.std.specs.Prelude.{◌≤◌, length};
+
 use crate::condition::{BoundCond, BoundSpecification, TablePlace};
 use crate::query::BoundCursor;
 use sq_items::Items;
@@ -147,6 +149,7 @@ pub struct Leaf {
     pub demanded: usize,
     /// Whether none of their conditions may answer a status.
     pub is_quiet: bool,
+    ghost are_views: { demanded ≤ length views },
 }
 
 impl TableDesc {

@@ -1,1 +1,2 @@
+pub mod Catalog
 pub mod Fault

@@ -1,6 +1,7 @@
 //! The catalog, built element by element (ISO/IEC 9075:1992, 11.1).
 
-ghost use Rattle.std.specs.Prelude.{IfErr, length};
+ghost use Rattle.std.specs.Prelude.{◌≡◌, IfErr, length};
+ghost use Rattle.sq_catalog.specs.Catalog.{table_number};
 ghost use Rattle.sq_catalog.specs.Fault.{IsOfSomeText, IsOfText};
 
 use crate::fault::{CatalogFault, ElementFault, RefusalName, SchemaRefusal, refused_if};
@@ -12,6 +13,7 @@ use sq_items::Items;
 use sq_lex::Name;
 use sq_tree::{SchemaDefinition, SchemaElement, SchemaText, TableName};
 use std::alloc::Global;
+use std::marker::Model;
 
 /// The greatest number of tables and views (own rule).
 const MOST_TABLES: usize = 1000;
@@ -25,7 +27,7 @@ pub struct Limits {
 
 /// A name of a table or view: its owner, and its name in the owner's schema.
 #[derive(Clone, Copy, Debug, PartialEq, Eq, Hash)]
-pub(crate) struct FullName {
+pub struct FullName {
     pub user: Name,
     pub name: Name,
 }
@@ -36,11 +38,19 @@ pub struct Catalog {
     alloc: Global,
     limits: Limits,
     users: IndexSet<Name>,
-    places: IndexMap<FullName, TablePlace>,
-    pub(crate) bases: Vec<TableDesc>,
-    pub(crate) views: Vec<TableDesc>,
+    bases: IndexMap<FullName, TableDesc>,
+    views: IndexMap<FullName, TableDesc>,
     pub(crate) keys: Vec<Vec<Vec<usize>>>,
     pub(crate) held: Held,
+}
+
+impl Model for Catalog {
+    ghost use Rattle.std.specs.Map.{keys_of};
+    ghost use Rattle.sq_catalog.specs.Catalog.{Catalog};
+
+    ghost Value = { Catalog };
+
+    ghost view = { λ c. record { tables = keys_of c.bases.entries } };
 }
 
 impl Catalog {
@@ -57,9 +67,8 @@ impl Catalog {
             alloc,
             limits,
             users: IndexSet::new(alloc),
-            places: IndexMap::new(alloc),
-            bases: Vec::new(alloc),
-            views: Vec::new(alloc),
+            bases: IndexMap::new(alloc),
+            views: IndexMap::new(alloc),
             keys: Vec::new(alloc),
             held: Held::new(alloc),
         };
@@ -124,14 +133,15 @@ impl Catalog {
         user: Name,
         full_name: &FullName,
     ) -> Result<(), ElementFault> {
-        let is_used = full_name.user == user && self.places.contains_key(full_name);
+        let is_used = full_name.user == user && self.place_of(full_name).is_some();
         refused_if(is_used, RefusalName::NameTwice)
     }
 
     /// A table or view stands under its schema's user, and there are at most 1000.
     pub(crate) fn check_place(&self, user: Name, full_name: &FullName) -> Result<(), ElementFault> {
         refused_if(full_name.user != user, RefusalName::OtherSchema)?;
-        refused_if(self.places.len() >= MOST_TABLES, RefusalName::TooManyTables)
+        let tables = self.bases.len().saturating_add(self.views.len());
+        refused_if(tables >= MOST_TABLES, RefusalName::TooManyTables)
     }
 
     /// The place of the next base table.
@@ -144,27 +154,46 @@ impl Catalog {
         self.views.len()
     }
 
-    /// Gives the table or view at a place its name.
-    pub(crate) fn name_table(
+    /// Adds a base table of a new name.
+    pub(crate) fn add_base(
         &mut self,
-        user: Name,
-        name: Name,
-        place: TablePlace,
+        name: FullName,
+        table: TableDesc,
     ) -> Result<(), ElementFault> {
-        pushed(self.places.insert(FullName { user, name }, place).is_ok())
+        insert_table(&mut self.bases, name, table)
+    }
+
+    /// Adds a view of a new name.
+    pub(crate) fn add_view(
+        &mut self,
+        name: FullName,
+        table: TableDesc,
+    ) -> Result<(), ElementFault> {
+        insert_table(&mut self.views, name, table)
+    }
+
+    /// The place of the base table of this owner and name.
+    pub fn base(&self, user: Name, name: Name) -> Option<usize>
+        ensures { result ≡ table_number self.now.tables user name }
+    {
+        self.bases.get_index_of(&FullName { user, name })
     }
 
     /// Where the table or view of this name stands.
     pub(crate) fn place_of(&self, full_name: &FullName) -> Option<TablePlace> {
-        self.places.get(full_name).copied()
+        match self.bases.get_index_of(full_name) {
+            Some(place) => Some(TablePlace::Base(place)),
+            None => Some(TablePlace::View(self.views.get_index_of(full_name)?)),
+        }
     }
 
     /// The table or view at a place.
     pub(crate) fn table_at(&self, place: TablePlace) -> Option<&TableDesc> {
-        match place {
-            TablePlace::Base(place) => self.bases.get(place),
-            TablePlace::View(place) => self.views.get(place),
-        }
+        let (_, table) = match place {
+            TablePlace::Base(place) => self.bases.get_index(place)?,
+            TablePlace::View(place) => self.views.get_index(place)?,
+        };
+        Some(table)
     }
 
     fn holds(
@@ -187,6 +216,24 @@ impl Catalog {
         }
         let privilege = Privilege { action, column };
         self.held.has(user, place, privilege, to_grant)
+    }
+}
+
+/// Adds a table or view of a new name.
+fn insert_table(
+    tables: &mut IndexMap<FullName, TableDesc>,
+    name: FullName,
+    table: TableDesc,
+) -> Result<(), ElementFault> {
+    match tables.insert(name, table) {
+        Ok(before) => {
+            drop(before);
+            Ok(())
+        }
+        Err(error) => {
+            drop(error);
+            Err(ElementFault::NoMemory)
+        }
     }
 }
 

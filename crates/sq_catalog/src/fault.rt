@@ -87,35 +87,6 @@ pub(crate) fn refused_as(fault: BindFault, name: RefusalName) -> ElementFault {
     }
 }
 
-/// Two parts that must both be had. The fault of the first is answered first.
-pub(crate) fn both<T: Drop, U: Drop>(
-    left: Result<T, ElementFault>,
-    right: Result<U, ElementFault>,
-) -> Result<(T, U), ElementFault> {
-    match (left, right) {
-        (Ok(left), Ok(right)) => Ok((left, right)),
-        (Ok(left), Err(fault)) => {
-            drop(left);
-            Err(fault)
-        }
-        (Err(fault), right) => {
-            drop(right);
-            Err(fault)
-        }
-    }
-}
-
-/// A part, if what was looked at beside it is in order.
-pub(crate) fn kept<T: Drop>(part: T, test: Result<(), ElementFault>) -> Result<T, ElementFault> {
-    match test {
-        Ok(()) => Ok(part),
-        Err(fault) => {
-            drop(part);
-            Err(fault)
-        }
-    }
-}
-
 /// The first refusal: its name, the text, the schema definition in the text, and the element in the definition (all from
 /// 0); no element where the definition itself is a user's second.
 #[derive(Clone, Copy, Debug, PartialEq, Eq)]

@@ -9,23 +9,16 @@ use indexmap::IndexSet;
 use sq_bound::{Action, Column, Names, Reference, TableBody, TableDesc};
 use sq_items::Items;
 use sq_lex::Name;
+use sq_scope::both;
 use sq_tree::References;
 use std::alloc::Global;
 
-/// What a reference is to.
-#[derive(Clone, Copy)]
-pub(crate) enum ReferencedTable {
-    /// The table that is being defined.
-    Own,
-    /// An earlier table or view.
-    Earlier(FullName),
-}
-
-/// A reference whose columns are found.
+/// A reference whose table and columns are found.
 #[derive(Drop)]
-pub(crate) struct FoundReference {
+pub(crate) struct FoundReference<'t> {
     pub columns: Items<usize>,
-    pub table: ReferencedTable,
+    /// The table or view that is referenced, none where it is the table that is being defined.
+    pub earlier: Option<&'t TableDesc>,
     /// The columns that are listed, none where the primary key is meant.
     pub listed: Option<Items<usize>>,
 }
@@ -39,11 +32,11 @@ pub(crate) struct OwnTable<'a> {
 }
 
 /// The references with their columns found.
-pub(crate) fn references_of(
-    catalog: &Catalog,
+pub(crate) fn references_of<'t>(
+    catalog: &'t Catalog,
     own: &OwnTable<'_>,
     written: &[WrittenReference<'_>],
-) -> Result<Vec<FoundReference>, ElementFault> {
+) -> Result<Vec<FoundReference<'t>>, ElementFault> {
     let mut references = Vec::new(catalog.alloc());
     for reference in written {
         let found = found_reference(catalog, own, reference)?;
@@ -52,55 +45,68 @@ pub(crate) fn references_of(
     Ok(references)
 }
 
-fn found_reference(
-    catalog: &Catalog,
+fn found_reference<'t>(
+    catalog: &'t Catalog,
     own: &OwnTable<'_>,
     reference: &WrittenReference<'_>,
-) -> Result<FoundReference, ElementFault> {
-    let columns = positions_of(catalog.alloc(), own.names, reference.columns.as_slice())?;
-    let name = full_name(own.user, reference.to.table);
-    let table = if name == own.full_name {
-        ReferencedTable::Own
-    } else {
-        ReferencedTable::Earlier(name)
-    };
-    let listed = listed_columns(catalog, own, &table, reference.to)?;
+) -> Result<FoundReference<'t>, ElementFault> {
+    let earlier = earlier_table(catalog, own, full_name(own.user, reference.to.table))?;
+    let columns = positions_of(catalog.alloc(), own.names, reference.columns.as_slice());
+    let listed = listed_columns(catalog.alloc(), own, earlier, reference.to);
+    let (columns, listed) = both(columns, listed)?;
     Ok(FoundReference {
         columns,
-        table,
+        earlier,
         listed,
     })
 }
 
+/// The table or view of a name, none where it is the one that is being defined.
+fn earlier_table<'t>(
+    catalog: &'t Catalog,
+    own: &OwnTable<'_>,
+    name: FullName,
+) -> Result<Option<&'t TableDesc>, ElementFault> {
+    if name == own.full_name {
+        return Ok(None);
+    }
+    match catalog.table(name.user, name.name) {
+        Some(table) => Ok(Some(table)),
+        None => Err(ElementFault::Refused(RefusalName::UnknownName)),
+    }
+}
+
 /// The positions of the columns that a reference lists, in the table that it names.
 fn listed_columns(
-    catalog: &Catalog,
+    alloc: Global,
     own: &OwnTable<'_>,
-    table: &ReferencedTable,
+    earlier: Option<&TableDesc>,
     to: &References,
 ) -> Result<Option<Items<usize>>, ElementFault> {
-    let wanted = match &to.columns {
-        Some(list) => Some(names_of(catalog.alloc(), list)?),
-        None => None,
-    };
-    let found = match table {
-        ReferencedTable::Own => None,
-        ReferencedTable::Earlier(name) => match catalog.table(name.user, name.name) {
-            Some(table) => Some(table),
-            None => return Err(ElementFault::Refused(RefusalName::UnknownName)),
-        },
-    };
-    let Some(wanted) = wanted else {
-        return Ok(None);
-    };
-    match found {
-        None => Ok(Some(positions_of(catalog.alloc(), own.names, wanted.as_slice())?)),
-        Some(table) => Ok(Some(columns_of(catalog.alloc(), table, wanted.as_slice())?)),
+    match &to.columns {
+        Some(list) => {
+            let names = names_of(alloc, list)?;
+            Ok(Some(positions_in(alloc, own, earlier, names.as_slice())?))
+        }
+        None => Ok(None),
+    }
+}
+
+/// The positions of names among the columns of the table that a reference names.
+fn positions_in(
+    alloc: Global,
+    own: &OwnTable<'_>,
+    earlier: Option<&TableDesc>,
+    names: &[Name],
+) -> Result<Items<usize>, ElementFault> {
+    match earlier {
+        None => positions_of(alloc, own.names, names),
+        Some(table) => columns_of(alloc, table, names),
     }
 }
 
 /// No list of a reference has a column twice or more than 6.
-pub(crate) fn check_lists(references: &[FoundReference]) -> Result<(), ElementFault> {
+pub(crate) fn check_lists(references: &[FoundReference<'_>]) -> Result<(), ElementFault> {
     for reference in references {
         let is_bad = is_bad_list(reference.columns.as_slice()) || has_bad_list(&reference.listed);
         refused_if(is_bad, RefusalName::BadKey)?;
@@ -138,21 +144,17 @@ fn bad_reference<T>() -> Result<T, ElementFault> {
 }
 
 fn target_of<'a>(
-    catalog: &'a Catalog,
     own: OwnKeys<'a>,
-    table: &ReferencedTable,
+    earlier: Option<&'a TableDesc>,
 ) -> Result<Target<'a>, ElementFault> {
-    match table {
-        ReferencedTable::Own => Ok(Target {
+    match earlier {
+        None => Ok(Target {
             place: own.place,
             columns: own.columns,
             keys: own.keys.columns.as_slice(),
             primary: own.keys.primary,
         }),
-        ReferencedTable::Earlier(name) => match catalog.table(name.user, name.name) {
-            Some(table) => base_target(table),
-            None => Err(ElementFault::Refused(RefusalName::UnknownName)),
-        },
+        Some(table) => base_target(table),
     }
 }
 
@@ -170,14 +172,13 @@ fn base_target(table: &TableDesc) -> Result<Target<'_>, ElementFault> {
 
 /// The references, each to a key of a base table and of its kinds.
 pub(crate) fn bound_references<'a>(
-    catalog: &'a Catalog,
+    alloc: Global,
     own: OwnKeys<'a>,
-    found: &'a [FoundReference],
+    found: &'a [FoundReference<'a>],
 ) -> Result<Items<Reference>, ElementFault> {
-    let mut references = Items::new(catalog.alloc());
+    let mut references = Items::new(alloc);
     for reference in found {
-        let target = target_of(catalog, own, &reference.table)?;
-        references.push(bound_reference(catalog.alloc(), own, target, reference)?)?;
+        references.push(bound_reference(alloc, own, reference)?)?;
     }
     Ok(references)
 }
@@ -185,51 +186,72 @@ pub(crate) fn bound_references<'a>(
 fn bound_reference<'a>(
     alloc: Global,
     own: OwnKeys<'a>,
-    target: Target<'a>,
-    reference: &'a FoundReference,
+    reference: &'a FoundReference<'a>,
 ) -> Result<Reference, ElementFault> {
     let columns = reference.columns.as_slice();
-    let (key, listed) = referenced_key(target, reference)?;
-    if columns.len() != listed.len() || !kinds_agree(own.columns, columns, target.columns, listed) {
+    let target = target_of(own, reference.earlier)?;
+    let key = referenced_key(target, &reference.listed)?;
+    if columns.len() != key.listed.len()
+        || !kinds_agree(own.columns, columns, target.columns, key.listed)
+    {
         return bad_reference();
     }
-    let Some(key_columns) = target.keys.get(key) else {
-        return bad_reference();
-    };
     Ok(Reference {
         columns: Items::from_slice(alloc, columns)?,
         table: target.place,
-        key,
-        by_key: in_key_order(alloc, key_columns.as_slice(), listed, columns)?,
+        key: key.place,
+        by_key: in_key_order(alloc, key.columns, key.listed, columns)?,
     })
 }
 
-/// The key that a reference is to, and its columns in the order in which they are paired.
+/// The key that a reference is to: its place among the table's keys, its columns, and the same columns in the order in
+/// which they are paired.
+#[derive(Clone, Copy)]
+struct ReferencedKey<'a> {
+    place: usize,
+    columns: &'a [usize],
+    listed: &'a [usize],
+}
+
 fn referenced_key<'a>(
     target: Target<'a>,
-    reference: &'a FoundReference,
-) -> Result<(usize, &'a [usize]), ElementFault> {
-    match &reference.listed {
-        Some(listed) => {
-            let listed = listed.as_slice();
-            let key = target
-                .keys
-                .iter()
-                .position(|key| are_the_same(key.as_slice(), listed));
-            match key {
-                Some(key) => Ok((key, listed)),
-                None => bad_reference(),
-            }
+    listed: &'a Option<Items<usize>>,
+) -> Result<ReferencedKey<'a>, ElementFault> {
+    match listed {
+        Some(listed) => listed_key(target, listed.as_slice()),
+        None => primary_key(target),
+    }
+}
+
+/// The key that has the columns that are listed.
+fn listed_key<'a>(
+    target: Target<'a>,
+    listed: &'a [usize],
+) -> Result<ReferencedKey<'a>, ElementFault> {
+    for (place, key) in target.keys.iter().enumerate() {
+        let columns = key.as_slice();
+        if are_the_same(columns, listed) {
+            return Ok(ReferencedKey {
+                place,
+                columns,
+                listed,
+            });
         }
-        None => {
-            let Some(key) = target.primary else {
-                return bad_reference();
-            };
-            match target.keys.get(key) {
-                Some(columns) => Ok((key, columns.as_slice())),
-                None => bad_reference(),
-            }
-        }
+    }
+    bad_reference()
+}
+
+fn primary_key(target: Target<'_>) -> Result<ReferencedKey<'_>, ElementFault> {
+    let Some(place) = target.primary else {
+        return bad_reference();
+    };
+    match target.keys.get(place) {
+        Some(key) => Ok(ReferencedKey {
+            place,
+            columns: key.as_slice(),
+            listed: key.as_slice(),
+        }),
+        None => bad_reference(),
     }
 }
 
@@ -278,33 +300,25 @@ fn in_key_order(
 pub(crate) fn check_privileges(
     catalog: &Catalog,
     user: Name,
-    found: &[FoundReference],
+    found: &[FoundReference<'_>],
     bound: &[Reference],
 ) -> Result<(), ElementFault> {
     for (found, bound) in found.iter().zip(bound) {
-        if let ReferencedTable::Earlier(name) = &found.table {
-            let may = may_reference(catalog, user, name, bound);
+        if let Some(table) = found.earlier {
+            let may = may_reference(catalog, user, table, bound);
             refused_if(!may, RefusalName::PrivilegeMissing)?;
         }
     }
     Ok(())
 }
 
-fn may_reference(catalog: &Catalog, user: Name, name: &FullName, bound: &Reference) -> bool {
-    let Some(table) = catalog.table(name.user, name.name) else {
-        return false;
-    };
+fn may_reference(catalog: &Catalog, user: Name, table: &TableDesc, bound: &Reference) -> bool {
     let TableBody::Base(base) = &table.body else {
         return false;
     };
     match base.keys.as_slice().get(bound.key) {
         Some(key) => key.as_slice().iter().all(|column| {
-            catalog.may(
-                user,
-                Action::References,
-                (name.user, name.name),
-                Some(*column),
-            )
+            catalog.may(user, Action::References, table.full_name(), Some(*column))
         }),
         None => false,
     }

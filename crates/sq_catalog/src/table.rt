@@ -4,7 +4,7 @@ ghost use Rattle.std.specs.Prelude.{IsTrue};
 ghost use Rattle.sq_value.specs.Domain.{IsDomain, FitsKind};
 
 use crate::catalog::{Catalog, FullName, full_name};
-use crate::fault::{ElementFault, RefusalName, both, kept, refused_as, refused_if};
+use crate::fault::{ElementFault, RefusalName, refused_as, refused_if};
 use crate::key::{Keys, is_not_null, keys_of};
 use crate::reference::{
     FoundReference, OwnKeys, OwnTable, bound_references, check_lists, check_privileges,
@@ -14,12 +14,11 @@ use crate::written::{Written, distinct_names, parts_of, pushed};
 use indexmap::IndexSet;
 use sq_bind::bind_check;
 use sq_bound::{
-    BaseColumn, BaseTable, BoundCond, Column, ColumnDefault, Leaf, TableBody, TableDesc,
-    TablePlace, domain_of,
+    BaseColumn, BaseTable, BoundCond, Column, ColumnDefault, Leaf, TableBody, TableDesc, domain_of,
 };
 use sq_items::Items;
 use sq_lex::Name;
-use sq_scope::{signed_value, text_value};
+use sq_scope::{both, kept, signed_value, text_value};
 use sq_tree::{ColumnDefinition, Cond, DefaultValue, TableDefinition};
 use sq_value::{Domain, StoreFault, Value, store};
 use std::alloc::Global;
@@ -35,7 +34,7 @@ const USER_LENGTH: u16 = 18;
 struct Draft<'t> {
     written: Written<'t>,
     keys: Keys,
-    references: Vec<FoundReference>,
+    references: Vec<FoundReference<'t>>,
 }
 
 impl Catalog {
@@ -47,20 +46,29 @@ impl Catalog {
     ) -> Result<(), ElementFault> {
         let name = full_name(user, definition.name);
         self.check_new_name(user, &name)?;
-        let draft = self.draft(user, &name, definition)?;
-        let table = self.table_of(user, &name, &draft);
+        let (table, keys) = self.new_table(user, &name, definition)?;
+        let added = self.add_base(name, table);
+        let keys = kept(keys, added)?;
+        pushed(self.keys.push(keys).is_ok())
+    }
+
+    /// The table of a definition, and the columns of its keys as a store is given them.
+    fn new_table(
+        &self,
+        user: Name,
+        name: &FullName,
+        definition: &TableDefinition,
+    ) -> Result<(TableDesc, Vec<Vec<usize>>), ElementFault> {
+        let draft = self.draft(user, name, definition)?;
+        let table = self.table_of(user, name, &draft);
         let keys = draft.keys.for_store(self.alloc());
         drop(draft);
-        let (table, keys) = both(table, keys)?;
-        let place = TablePlace::Base(self.bases.len());
-        pushed(self.bases.push(table).is_ok())?;
-        pushed(self.keys.push(keys).is_ok())?;
-        self.name_table(name.user, name.name, place)
+        both(table, keys)
     }
 
     /// What a definition writes, each name of a column or table in it found.
     fn draft<'t>(
-        &self,
+        &'t self,
         user: Name,
         name: &FullName,
         definition: &'t TableDefinition,
@@ -81,13 +89,13 @@ impl Catalog {
     }
 
     /// The keys and references of a table with their names found.
-    fn found_names(
-        &self,
+    fn found_names<'t>(
+        &'t self,
         user: Name,
         full_name: &FullName,
         names: &IndexSet<Name>,
         written: &Written<'_>,
-    ) -> Result<(Keys, Vec<FoundReference>), ElementFault> {
+    ) -> Result<(Keys, Vec<FoundReference<'t>>), ElementFault> {
         let own = OwnTable {
             user,
             full_name: *full_name,
@@ -126,7 +134,7 @@ impl Catalog {
             columns,
             keys: &draft.keys,
         };
-        let references = bound_references(self, own, draft.references.as_slice())?;
+        let references = bound_references(self.alloc(), own, draft.references.as_slice())?;
         let checks = bound_checks(self.alloc(), name, columns, draft.written.checks.as_slice());
         let (references, checks) = both(Ok(references), checks)?;
         let held = base_columns(self.alloc(), draft.written.columns.as_slice());

@@ -1,7 +1,9 @@
 //! CREATE VIEW (ISO/IEC 9075:1992, 11.19).
 
+ghost use Rattle.std.specs.Prelude.{◌≤◌, length, IfOk};
+
 use crate::catalog::{Catalog, FullName, full_name};
-use crate::fault::{ElementFault, RefusalName, both, kept, refused_as, refused_if};
+use crate::fault::{ElementFault, RefusalName, refused_as, refused_if};
 use crate::grants::Privilege;
 use crate::written::{add_name, names_of, pushed};
 use indexmap::IndexSet;
@@ -12,6 +14,7 @@ use sq_bound::{
 };
 use sq_items::Items;
 use sq_lex::Name;
+use sq_scope::{both, kept};
 use sq_tree::ViewDefinition;
 use std::alloc::Global;
 
@@ -38,14 +41,23 @@ impl Catalog {
     ) -> Result<(), ElementFault> {
         let name = full_name(user, definition.name);
         self.check_new_name(user, &name)?;
+        let NewView { table, grants } = self.defined_view(user, &name, definition)?;
+        let place = TablePlace::View(self.next_view());
+        let added = self.add_view(name, table);
+        let grants = kept(grants, added)?;
+        self.add_owner_grants(name.user, place, grants.as_slice())
+    }
+
+    /// The view of a definition.
+    fn defined_view(
+        &self,
+        user: Name,
+        name: &FullName,
+        definition: &ViewDefinition,
+    ) -> Result<NewView, ElementFault> {
         let listed = listed_names(self.alloc(), definition)?;
         let bound = bind_view(self.alloc(), self, user, &definition.query);
-        let view = self.new_view(user, &name, definition, listed, bound)?;
-        let NewView { table, grants } = view;
-        let place = TablePlace::View(self.views.len());
-        pushed(self.views.push(table).is_ok())?;
-        self.name_table(name.user, name.name, place)?;
-        self.add_owner_grants(name.user, place, grants.as_slice())
+        self.new_view(user, name, definition, listed, bound)
     }
 
     fn add_owner_grants(
@@ -220,7 +232,9 @@ impl Catalog {
 
     /// The views from the base table to a new view over this table, the new one included, and how many of those below it
     /// demand their condition.
-    fn views_to(&self, under: TablePlace) -> Result<(Items<usize>, usize), ElementFault> {
+    fn views_to(&self, under: TablePlace) -> Result<(Items<usize>, usize), ElementFault>
+        ensures { IfOk result (λ found. found.1 ≤ length found.0) }
+    {
         let mut views = Items::new(self.alloc());
         let mut demanded = 0;
         if let Some(table) = self.table_at(under) {

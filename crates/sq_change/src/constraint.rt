@@ -3,8 +3,7 @@
 use crate::row::{is_null, row_put};
 use crate::setting::{Setting, leaf_of};
 use sq_bound::{BaseTable, BoundCond, Leaf, Names, TablePlace};
-use sq_meaning::Status;
-use sq_query::Fault;
+use sq_query::{Failure, Fault};
 use sq_store::{Change, Store};
 use sq_value::{Row, Truth, Value};
 
@@ -14,7 +13,7 @@ pub(crate) fn check_options_met<N: Names, S: Store>(
     named: TablePlace,
     changes: &[Change],
 ) -> Result<(), Fault> {
-    let views = demanded_views(leaf_of(setting.names, named)?)?;
+    let views = demanded_views(leaf_of(setting.names, named)?);
     for change in changes {
         if let Some(row) = row_put(change) {
             meets_check_option(setting, views, row)?;
@@ -24,11 +23,8 @@ pub(crate) fn check_options_met<N: Names, S: Store>(
 }
 
 /// The views, from inside out, whose conditions are demanded.
-fn demanded_views(leaf: &Leaf) -> Result<&[usize], Fault> {
-    if leaf.demanded > leaf.views.len() {
-        return Err(Fault::NOT_WELL_FORMED);
-    }
-    Ok(&leaf.views.as_slice()[..leaf.demanded])
+fn demanded_views(leaf: &Leaf) -> &[usize] {
+    &leaf.views.as_slice()[..leaf.demanded]
 }
 
 /// Whether the conditions of the views are true, one after the other.
@@ -49,7 +45,7 @@ fn meets_check_option<N: Names, S: Store>(
 fn is_or_violates(truth: Truth) -> Result<(), Fault> {
     match truth {
         Truth::True => Ok(()),
-        _ => Err(Fault::Status(Status::CheckOptionViolation)),
+        _ => Err(Fault::Status(Failure::CheckOptionViolation)),
     }
 }
 
@@ -74,7 +70,7 @@ fn row_satisfied<N: Names, S: Store>(
     row: &Row,
 ) -> Result<(), Fault> {
     if lacks_value(table, row.as_slice()) {
-        return Err(Fault::Status(Status::IntegrityConstraintViolation));
+        return Err(Fault::Status(Failure::IntegrityConstraintViolation));
     }
     for check in table.checks.as_slice() {
         check_satisfied(setting, check, row)?;
@@ -99,7 +95,7 @@ fn check_satisfied<N: Names, S: Store>(
     row: &Row,
 ) -> Result<(), Fault> {
     match setting.truth(check, row)? {
-        Truth::False => Err(Fault::Status(Status::IntegrityConstraintViolation)),
+        Truth::False => Err(Fault::Status(Failure::IntegrityConstraintViolation)),
         _ => Ok(()),
     }
 }

@@ -1,5 +1,8 @@
 //! The rows that an insert statement makes (ISO/IEC 9075:1992, 13.8).
 
+ghost use Rattle.std.specs.Prelude.{◌≡◌, ◌<◌, length, true, vec_len, IfOk};
+ghost use Rattle.sq_change.specs.Changed.{are_insertions};
+
 use crate::setting::Setting;
 use crate::storing::{assigned, assigned_to, stored_value};
 use sq_bound::{
@@ -7,8 +10,7 @@ use sq_bound::{
     Names,
 };
 use sq_items::Items;
-use sq_meaning::Status;
-use sq_query::{Fault, specification_rows};
+use sq_query::{Failure, Fault, specification_rows};
 use sq_store::{Change, Meter, Store};
 use sq_value::{Row, Value};
 use std::alloc::Global;
@@ -19,7 +21,10 @@ pub(crate) fn new_rows<N: Names, S: Store>(
     insert: &BoundInsert,
     table: &BaseTable,
     meter: &mut Meter,
-) -> Result<Vec<Change>, Fault> {
+) -> Result<Vec<Change>, Fault>
+    ensures insertions { IfOk result (λ changes. are_insertions changes.items ≡ true) }
+    ensures some { IfOk result (λ changes. 0 < vec_len changes) }
+{
     let given = given_rows(setting, insert, table, meter)?;
     completed_rows(setting, table, insert.columns.as_slice(), given.as_slice())
 }
@@ -30,7 +35,9 @@ fn given_rows<N: Names, S: Store>(
     insert: &BoundInsert,
     table: &BaseTable,
     meter: &mut Meter,
-) -> Result<Vec<Row>, Fault> {
+) -> Result<Vec<Row>, Fault>
+    ensures { IfOk result (λ rows. 0 < vec_len rows) }
+{
     let columns = insert.columns.as_slice();
     match &insert.source {
         InsertedRows::Values(values) => {
@@ -65,7 +72,9 @@ fn rows_found<N: Names, S: Store>(
     setting: &Setting<'_, N, S>,
     query: &BoundSpecification,
     meter: &mut Meter,
-) -> Result<Vec<Row>, Fault> {
+) -> Result<Vec<Row>, Fault>
+    ensures { IfOk result (λ rows. 0 < vec_len rows) }
+{
     let rows = specification_rows(
         setting.alloc,
         setting.names,
@@ -75,7 +84,7 @@ fn rows_found<N: Names, S: Store>(
         meter,
     )?;
     if rows.is_empty() {
-        return Err(Fault::Status(Status::NoData));
+        return Err(Fault::Status(Failure::NoData));
     }
     Ok(rows)
 }
@@ -86,7 +95,9 @@ fn stored_rows(
     table: &BaseTable,
     columns: &[usize],
     rows: &[Row],
-) -> Result<Vec<Row>, Fault> {
+) -> Result<Vec<Row>, Fault>
+    ensures { IfOk result (λ stored. vec_len stored ≡ length rows.now) }
+{
     let mut stored = Vec::new(alloc);
     for row in rows {
         stored.push(stored_row(alloc, table, columns, row.as_slice())?)?;
@@ -114,7 +125,10 @@ fn completed_rows<N: Names, S: Store>(
     table: &BaseTable,
     columns: &[usize],
     given: &[Row],
-) -> Result<Vec<Change>, Fault> {
+) -> Result<Vec<Change>, Fault>
+    ensures insertions { IfOk result (λ changes. are_insertions changes.items ≡ true) }
+    ensures length { IfOk result (λ changes. vec_len changes ≡ length given.now) }
+{
     let mut changes = Vec::new(setting.alloc);
     for values in given {
         let row = new_row(setting, table, columns, values.as_slice())?;

@@ -1,6 +1,8 @@
 //! Values as the columns of a base table store them (ISO/IEC 9075:1992, 9.2).
 
-ghost use Rattle.std.specs.Prelude.{◌≡◌, IsTrue};
+ghost use Rattle.std.specs.Prelude.{◌≡◌, ◌↔◌, IsTrue};
+ghost use Rattle.sq_meaning.specs.Assignment as spec;
+ghost use Rattle.sq_query.specs.Fault.{Meets};
 ghost use Rattle.sq_value.specs.Domain.{FitsKind, IsDomain, is_of_numbers};
 
 use crate::setting::Setting;
@@ -36,7 +38,10 @@ pub(crate) fn assigned_to(
 }
 
 /// A value as a domain stores it.
-pub fn assigned(alloc: Global, domain: Domain, value: &Value) -> Result<Value, Fault> {
+#[tactic(auto, using(crate::proofs::Stored::ok_meets, crate::proofs::Stored::err_meets))]
+pub fn assigned(alloc: Global, domain: Domain, value: &Value) -> Result<Value, Fault>
+    ensures { IsDomain domain → FitsKind domain value.now → Meets result (spec.assigned domain value.now) }
+{
     if !is_domain(domain) || !fits_kind(domain, value) {
         return Err(Fault::NOT_WELL_FORMED);
     }
@@ -48,7 +53,7 @@ pub fn assigned(alloc: Global, domain: Domain, value: &Value) -> Result<Value, F
 
 /// Whether a precision, scale or length is in its range.
 pub fn is_domain(domain: Domain) -> bool
-    ensures { IsTrue result → IsDomain domain }
+    ensures { IsTrue result ↔ IsDomain domain }
 {
     match domain {
         Domain::Small | Domain::Int => true,
@@ -61,7 +66,7 @@ pub fn is_domain(domain: Domain) -> bool
 
 /// Whether the value is null, a number for a domain of numbers, or a text for one of texts.
 pub fn fits_kind(domain: Domain, value: &Value) -> bool
-    ensures { IsTrue result → FitsKind domain value.now }
+    ensures { IsTrue result ↔ FitsKind domain value.now }
 {
     match value {
         Value::Null => true,

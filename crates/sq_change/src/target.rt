@@ -1,19 +1,22 @@
 //! The rows that UPDATE and DELETE change (ISO/IEC 9075:1992, 13.6, 13.7, 13.9 and 13.10).
 
-ghost use Rattle.std.specs.Prelude.{◌<◌, length};
+ghost use Rattle.std.specs.Prelude.{◌≡◌, ◌<◌, ◌∷◌, [], length, map, true, IfOk};
+ghost use Rattle.sq_change.specs.Changed.{are_replacements};
+ghost use Rattle.sq_change.specs.Statement.{Chosen, IsGiven, base_of};
 
 use crate::setting::Setting;
 use crate::storing::stored_value;
 use sq_bound::{BaseTable, BoundAssignment, ChangeTarget, Names, TablePlace};
 use sq_items::Items;
-use sq_meaning::Status;
-use sq_query::{Fault, numbers_of};
+use sq_query::{Failure, Fault, numbers_of};
 use sq_store::{Change, Meter, Store};
-use sq_value::{Row, copy_row};
+use sq_value::{Row, Value, copy_row};
 use std::alloc::Global;
 
 /// The table that a statement names, and the place of the base table under it.
-pub(crate) fn changed_table(target: &ChangeTarget) -> (TablePlace, usize) {
+pub(crate) fn changed_table(target: &ChangeTarget) -> (TablePlace, usize)
+    ensures { result.1 ≡ base_of target.now }
+{
     match target {
         ChangeTarget::Searched(target) => (target.table, target.base),
         ChangeTarget::Positioned(target) => (target.table, target.base),
@@ -27,7 +30,10 @@ pub(crate) fn numbers_changed<N: Names, S: Store>(
     target: &ChangeTarget,
     on: Option<u64>,
     meter: &mut Meter,
-) -> Result<Vec<u64>, Fault> {
+) -> Result<Vec<u64>, Fault>
+    requires { IsGiven target.now on }
+    ensures { IfOk result (λ numbers. Chosen target.now on numbers.items) }
+{
     match target {
         ChangeTarget::Searched(target) => {
             let numbers = numbers_of(
@@ -39,19 +45,21 @@ pub(crate) fn numbers_changed<N: Names, S: Store>(
                 meter,
             )?;
             if numbers.is_empty() {
-                return Err(Fault::Status(Status::NoData));
+                return Err(Fault::Status(Failure::NoData));
             }
             Ok(numbers)
         }
-        ChangeTarget::Positioned(_) => only(setting.alloc, on),
+        ChangeTarget::Positioned(_) => match on {
+            Some(number) => only(setting.alloc, number),
+            None => unreachable!(),
+        },
     }
 }
 
 /// The number of the row that a cursor is on.
-fn only(alloc: Global, on: Option<u64>) -> Result<Vec<u64>, Fault> {
-    let Some(number) = on else {
-        return Err(Fault::NOT_WELL_FORMED);
-    };
+fn only(alloc: Global, number: u64) -> Result<Vec<u64>, Fault>
+    ensures { IfOk result (λ numbers. numbers.items ≡ number ∷ []) }
+{
     let mut numbers = Vec::new(alloc);
     numbers.push(number)?;
     Ok(numbers)
@@ -66,6 +74,7 @@ pub(crate) fn replaced<N: Names, S: Store>(
     numbers: &[u64],
 ) -> Result<Vec<Change>, Fault>
     requires { place < length (S.content_now setting.now.store.now) }
+    ensures { IfOk result (λ changes. are_replacements numbers.now changes.items ≡ true) }
 {
     let mut changes = Vec::new(setting.alloc);
     let mut meter = Meter::new();
@@ -87,23 +96,39 @@ fn updated_row<N: Names, S: Store>(
 ) -> Result<Row, Fault> {
     let mut updated = copy_row(setting.alloc, row.as_slice())?.into_vec();
     for assignment in assignments {
-        let column = assignment.column;
-        let value = stored_value(setting, table, column, &assignment.value, Some(row))?;
-        match updated.get_mut(column) {
-            Some(place) => *place = value,
-            None => return Err(Fault::NOT_WELL_FORMED),
-        }
+        assign(setting, table, assignment, row, updated.as_mut_slice())?;
     }
     Ok(Items::from_vec(updated))
 }
 
-/// The removal of the rows under these numbers.
-pub(crate) fn removed(alloc: Global, numbers: &[u64]) -> Result<Vec<Change>, Fault> {
-    let mut changes = Vec::new(alloc);
-    for number in numbers {
-        changes.push(Change::Remove(*number))?;
+/// Performs a set clause on a copy of the row.
+fn assign<N: Names, S: Store>(
+    setting: &Setting<'_, N, S>,
+    table: &BaseTable,
+    assignment: &BoundAssignment,
+    row: &Row,
+    updated: &mut [Value],
+) -> Result<(), Fault> {
+    let column = assignment.column;
+    let value = stored_value(setting, table, column, &assignment.value, Some(row))?;
+    if column >= updated.len() {
+        drop(value);
+        return Err(Fault::NOT_WELL_FORMED);
     }
-    Ok(changes)
+    updated[column] = value;
+    Ok(())
+}
+
+/// The removal of the rows under these numbers.
+pub(crate) fn removed(alloc: Global, numbers: &[u64]) -> Result<Vec<Change>, Fault>
+    ensures { IfOk result (λ changes. changes.items ≡ map Change.Remove numbers.now) }
+{
+    Ok(
+        numbers
+            .iter()
+            .map(|number| Change::Remove(*number))
+            .collect(alloc)?,
+    )
 }
 
 /// The keys of which rows lose their values where a set clause assigns a column of them.

@@ -9,5 +9,5 @@ mod program;
 mod refusal;
 
 pub use admission::admit;
-pub use program::{BoundProcedure, DeclaredCursor, Program};
+pub use program::{BoundProcedure, DeclaredCursor, ProcedureName, Program};
 pub use refusal::{ModuleRefusal, ModuleRefusalName, SessionFault};

@@ -17,8 +17,8 @@ pub struct BoundProcedure {
     /// The user of its module.
     pub user: Name,
     pub parameters: Items<ParameterDesc>,
-    /// None where it has a fault: each call answers 42000.
-    pub statement: Option<BoundStatement>,
+    /// One with a fault answers 42000 at each call.
+    pub statement: Result<BoundStatement, BindFault>,
 }
 
 /// A cursor of a module.
@@ -31,16 +31,15 @@ pub struct DeclaredCursor {
 
 /// A procedure's module, and its name there.
 #[derive(Clone, Copy, Debug, PartialEq, Eq, Hash)]
-struct ProcedureName {
-    module: Name,
-    name: Name,
+pub struct ProcedureName {
+    pub module: Name,
+    pub name: Name,
 }
 
 /// The procedures and cursors of all modules. Cursors with a fault are left out.
 #[derive(Drop)]
 pub struct Program {
-    pub procedures: Vec<BoundProcedure>,
-    names: IndexMap<ProcedureName, usize>,
+    pub procedures: IndexMap<ProcedureName, BoundProcedure>,
     pub cursors: Vec<DeclaredCursor>,
 }
 
@@ -72,19 +71,13 @@ impl Program {
         modules: &[ModuleText],
     ) -> Result<Program, AllocError> {
         let mut program = Program {
-            procedures: Vec::new(alloc),
-            names: IndexMap::new(alloc),
+            procedures: IndexMap::new(alloc),
             cursors: Vec::new(alloc),
         };
         for module in modules {
             program.add_module(alloc, catalog, module)?;
         }
         Ok(program)
-    }
-
-    /// The number of a procedure.
-    pub fn number(&self, module: Name, name: Name) -> Option<usize> {
-        self.names.get(&ProcedureName { module, name }).copied()
     }
 
     fn add_module(
@@ -173,39 +166,30 @@ impl Program {
             &cursors,
             &procedure.statement,
         );
-        self.push_procedure(user, parameters, bound)?;
-        self.name_last(module.name, procedure.name)
+        let name = ProcedureName {
+            module: module.name,
+            name: procedure.name,
+        };
+        self.insert_procedure(name, user, parameters, bound)
     }
 
-    fn push_procedure(
+    fn insert_procedure(
         &mut self,
+        name: ProcedureName,
         user: Name,
         parameters: Items<ParameterDesc>,
-        bound: Result<BoundStatement, BindFault>,
+        statement: Result<BoundStatement, BindFault>,
     ) -> Result<(), AllocError> {
-        let statement = match without_fault(bound) {
-            Ok(statement) => statement,
-            Err(fault) => {
-                drop(parameters);
-                return Err(fault);
-            }
-        };
-        self.procedures.push(BoundProcedure {
+        if let Err(BindFault::NoMemory) = &statement {
+            drop((parameters, statement));
+            return Err(AllocError);
+        }
+        let procedure = BoundProcedure {
             user,
             parameters,
             statement,
-        })?;
-        Ok(())
-    }
-
-    /// Gives the last procedure its name.
-    fn name_last(&mut self, module: Name, name: Name) -> Result<(), AllocError> {
-        let number = self.procedures.len().saturating_sub(1);
-        named(
-            self.names
-                .insert(ProcedureName { module, name }, number)
-                .is_ok(),
-        )
+        };
+        named(self.procedures.insert(name, procedure).is_ok())
     }
 }
 

@@ -3,6 +3,7 @@
 use crate::findings::{Findings, Found};
 use crate::kinds::{is_number, operation_kind, set_function_kind};
 use crate::literal::{number_value, text_value};
+use crate::parts::both;
 use crate::scope::{Environment, FoundColumn};
 use sq_bound::{
     Aggregate, BindFault, BoundExpr, Input, Operation, Operator, ParameterDesc, Place,
@@ -205,7 +206,7 @@ fn column_value(environment: &Environment, reference: &ColumnReference) -> ExprR
     let found = environment.column(reference)?;
     let place = found.place;
     if place.depth > 0 && !found.is_grouped {
-        return Err(BindFault::NotGrouped);
+        return Err(BindFault::UngroupedColumn);
     }
     Ok(Found {
         part: Typed {
@@ -250,17 +251,8 @@ fn signed(alloc: Global, sign: Sign, operand: ExprResult) -> ExprResult {
 
 /// Two operands and the operator between them.
 fn operation(alloc: Global, left: ExprResult, operator: Operator, right: ExprResult) -> ExprResult {
-    match (left, right) {
-        (Ok(left), Ok(right)) => operated(alloc, left, operator, right),
-        (Ok(left), Err(fault)) => {
-            drop(left);
-            Err(fault)
-        }
-        (Err(fault), right) => {
-            drop(right);
-            Err(fault)
-        }
-    }
+    let (left, right) = both(left, right)?;
+    operated(alloc, left, operator, right)
 }
 
 fn operated(

@@ -41,10 +41,10 @@ fn number_kind(left: u8, operator: Operator, right: u8) -> Result<Kind, BindFaul
         Operator::Plus | Operator::Minus => Ok(Kind::Num(greater)),
         Operator::Times => match left.checked_add(right) {
             Some(scale) if scale <= 18 => Ok(Kind::Num(scale)),
-            _ => Err(BindFault::TooWide),
+            _ => Err(BindFault::LimitExceeded),
         },
         Operator::Over if greater as u16 + right as u16 > 18 + left as u16 => {
-            Err(BindFault::TooWide)
+            Err(BindFault::LimitExceeded)
         }
         Operator::Over => Ok(Kind::Num(greater)),
     }

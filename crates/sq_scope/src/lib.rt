@@ -6,6 +6,7 @@ mod expression;
 mod findings;
 mod kinds;
 mod literal;
+mod parts;
 mod scope;
 
 pub use expression::{
@@ -14,4 +15,5 @@ pub use expression::{
 pub use findings::{Findings, Found};
 pub use kinds::{must_agree, must_be_text, union_kind};
 pub use literal::{is_whole, number_value, signed_value, text_value};
+pub use parts::{both, kept};
 pub use scope::{Environment, FoundColumn, FromItem, ItemColumn, is_exposed, item_over};

@@ -1,7 +1,6 @@
 //! Literals as values.
 
-ghost use Rattle.std.specs.Prelude.{IsTrue, OnOk, length, ◌≤◌};
-ghost use Rattle.sq_value.specs.Text.{IsText};
+ghost use Rattle.std.specs.Prelude.{OnOk, length, ◌≤◌};
 
 use sq_bound::BindFault;
 use sq_lex::Number;
@@ -30,17 +29,10 @@ pub fn signed_value(signed: SignedNumber) -> Result<Decimal, BindFault> {
 pub fn text_value(alloc: Global, characters: &[u8]) -> Result<Value, BindFault>
     ensures { OnOk result (length characters.now ≤ 240) }
 {
-    if !is_text(characters) {
+    if !Text::is_text(characters) {
         return Err(BindFault::BadLiteral);
     }
     Ok(Value::Chars(Text::new(alloc, characters)?))
-}
-
-/// Whether there are at most 240 codes, each from 32 to 126.
-fn is_text(codes: &[u8]) -> bool
-    ensures { IsTrue result → IsText codes.now }
-{
-    codes.len() <= 240 && codes.iter().all(|code| 32 <= *code && *code <= 126)
 }
 
 /// Whether a number is written without a point.

@@ -7,5 +7,5 @@ mod predicate;
 mod select;
 
 pub use condition::{CondResult, bind_cond, bind_select};
-pub use predicate::{SubqueryResult, both, kept};
+pub use predicate::SubqueryResult;
 pub use select::{SelectedList, correlation_of, named_table, select_list};

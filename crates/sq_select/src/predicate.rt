@@ -3,8 +3,8 @@
 use sq_bound::{BindFault, BoundExpr, BoundSpecification, Compared, Predicate};
 use sq_items::{Boxed, Items};
 use sq_scope::{
-    Environment, ExprResult, Findings, Found, SetFunctions, Typed, bind_expr, must_agree,
-    must_be_text,
+    Environment, ExprResult, Findings, Found, SetFunctions, Typed, bind_expr, both, kept,
+    must_agree, must_be_text,
 };
 use sq_tree::{CommaList, Comparison, Expr, Quantifier};
 use sq_value::Kind;
@@ -15,35 +15,6 @@ pub type PredicateResult = Result<Found<Predicate>, BindFault>;
 
 /// What binding a subquery answers.
 pub type SubqueryResult = Result<Found<BoundSpecification>, BindFault>;
-
-/// Two parts that must both be bound. The fault of the first is answered first.
-pub fn both<T: Drop, U: Drop>(
-    left: Result<T, BindFault>,
-    right: Result<U, BindFault>,
-) -> Result<(T, U), BindFault> {
-    match (left, right) {
-        (Ok(left), Ok(right)) => Ok((left, right)),
-        (Ok(left), Err(fault)) => {
-            drop(left);
-            Err(fault)
-        }
-        (Err(fault), right) => {
-            drop(right);
-            Err(fault)
-        }
-    }
-}
-
-/// A part that was bound, if what was looked at beside it is in order.
-pub fn kept<T: Drop>(part: T, test: Result<(), BindFault>) -> Result<T, BindFault> {
-    match test {
-        Ok(()) => Ok(part),
-        Err(fault) => {
-            drop(part);
-            Err(fault)
-        }
-    }
-}
 
 /// Two expressions whose kinds must agree.
 fn agreeing(

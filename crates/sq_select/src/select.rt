@@ -1,6 +1,6 @@
 //! The parts of a query specification: FROM items, grouping columns, select lists (ISO/IEC 9075:1992, 7.4, 7.7, 7.9).
 
-use crate::predicate::{SubqueryResult, both, kept};
+use crate::predicate::SubqueryResult;
 use sq_bound::{
     Action, BindFault, BoundCond, BoundExpr, BoundSpecification, Grouping, Names, Place,
     ResultColumn, TableDesc, TablePlace,
@@ -8,8 +8,8 @@ use sq_bound::{
 use sq_items::Items;
 use sq_lex::Name;
 use sq_scope::{
-    Environment, ExprResult, Findings, Found, FromItem, SetFunctions, bind_expr, column_findings,
-    is_exposed, item_over,
+    Environment, ExprResult, Findings, Found, FromItem, SetFunctions, bind_expr, both,
+    column_findings, is_exposed, item_over, kept,
 };
 use sq_tree::{ColumnReference, CommaList, Expr, Primary, SelectList, TableName, TableReference};
 use sq_value::Kind;
@@ -83,7 +83,7 @@ pub fn from_clause<N: Names>(
     list: &CommaList<TableReference>,
 ) -> Result<FromClause, BindFault> {
     if list.rest.len() >= MOST_ITEMS {
-        return Err(BindFault::TooWide);
+        return Err(BindFault::LimitExceeded);
     }
     let mut clause = FromClause {
         items: Items::new(environment.alloc),
@@ -249,7 +249,7 @@ fn push_column(
 ) -> Result<(), BindFault> {
     if selected.columns.len() >= MOST_COLUMNS {
         drop(expr);
-        return Err(BindFault::TooWide);
+        return Err(BindFault::LimitExceeded);
     }
     selected.exprs.push(expr)?;
     selected.columns.push(ResultColumn { name, kind })?;
@@ -363,7 +363,7 @@ impl Parts {
             return Err(BindFault::CountMismatch);
         }
         if self.selected.findings.has_ungrouped || self.having.findings.has_ungrouped {
-            return Err(BindFault::NotGrouped);
+            return Err(BindFault::UngroupedColumn);
         }
         Ok(())
     }

@@ -1,8 +1,8 @@
 -- A call that ends with another status than success leaves the tables as they were.
 use Rattle.std.proofs.Common.{◌≡◌, ℕ, Bool, true, false, Option, Some, None, slice_get, ap, subst}
-use Rattle.sq_session.specs.Kind.{Kind}
+use Rattle.sq_session.specs.Kind.{Fetching, Kind}
 use Rattle.sq_session.specs.State.{State, committed_state, is_open, rolled_back}
-use Rattle.sq_session.specs.Step.{ChangesIf, DeletesIf, Ends, MayCall, MayClose, MayCloseIf, MayDeleteAt, MayFetch, MayFetchIf, MayOpen, MayOpenIf, MayStep, MayUpdateAt, OpensIf, UpdatesIf, is_on_row, is_success}
+use Rattle.sq_session.specs.Step.{ChangesIf, DeletesIf, Ends, MayCall, MayClose, MayCloseIf, MayDeleteAt, MayFetch, MayFetchIf, MayOpen, MayOpenIf, MayStep, MayUpdateAt, MovesIf, OpensIf, UpdatesIf, is_on_row, is_refused, is_success}
 use Rattle.sq_session.specs.declared.cursor.CursorState.{CursorState}
 use Rattle.sq_session.specs.declared.reply.Done.{Done}
 
@@ -15,7 +15,7 @@ same b a h = ap (λ s. s.tables) h
 -- ---- cursors
 
 opens_if : (s : Bool) (n : ℕ) (b a : State) → OpensIf s n b a → Kept b a
-opens_if true n b a h = h.0
+opens_if true n b a h = h.0.0
 opens_if false n b a h = same b a h
 
 open_if : (o : Bool) (n : ℕ) (b : State) (d : Done) (a : State) → MayOpenIf o n b d a → Kept b a
@@ -26,13 +26,17 @@ may_open : (o : Option CursorState) (n : ℕ) (b : State) (d : Done) (a : State)
 may_open None n b d a h = same b a h.1
 may_open (Some c) n b d a h = open_if (is_open c) n b d a h
 
-fetch_if : (o : Bool) (n : ℕ) (b : State) (d : Done) (a : State) → MayFetchIf o n b d a → Kept b a
-fetch_if true n b d a h = h.0.0
-fetch_if false n b d a h = same b a h.1
+moves_if : (r : Bool) (f : Fetching) (b : State) (d : Done) (a : State) → MovesIf r f b d a → Kept b a
+moves_if true f b d a h = same b a h.1
+moves_if false f b d a h = h.0.0
 
-may_fetch : (o : Option CursorState) (n : ℕ) (b : State) (d : Done) (a : State) → MayFetch o n b d a → Kept b a
-may_fetch None n b d a h = same b a h.1
-may_fetch (Some c) n b d a h = fetch_if (is_open c) n b d a h
+fetch_if : (o : Bool) (f : Fetching) (b : State) (d : Done) (a : State) → MayFetchIf o f b d a → Kept b a
+fetch_if true f b d a h = moves_if (is_refused d.status) f b d a h
+fetch_if false f b d a h = same b a h.1
+
+may_fetch : (o : Option CursorState) (f : Fetching) (b : State) (d : Done) (a : State) → MayFetch o f b d a → Kept b a
+may_fetch None f b d a h = same b a h.1
+may_fetch (Some c) f b d a h = fetch_if (is_open c) f b d a h
 
 close_if : (o : Bool) (n : ℕ) (b : State) (d : Done) (a : State) → MayCloseIf o n b d a → Kept b a
 close_if true n b d a h = ap (λ s. s.tables) h.1
@@ -71,9 +75,9 @@ ends w b d a h e = let k : true ≡ false = subst (λ x. is_success x.status ≡
 
 step : (k : Kind) (b : State) (d : Done) (a : State) → MayStep k b d a → is_success d.status ≡ false → Kept b a
 step (Kind.opens n) b d a h e = may_open (slice_get b.cursors n) n b d a h
-step (Kind.fetches n) b d a h e = may_fetch (slice_get b.cursors n) n b d a h
+step (Kind.fetches f) b d a h e = may_fetch (slice_get b.cursors f.cursor) f b d a h
 step (Kind.closes n) b d a h e = may_close (slice_get b.cursors n) n b d a h
-step Kind.selects b d a h e = same b a h
+step (Kind.selects names) b d a h e = same b a h.0
 step Kind.changes b d a h e = changes_if (is_success d.status) b a h.1 e
 step Kind.updates b d a h e = updates_if (is_success d.status) b a h.1 e
 step (Kind.updates_at p) b d a h e = update_at (is_on_row b p) b d a h e

@@ -1,9 +1,10 @@
 -- A walk over a table by rising numbers.
-use Rattle.std.proofs.Common.{◌≡◌, ℕ, ◌+◌, ◌<◌, ◌≤◌, Bool, true, false, nat_le, List, [], ◌∷◌, arith, refl, Some, None, find, filter, subst}
+use Rattle.std.proofs.Common.{◌≡◌, ℕ, ◌+◌, ◌<◌, ◌≤◌, Bool, true, false, nat_eq, nat_le, List, [], ◌∷◌, arith, refl, is_some, Some, None, find, filter, subst}
 use Rattle.std.proofs.lemmas.Grind.{common_steps}
 use Rattle.sq_store.specs.declared.table.Numbered.{Numbered}
 use Rattle.sq_store.specs.Content.{Content, first_from, table_at}
 use Rattle.sq_store.specs.Rising.{rising_between, all_rising}
+use Rattle.sq_session.specs.State.{is_there}
 use Rattle.sq_store.proofs.Rises.{rows_rise_at, next_at}
 
 -- the rows at or after a number
@@ -54,6 +55,13 @@ found_from number (r ∷ rs) f e = found_by number r f rs (number ≤ f.number) 
     (λ t q. rw (← q) (grind (arith, common_steps)))
     (λ t k. found_from number rs f k)
 
+-- what is found by a number or more is found by its own number
+there_by : (number : ℕ) (rs : List Numbered) (f : Numbered) → find (λ r. nat_le number r.number) rs ≡ Some f → is_some (find (λ r. nat_eq r.number f.number) rs) ≡ true
+there_by number [] f e = cc
+there_by number (r ∷ rs) f e = found_by number r f rs (is_some (find (λ x. nat_eq x.number f.number) (r ∷ rs)) ≡ true) e
+    (λ t q. rw (← q) (grind (arith, common_steps)))
+    (λ t k. let ih : is_some (find (λ x. nat_eq x.number f.number) rs) ≡ true = there_by number rs f k in grind (arith, common_steps, ih))
+
 rows_from_next : (low number : ℕ) (rs : List Numbered) (next : ℕ) (f : Numbered) → rising_between low rs next ≡ true → find (λ r. nat_le number r.number) rs ≡ Some f
     → rows_from number rs ≡ f ∷ rows_from (f.number + 1) rs
 rows_from_next low number [] next f h e = cc
@@ -75,6 +83,10 @@ walked_below row_numbers content table number f h e =
     let t = table_at content table in
     let below : f.number < t.next = found_below 1 number t.rows t.next f (rows_rise_at row_numbers content table h) e in
     omega (arith, below, next_at row_numbers content table h)
+
+-- what is found from a number is there
+pub found_there : (content : Content) (table number : ℕ) (f : Numbered) → first_from (table_at content table) number ≡ Some f → is_there (table_at content table) f.number ≡ true
+found_there content table number f e = there_by number (table_at content table).rows f e
 
 -- what is found from a number is not before it
 pub found_behind : (content : Content) (table number : ℕ) (f : Numbered) → first_from (table_at content table) number ≡ Some f → number ≤ f.number

@@ -1,13 +1,33 @@
 -- A session.
-use Rattle.std.specs.Prelude.{List, map, Option, option_map}
-use Rattle.sq_session.specs.Kind.{Kind, kind_of}
-use Rattle.sq_session.specs.State.{State}
+use Rattle.std.specs.Prelude.{ℕ, Bool, ◌&&◌, List, map, nat_eq, position, Option}
+use Rattle.std.specs.Cmp.Lexicographic.{pointwise}
+use Rattle.std.specs.Result.{result_map_both}
+use Rattle.sq_lex.specs.declared.name.Name.{Name}
+use Rattle.sq_catalog.specs.declared.catalog.FullName.{FullName}
 use Rattle.sq_module.specs.declared.program.BoundProcedure.{BoundProcedure}
+use Rattle.sq_module.specs.declared.program.ProcedureName.{ProcedureName}
+use Rattle.sq_session.specs.Kind.{Procedure, kind_of}
+use Rattle.sq_session.specs.State.{State}
 
--- what the statement of each procedure is, none where it has a fault; and what calls work on
+-- the procedures and the base tables, each at its number, and what calls work on
 pub record Session : Type 0 where
-  pub procedures : List (Option Kind)
+  pub procedures : List Procedure
+  pub tables : List FullName
   pub state : State
 
-abbrev pub kinds_of : List BoundProcedure → List (Option Kind)
-kinds_of procedures = map (λ p. option_map kind_of p.statement) procedures
+-- ---- what names mean
+
+abbrev pub is_procedure : Name → Name → Procedure → Bool
+is_procedure «module» name p = pointwise nat_eq «module» p.«module» && pointwise nat_eq name p.name
+
+-- the number of the procedure of this module and name
+abbrev pub procedure_number : List Procedure → Name → Name → Option ℕ
+procedure_number procedures «module» name = position (is_procedure «module» name) procedures
+
+-- ---- the procedures of a program
+
+abbrev pub procedure_of : ProcedureName × BoundProcedure → Procedure
+procedure_of p = record { «module» = p.0.«module»; name = p.0.name; statement = result_map_both (kind_of p.1.parameters) (λ f. f) p.1.statement }
+
+abbrev pub procedures_of : List (ProcedureName × BoundProcedure) → List Procedure
+procedures_of procedures = map procedure_of procedures

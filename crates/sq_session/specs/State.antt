@@ -1,8 +1,11 @@
 -- What calls work on (ISO/IEC 9075:1992, 4.21 and 4.28).
-use Rattle.std.specs.Prelude.{◌≡◌, ℕ, Bool, true, false, List, map, slice_index_or, slice_set, Option, None}
-use Rattle.sq_store.specs.Content.{Content}
+use Rattle.std.specs.Prelude.{◌≡◌, ℕ, ◌+◌, min, Bool, true, false, List, drop, is_some, length, map, slice_get, slice_index_or, slice_set, Option, None}
+use Rattle.std.specs.List.{position_or_len}
+use Rattle.sq_store.specs.declared.table.Table.{Table}
+use Rattle.sq_store.specs.Content.{Content, row_at}
 use Rattle.sq_session.specs.declared.cursor.CursorState.{CursorState}
 use Rattle.sq_session.specs.declared.cursor.CursorState.TheVariants as cursor
+use Rattle.sq_session.specs.declared.cursor.NumbersCursor.{NumbersCursor}
 
 -- the tables now, the tables at the last COMMIT, and a cursor for each that a module declares
 pub record State : Type 0 where
@@ -44,6 +47,24 @@ number_on cursor.Closed = None
 number_on (cursor.Numbers c) = c.on
 number_on (cursor.Walking c) = c.on
 number_on (cursor.Rows c) = None
+
+-- ---- the rows of cursors
+
+-- whether there is a row under a number now
+abbrev pub is_there : Table → ℕ → Bool
+is_there t number = is_some (row_at t number)
+
+-- the numbers that are left to a cursor
+abbrev pub left : NumbersCursor → List ℕ
+left c = drop c.passed c.numbers
+
+-- how many of them come before the first under which there is a row now
+abbrev pub gone : Table → NumbersCursor → ℕ
+gone t c = position_or_len (is_there t) (left c)
+
+-- on that number, if there is one; those before it are passed for good
+abbrev pub next_number : Table → NumbersCursor → NumbersCursor
+next_number t c = record c { passed = min (length c.numbers) (c.passed + gone t c + 1); on = slice_get (left c) (gone t c) }
 
 -- ---- COMMIT and ROLLBACK (14.3, 14.4) close all cursors
 

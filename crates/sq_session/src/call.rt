@@ -3,7 +3,7 @@
 ghost use Rattle.std.specs.Prelude.{◌≡◌, false, IfOk, IfSome, IsSome, None, OnErr, Some, true};
 ghost use Rattle.sq_query.specs.declared.fault.Fault.TheVariants as fault;
 ghost use Rattle.sq_session.specs.Kind.{kind_at, kind_of, needs_memory, takes_memory};
-ghost use Rattle.sq_session.specs.Session.{kinds_of};
+ghost use Rattle.sq_session.specs.Session.{procedures_of};
 ghost use Rattle.sq_session.specs.Step.{MayCall, MayStep, ending};
 
 use crate::called::Called;
@@ -29,19 +29,41 @@ pub(crate) fn call<S: Store>(
     meter: &mut Meter,
 ) -> Result<Done, Fault>
     ensures step { IfSome (ending result) (λ d.
-        MayCall (kind_at (kinds_of program.now.procedures.items) procedure) machine.old d machine.new) }
+        MayCall (kind_at (procedures_of program.now.procedures.entries) procedure) machine.old d machine.new) }
     ensures err { OnErr result (machine.new ≡ machine.old) }
-    ensures memory { needs_memory (kind_at (kinds_of program.now.procedures.items) procedure) ≡ false → IsSome (ending result) }
+    ensures memory { needs_memory (kind_at (procedures_of program.now.procedures.entries) procedure) ≡ false → IsSome (ending result) }
 {
-    let Some(procedure) = program.procedures.get(procedure) else {
+    let Some((_, procedure)) = program.procedures.get_index(procedure) else {
         return Err(Fault::NOT_WELL_FORMED);
     };
     match &procedure.statement {
-        None => Err(Fault::NOT_WELL_FORMED),
-        Some(BoundStatement::Close(cursor)) => machine.close(alloc, *cursor),
-        Some(BoundStatement::Commit) => Ok(machine.commit(alloc)),
-        Some(BoundStatement::Rollback) => Ok(machine.rollback(alloc)),
-        Some(statement) => with_values(
+        Ok(statement) => performed(
+            alloc, catalog, program, procedure, statement, values, machine, meter,
+        ),
+        Err(_) => Err(Fault::NOT_WELL_FORMED),
+    }
+}
+
+/// Performs a statement of a procedure.
+fn performed<S: Store>(
+    alloc: Global,
+    catalog: &Catalog,
+    program: &Program,
+    procedure: &BoundProcedure,
+    statement: &BoundStatement,
+    values: &[Value],
+    machine: &mut Machine<S>,
+    meter: &mut Meter,
+) -> Result<Done, Fault>
+    ensures step { IfSome (ending result) (λ d. MayStep (kind_of procedure.now.parameters statement.now) machine.old d machine.new) }
+    ensures err { OnErr result (machine.new ≡ machine.old) }
+    ensures memory { takes_memory (kind_of procedure.now.parameters statement.now) ≡ false → IsSome (ending result) }
+{
+    match statement {
+        BoundStatement::Close(cursor) => machine.close(alloc, *cursor),
+        BoundStatement::Commit => Ok(machine.commit(alloc)),
+        BoundStatement::Rollback => Ok(machine.rollback(alloc)),
+        _ => with_values(
             alloc, catalog, program, procedure, statement, values, machine, meter,
         ),
     }
@@ -58,8 +80,8 @@ fn with_values<S: Store>(
     machine: &mut Machine<S>,
     meter: &mut Meter,
 ) -> Result<Done, Fault>
-    requires { takes_memory (kind_of statement.now) ≡ true }
-    ensures step { IfSome (ending result) (λ d. MayStep (kind_of statement.now) machine.old d machine.new) }
+    requires { takes_memory (kind_of procedure.now.parameters statement.now) ≡ true }
+    ensures step { IfSome (ending result) (λ d. MayStep (kind_of procedure.now.parameters statement.now) machine.old d machine.new) }
     ensures err { OnErr result (machine.new ≡ machine.old) }
 {
     let values = started_values(alloc, procedure.parameters.as_slice(), values)?;
@@ -93,7 +115,7 @@ pub(crate) fn reply_of(
 {
     let Done { status, outputs } = match ended {
         Ok(done) => done,
-        Err(Fault::Status(status)) => Done::without_outputs(alloc, status),
+        Err(Fault::Status(failure)) => Done::without_outputs(alloc, failure.status()),
         Err(Fault::NoMemory) => return Err(AllocError),
     };
     Ok(Reply {

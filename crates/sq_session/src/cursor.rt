@@ -1,7 +1,10 @@
 //! Cursors, and the place that a FETCH reaches (ISO/IEC 9075:1992, 4.21, 13.2 and 13.3).
 
-ghost use Rattle.std.specs.Prelude.{◌≡◌, IfOk, true};
-ghost use Rattle.sq_session.specs.State.{is_open, number_on};
+ghost use Rattle.std.specs.Prelude.{◌≡◌, ◌<◌, ◌^◌, IfErr, IfOk, length, MatchOption, None, Some, option_copied};
+ghost use Rattle.sq_model.specs.Cursor.{bounded, row_at as row_of};
+ghost use Rattle.sq_store.specs.Content.{table_at};
+ghost use Rattle.sq_session.specs.State.{next_number, number_on};
+ghost use Rattle.sq_session.specs.Step.{IsBeforeFirst, IsNumber, IsReached, IsWanted, Refusal};
 
 use crate::called::Called;
 use crate::walk::{WalkingCursor, started_walk};
@@ -23,9 +26,11 @@ pub enum CursorState {
     Rows(RowsCursor),
 }
 
-/// A cursor over the rows under some numbers.
+/// A cursor over the rows of a base table under some numbers.
 #[derive(Drop)]
 pub struct NumbersCursor {
+    /// The place of the base table.
+    pub table: usize,
     pub numbers: Items<u64>,
     /// How many of them are passed.
     pub passed: usize,
@@ -59,7 +64,7 @@ pub(crate) fn opened<S: Store>(
     store: &S,
     meter: &mut Meter,
 ) -> Result<CursorState, Fault>
-    ensures { IfOk result (λ c. is_open c ≡ true) }
+    ensures { IfOk result IsBeforeFirst }
 {
     match &cursor.body {
         CursorBody::Rows(query, order) => {
@@ -90,6 +95,7 @@ pub(crate) fn opened<S: Store>(
                 meter,
             )?;
             Ok(CursorState::Numbers(NumbersCursor {
+                table: updatable.target.base,
                 numbers: Items::from_vec(numbers),
                 passed: 0,
                 on: None,
@@ -98,44 +104,68 @@ pub(crate) fn opened<S: Store>(
     }
 }
 
-/// The place that a fetch orientation means, from a place among so many rows. None is before 0 or behind the last by more
-/// than one.
-pub(crate) fn place_wanted(
+/// The place that a fetch orientation reaches, from a place among so many rows.
+pub(crate) fn place_reached(
     orientation: FetchOrientation,
     values: &[Value],
     count: usize,
     place: usize,
-) -> Result<usize, Fault> {
-    let behind = count as i128 + 1;
-    let wanted = match orientation {
-        FetchOrientation::Next => place as i128 + 1,
-        FetchOrientation::Prior => place as i128 - 1,
-        FetchOrientation::First => 1,
-        FetchOrientation::Last => count as i128,
+) -> Result<usize, Fault>
+    requires { count < 2 ^ 63 }
+    ensures reached { IfOk result (IsReached orientation count place) }
+    ensures refused { IfErr result Refusal }
+{
+    Ok(bounded(count, place_wanted(orientation, values, count, place)?))
+}
+
+/// The place that a fetch orientation wants, which need not be one that there is.
+fn place_wanted(
+    orientation: FetchOrientation,
+    values: &[Value],
+    count: usize,
+    place: usize,
+) -> Result<i128, Fault>
+    ensures wanted { IfOk result (IsWanted orientation count place) }
+    ensures refused { IfErr result Refusal }
+{
+    match orientation {
+        FetchOrientation::Next => Ok(place as i128 + 1),
+        FetchOrientation::Prior => Ok(place as i128 - 1),
+        FetchOrientation::First => Ok(1),
+        FetchOrientation::Last => Ok(count as i128),
         FetchOrientation::Absolute(distance) => {
             let number = number_of(distance, values)? as i128;
-            if number >= 0 { number } else { behind + number }
+            Ok(if number >= 0 {
+                number
+            } else {
+                count as i128 + 1 + number
+            })
         }
         FetchOrientation::Relative(distance) => {
-            place as i128 + number_of(distance, values)? as i128
+            Ok(place as i128 + number_of(distance, values)? as i128)
         }
-    };
-    Ok(bounded(count, wanted))
+    }
 }
 
 /// The place, or the nearest one that there is.
-fn bounded(count: usize, wanted: i128) -> usize {
+fn bounded(count: usize, wanted: i128) -> usize
+    requires { count < 2 ^ 63 }
+    ensures { result ≡ bounded count wanted }
+{
     if wanted < 0 {
         0
     } else if wanted > count as i128 {
-        count.saturating_add(1)
+        count + 1
     } else {
         wanted as usize
     }
 }
 
 /// The number of an orientation.
-fn number_of(distance: Distance, values: &[Value]) -> Result<i64, Fault> {
+fn number_of(distance: Distance, values: &[Value]) -> Result<i64, Fault>
+    ensures number { IfOk result (IsNumber distance) }
+    ensures refused { IfErr result Refusal }
+{
     match distance {
         Distance::Number(number) => Ok(number),
         Distance::Parameter(parameter) => match values.get(parameter) {
@@ -146,7 +176,9 @@ fn number_of(distance: Distance, values: &[Value]) -> Result<i64, Fault> {
 }
 
 /// The row at a place, which counts from 1.
-pub(crate) fn row_at(rows: &[Row], place: usize) -> Option<&Row> {
+pub(crate) fn row_at(rows: &[Row], place: usize) -> Option<&Row>
+    ensures { option_copied result ≡ row_of rows.now place }
+{
     if place == 0 {
         return None;
     }
@@ -164,22 +196,22 @@ pub(crate) struct Reached<'a> {
 /// The next number under which there is a row now.
 pub(crate) fn next_there<'a, S: Store>(
     store: &'a S,
-    table: usize,
     cursor: &NumbersCursor,
     meter: &mut Meter,
-) -> Option<Reached<'a>> {
-    if table >= store.table_count() {
-        return None;
-    }
-    for (place, number) in cursor.numbers.as_slice().iter().enumerate() {
-        if place >= cursor.passed {
-            if let Some(row) = store.row(table, *number, meter) {
-                return Some(Reached {
-                    passed: place.saturating_add(1),
-                    number: *number,
-                    row,
-                });
-            }
+) -> Option<Reached<'a>>
+    requires { cursor.now.table < length (S.content_now store.now) }
+    ensures { let next = next_number (table_at (S.content_now store.now) cursor.now.table) cursor.now in
+        MatchOption result ((next.on ≡ None) × (next.passed ≡ length cursor.now.numbers)) (λ r. (next.on ≡ Some r.number) × (next.passed ≡ r.passed)) }
+{
+    let numbers = cursor.numbers.as_slice();
+    let passed = cursor.passed.min(numbers.len());
+    for (place, number) in numbers[passed..].iter().enumerate() {
+        if let Some(row) = store.row(cursor.table, *number, meter) {
+            return Some(Reached {
+                passed: passed + place + 1,
+                number: *number,
+                row,
+            });
         }
     }
     None

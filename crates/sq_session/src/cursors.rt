@@ -1,7 +1,7 @@
 //! The cursors of a session, by their numbers.
 
-ghost use Rattle.std.specs.Prelude.{◌≡◌, map, replicate, IfOk};
-ghost use Rattle.sq_session.specs.State.{all_closed, besides, is_open};
+ghost use Rattle.std.specs.Prelude.{◌≡◌, ◌<◌, length, map, None, replicate, slice_index_or, IfOk};
+ghost use Rattle.sq_session.specs.State.{all_closed, besides, is_open, number_on};
 
 use crate::cursor::CursorState;
 use crate::walk::{ListedCursor, list_walk};
@@ -28,29 +28,30 @@ pub(crate) fn close_all(cursors: &mut [CursorState])
     }
 }
 
-/// Puts a cursor in the stead of another, if there is one.
-#[tactic(auto, using(crate::proofs::Besides::besides_put))]
+/// Puts a cursor in the stead of another.
+#[tactic(auto, using(crate::proofs::Besides::besides_put, crate::proofs::Besides::cursor_put))]
 pub(crate) fn put(cursors: &mut [CursorState], number: usize, cursor: CursorState)
-    ensures { besides number cursors.new ≡ besides number cursors.old }
+    requires { number < length cursors.old }
+    ensures besides { besides number cursors.new ≡ besides number cursors.old }
+    ensures put { slice_index_or cursors.new number CursorState.Closed ≡ cursor }
 {
-    if number < cursors.len() {
-        cursors[number] = cursor;
-    } else {
-        drop(cursor);
-    }
+    cursors[number] = cursor;
 }
 
 /// Takes a cursor off its row.
-#[tactic(auto, using(crate::proofs::Besides::besides_put))]
+#[tactic(auto, using(crate::proofs::Besides::besides_put, crate::proofs::Besides::cursor_put))]
 pub(crate) fn leave_row(cursors: &mut [CursorState], number: usize)
-    ensures { besides number cursors.new ≡ besides number cursors.old }
+    ensures besides { besides number cursors.new ≡ besides number cursors.old }
+    ensures left { number_on (slice_index_or cursors.new number CursorState.Closed) ≡ None }
 {
     if number < cursors.len() {
         off_row(&mut cursors[number]);
     }
 }
 
-fn off_row(cursor: &mut CursorState) {
+fn off_row(cursor: &mut CursorState)
+    ensures { number_on cursor.new ≡ None }
+{
     match cursor {
         CursorState::Numbers(numbers) => numbers.on = None,
         CursorState::Walking(walk) => walk.on = None,
@@ -60,16 +61,18 @@ fn off_row(cursor: &mut CursorState) {
 
 /// Lets cursors go on over lists.
 pub(crate) fn put_lists(cursors: &mut [CursorState], listed: Vec<ListedCursor>)
-    ensures { map is_open cursors.new ≡ map is_open cursors.old }
+    ensures open { map is_open cursors.new ≡ map is_open cursors.old }
+    ensures on { map number_on cursors.new ≡ map number_on cursors.old }
 {
     for one in listed {
         put_list(cursors, one);
     }
 }
 
-#[tactic(auto, using(crate::proofs::Besides::open_put))]
+#[tactic(auto, using(crate::proofs::Besides::open_put, crate::proofs::Besides::on_put))]
 fn put_list(cursors: &mut [CursorState], listed: ListedCursor)
-    ensures { map is_open cursors.new ≡ map is_open cursors.old }
+    ensures open { map is_open cursors.new ≡ map is_open cursors.old }
+    ensures on { map number_on cursors.new ≡ map number_on cursors.old }
 {
     let ListedCursor { number, numbers } = listed;
     if number < cursors.len() {

@@ -1,11 +1,12 @@
 //! FETCH (ISO/IEC 9075:1992, 13.3).
 
-ghost use Rattle.std.specs.Prelude.{◌≡◌, slice_index_or, IfOk, OnErr};
-ghost use Rattle.sq_session.specs.State.{besides, is_open};
-ghost use Rattle.sq_session.specs.Step.{NotRefused};
+ghost use Rattle.std.specs.Prelude.{◌≡◌, ◌<◌, false, length, slice_index_or, IfErr, IfOk, OnErr};
+ghost use Rattle.sq_session.specs.Kind.{fetching};
+ghost use Rattle.sq_session.specs.State.{besides};
+ghost use Rattle.sq_session.specs.Step.{Comes, ComesOn, ComesToNumber, ComesToRow, Refusal, is_refused};
 
 use crate::called::Called;
-use crate::cursor::{CursorState, NumbersCursor, RowsCursor, next_there, place_wanted, row_at};
+use crate::cursor::{CursorState, NumbersCursor, RowsCursor, next_there, place_reached, row_at};
 use crate::reply::Done;
 use crate::target::row_retrieved;
 use crate::walk::{WalkingCursor, next_of_walk};
@@ -26,16 +27,15 @@ pub(crate) fn fetch_at<S: Store>(
     store: &S,
     meter: &mut Meter,
 ) -> Result<Done, Fault>
+    requires { fetch.now.cursor < length cursors.old }
     ensures besides { besides fetch.now.cursor cursors.new ≡ besides fetch.now.cursor cursors.old }
-    ensures stays { is_open (slice_index_or cursors.new fetch.now.cursor CursorState.Closed) ≡ is_open (slice_index_or cursors.old fetch.now.cursor CursorState.Closed) }
+    ensures comes { IfOk result (λ d. Comes (fetching called.now.procedure.now.parameters fetch.now) (S.content_now store.now)
+        (slice_index_or cursors.old fetch.now.cursor CursorState.Closed) d (slice_index_or cursors.new fetch.now.cursor CursorState.Closed)) }
+    ensures known { IfOk result (λ d. is_refused d.status ≡ false) }
     ensures err { OnErr result (cursors.new ≡ cursors.old) }
-    ensures known { IfOk result (λ d. NotRefused d.status) }
+    ensures refused { IfErr result Refusal }
 {
-    let number = fetch.cursor;
-    if number >= cursors.len() {
-        return Err(Fault::NOT_WELL_FORMED);
-    }
-    fetch_cursor(called, fetch, &mut cursors[number], store, meter)
+    fetch_cursor(called, fetch, &mut cursors[fetch.cursor], store, meter)
 }
 
 /// FETCH of a cursor.
@@ -46,12 +46,13 @@ fn fetch_cursor<S: Store>(
     store: &S,
     meter: &mut Meter,
 ) -> Result<Done, Fault>
-    ensures stays { is_open cursor.new ≡ is_open cursor.old }
+    ensures comes { IfOk result (λ d. Comes (fetching called.now.procedure.now.parameters fetch.now) (S.content_now store.now) cursor.old d cursor.new) }
+    ensures known { IfOk result (λ d. is_refused d.status ≡ false) }
     ensures err { OnErr result (cursor.new ≡ cursor.old) }
-    ensures known { IfOk result (λ d. NotRefused d.status) }
+    ensures refused { IfErr result Refusal }
 {
     match cursor {
-        CursorState::Closed => Err(Fault::Status(Status::InvalidCursorState)),
+        CursorState::Closed => Err(Fault::NOT_WELL_FORMED),
         CursorState::Numbers(numbers) => fetch_number(called, fetch, numbers, store, meter),
         CursorState::Walking(walk) => fetch_walk(called, fetch, walk, store, meter),
         CursorState::Rows(rows) => fetch_row(called, fetch, rows),
@@ -64,11 +65,13 @@ fn fetch_row(
     fetch: &BoundFetch,
     cursor: &mut RowsCursor,
 ) -> Result<Done, Fault>
+    ensures comes { IfOk result (λ d. ComesToRow (fetching called.now.procedure.now.parameters fetch.now) cursor.old d cursor.new) }
+    ensures known { IfOk result (λ d. is_refused d.status ≡ false) }
     ensures err { OnErr result (cursor.new ≡ cursor.old) }
-    ensures known { IfOk result (λ d. NotRefused d.status) }
+    ensures refused { IfErr result Refusal }
 {
     let rows = cursor.rows.as_slice();
-    let place = place_wanted(fetch.orientation, called.values, rows.len(), cursor.place)?;
+    let place = place_reached(fetch.orientation, called.values, rows.len(), cursor.place)?;
     let done = match row_at(rows, place) {
         None => Done::without_outputs(called.alloc, Status::NoData),
         Some(row) => row_retrieved(called, fetch.outputs.as_slice(), row.as_slice())?,
@@ -85,11 +88,16 @@ fn fetch_number<S: Store>(
     store: &S,
     meter: &mut Meter,
 ) -> Result<Done, Fault>
+    ensures comes { IfOk result (λ d. ComesToNumber (fetching called.now.procedure.now.parameters fetch.now) (S.content_now store.now) cursor.old d cursor.new) }
+    ensures known { IfOk result (λ d. is_refused d.status ≡ false) }
     ensures err { OnErr result (cursor.new ≡ cursor.old) }
-    ensures known { IfOk result (λ d. NotRefused d.status) }
+    ensures refused { IfErr result Refusal }
 {
     let query = updatable_query(called, fetch.cursor)?;
-    let Some(reached) = next_there(store, query.target.base, cursor, meter) else {
+    if cursor.table >= store.table_count() {
+        return Err(Fault::NOT_WELL_FORMED);
+    }
+    let Some(reached) = next_there(store, cursor, meter) else {
         cursor.passed = cursor.numbers.len();
         cursor.on = None;
         return Ok(Done::without_outputs(called.alloc, Status::NoData));
@@ -109,8 +117,10 @@ fn fetch_walk<S: Store>(
     store: &S,
     meter: &mut Meter,
 ) -> Result<Done, Fault>
+    ensures comes { IfOk result (λ d. ComesOn (fetching called.now.procedure.now.parameters fetch.now) (S.content_now store.now) walk.old d walk.new) }
+    ensures known { IfOk result (λ d. is_refused d.status ≡ false) }
     ensures err { OnErr result (walk.new ≡ walk.old) }
-    ensures known { IfOk result (λ d. NotRefused d.status) }
+    ensures refused { IfErr result Refusal }
 {
     let query = updatable_query(called, fetch.cursor)?;
     let Some((number, row)) = next_of_walk(called, &query.target, store, walk, meter)? else {
@@ -120,13 +130,15 @@ fn fetch_walk<S: Store>(
     };
     let row = shown(called.alloc, row, query.columns.as_slice())?;
     let done = row_retrieved(called, fetch.outputs.as_slice(), row.as_slice())?;
-    walk.next = number.saturating_add(1);
+    walk.next = number + 1;
     walk.on = Some(number);
     Ok(done)
 }
 
 /// The query of an updatable cursor.
-fn updatable_query<'a>(called: &Called<'a>, cursor: usize) -> Result<&'a UpdatableQuery, Fault> {
+fn updatable_query<'a>(called: &Called<'a>, cursor: usize) -> Result<&'a UpdatableQuery, Fault>
+    ensures { IfErr result Refusal }
+{
     match called.cursors.get(cursor) {
         Some(declared) => match &declared.cursor.body {
             CursorBody::Updatable(query) => Ok(query),
@@ -137,7 +149,9 @@ fn updatable_query<'a>(called: &Called<'a>, cursor: usize) -> Result<&'a Updatab
 }
 
 /// The columns of a row that a query names.
-fn shown(alloc: Global, row: &Row, columns: &[usize]) -> Result<Row, Fault> {
+fn shown(alloc: Global, row: &Row, columns: &[usize]) -> Result<Row, Fault>
+    ensures { IfErr result Refusal }
+{
     let mut values = Items::new(alloc);
     for column in columns {
         match row.as_slice().get(*column) {

@@ -1,11 +1,13 @@
 //! The tables and cursors of a session, and the statements that work on them.
 
-ghost use Rattle.std.specs.Prelude.{◌≡◌, false, IfErr, IfOk, IfSome, IsSome, OnErr, OnOk, is_ok, is_some, replicate, slice_get};
+ghost use Rattle.std.specs.Prelude.{◌≡◌, false, IfErr, IfOk, IfSome, IsSome, OnErr, OnOk, ◌<◌, length, is_ok, is_some, replicate, slice_get};
+ghost use Rattle.sq_change.specs.Statement.{IsGiven};
 ghost use Rattle.sq_meaning.specs.declared.status.Status.TheVariants as status;
+ghost use Rattle.sq_query.specs.declared.fault.Failure.TheVariants as failure;
 ghost use Rattle.sq_query.specs.declared.fault.Fault.TheVariants as fault;
-ghost use Rattle.sq_session.specs.Kind.{delete_kind, update_kind};
+ghost use Rattle.sq_session.specs.Kind.{delete_kind, fetching, names_set, update_kind};
 ghost use Rattle.sq_session.specs.State.{committed_state, rolled_back};
-ghost use Rattle.sq_session.specs.Step.{MayChange, MayClose, MayFetch, MayOpen, MayOpenIf, MayStep, Moves, ended, ending, is_on_row, is_ready};
+ghost use Rattle.sq_session.specs.Step.{MayChange, MayClose, MayFetch, MayOpen, MayOpenIf, MayStep, Moves, Sets, ended, ending, is_on_row, is_ready};
 
 use crate::called::Called;
 use crate::cursor::{CursorState, number_on, opened};
@@ -16,8 +18,7 @@ use crate::target::row_retrieved;
 use crate::walk::{ListedCursor, listed_walk};
 use sq_bound::{BoundFetch, BoundInsert, BoundSelect, BoundUpdate, ChangeTarget, PositionedTarget};
 use sq_change::{delete, insert, update};
-use sq_meaning::Status;
-use sq_query::{Fault, specification_rows};
+use sq_query::{Failure, Fault, specification_rows};
 use sq_store::{Meter, Store};
 use std::alloc::{AllocError, Global};
 use std::marker::Model;
@@ -65,7 +66,7 @@ impl<S: Store> Machine<S> {
         match self.cursors.get(number) {
             None => Err(Fault::NOT_WELL_FORMED),
             Some(CursorState::Closed) => self.open_closed(called, number, meter),
-            Some(_) => Err(Fault::Status(Status::InvalidCursorState)),
+            Some(_) => Err(Fault::Status(Failure::InvalidCursorState)),
         }
     }
 
@@ -76,6 +77,7 @@ impl<S: Store> Machine<S> {
         number: usize,
         meter: &mut Meter,
     ) -> Result<Done, Fault>
+        requires { number < length self.old.cursors }
         ensures step { IfSome (ending result) (λ d. MayOpenIf false number self.old d self.new) }
         ensures err { OnErr result (self.new ≡ self.old) }
     {
@@ -94,12 +96,13 @@ impl<S: Store> Machine<S> {
         fetch: &BoundFetch,
         meter: &mut Meter,
     ) -> Result<Done, Fault>
-        ensures step { IfSome (ending result) (λ d. MayFetch (slice_get self.old.cursors fetch.now.cursor) fetch.now.cursor self.old d self.new) }
+        ensures step { IfSome (ending result) (λ d. MayFetch (slice_get self.old.cursors fetch.now.cursor)
+            (fetching called.now.procedure.now.parameters fetch.now) self.old d self.new) }
         ensures err { OnErr result (self.new ≡ self.old) }
     {
         match self.cursors.get(fetch.cursor) {
             None => Err(Fault::NOT_WELL_FORMED),
-            Some(CursorState::Closed) => Err(Fault::Status(Status::InvalidCursorState)),
+            Some(CursorState::Closed) => Err(Fault::Status(Failure::InvalidCursorState)),
             Some(_) => self.fetch_open(called, fetch, meter),
         }
     }
@@ -111,7 +114,8 @@ impl<S: Store> Machine<S> {
         fetch: &BoundFetch,
         meter: &mut Meter,
     ) -> Result<Done, Fault>
-        ensures step { IfSome (ending result) (λ d. Moves fetch.now.cursor self.old d self.new) }
+        requires { fetch.now.cursor < length self.old.cursors }
+        ensures step { IfSome (ending result) (λ d. Moves (fetching called.now.procedure.now.parameters fetch.now) self.old d self.new) }
         ensures err { OnErr result (self.new ≡ self.old) }
     {
         fetch_at(
@@ -131,7 +135,7 @@ impl<S: Store> Machine<S> {
     {
         match self.cursors.get(number) {
             None => Err(Fault::NOT_WELL_FORMED),
-            Some(CursorState::Closed) => Err(Fault::Status(Status::InvalidCursorState)),
+            Some(CursorState::Closed) => Err(Fault::Status(Failure::InvalidCursorState)),
             Some(_) => {
                 self.cursors[number] = CursorState::Closed;
                 Ok(Done::successful(alloc))
@@ -145,7 +149,9 @@ impl<S: Store> Machine<S> {
         called: &Called<'_>,
         select: &BoundSelect,
         meter: &mut Meter,
-    ) -> Result<Done, Fault> {
+    ) -> Result<Done, Fault>
+        ensures { IfSome (ending result) (Sets (names_set called.now.procedure.now.parameters select.now.outputs)) }
+    {
         let rows = specification_rows(
             called.alloc,
             called.catalog,
@@ -155,11 +161,11 @@ impl<S: Store> Machine<S> {
             meter,
         )?;
         match rows.split_first() {
-            None => Err(Fault::Status(Status::NoData)),
+            None => Err(Fault::Status(Failure::NoData)),
             Some((row, others)) if others.is_empty() => {
                 row_retrieved(called, select.outputs.as_slice(), row.as_slice())
             }
-            Some(_) => Err(Fault::Status(Status::CardinalityViolation)),
+            Some(_) => Err(Fault::Status(Failure::CardinalityViolation)),
         }
     }
 
@@ -195,7 +201,7 @@ impl<S: Store> Machine<S> {
         ensures err { OnErr result (self.new ≡ self.old) }
     {
         let on = self.current(&statement.target)?;
-        let listed = self.listed(called, base_of(&statement.target))?;
+        let listed = self.listed(called, statement)?;
         let updated = update(
             called.alloc,
             called.catalog,
@@ -266,13 +272,14 @@ impl<S: Store> Machine<S> {
     /// The number that a positioned statement changes; none for a searched one.
     fn current(&self, target: &ChangeTarget) -> Result<Option<u64>, Fault>
         ensures ready { is_ok result ≡ is_ready self.now target.now }
-        ensures refused { IfErr result (λ f. f ≡ fault.Status status.InvalidCursorState) }
+        ensures given { IfOk result (IsGiven target.now) }
+        ensures refused { IfErr result (λ f. f ≡ fault.Status failure.InvalidCursorState) }
     {
         match target {
             ChangeTarget::Searched(_) => Ok(None),
             ChangeTarget::Positioned(positioned) => match self.number_there(positioned) {
                 Some(number) => Ok(Some(number)),
-                None => Err(Fault::Status(Status::InvalidCursorState)),
+                None => Err(Fault::Status(Failure::InvalidCursorState)),
             },
         }
     }
@@ -291,24 +298,21 @@ impl<S: Store> Machine<S> {
         }
     }
 
-    /// For each cursor that walks over a base table, the numbers of the rows that are left to it.
-    fn listed(&self, called: &Called<'_>, table: usize) -> Result<Vec<ListedCursor>, Fault> {
+    /// For each cursor that walks, and whose conditions read what an UPDATE changes, the numbers of the rows that are left
+    /// to it.
+    fn listed(
+        &self,
+        called: &Called<'_>,
+        statement: &BoundUpdate,
+    ) -> Result<Vec<ListedCursor>, Fault> {
         let mut listed = Vec::new(called.alloc);
         for (number, cursor) in self.cursors.iter().enumerate() {
             if let CursorState::Walking(walk) = cursor {
-                if let Some(numbers) = listed_walk(called, number, table, &self.store, walk)? {
+                if let Some(numbers) = listed_walk(called, number, statement, &self.store, walk)? {
                     listed.push(ListedCursor { number, numbers })?;
                 }
             }
         }
         Ok(listed)
-    }
-}
-
-/// The place of the base table that a statement changes.
-fn base_of(target: &ChangeTarget) -> usize {
-    match target {
-        ChangeTarget::Searched(target) => target.base,
-        ChangeTarget::Positioned(positioned) => positioned.base,
     }
 }

@@ -4,7 +4,9 @@ ghost use Rattle.std.specs.Prelude.{◌≡◌, ◌<◌, false, length, map, IfEr
 ghost use Rattle.sq_store.specs.Content.{table_at};
 ghost use Rattle.sq_module.specs.Refusal.{IsOfSomeModule};
 ghost use Rattle.sq_session.specs.Lent.{lent};
-ghost use Rattle.sq_session.specs.Kind.{kind_at, needs_memory};
+ghost use Rattle.sq_catalog.specs.Catalog.{table_number};
+ghost use Rattle.sq_session.specs.Kind.{fault_at, kind_at, needs_memory};
+ghost use Rattle.sq_session.specs.Session.{procedure_number};
 ghost use Rattle.sq_session.specs.State.{AreClosed};
 ghost use Rattle.sq_session.specs.Step.{MayCall, is_success};
 
@@ -12,10 +14,10 @@ use crate::call::{call, reply_of};
 use crate::machine::Machine;
 use crate::parameter::all_fit;
 use crate::reply::Reply;
-use sq_bound::{Names, TablePlace};
+use sq_bound::BindFault;
 use sq_catalog::Catalog;
 use sq_lex::Name;
-use sq_module::{Program, SessionFault, admit};
+use sq_module::{ProcedureName, Program, SessionFault, admit};
 use sq_store::{Meter, Store};
 use sq_tree::ModuleText;
 use sq_value::{Row, Value};
@@ -32,11 +34,11 @@ pub struct Session<S: Store> {
 }
 
 impl<S: Store> Model for Session<S> {
-    ghost use Rattle.sq_session.specs.Session.{Session, kinds_of};
+    ghost use Rattle.sq_session.specs.Session.{Session, procedures_of};
 
     ghost Value = { Session };
 
-    ghost view = { λ s. record { procedures = kinds_of s.program.procedures.items; state = s.machine } };
+    ghost view = { λ s. record { procedures = procedures_of s.program.procedures.entries; tables = s.catalog.tables; state = s.machine } };
 }
 
 impl<S: Store> Session<S> {
@@ -63,15 +65,29 @@ impl<S: Store> Session<S> {
         })
     }
 
-    /// The number of a procedure.
-    pub fn procedure(&self, module: Name, name: Name) -> Option<usize> {
-        self.program.number(module, name)
+    /// The number of the procedure of this module and name.
+    pub fn procedure(&self, module: Name, name: Name) -> Option<usize>
+        ensures { result ≡ procedure_number self.now.procedures «module» name }
+    {
+        let name = ProcedureName { module, name };
+        self.program.procedures.get_index_of(&name)
+    }
+
+    /// Why each call of a procedure answers 42000, where its statement has a fault.
+    pub fn fault(&self, procedure: usize) -> Option<BindFault>
+        ensures { result ≡ fault_at self.now.procedures procedure }
+    {
+        let (_, procedure) = self.program.procedures.get_index(procedure)?;
+        match &procedure.statement {
+            Ok(_) => None,
+            Err(fault) => Some(*fault),
+        }
     }
 
     /// Whether there are as many values as the procedure has named parameters, each null or one that its parameter can store.
     pub fn fits(&self, procedure: usize, values: &[Value]) -> bool {
-        match self.program.procedures.get(procedure) {
-            Some(procedure) => all_fit(self.alloc, procedure.parameters.as_slice(), values),
+        match self.program.procedures.get_index(procedure) {
+            Some((_, procedure)) => all_fit(self.alloc, procedure.parameters.as_slice(), values),
             None => false,
         }
     }
@@ -89,6 +105,7 @@ impl<S: Store> Session<S> {
             MayCall (kind_at self.old.procedures procedure) self.old.state (record { status = r.status; outputs = r.outputs }) self.new.state) }
         ensures kept { IfOk result (λ r. is_success r.status ≡ false → self.new.state.tables ≡ self.old.state.tables) }
         ensures procedures { self.new.procedures ≡ self.old.procedures }
+        ensures tables { self.new.tables ≡ self.old.tables }
         ensures err { OnErr result (self.new ≡ self.old) }
         ensures memory { needs_memory (kind_at self.old.procedures procedure) ≡ false → IsOk result }
     {
@@ -106,11 +123,10 @@ impl<S: Store> Session<S> {
     }
 
     /// The place of the base table of this owner and name.
-    pub fn table(&self, user: Name, name: Name) -> Option<usize> {
-        match self.catalog.table(user, name)?.place() {
-            TablePlace::Base(place) => Some(place),
-            TablePlace::View(_) => None,
-        }
+    pub fn table(&self, user: Name, name: Name) -> Option<usize>
+        ensures { result ≡ table_number self.now.tables user name }
+    {
+        self.catalog.base(user, name)
     }
 
     /// The rows of the base table at a place, as they are now, with their numbers; none where there is no such table.

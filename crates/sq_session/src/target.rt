@@ -1,7 +1,9 @@
 //! Targets: the parameters that get the values of a row (ISO/IEC 9075:1992, 9.1).
 
-ghost use Rattle.std.specs.Prelude.{◌<◌, ◌^◌, unsigned_abs, IfOk};
-ghost use Rattle.sq_session.specs.Step.{NotRefused};
+ghost use Rattle.std.specs.Prelude.{◌≡◌, ◌<◌, ◌^◌, ◌++◌, ◌∷◌, [], map, nat_eq, option_to_list, is_some, true, unsigned_abs, IfErr, IfOk, OnOk};
+ghost use Rattle.std.specs.List.{list_any};
+ghost use Rattle.sq_session.specs.Kind.{names_at, names_set, places_set};
+ghost use Rattle.sq_session.specs.Step.{Refusal, RetrievalFault, Retrieves, is_done};
 
 use crate::called::Called;
 use crate::reply::{Done, Output};
@@ -9,9 +11,9 @@ use sq_bound::ParameterDesc;
 use sq_change::{fits_kind, is_domain};
 use sq_items::Items;
 use sq_meaning::Status;
-use sq_query::Fault;
-use sq_value::{Decimal, Retrieved, Value, retrieve};
-use std::alloc::Global;
+use sq_query::{Failure, Fault};
+use sq_value::{Decimal, RetrieveFault, Retrieved, Value, retrieve};
+use std::alloc::{AllocError, Global};
 
 /// A parameter's place, and its new value.
 #[derive(Drop)]
@@ -33,20 +35,23 @@ pub(crate) fn row_retrieved(
     targets: &[sq_bound::Output],
     row: &[Value],
 ) -> Result<Done, Fault>
-    ensures { IfOk result (λ d. NotRefused d.status) }
+    ensures retrieved { IfOk result (Retrieves true (names_set called.now.procedure.now.parameters targets.now)) }
+    ensures refused { IfErr result Refusal }
 {
     match assignments_of(called, targets, row) {
-        Ok(assignments) => done(called, &assignments),
-        Err(Fault::Status(status)) if status != Status::SyntaxErrorOrAccessRuleViolation => {
-            Ok(Done::without_outputs(called.alloc, status))
+        Ok(assignments) => Ok(done(called, &assignments)?),
+        Err(Fault::Status(failure)) if failure != Failure::SyntaxErrorOrAccessRuleViolation => {
+            Ok(Done::without_outputs(called.alloc, failure.status()))
         }
         Err(fault) => Err(fault),
     }
 }
 
 /// The targets and their indicators, in the order in which the parameters are declared.
-fn done(called: &Called<'_>, assignments: &Assignments) -> Result<Done, Fault>
-    ensures { IfOk result (λ d. NotRefused d.status) }
+fn done(called: &Called<'_>, assignments: &Assignments) -> Result<Done, AllocError>
+    ensures done { IfOk result (λ d. is_done d.status ≡ true) }
+    ensures outputs { IfOk result (λ d. map (λ o. o.name) d.outputs
+        ≡ names_at (map (λ a. a.parameter) assignments.now.list.items) 0 called.now.procedure.now.parameters) }
 {
     let parameters = called.procedure.parameters.as_slice();
     let outputs = outputs_of(called.alloc, parameters, assignments.list.as_slice())?;
@@ -64,7 +69,9 @@ fn outputs_of(
     alloc: Global,
     parameters: &[ParameterDesc],
     assignments: &[Assignment],
-) -> Result<Items<Output>, Fault> {
+) -> Result<Items<Output>, AllocError>
+    ensures { IfOk result (λ outputs. map (λ o. o.name) outputs ≡ names_at (map (λ a. a.parameter) assignments.now) 0 parameters.now) }
+{
     let mut outputs = Items::new(alloc);
     for (place, parameter) in parameters.iter().enumerate() {
         if let Some(value) = assigned_to(assignments, place) {
@@ -78,7 +85,9 @@ fn outputs_of(
 }
 
 /// The value to which a parameter is set, if it is.
-fn assigned_to(assignments: &[Assignment], place: usize) -> Option<&Value> {
+fn assigned_to(assignments: &[Assignment], place: usize) -> Option<&Value>
+    ensures { is_some result ≡ list_any (nat_eq place) (map (λ a. a.parameter) assignments.now) }
+{
     for assignment in assignments {
         if assignment.parameter == place {
             return Some(&assignment.value);
@@ -91,14 +100,20 @@ fn assignments_of(
     called: &Called<'_>,
     targets: &[sq_bound::Output],
     row: &[Value],
-) -> Result<Assignments, Fault> {
+) -> Result<Assignments, Fault>
+    ensures places { IfOk result (λ a. map (λ a. a.parameter) a.list.items ≡ places_set targets.now) }
+    ensures fault { IfErr result RetrievalFault }
+{
+    if targets.len() != row.len() {
+        return Err(Fault::NOT_WELL_FORMED);
+    }
     let mut assignments = Assignments {
         list: Vec::new(called.alloc),
         is_cut: false,
     };
     let parameters = called.procedure.parameters.as_slice();
-    for (target, value) in targets.iter().zip(row) {
-        assignments.set(called.alloc, parameters, *target, value)?;
+    for (place, target) in targets.iter().enumerate() {
+        assignments.set(called.alloc, parameters, *target, &row[place])?;
     }
     Ok(assignments)
 }
@@ -111,7 +126,11 @@ impl Assignments {
         parameters: &[ParameterDesc],
         target: sq_bound::Output,
         value: &Value,
-    ) -> Result<(), Fault> {
+    ) -> Result<(), Fault>
+        ensures places { OnOk result (map (λ a. a.parameter) self.new.list.items
+            ≡ map (λ a. a.parameter) self.old.list.items ++ target.parameter ∷ option_to_list target.indicator) }
+        ensures fault { IfErr result RetrievalFault }
+    {
         let Some(parameter) = parameters.get(target.parameter) else {
             return Err(Fault::NOT_WELL_FORMED);
         };
@@ -122,18 +141,23 @@ impl Assignments {
             return Err(Fault::NOT_WELL_FORMED);
         }
         match retrieve(alloc, value, parameter.domain) {
-            Ok(retrieved) => self.set_retrieved(target, retrieved),
-            Err(fault) => Err(Fault::from(fault)),
+            Ok(retrieved) => Ok(self.set_retrieved(target, retrieved)?),
+            Err(RetrieveFault::Range) => Err(Fault::Status(Failure::NumericValueOutOfRange)),
+            Err(RetrieveFault::NoMemory) => Err(Fault::NoMemory),
         }
     }
 
     /// Null is retrieved beside an indicator alone, which is set to -1.
-    fn set_null(&mut self, target: sq_bound::Output) -> Result<(), Fault> {
+    fn set_null(&mut self, target: sq_bound::Output) -> Result<(), Fault>
+        ensures places { OnOk result (map (λ a. a.parameter) self.new.list.items
+            ≡ map (λ a. a.parameter) self.old.list.items ++ target.parameter ∷ option_to_list target.indicator) }
+        ensures fault { IfErr result RetrievalFault }
+    {
         let Some(indicator) = target.indicator else {
-            return Err(Fault::Status(Status::NullWithoutIndicator));
+            return Err(Fault::Status(Failure::NullWithoutIndicator));
         };
         self.add(target.parameter, Value::Null)?;
-        self.add(indicator, whole(-1))
+        Ok(self.add(indicator, whole(-1))?)
     }
 
     /// The indicator is set to the text's length before it was cut, and otherwise to 0.
@@ -141,7 +165,10 @@ impl Assignments {
         &mut self,
         target: sq_bound::Output,
         retrieved: Retrieved,
-    ) -> Result<(), Fault> {
+    ) -> Result<(), AllocError>
+        ensures { OnOk result (map (λ a. a.parameter) self.new.list.items
+            ≡ map (λ a. a.parameter) self.old.list.items ++ target.parameter ∷ option_to_list target.indicator) }
+    {
         let Retrieved { value, uncut } = retrieved;
         self.add(target.parameter, value)?;
         if uncut.is_some() {
@@ -153,7 +180,9 @@ impl Assignments {
         }
     }
 
-    fn add(&mut self, parameter: usize, value: Value) -> Result<(), Fault> {
+    fn add(&mut self, parameter: usize, value: Value) -> Result<(), AllocError>
+        ensures { OnOk result (map (λ a. a.parameter) self.new.list.items ≡ map (λ a. a.parameter) self.old.list.items ++ parameter ∷ []) }
+    {
         self.list.push(Assignment { parameter, value })?;
         Ok(())
     }

@@ -1,14 +1,17 @@
 //! Updatable cursors whose conditions answer no status: they read their rows as late as they fetch them.
 //!
 //! Such a cursor means the same rows as a list of their numbers made at OPEN, as long as no UPDATE changes what its
-//! conditions read. So the rows that are left are listed before an UPDATE of the table.
+//! conditions read. So the rows that are left are listed before an UPDATE of a column that they read.
 
-ghost use Rattle.std.specs.Prelude.{◌≡◌, ◌≤◌, ◌<◌, length, IfOk, IfSome};
-ghost use Rattle.sq_session.specs.State.{is_open};
+ghost use Rattle.std.specs.Prelude.{◌≡◌, ◌≤◌, ◌<◌, length, None, true, IfErr, IfOk, IfSome};
+ghost use Rattle.sq_store.specs.Content.{table_at};
+ghost use Rattle.sq_session.specs.State.{is_open, is_there, number_on};
+ghost use Rattle.sq_session.specs.Step.{Refusal};
 
 use crate::called::Called;
-use crate::cursor::{CursorState, NumbersCursor, number_on};
-use sq_bound::{CursorBody, Target};
+use crate::cursor::{CursorState, NumbersCursor};
+use crate::reads::reads_assigned;
+use sq_bound::{BoundUpdate, ChangeTarget, CursorBody, Target};
 use sq_catalog::Catalog;
 use sq_items::Items;
 use sq_lex::Name;
@@ -20,6 +23,8 @@ use std::alloc::Global;
 /// A cursor that walks over the rows of a base table.
 #[derive(Drop)]
 pub struct WalkingCursor {
+    /// The place of the base table.
+    pub table: usize,
     /// The values of the parameters of the procedure that opened it.
     pub values: Items<Value>,
     /// The next FETCH looks at rows from this number on.
@@ -35,9 +40,12 @@ pub(crate) fn started_walk<S: Store>(
     called: &Called<'_>,
     table: usize,
     store: &S,
-) -> Result<WalkingCursor, Fault> {
+) -> Result<WalkingCursor, Fault>
+    ensures { IfOk result (λ c. (c.next ≡ 0) × (c.on ≡ None)) }
+{
     let mark = next_number(called.catalog, store, table)?;
     Ok(WalkingCursor {
+        table,
         values: copy_row(called.alloc, called.values)?,
         next: 0,
         mark,
@@ -60,23 +68,29 @@ struct Walk<'a> {
     alloc: Global,
     catalog: &'a Catalog,
     user: Name,
+    table: usize,
     target: &'a Target,
     values: &'a [Value],
 }
 
 impl<'a> Walk<'a> {
-    /// Whether the target means a row.
-    fn is_chosen<S: Store>(&self, row: &Row, store: &S) -> Result<bool, Fault> {
+    /// Whether the target means a row. Its conditions answer no status; where one does, the target is not well formed.
+    fn is_chosen<S: Store>(&self, row: &Row, store: &S) -> Result<bool, Fault>
+        ensures { IfErr result Refusal }
+    {
         let inputs = Inputs {
             user: self.user,
             parameters: self.values,
         };
-        is_chosen(self.alloc, self.catalog, self.target, row, store, inputs)
+        match is_chosen(self.alloc, self.catalog, self.target, row, store, inputs) {
+            Err(Fault::Status(_)) => Err(Fault::NOT_WELL_FORMED),
+            answer => answer,
+        }
     }
 }
 
 /// The first row from a number on, and before a mark, that the target means.
-#[tactic(auto, using(crate::proofs::TableWalk::found_behind))]
+#[tactic(auto, using(crate::proofs::TableWalk::found_behind, crate::proofs::TableWalk::found_there))]
 fn next_chosen<'s, S: Store>(
     walk: &Walk<'_>,
     store: &'s S,
@@ -84,11 +98,13 @@ fn next_chosen<'s, S: Store>(
     mark: u64,
     meter: &mut Meter,
 ) -> Result<Option<(u64, &'s Row)>, Fault>
-    requires { walk.now.target.now.base < length (S.content_now store.now) }
-    ensures { IfOk result (λ found. IfSome found (λ r. (from ≤ r.0) × (r.0 < mark))) }
+    requires { walk.now.table < length (S.content_now store.now) }
+    ensures found { IfOk result (λ found. IfSome found (λ r. (from ≤ r.0) × (r.0 < mark))) }
+    ensures there { IfOk result (λ found. IfSome found (λ r. is_there (table_at (S.content_now store.now) walk.now.table) r.0 ≡ true)) }
+    ensures refused { IfErr result Refusal }
 {
     let mut number = from;
-    while let Some((found, row)) = store.next_from(walk.target.base, number, meter) {
+    while let Some((found, row)) = store.next_from(walk.table, number, meter) {
         if found >= mark {
             return Ok(None);
         }
@@ -107,14 +123,19 @@ pub(crate) fn next_of_walk<'s, S: Store>(
     store: &'s S,
     cursor: &WalkingCursor,
     meter: &mut Meter,
-) -> Result<Option<(u64, &'s Row)>, Fault> {
-    if target.base >= store.table_count() {
+) -> Result<Option<(u64, &'s Row)>, Fault>
+    ensures found { IfOk result (λ found. IfSome found (λ r. (cursor.now.next ≤ r.0) × (r.0 < cursor.now.mark))) }
+    ensures there { IfOk result (λ found. IfSome found (λ r. is_there (table_at (S.content_now store.now) cursor.now.table) r.0 ≡ true)) }
+    ensures refused { IfErr result Refusal }
+{
+    if cursor.table >= store.table_count() {
         return Err(Fault::NOT_WELL_FORMED);
     }
     let walk = Walk {
         alloc: called.alloc,
         catalog: called.catalog,
         user: called.procedure.user,
+        table: cursor.table,
         target,
         values: cursor.values.as_slice(),
     };
@@ -128,23 +149,40 @@ pub(crate) struct ListedCursor {
     pub(crate) numbers: Items<u64>,
 }
 
-/// The numbers of the rows that are left to the walk of a cursor, if it is one over this base table.
+/// The numbers of the rows that are left to the walk of a cursor, if it is over the base table that an UPDATE changes and
+/// its conditions read a column that is assigned to.
 pub(crate) fn listed_walk<S: Store>(
     called: &Called<'_>,
     number: usize,
-    table: usize,
+    statement: &BoundUpdate,
     store: &S,
     walk: &WalkingCursor,
 ) -> Result<Option<Items<u64>>, Fault> {
+    if walk.table != base_of(&statement.target) {
+        return Ok(None);
+    }
     let Some(declared) = called.cursors.get(number) else {
         return Err(Fault::NOT_WELL_FORMED);
     };
     match &declared.cursor.body {
-        CursorBody::Updatable(query) if query.target.base == table => {
+        CursorBody::Updatable(query)
+            if reads_assigned(
+                called.catalog,
+                &query.target,
+                statement.assignments.as_slice(),
+            ) => {
             let numbers = rest_of_walk(called, declared.user, &query.target, store, walk)?;
             Ok(Some(numbers))
         }
         _ => Ok(None),
+    }
+}
+
+/// The place of the base table that a statement changes.
+fn base_of(target: &ChangeTarget) -> usize {
+    match target {
+        ChangeTarget::Searched(target) => target.base,
+        ChangeTarget::Positioned(positioned) => positioned.base,
     }
 }
 
@@ -156,13 +194,14 @@ fn rest_of_walk<S: Store>(
     store: &S,
     cursor: &WalkingCursor,
 ) -> Result<Items<u64>, Fault> {
-    if target.base >= store.table_count() {
+    if cursor.table >= store.table_count() {
         return Err(Fault::NOT_WELL_FORMED);
     }
     let walk = Walk {
         alloc: called.alloc,
         catalog: called.catalog,
         user,
+        table: cursor.table,
         target,
         values: cursor.values.as_slice(),
     };
@@ -176,7 +215,7 @@ fn numbers_from<S: Store>(
     from: u64,
     mark: u64,
 ) -> Result<Items<u64>, Fault>
-    requires { walk.now.target.now.base < length (S.content_now store.now) }
+    requires { walk.now.table < length (S.content_now store.now) }
 {
     let mut numbers = Items::new(walk.alloc);
     let mut meter = Meter::new();
@@ -190,14 +229,15 @@ fn numbers_from<S: Store>(
 
 /// Lets a cursor that walks go on over a list.
 pub(crate) fn list_walk(cursor: &mut CursorState, numbers: Items<u64>)
-    ensures { is_open cursor.new ≡ is_open cursor.old }
+    ensures open { is_open cursor.new ≡ is_open cursor.old }
+    ensures on { number_on cursor.new ≡ number_on cursor.old }
 {
-    let on = number_on(cursor);
-    if let CursorState::Walking(_) = cursor {
+    if let CursorState::Walking(walk) = cursor {
         *cursor = CursorState::Numbers(NumbersCursor {
+            table: walk.table,
             numbers,
             passed: 0,
-            on,
+            on: walk.on,
         });
     } else {
         drop(numbers);

@@ -1,0 +1,79 @@
+-- What the changes of a statement do to the tables.
+use Rattle.std.proofs.Common.{◌≡◌, ◌<◌, ℕ, true, List, [], ◌∷◌, length, Option, map, refl, arith}
+use Rattle.std.proofs.lemmas.Grind.{common_steps}
+use Rattle.sq_store.specs.declared.change.Change.{Change}
+use Rattle.sq_store.specs.declared.change.Change.TheVariants.{Insert, Replace, Remove}
+use Rattle.sq_store.specs.declared.table.Numbered.{Numbered}
+use Rattle.sq_store.specs.declared.table.Table.{Table}
+use Rattle.sq_store.specs.Change.{rows_put}
+use Rattle.sq_store.specs.Content.{Content, changed_by, inserted, removed, replaced, table_at, with_table}
+use Rattle.sq_bound.specs.declared.statement.ChangeTarget.{ChangeTarget}
+use Rattle.sq_change.specs.Changed.{Removals, Replacements, are_insertions, are_replacements}
+use Rattle.sq_change.specs.Statement.{Deletes, Inserts, Updates, are_numbered, base_of, with_replaced, with_rows, without}
+
+-- ---- INSERT
+
+all_inserted : (t : Table) (changes : List Change) → are_insertions changes ≡ true → changed_by t changes ≡ with_rows t (rows_put changes)
+all_inserted t [] h = refl
+all_inserted t (Insert row ∷ changes) h = all_inserted (inserted t row) changes h
+all_inserted t (Replace number row ∷ changes) h = cc
+all_inserted t (Remove number ∷ changes) h = cc
+
+some_inserted : (changes : List Change) → are_insertions changes ≡ true → 0 < length changes → 0 < length (rows_put changes)
+some_inserted [] h some = some
+some_inserted (Insert row ∷ changes) h some = omega arith
+some_inserted (Replace number row ∷ changes) h some = cc
+some_inserted (Remove number ∷ changes) h some = cc
+
+pub inserts : (base place : ℕ) (before after : Content) (changes : List Change) → place ≡ base → are_insertions changes ≡ true → 0 < length changes
+    → after ≡ with_table before place (changed_by (table_at before place) changes) → Inserts base before after
+inserts base place before after changes p h some made = record {
+  rows = rows_put changes;
+  some = some_inserted changes h some;
+  done = rw (← p) (rw (← (all_inserted (table_at before place) changes h)) made);
+}
+
+-- ---- UPDATE
+
+-- the rows that are put in, under their numbers
+abbrev rows_replaced : List Change → List Numbered
+rows_replaced [] = []
+rows_replaced (Insert row ∷ changes) = rows_replaced changes
+rows_replaced (Replace number row ∷ changes) = record { number = number; row = row } ∷ rows_replaced changes
+rows_replaced (Remove number ∷ changes) = rows_replaced changes
+
+all_replaced : (numbers : List ℕ) (t : Table) (changes : List Change) → are_replacements numbers changes ≡ true → changed_by t changes ≡ with_replaced t (rows_replaced changes)
+all_replaced numbers t [] h = refl
+all_replaced numbers t (Insert row ∷ changes) h = cc
+all_replaced numbers t (Replace number row ∷ changes) h = all_replaced numbers (replaced t number row) changes (grind (arith, common_steps))
+all_replaced numbers t (Remove number ∷ changes) h = cc
+
+replaced_numbered : (numbers : List ℕ) (changes : List Change) → are_replacements numbers changes ≡ true → are_numbered numbers (rows_replaced changes) ≡ true
+replaced_numbered numbers [] h = refl
+replaced_numbered numbers (Insert row ∷ changes) h = cc
+replaced_numbered numbers (Replace number row ∷ changes) h = let k = replaced_numbered numbers changes (grind (arith, common_steps)) in grind (arith, common_steps)
+replaced_numbered numbers (Remove number ∷ changes) h = cc
+
+pub updates : (t : ChangeTarget) (on : Option ℕ) (place : ℕ) (before after : Content) (changes : List Change) → place ≡ base_of t → Replacements t on changes
+    → after ≡ with_table before place (changed_by (table_at before place) changes) → Updates t on before after
+updates t on place before after changes p h made = record {
+  numbers = h.numbers;
+  chosen = h.chosen;
+  rows = rows_replaced changes;
+  numbered = replaced_numbered h.numbers changes h.all;
+  done = rw (← p) (rw (← (all_replaced h.numbers (table_at before place) changes h.all)) made);
+}
+
+-- ---- DELETE
+
+all_removed : (t : Table) (numbers : List ℕ) → changed_by t (map Remove numbers) ≡ without t numbers
+all_removed t [] = refl
+all_removed t (number ∷ numbers) = all_removed (removed t number) numbers
+
+pub deletes : (t : ChangeTarget) (on : Option ℕ) (place : ℕ) (before after : Content) (changes : List Change) → place ≡ base_of t → Removals t on changes
+    → after ≡ with_table before place (changed_by (table_at before place) changes) → Deletes t on before after
+deletes t on place before after changes p h made = record {
+  numbers = h.numbers;
+  chosen = h.chosen;
+  done = rw (← p) (rw (← (all_removed (table_at before place) h.numbers)) (rw h.all at made));
+}

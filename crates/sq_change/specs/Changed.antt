@@ -1,0 +1,36 @@
+-- What a statement is going to change, by its kind.
+use Rattle.std.specs.Prelude.{◌≡◌, ℕ, Bool, true, false, List, map, nat_eq, Option}
+use Rattle.std.specs.List.{list_all, list_any}
+use Rattle.sq_store.specs.declared.change.Change.{Change}
+use Rattle.sq_store.specs.declared.change.Change.TheVariants.{Insert, Replace, Remove}
+use Rattle.sq_bound.specs.declared.statement.ChangeTarget.{ChangeTarget}
+use Rattle.sq_change.specs.Statement.{Chosen}
+
+-- only new rows
+abbrev pub is_insertion : Change → Bool
+is_insertion (Insert row) = true
+is_insertion (Replace number row) = false
+is_insertion (Remove number) = false
+
+abbrev pub are_insertions : List Change → Bool
+are_insertions changes = list_all is_insertion changes
+
+-- only other rows under some of the numbers
+abbrev pub is_replacement : List ℕ → Change → Bool
+is_replacement numbers (Insert row) = false
+is_replacement numbers (Replace number row) = list_any (nat_eq number) numbers
+is_replacement numbers (Remove number) = false
+
+abbrev pub are_replacements : List ℕ → List Change → Bool
+are_replacements numbers changes = list_all (is_replacement numbers) changes
+
+pub record Replacements (t : ChangeTarget) (on : Option ℕ) (changes : List Change) : Type 0 where
+  pub numbers : List ℕ
+  pub chosen : Chosen t on numbers
+  pub all : are_replacements numbers changes ≡ true
+
+-- the removal of the rows under the numbers
+pub record Removals (t : ChangeTarget) (on : Option ℕ) (changes : List Change) : Type 0 where
+  pub numbers : List ℕ
+  pub chosen : Chosen t on numbers
+  pub all : changes ≡ map Remove numbers

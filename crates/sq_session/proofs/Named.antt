@@ -1,0 +1,41 @@
+-- Procedures by their names and numbers.
+use Rattle.std.proofs.Common.{◌≡◌, ◌&&◌, ◌+◌, ℕ, zero, suc, Bool, not, cond, List, [], ◌∷◌, length, map, nat_eq, nat_lt, position, Option, Some, None, slice_get, option_map, Result, Ok, Err, refl, ap, ap₂, arith}
+use Rattle.std.specs.Cmp.Lexicographic.{pointwise}
+use Rattle.std.specs.List.{position_or_len}
+use Rattle.sq_lex.specs.declared.name.Name.{Name}
+use Rattle.sq_bound.specs.declared.fault.BindFault.{BindFault}
+use Rattle.sq_bound.specs.declared.statement.BoundStatement.{BoundStatement}
+use Rattle.sq_module.specs.declared.program.BoundProcedure.{BoundProcedure}
+use Rattle.sq_module.specs.declared.program.ProcedureName.{ProcedureName}
+use Rattle.sq_session.specs.Kind.{fault_at, kind_at, kind_of}
+use Rattle.sq_session.specs.Session.{is_procedure, procedure_number, procedures_of}
+
+abbrev Entry : Type 0
+Entry = ProcedureName × BoundProcedure
+
+abbrev is_name : Name → Name → ProcedureName → Bool
+is_name «module» name k = pointwise nat_eq «module» k.«module» && pointwise nat_eq name k.name
+
+same_place : («module» name : Name) (es : List Entry) → position_or_len (is_procedure «module» name) (procedures_of es) ≡ position_or_len (is_name «module» name) (map (λ e. e.0) es)
+same_place «module» name [] = refl
+same_place «module» name (e ∷ es) = ap (λ n. cond (not (is_name «module» name e.0)) (1 + n) 0) (same_place «module» name es)
+
+same_length : (es : List Entry) → length (procedures_of es) ≡ length (map (λ e. e.0) es)
+same_length [] = refl
+same_length (e ∷ es) = ap (λ n. suc n) (same_length es)
+
+-- a procedure is found by the key of its entry
+pub number_is : («module» name : Name) (es : List Entry) → procedure_number (procedures_of es) «module» name ≡ position (is_name «module» name) (map (λ e. e.0) es)
+number_is «module» name es = ap₂ (λ n m. cond (nat_lt n m) (Some n) None) (same_place «module» name es) (same_length es)
+
+-- what its statement is, is so of its entry's
+pub kind_is : (es : List Entry) (n : ℕ) (e : Entry) (s : BoundStatement) → slice_get es n ≡ Some e → e.1.statement ≡ Ok s → kind_at (procedures_of es) n ≡ Some (kind_of e.1.parameters s)
+kind_is [] n e s h k = cc
+kind_is (x ∷ es) zero e s h k = grind (arith, h, k)
+kind_is (x ∷ es) (suc n) e s h k = kind_is es n e s h k
+
+-- and its fault is that of its entry
+pub fault_is : (es : List Entry) (n : ℕ) (e : Entry) (f : BindFault) → slice_get es n ≡ Some e → e.1.statement ≡ Err f → fault_at (procedures_of es) n ≡ Some f
+fault_is [] n e f h k = cc
+fault_is (x ∷ es) zero e f h k = grind (arith, h, k)
+fault_is (x ∷ es) (suc n) e f h k = fault_is es n e f h k

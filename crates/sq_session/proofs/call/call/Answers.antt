@@ -1,0 +1,12 @@
+use Rattle.std.proofs.Common.{sym}
+use Rattle.sq_module.specs.declared.program.BoundProcedure.{BoundProcedure}
+use Rattle.sq_module.specs.declared.program.ProcedureName.{ProcedureName}
+use Rattle.sq_session.proofs.Named.{kind_is}
+use Rattle.sq_session.proofs.call.call.Goals as goal
+
+pub returns-in-Ok : goal.returns-in-Ok
+returns-in-Ok g c =
+    let entries = c.args.program.now.procedures.entries in
+    let entry : ProcedureName × BoundProcedure = (c.in-Some.field-0-0.now, c.in-Some.procedure.now) in
+    let kind = kind_is entries c.args.procedure entry c.in-Ok.statement (sym c.in-Some.ensures.entry) c.in-Ok.is in
+    record { step = rw kind c.performed.ensures.step; err = c.performed.ensures.err; memory = rw kind c.performed.ensures.memory }
