@@ -40,10 +40,16 @@ pub(crate) fn compared_with_query(
 /// Whether a subquery has a row.
 pub(crate) fn exists(rows: Result<Vec<Row>, Fault>) -> Result<Truth, Fault> {
     let rows = rows?;
-    Ok(Truth::from(!rows.is_empty()))
+    Ok(has_rows(rows.as_slice()))
 }
 
-fn compared_with_rows(
+/// Whether there is a row.
+pub(crate) fn has_rows(rows: &[Row]) -> Truth {
+    Truth::from(!rows.is_empty())
+}
+
+/// A value compared with the rows of a subquery of one column.
+pub(crate) fn compared_with_rows(
     comparison: Comparison,
     quantifier: Compared,
     left: &Value,

@@ -17,6 +17,8 @@ mod frame;
 mod group;
 mod inputs;
 mod item;
+mod members;
+mod memo;
 mod needed;
 mod order;
 mod predicate;
