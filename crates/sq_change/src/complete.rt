@@ -13,8 +13,7 @@ use crate::setting::{Setting, base_table};
 use sq_bound::{Names, TablePlace};
 use sq_items::Items;
 use sq_lex::Name;
-use sq_meaning::Status;
-use sq_query::Fault;
+use sq_query::{Failure, Fault};
 use sq_store::{ApplyFault, Change, Store};
 use sq_value::Value;
 use std::alloc::Global;
@@ -105,7 +104,7 @@ fn apply<S: Store>(
     }
     match store.apply(alloc, place, changes) {
         Ok(()) => Ok(()),
-        Err(ApplyFault::Duplicate) => Err(Fault::Status(Status::IntegrityConstraintViolation)),
+        Err(ApplyFault::Duplicate) => Err(Fault::Status(Failure::IntegrityConstraintViolation)),
         Err(ApplyFault::NoMemory) => Err(Fault::NoMemory),
     }
 }

@@ -3,8 +3,7 @@
 use crate::row::{is_null, row_put};
 use crate::setting::{Setting, leaf_of};
 use sq_bound::{BaseTable, BoundCond, Leaf, Names, TablePlace};
-use sq_meaning::Status;
-use sq_query::Fault;
+use sq_query::{Failure, Fault};
 use sq_store::{Change, Store};
 use sq_value::{Row, Truth, Value};
 
@@ -49,7 +48,7 @@ fn meets_check_option<N: Names, S: Store>(
 fn is_or_violates(truth: Truth) -> Result<(), Fault> {
     match truth {
         Truth::True => Ok(()),
-        _ => Err(Fault::Status(Status::CheckOptionViolation)),
+        _ => Err(Fault::Status(Failure::CheckOptionViolation)),
     }
 }
 
@@ -74,7 +73,7 @@ fn row_satisfied<N: Names, S: Store>(
     row: &Row,
 ) -> Result<(), Fault> {
     if lacks_value(table, row.as_slice()) {
-        return Err(Fault::Status(Status::IntegrityConstraintViolation));
+        return Err(Fault::Status(Failure::IntegrityConstraintViolation));
     }
     for check in table.checks.as_slice() {
         check_satisfied(setting, check, row)?;
@@ -99,7 +98,7 @@ fn check_satisfied<N: Names, S: Store>(
     row: &Row,
 ) -> Result<(), Fault> {
     match setting.truth(check, row)? {
-        Truth::False => Err(Fault::Status(Status::IntegrityConstraintViolation)),
+        Truth::False => Err(Fault::Status(Failure::IntegrityConstraintViolation)),
         _ => Ok(()),
     }
 }

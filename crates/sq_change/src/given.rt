@@ -7,8 +7,7 @@ use sq_bound::{
     Names,
 };
 use sq_items::Items;
-use sq_meaning::Status;
-use sq_query::{Fault, specification_rows};
+use sq_query::{Failure, Fault, specification_rows};
 use sq_store::{Change, Meter, Store};
 use sq_value::{Row, Value};
 use std::alloc::Global;
@@ -75,7 +74,7 @@ fn rows_found<N: Names, S: Store>(
         meter,
     )?;
     if rows.is_empty() {
-        return Err(Fault::Status(Status::NoData));
+        return Err(Fault::Status(Failure::NoData));
     }
     Ok(rows)
 }

@@ -5,8 +5,7 @@ ghost use Rattle.std.specs.Prelude.{◌<◌, length};
 use crate::row::{has_columns, has_null, row_put};
 use crate::setting::base_table;
 use sq_bound::{BaseTable, Names, Reference};
-use sq_meaning::Status;
-use sq_query::Fault;
+use sq_query::{Failure, Fault};
 use sq_store::{Change, Meter, Store};
 use sq_value::{Key, Row};
 use std::alloc::Global;
@@ -105,7 +104,7 @@ fn is_there<S: Store>(store: &S, referenced: &Referenced) -> Result<(), Fault> {
     }
     match store.find_key(*table, *key, values, &mut Meter::new()) {
         Some(_) => Ok(()),
-        None => Err(Fault::Status(Status::IntegrityConstraintViolation)),
+        None => Err(Fault::Status(Failure::IntegrityConstraintViolation)),
     }
 }
 

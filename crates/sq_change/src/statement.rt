@@ -7,8 +7,7 @@ use crate::given::new_rows;
 use crate::setting::{Setting, base_table};
 use crate::target::{all_keys, changed_table, keys_assigned, numbers_changed, removed, replaced};
 use sq_bound::{BoundInsert, BoundUpdate, ChangeTarget, Names};
-use sq_meaning::Status;
-use sq_query::{Fault, Inputs};
+use sq_query::{Failure, Fault, Inputs};
 use sq_store::{Meter, Store};
 use std::alloc::Global;
 
@@ -45,7 +44,7 @@ fn inserted<N: Names, S: Store>(
     let changes = new_rows(setting, insert, table, meter)?;
     if changes.len() as u64 > setting.store.numbers_left(insert.base) {
         drop(changes);
-        return Err(Fault::Status(Status::NoRowNumberLeft));
+        return Err(Fault::Status(Failure::NoRowNumberLeft));
     }
     Ok(Changed {
         named: insert.table,

@@ -6,8 +6,7 @@ use crate::setting::Setting;
 use crate::storing::stored_value;
 use sq_bound::{BaseTable, BoundAssignment, ChangeTarget, Names, TablePlace};
 use sq_items::Items;
-use sq_meaning::Status;
-use sq_query::{Fault, numbers_of};
+use sq_query::{Failure, Fault, numbers_of};
 use sq_store::{Change, Meter, Store};
 use sq_value::{Row, copy_row};
 use std::alloc::Global;
@@ -39,7 +38,7 @@ pub(crate) fn numbers_changed<N: Names, S: Store>(
                 meter,
             )?;
             if numbers.is_empty() {
-                return Err(Fault::Status(Status::NoData));
+                return Err(Fault::Status(Failure::NoData));
             }
             Ok(numbers)
         }

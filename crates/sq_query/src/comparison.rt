@@ -1,8 +1,7 @@
 //! Comparison of values (ISO/IEC 9075:1992, 8.2 and 8.7).
 
-use crate::fault::Fault;
+use crate::fault::{Failure, Fault};
 use sq_bound::Compared;
-use sq_meaning::Status;
 use sq_tree::Comparison;
 use sq_value::{Row, Truth, Value};
 use std::cmp::Ordering;
@@ -67,7 +66,7 @@ fn compared_with_only(comparison: Comparison, left: &Value, rows: &[Row]) -> Res
     match rows {
         [] => Ok(Truth::Unknown),
         [row] => Ok(compared_with_row(comparison, left, row)),
-        _ => Err(Fault::Status(Status::CardinalityViolation)),
+        _ => Err(Fault::Status(Failure::CardinalityViolation)),
     }
 }
 

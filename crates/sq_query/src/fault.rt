@@ -1,6 +1,7 @@
 //! Why a query, a condition or an expression has no answer.
 
 ghost use Rattle.std.specs.Prelude.{◌≡◌};
+ghost use Rattle.sq_query.specs.Fault.{status_of};
 
 use sq_meaning::Status;
 use sq_value::{ArithmeticFault, LikeFault, RetrieveFault, StoreFault};
@@ -11,14 +12,56 @@ use thiserror::Error;
 #[derive(Clone, Copy, Debug, PartialEq, Eq, Error)]
 pub enum Fault {
     #[error("it ends with a status")]
-    Status(Status),
+    Status(Failure),
     #[error("out of memory")]
     NoMemory,
 }
 
+/// What a statement ends with that has no answer: no data, or an exception (ISO/IEC 9075:1992, 22.1). Success and a
+/// warning are none.
+#[derive(Clone, Copy, Debug, PartialEq, Eq)]
+pub enum Failure {
+    NoData,
+    CardinalityViolation,
+    TextTooLong,
+    NullWithoutIndicator,
+    NumericValueOutOfRange,
+    DivisionByZero,
+    InvalidEscapeCharacter,
+    InvalidEscapeSequence,
+    IntegrityConstraintViolation,
+    InvalidCursorState,
+    SyntaxErrorOrAccessRuleViolation,
+    CheckOptionViolation,
+    NoRowNumberLeft,
+}
+
+impl Failure {
+    /// Its status.
+    pub fn status(self) -> Status
+        ensures { result ≡ status_of self }
+    {
+        match self {
+            Failure::NoData => Status::NoData,
+            Failure::CardinalityViolation => Status::CardinalityViolation,
+            Failure::TextTooLong => Status::TextTooLong,
+            Failure::NullWithoutIndicator => Status::NullWithoutIndicator,
+            Failure::NumericValueOutOfRange => Status::NumericValueOutOfRange,
+            Failure::DivisionByZero => Status::DivisionByZero,
+            Failure::InvalidEscapeCharacter => Status::InvalidEscapeCharacter,
+            Failure::InvalidEscapeSequence => Status::InvalidEscapeSequence,
+            Failure::IntegrityConstraintViolation => Status::IntegrityConstraintViolation,
+            Failure::InvalidCursorState => Status::InvalidCursorState,
+            Failure::SyntaxErrorOrAccessRuleViolation => Status::SyntaxErrorOrAccessRuleViolation,
+            Failure::CheckOptionViolation => Status::CheckOptionViolation,
+            Failure::NoRowNumberLeft => Status::NoRowNumberLeft,
+        }
+    }
+}
+
 impl Fault {
     /// A rule of the language is broken: SQLSTATE 42000.
-    pub const NOT_WELL_FORMED: Fault = Fault::Status(Status::SyntaxErrorOrAccessRuleViolation);
+    pub const NOT_WELL_FORMED: Fault = Fault::Status(Failure::SyntaxErrorOrAccessRuleViolation);
 }
 
 impl From<AllocError> for Fault {
@@ -41,17 +84,11 @@ impl<T: Drop> From<AllocFailed<T>> for Fault {
     }
 }
 
-impl From<Status> for Fault {
-    fn from(status: Status) -> Fault {
-        Fault::Status(status)
-    }
-}
-
 impl From<ArithmeticFault> for Fault {
     fn from(fault: ArithmeticFault) -> Fault {
         match fault {
-            ArithmeticFault::Range => Fault::Status(Status::NumericValueOutOfRange),
-            ArithmeticFault::ZeroDivisor => Fault::Status(Status::DivisionByZero),
+            ArithmeticFault::Range => Fault::Status(Failure::NumericValueOutOfRange),
+            ArithmeticFault::ZeroDivisor => Fault::Status(Failure::DivisionByZero),
         }
     }
 }
@@ -59,8 +96,8 @@ impl From<ArithmeticFault> for Fault {
 impl From<LikeFault> for Fault {
     fn from(fault: LikeFault) -> Fault {
         match fault {
-            LikeFault::EscapeLength => Fault::Status(Status::InvalidEscapeCharacter),
-            LikeFault::EscapeSequence => Fault::Status(Status::InvalidEscapeSequence),
+            LikeFault::EscapeLength => Fault::Status(Failure::InvalidEscapeCharacter),
+            LikeFault::EscapeSequence => Fault::Status(Failure::InvalidEscapeSequence),
         }
     }
 }
@@ -68,8 +105,8 @@ impl From<LikeFault> for Fault {
 impl From<StoreFault> for Fault {
     fn from(fault: StoreFault) -> Fault {
         match fault {
-            StoreFault::Range => Fault::Status(Status::NumericValueOutOfRange),
-            StoreFault::TooLong => Fault::Status(Status::TextTooLong),
+            StoreFault::Range => Fault::Status(Failure::NumericValueOutOfRange),
+            StoreFault::TooLong => Fault::Status(Failure::TextTooLong),
             StoreFault::NoMemory => Fault::NoMemory,
         }
     }
@@ -78,7 +115,7 @@ impl From<StoreFault> for Fault {
 impl From<RetrieveFault> for Fault {
     fn from(fault: RetrieveFault) -> Fault {
         match fault {
-            RetrieveFault::Range => Fault::Status(Status::NumericValueOutOfRange),
+            RetrieveFault::Range => Fault::Status(Failure::NumericValueOutOfRange),
             RetrieveFault::NoMemory => Fault::NoMemory,
         }
     }

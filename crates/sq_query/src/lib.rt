@@ -30,7 +30,7 @@ mod target;
 mod union;
 mod view;
 
-pub use fault::Fault;
+pub use fault::{Failure, Fault};
 pub use inputs::Inputs;
 pub use order::{ordered_rows, specification_rows};
 pub use row::{truth_of, value_of};

@@ -1,9 +1,8 @@
 //! The rows of the tables that a statement reads.
 
 use crate::context::Context;
-use crate::fault::Fault;
+use crate::fault::{Failure, Fault};
 use sq_bound::TablePlace;
-use sq_meaning::Status;
 use sq_store::{Meter, Store};
 use sq_value::Row;
 use std::alloc::Global;
@@ -20,7 +19,7 @@ pub(crate) struct BaseRows<'a> {
 pub(crate) struct ViewRows {
     pub place: usize,
     pub rows: Vec<Row>,
-    pub status: Option<Status>,
+    pub failure: Option<Failure>,
 }
 
 /// The rows of these base tables.
@@ -91,8 +90,8 @@ pub(crate) fn rows_at<'a>(place: TablePlace, context: &Context<'a>) -> Result<Ve
 impl ViewRows {
     /// The rows, or the status.
     fn lend(&self, alloc: Global) -> Result<Vec<&Row>, Fault> {
-        if let Some(status) = self.status {
-            return Err(Fault::Status(status));
+        if let Some(failure) = self.failure {
+            return Err(Fault::Status(failure));
         }
         let mut rows = Vec::new(alloc);
         for row in self.rows.as_slice() {

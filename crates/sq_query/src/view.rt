@@ -90,12 +90,12 @@ fn view_rows<'a, N: Names>(
         Ok(rows) => Ok(ViewRows {
             place,
             rows,
-            status: None,
+            failure: None,
         }),
-        Err(Fault::Status(status)) => Ok(ViewRows {
+        Err(Fault::Status(failure)) => Ok(ViewRows {
             place,
             rows: Vec::new(alloc),
-            status: Some(status),
+            failure: Some(failure),
         }),
         Err(Fault::NoMemory) => Err(Fault::NoMemory),
     }

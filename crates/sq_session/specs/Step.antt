@@ -8,6 +8,7 @@ use Rattle.sq_bound.specs.declared.statement.ChangeTarget.TheVariants as target
 use Rattle.sq_bound.specs.declared.statement.PositionedTarget.{PositionedTarget}
 use Rattle.sq_meaning.specs.declared.status.Status.{Status}
 use Rattle.sq_meaning.specs.declared.status.Status.TheVariants as status
+use Rattle.sq_query.specs.Fault.{status_of}
 use Rattle.sq_query.specs.declared.fault.Fault.{Fault}
 use Rattle.sq_query.specs.declared.fault.Fault.TheVariants as fault
 use Rattle.sq_session.specs.Kind.{Kind}
@@ -24,7 +25,7 @@ ended st = record { status = st; outputs = [] }
 -- a statement that is not performed ends with a status alone; want of memory is no ending
 abbrev pub ending : Result Done Fault → Option Done
 ending (Ok d) = Some d
-ending (Err (fault.Status st)) = Some (ended st)
+ending (Err (fault.Status f)) = Some (ended (status_of f))
 ending (Err fault.NoMemory) = None
 
 abbrev pub is_success : Status → Bool

@@ -93,7 +93,7 @@ pub(crate) fn reply_of(
 {
     let Done { status, outputs } = match ended {
         Ok(done) => done,
-        Err(Fault::Status(status)) => Done::without_outputs(alloc, status),
+        Err(Fault::Status(failure)) => Done::without_outputs(alloc, failure.status()),
         Err(Fault::NoMemory) => return Err(AllocError),
     };
     Ok(Reply {

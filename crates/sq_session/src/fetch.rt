@@ -12,7 +12,7 @@ use crate::walk::{WalkingCursor, next_of_walk};
 use sq_bound::{BoundFetch, CursorBody, UpdatableQuery};
 use sq_items::Items;
 use sq_meaning::Status;
-use sq_query::Fault;
+use sq_query::{Failure, Fault};
 use sq_store::{Meter, Store};
 use sq_value::Row;
 use std::alloc::Global;
@@ -51,7 +51,7 @@ fn fetch_cursor<S: Store>(
     ensures known { IfOk result (λ d. NotRefused d.status) }
 {
     match cursor {
-        CursorState::Closed => Err(Fault::Status(Status::InvalidCursorState)),
+        CursorState::Closed => Err(Fault::Status(Failure::InvalidCursorState)),
         CursorState::Numbers(numbers) => fetch_number(called, fetch, numbers, store, meter),
         CursorState::Walking(walk) => fetch_walk(called, fetch, walk, store, meter),
         CursorState::Rows(rows) => fetch_row(called, fetch, rows),

@@ -2,6 +2,7 @@
 
 ghost use Rattle.std.specs.Prelude.{◌≡◌, false, IfErr, IfOk, IfSome, IsSome, OnErr, OnOk, is_ok, is_some, replicate, slice_get};
 ghost use Rattle.sq_meaning.specs.declared.status.Status.TheVariants as status;
+ghost use Rattle.sq_query.specs.declared.fault.Failure.TheVariants as failure;
 ghost use Rattle.sq_query.specs.declared.fault.Fault.TheVariants as fault;
 ghost use Rattle.sq_session.specs.Kind.{delete_kind, update_kind};
 ghost use Rattle.sq_session.specs.State.{committed_state, rolled_back};
@@ -16,8 +17,7 @@ use crate::target::row_retrieved;
 use crate::walk::{ListedCursor, listed_walk};
 use sq_bound::{BoundFetch, BoundInsert, BoundSelect, BoundUpdate, ChangeTarget, PositionedTarget};
 use sq_change::{delete, insert, update};
-use sq_meaning::Status;
-use sq_query::{Fault, specification_rows};
+use sq_query::{Failure, Fault, specification_rows};
 use sq_store::{Meter, Store};
 use std::alloc::{AllocError, Global};
 use std::marker::Model;
@@ -65,7 +65,7 @@ impl<S: Store> Machine<S> {
         match self.cursors.get(number) {
             None => Err(Fault::NOT_WELL_FORMED),
             Some(CursorState::Closed) => self.open_closed(called, number, meter),
-            Some(_) => Err(Fault::Status(Status::InvalidCursorState)),
+            Some(_) => Err(Fault::Status(Failure::InvalidCursorState)),
         }
     }
 
@@ -99,7 +99,7 @@ impl<S: Store> Machine<S> {
     {
         match self.cursors.get(fetch.cursor) {
             None => Err(Fault::NOT_WELL_FORMED),
-            Some(CursorState::Closed) => Err(Fault::Status(Status::InvalidCursorState)),
+            Some(CursorState::Closed) => Err(Fault::Status(Failure::InvalidCursorState)),
             Some(_) => self.fetch_open(called, fetch, meter),
         }
     }
@@ -131,7 +131,7 @@ impl<S: Store> Machine<S> {
     {
         match self.cursors.get(number) {
             None => Err(Fault::NOT_WELL_FORMED),
-            Some(CursorState::Closed) => Err(Fault::Status(Status::InvalidCursorState)),
+            Some(CursorState::Closed) => Err(Fault::Status(Failure::InvalidCursorState)),
             Some(_) => {
                 self.cursors[number] = CursorState::Closed;
                 Ok(Done::successful(alloc))
@@ -155,11 +155,11 @@ impl<S: Store> Machine<S> {
             meter,
         )?;
         match rows.split_first() {
-            None => Err(Fault::Status(Status::NoData)),
+            None => Err(Fault::Status(Failure::NoData)),
             Some((row, others)) if others.is_empty() => {
                 row_retrieved(called, select.outputs.as_slice(), row.as_slice())
             }
-            Some(_) => Err(Fault::Status(Status::CardinalityViolation)),
+            Some(_) => Err(Fault::Status(Failure::CardinalityViolation)),
         }
     }
 
@@ -266,13 +266,13 @@ impl<S: Store> Machine<S> {
     /// The number that a positioned statement changes; none for a searched one.
     fn current(&self, target: &ChangeTarget) -> Result<Option<u64>, Fault>
         ensures ready { is_ok result ≡ is_ready self.now target.now }
-        ensures refused { IfErr result (λ f. f ≡ fault.Status status.InvalidCursorState) }
+        ensures refused { IfErr result (λ f. f ≡ fault.Status failure.InvalidCursorState) }
     {
         match target {
             ChangeTarget::Searched(_) => Ok(None),
             ChangeTarget::Positioned(positioned) => match self.number_there(positioned) {
                 Some(number) => Ok(Some(number)),
-                None => Err(Fault::Status(Status::InvalidCursorState)),
+                None => Err(Fault::Status(Failure::InvalidCursorState)),
             },
         }
     }

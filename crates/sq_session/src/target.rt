@@ -9,7 +9,7 @@ use sq_bound::ParameterDesc;
 use sq_change::{fits_kind, is_domain};
 use sq_items::Items;
 use sq_meaning::Status;
-use sq_query::Fault;
+use sq_query::{Failure, Fault};
 use sq_value::{Decimal, Retrieved, Value, retrieve};
 use std::alloc::Global;
 
@@ -37,8 +37,8 @@ pub(crate) fn row_retrieved(
 {
     match assignments_of(called, targets, row) {
         Ok(assignments) => done(called, &assignments),
-        Err(Fault::Status(status)) if status != Status::SyntaxErrorOrAccessRuleViolation => {
-            Ok(Done::without_outputs(called.alloc, status))
+        Err(Fault::Status(failure)) if failure != Failure::SyntaxErrorOrAccessRuleViolation => {
+            Ok(Done::without_outputs(called.alloc, failure.status()))
         }
         Err(fault) => Err(fault),
     }
@@ -130,7 +130,7 @@ impl Assignments {
     /// Null is retrieved beside an indicator alone, which is set to -1.
     fn set_null(&mut self, target: sq_bound::Output) -> Result<(), Fault> {
         let Some(indicator) = target.indicator else {
-            return Err(Fault::Status(Status::NullWithoutIndicator));
+            return Err(Fault::Status(Failure::NullWithoutIndicator));
         };
         self.add(target.parameter, Value::Null)?;
         self.add(indicator, whole(-1))
