@@ -6,20 +6,15 @@ use crate::context::Context;
 use crate::fault::Fault;
 use crate::frame::{Frame, Group, Lines, column_value, line_frame};
 use crate::set_function::function_values;
-use indexmap::IndexSet;
+use indexmap::IndexMap;
 use sq_bound::{Grouping, Place};
 use sq_value::{Key, Row, Truth, Value};
 use std::alloc::Global;
 
-/// Lines by the values of their grouping columns: each list has those with the same ones, in the order of their first
-/// lines.
+/// Lines by the values of their grouping columns, in the order of their first occurrences.
 #[derive(Drop)]
 struct Sorted<'a> {
-    /// How many rows a line has.
-    width: usize,
-    keys: IndexSet<Key>,
-    groups: Vec<Lines<'a>>,
-    ghost is_wide: { 0 < width },
+    lines: IndexMap<Key, Lines<'a>>,
 }
 
 impl<'a> Sorted<'a> {
@@ -29,15 +24,12 @@ impl<'a> Sorted<'a> {
         alloc: Global,
         key: Result<Key, Fault>,
         line: &[&'a Row],
-    ) -> Result<(), Fault> {
-        let (place, is_new) = self.keys.insert_full(key?)?;
-        if is_new {
-            self.groups.push(Lines::new(alloc, self.width))?;
-        }
-        match self.groups.get_mut(place) {
-            Some(lines) => Ok(lines.push(line)?),
-            None => Err(Fault::NOT_WELL_FORMED),
-        }
+        width: usize,
+    ) -> Result<(), Fault>
+        requires { 0 < width }
+    {
+        let lines = self.lines.entry(key?)?.or_insert(Lines::new(alloc, width));
+        Ok(lines.push(line)?)
     }
 }
 
@@ -52,7 +44,7 @@ pub(crate) fn grouped<'a>(
     let mut groups = Vec::new(context.alloc);
     if grouping.by_columns {
         let sorted = sorted_lines(grouping.columns.as_slice(), lines, outer, context)?;
-        for lines in sorted.as_slice() {
+        for lines in sorted.lines.values() {
             groups.push(group_of(grouping, lines, outer, context)?)?;
         }
     } else {
@@ -61,25 +53,21 @@ pub(crate) fn grouped<'a>(
     Ok(groups)
 }
 
-/// The lines with the same values in these columns, by first occurrence.
+/// The lines by their values in these columns.
 fn sorted_lines<'a>(
     columns: &[Place],
     lines: &Lines<'a>,
     outer: Option<&Frame<'_>>,
     context: &Context<'a>,
-) -> Result<Vec<Lines<'a>>, Fault> {
+) -> Result<Sorted<'a>, Fault> {
     let mut sorted = Sorted {
-        width: lines.width,
-        keys: IndexSet::new(context.alloc),
-        groups: Vec::new(context.alloc),
+        lines: IndexMap::new(context.alloc),
     };
     for line in lines.rows.as_slice().chunks(lines.width) {
         let key = grouping_key(columns, &line_frame(line, outer), context.alloc);
-        sorted.add(context.alloc, key, line)?;
+        sorted.add(context.alloc, key, line, lines.width)?;
     }
-    let Sorted { keys, groups, .. } = sorted;
-    drop(keys);
-    Ok(groups)
+    Ok(sorted)
 }
 
 /// The values of the grouping columns in a line.

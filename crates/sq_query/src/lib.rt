@@ -15,6 +15,7 @@ mod fault;
 mod found;
 mod frame;
 mod group;
+mod index;
 mod inputs;
 mod item;
 mod members;

@@ -1,7 +1,7 @@
 //! The values of one column, found by hashing.
 
 use crate::fault::Fault;
-use crate::item::key_of;
+use crate::index::key_of;
 use indexmap::IndexSet;
 use sq_value::{Key, Row, Truth, Value};
 use std::alloc::Global;

@@ -12,10 +12,10 @@ use std::alloc::Global;
 
 /// The rows of a query expression: terms are joined from left to right.
 #[cycle(query_rows)]
-pub(crate) fn query_rows<'a>(
+pub(crate) fn query_rows<'a, 'm>(
     query: &'a BoundQuery,
-    context: &'a Context<'a>,
-    memo: &mut Memo,
+    context: &'a Context<'m>,
+    memo: &mut Memo<'m>,
 ) -> Result<Vec<Row>, Fault> {
     let mut so_far = term_rows(&query.first, context, memo)?;
     for union in query.rest.as_slice() {
@@ -28,10 +28,10 @@ pub(crate) fn query_rows<'a>(
 }
 
 #[cycle(query_rows)]
-fn term_rows<'a>(
+fn term_rows<'a, 'm>(
     term: &'a BoundTerm,
-    context: &'a Context<'a>,
-    memo: &mut Memo,
+    context: &'a Context<'m>,
+    memo: &mut Memo<'m>,
 ) -> Result<Vec<Row>, Fault> {
     match term {
         BoundTerm::Specification(query) => rows(query, None, context, memo),
