@@ -39,12 +39,7 @@ pub(crate) fn compared_with_query(
 /// Whether a subquery has a row.
 pub(crate) fn exists(rows: Result<Vec<Row>, Fault>) -> Result<Truth, Fault> {
     let rows = rows?;
-    Ok(has_rows(rows.as_slice()))
-}
-
-/// Whether there is a row.
-pub(crate) fn has_rows(rows: &[Row]) -> Truth {
-    Truth::from(!rows.is_empty())
+    Ok(Truth::from(!rows.is_empty()))
 }
 
 /// A value compared with the rows of a subquery of one column.
