@@ -37,9 +37,9 @@ impl<'a> Sorted<'a> {
 /// one, also of no lines.
 pub(crate) fn grouped<'a>(
     grouping: &Grouping,
-    lines: &Lines<'a>,
-    outer: Option<&Frame<'_>>,
-    context: &Context<'a>,
+    lines: &'a Lines<'a>,
+    outer: Option<&'a Frame<'a>>,
+    context: &Context<'_>,
 ) -> Result<Vec<Group<'a>>, Fault> {
     let mut groups = Vec::new(context.alloc);
     if grouping.by_columns {
@@ -56,14 +56,15 @@ pub(crate) fn grouped<'a>(
 /// The lines by their values in these columns.
 fn sorted_lines<'a>(
     columns: &[Place],
-    lines: &Lines<'a>,
-    outer: Option<&Frame<'_>>,
-    context: &Context<'a>,
+    lines: &'a Lines<'a>,
+    outer: Option<&'a Frame<'a>>,
+    context: &Context<'_>,
 ) -> Result<Sorted<'a>, Fault> {
     let mut sorted = Sorted {
         lines: IndexMap::new(context.alloc),
     };
-    for line in lines.rows.as_slice().chunks(lines.width) {
+    for row in (0..lines.rows.len()).step_by(lines.width) {
+        let line = lines.line_at(row);
         let key = grouping_key(columns, &line_frame(line, outer), context.alloc);
         sorted.add(context.alloc, key, line, lines.width)?;
     }
@@ -90,11 +91,11 @@ fn group_of<'a>(
     grouping: &Grouping,
     lines: &Lines<'a>,
     outer: Option<&Frame<'_>>,
-    context: &Context<'a>,
+    context: &Context<'_>,
 ) -> Result<Group<'a>, Fault> {
     let functions = function_values(grouping.set_functions.as_slice(), lines, outer, context)?;
     Ok(Group {
-        line: Vec::from_slice(context.alloc, lines.first())?,
+        line: Vec::from_slice(context.alloc, lines.line_at(0))?,
         functions,
     })
 }

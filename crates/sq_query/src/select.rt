@@ -10,14 +10,15 @@ use sq_value::{Key, Row};
 use std::alloc::Global;
 
 /// The select list for each line.
-pub(crate) fn shown_lines(
+pub(crate) fn shown_lines<'a>(
     query: &BoundSpecification,
-    lines: &Lines<'_>,
-    outer: Option<&Frame<'_>>,
+    lines: &'a Lines<'a>,
+    outer: Option<&'a Frame<'a>>,
     context: &Context<'_>,
 ) -> Result<Vec<Row>, Fault> {
     let mut rows = Vec::new(context.alloc);
-    for line in lines.rows.as_slice().chunks(lines.width) {
+    for row in (0..lines.rows.len()).step_by(lines.width) {
+        let line = lines.line_at(row);
         let row = row_of(query.list.as_slice(), &line_frame(line, outer), context)?;
         rows.push(row)?;
     }
