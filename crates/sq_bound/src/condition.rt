@@ -80,8 +80,9 @@ pub struct BoundSpecification {
     pub columns: Items<ResultColumn>,
     /// Whether evaluating it may answer a status in the stead of rows.
     pub can_fail: bool,
-    /// How many queries further out the columns that it reads reach. With 0 it is evaluated once a statement.
-    pub reach: usize,
+    /// The number of a subquery that reads no column of a query around it, which is evaluated at most once a statement. No other
+    /// subquery of the statement has it.
+    pub number: Option<usize>,
 }
 
 /// The groups of a grouped query (7.7, 7.8).

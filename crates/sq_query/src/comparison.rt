@@ -42,7 +42,8 @@ pub(crate) fn exists(rows: Result<Vec<Row>, Fault>) -> Result<Truth, Fault> {
     Ok(Truth::from(!rows.is_empty()))
 }
 
-fn compared_with_rows(
+/// A value compared with the rows of a subquery of one column.
+pub(crate) fn compared_with_rows(
     comparison: Comparison,
     quantifier: Compared,
     left: &Value,

@@ -1,9 +1,6 @@
 //! The values of value expressions (ISO/IEC 9075:1992, 6.2, 6.5 and 6.11 to 6.13). Operands are evaluated from left to
 //! right, and the first status met is the outcome.
 
-ghost use Rattle.std.specs.Prelude.{IsTrue};
-ghost use Rattle.sq_value.specs.Text.{IsText};
-
 use crate::arithmetic::{calculated, negated};
 use crate::context::Context;
 use crate::fault::Fault;
@@ -97,17 +94,10 @@ fn user_value<'a>(context: &Context<'_>) -> Result<Found<'a>, Fault> {
     let name = context.user;
     let mut codes = [b' '; 18];
     codes[..name.codes().len()].copy_from_slice(name.codes());
-    if !is_text(&codes) {
+    if !Text::is_text(&codes) {
         return Err(Fault::NOT_WELL_FORMED);
     }
     Ok(Found::made(Value::Chars(Text::new(context.alloc, &codes)?)))
-}
-
-/// Whether there are at most 240 codes, each from 32 to 126.
-fn is_text(codes: &[u8]) -> bool
-    ensures { IsTrue result → IsText codes.now }
-{
-    codes.len() <= 240 && codes.iter().all(|code| 32 <= *code && *code <= 126)
 }
 
 /// The values of expressions, as a row.

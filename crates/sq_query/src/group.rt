@@ -1,116 +1,74 @@
 //! Groups of lines (ISO/IEC 9075:1992, 7.7).
 
+ghost use Rattle.std.specs.Prelude.{◌<◌};
+
 use crate::context::Context;
 use crate::fault::Fault;
-use crate::frame::{Frame, Scope, column_value};
+use crate::frame::{Frame, Group, Lines, column_value, line_frame};
 use crate::set_function::function_values;
-use indexmap::IndexSet;
+use indexmap::IndexMap;
 use sq_bound::{Grouping, Place};
-use sq_value::{Key, Value};
+use sq_value::{Key, Row, Truth, Value};
 use std::alloc::Global;
 
-/// The lines with the same values in the grouping columns.
+/// Lines by the values of their grouping columns, in the order of their first occurrences.
 #[derive(Drop)]
-struct Group<'a> {
-    lines: Vec<Scope<'a>>,
+struct Sorted<'a> {
+    lines: IndexMap<Key, Lines<'a>>,
 }
 
-/// Groups by the values of their grouping columns, in the order of their first lines.
-#[derive(Drop)]
-struct Groups<'a> {
-    keys: IndexSet<Key>,
-    groups: Vec<Group<'a>>,
-}
-
-impl<'a> Groups<'a> {
-    /// Adds a line to the group of its key, unless it has none.
+impl<'a> Sorted<'a> {
+    /// Adds a line to those of its key.
     fn add(
         &mut self,
         alloc: Global,
         key: Result<Key, Fault>,
-        line: Scope<'a>,
-    ) -> Result<(), Fault> {
-        match key {
-            Ok(key) => self.enter(alloc, key, line),
-            Err(fault) => {
-                drop(line);
-                Err(fault)
-            }
-        }
-    }
-
-    fn enter(&mut self, alloc: Global, key: Key, line: Scope<'a>) -> Result<(), Fault> {
-        let (place, is_new) = self.keys.insert_full(key)?;
-        if is_new {
-            self.groups.push(Group {
-                lines: Vec::new(alloc),
-            })?;
-        }
-        match self.groups.get_mut(place) {
-            Some(group) => {
-                group.lines.push(line)?;
-                Ok(())
-            }
-            None => {
-                drop(line);
-                Err(Fault::NOT_WELL_FORMED)
-            }
-        }
+        line: &[&'a Row],
+        width: usize,
+    ) -> Result<(), Fault>
+        requires { 0 < width }
+    {
+        let lines = self.lines.entry(key?)?.or_insert(Lines::new(alloc, width));
+        Ok(lines.push(line)?)
     }
 }
 
-/// The groups of a grouped query, each with its first line and the values of its set functions.
+/// The groups of a grouped query, each with its first line and the values of its set functions. Without GROUP BY there is
+/// one, also of no lines.
 pub(crate) fn grouped<'a>(
     grouping: &Grouping,
-    lines: Vec<Scope<'a>>,
-    outer: Option<&Frame<'_>>,
-    context: &Context<'a>,
-) -> Result<Vec<Scope<'a>>, Fault> {
-    let groups = groups_by(grouping, lines, outer, context)?;
-    let mut scopes = Vec::new(context.alloc);
-    for group in groups.as_slice() {
-        scopes.push(group_scope(grouping, group, outer, context)?)?;
-    }
-    Ok(scopes)
-}
-
-/// The groups by first occurrence. Without GROUP BY there is one, also of no lines.
-fn groups_by<'a>(
-    grouping: &Grouping,
-    lines: Vec<Scope<'a>>,
-    outer: Option<&Frame<'_>>,
-    context: &Context<'a>,
+    lines: &'a Lines<'a>,
+    outer: Option<&'a Frame<'a>>,
+    context: &Context<'_>,
 ) -> Result<Vec<Group<'a>>, Fault> {
-    if grouping.by_columns {
-        let Groups { keys, groups } = groups_by_columns(
-            grouping.columns.as_slice(),
-            lines,
-            outer,
-            context,
-        )?;
-        drop(keys);
-        return Ok(groups);
-    }
     let mut groups = Vec::new(context.alloc);
-    groups.push(Group { lines })?;
+    if grouping.by_columns {
+        let sorted = sorted_lines(grouping.columns.as_slice(), lines, outer, context)?;
+        for lines in sorted.lines.values() {
+            groups.push(group_of(grouping, lines, outer, context)?)?;
+        }
+    } else {
+        groups.push(group_of(grouping, lines, outer, context)?)?;
+    }
     Ok(groups)
 }
 
-fn groups_by_columns<'a>(
+/// The lines by their values in these columns.
+fn sorted_lines<'a>(
     columns: &[Place],
-    lines: Vec<Scope<'a>>,
-    outer: Option<&Frame<'_>>,
-    context: &Context<'a>,
-) -> Result<Groups<'a>, Fault> {
-    let mut groups = Groups {
-        keys: IndexSet::new(context.alloc),
-        groups: Vec::new(context.alloc),
+    lines: &'a Lines<'a>,
+    outer: Option<&'a Frame<'a>>,
+    context: &Context<'_>,
+) -> Result<Sorted<'a>, Fault> {
+    let mut sorted = Sorted {
+        lines: IndexMap::new(context.alloc),
     };
-    for line in lines {
-        let key = grouping_key(columns, &line.frame(outer), context.alloc);
-        groups.add(context.alloc, key, line)?;
+    for row in (0..lines.rows.len()).step_by(lines.width) {
+        let line = lines.line_at(row);
+        let key = grouping_key(columns, &line_frame(line, outer), context.alloc);
+        sorted.add(context.alloc, key, line, lines.width)?;
     }
-    Ok(groups)
+    Ok(sorted)
 }
 
 /// The values of the grouping columns in a line.
@@ -128,18 +86,38 @@ fn values_at(columns: &[Place], frame: &Frame<'_>, alloc: Global) -> Result<Vec<
     Ok(values)
 }
 
-/// A group with the values of its set functions. Without lines it has no first line.
-fn group_scope<'a>(
+/// A group with the values of its set functions.
+fn group_of<'a>(
     grouping: &Grouping,
-    group: &Group<'a>,
+    lines: &Lines<'a>,
     outer: Option<&Frame<'_>>,
-    context: &Context<'a>,
-) -> Result<Scope<'a>, Fault> {
-    let lines = group.lines.as_slice();
+    context: &Context<'_>,
+) -> Result<Group<'a>, Fault> {
     let functions = function_values(grouping.set_functions.as_slice(), lines, outer, context)?;
-    let line = match lines {
-        [first, ..] => Vec::from_slice(context.alloc, first.line.as_slice())?,
-        [] => Vec::new(context.alloc),
-    };
-    Ok(Scope { line, functions })
+    Ok(Group {
+        line: Vec::from_slice(context.alloc, lines.line_at(0))?,
+        functions,
+    })
+}
+
+/// Adds a group of which HAVING is true.
+pub(crate) fn add_group_if<'a>(
+    truth: Result<Truth, Fault>,
+    group: Group<'a>,
+    groups: &mut Vec<Group<'a>>,
+) -> Result<(), Fault> {
+    match truth {
+        Ok(Truth::True) => {
+            groups.push(group)?;
+            Ok(())
+        }
+        Ok(_) => {
+            drop(group);
+            Ok(())
+        }
+        Err(fault) => {
+            drop(group);
+            Err(fault)
+        }
+    }
 }

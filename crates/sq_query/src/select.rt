@@ -3,39 +3,50 @@
 use crate::context::Context;
 use crate::expression::row_of;
 use crate::fault::Fault;
-use crate::frame::{Frame, Scope};
+use crate::frame::{Frame, Group, Lines, line_frame};
 use indexmap::IndexSet;
 use sq_bound::BoundSpecification;
 use sq_value::{Key, Row};
 use std::alloc::Global;
 
-/// The rows that a query specification shows of its lines or groups.
-pub(crate) fn shown_rows(
+/// The select list for each line.
+pub(crate) fn shown_lines<'a>(
     query: &BoundSpecification,
-    scopes: &[Scope<'_>],
-    outer: Option<&Frame<'_>>,
+    lines: &'a Lines<'a>,
+    outer: Option<&'a Frame<'a>>,
     context: &Context<'_>,
 ) -> Result<Vec<Row>, Fault> {
-    let rows = listed_rows(query, scopes, outer, context)?;
-    if query.distinct {
-        distinct_rows(context.alloc, rows)
-    } else {
-        Ok(rows)
+    let mut rows = Vec::new(context.alloc);
+    for row in (0..lines.rows.len()).step_by(lines.width) {
+        let line = lines.line_at(row);
+        let row = row_of(query.list.as_slice(), &line_frame(line, outer), context)?;
+        rows.push(row)?;
     }
+    distinct_if(query.distinct, context.alloc, rows)
 }
 
-/// The select list for each line or group.
-fn listed_rows(
+/// The select list for each group.
+pub(crate) fn shown_groups(
     query: &BoundSpecification,
-    scopes: &[Scope<'_>],
+    groups: &[Group<'_>],
     outer: Option<&Frame<'_>>,
     context: &Context<'_>,
 ) -> Result<Vec<Row>, Fault> {
     let mut rows = Vec::new(context.alloc);
-    for scope in scopes {
-        rows.push(row_of(query.list.as_slice(), &scope.frame(outer), context)?)?;
+    for group in groups {
+        let row = row_of(query.list.as_slice(), &group.frame(outer), context)?;
+        rows.push(row)?;
     }
-    Ok(rows)
+    distinct_if(query.distinct, context.alloc, rows)
+}
+
+/// With DISTINCT each row at its first occurrence.
+fn distinct_if(is_distinct: bool, alloc: Global, rows: Vec<Row>) -> Result<Vec<Row>, Fault> {
+    if is_distinct {
+        distinct_rows(alloc, rows)
+    } else {
+        Ok(rows)
+    }
 }
 
 /// Rows, each at its first occurrence.

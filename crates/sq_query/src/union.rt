@@ -4,6 +4,7 @@ use crate::arithmetic::GREATEST_SCALE;
 use crate::condition::rows;
 use crate::context::Context;
 use crate::fault::Fault;
+use crate::memo::Memo;
 use crate::select::distinct_rows;
 use sq_bound::{BoundQuery, BoundTerm, BoundUnion, ResultColumn};
 use sq_value::{Decimal, Domain, Kind, Row, Value, store};
@@ -11,13 +12,14 @@ use std::alloc::Global;
 
 /// The rows of a query expression: terms are joined from left to right.
 #[cycle(query_rows)]
-pub(crate) fn query_rows<'a>(
+pub(crate) fn query_rows<'a, 'm>(
     query: &'a BoundQuery,
-    context: &'a Context<'a>,
+    context: &'a Context<'m>,
+    memo: &mut Memo<'m>,
 ) -> Result<Vec<Row>, Fault> {
-    let mut so_far = term_rows(&query.first, context)?;
+    let mut so_far = term_rows(&query.first, context, memo)?;
     for union in query.rest.as_slice() {
-        match term_rows(&union.term, context) {
+        match term_rows(&union.term, context, memo) {
             Ok(others) => so_far = joined(union, so_far, others, context.alloc)?,
             Err(fault) => return Err(fault),
         }
@@ -26,10 +28,14 @@ pub(crate) fn query_rows<'a>(
 }
 
 #[cycle(query_rows)]
-fn term_rows<'a>(term: &'a BoundTerm, context: &'a Context<'a>) -> Result<Vec<Row>, Fault> {
+fn term_rows<'a, 'm>(
+    term: &'a BoundTerm,
+    context: &'a Context<'m>,
+    memo: &mut Memo<'m>,
+) -> Result<Vec<Row>, Fault> {
     match term {
-        BoundTerm::Specification(query) => rows(query, None, context),
-        BoundTerm::Bracketed(query) => query_rows(query.get(), context),
+        BoundTerm::Specification(query) => rows(query, None, context, memo),
+        BoundTerm::Bracketed(query) => query_rows(query.get(), context, memo),
     }
 }
 

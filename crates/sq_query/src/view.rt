@@ -3,6 +3,7 @@
 use crate::condition::rows;
 use crate::context::Context;
 use crate::fault::Fault;
+use crate::memo::Memo;
 use crate::needed::{Needed, is_among, view_at};
 use crate::table::{BaseRows, ViewRows, base_tables};
 use sq_bound::Names;
@@ -85,7 +86,7 @@ fn view_rows<'a, N: Names>(
         bases,
         views,
     };
-    match rows(&view.query, None, &context) {
+    match rows(&view.query, None, &context, &mut Memo::new(alloc)) {
         Ok(rows) => Ok(ViewRows {
             place,
             rows,

@@ -40,6 +40,8 @@ pub struct Environment {
     pub user: Name,
     pub parameters: Items<ParameterDesc>,
     scopes: Vec<Scope>,
+    /// The number of the next subquery that gets one.
+    next_number: usize,
 }
 
 /// A column that a reference means.
@@ -170,6 +172,7 @@ impl Environment {
             user,
             parameters: Items::from_slice(alloc, parameters)?,
             scopes: Vec::new(alloc),
+            next_number: 0,
         })
     }
 
@@ -196,6 +199,13 @@ impl Environment {
     /// Leaves the nearest query.
     pub fn leave(&mut self) {
         drop(self.scopes.pop());
+    }
+
+    /// A number that was not given before, as long as there is one.
+    pub fn take_number(&mut self) -> Option<usize> {
+        let number = self.next_number;
+        self.next_number = number.checked_add(1)?;
+        Some(number)
     }
 
     /// The items of the nearest query.

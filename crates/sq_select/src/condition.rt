@@ -200,13 +200,23 @@ fn bind_subquery<N: Names>(
     names: &N,
     environment: &mut Environment,
 ) -> SubqueryResult {
-    bind_select(
+    let query = bind_select(
         &query.table,
         query.quantifier,
         &query.list,
         names,
         environment,
-    )
+    );
+    numbered(query, environment)
+}
+
+/// The subquery, with a number where it reads no column of a query around it.
+fn numbered(query: SubqueryResult, environment: &mut Environment) -> SubqueryResult {
+    let Found { mut part, findings } = query?;
+    if findings.reach == 0 {
+        part.number = environment.take_number();
+    }
+    Ok(Found { part, findings })
 }
 
 /// A query specification of these parts, within the scopes of the environment.

@@ -414,7 +414,7 @@ fn whole_specification(parts: Parts) -> SubqueryResult {
             grouping,
             columns: selected.columns,
             can_fail,
-            reach: findings.reach,
+            number: None,
         },
         findings,
     })
