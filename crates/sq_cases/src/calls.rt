@@ -1,6 +1,6 @@
 //! What a report does not show of a run's calls: how many rows were read to choose rows.
 
-use crate::opened::{Opened, opened};
+use crate::opened::{OpenRun, open_run};
 use crate::run::Run;
 use sq_items::Items;
 use sq_lex::Name;
@@ -10,17 +10,17 @@ use sq_tree::{Argument, Arguments, ScriptItem, Sign, SignedNumber};
 use sq_value::{Decimal, Text, Value};
 use std::alloc::{AllocError, Global};
 
-/// What a session says of a call.
+/// What a session says of a call, which its line of the report does not.
 #[derive(Clone, Copy, Debug)]
-pub struct Called {
+pub struct Facts {
     reads: u64,
 }
 
 /// The calls of a run, made one after the other; none where a text is refused.
-pub fn calls_of<S: Store>(alloc: Global, run: &Run) -> Result<Vec<Called>, AllocError> {
-    match opened::<S>(alloc, run) {
+pub fn calls_of<S: Store>(alloc: Global, run: &Run) -> Result<Vec<Facts>, AllocError> {
+    match open_run::<S>(alloc, run) {
         Some(opened) => {
-            let Opened {
+            let OpenRun {
                 mut session,
                 script,
             } = opened;
@@ -34,7 +34,7 @@ fn made<S: Store>(
     alloc: Global,
     session: &mut Session<S>,
     items: &[ScriptItem],
-) -> Result<Vec<Called>, AllocError> {
+) -> Result<Vec<Facts>, AllocError> {
     let mut calls = Vec::new(alloc);
     for item in items {
         if let ScriptItem::Call(module, name, arguments) = item {
@@ -50,13 +50,11 @@ fn called<S: Store>(
     module: Name,
     name: Name,
     arguments: &Arguments,
-) -> Result<Called, AllocError> {
+) -> Result<Facts, AllocError> {
     let procedure = session.procedure(module, name).unwrap_or(usize::MAX);
     let values = values_of(alloc, arguments)?;
     let reply = session.call(alloc, procedure, values.as_slice())?;
-    Ok(Called {
-        reads: reply.reads,
-    })
+    Ok(Facts { reads: reply.reads })
 }
 
 fn values_of(alloc: Global, arguments: &Arguments) -> Result<Items<Value>, AllocError> {
@@ -90,7 +88,7 @@ fn number_of(literal: &SignedNumber) -> Value {
 }
 
 /// What is so of a call, where `3 reads 1` is wanted. Calls count from 1.
-pub fn answer(alloc: Global, calls: &[Called], wanted: &str) -> Result<String, AllocError> {
+pub fn answer(alloc: Global, calls: &[Facts], wanted: &str) -> Result<String, AllocError> {
     let (number, _) = wanted.split_once(' ').unwrap_or((wanted, ""));
     let place = number.parse::<usize>().unwrap_or(0).wrapping_sub(1);
     match calls.get(place) {

@@ -12,16 +12,16 @@ use std::alloc::Global;
 
 /// A session, and the script to be run in it.
 #[derive(Drop)]
-pub struct Opened<S: Store> {
+pub struct OpenRun<S: Store> {
     pub session: Session<S>,
     pub script: ScriptText,
 }
 
 /// The session and the script of a run, none where a text is refused.
-pub fn opened<S: Store>(alloc: Global, run: &Run) -> Option<Opened<S>> {
+pub fn open_run<S: Store>(alloc: Global, run: &Run) -> Option<OpenRun<S>> {
     let script = script_of(alloc, run.script.as_slice())?;
     match session_of(alloc, run) {
-        Some(session) => Some(Opened { session, script }),
+        Some(session) => Some(OpenRun { session, script }),
         None => {
             drop(script);
             None

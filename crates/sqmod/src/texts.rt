@@ -4,8 +4,8 @@ ghost use Rattle.sqmod.specs.Request.{AreTexts, NamesFile};
 
 use crate::command_line::Request;
 use crate::fault::{Fault, Source};
-use std::{fs, io};
 use std::rt::Files;
+use std::{fs, io};
 
 /// The texts of a request, in the order of its files.
 #[derive(Drop)]
@@ -64,11 +64,7 @@ fn read_all<R: Files + AllocGlobal>(rt: &R, files: &[&str]) -> Result<Vec<Vec<u8
 }
 
 /// Adds the text of a file.
-fn add_text<R: Files + AllocGlobal>(
-    rt: &R,
-    file: &str,
-    texts: &mut Vec<Vec<u8>>,
-) -> io::Result<()>
+fn add_text<R: Files + AllocGlobal>(rt: &R, file: &str, texts: &mut Vec<Vec<u8>>) -> io::Result<()>
     ensures { OnOk result (length texts.new.items ≡ length texts.old.items + 1) }
 {
     let text = fs::read(rt, file)?;
