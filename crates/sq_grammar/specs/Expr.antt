@@ -96,7 +96,7 @@ module _ (left : ℕ) (inner : Parser Expr) where
   by_number None = one_if_any text_of >>= by_text
   by_number (Some n) = pure (primary.Number n)
 
-  -- primary = number | text | param | USER | colref | setfn | "(" expr ")"
+  -- primary = number | text | parameter | USER | column-ref | set-function | "(" expr ")"
   unfoldable pub primary_at : Parser Primary
   primary_at = one_if_any number_of >>= by_number
 

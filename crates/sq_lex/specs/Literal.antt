@@ -1,5 +1,5 @@
 -- Text literals (ISO/IEC 9075:1992, 5.3 <character string literal>), from the byte after the opening quote on.
-use Rattle.std.specs.Prelude.{ℕ, ◌+◌, ◌<◌, ◌≤◌, List, [], ◌∷◌, if◌then◌else◌, ◌==◌}
+use Rattle.std.specs.Prelude.{ℕ, ◌+◌, ◌<◌, ◌≤◌, List, [], ◌∷◌, take, if◌then◌else◌, ◌==◌}
 use Rattle.sq_lex.specs.declared.literal.Literal.{Literal}
 use Rattle.sq_lex.specs.declared.literal.Literal.TheVariants.{Closed, Open, BadByte}
 use Rattle.sq_lex.specs.Characters.{quote, is_line_end, is_printable}
@@ -24,6 +24,15 @@ abbrev mutual
   pub after_quote : List ℕ → Literal
   after_quote [] = Closed [] 1
   after_quote (b ∷ bytes) = if b == quote then with_character quote 2 (literal bytes) else Closed [] 1
+
+-- What is kept of a literal: its first 241 characters, which tell whether it has more than the 240 that it may have.
+abbrev pub kept_characters : List ℕ → List ℕ
+kept_characters characters = take 241 characters
+
+abbrev pub kept : Literal → Literal
+kept (Closed characters size) = Closed (kept_characters characters) size
+kept Open = Open
+kept (BadByte at) = BadByte at
 
 -- a literal ends within so many bytes
 abbrev pub IsWithin : ℕ → Literal → Type 0

@@ -11,7 +11,7 @@ ghost use Rattle.sq_reader.specs.Reads.{Reads};
 
 use crate::condition::Grammar;
 use crate::expression::expr;
-use sq_grammar::Mixed;
+use sq_grammar::CondOrExpr;
 use sq_items::Boxed;
 use sq_lex::{Lexeme, Symbol, Word};
 use sq_reader::{Reader, Stop};
@@ -89,7 +89,7 @@ fn escape(alloc: Global, tokens: &mut Reader<'_>, left: usize) -> Result<Option<
     Ok(Some(escape))
 }
 
-impl<F: Fn(Global, &mut Reader<'_>, usize) -> Result<Mixed<Cond>, Stop>> Grammar<F> {
+impl<F: Fn(Global, &mut Reader<'_>, usize) -> Result<CondOrExpr<Cond>, Stop>> Grammar<F> {
     /// What follows a comparison operator.
     #[tactic(auto, unfolding(sq_grammar::specs::Cond::comparison_tail))]
     fn comparison_tail(&self, tokens: &mut Reader<'_>, comparison: Comparison) -> Result<Tail, Stop>
