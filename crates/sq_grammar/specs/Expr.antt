@@ -48,6 +48,10 @@ star_of _ = pure false
 abbrev pub close : Parser (Unit {0})
 close = expect_symbol symbol.Close
 
+-- a column whose first name is read already
+abbrev pub column : Name → Parser Primary
+column n = column_from n >>= λ c. pure (primary.Column c)
+
 -- `inner` reads an expression behind a bracket that is one of the `left` that may be opened
 module _ (left : ℕ) (inner : Parser Expr) where
   abbrev pub argument_of : SetFunction → Bool → Parser Primary
@@ -84,9 +88,13 @@ module _ (left : ℕ) (inner : Parser Expr) where
   by_colon true = parameter_from >>= λ p. pure (primary.Parameter p)
   by_colon false = eat_word word.User >>= by_user
 
+  -- a primary that begins with a symbol or a reserved word
+  abbrev pub marked : Parser Primary
+  marked = eat_symbol symbol.Colon >>= by_colon
+
   abbrev pub by_name : Option Name → Parser Primary
-  by_name None = eat_symbol symbol.Colon >>= by_colon
-  by_name (Some n) = column_from n >>= λ c. pure (primary.Column c)
+  by_name None = marked
+  by_name (Some n) = column n
 
   abbrev pub by_text : Option (List ℕ) → Parser Primary
   by_text None = one_if_any name_of >>= by_name

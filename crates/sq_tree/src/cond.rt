@@ -94,13 +94,13 @@ pub enum Tail {
     /// `op [ ALL | ANY | SOME ] "(" specification ")"`.
     CompareQuery(Comparison, Option<Quantifier>, Boxed<QuerySpecification>),
     /// `[ NOT ] BETWEEN expr AND expr`.
-    Between(bool, Expr, Expr),
+    Between(bool, Expr, Boxed<Expr>),
     /// `[ NOT ] IN "(" specification ")"`.
     InQuery(bool, Boxed<QuerySpecification>),
     /// `[ NOT ] IN "(" expr { "," expr } ")"`.
     InList(bool, CommaList<Expr>),
     /// `[ NOT ] LIKE expr [ ESCAPE expr ]`.
-    Like(bool, Expr, Option<Expr>),
+    Like(bool, Expr, Option<Boxed<Expr>>),
     /// `IS [ NOT ] NULL`.
     Null(bool),
 }
