@@ -84,16 +84,20 @@ module _ (left : ℕ) (inner : Parser Expr) where
   by_user true = pure primary.User
   by_user false = one_if_any function_of >>= by_function
 
+  -- a primary that begins with a reserved word or a bracket
+  abbrev pub word_primary : Parser Primary
+  word_primary = eat_word word.User >>= by_user
+
   abbrev pub by_colon : Bool → Parser Primary
   by_colon true = parameter_from >>= λ p. pure (primary.Parameter p)
-  by_colon false = eat_word word.User >>= by_user
+  by_colon false = word_primary
 
   -- a primary that begins with a symbol or a reserved word
-  abbrev pub marked : Parser Primary
-  marked = eat_symbol symbol.Colon >>= by_colon
+  abbrev pub symbol_primary : Parser Primary
+  symbol_primary = eat_symbol symbol.Colon >>= by_colon
 
   abbrev pub by_name : Option Name → Parser Primary
-  by_name None = marked
+  by_name None = symbol_primary
   by_name (Some n) = column n
 
   abbrev pub by_text : Option (List ℕ) → Parser Primary

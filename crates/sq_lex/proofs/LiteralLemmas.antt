@@ -15,7 +15,7 @@ use Rattle.sq_lex.specs.declared.literal.Literal.TheVariants.{Closed, Open, BadB
 use Rattle.sq_lex.specs.Characters.{quote, is_line_end, is_printable}
 use Rattle.sq_lex.specs.Literal.{literal, after_quote, with_character, kept, kept_characters}
 
--- characters of so many bytes before the rest of a literal
+-- characters, with their length in bytes, before the rest of a literal
 abbrev pub joined : List ℕ → ℕ → Literal → Literal
 joined characters spelled (Closed more size) = Closed (characters ++ more) (spelled + size)
 joined characters spelled Open = Open

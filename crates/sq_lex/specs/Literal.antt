@@ -4,7 +4,7 @@ use Rattle.sq_lex.specs.declared.literal.Literal.{Literal}
 use Rattle.sq_lex.specs.declared.literal.Literal.TheVariants.{Closed, Open, BadByte}
 use Rattle.sq_lex.specs.Characters.{quote, is_line_end, is_printable}
 
--- a character that is spelled by so many bytes, before the rest of a literal
+-- a character, with the length of its spelling in bytes, before the rest of a literal
 abbrev pub with_character : ℕ → ℕ → Literal → Literal
 with_character character spelled (Closed characters size) = Closed (character ∷ characters) (spelled + size)
 with_character character spelled Open = Open
@@ -34,7 +34,7 @@ kept (Closed characters size) = Closed (kept_characters characters) size
 kept Open = Open
 kept (BadByte at) = BadByte at
 
--- a literal ends within so many bytes
+-- a literal ends within the first n bytes
 abbrev pub IsWithin : ℕ → Literal → Type 0
 IsWithin n (Closed characters size) = (0 < size) × (size ≤ n)
 IsWithin n Open = Unit {0}

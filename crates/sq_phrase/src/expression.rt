@@ -150,20 +150,31 @@ impl<F: Fn(Global, &mut Reader<'_>, usize) -> Result<Expr, Stop>> Grammar<F> {
                 tokens.skip();
                 column(tokens, *name)
             }
-            Some(Lexeme::Word(_) | Lexeme::Symbol(_)) | None => self.marked(tokens),
+            Some(Lexeme::Word(_)) => self.word_primary(tokens),
+            Some(Lexeme::Symbol(_)) => self.symbol_primary(tokens),
+            None => Err(tokens.stop()),
         }
     }
 
-    /// A primary that begins with a symbol or a reserved word.
-    fn marked(&self, tokens: &mut Reader<'_>) -> Result<Primary, Stop>
+    /// A primary that begins with a symbol.
+    fn symbol_primary(&self, tokens: &mut Reader<'_>) -> Result<Primary, Stop>
         requires { Nests spec.inside self.now.left (F.pre self.now.inner) (F.post self.now.inner) }
-        ensures value { Reads (spec.marked self.now.left (spec.inside self.now.left) tokens.old) result tokens.new }
+        ensures value { Reads (spec.symbol_primary self.now.left (spec.inside self.now.left) tokens.old) result tokens.new }
         ensures shorter { OnOk result (length tokens.new < length tokens.old) }
     {
         if tokens.eat(Symbol::Colon) {
             let parameter = parameter_from(tokens)?;
             return Ok(Primary::Parameter(parameter));
         }
+        self.word_primary(tokens)
+    }
+
+    /// A primary that begins with a reserved word or a bracket.
+    fn word_primary(&self, tokens: &mut Reader<'_>) -> Result<Primary, Stop>
+        requires { Nests spec.inside self.now.left (F.pre self.now.inner) (F.post self.now.inner) }
+        ensures value { Reads (spec.word_primary self.now.left (spec.inside self.now.left) tokens.old) result tokens.new }
+        ensures shorter { OnOk result (length tokens.new < length tokens.old) }
+    {
         if tokens.eat_word(Word::User) {
             return Ok(Primary::User);
         }
