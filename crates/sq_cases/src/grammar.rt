@@ -179,7 +179,9 @@ fn is_same(left: &Lexeme, right: &Lexeme) -> bool {
         (Lexeme::Word(left), Lexeme::Word(right)) => left.is(*right),
         (Lexeme::Name(left), Lexeme::Name(right)) => left == right,
         (Lexeme::Number(left), Lexeme::Number(right)) => left == right,
-        (Lexeme::Text(left), Lexeme::Text(right)) => left.as_slice() == right.as_slice(),
+        (Lexeme::Text(left), Lexeme::Text(right)) => {
+            left.get().as_slice() == right.get().as_slice()
+        }
         (Lexeme::Symbol(left), Lexeme::Symbol(right)) => left == right,
         _ => false,
     }

@@ -1,37 +1,32 @@
 //! Texts and their tokens.
 use crate::written::expanded;
-use sq_lex::{Lexeme, Token, lex};
+use sq_lex::{Lexeme, Position, Token, lex};
 use std::alloc::{AllocError, Global};
 use std::fmt::Write;
 use std::str;
 
-/// The tokens of a text with their bytes, lines and columns, or its first fault.
+/// The tokens of a text with their first bytes, lines and columns, or its first fault.
 pub fn answer(alloc: Global, case: &str) -> Result<String, AllocError> {
     let text = expanded(alloc, case)?;
     match lex(alloc, text.as_slice()) {
-        Ok(tokens) => shown(alloc, tokens.as_slice()),
+        Ok(tokens) => shown(alloc, text.as_slice(), tokens.as_slice()),
         Err(fault) => format!(in alloc; "{fault}"),
     }
 }
 
-fn shown(alloc: Global, tokens: &[Token]) -> Result<String, AllocError> {
+fn shown(alloc: Global, text: &[u8], tokens: &[Token]) -> Result<String, AllocError> {
     let mut out = String::new(alloc);
     for token in tokens {
-        push_token(&mut out, token)?;
+        push_token(&mut out, text, token)?;
     }
     Ok(out)
 }
 
-fn push_token(out: &mut String, token: &Token) -> Result<(), AllocError> {
-    let Token {
-        lexeme,
-        start,
-        end,
-        line,
-        column,
-    } = token;
-    write!(out, "{start}-{end} {line}:{column} ")?;
-    push_lexeme(out, lexeme)?;
+fn push_token(out: &mut String, text: &[u8], token: &Token) -> Result<(), AllocError> {
+    let start = token.start;
+    let Position { line, column, .. } = Position::of(text, start);
+    write!(out, "{start} {line}:{column} ")?;
+    push_lexeme(out, &token.lexeme)?;
     out.push_str("; ")
 }
 
@@ -41,7 +36,7 @@ fn push_lexeme(out: &mut String, lexeme: &Lexeme) -> Result<(), AllocError> {
         Lexeme::Symbol(symbol) => write!(out, "{symbol:?}"),
         Lexeme::Name(name) => push_codes(out, "name", name.codes()),
         Lexeme::Number(number) => push_codes(out, "number", number.codes()),
-        Lexeme::Text(text) => push_codes(out, "text", text.as_slice()),
+        Lexeme::Text(text) => push_codes(out, "text", text.get().as_slice()),
     }
 }
 

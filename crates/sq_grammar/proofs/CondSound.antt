@@ -26,13 +26,13 @@ use Rattle.sq_tree.proofs.CondDepth.{cond_depth, conj_depth, test_depth, body_de
 use Rattle.sq_tree.proofs.CondLaws as law
 use Rattle.sq_tree.proofs.CondLaws.{and_test, or_conj}
 use Rattle.sq_tree.proofs.ExprLaws as exprs
-use Rattle.sq_grammar.specs.declared.mixed.Mixed.{Mixed}
-use Rattle.sq_grammar.specs.declared.mixed.Mixed.TheVariants.{Whole, Bare}
+use Rattle.sq_grammar.specs.declared.cond_or_expr.CondOrExpr.{CondOrExpr}
+use Rattle.sq_grammar.specs.declared.cond_or_expr.CondOrExpr.TheVariants as came
 use Rattle.sq_grammar.specs.Reading.{Parser, eat, sees, one_if_any, behind, listed, all, pure, ◌>>=◌}
 use Rattle.sq_grammar.specs.Expr as expressions
 use Rattle.sq_grammar.specs.Expr.{expr, expr_from}
-use Rattle.sq_grammar.specs.Cond.{comparison_of, compared_if_any, sees_query, strict, strictly, null_tail, inner_query, subquery, compared_query, comparison_tail, between_tail, in_tail, like_tail, by_between, negatable_tail, tail, predicate_from, bracket, body, tested, test_at, strict_test, conj, strict_conj, level, inside, cond, query_specification}
-use Rattle.sq_grammar.proofs.Spells.{Sound, After, sound, unsound, built, never, andthen, eats, eaten, expected, openly, maybe, following, either, mixed, mixedly, raised, rows, behinds, lists, one_maybe, some_is, lowered, lifted, eased}
+use Rattle.sq_grammar.specs.Cond.{comparison_of, compared_if_any, sees_query, only_cond, must_be_cond, null_tail, inner_query, subquery, compared_query, comparison_tail, between_tail, in_tail, like_tail, by_between, negatable_tail, tail, predicate_from, bracket, body, tested, test_at, must_be_test, conj, must_be_conj, level, inside, cond, query_specification}
+use Rattle.sq_grammar.proofs.Spells.{Sound, After, sound, unsound, built, never, andthen, eats, eaten, expected, openly, maybe, following, either, of_either, either_way, raised, rows, behinds, lists, one_maybe, some_is, lowered, lifted, eased}
 use Rattle.sq_grammar.proofs.ExprSound as expr_proof
 use Rattle.sq_grammar.proofs.SelectSound.{specifications}
 
@@ -55,20 +55,20 @@ compareds left = sound (eaten (lexeme.Word word.All) _
     (built None _ _ refl (λ h. omega arith)))))
 
 -- what was read is a part of a condition where it has to be
-pub strictly_sound : {A : Type 0} {text : A → Tokens} {depth : A → ℕ} (left : ℕ) (p : Parser (Mixed A)) → Sound p (mixed text expr_tokens) (mixed depth expr_depth) left → Sound (strictly p) text depth left
-strictly_sound left p s = sound (mixedly p strict s (λ x. built x _ _ refl (λ h. omega arith)) (λ e. never _ _))
+pub must_be_cond_sound : {A : Type 0} {text : A → Tokens} {depth : A → ℕ} (left : ℕ) (p : Parser (CondOrExpr A)) → Sound p (of_either text expr_tokens) (of_either depth expr_depth) left → Sound (must_be_cond p) text depth left
+must_be_cond_sound left p s = sound (either_way p only_cond s (λ x. built x _ _ refl (λ h. omega arith)) (λ e. never _ _))
 
 null_sound : (left : ℕ) → After (lexeme.Word word.Is ∷ []) 0 left null_tail tail_tokens tail_depth
 unfolding null_tail
 null_sound left = andthen (eat (lexeme.Word word.Not)) _ (eats (lexeme.Word word.Not) left) (λ n. expected (lexeme.Word word.Null) _
     (built (tails.Null n) _ _ (law.tail_tokens-Null n) (λ h. rw (law.tail_depth-Null n) (omega arith))))
 
-module _ (left : ℕ) (inner : Parser (Mixed Cond)) (s : Sound inner (mixed cond_tokens expr_tokens) (λ m. mixed cond_depth expr_depth m + 1) left) where
+module _ (left : ℕ) (inner : Parser (CondOrExpr Cond)) (s : Sound inner (of_either cond_tokens expr_tokens) (λ m. of_either cond_depth expr_depth m + 1) left) where
   inner_exprs : Sound (expressions.inside left) expr_tokens expr_depth (left - 1)
   inner_exprs = lowered left (expr_proof.inside_sound left)
 
   inner_query_sound : 0 < left → Sound (inner_query left inner) query_specification_tokens (λ q. query_specification_depth q + 1) left
-  inner_query_sound room = lifted left room (specifications (left - 1) (expressions.inside left) (strictly inner) inner_exprs (strictly_sound (left - 1) inner (lowered left s)))
+  inner_query_sound room = lifted left room (specifications (left - 1) (expressions.inside left) (must_be_cond inner) inner_exprs (must_be_cond_sound (left - 1) inner (lowered left s)))
 
   subquery_sound : Sound (subquery left inner) (λ q. bracketed (query_specification_tokens q)) (λ q. query_specification_depth q + 1) left
   unfolding subquery
@@ -119,22 +119,22 @@ module _ (left : ℕ) (inner : Parser (Mixed Cond)) (s : Sound inner (mixed cond
       (eaten (lexeme.Word word.Is) _ (found_sound (null_sound left)) (unsound negatable_sound))
       (λ op. found_sound (comparison_sound op)))
 
-  abbrev body_text : Mixed Body → Tokens
-  body_text = mixed body_tokens expr_tokens
+  abbrev body_text : CondOrExpr Body → Tokens
+  body_text = of_either body_tokens expr_tokens
 
-  abbrev body_height : Mixed Body → ℕ
-  body_height = mixed body_depth expr_depth
+  abbrev body_height : CondOrExpr Body → ℕ
+  body_height = of_either body_depth expr_depth
 
   predicate_sound : (e : Expr) → After (expr_tokens e) (expr_depth e) left (predicate_from left inner e) body_text body_height
   unfolding predicate_from
   predicate_sound e = maybe (tail left inner) _ tail_sound
-      (built (Bare e) _ _ refl (λ h. omega arith))
-      (λ t. built (Whole (bodies.Predicate e t)) _ _ (law.body_tokens-Predicate e t) (λ h. rw (law.body_depth-Predicate e t) (omega arith)))
+      (built (came.Expr e) _ _ refl (λ h. omega arith))
+      (λ t. built (came.Cond (bodies.Predicate e t)) _ _ (law.body_tokens-Predicate e t) (λ h. rw (law.body_depth-Predicate e t) (omega arith)))
 
   bracket_sound : Sound (bracket left inner) body_text body_height left
   unfolding bracket
-  bracket_sound = sound (openly left _ (λ room. mixedly inner _ s
-      (λ c. expected (lexeme.Symbol symbol.Close) _ (built (Whole (bodies.Bracketed c)) _ _ (law.body_tokens-Bracketed c) (λ h. rw (law.body_depth-Bracketed c) (omega arith))))
+  bracket_sound = sound (openly left _ (λ room. either_way inner _ s
+      (λ c. expected (lexeme.Symbol symbol.Close) _ (built (came.Cond (bodies.Bracketed c)) _ _ (law.body_tokens-Bracketed c) (λ h. rw (law.body_depth-Bracketed c) (omega arith))))
       (λ e. expected (lexeme.Symbol symbol.Close) _ (following (expr_from left (primary.Bracketed e)) _ (eased (bracketed_from e) (λ h. omega arith)) (λ x. predicate_sound x)))))
     where
       bracketed_from : (e : Expr) → After ((lexeme.Symbol symbol.Open ∷ expr_tokens e) ++ lexeme.Symbol symbol.Close ∷ []) (expr_depth e + 1) left (expr_from left (primary.Bracketed e)) expr_tokens expr_depth
@@ -143,62 +143,62 @@ module _ (left : ℕ) (inner : Parser (Mixed Cond)) (s : Sound inner (mixed cond
   body_sound : Sound (body left inner) body_text body_height left
   unfolding body
   body_sound = sound (eaten (lexeme.Word word.Exists) _
-      (andthen (subquery left inner) _ subquery_sound (λ q. built (Whole (bodies.Exists q)) _ _ (law.body_tokens-Exists q) (λ h. rw (law.body_depth-Exists q) (omega arith))))
+      (andthen (subquery left inner) _ subquery_sound (λ q. built (came.Cond (bodies.Exists q)) _ _ (law.body_tokens-Exists q) (λ h. rw (law.body_depth-Exists q) (omega arith))))
       (either (sees (lexeme.Symbol symbol.Open)) _ _ (unsound bracket_sound)
       (following (expr left) _ (unsound (expr_proof.expr_sound left)) (λ e. predicate_sound e))))
 
-  abbrev test_text : Mixed Test → Tokens
-  test_text = mixed test_tokens expr_tokens
+  abbrev test_text : CondOrExpr Test → Tokens
+  test_text = of_either test_tokens expr_tokens
 
-  abbrev test_height : Mixed Test → ℕ
-  test_height = mixed test_depth expr_depth
+  abbrev test_height : CondOrExpr Test → ℕ
+  test_height = of_either test_depth expr_depth
 
   tested_sound : (n : Bool) → After (not_tokens n) 0 left (body left inner >>= tested left inner n) test_text test_height
-  tested_sound true = mixedly (body left inner) _ body_sound
-      (λ b. built (Whole (record { negated = true; body = b })) _ _ (law.test_tokens-out _) (λ h. rw (law.test_depth-out (record { negated = true; body = b })) (omega arith)))
+  tested_sound true = either_way (body left inner) _ body_sound
+      (λ b. built (came.Cond (record { negated = true; body = b })) _ _ (law.test_tokens-out _) (λ h. rw (law.test_depth-out (record { negated = true; body = b })) (omega arith)))
       (λ e. never _ _)
-  tested_sound false = mixedly (body left inner) _ body_sound
-      (λ b. built (Whole (record { negated = false; body = b })) _ _ (law.test_tokens-out _) (λ h. rw (law.test_depth-out (record { negated = false; body = b })) (omega arith)))
-      (λ e. built (Bare e) _ _ refl (λ h. omega arith))
+  tested_sound false = either_way (body left inner) _ body_sound
+      (λ b. built (came.Cond (record { negated = false; body = b })) _ _ (law.test_tokens-out _) (λ h. rw (law.test_depth-out (record { negated = false; body = b })) (omega arith)))
+      (λ e. built (came.Expr e) _ _ refl (λ h. omega arith))
 
   test_sound : Sound (test_at left inner) test_text test_height left
   unfolding test_at
   test_sound = sound (andthen (eat (lexeme.Word word.Not)) _ (eats (lexeme.Word word.Not) left) tested_sound)
 
-  strict_test_sound : Sound (strict_test left inner) test_tokens test_depth left
-  unfolding strict_test
-  strict_test_sound = strictly_sound left (test_at left inner) test_sound
+  must_be_test_sound : Sound (must_be_test left inner) test_tokens test_depth left
+  unfolding must_be_test
+  must_be_test_sound = must_be_cond_sound left (test_at left inner) test_sound
 
-  conj_sound : Sound (conj left inner) (mixed conj_tokens expr_tokens) (mixed conj_depth expr_depth) left
+  conj_sound : Sound (conj left inner) (of_either conj_tokens expr_tokens) (of_either conj_depth expr_depth) left
   unfolding conj
-  conj_sound = sound (mixedly (test_at left inner) _ test_sound
-      (λ t. andthen (all (behind (lexeme.Word word.And) (strict_test left inner))) _ (rows (behind (lexeme.Word word.And) (strict_test left inner)) and_test test_depth left (behinds (lexeme.Word word.And) (strict_test left inner) left strict_test_sound)) (λ more.
-      built (Whole (roll-Conj (record { first = t; rest = more }))) _ _ (law.conj_tokens-roll t more) (λ h. rw (law.conj_depth-roll t more) (omega arith))))
-      (λ e. built (Bare e) _ _ refl (λ h. omega arith)))
+  conj_sound = sound (either_way (test_at left inner) _ test_sound
+      (λ t. andthen (all (behind (lexeme.Word word.And) (must_be_test left inner))) _ (rows (behind (lexeme.Word word.And) (must_be_test left inner)) and_test test_depth left (behinds (lexeme.Word word.And) (must_be_test left inner) left must_be_test_sound)) (λ more.
+      built (came.Cond (roll-Conj (record { first = t; rest = more }))) _ _ (law.conj_tokens-roll t more) (λ h. rw (law.conj_depth-roll t more) (omega arith))))
+      (λ e. built (came.Expr e) _ _ refl (λ h. omega arith)))
 
-  strict_conj_sound : Sound (strict_conj left inner) conj_tokens conj_depth left
-  unfolding strict_conj
-  strict_conj_sound = strictly_sound left (conj left inner) conj_sound
+  must_be_conj_sound : Sound (must_be_conj left inner) conj_tokens conj_depth left
+  unfolding must_be_conj
+  must_be_conj_sound = must_be_cond_sound left (conj left inner) conj_sound
 
-  pub level_sound : Sound (level left inner) (mixed cond_tokens expr_tokens) (mixed cond_depth expr_depth) left
+  pub level_sound : Sound (level left inner) (of_either cond_tokens expr_tokens) (of_either cond_depth expr_depth) left
   unfolding level
-  level_sound = sound (mixedly (conj left inner) _ conj_sound
-      (λ c. andthen (all (behind (lexeme.Word word.Or) (strict_conj left inner))) _ (rows (behind (lexeme.Word word.Or) (strict_conj left inner)) or_conj conj_depth left (behinds (lexeme.Word word.Or) (strict_conj left inner) left strict_conj_sound)) (λ more.
-      built (Whole (roll-Cond (record { first = c; rest = more }))) _ _ (law.cond_tokens-roll c more) (λ h. rw (law.cond_depth-roll c more) (omega arith))))
-      (λ e. built (Bare e) _ _ refl (λ h. omega arith)))
+  level_sound = sound (either_way (conj left inner) _ conj_sound
+      (λ c. andthen (all (behind (lexeme.Word word.Or) (must_be_conj left inner))) _ (rows (behind (lexeme.Word word.Or) (must_be_conj left inner)) or_conj conj_depth left (behinds (lexeme.Word word.Or) (must_be_conj left inner) left must_be_conj_sound)) (λ more.
+      built (came.Cond (roll-Cond (record { first = c; rest = more }))) _ _ (law.cond_tokens-roll c more) (λ h. rw (law.cond_depth-roll c more) (omega arith))))
+      (λ e. built (came.Expr e) _ _ refl (λ h. omega arith)))
 
-pub inside_sound : (left : ℕ) → Sound (inside left) (mixed cond_tokens expr_tokens) (λ m. mixed cond_depth expr_depth m + 1) left
+pub inside_sound : (left : ℕ) → Sound (inside left) (of_either cond_tokens expr_tokens) (λ m. of_either cond_depth expr_depth m + 1) left
 unfolding inside
 inside_sound zero = record { spells = λ ts x rest e. cc }
 inside_sound (suc left) = raised left (level_sound left (inside left) (inside_sound left))
 
 pub cond_sound : (left : ℕ) → Sound (cond left) cond_tokens cond_depth left
 unfolding cond
-cond_sound left = strictly_sound left (level left (inside left)) (level_sound left (inside left) (inside_sound left))
+cond_sound left = must_be_cond_sound left (level left (inside left)) (level_sound left (inside left) (inside_sound left))
 
 -- a condition behind a bracket
-pub inner_cond_sound : (left : ℕ) → Sound (strictly (inside left)) cond_tokens cond_depth (left - 1)
-inner_cond_sound left = strictly_sound (left - 1) (inside left) (lowered left (inside_sound left))
+pub inner_cond_sound : (left : ℕ) → Sound (must_be_cond (inside left)) cond_tokens cond_depth (left - 1)
+inner_cond_sound left = must_be_cond_sound (left - 1) (inside left) (lowered left (inside_sound left))
 
 pub query_specification_sound : (left : ℕ) → Sound (query_specification left) query_specification_tokens query_specification_depth left
 query_specification_sound left = specifications left (expr left) (cond left) (expr_proof.expr_sound left) (cond_sound left)

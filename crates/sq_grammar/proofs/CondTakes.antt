@@ -37,11 +37,11 @@ use Rattle.sq_tree.proofs.ExprLaws as exprs
 use Rattle.sq_tree.proofs.ExprLaws.{primary_cases}
 use Rattle.sq_tree.proofs.CondLaws as law
 use Rattle.sq_tree.proofs.CondLaws.{and_test, or_conj, body_cases}
-use Rattle.sq_grammar.specs.declared.mixed.Mixed.{Mixed}
-use Rattle.sq_grammar.specs.declared.mixed.Mixed.TheVariants.{Whole, Bare}
+use Rattle.sq_grammar.specs.declared.cond_or_expr.CondOrExpr.{CondOrExpr}
+use Rattle.sq_grammar.specs.declared.cond_or_expr.CondOrExpr.TheVariants as came
 use Rattle.sq_grammar.specs.Reading.{Tokens, Parser, sees, behind, all, pure}
 use Rattle.sq_grammar.specs.Expr.{expr, expr_from}
-use Rattle.sq_grammar.specs.Cond.{strict, strictly, subquery, tail, predicate_from, bracket, by_open, body, tested, test_at, strict_test, conj, strict_conj, level, inside, cond}
+use Rattle.sq_grammar.specs.Cond.{only_cond, must_be_cond, subquery, tail, predicate_from, bracket, by_open, body, tested, test_at, must_be_test, conj, must_be_conj, level, inside, cond}
 use Rattle.sq_grammar.proofs.Takes.{Takes, done, fits, lifted, respelled, andthen, mapped, word, closing, expected, eaten, uneaten, either, behind_it, openly, seeing, unseeing, rows, follows, none_behind}
 use Rattle.sq_grammar.proofs.NamesTakes.{column_cases}
 use Rattle.sq_grammar.proofs.ExprTakes.{Starts, expr_starts, foreign, expr_takes, expr_from_takes, close_ends}
@@ -96,12 +96,12 @@ cond_starts w starts exist negation c ts =
 bare_at_close : (ts : Tokens) → EndsBare (lexeme.Symbol symbol.Close ∷ ts)
 bare_at_close ts = record { expr = close_ends ts; comparison = refl; is = refl; not = refl; between = refl; in_word = refl; like = refl }
 
-module _ (left : ℕ) (inner : Parser (Mixed Cond))
-    (whole_takes : 0 < left → (c : Cond) (rest : Tokens) → EndsCond rest → Takes inner (cond_tokens c) 1 1 (suc (cond_depth c)) left (Whole c) rest)
-    (bare_takes : 0 < left → (e : Expr) (rest : Tokens) → EndsBare rest → Takes inner (expr_tokens e) 1 1 (suc (expr_depth e)) left (Bare e) rest) where
+module _ (left : ℕ) (inner : Parser (CondOrExpr Cond))
+    (whole_takes : 0 < left → (c : Cond) (rest : Tokens) → EndsCond rest → Takes inner (cond_tokens c) 1 1 (suc (cond_depth c)) left (came.Cond c) rest)
+    (bare_takes : 0 < left → (e : Expr) (rest : Tokens) → EndsBare rest → Takes inner (expr_tokens e) 1 1 (suc (expr_depth e)) left (came.Expr e) rest) where
   -- An expression, and what is read behind it: the bracket that it may begin with could be a condition's.
   abbrev HeadTakes : Expr → Type 0
-  HeadTakes e = (more rest : Tokens) (d : ℕ) (m : Mixed Body) → EndsExpr (more ++ rest) → Takes (predicate_from left inner e) more 0 0 d left m rest → Takes (by_open left inner) (expr_tokens e ++ more) 0 0 (max (expr_depth e) d) left m rest
+  HeadTakes e = (more rest : Tokens) (d : ℕ) (m : CondOrExpr Body) → EndsExpr (more ++ rest) → Takes (predicate_from left inner e) more 0 0 d left m rest → Takes (by_open left inner) (expr_tokens e ++ more) 0 0 (max (expr_depth e) d) left m rest
 
   plain_head : (e : Expr) → ((ts : Tokens) → sees (lexeme.Symbol symbol.Open) (expr_tokens e ++ ts) ≡ false) → HeadTakes e
   plain_head e closed more rest d m ends s = unseeing (sees (lexeme.Symbol symbol.Open)) _ _ (rw (append_assoc (expr_tokens e)) (closed _)) (andthen (expr left) _ e (expr_takes left e _ ends) s)
@@ -117,7 +117,7 @@ module _ (left : ℕ) (inner : Parser (Mixed Cond))
       let of_bracket = exprs.primary_depth-Bracketed e in
       respelled spelled (seeing (sees (lexeme.Symbol symbol.Open)) _ _ refl
       (openly _ (omega (arith, depth, of_bracket)) (λ room. fits (λ h. omega (arith, depth, of_bracket)) (λ h. omega (arith, depth, of_bracket))
-      (andthen inner _ (Bare e) (bare_takes room e _ (bare_at_close _)) (expected closing _
+      (andthen inner _ (came.Expr e) (bare_takes room e _ (bare_at_close _)) (expected closing _
       (andthen (expr_from left (primary.Bracketed e)) _ whole (expr_from_takes left (primary.Bracketed e) xs ys _ ends) s))))))
 
   abbrev UnsignedHead : Primary → Type 0
@@ -182,45 +182,45 @@ module _ (left : ℕ) (inner : Parser (Mixed Cond))
       word_ends true w text us other = plain_ends word.Not _ refl
       word_ends false w text us other = plain_ends w _ other
 
-  predicate_takes : (e : Expr) (t : Tail) (rest : Tokens) → EndsTest rest → Takes (body left inner) (body_tokens (bodies.Predicate e t)) 0 0 (body_depth (bodies.Predicate e t)) left (Whole (bodies.Predicate e t)) rest
+  predicate_takes : (e : Expr) (t : Tail) (rest : Tokens) → EndsTest rest → Takes (body left inner) (body_tokens (bodies.Predicate e t)) 0 0 (body_depth (bodies.Predicate e t)) left (came.Cond (bodies.Predicate e t)) rest
   unfolding body predicate_from
   predicate_takes e t rest ends = rw (law.body_tokens-Predicate e t, law.body_depth-Predicate e t)
       (uneaten (lexeme.Word word.Exists) _ (rw (append_assoc (expr_tokens e)) (lacks_exists e _))
       (head_takes e (tail_tokens t) rest (tail_depth t) _ (tail_ends t rest) (mapped (tail left inner) _ (Some t) (tail_takes left inner whole_takes t rest ends) refl)))
 
-  body_bare : (e : Expr) (rest : Tokens) → EndsBare rest → Takes (body left inner) (expr_tokens e) 0 0 (expr_depth e) left (Bare e) rest
+  body_bare : (e : Expr) (rest : Tokens) → EndsBare rest → Takes (body left inner) (expr_tokens e) 0 0 (expr_depth e) left (came.Expr e) rest
   unfolding body predicate_from
   body_bare e rest ends = uneaten (lexeme.Word word.Exists) _ (lacks_exists e rest)
       (respelled (append-nil (expr_tokens e)) (fits (λ h. omega arith) (λ h. omega arith) (head_takes e [] rest 0 _ ends.expr (mapped (tail left inner) _ None (no_tail left inner whole_takes rest ends) refl))))
 
-  exists_takes : (q : QuerySpecification) (rest : Tokens) → Takes (body left inner) (body_tokens (bodies.Exists q)) 0 0 (body_depth (bodies.Exists q)) left (Whole (bodies.Exists q)) rest
+  exists_takes : (q : QuerySpecification) (rest : Tokens) → Takes (body left inner) (body_tokens (bodies.Exists q)) 0 0 (body_depth (bodies.Exists q)) left (came.Cond (bodies.Exists q)) rest
   unfolding body
   exists_takes q rest = rw (law.body_tokens-Exists q, law.body_depth-Exists q) (fits (λ h. omega arith) (λ h. omega arith)
       (eaten (word word.Exists) _ (mapped (subquery left inner) _ q (subquery_takes left inner whole_takes q rest) refl)))
 
-  bracketed_takes : (c : Cond) (rest : Tokens) → Takes (body left inner) (body_tokens (bodies.Bracketed c)) 0 0 (body_depth (bodies.Bracketed c)) left (Whole (bodies.Bracketed c)) rest
+  bracketed_takes : (c : Cond) (rest : Tokens) → Takes (body left inner) (body_tokens (bodies.Bracketed c)) 0 0 (body_depth (bodies.Bracketed c)) left (came.Cond (bodies.Bracketed c)) rest
   unfolding body bracket
   bracketed_takes c rest = rw (law.body_tokens-Bracketed c, law.body_depth-Bracketed c)
       (uneaten (lexeme.Word word.Exists) _ refl (seeing (sees (lexeme.Symbol symbol.Open)) _ _ refl
-      (openly _ (omega arith) (λ room. fits (λ h. omega arith) (λ h. omega arith) (andthen inner _ (Whole c) (whole_takes room c _ (close_ends_cond rest)) (expected closing _ done))))))
+      (openly _ (omega arith) (λ room. fits (λ h. omega arith) (λ h. omega arith) (andthen inner _ (came.Cond c) (whole_takes room c _ (close_ends_cond rest)) (expected closing _ done))))))
 
-  pub body_takes : (b : Body) (rest : Tokens) → EndsTest rest → Takes (body left inner) (body_tokens b) 0 0 (body_depth b) left (Whole b) rest
-  body_takes b rest ends = body_cases (λ x. Takes (body left inner) (body_tokens x) 0 0 (body_depth x) left (Whole x) rest) (λ e t. predicate_takes e t rest ends) (λ q. exists_takes q rest) (λ c. bracketed_takes c rest) b
+  pub body_takes : (b : Body) (rest : Tokens) → EndsTest rest → Takes (body left inner) (body_tokens b) 0 0 (body_depth b) left (came.Cond b) rest
+  body_takes b rest ends = body_cases (λ x. Takes (body left inner) (body_tokens x) 0 0 (body_depth x) left (came.Cond x) rest) (λ e t. predicate_takes e t rest ends) (λ q. exists_takes q rest) (λ c. bracketed_takes c rest) b
 
-  pub test_takes : (t : Test) (rest : Tokens) → EndsTest rest → Takes (test_at left inner) (test_tokens t) 0 0 (test_depth t) left (Whole t) rest
+  pub test_takes : (t : Test) (rest : Tokens) → EndsTest rest → Takes (test_at left inner) (test_tokens t) 0 0 (test_depth t) left (came.Cond t) rest
   unfolding test_at
-  test_takes t rest ends = rw (law.test_tokens-out t, law.test_depth-out t) (either (word word.Not) t.negated _ (body_starts word.Not (foreign word.Not refl refl refl refl refl refl) refl t.body rest) (mapped (body left inner) _ (Whole t.body) (body_takes t.body rest ends) (by t.negated t.body)))
+  test_takes t rest ends = rw (law.test_tokens-out t, law.test_depth-out t) (either (word word.Not) t.negated _ (body_starts word.Not (foreign word.Not refl refl refl refl refl refl) refl t.body rest) (mapped (body left inner) _ (came.Cond t.body) (body_takes t.body rest ends) (by t.negated t.body)))
     where
-      by : (n : Bool) (b : Body) → tested left inner n (Whole b) ≡ pure (Whole (record { negated = n; body = b }))
+      by : (n : Bool) (b : Body) → tested left inner n (came.Cond b) ≡ pure (came.Cond (record { negated = n; body = b }))
       by n b = refl
 
-  test_bare : (e : Expr) (rest : Tokens) → EndsBare rest → Takes (test_at left inner) (expr_tokens e) 0 0 (expr_depth e) left (Bare e) rest
+  test_bare : (e : Expr) (rest : Tokens) → EndsBare rest → Takes (test_at left inner) (expr_tokens e) 0 0 (expr_depth e) left (came.Expr e) rest
   unfolding test_at
-  test_bare e rest ends = uneaten (lexeme.Word word.Not) _ (lacks_not e rest) (mapped (body left inner) _ (Bare e) (body_bare e rest ends) refl)
+  test_bare e rest ends = uneaten (lexeme.Word word.Not) _ (lacks_not e rest) (mapped (body left inner) _ (came.Expr e) (body_bare e rest ends) refl)
 
-  and_each : (t : Test) (rest : Tokens) → EndsTest rest → Takes (behind (lexeme.Word word.And) (strict_test left inner)) (and_test t) 0 0 (test_depth t) left (Some t) rest
-  unfolding strict_test
-  and_each t rest ends = behind_it (word word.And) (strict_test left inner) (mapped (test_at left inner) strict (Whole t) (test_takes t rest ends) refl)
+  and_each : (t : Test) (rest : Tokens) → EndsTest rest → Takes (behind (lexeme.Word word.And) (must_be_test left inner)) (and_test t) 0 0 (test_depth t) left (Some t) rest
+  unfolding must_be_test
+  and_each t rest ends = behind_it (word word.And) (must_be_test left inner) (mapped (test_at left inner) only_cond (came.Cond t) (test_takes t rest ends) refl)
 
   and_starts : (t : Test) (rest : Tokens) → EndsTest (and_test t ++ rest)
   and_starts t rest = record { expr = ends_expr _ refl; escape = refl }
@@ -228,22 +228,22 @@ module _ (left : ℕ) (inner : Parser (Mixed Cond))
   and_long : (t : Test) → 0 < length (and_test t)
   and_long t = omega arith
 
-  pub conj_takes : (c : Conj) (rest : Tokens) → EndsConj rest → Takes (conj left inner) (conj_tokens c) 0 0 (conj_depth c) left (Whole c) rest
+  pub conj_takes : (c : Conj) (rest : Tokens) → EndsConj rest → Takes (conj left inner) (conj_tokens c) 0 0 (conj_depth c) left (came.Cond c) rest
   unfolding conj
   conj_takes c rest ends =
       let first : Test = (out-Conj c).first in
       let others : List Test = (out-Conj c).rest in
-      let item : Parser (Option Test) = behind (lexeme.Word word.And) (strict_test left inner) in
-      rw (law.conj_tokens-out c, law.conj_depth-out c) (andthen (test_at left inner) _ (Whole first) (test_takes first _ (follows item and_test test_depth 0 left EndsTest and_each and_starts and_long others rest ends.test))
-      (mapped (all item) _ others (rows item and_test test_depth 0 left EndsTest and_each and_starts and_long others rest ends.test (none_behind (lexeme.Word word.And) (strict_test left inner) rest ends.and)) (ap (λ x. pure (Whole x)) (roll-out-Conj c))))
+      let item : Parser (Option Test) = behind (lexeme.Word word.And) (must_be_test left inner) in
+      rw (law.conj_tokens-out c, law.conj_depth-out c) (andthen (test_at left inner) _ (came.Cond first) (test_takes first _ (follows item and_test test_depth 0 left EndsTest and_each and_starts and_long others rest ends.test))
+      (mapped (all item) _ others (rows item and_test test_depth 0 left EndsTest and_each and_starts and_long others rest ends.test (none_behind (lexeme.Word word.And) (must_be_test left inner) rest ends.and)) (ap (λ x. pure (came.Cond x)) (roll-out-Conj c))))
 
-  conj_bare : (e : Expr) (rest : Tokens) → EndsBare rest → Takes (conj left inner) (expr_tokens e) 0 0 (expr_depth e) left (Bare e) rest
+  conj_bare : (e : Expr) (rest : Tokens) → EndsBare rest → Takes (conj left inner) (expr_tokens e) 0 0 (expr_depth e) left (came.Expr e) rest
   unfolding conj
-  conj_bare e rest ends = mapped (test_at left inner) _ (Bare e) (test_bare e rest ends) refl
+  conj_bare e rest ends = mapped (test_at left inner) _ (came.Expr e) (test_bare e rest ends) refl
 
-  or_each : (c : Conj) (rest : Tokens) → EndsConj rest → Takes (behind (lexeme.Word word.Or) (strict_conj left inner)) (or_conj c) 0 0 (conj_depth c) left (Some c) rest
-  unfolding strict_conj
-  or_each c rest ends = behind_it (word word.Or) (strict_conj left inner) (mapped (conj left inner) strict (Whole c) (conj_takes c rest ends) refl)
+  or_each : (c : Conj) (rest : Tokens) → EndsConj rest → Takes (behind (lexeme.Word word.Or) (must_be_conj left inner)) (or_conj c) 0 0 (conj_depth c) left (Some c) rest
+  unfolding must_be_conj
+  or_each c rest ends = behind_it (word word.Or) (must_be_conj left inner) (mapped (conj left inner) only_cond (came.Cond c) (conj_takes c rest ends) refl)
 
   or_starts : (c : Conj) (rest : Tokens) → EndsConj (or_conj c ++ rest)
   or_starts c rest = record { test = record { expr = ends_expr _ refl; escape = refl }; and = refl }
@@ -251,23 +251,23 @@ module _ (left : ℕ) (inner : Parser (Mixed Cond))
   or_long : (c : Conj) → 0 < length (or_conj c)
   or_long c = omega arith
 
-  pub level_takes : (c : Cond) (rest : Tokens) → EndsCond rest → Takes (level left inner) (cond_tokens c) 0 0 (cond_depth c) left (Whole c) rest
+  pub level_takes : (c : Cond) (rest : Tokens) → EndsCond rest → Takes (level left inner) (cond_tokens c) 0 0 (cond_depth c) left (came.Cond c) rest
   unfolding level
   level_takes c rest ends =
       let first : Conj = (out-Cond c).first in
       let others : List Conj = (out-Cond c).rest in
-      let item : Parser (Option Conj) = behind (lexeme.Word word.Or) (strict_conj left inner) in
-      rw (law.cond_tokens-out c, law.cond_depth-out c) (andthen (conj left inner) _ (Whole first) (conj_takes first _ (follows item or_conj conj_depth 0 left EndsConj or_each or_starts or_long others rest ends.conj))
-      (mapped (all item) _ others (rows item or_conj conj_depth 0 left EndsConj or_each or_starts or_long others rest ends.conj (none_behind (lexeme.Word word.Or) (strict_conj left inner) rest ends.or)) (ap (λ x. pure (Whole x)) (roll-out-Cond c))))
+      let item : Parser (Option Conj) = behind (lexeme.Word word.Or) (must_be_conj left inner) in
+      rw (law.cond_tokens-out c, law.cond_depth-out c) (andthen (conj left inner) _ (came.Cond first) (conj_takes first _ (follows item or_conj conj_depth 0 left EndsConj or_each or_starts or_long others rest ends.conj))
+      (mapped (all item) _ others (rows item or_conj conj_depth 0 left EndsConj or_each or_starts or_long others rest ends.conj (none_behind (lexeme.Word word.Or) (must_be_conj left inner) rest ends.or)) (ap (λ x. pure (came.Cond x)) (roll-out-Cond c))))
 
-  pub level_bare : (e : Expr) (rest : Tokens) → EndsBare rest → Takes (level left inner) (expr_tokens e) 0 0 (expr_depth e) left (Bare e) rest
+  pub level_bare : (e : Expr) (rest : Tokens) → EndsBare rest → Takes (level left inner) (expr_tokens e) 0 0 (expr_depth e) left (came.Expr e) rest
   unfolding level
-  level_bare e rest ends = mapped (conj left inner) _ (Bare e) (conj_bare e rest ends) refl
+  level_bare e rest ends = mapped (conj left inner) _ (came.Expr e) (conj_bare e rest ends) refl
 
 -- behind a bracket that is one of `left`
 pub record Inside (left : ℕ) : Type 0 where
-  pub whole : 0 < left → (c : Cond) (rest : Tokens) → EndsCond rest → Takes (inside left) (cond_tokens c) 1 1 (suc (cond_depth c)) left (Whole c) rest
-  pub bare : 0 < left → (e : Expr) (rest : Tokens) → EndsBare rest → Takes (inside left) (expr_tokens e) 1 1 (suc (expr_depth e)) left (Bare e) rest
+  pub whole : 0 < left → (c : Cond) (rest : Tokens) → EndsCond rest → Takes (inside left) (cond_tokens c) 1 1 (suc (cond_depth c)) left (came.Cond c) rest
+  pub bare : 0 < left → (e : Expr) (rest : Tokens) → EndsBare rest → Takes (inside left) (expr_tokens e) 1 1 (suc (expr_depth e)) left (came.Expr e) rest
 
 pub inside_takes : (left : ℕ) → Inside left
 unfolding inside
@@ -279,9 +279,9 @@ inside_takes (suc left) =
       bare = λ room e rest ends. lifted (level_bare left (inside left) i.whole i.bare e rest ends);
     }
 
-pub inner_cond_takes : (left : ℕ) (c : Cond) (rest : Tokens) → 0 < left → EndsCond rest → Takes (strictly (inside left)) (cond_tokens c) 1 1 (suc (cond_depth c)) left c rest
-inner_cond_takes left c rest room ends = mapped (inside left) strict (Whole c) ((inside_takes left).whole room c rest ends) refl
+pub inner_cond_takes : (left : ℕ) (c : Cond) (rest : Tokens) → 0 < left → EndsCond rest → Takes (must_be_cond (inside left)) (cond_tokens c) 1 1 (suc (cond_depth c)) left c rest
+inner_cond_takes left c rest room ends = mapped (inside left) only_cond (came.Cond c) ((inside_takes left).whole room c rest ends) refl
 
 pub cond_takes : (left : ℕ) (c : Cond) (rest : Tokens) → EndsCond rest → Takes (cond left) (cond_tokens c) 0 0 (cond_depth c) left c rest
 unfolding cond
-cond_takes left c rest ends = let i = inside_takes left in mapped (level left (inside left)) strict (Whole c) (level_takes left (inside left) i.whole i.bare c rest ends) refl
+cond_takes left c rest ends = let i = inside_takes left in mapped (level left (inside left)) only_cond (came.Cond c) (level_takes left (inside left) i.whole i.bare c rest ends) refl

@@ -22,7 +22,7 @@ pub mod OneStatement
 pub mod OneToken
 pub mod OneTree
 pub mod OneType
-pub mod Places
+pub mod Ranks
 pub mod QuerySound
 pub mod QueryTakes
 pub mod Refused

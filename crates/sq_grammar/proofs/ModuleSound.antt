@@ -8,7 +8,7 @@ use Rattle.sq_tree.specs.declared.module.SortKey.TheVariants.{Column, Position}
 use Rattle.sq_tree.specs.declared.module.SortDirection.TheVariants.{Asc, Desc}
 use Rattle.sq_tree.specs.declared.module.Declarations.TheVariants.{Bracketed, Bare}
 use Rattle.sq_tree.specs.declared.module.Declaration.TheVariants.{Parameter, Sqlcode, Sqlstate}
-use Rattle.sq_tree.specs.Tree.{Tokens, said, optional}
+use Rattle.sq_tree.specs.Tree.{Tokens, if_written, optional}
 use Rattle.sq_tree.proofs.TreeDepth.{optional_depth}
 use Rattle.sq_tree.specs.List.{comma_tokens}
 use Rattle.sq_tree.proofs.ListDepth.{comma_depth}
@@ -98,7 +98,7 @@ cursor_sound : (left : ℕ) → After (lexeme.Word word.Declare ∷ []) 0 left (
 unfolding cursor
 cursor_sound left = andthen name _ (names left) (λ n. andthen (eat (lexeme.Word word.Insensitive)) _ (eats (lexeme.Word word.Insensitive) left) (λ i. andthen (eat (lexeme.Word word.Scroll)) _ (eats (lexeme.Word word.Scroll) left) (λ s.
     expected (lexeme.Word word.Cursor) _ (expected (lexeme.Word word.For) _ (andthen (ordered_query left) _ (ordered_sound left) (λ q. andthen (eat (lexeme.Symbol symbol.Semicolon)) _ (eats (lexeme.Symbol symbol.Semicolon) left) (λ e.
-    built (record { name = n; insensitive = i; scroll = s; query = q.0; order_by = q.1; semicolon = e }) _ _ (cursor_text (lexeme.Word word.Declare ∷ lexeme.Name n ∷ said i (lexeme.Word word.Insensitive ∷ []) ++ said s (lexeme.Word word.Scroll ∷ [])) (query_tokens q.0) (optional tree.order_by_tokens q.1) (said e (lexeme.Symbol symbol.Semicolon ∷ []))) (λ h. omega arith))))))))
+    built (record { name = n; insensitive = i; scroll = s; query = q.0; order_by = q.1; semicolon = e }) _ _ (cursor_text (lexeme.Word word.Declare ∷ lexeme.Name n ∷ if_written i (lexeme.Word word.Insensitive ∷ []) ++ if_written s (lexeme.Word word.Scroll ∷ [])) (query_tokens q.0) (optional tree.order_by_tokens q.1) (if_written e (lexeme.Symbol symbol.Semicolon ∷ []))) (λ h. omega arith))))))))
 
 item_sound : (left : ℕ) → 2 ≤ left → Sound (item left) (optional tree.module_item_tokens) (optional_depth depths.module_item_depth) left
 unfolding item

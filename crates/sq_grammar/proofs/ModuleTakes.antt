@@ -3,7 +3,7 @@ use Rattle.std.proofs.Common.{◌≡◌, ℕ, zero, suc, ◌≤◌, ◌<◌, Boo
 use Rattle.sq_lex.specs.declared.lexeme.Lexeme.TheVariants as lexeme
 use Rattle.sq_lex.specs.declared.symbol.Symbol.TheVariants as symbol
 use Rattle.sq_lex.specs.declared.word.Word.TheVariants as word
-use Rattle.sq_tree.specs.Tree.{optional, said}
+use Rattle.sq_tree.specs.Tree.{optional, if_written}
 use Rattle.sq_tree.specs.List.{comma_tokens}
 use Rattle.sq_tree.specs.Query.{query_tokens}
 use Rattle.sq_tree.proofs.QueryDepth.{query_depth}
@@ -67,19 +67,19 @@ declaration_no_bracket (Parameter n t) more rest = refl
 declaration_no_bracket Sqlcode more rest = refl
 declaration_no_bracket Sqlstate more rest = refl
 
--- [ "," ] decl
+-- [ "," ] declaration
 pub bare_declaration_takes : (b : BareDeclaration) {a left : ℕ} {rest : Tokens} → 1 ≤ left → EndsType rest → Takes bare_declaration (tree.bare_declaration_tokens b) a a (depths.bare_declaration_depth b) left (Some b) rest
 unfolding bare_declaration
 bare_declaration_takes b {a = a} {left = left} {rest = rest} room ends = by b.comma b.declaration
   where
-    by : (written : Bool) (d : Declaration) → Takes bare_declaration (said written (comma ∷ []) ++ tree.declaration_tokens d) a a (depths.declaration_depth d) left (Some (record { comma = written; declaration = d })) rest
+    by : (written : Bool) (d : Declaration) → Takes bare_declaration (if_written written (comma ∷ []) ++ tree.declaration_tokens d) a a (depths.declaration_depth d) left (Some (record { comma = written; declaration = d })) rest
     by true d = eaten a_comma _ (mapped declaration _ d (declaration_takes d room ends) refl)
     by false d = uneaten comma _ (declaration_no_comma d rest) (mapped declaration_if_any _ (Some d) (declaration_if_any_takes d room ends) refl)
 
 bare_starts : (b : BareDeclaration) (rest : Tokens) → EndsType (tree.bare_declaration_tokens b ++ rest)
 bare_starts b rest = by b.comma b.declaration
   where
-    by : (written : Bool) (d : Declaration) → EndsType ((said written (comma ∷ []) ++ tree.declaration_tokens d) ++ rest)
+    by : (written : Bool) (d : Declaration) → EndsType ((if_written written (comma ∷ []) ++ tree.declaration_tokens d) ++ rest)
     by true d = record { open_bracket = refl; varying = refl }
     by false (Parameter n t) = record { open_bracket = refl; varying = refl }
     by false Sqlcode = record { open_bracket = refl; varying = refl }
@@ -88,7 +88,7 @@ bare_starts b rest = by b.comma b.declaration
 bare_long : (b : BareDeclaration) → 0 < length (tree.bare_declaration_tokens b)
 bare_long b = by b.comma b.declaration
   where
-    by : (written : Bool) (d : Declaration) → 0 < length (said written (comma ∷ []) ++ tree.declaration_tokens d)
+    by : (written : Bool) (d : Declaration) → 0 < length (if_written written (comma ∷ []) ++ tree.declaration_tokens d)
     by true d = omega arith
     by false (Parameter n t) = omega arith
     by false Sqlcode = omega arith
@@ -98,7 +98,7 @@ bare_ends : (rest : Tokens) → bare_declaration (lexeme.Symbol symbol.Semicolon
 unfolding bare_declaration declaration_if_any eat
 bare_ends rest = refl
 
--- decl { [ "," ] decl }
+-- declaration { [ "," ] declaration }
 bare_takes : (first : Declaration) (others : List BareDeclaration) {left : ℕ} {rest : Tokens} → 1 ≤ left → Takes declarations (tree.declarations_tokens (Bare first others)) 0 0 (depths.declarations_depth (Bare first others)) left (Bare first others) (lexeme.Symbol symbol.Semicolon ∷ rest)
 unfolding declarations
 bare_takes first others {left = left} {rest = rest} room =
@@ -175,7 +175,7 @@ module _ {rest : Tokens} where
       record { table = record { cond = record { conj = conj; or = or }; comma = comma; as_word = as_word; name = name; where_word = where_word; group = group; having = having }; union = union }
 
 -- behind a cursor's query come its order, its semicolon, or the next item
-query_ends_there : (o : Option (CommaList SortSpecification)) (semicolon : Bool) (rest : Tokens) → EndsCursor rest → EndsQuery (optional tree.order_by_tokens o ++ (said semicolon (lexeme.Symbol symbol.Semicolon ∷ []) ++ rest))
+query_ends_there : (o : Option (CommaList SortSpecification)) (semicolon : Bool) (rest : Tokens) → EndsCursor rest → EndsQuery (optional tree.order_by_tokens o ++ (if_written semicolon (lexeme.Symbol symbol.Semicolon ∷ []) ++ rest))
 query_ends_there (Some list) semicolon rest ends = query_ends refl refl refl refl refl refl refl refl refl refl refl refl refl refl refl refl refl
 query_ends_there None true rest ends = query_ends refl refl refl refl refl refl refl refl refl refl refl refl refl refl refl refl refl
 query_ends_there None false rest ends = ends.query
@@ -195,41 +195,41 @@ none_left left = refl
 text_ends : EndsCursor []
 text_ends = record { query = query_ends refl refl refl refl refl refl refl refl refl refl refl refl refl refl refl refl refl; order = refl; sort = record { asc = refl; desc = refl }; semicolon = refl }
 
-order_takes : (o : Option (CommaList SortSpecification)) (semicolon : Bool) {left : ℕ} (rest : Tokens) → EndsCursor rest → Takes order_by (optional tree.order_by_tokens o) 0 0 0 left o (said semicolon (lexeme.Symbol symbol.Semicolon ∷ []) ++ rest)
+order_takes : (o : Option (CommaList SortSpecification)) (semicolon : Bool) {left : ℕ} (rest : Tokens) → EndsCursor rest → Takes order_by (optional tree.order_by_tokens o) 0 0 0 left o (if_written semicolon (lexeme.Symbol symbol.Semicolon ∷ []) ++ rest)
 order_takes o true rest ends = order_by_takes o refl (record { asc = refl; desc = refl }) refl
 order_takes o false rest ends = order_by_takes o ends.order ends.sort ends.query.table.comma
 
 -- [ ";" ]
-semicolon_takes : (f : Bool → Parser Cursor) (written : Bool) {left : ℕ} {c : Cursor} {rest : Tokens} → EndsCursor rest → Takes (f written) [] 0 0 0 left c rest → Takes (eat (lexeme.Symbol symbol.Semicolon) >>= f) (said written (lexeme.Symbol symbol.Semicolon ∷ [])) 0 0 0 left c rest
+semicolon_takes : (f : Bool → Parser Cursor) (written : Bool) {left : ℕ} {c : Cursor} {rest : Tokens} → EndsCursor rest → Takes (f written) [] 0 0 0 left c rest → Takes (eat (lexeme.Symbol symbol.Semicolon) >>= f) (if_written written (lexeme.Symbol symbol.Semicolon ∷ [])) 0 0 0 left c rest
 semicolon_takes f true ends s = eaten a_semicolon f s
 semicolon_takes f false ends s = uneaten (lexeme.Symbol symbol.Semicolon) f ends.semicolon s
 
 -- the tokens of a cursor, in the order of its parts
 cursor_text : (insensitive scroll : Bool) (q o e : Tokens) →
-    said insensitive (lexeme.Word word.Insensitive ∷ []) ++ (said scroll (lexeme.Word word.Scroll ∷ []) ++ (lexeme.Word word.Cursor ∷ lexeme.Word word.For ∷ ((q ++ o) ++ e)))
-    ≡ said insensitive (lexeme.Word word.Insensitive ∷ []) ++ said scroll (lexeme.Word word.Scroll ∷ []) ++ lexeme.Word word.Cursor ∷ lexeme.Word word.For ∷ q ++ o ++ e
+    if_written insensitive (lexeme.Word word.Insensitive ∷ []) ++ (if_written scroll (lexeme.Word word.Scroll ∷ []) ++ (lexeme.Word word.Cursor ∷ lexeme.Word word.For ∷ ((q ++ o) ++ e)))
+    ≡ if_written insensitive (lexeme.Word word.Insensitive ∷ []) ++ if_written scroll (lexeme.Word word.Scroll ∷ []) ++ lexeme.Word word.Cursor ∷ lexeme.Word word.For ∷ q ++ o ++ e
 cursor_text true true q o e = refl
 cursor_text true false q o e = refl
 cursor_text false true q o e = refl
 cursor_text false false q o e = refl
 
-no_insensitive : (scroll : Bool) (more rest : Tokens) → sees (lexeme.Word word.Insensitive) ((said scroll (lexeme.Word word.Scroll ∷ []) ++ lexeme.Word word.Cursor ∷ more) ++ rest) ≡ false
+no_insensitive : (scroll : Bool) (more rest : Tokens) → sees (lexeme.Word word.Insensitive) ((if_written scroll (lexeme.Word word.Scroll ∷ []) ++ lexeme.Word word.Cursor ∷ more) ++ rest) ≡ false
 no_insensitive true more rest = refl
 no_insensitive false more rest = refl
 
 module _
     (query_takes : (left : ℕ) (q : Query) (rest : Tokens) → EndsQuery rest → Takes (query left) (query_tokens q) 0 0 (query_depth q) left q rest)
     (statement_takes : (left : ℕ) → 1 ≤ left → (s : Statement) (rest : Tokens) → Takes (statement left) (statement_tokens s) 0 0 (statement_depth s) left s (lexeme.Symbol symbol.Semicolon ∷ rest)) where
-  pub ordered_query_takes : (left : ℕ) (q : Query) (o : Option (CommaList SortSpecification)) (semicolon : Bool) (rest : Tokens) → EndsCursor rest → Takes (ordered_query left) (query_tokens q ++ optional tree.order_by_tokens o) 0 0 (query_depth q) left (q, o) (said semicolon (lexeme.Symbol symbol.Semicolon ∷ []) ++ rest)
+  pub ordered_query_takes : (left : ℕ) (q : Query) (o : Option (CommaList SortSpecification)) (semicolon : Bool) (rest : Tokens) → EndsCursor rest → Takes (ordered_query left) (query_tokens q ++ optional tree.order_by_tokens o) 0 0 (query_depth q) left (q, o) (if_written semicolon (lexeme.Symbol symbol.Semicolon ∷ []) ++ rest)
   unfolding ordered_query
   ordered_query_takes left q o semicolon rest ends = fits (λ h. omega arith) (λ h. omega arith) (andthen (query left) _ q (query_takes left q _ (query_ends_there o semicolon rest ends)) (mapped order_by _ o (order_takes o semicolon rest ends) refl))
 
   -- behind DECLARE
   pub cursor_takes : (left : ℕ) (c : Cursor) (rest : Tokens) → EndsCursor rest
-      → Takes (cursor left) (lexeme.Name c.name ∷ said c.insensitive (lexeme.Word word.Insensitive ∷ []) ++ said c.scroll (lexeme.Word word.Scroll ∷ []) ++ lexeme.Word word.Cursor ∷ lexeme.Word word.For ∷ query_tokens c.query ++ optional tree.order_by_tokens c.order_by ++ said c.semicolon (lexeme.Symbol symbol.Semicolon ∷ [])) 0 0 (depths.cursor_depth c) left c rest
+      → Takes (cursor left) (lexeme.Name c.name ∷ if_written c.insensitive (lexeme.Word word.Insensitive ∷ []) ++ if_written c.scroll (lexeme.Word word.Scroll ∷ []) ++ lexeme.Word word.Cursor ∷ lexeme.Word word.For ∷ query_tokens c.query ++ optional tree.order_by_tokens c.order_by ++ if_written c.semicolon (lexeme.Symbol symbol.Semicolon ∷ [])) 0 0 (depths.cursor_depth c) left c rest
   unfolding cursor
   cursor_takes left c rest ends =
-      let same = cursor_text c.insensitive c.scroll (query_tokens c.query) (optional tree.order_by_tokens c.order_by) (said c.semicolon (lexeme.Symbol symbol.Semicolon ∷ [])) in
+      let same = cursor_text c.insensitive c.scroll (query_tokens c.query) (optional tree.order_by_tokens c.order_by) (if_written c.semicolon (lexeme.Symbol symbol.Semicolon ∷ [])) in
       let ordered = ordered_query_takes left c.query c.order_by c.semicolon rest ends in
       subst (λ ts. Takes (cursor left) (lexeme.Name c.name ∷ ts) 0 0 (depths.cursor_depth c) left c rest) same (named c.name _
       (either (word word.Insensitive) c.insensitive _ (no_insensitive c.scroll _ rest) (either (word word.Scroll) c.scroll _ refl (expected (word word.Cursor) _ (expected (word word.For) _

@@ -4,7 +4,7 @@ use Rattle.sq_lex.specs.declared.lexeme.Lexeme.TheVariants as lexeme
 use Rattle.sq_lex.specs.declared.symbol.Symbol.TheVariants as symbol
 use Rattle.sq_lex.specs.declared.word.Word.TheVariants as word
 use Rattle.sq_lex.specs.declared.name.Name.{Name}
-use Rattle.sq_tree.specs.Tree.{optional, said}
+use Rattle.sq_tree.specs.Tree.{optional, if_written}
 use Rattle.sq_tree.specs.List.{comma_tokens}
 use Rattle.sq_tree.specs.Names.{name_tokens, table_name_tokens, column_reference_tokens, parameter_tokens, indicator_tokens, columns_tokens}
 use Rattle.sq_tree.specs.Expr.{sign_tokens, signed_number_tokens}
@@ -89,7 +89,7 @@ unfolding indicator
 indicator_takes None no_word no_colon = uneaten (lexeme.Word word.Indicator) _ no_word (uneaten (lexeme.Symbol symbol.Colon) _ no_colon done)
 indicator_takes (Some i) {a = a} {left = left} {rest = rest} no_word no_colon = by i.word i.name
   where
-    by : (written : Bool) (n : Name) → Takes indicator (said written (lexeme.Word word.Indicator ∷ []) ++ lexeme.Symbol symbol.Colon ∷ lexeme.Name n ∷ []) a a 0 left (Some (record { word = written; name = n })) rest
+    by : (written : Bool) (n : Name) → Takes indicator (if_written written (lexeme.Word word.Indicator ∷ []) ++ lexeme.Symbol symbol.Colon ∷ lexeme.Name n ∷ []) a a 0 left (Some (record { word = written; name = n })) rest
     by true n = eaten (word word.Indicator) _ (expected a_colon _ (named n _ done))
     by false n = uneaten (lexeme.Word word.Indicator) _ refl (eaten a_colon _ (named n _ done))
 
@@ -124,7 +124,7 @@ pub columns_takes : (c : CommaList Name) {a left : ℕ} {rest : Tokens} → Take
 unfolding columns
 columns_takes c = expected opening _ (columns_from_takes c)
 
--- [ cols ]
+-- [ columns ]
 pub columns_if_any_takes : (o : Option (CommaList Name)) {a left : ℕ} {rest : Tokens} → sees (lexeme.Symbol symbol.Open) rest ≡ false → Takes columns_if_any (optional columns_tokens o) a a 0 left o rest
 unfolding columns_if_any
 columns_if_any_takes None none = uneaten (lexeme.Symbol symbol.Open) _ none done

@@ -14,7 +14,7 @@ use Rattle.sq_tree.specs.declared.cond.TableExpression.{TableExpression}
 use Rattle.sq_tree.specs.declared.cond.QuerySpecification.{QuerySpecification}
 use Rattle.sq_tree.specs.Cond.{comparison_token, compared_token, correlation_tokens, table_reference_tokens, select_list_tokens, cond_tokens, conj_tokens, test_tokens, body_tokens, tail_tokens, table_expression_tokens, query_specification_tokens}
 use Rattle.sq_tree.proofs.CondDepth.{select_list_depth, cond_depth, conj_depth, test_depth, body_depth, tail_depth, table_expression_depth, query_specification_depth}
-use Rattle.sq_grammar.specs.declared.mixed.Mixed.TheVariants.{Whole}
+use Rattle.sq_grammar.specs.declared.cond_or_expr.CondOrExpr.TheVariants as came
 use Rattle.sq_grammar.specs.Cond.{comparison_of, inside}
 use Rattle.sq_grammar.proofs.Spells.{some_is}
 use Rattle.sq_grammar.proofs.OneTree.{one_tree}
@@ -56,7 +56,7 @@ end_of_table = record {
   having = refl;
 }
 
-whole_is : {A : Type 0} (x y : A) → Whole x ≡ Whole y → x ≡ y
+whole_is : {A : Type 0} (x y : A) → came.Cond x ≡ came.Cond y → x ≡ y
 whole_is x y e = cc
 
 pub one_tail : (a b : Tail) → tail_tokens a ≡ tail_tokens b → a ≡ b

@@ -9,7 +9,7 @@ use Rattle.sq_tree.specs.declared.cond.QuerySpecification.{QuerySpecification}
 use Rattle.sq_tree.specs.declared.query.QueryTerm.{QueryTerm}
 use Rattle.sq_tree.specs.declared.query.UnionTerm.{UnionTerm}
 use Rattle.sq_tree.specs.declared.query.Query.{Query, out-Query, roll-out-Query}
-use Rattle.sq_tree.specs.Tree.{said}
+use Rattle.sq_tree.specs.Tree.{if_written}
 use Rattle.sq_tree.specs.Cond.{select_list_tokens, table_expression_tokens, query_specification_tokens}
 use Rattle.sq_tree.proofs.CondDepth.{select_list_depth, table_expression_depth, query_specification_depth}
 use Rattle.sq_tree.specs.Query.{query_tokens, query_term_tokens, union_term_tokens}
@@ -60,7 +60,7 @@ module _ (left : ℕ) (inner : Parser Query)
       (λ s. rw (law.query_term_tokens-Specification s, specifications.query_specification_tokens-out s) refl)
       (λ q. rw (law.query_term_tokens-Bracketed q) refl) t
 
-  union_takes : (u : UnionTerm) (rest : Tokens) → EndsTable rest → Takes (union_term left inner) (said u.all (lexeme.Word word.All ∷ []) ++ query_term_tokens u.term) 0 0 (query_term_depth u.term) left u rest
+  union_takes : (u : UnionTerm) (rest : Tokens) → EndsTable rest → Takes (union_term left inner) (if_written u.all (lexeme.Word word.All ∷ []) ++ query_term_tokens u.term) 0 0 (query_term_depth u.term) left u rest
   unfolding union_term
   union_takes u rest ends = either (word word.All) u.all _ (lacks_all u.term rest) (mapped (query_term left inner) _ u.term (term_takes u.term rest ends) refl)
 

@@ -9,7 +9,7 @@ use Rattle.sq_grammar.specs.Reading.{Tokens, Outcome, Parser, and_then, sees, wh
 use Rattle.sq_grammar.specs.Brackets.{open_brackets, is_too_deep}
 use Rattle.sq_grammar.proofs.Takes.{Takes, Deep, Moves}
 
--- the place where so many tokens are left has a bracket before which as many are open as may be
+-- the token from which on `n` are left is a bracket before which as many are open as may be
 pub record Deepens (ts : Tokens) (n d : ℕ) : Type 0 where
   pub deeper : MAX_DEPTH < d
   pub too_deep : is_too_deep ts (length ts - n) ≡ true
@@ -21,8 +21,8 @@ err_is A n m e = cc
 not_both : (A : Type 0) (x : A × Tokens) (n : ℕ) → (let a : Outcome A = Ok x in let b : Outcome A = Err n in a ≡ b) → ⊥
 not_both A x n e = cc
 
-place_is : (ts before after : Tokens) → ts ≡ before ++ lexeme.Symbol symbol.Open ∷ after → length ts - length (lexeme.Symbol symbol.Open ∷ after) ≡ length before
-place_is ts before after is =
+index_is : (ts before after : Tokens) → ts ≡ before ++ lexeme.Symbol symbol.Open ∷ after → length ts - length (lexeme.Symbol symbol.Open ∷ after) ≡ length before
+index_is ts before after is =
     let n = ap length is ∙ length-append before (lexeme.Symbol symbol.Open ∷ after) in
     omega (arith, n)
 
@@ -46,10 +46,10 @@ refused_deep {A = A} p ts text d x n s same refused = by (nat_lt MAX_DEPTH d) re
     by true is =
         let deep : Deep (p ts) ts 0 MAX_DEPTH = subst (λ us. Deep (p us) us 0 MAX_DEPTH) text_is (s.deep (ltb-true _ _ is)) in
         let count : n ≡ length (lexeme.Symbol symbol.Open ∷ deep.after) = err_is A _ _ (sym refused ∙ ap (λ r. and_then r end_of) deep.stops) in
-        let place : length ts - n ≡ length deep.before = ap (λ m. length ts - m) count ∙ place_is ts deep.before deep.after deep.is in
+        let index : length ts - n ≡ length deep.before = ap (λ m. length ts - m) count ∙ index_is ts deep.before deep.after deep.is in
         let long = ap length deep.is ∙ length-append deep.before (lexeme.Symbol symbol.Open ∷ deep.after) in
         record {
           deeper = ltb-true _ _ is;
-          too_deep = ap (is_too_deep ts) place ∙ deep_at ts deep.before deep.after deep.is deep.open_before;
-          inside = omega (arith, place, long);
+          too_deep = ap (is_too_deep ts) index ∙ deep_at ts deep.before deep.after deep.is deep.open_before;
+          inside = omega (arith, index, long);
         }

@@ -11,7 +11,7 @@ use Rattle.sq_tree.specs.declared.schema.ColumnConstraint.TheVariants as constra
 use Rattle.sq_tree.specs.declared.schema.Privileges.TheVariants as privilege
 use Rattle.sq_tree.specs.declared.schema.Action.TheVariants as actions
 use Rattle.sq_tree.specs.declared.schema.Grantee.TheVariants as grantees
-use Rattle.sq_tree.specs.Tree.{Tokens, said, optional, bracketed}
+use Rattle.sq_tree.specs.Tree.{Tokens, if_written, optional, bracketed}
 use Rattle.sq_tree.proofs.TreeDepth.{optional_depth}
 use Rattle.sq_tree.specs.List.{comma_tokens}
 use Rattle.sq_tree.specs.Names.{name_tokens, table_name_tokens}
@@ -24,7 +24,7 @@ use Rattle.sq_grammar.specs.Reading.{eat, one_if_any, name_of, text_of, name, li
 use Rattle.sq_grammar.specs.Names.{table_name, signed_number, columns, columns_if_any}
 use Rattle.sq_grammar.specs.DataType.{data_type}
 use Rattle.sq_grammar.specs.Cond as conditions
-use Rattle.sq_grammar.specs.Cond.{strictly, query_specification}
+use Rattle.sq_grammar.specs.Cond.{must_be_cond, query_specification}
 use Rattle.sq_grammar.specs.Schema.{references_from, references, default_value, default_clause, check, column_constraint, column_definition, foreign_key, table_constraint, table_element, table_definition, check_option, view_definition, action, privileges, grantee, grant_option, grant, sees_created, created, element, schema_definition, next_definition, schema_text}
 use Rattle.sq_grammar.proofs.Spells.{as_deep, Sound, After, sound, unsound, built, andthen, eats, eaten, expected, maybe, following, either, names, a_name, a_text, lists, rows, behinds, behinds_with, lifted}
 use Rattle.sq_grammar.proofs.NamesSound.{table_names, signed_numbers, column_lists, a_column_list}
@@ -55,7 +55,7 @@ default_clause_sound left = behinds (lexeme.Word word.Default) default_value lef
 
 check_sound : (left : ℕ) → 1 ≤ left → Sound (check left) (λ c. bracketed (cond_tokens c)) (λ c. cond_depth c + 1) left
 unfolding check
-check_sound left room = sound (expected (lexeme.Symbol symbol.Open) _ (andthen (strictly (conditions.inside left)) _ (lifted left (omega arith) (inner_cond_sound left)) (λ c. expected (lexeme.Symbol symbol.Close) _ (built c _ _ refl (λ h. omega arith)))))
+check_sound left room = sound (expected (lexeme.Symbol symbol.Open) _ (andthen (must_be_cond (conditions.inside left)) _ (lifted left (omega arith) (inner_cond_sound left)) (λ c. expected (lexeme.Symbol symbol.Close) _ (built c _ _ refl (λ h. omega arith)))))
 
 constraint_sound : (left : ℕ) → 1 ≤ left → Sound (column_constraint left) (optional tree.column_constraint_tokens) (optional_depth depths.column_constraint_depth) left
 unfolding column_constraint
@@ -101,7 +101,7 @@ unfolding table_definition
 table_sound left room = andthen table_name _ (table_names left) (λ n. expected (lexeme.Symbol symbol.Open) _ (andthen (listed (table_element (left - 1))) _ (lifted left (omega arith) (lists (table_element (left - 1)) (left - 1) (element_sound (left - 1) (omega arith)))) (λ es.
     expected (lexeme.Symbol symbol.Close) _ (built (record { name = n; elements = es }) _ _ (simp append_assoc) (λ h. omega arith)))))
 
-check_option_sound : (left : ℕ) → Sound check_option (λ o. said o (lexeme.Word word.With ∷ lexeme.Word word.Check ∷ lexeme.Word word.Option ∷ [])) (λ _. 0) left
+check_option_sound : (left : ℕ) → Sound check_option (λ o. if_written o (lexeme.Word word.With ∷ lexeme.Word word.Check ∷ lexeme.Word word.Option ∷ [])) (λ _. 0) left
 unfolding check_option
 check_option_sound left = sound (eaten (lexeme.Word word.With) _
     (expected (lexeme.Word word.Check) _ (expected (lexeme.Word word.Option) _ (built true _ _ refl (λ h. omega arith))))
@@ -136,7 +136,7 @@ grantee_sound left = sound (eaten (lexeme.Word word.Public) _
     (built grantees.Public _ _ refl (λ h. omega arith))
     (andthen name _ (names left) (λ n. built (grantees.User n) _ _ refl (λ h. omega arith))))
 
-grant_option_sound : (left : ℕ) → Sound grant_option (λ o. said o (lexeme.Word word.With ∷ lexeme.Word word.Grant ∷ lexeme.Word word.Option ∷ [])) (λ _. 0) left
+grant_option_sound : (left : ℕ) → Sound grant_option (λ o. if_written o (lexeme.Word word.With ∷ lexeme.Word word.Grant ∷ lexeme.Word word.Option ∷ [])) (λ _. 0) left
 unfolding grant_option
 grant_option_sound left = sound (eaten (lexeme.Word word.With) _
     (expected (lexeme.Word word.Grant) _ (expected (lexeme.Word word.Option) _ (built true _ _ refl (λ h. omega arith))))
@@ -150,7 +150,7 @@ grant_sound : (left : ℕ) → 1 ≤ left → After (lexeme.Word word.Grant ∷ 
 unfolding grant
 grant_sound left room = andthen privileges _ (privileges_sound left room) (λ ps. expected (lexeme.Word word.On) _ (andthen (eat (lexeme.Word word.Table)) _ (eats (lexeme.Word word.Table) left) (λ w. andthen table_name _ (table_names left) (λ t.
     expected (lexeme.Word word.To) _ (andthen (listed grantee) _ (lists grantee left (grantee_sound left)) (λ gs. andthen grant_option _ (grant_option_sound left) (λ o.
-    built (record { privileges = ps; table_word = w; table = t; grantees = gs; grant_option = o }) _ _ (grant_text (lexeme.Word word.Grant ∷ tree.privileges_tokens ps) (said w (lexeme.Word word.Table ∷ [])) (table_name_tokens t) (comma_tokens tree.grantee_tokens gs) (said o (lexeme.Word word.With ∷ lexeme.Word word.Grant ∷ lexeme.Word word.Option ∷ []))) (λ h. omega arith))))))))
+    built (record { privileges = ps; table_word = w; table = t; grantees = gs; grant_option = o }) _ _ (grant_text (lexeme.Word word.Grant ∷ tree.privileges_tokens ps) (if_written w (lexeme.Word word.Table ∷ [])) (table_name_tokens t) (comma_tokens tree.grantee_tokens gs) (if_written o (lexeme.Word word.With ∷ lexeme.Word word.Grant ∷ lexeme.Word word.Option ∷ []))) (λ h. omega arith))))))))
 
 created_sound : (left : ℕ) → 2 ≤ left → Sound (created left (left - 1)) (optional tree.schema_element_tokens) (optional_depth depths.schema_element_depth) left
 unfolding created

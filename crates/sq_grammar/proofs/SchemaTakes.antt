@@ -4,7 +4,7 @@ use Rattle.sq_lex.specs.declared.lexeme.Lexeme.TheVariants as lexeme
 use Rattle.sq_lex.specs.declared.symbol.Symbol.TheVariants as symbol
 use Rattle.sq_lex.specs.declared.word.Word.TheVariants as word
 use Rattle.sq_lex.specs.declared.name.Name.{Name}
-use Rattle.sq_tree.specs.Tree.{optional, said}
+use Rattle.sq_tree.specs.Tree.{optional, if_written}
 use Rattle.sq_tree.specs.List.{comma_tokens, row_tokens}
 use Rattle.sq_tree.proofs.ListDepth.{row_depth}
 use Rattle.sq_tree.specs.Names.{table_name_tokens, columns_tokens}
@@ -34,7 +34,7 @@ use Rattle.sq_grammar.specs.Reading.{Tokens, Parser, sees, name, comma, listed, 
 use Rattle.sq_grammar.specs.Names.{dot, table_name, columns_if_any}
 use Rattle.sq_grammar.specs.DataType.{data_type}
 use Rattle.sq_grammar.specs.Cond as conditions
-use Rattle.sq_grammar.specs.Cond.{strictly, query_specification}
+use Rattle.sq_grammar.specs.Cond.{must_be_cond, query_specification}
 use Rattle.sq_grammar.specs.Schema.{table_definition, check_option, view_definition, action, privileges, grantee, grant_option, grant, sees_created, created, nothing, element, schema_definition, next_definition, schema_text}
 use Rattle.sq_grammar.proofs.Takes.{Takes, done, fits, andthen, plainly, mapped, word, mark, expected, eaten, uneaten, either, behind_it, a_name, named, seeing, unseeing, rows, follows, none_behind, commas, flat_commas}
 use Rattle.sq_grammar.proofs.Follows.{EndsCond, EndsTable, ends_table}
@@ -75,12 +75,12 @@ check_words = lexeme.Word word.With ∷ lexeme.Word word.Check ∷ lexeme.Word w
 abbrev grant_words : Tokens
 grant_words = lexeme.Word word.With ∷ lexeme.Word word.Grant ∷ lexeme.Word word.Option ∷ []
 
-pub check_option_takes : (o : Bool) {a left : ℕ} {rest : Tokens} → sees (lexeme.Word word.With) rest ≡ false → Takes check_option (said o check_words) a a 0 left o rest
+pub check_option_takes : (o : Bool) {a left : ℕ} {rest : Tokens} → sees (lexeme.Word word.With) rest ≡ false → Takes check_option (if_written o check_words) a a 0 left o rest
 unfolding check_option
 check_option_takes true none = eaten (word word.With) _ (expected (word word.Check) _ (expected (word word.Option) _ done))
 check_option_takes false none = uneaten _ _ none done
 
-pub grant_option_takes : (o : Bool) {a left : ℕ} {rest : Tokens} → sees (lexeme.Word word.With) rest ≡ false → Takes grant_option (said o grant_words) a a 0 left o rest
+pub grant_option_takes : (o : Bool) {a left : ℕ} {rest : Tokens} → sees (lexeme.Word word.With) rest ≡ false → Takes grant_option (if_written o grant_words) a a 0 left o rest
 unfolding grant_option
 grant_option_takes true none = eaten (word word.With) _ (expected (word word.Grant) _ (expected (word word.Option) _ done))
 grant_option_takes false none = uneaten _ _ none done
@@ -89,13 +89,13 @@ grant_option_takes false none = uneaten _ _ none done
 
 module _ (specification_takes : (left : ℕ) (q : QuerySpecification) (rest : Tokens) → EndsTable rest → Takes (query_specification left) (query_specification_tokens q) 0 0 (query_specification_depth q) left q rest) where
   -- behind CREATE VIEW
-  pub view_definition_takes : (left : ℕ) → 0 < left → (v : ViewDefinition) (rest : Tokens) → EndsElement rest → Takes (view_definition left) (table_name_tokens v.name ++ optional columns_tokens v.columns ++ lexeme.Word word.As ∷ query_specification_tokens v.query ++ said v.check_option check_words) 0 0 (depths.view_definition_depth v) left v rest
+  pub view_definition_takes : (left : ℕ) → 0 < left → (v : ViewDefinition) (rest : Tokens) → EndsElement rest → Takes (view_definition left) (table_name_tokens v.name ++ optional columns_tokens v.columns ++ lexeme.Word word.As ∷ query_specification_tokens v.query ++ if_written v.check_option check_words) 0 0 (depths.view_definition_depth v) left v rest
   unfolding view_definition
   view_definition_takes left room v rest ends =
       let name : Tokens = table_name_tokens v.name in
       let cs : Tokens = optional columns_tokens v.columns in
       let query : Tokens = lexeme.Word word.As ∷ query_specification_tokens v.query in
-      let option : Tokens = said v.check_option check_words in
+      let option : Tokens = if_written v.check_option check_words in
       let low = bracket_low v.columns in
       grouped (name ++ cs) query option (grouped name cs (query ++ option) (fits (λ h. omega arith) (λ h. omega (arith, low, room))
       (plainly table_name _ v.name (table_takes v.name (behind_name v.columns))
@@ -104,11 +104,11 @@ module _ (specification_takes : (left : ℕ) (q : QuerySpecification) (rest : To
       (andthen (query_specification left) _ v.query (specification_takes left v.query (option ++ rest) (behind_query v.check_option))
       (mapped check_option _ v.check_option (check_option_takes v.check_option ends.with_word) refl)))))))
     where
-      behind_name : (o : Option (CommaList Name)) → sees dot ((optional columns_tokens o ++ lexeme.Word word.As ∷ (query_specification_tokens v.query ++ said v.check_option check_words)) ++ rest) ≡ false
+      behind_name : (o : Option (CommaList Name)) → sees dot ((optional columns_tokens o ++ lexeme.Word word.As ∷ (query_specification_tokens v.query ++ if_written v.check_option check_words)) ++ rest) ≡ false
       behind_name None = refl
       behind_name (Some cs) = refl
 
-      behind_query : (o : Bool) → EndsTable (said o check_words ++ rest)
+      behind_query : (o : Bool) → EndsTable (if_written o check_words ++ rest)
       behind_query true = with_ends (lexeme.Word word.Check ∷ lexeme.Word word.Option ∷ rest)
       behind_query false = ends.table
 
@@ -155,14 +155,14 @@ name_no_table t more rest = by t.schema
     by (Some s) = refl
 
 -- behind GRANT
-pub grant_takes : (g : GrantStatement) {a left : ℕ} {rest : Tokens} → 0 < left → sees comma rest ≡ false → sees (lexeme.Word word.With) rest ≡ false → Takes grant (tree.privileges_tokens g.privileges ++ lexeme.Word word.On ∷ said g.table_word (lexeme.Word word.Table ∷ []) ++ table_name_tokens g.table ++ lexeme.Word word.To ∷ comma_tokens tree.grantee_tokens g.grantees ++ said g.grant_option grant_words) a a (depths.grant_depth g) left g rest
+pub grant_takes : (g : GrantStatement) {a left : ℕ} {rest : Tokens} → 0 < left → sees comma rest ≡ false → sees (lexeme.Word word.With) rest ≡ false → Takes grant (tree.privileges_tokens g.privileges ++ lexeme.Word word.On ∷ if_written g.table_word (lexeme.Word word.Table ∷ []) ++ table_name_tokens g.table ++ lexeme.Word word.To ∷ comma_tokens tree.grantee_tokens g.grantees ++ if_written g.grant_option grant_words) a a (depths.grant_depth g) left g rest
 unfolding grant
 grant_takes g {a = a} {left = left} {rest = rest} room no_comma no_with =
     let ps : Tokens = tree.privileges_tokens g.privileges in
-    let on : Tokens = lexeme.Word word.On ∷ said g.table_word (lexeme.Word word.Table ∷ []) in
+    let on : Tokens = lexeme.Word word.On ∷ if_written g.table_word (lexeme.Word word.Table ∷ []) in
     let table : Tokens = table_name_tokens g.table in
     let to : Tokens = lexeme.Word word.To ∷ comma_tokens tree.grantee_tokens g.grantees in
-    let option : Tokens = said g.grant_option grant_words in
+    let option : Tokens = if_written g.grant_option grant_words in
     let each = flat_commas grantee tree.grantee_tokens a left (λ _. Unit {0}) (λ x ts f. grantee_takes x) (λ ts. tt) g.grantees (option ++ rest) tt (behind_grantees g.grant_option) in
     grouped ((ps ++ on) ++ table) to option (grouped (ps ++ on) table (to ++ option) (grouped ps on (table ++ (to ++ option)) (fits (λ h. omega arith) (λ h. omega arith)
     (andthen privileges _ g.privileges (privileges_takes g.privileges room refl refl)
@@ -173,7 +173,7 @@ grant_takes g {a = a} {left = left} {rest = rest} room no_comma no_with =
     (plainly (listed grantee) _ g.grantees each
     (mapped grant_option _ g.grant_option (grant_option_takes g.grant_option no_with) refl))))))))))
   where
-    behind_grantees : (o : Bool) → sees comma (said o grant_words ++ rest) ≡ false
+    behind_grantees : (o : Bool) → sees comma (if_written o grant_words ++ rest) ≡ false
     behind_grantees true = refl
     behind_grantees false = no_comma
 
@@ -202,7 +202,7 @@ definition_long : (s : SchemaDefinition) → 0 < length (tree.schema_definition_
 definition_long s = omega arith
 
 module _ (data_type_takes : (t : DataType) (a left : ℕ) (rest : Tokens) → sees (lexeme.Symbol symbol.Open) rest ≡ false → sees (lexeme.Word word.Varying) rest ≡ false → Takes data_type (data_type_tokens t) a a 0 left t rest)
-    (inner_cond_takes : (left : ℕ) (c : Cond) (rest : Tokens) → 0 < left → EndsCond rest → Takes (strictly (conditions.inside left)) (cond_tokens c) 1 1 (suc (cond_depth c)) left c rest)
+    (inner_cond_takes : (left : ℕ) (c : Cond) (rest : Tokens) → 0 < left → EndsCond rest → Takes (must_be_cond (conditions.inside left)) (cond_tokens c) 1 1 (suc (cond_depth c)) left c rest)
     (specification_takes : (left : ℕ) (q : QuerySpecification) (rest : Tokens) → EndsTable rest → Takes (query_specification left) (query_specification_tokens q) 0 0 (query_specification_depth q) left q rest)
     (inner : ℕ) (room : 1 ≤ inner) where
   pub element_takes : (x : SchemaElement) (rest : Tokens) → EndsElement rest → Takes (element (suc inner) inner) (tree.schema_element_tokens x) 0 0 (depths.schema_element_depth x) (suc inner) (Some x) rest
@@ -217,11 +217,11 @@ module _ (data_type_takes : (t : DataType) (a left : ℕ) (rest : Tokens) → se
   elements_take xs rest ends no_grant none = rows (element (suc inner) inner) tree.schema_element_tokens depths.schema_element_depth 0 (suc inner) EndsElement element_takes element_starts element_long xs rest ends (no_element (suc inner) inner rest no_grant none)
 
   -- behind CREATE
-  pub schema_definition_takes : (s : SchemaDefinition) (rest : Tokens) → EndsDefinition rest → Takes (schema_definition (suc inner) inner) (lexeme.Word word.Schema ∷ lexeme.Word word.Authorization ∷ lexeme.Name s.authorization ∷ row_tokens tree.schema_element_tokens s.elements ++ said s.semicolon (lexeme.Symbol symbol.Semicolon ∷ [])) 0 0 (depths.schema_definition_depth s) (suc inner) s rest
+  pub schema_definition_takes : (s : SchemaDefinition) (rest : Tokens) → EndsDefinition rest → Takes (schema_definition (suc inner) inner) (lexeme.Word word.Schema ∷ lexeme.Word word.Authorization ∷ lexeme.Name s.authorization ∷ row_tokens tree.schema_element_tokens s.elements ++ if_written s.semicolon (lexeme.Symbol symbol.Semicolon ∷ [])) 0 0 (depths.schema_definition_depth s) (suc inner) s rest
   unfolding schema_definition
   schema_definition_takes s rest ends = by s.semicolon
     where
-      by : (semicolon : Bool) → Takes (schema_definition (suc inner) inner) (lexeme.Word word.Schema ∷ lexeme.Word word.Authorization ∷ lexeme.Name s.authorization ∷ row_tokens tree.schema_element_tokens s.elements ++ said semicolon (lexeme.Symbol symbol.Semicolon ∷ [])) 0 0 (depths.schema_definition_depth s) (suc inner) (record { authorization = s.authorization; elements = s.elements; semicolon = semicolon }) rest
+      by : (semicolon : Bool) → Takes (schema_definition (suc inner) inner) (lexeme.Word word.Schema ∷ lexeme.Word word.Authorization ∷ lexeme.Name s.authorization ∷ row_tokens tree.schema_element_tokens s.elements ++ if_written semicolon (lexeme.Symbol symbol.Semicolon ∷ [])) 0 0 (depths.schema_definition_depth s) (suc inner) (record { authorization = s.authorization; elements = s.elements; semicolon = semicolon }) rest
       by true = expected (word word.Schema) _ (expected (word word.Authorization) _ (named s.authorization _ (fits (λ h. omega arith) (λ h. omega arith)
           (andthen (all (element (suc inner) inner)) _ s.elements (elements_take s.elements (lexeme.Symbol symbol.Semicolon ∷ rest) (semicolon_ends rest) refl refl) (eaten (mark symbol.Semicolon (λ n. refl)) _ done)))))
       by false = expected (word word.Schema) _ (expected (word word.Authorization) _ (named s.authorization _ (fits (λ h. omega arith) (λ h. omega arith)

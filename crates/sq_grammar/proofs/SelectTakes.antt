@@ -16,7 +16,7 @@ use Rattle.sq_tree.specs.declared.cond.SelectList.TheVariants as list
 use Rattle.sq_tree.specs.declared.cond.Cond.{Cond}
 use Rattle.sq_tree.specs.declared.cond.TableExpression.{TableExpression, out-TableExpression, roll-TableExpression, roll-out-TableExpression}
 use Rattle.sq_tree.specs.declared.cond.QuerySpecification.{QuerySpecification, out-QuerySpecification, roll-QuerySpecification, roll-out-QuerySpecification}
-use Rattle.sq_tree.specs.Tree.{optional, said}
+use Rattle.sq_tree.specs.Tree.{optional, if_written}
 use Rattle.sq_tree.proofs.TreeDepth.{optional_depth, greatest}
 use Rattle.sq_tree.specs.List.{comma_tokens}
 use Rattle.sq_tree.specs.Names.{column_reference_tokens}
@@ -41,7 +41,7 @@ unfolding correlation
 correlation_takes None no_word no_name = uneaten (lexeme.Word word.As) _ no_word (unmet name_of _ no_name done)
 correlation_takes (Some c) {a = a} {left = left} {rest = rest} no_word no_name = by c.as_word c.name
   where
-    by : (written : Bool) (n : Name) → Takes correlation (said written (lexeme.Word word.As ∷ []) ++ lexeme.Name n ∷ []) a a 0 left (Some (record { as_word = written; name = n })) rest
+    by : (written : Bool) (n : Name) → Takes correlation (if_written written (lexeme.Word word.As ∷ []) ++ lexeme.Name n ∷ []) a a 0 left (Some (record { as_word = written; name = n })) rest
     by true n = eaten (word word.As) _ (named n _ done)
     by false n = uneaten (lexeme.Word word.As) _ refl (met name_of (lexeme.Name n) n refl (λ k. refl) _ done)
 
@@ -59,7 +59,7 @@ pub reference_takes : (t : TableReference) {a left : ℕ} (rest : Tokens) → En
 unfolding table_reference
 reference_takes t rest ends = plainly table_name _ t.table (table_takes t.table (no_dot t.correlation)) (mapped correlation _ t.correlation (correlation_takes t.correlation ends.as_word ends.name) refl)
   where
-    written : (w : Bool) (n : Name) → sees dot ((said w (lexeme.Word word.As ∷ []) ++ lexeme.Name n ∷ []) ++ rest) ≡ false
+    written : (w : Bool) (n : Name) → sees dot ((if_written w (lexeme.Word word.As ∷ []) ++ lexeme.Name n ∷ []) ++ rest) ≡ false
     written true n = refl
     written false n = refl
 
@@ -71,7 +71,7 @@ from_takes : (f : CommaList TableReference) {a left : ℕ} (rest : Tokens) → E
 unfolding from_clause
 from_takes f {a = a} {left = left} rest ends = expected (word word.From) _ (flat_commas table_reference table_reference_tokens a left EndsReference (λ t ts e. reference_takes t ts e) (λ ts. record { dot = refl; as_word = refl; name = refl }) f rest ends.reference ends.comma)
 
--- [ GROUP BY colref { "," colref } ]
+-- [ GROUP BY column-ref { "," column-ref } ]
 group_takes : (g : Option (CommaList ColumnReference)) {a left : ℕ} (rest : Tokens) → sees dot rest ≡ false → sees comma rest ≡ false → sees (lexeme.Word word.Group) rest ≡ false → Takes group_by (optional group_by_tokens g) a a 0 left g rest
 unfolding group_by by_columns
 group_takes None rest no_dot no_comma no_word = uneaten (lexeme.Word word.Group) _ no_word done

@@ -8,18 +8,18 @@ use Rattle.sq_lex.specs.declared.lexeme.Lexeme.TheVariants as lexeme
 use Rattle.sq_lex.specs.declared.symbol.Symbol.TheVariants as symbol
 use Rattle.sq_lex.specs.declared.name.Name.{Name}
 use Rattle.sq_lex.specs.declared.number.Number.{Number}
-use Rattle.sq_tree.specs.Tree.{optional, said}
+use Rattle.sq_tree.specs.Tree.{optional, if_written}
 use Rattle.sq_tree.proofs.TreeDepth.{optional_depth, greatest}
 use Rattle.sq_tree.specs.List.{comma_tokens, comma_then}
 use Rattle.sq_tree.proofs.ListDepth.{comma_depth}
 use Rattle.sq_tree.specs.Names.{name_tokens}
 use Rattle.sq_tree.specs.declared.expr.Expr.{Expr}
 use Rattle.sq_tree.specs.Expr.{expr_tokens}
-use Rattle.sq_grammar.specs.declared.mixed.Mixed.{Mixed}
-use Rattle.sq_grammar.specs.declared.mixed.Mixed.TheVariants.{Whole, Bare}
+use Rattle.sq_grammar.specs.declared.cond_or_expr.CondOrExpr.{CondOrExpr}
+use Rattle.sq_grammar.specs.declared.cond_or_expr.CondOrExpr.TheVariants as came
 use Rattle.std.proofs.lemmas.Bool.{eqb-false}
 use Rattle.sq_grammar.specs.Reading.{Tokens, Outcome, Parser, ◌>>=◌, and_then, pure, stuck, eat, expect, opened, sees, rest, one_of, one_if_any, first_of, taken, taken_if_any, name_of, number_of, text_of, name, number, behind, comma, listed, all, many, turn, with_front, end_of, whole}
-use Rattle.sq_grammar.proofs.Places.{is_token-is}
+use Rattle.sq_grammar.proofs.Ranks.{is_token-is}
 
 -- text stands before the rest, with d for its depth
 pub record Spells (ts text : Tokens) (d left : ℕ) (rest : Tokens) : Type 0 where
@@ -45,7 +45,7 @@ ok_is x y e = cc
 pub ok_pair : {X : Type 0} (x y : X) (r s : Tokens) → let a : Outcome X = Ok (x, r) in let b : Outcome X = Ok (y, s) in a ≡ b → (x ≡ y) × (r ≡ s)
 ok_pair x y r s e = let p = ok_is (x, r) (y, s) e in (ap (λ q. q.0) p, ap (λ q. q.1) p)
 
--- the same depth, said in another way
+-- the same depth, if_written in another way
 pub as_deep : {A : Type 0} {p : Parser A} {text : A → Tokens} {depth deep : A → ℕ} {left : ℕ} → ((x : A) → deep x ≡ depth x) → Sound p text depth left → Sound p text deep left
 as_deep {left = left} same s = record {
   spells = λ ts x rest e.
@@ -107,19 +107,19 @@ expects token left = record {
     by ts x after (inr h) = cc
 
 -- a word or a symbol that may come
-pub eats : (token : Lexeme) (left : ℕ) → Sound (eat token) (λ found. said found (token ∷ [])) (λ _. 0) left
+pub eats : (token : Lexeme) (left : ℕ) → Sound (eat token) (λ found. if_written found (token ∷ [])) (λ _. 0) left
 unfolding eat
 eats token left = record {
   spells = λ ts x after e. by ts x after (chosen (sees token ts) _ _ _ e);
 }
   where
-    by : (ts : Tokens) (x : Bool) (after : Tokens) → ((sees token ts ≡ true) × (let r : Outcome Bool = Ok (true, rest ts) in r ≡ Ok (x, after))) ⊎ ((sees token ts ≡ false) × (let r : Outcome Bool = Ok (false, ts) in r ≡ Ok (x, after))) → Spells ts (said x (token ∷ [])) 0 left after
+    by : (ts : Tokens) (x : Bool) (after : Tokens) → ((sees token ts ≡ true) × (let r : Outcome Bool = Ok (true, rest ts) in r ≡ Ok (x, after))) ⊎ ((sees token ts ≡ false) × (let r : Outcome Bool = Ok (false, ts) in r ≡ Ok (x, after))) → Spells ts (if_written x (token ∷ [])) 0 left after
     by ts x after (inl h) =
         let p = ok_pair true x (rest ts) after h.1 in
-        record { text_is = subst (λ b. ts ≡ said b (token ∷ []) ++ after) p.0 (seen token ts h.0 ∙ ap (λ r. token ∷ r) p.1); shallow = omega arith }
+        record { text_is = subst (λ b. ts ≡ if_written b (token ∷ []) ++ after) p.0 (seen token ts h.0 ∙ ap (λ r. token ∷ r) p.1); shallow = omega arith }
     by ts x after (inr h) =
         let p = ok_pair false x ts after h.1 in
-        record { text_is = subst (λ b. ts ≡ said b (token ∷ []) ++ after) p.0 p.1; shallow = omega arith }
+        record { text_is = subst (λ b. ts ≡ if_written b (token ∷ []) ++ after) p.0 p.1; shallow = omega arith }
 
 -- an opening bracket
 pub opens : (n left : ℕ) → Sound (opened n) (λ _. lexeme.Symbol symbol.Open ∷ []) (λ _. 0) left
@@ -235,7 +235,7 @@ module _ {A : Type 0} (item : Parser (Option A)) (text : A → Tokens) (depth : 
 pub behinds : {A : Type 0} {text : A → Tokens} {depth : A → ℕ} (token : Lexeme) (p : Parser A) (left : ℕ) → Sound p text depth left → Sound (behind token p) (optional (λ x. token ∷ text x)) (optional_depth depth) left
 behinds {A = A} {text = text} {depth = depth} token p left s = sound (andthen (eat token) _ (eats token left) by)
   where
-    by : (found : Bool) → After (said found (token ∷ [])) (max 0 0) left (cond found (p >>= λ x. pure (Some x)) (pure None)) (optional (λ x. token ∷ text x)) (optional_depth depth)
+    by : (found : Bool) → After (if_written found (token ∷ [])) (max 0 0) left (cond found (p >>= λ x. pure (Some x)) (pure None)) (optional (λ x. token ∷ text x)) (optional_depth depth)
     by true = andthen p _ s (λ x. built (Some x) (token ∷ text x) _ refl (λ h. omega arith))
     by false = built None [] _ refl (λ h. omega arith)
 
@@ -249,7 +249,7 @@ lists {A = A} {text = text} {depth = depth} item left s =
 pub eaten : {A : Type 0} {text : A → Tokens} {depth : A → ℕ} {left : ℕ} (token : Lexeme) (f : Bool → Parser A) {done : Tokens} {d : ℕ} → After (done ++ token ∷ []) d left (f true) text depth → After done d left (f false) text depth → After done d left (eat token >>= f) text depth
 eaten {text = text} {depth = depth} {left = left} token f {done = done} {d = d} some none = andthen (eat token) f (eats token left) by
   where
-    by : (found : Bool) → After (done ++ said found (token ∷ [])) (max d 0) left (f found) text depth
+    by : (found : Bool) → After (done ++ if_written found (token ∷ [])) (max d 0) left (f found) text depth
     by true = record { spells = λ ts x rest h e. some.spells ts x rest (omega arith) e }
     by false = record { spells = λ ts x rest h e. subst (λ us. Spells (us ++ ts) (text x) (depth x) left rest) (sym (append-nil done)) (none.spells ts x rest (omega arith) e) }
 
@@ -311,17 +311,17 @@ either {A = A} {text = text} {depth = depth} {left = left} test p q {done = done
     by false ts x rest h e = b.spells ts x rest h e
 
 -- of a part of a condition, or of an expression alone
-abbrev pub mixed : {A B : Type 0} → (A → B) → (Expr → B) → Mixed A → B
-mixed whole bare (Whole x) = whole x
-mixed whole bare (Bare e) = bare e
+abbrev pub of_either : {A B : Type 0} → (A → B) → (Expr → B) → CondOrExpr A → B
+of_either whole bare (came.Cond x) = whole x
+of_either whole bare (came.Expr e) = bare e
 
 -- a choice by what was read where a condition may begin with an expression
-pub mixedly : {A B : Type 0} {text : A → Tokens} {depth : A → ℕ} {left : ℕ} {part : B → Tokens} {deep : Mixed B → ℕ} (q : Parser (Mixed B)) (f : Mixed B → Parser A) {done : Tokens} {d : ℕ} → Sound q (mixed part expr_tokens) deep left → ((x : B) → After (done ++ part x) (max d (deep (Whole x))) left (f (Whole x)) text depth) → ((e : Expr) → After (done ++ expr_tokens e) (max d (deep (Bare e))) left (f (Bare e)) text depth) → After done d left (q >>= f) text depth
-mixedly {B = B} {text = text} {depth = depth} {left = left} {part = part} {deep = deep} q f {done = done} {d = d} s whole bare = andthen q f s by
+pub either_way : {A B : Type 0} {text : A → Tokens} {depth : A → ℕ} {left : ℕ} {part : B → Tokens} {deep : CondOrExpr B → ℕ} (q : Parser (CondOrExpr B)) (f : CondOrExpr B → Parser A) {done : Tokens} {d : ℕ} → Sound q (of_either part expr_tokens) deep left → ((x : B) → After (done ++ part x) (max d (deep (came.Cond x))) left (f (came.Cond x)) text depth) → ((e : Expr) → After (done ++ expr_tokens e) (max d (deep (came.Expr e))) left (f (came.Expr e)) text depth) → After done d left (q >>= f) text depth
+either_way {B = B} {text = text} {depth = depth} {left = left} {part = part} {deep = deep} q f {done = done} {d = d} s whole bare = andthen q f s by
   where
-    by : (m : Mixed B) → After (done ++ mixed part expr_tokens m) (max d (deep m)) left (f m) text depth
-    by (Whole x) = whole x
-    by (Bare e) = bare e
+    by : (m : CondOrExpr B) → After (done ++ of_either part expr_tokens m) (max d (deep m)) left (f m) text depth
+    by (came.Cond x) = whole x
+    by (came.Expr e) = bare e
 
 -- a sound parser from the start
 pub unsound : {A : Type 0} {text : A → Tokens} {depth : A → ℕ} {left : ℕ} {p : Parser A} → Sound p text depth left → After [] 0 left p text depth

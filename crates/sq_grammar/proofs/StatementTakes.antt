@@ -222,7 +222,7 @@ module _
     (specification_takes : (left : ℕ) (q : QuerySpecification) (rest : Tokens) → EndsTable rest → Takes (query_specification left) (query_specification_tokens q) 0 0 (query_specification_depth q) left q rest)
     (table_expression_takes : (left : ℕ) (t : TableExpression) (rest : Tokens) → EndsTable rest → Takes (table_expression (cond left)) (table_expression_tokens t) 0 0 (table_expression_depth t) left t rest)
     (select_list_takes : (left : ℕ) (l : SelectList) (rest : Tokens) → EndsExpr rest → sees comma rest ≡ false → Takes (select_list (expr left)) (select_list_tokens l) 0 0 (select_list_depth l) left l rest) where
-  -- [ WHERE cond | WHERE CURRENT OF name ]
+  -- [ WHERE condition | WHERE CURRENT OF name ]
   pub target_takes : (left : ℕ) (t : Option Where) (rest : Tokens) → EndsCond rest → sees (lexeme.Word word.Where) rest ≡ false → Takes (target left) (optional target_tokens t) 0 0 (optional_depth target_depth t) left t rest
   unfolding target
   target_takes left None rest ends none = uneaten (lexeme.Word word.Where) _ none done

@@ -36,7 +36,7 @@ use Rattle.sq_grammar.specs.Reading.{Tokens, Parser, sees, first_of, name_of, te
 use Rattle.sq_grammar.specs.Names.{dot, table_name, signed_number, columns, columns_if_any}
 use Rattle.sq_grammar.specs.DataType.{data_type}
 use Rattle.sq_grammar.specs.Cond as conditions
-use Rattle.sq_grammar.specs.Cond.{strictly}
+use Rattle.sq_grammar.specs.Cond.{must_be_cond}
 use Rattle.sq_grammar.specs.Schema.{references_from, references, default_value, default_clause, check, column_constraint, column_definition, foreign_key, table_constraint, table_element, table_definition}
 use Rattle.sq_grammar.proofs.Takes.{Takes, done, fits, lifted, andthen, plainly, mapped, word, opening, closing, expected, eaten, uneaten, behind_it, met, unmet, rows, follows, commas}
 use Rattle.sq_grammar.proofs.Follows.{EndsCond, ends_cond}
@@ -153,11 +153,11 @@ cond_close : (rest : Tokens) → EndsCond (lexeme.Symbol symbol.Close ∷ rest)
 cond_close rest = ends_cond _ refl
 
 module _ (data_type_takes : (t : DataType) (a left : ℕ) (rest : Tokens) → sees (lexeme.Symbol symbol.Open) rest ≡ false → sees (lexeme.Word word.Varying) rest ≡ false → Takes data_type (data_type_tokens t) a a 0 left t rest)
-    (inner_cond_takes : (left : ℕ) (c : Cond) (rest : Tokens) → 0 < left → EndsCond rest → Takes (strictly (conditions.inside left)) (cond_tokens c) 1 1 (suc (cond_depth c)) left c rest) where
+    (inner_cond_takes : (left : ℕ) (c : Cond) (rest : Tokens) → 0 < left → EndsCond rest → Takes (must_be_cond (conditions.inside left)) (cond_tokens c) 1 1 (suc (cond_depth c)) left c rest) where
   -- the bracket is one of `left`
   pub check_takes : (left : ℕ) → 0 < left → (c : Cond) {rest : Tokens} → Takes (check left) (bracketed (cond_tokens c)) 0 0 (cond_depth c + 1) left c rest
   unfolding check
-  check_takes left room c {rest = rest} = expected opening _ (fits (λ h. omega arith) (λ h. omega arith) (andthen (strictly (conditions.inside left)) _ c (inner_cond_takes left c (lexeme.Symbol symbol.Close ∷ rest) room (cond_close rest)) (expected closing _ done)))
+  check_takes left room c {rest = rest} = expected opening _ (fits (λ h. omega arith) (λ h. omega arith) (andthen (must_be_cond (conditions.inside left)) _ c (inner_cond_takes left c (lexeme.Symbol symbol.Close ∷ rest) room (cond_close rest)) (expected closing _ done)))
 
   pub column_constraint_takes : (left : ℕ) → 0 < left → (c : ColumnConstraint) (rest : Tokens) → EndsConstraint rest → Takes (column_constraint left) (tree.column_constraint_tokens c) 0 0 (depths.column_constraint_depth c) left (Some c) rest
   unfolding column_constraint

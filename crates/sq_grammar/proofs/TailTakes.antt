@@ -26,13 +26,13 @@ use Rattle.sq_tree.proofs.ExprDepth.{expr_depth}
 use Rattle.sq_tree.specs.Cond.{comparison_token, compared_tokens, not_tokens, escape_tokens, cond_tokens, tail_tokens, query_specification_tokens}
 use Rattle.sq_tree.proofs.CondDepth.{cond_depth, tail_depth, query_specification_depth}
 use Rattle.sq_tree.proofs.CondLaws as law
-use Rattle.sq_grammar.specs.declared.mixed.Mixed.{Mixed}
-use Rattle.sq_grammar.specs.declared.mixed.Mixed.TheVariants.{Whole}
+use Rattle.sq_grammar.specs.declared.cond_or_expr.CondOrExpr.{CondOrExpr}
+use Rattle.sq_grammar.specs.declared.cond_or_expr.CondOrExpr.TheVariants as came
 use Rattle.sq_grammar.specs.Reading.{Tokens, Parser, sees, rest, behind, listed}
 use Rattle.sq_tree.specs.Brackets.{open_after}
 use Rattle.sq_grammar.specs.Expr as expressions
 use Rattle.sq_grammar.specs.Expr.{expr}
-use Rattle.sq_grammar.specs.Cond.{comparison_of, compared_if_any, sees_query, strict, strictly, null_tail, inner_query, subquery, by_compared, comparison_tail, between_tail, in_tail, like_tail, negatable_tail, tail}
+use Rattle.sq_grammar.specs.Cond.{comparison_of, compared_if_any, sees_query, only_cond, must_be_cond, null_tail, inner_query, subquery, by_compared, comparison_tail, between_tail, in_tail, like_tail, negatable_tail, tail}
 use Rattle.sq_grammar.proofs.Takes.{Takes, done, fits, respelled, andthen, plainly, mapped, word, closing, expected, eaten, uneaten, either, perhaps, met, unmet, openly, seeing, unseeing, commas, deeper_commas}
 use Rattle.sq_grammar.proofs.ExprTakes.{Starts, expr_starts, foreign, expr_takes, inside_takes, close_ends}
 use Rattle.sq_grammar.proofs.SelectTakes.{specification_takes_a, comma_ends, before_last}
@@ -111,13 +111,13 @@ null_takes : (n : Bool) {left : ℕ} {rest : Tokens} → Takes null_tail (not_to
 unfolding null_tail
 null_takes n = either (word word.Not) n _ refl (expected (word word.Null) _ done)
 
-module _ (left : ℕ) (inner : Parser (Mixed Cond))
-    (whole_takes : 0 < left → (c : Cond) (rest : Tokens) → EndsCond rest → Takes inner (cond_tokens c) 1 1 (suc (cond_depth c)) left (Whole c) rest) where
+module _ (left : ℕ) (inner : Parser (CondOrExpr Cond))
+    (whole_takes : 0 < left → (c : Cond) (rest : Tokens) → EndsCond rest → Takes inner (cond_tokens c) 1 1 (suc (cond_depth c)) left (came.Cond c) rest) where
   -- a query specification behind a bracket
   inner_query_takes : 0 < left → (q : QuerySpecification) (rest : Tokens) → EndsTable rest → Takes (inner_query left inner) (query_specification_tokens q) 1 1 (suc (query_specification_depth q)) left q rest
-  inner_query_takes room q rest ends = fits (λ h. omega arith) (λ h. omega arith) (specification_takes_a 1 left (expressions.inside left) (strictly inner) (omega arith)
+  inner_query_takes room q rest ends = fits (λ h. omega arith) (λ h. omega arith) (specification_takes_a 1 left (expressions.inside left) (must_be_cond inner) (omega arith)
       (λ e ts f. fits (λ h. omega arith) (λ h. omega arith) (inside_takes left e ts room f))
-      (λ c ts f. fits (λ h. omega arith) (λ h. omega arith) (mapped inner strict (Whole c) (whole_takes room c ts f) refl)) q rest ends)
+      (λ c ts f. fits (λ h. omega arith) (λ h. omega arith) (mapped inner only_cond (came.Cond c) (whole_takes room c ts f) refl)) q rest ends)
 
   pub subquery_takes : (q : QuerySpecification) (rest : Tokens) → Takes (subquery left inner) (bracketed (query_specification_tokens q)) 0 0 (suc (query_specification_depth q)) left q rest
   unfolding subquery

@@ -12,13 +12,13 @@ use Rattle.sq_lex.specs.declared.symbol.Symbol.TheVariants as symbol
 use Rattle.sq_lex.specs.declared.word.Word.{Word}
 use Rattle.sq_lex.specs.declared.name.Name.{Name}
 use Rattle.sq_lex.specs.declared.number.Number.{Number}
-use Rattle.sq_lex.specs.Word.{place}
-use Rattle.sq_tree.specs.Tree.{optional, said}
+use Rattle.sq_lex.specs.Word.{rank}
+use Rattle.sq_tree.specs.Tree.{optional, if_written}
 use Rattle.sq_tree.proofs.TreeDepth.{optional_depth, greatest}
 use Rattle.sq_tree.specs.List.{comma_tokens, comma_then}
 use Rattle.sq_tree.proofs.ListDepth.{comma_depth}
 use Rattle.sq_tree.specs.declared.list.CommaList.{CommaList}
-use Rattle.sq_lex.specs.Symbol.{symbol_place}
+use Rattle.sq_lex.specs.Symbol.{symbol_rank}
 use Rattle.sq_grammar.specs.Reading.{Tokens, Outcome, Parser, ◌>>=◌, and_then, pure, stuck, eat, expect, opened, sees, rest, one_of, one_if_any, first_of, taken, taken_if_any, name_of, number_of, name, number, behind, comma, listed, all}
 use Rattle.sq_tree.specs.Brackets.{open_after}
 use Rattle.sq_grammar.proofs.Many.{all-none, all-err, all-some}
@@ -153,10 +153,10 @@ still : (t : Lexeme) (a : ℕ) → ((n : ℕ) → open_after n t ≡ n) → Move
 still t a h = record { steps = λ k. h (k + a) }
 
 symbol-seen : (s : Symbol) (ts : Tokens) → sees (lexeme.Symbol s) (lexeme.Symbol s ∷ ts) ≡ true
-symbol-seen s ts = eq-eqb (symbol_place s) (symbol_place s) refl
+symbol-seen s ts = eq-eqb (symbol_rank s) (symbol_rank s) refl
 
 pub word : (w : Word) {a : ℕ} → Token (lexeme.Word w) a a
-word w {a = a} = record { seen = λ ts. eq-eqb (place w) (place w) refl; moves = still (lexeme.Word w) a (λ n. refl) }
+word w {a = a} = record { seen = λ ts. eq-eqb (rank w) (rank w) refl; moves = still (lexeme.Word w) a (λ n. refl) }
 
 -- a symbol that is no bracket
 pub mark : (s : Symbol) {a : ℕ} → ((n : ℕ) → open_after n (lexeme.Symbol s) ≡ n) → Token (lexeme.Symbol s) a a
@@ -188,7 +188,7 @@ module _ {A : Type 0} {t : Lexeme} where
   eaten token f {more = more} {rest = rest} s = ahead token.moves (ap (λ r. and_then r f) (chosen _ _ _ _ (token.seen (more ++ rest)))) s
 
   -- one that may come, by whether it is written
-  pub either : {a : ℕ} → Token t a a → (written : Bool) (f : Bool → Parser A) {more : Tokens} {c d left : ℕ} {y : A} {rest : Tokens} → sees t (more ++ rest) ≡ false → Takes (f written) more a c d left y rest → Takes (eat t >>= f) (said written (t ∷ []) ++ more) a c d left y rest
+  pub either : {a : ℕ} → Token t a a → (written : Bool) (f : Bool → Parser A) {more : Tokens} {c d left : ℕ} {y : A} {rest : Tokens} → sees t (more ++ rest) ≡ false → Takes (f written) more a c d left y rest → Takes (eat t >>= f) (if_written written (t ∷ []) ++ more) a c d left y rest
   either token true f none s = eaten token f s
   either token false f none s = uneaten _ f none s
 

@@ -19,14 +19,14 @@ use Rattle.sq_tree.specs.declared.cond.Test.{Test}
 use Rattle.sq_tree.specs.declared.cond.Conj.{Conj, roll-Conj}
 use Rattle.sq_tree.specs.declared.cond.Cond.{Cond, roll-Cond}
 use Rattle.sq_tree.specs.declared.cond.QuerySpecification.{QuerySpecification}
-use Rattle.sq_grammar.specs.declared.mixed.Mixed.{Mixed}
-use Rattle.sq_grammar.specs.declared.mixed.Mixed.TheVariants.{Whole, Bare}
+use Rattle.sq_grammar.specs.declared.cond_or_expr.CondOrExpr.{CondOrExpr}
+use Rattle.sq_grammar.specs.declared.cond_or_expr.CondOrExpr.TheVariants as came
 use Rattle.sq_grammar.specs.Reading.{Parser, Tokens, ◌>>=◌, ◌>>◌, pure, stuck, eat_word, expect_word, opened, sees, rest, one_if_any, token_if_any, behind, listed, all}
 use Rattle.sq_grammar.specs.Expr as expressions
 use Rattle.sq_grammar.specs.Expr.{expr, expr_from, close}
 use Rattle.sq_grammar.specs.Select.{specification}
 
--- op = "=" | "<>" | "<" | ">" | "<=" | ">="
+-- comparison = "=" | "<>" | "<" | ">" | "<=" | ">="
 abbrev pub comparison_of : Lexeme → Option Comparison
 comparison_of (lexeme.Symbol symbol.Equal) = Some comparison.Equal
 comparison_of (lexeme.Symbol symbol.NotEqual) = Some comparison.NotEqual
@@ -45,12 +45,12 @@ abbrev pub sees_query : Tokens → Bool
 sees_query ts = sees (lexeme.Symbol symbol.Open) ts && sees (lexeme.Word word.Select) (rest ts)
 
 -- a condition has to stand here
-abbrev pub strict : {A : Type 0} → Mixed A → Parser A
-strict (Whole x) = pure x
-strict (Bare e) = stuck
+abbrev pub only_cond : {A : Type 0} → CondOrExpr A → Parser A
+only_cond (came.Cond x) = pure x
+only_cond (came.Expr e) = stuck
 
-abbrev pub strictly : {A : Type 0} → Parser (Mixed A) → Parser A
-strictly p = p >>= strict
+abbrev pub must_be_cond : {A : Type 0} → Parser (CondOrExpr A) → Parser A
+must_be_cond p = p >>= only_cond
 
 -- IS [ NOT ] NULL, whose IS is read already
 unfoldable pub null_tail : Parser Tail
@@ -60,12 +60,12 @@ null_tail = do
   pure (tails.Null negated)
 
 -- `inner` reads behind a bracket that is one of the `left` that may be opened
-module _ (left : ℕ) (inner : Parser (Mixed Cond)) where
+module _ (left : ℕ) (inner : Parser (CondOrExpr Cond)) where
   -- a query specification behind a bracket
   abbrev pub inner_query : Parser QuerySpecification
-  inner_query = specification (expressions.inside left) (strictly inner)
+  inner_query = specification (expressions.inside left) (must_be_cond inner)
 
-  -- sub = "(" spec ")"
+  -- subquery = "(" specification ")"
   unfoldable pub subquery : Parser QuerySpecification
   subquery = do
     opened left
@@ -83,7 +83,7 @@ module _ (left : ℕ) (inner : Parser (Mixed Cond)) where
   by_compared op (Some q) = compared_query op (Some q)
   by_compared op None = λ ts. (if sees_query ts then compared_query op None else compared_expr op) ts
 
-  -- op expr | op [ ALL | ANY | SOME ] sub, whose op is read already
+  -- comparison expr | comparison [ ALL | ANY | SOME ] subquery, whose comparison is read already
   unfoldable pub comparison_tail : Comparison → Parser Tail
   comparison_tail op = compared_if_any >>= by_compared op
 
@@ -110,7 +110,7 @@ module _ (left : ℕ) (inner : Parser (Mixed Cond)) where
   abbrev pub in_by : Bool → Parser Tail
   in_by negated = λ ts. (if sees (lexeme.Word word.Select) ts then in_query negated else in_list negated) ts
 
-  -- IN ( sub | "(" expr { "," expr } ")" ), whose word is read already
+  -- IN ( subquery | "(" expr { "," expr } ")" ), whose word is read already
   unfoldable pub in_tail : Bool → Parser Tail
   in_tail negated = opened left >> in_by negated
 
@@ -159,78 +159,78 @@ module _ (left : ℕ) (inner : Parser (Mixed Cond)) where
   unfoldable pub tail : Parser (Option Tail)
   tail = one_if_any comparison_of >>= by_comparison
 
-  abbrev pub tailed : Expr → Option Tail → Parser (Mixed Body)
-  tailed e None = pure (Bare e)
-  tailed e (Some t) = pure (Whole (bodies.Predicate e t))
+  abbrev pub tailed : Expr → Option Tail → Parser (CondOrExpr Body)
+  tailed e None = pure (came.Expr e)
+  tailed e (Some t) = pure (came.Cond (bodies.Predicate e t))
 
   -- a predicate whose first expression is read already, or that expression alone
-  unfoldable pub predicate_from : Expr → Parser (Mixed Body)
+  unfoldable pub predicate_from : Expr → Parser (CondOrExpr Body)
   predicate_from e = tail >>= tailed e
 
-  abbrev pub by_inner : Mixed Cond → Parser (Mixed Body)
-  by_inner (Whole c) = pure (Whole (bodies.Bracketed c))
-  by_inner (Bare e) = expr_from left (primary.Bracketed e) >>= predicate_from
+  abbrev pub by_inner : CondOrExpr Cond → Parser (CondOrExpr Body)
+  by_inner (came.Cond c) = pure (came.Cond (bodies.Bracketed c))
+  by_inner (came.Expr e) = expr_from left (primary.Bracketed e) >>= predicate_from
 
-  unfoldable pub bracket : Parser (Mixed Body)
+  unfoldable pub bracket : Parser (CondOrExpr Body)
   bracket = do
     opened left
     m ← inner
     close
     by_inner m
 
-  abbrev pub by_open : Parser (Mixed Body)
+  abbrev pub by_open : Parser (CondOrExpr Body)
   by_open = λ ts. (if sees (lexeme.Symbol symbol.Open) ts then bracket else (expr left >>= predicate_from)) ts
 
-  abbrev pub by_exists : Bool → Parser (Mixed Body)
-  by_exists true = subquery >>= λ q. pure (Whole (bodies.Exists q))
+  abbrev pub by_exists : Bool → Parser (CondOrExpr Body)
+  by_exists true = subquery >>= λ q. pure (came.Cond (bodies.Exists q))
   by_exists false = by_open
 
-  -- pred | "(" cond ")" | expr
-  unfoldable pub body : Parser (Mixed Body)
+  -- predicate | "(" condition ")" | expr
+  unfoldable pub body : Parser (CondOrExpr Body)
   body = eat_word word.Exists >>= by_exists
 
-  abbrev pub tested : Bool → Mixed Body → Parser (Mixed Test)
-  tested negated (Whole b) = pure (Whole (record { negated = negated; body = b }))
-  tested true (Bare e) = stuck
-  tested false (Bare e) = pure (Bare e)
+  abbrev pub tested : Bool → CondOrExpr Body → Parser (CondOrExpr Test)
+  tested negated (came.Cond b) = pure (came.Cond (record { negated = negated; body = b }))
+  tested true (came.Expr e) = stuck
+  tested false (came.Expr e) = pure (came.Expr e)
 
-  -- test = [ NOT ] ( pred | "(" cond ")" ), or an expression
-  unfoldable pub test_at : Parser (Mixed Test)
+  -- test = [ NOT ] ( predicate | "(" condition ")" ), or an expression
+  unfoldable pub test_at : Parser (CondOrExpr Test)
   test_at = do
     negated ← eat_word word.Not
     b ← body
     tested negated b
 
-  unfoldable pub strict_test : Parser Test
-  strict_test = strictly test_at
+  unfoldable pub must_be_test : Parser Test
+  must_be_test = must_be_cond test_at
 
-  abbrev pub conjoined : Mixed Test → Parser (Mixed Conj)
-  conjoined (Whole t) = all (behind (lexeme.Word word.And) strict_test) >>= λ ts. pure (Whole (roll-Conj (record { first = t; rest = ts })))
-  conjoined (Bare e) = pure (Bare e)
+  abbrev pub conjoined : CondOrExpr Test → Parser (CondOrExpr Conj)
+  conjoined (came.Cond t) = all (behind (lexeme.Word word.And) must_be_test) >>= λ ts. pure (came.Cond (roll-Conj (record { first = t; rest = ts })))
+  conjoined (came.Expr e) = pure (came.Expr e)
 
-  -- conj = test { AND test }, or an expression
-  unfoldable pub conj : Parser (Mixed Conj)
+  -- conjunction = test { AND test }, or an expression
+  unfoldable pub conj : Parser (CondOrExpr Conj)
   conj = test_at >>= conjoined
 
-  unfoldable pub strict_conj : Parser Conj
-  strict_conj = strictly conj
+  unfoldable pub must_be_conj : Parser Conj
+  must_be_conj = must_be_cond conj
 
-  abbrev pub disjoined : Mixed Conj → Parser (Mixed Cond)
-  disjoined (Whole c) = all (behind (lexeme.Word word.Or) strict_conj) >>= λ cs. pure (Whole (roll-Cond (record { first = c; rest = cs })))
-  disjoined (Bare e) = pure (Bare e)
+  abbrev pub disjoined : CondOrExpr Conj → Parser (CondOrExpr Cond)
+  disjoined (came.Cond c) = all (behind (lexeme.Word word.Or) must_be_conj) >>= λ cs. pure (came.Cond (roll-Cond (record { first = c; rest = cs })))
+  disjoined (came.Expr e) = pure (came.Expr e)
 
-  -- cond = conj { OR conj }, or an expression
-  unfoldable pub level : Parser (Mixed Cond)
+  -- condition = conjunction { OR conjunction }, or an expression
+  unfoldable pub level : Parser (CondOrExpr Cond)
   level = conj >>= disjoined
 
 -- behind a bracket that is one of the `left` that may be opened
-unfoldable pub inside : ℕ → Parser (Mixed Cond)
+unfoldable pub inside : ℕ → Parser (CondOrExpr Cond)
 inside zero = stuck
 inside (suc left) = level left (inside left)
 
 -- a condition in which `left` brackets may be open at once
 unfoldable pub cond : ℕ → Parser Cond
-cond left = strictly (level left (inside left))
+cond left = must_be_cond (level left (inside left))
 
 -- a query specification in which `left` brackets may be open at once
 abbrev pub query_specification : ℕ → Parser QuerySpecification

@@ -48,6 +48,10 @@ star_of _ = pure false
 abbrev pub close : Parser (Unit {0})
 close = expect_symbol symbol.Close
 
+-- a column whose first name is read already
+abbrev pub column : Name → Parser Primary
+column n = column_from n >>= λ c. pure (primary.Column c)
+
 -- `inner` reads an expression behind a bracket that is one of the `left` that may be opened
 module _ (left : ℕ) (inner : Parser Expr) where
   abbrev pub argument_of : SetFunction → Bool → Parser Primary
@@ -80,13 +84,21 @@ module _ (left : ℕ) (inner : Parser Expr) where
   by_user true = pure primary.User
   by_user false = one_if_any function_of >>= by_function
 
+  -- a primary that begins with a reserved word or a bracket
+  abbrev pub word_primary : Parser Primary
+  word_primary = eat_word word.User >>= by_user
+
   abbrev pub by_colon : Bool → Parser Primary
   by_colon true = parameter_from >>= λ p. pure (primary.Parameter p)
-  by_colon false = eat_word word.User >>= by_user
+  by_colon false = word_primary
+
+  -- a primary that begins with a symbol or a reserved word
+  abbrev pub symbol_primary : Parser Primary
+  symbol_primary = eat_symbol symbol.Colon >>= by_colon
 
   abbrev pub by_name : Option Name → Parser Primary
-  by_name None = eat_symbol symbol.Colon >>= by_colon
-  by_name (Some n) = column_from n >>= λ c. pure (primary.Column c)
+  by_name None = symbol_primary
+  by_name (Some n) = column n
 
   abbrev pub by_text : Option (List ℕ) → Parser Primary
   by_text None = one_if_any name_of >>= by_name
@@ -96,7 +108,7 @@ module _ (left : ℕ) (inner : Parser Expr) where
   by_number None = one_if_any text_of >>= by_text
   by_number (Some n) = pure (primary.Number n)
 
-  -- primary = number | text | param | USER | colref | setfn | "(" expr ")"
+  -- primary = number | text | parameter | USER | column-ref | set-function | "(" expr ")"
   unfoldable pub primary_at : Parser Primary
   primary_at = one_if_any number_of >>= by_number
 

@@ -41,7 +41,7 @@ by_colon true = do
   pure (Some (Parameter n t))
 by_colon false = eat_word word.Sqlcode >>= by_sqlcode
 
--- decl = ":" name type | SQLCODE | SQLSTATE, if it comes
+-- declaration = ":" name type | SQLCODE | SQLSTATE, if it comes
 unfoldable pub declaration_if_any : Parser (Option Declaration)
 declaration_if_any = eat_symbol symbol.Colon >>= by_colon
 
@@ -60,7 +60,7 @@ abbrev pub by_comma : Bool → Parser (Option BareDeclaration)
 by_comma true = declaration >>= λ d. pure (Some (record { comma = true; declaration = d }))
 by_comma false = declaration_if_any >>= uncommaed
 
--- [ "," ] decl, if it comes
+-- [ "," ] declaration, if it comes
 unfoldable pub bare_declaration : Parser (Option BareDeclaration)
 bare_declaration = eat_symbol symbol.Comma >>= by_comma
 
@@ -74,11 +74,11 @@ by_open false = do
   rest ← all bare_declaration
   pure (Bare first rest)
 
--- params = "(" decl { "," decl } ")" | decl { [ "," ] decl }
+-- declarations = "(" declaration { "," declaration } ")" | declaration { [ "," ] declaration }
 unfoldable pub declarations : Parser Declarations
 declarations = eat_symbol symbol.Open >>= by_open
 
--- PROCEDURE name params ";" statement ";", whose first word is read already
+-- PROCEDURE name declarations ";" statement ";", whose first word is read already
 unfoldable pub procedure : ℕ → Parser Procedure
 procedure left = do
   n ← name
@@ -115,14 +115,14 @@ by_sorts = expect_word word.By >> listed sort_specification
 unfoldable pub order_by : Parser (Option (CommaList SortSpecification))
 order_by = behind (lexeme.Word word.Order) by_sorts
 
--- qexpr [ ORDER BY sort { "," sort } ]
+-- query [ ORDER BY sort { "," sort } ]
 unfoldable pub ordered_query : ℕ → Parser (Query × Option (CommaList SortSpecification))
 ordered_query left = do
   q ← query left
   o ← order_by
   pure (q, o)
 
--- DECLARE name [ INSENSITIVE ] [ SCROLL ] CURSOR FOR qexpr [ ORDER BY .. ] [ ";" ], whose first word is read already
+-- DECLARE name [ INSENSITIVE ] [ SCROLL ] CURSOR FOR query [ ORDER BY .. ] [ ";" ], whose first word is read already
 unfoldable pub cursor : ℕ → Parser Cursor
 cursor left = do
   n ← name

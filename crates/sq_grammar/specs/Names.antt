@@ -26,7 +26,7 @@ abbrev pub table_of : Name → Option Name → TableName
 table_of first None = record { schema = None; table = first }
 table_of first (Some second) = record { schema = Some first; table = second }
 
--- tname = name [ "." name ]
+-- table-name = name [ "." name ]
 unfoldable pub table_name : Parser TableName
 table_name = do
   first ← name
@@ -43,7 +43,7 @@ column_by first (Some second) = do
   third ← name_behind_dot
   pure (column_of first second third)
 
--- colref = name [ "." name [ "." name ] ], whose first name is read already
+-- column-ref = name [ "." name [ "." name ] ], whose first name is read already
 unfoldable pub column_from : Name → Parser ColumnReference
 column_from first = do
   second ← name_behind_dot
@@ -68,7 +68,7 @@ by_word false = eat_symbol symbol.Colon >>= by_colon
 unfoldable pub indicator : Parser (Option Indicator)
 indicator = eat_word word.Indicator >>= by_word
 
--- param = ":" name [ [ INDICATOR ] ":" name ], whose colon is read already
+-- parameter = ":" name [ [ INDICATOR ] ":" name ], whose colon is read already
 unfoldable pub parameter_from : Parser Parameter
 parameter_from = do
   n ← name
@@ -89,7 +89,7 @@ signed_number = do
   n ← number
   pure (record { sign = sign; number = n })
 
--- cols = "(" name { "," name } ")", where the bracket is read already
+-- columns = "(" name { "," name } ")", where the bracket is read already
 unfoldable pub columns_from : Parser (CommaList Name)
 columns_from = do
   columns ← listed name
@@ -99,6 +99,6 @@ columns_from = do
 unfoldable pub columns : Parser (CommaList Name)
 columns = expect_symbol symbol.Open >> columns_from
 
--- [ cols ]
+-- [ columns ]
 unfoldable pub columns_if_any : Parser (Option (CommaList Name))
 columns_if_any = behind (lexeme.Symbol symbol.Open) columns_from

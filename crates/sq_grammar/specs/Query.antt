@@ -13,7 +13,7 @@ use Rattle.sq_grammar.specs.Cond.{query_specification}
 
 -- `inner` reads behind a bracket that is one of the `left` that may be opened
 module _ (left : ℕ) (inner : Parser Query) where
-  -- "(" qexpr ")"
+  -- "(" query ")"
   unfoldable pub bracketed : Parser Query
   bracketed = do
     opened left
@@ -27,18 +27,18 @@ module _ (left : ℕ) (inner : Parser Query) where
   abbrev pub alone : Parser QueryTerm
   alone = query_specification left >>= λ s. pure (terms.Specification s)
 
-  -- qterm = spec | "(" qexpr ")"
+  -- query-term = specification | "(" query ")"
   unfoldable pub query_term : Parser QueryTerm
   query_term = λ ts. (if sees (lexeme.Symbol symbol.Open) ts then bracketed_term else alone) ts
 
-  -- UNION [ ALL ] qterm, whose first word is read already
+  -- UNION [ ALL ] query-term, whose first word is read already
   unfoldable pub union_term : Parser UnionTerm
   union_term = do
     every ← eat_word word.All
     t ← query_term
     pure (record { all = every; term = t })
 
-  -- qexpr = qterm { UNION [ ALL ] qterm }
+  -- query = query-term { UNION [ ALL ] query-term }
   unfoldable pub level : Parser Query
   level = do
     first ← query_term

@@ -31,11 +31,11 @@ use Rattle.sq_grammar.specs.Reading.{Parser, Tokens, ◌>>=◌, ◌>>◌, pure, 
 use Rattle.sq_grammar.specs.Names.{table_name, signed_number, columns, columns_if_any}
 use Rattle.sq_grammar.specs.DataType.{data_type}
 use Rattle.sq_grammar.specs.Cond as conditions
-use Rattle.sq_grammar.specs.Cond.{strictly, query_specification}
+use Rattle.sq_grammar.specs.Cond.{must_be_cond, query_specification}
 
 -- In what follows the first words of a rule, up to where the rules differ, are read already.
 
--- REFERENCES tname [ cols ]
+-- REFERENCES table-name [ columns ]
 unfoldable pub references_from : Parser References
 references_from = do
   t ← table_name
@@ -65,11 +65,11 @@ default_value = eat_word word.User >>= by_user
 unfoldable pub default_clause : Parser (Option DefaultValue)
 default_clause = behind (lexeme.Word word.Default) default_value
 
--- CHECK "(" cond ")", in which the bracket is one of `left`
+-- CHECK "(" condition ")", in which the bracket is one of `left`
 unfoldable pub check : ℕ → Parser Cond
 check left = do
   expect_symbol symbol.Open
-  c ← strictly (conditions.inside left)
+  c ← must_be_cond (conditions.inside left)
   expect_symbol symbol.Close
   pure c
 
@@ -93,11 +93,11 @@ abbrev pub constraint_not : ℕ → Bool → Parser (Option ColumnConstraint)
 constraint_not left true = expect_word word.Null >> pure (Some constraints.NotNull)
 constraint_not left false = eat_word word.Unique >>= constraint_unique left
 
--- colcon = NOT NULL | UNIQUE | PRIMARY KEY | ref | CHECK "(" cond ")", if it comes
+-- constraint = NOT NULL | UNIQUE | PRIMARY KEY | references | CHECK "(" condition ")", if it comes
 unfoldable pub column_constraint : ℕ → Parser (Option ColumnConstraint)
 column_constraint left = eat_word word.Not >>= constraint_not left
 
--- column = name type [ DEFAULT default ] { colcon }
+-- column = name type [ DEFAULT default ] { constraint }
 unfoldable pub column_definition : ℕ → Name → Parser ColumnDefinition
 column_definition left n = do
   t ← data_type
@@ -130,7 +130,7 @@ abbrev pub element_unique : ℕ → Bool → Parser TableElement
 element_unique left true = columns >>= λ cs. pure (elements.Unique cs)
 element_unique left false = eat_word word.Primary >>= element_primary left
 
--- UNIQUE cols | PRIMARY KEY cols | FOREIGN KEY cols ref | CHECK "(" cond ")"
+-- UNIQUE columns | PRIMARY KEY columns | FOREIGN KEY columns references | CHECK "(" condition ")"
 unfoldable pub table_constraint : ℕ → Parser TableElement
 table_constraint left = eat_word word.Unique >>= element_unique left
 
@@ -142,7 +142,7 @@ element_name left (Some n) = column_definition left n >>= λ c. pure (elements.C
 unfoldable pub table_element : ℕ → Parser TableElement
 table_element left = one_if_any name_of >>= element_name left
 
--- CREATE TABLE tname "(" item { "," item } ")", where `left` brackets may be opened behind this one
+-- CREATE TABLE table-name "(" item { "," item } ")", where `left` brackets may be opened behind this one
 unfoldable pub table_definition : ℕ → Parser TableDefinition
 table_definition left = do
   n ← table_name
@@ -162,7 +162,7 @@ by_with_check false = pure false
 unfoldable pub check_option : Parser Bool
 check_option = eat_word word.With >>= by_with_check
 
--- CREATE VIEW tname [ cols ] AS spec [ WITH CHECK OPTION ]
+-- CREATE VIEW table-name [ columns ] AS specification [ WITH CHECK OPTION ]
 unfoldable pub view_definition : ℕ → Parser ViewDefinition
 view_definition left = do
   n ← table_name
@@ -191,7 +191,7 @@ abbrev pub action_select : Bool → Parser Action
 action_select true = pure actions.Select
 action_select false = eat_word word.Insert >>= action_insert
 
--- priv = SELECT | INSERT | DELETE | UPDATE [ cols ] | REFERENCES [ cols ]
+-- action = SELECT | INSERT | DELETE | UPDATE [ columns ] | REFERENCES [ columns ]
 unfoldable pub action : Parser Action
 action = eat_word word.Select >>= action_select
 
@@ -199,7 +199,7 @@ abbrev pub by_all : Bool → Parser Privileges
 by_all true = expect_word word.Privileges >> pure privilege.All
 by_all false = listed action >>= λ acts. pure (privilege.Actions acts)
 
--- privs = ALL PRIVILEGES | priv { "," priv }
+-- privileges = ALL PRIVILEGES | action { "," action }
 unfoldable pub privileges : Parser Privileges
 privileges = eat_word word.All >>= by_all
 
@@ -222,7 +222,7 @@ by_with_grant false = pure false
 unfoldable pub grant_option : Parser Bool
 grant_option = eat_word word.With >>= by_with_grant
 
--- GRANT privs ON [ TABLE ] tname TO grantee { "," grantee } [ WITH GRANT OPTION ]
+-- GRANT privileges ON [ TABLE ] table-name TO grantee { "," grantee } [ WITH GRANT OPTION ]
 unfoldable pub grant : Parser GrantStatement
 grant = do
   ps ← privileges

@@ -33,22 +33,22 @@ by_as false = one_if_any name_of >>= by_name
 unfoldable pub correlation : Parser (Option Correlation)
 correlation = eat_word word.As >>= by_as
 
--- tref = tname [ [ AS ] name ]
+-- table-ref = table-name [ [ AS ] name ]
 unfoldable pub table_reference : Parser TableReference
 table_reference = do
   table ← table_name
   c ← correlation
   pure (record { table = table; correlation = c })
 
--- FROM tref { "," tref }
+-- FROM table-ref { "," table-ref }
 unfoldable pub from_clause : Parser (CommaList TableReference)
 from_clause = expect_word word.From >> listed table_reference
 
--- BY colref { "," colref }
+-- BY column-ref { "," column-ref }
 unfoldable pub by_columns : Parser (CommaList ColumnReference)
 by_columns = expect_word word.By >> listed column_reference
 
--- [ GROUP BY colref { "," colref } ]
+-- [ GROUP BY column-ref { "," column-ref } ]
 unfoldable pub group_by : Parser (Option (CommaList ColumnReference))
 group_by = behind (lexeme.Word word.Group) by_columns
 
@@ -60,15 +60,15 @@ by_star exprs false = listed exprs >>= λ items. pure (list.Items items)
 unfoldable pub select_list : Parser Expr → Parser SelectList
 select_list exprs = eat_symbol symbol.Star >>= by_star exprs
 
--- [ WHERE cond ]
+-- [ WHERE condition ]
 abbrev pub where_clause : Parser Cond → Parser (Option Cond)
 where_clause conds = behind (lexeme.Word word.Where) conds
 
--- [ HAVING cond ]
+-- [ HAVING condition ]
 abbrev pub having_clause : Parser Cond → Parser (Option Cond)
 having_clause conds = behind (lexeme.Word word.Having) conds
 
--- tabexp = FROM tref { "," tref } [ WHERE cond ] [ GROUP BY colref { "," colref } ] [ HAVING cond ]
+-- table-exp = FROM table-ref { "," table-ref } [ WHERE condition ] [ GROUP BY column-ref { "," column-ref } ] [ HAVING condition ]
 unfoldable pub table_expression : Parser Cond → Parser TableExpression
 table_expression conds = do
   f ← from_clause
@@ -77,7 +77,7 @@ table_expression conds = do
   h ← having_clause conds
   pure (roll-TableExpression (record { from = f; where_clause = w; group_by = g; having = h }))
 
--- spec = SELECT [ ALL | DISTINCT ] list tabexp
+-- specification = SELECT [ ALL | DISTINCT ] list table-exp
 unfoldable pub specification : Parser Expr → Parser Cond → Parser QuerySpecification
 specification exprs conds = do
   expect_word word.Select

@@ -77,7 +77,7 @@ by_orientation (Some o) = expect_word word.From >> pure (Some (record { orientat
 unfoldable pub fetch_from : Parser (Option FetchFrom)
 fetch_from = orientation >>= by_orientation
 
--- FETCH .. name INTO param { "," param }, whose first word is read already
+-- FETCH .. name INTO parameter { "," parameter }, whose first word is read already
 unfoldable pub fetch : Parser Fetch
 fetch = do
   f ← fetch_from
@@ -90,7 +90,7 @@ abbrev pub by_null : Parser Expr → Bool → Parser NewValue
 by_null exprs true = pure values.Null
 by_null exprs false = exprs >>= λ e. pure (values.Expr e)
 
--- val = expr | NULL
+-- value = expr | NULL
 unfoldable pub new_value : Parser Expr → Parser NewValue
 new_value exprs = eat_word word.Null >>= by_null exprs
 
@@ -105,13 +105,13 @@ abbrev pub by_where : ℕ → Bool → Parser (Option Where)
 by_where left true = eat_word word.Current >>= by_current left
 by_where left false = pure None
 
--- [ WHERE cond | WHERE CURRENT OF name ]
+-- [ WHERE condition | WHERE CURRENT OF name ]
 unfoldable pub target : ℕ → Parser (Option Where)
 target left = eat_word word.Where >>= by_where left
 
 -- In what follows `left` brackets may be open at once, and a statement's first word is read already.
 
--- SELECT [ ALL | DISTINCT ] list INTO param { "," param } tabexp
+-- SELECT [ ALL | DISTINCT ] list INTO parameter { "," parameter } table-exp
 unfoldable pub select : ℕ → Parser Select
 select left = do
   q ← quantifier_if_any
@@ -129,11 +129,11 @@ by_values left true = do
   pure (sources.Values vs)
 by_values left false = query_specification left >>= λ s. pure (sources.Query s)
 
--- VALUES "(" val { "," val } ")" | spec
+-- VALUES "(" value { "," value } ")" | specification
 unfoldable pub insert_source : ℕ → Parser InsertSource
 insert_source left = eat_word word.Values >>= by_values left
 
--- INSERT INTO tname [ cols ] ( .. )
+-- INSERT INTO table-name [ columns ] ( .. )
 unfoldable pub insert : ℕ → Parser Insert
 insert left = do
   expect_word word.Into
@@ -142,7 +142,7 @@ insert left = do
   s ← insert_source left
   pure (record { table = t; columns = cs; source = s })
 
--- set = name "=" val
+-- assignment = name "=" value
 unfoldable pub assignment : ℕ → Parser Assignment
 assignment left = do
   c ← name
@@ -150,7 +150,7 @@ assignment left = do
   v ← new_value (expr left)
   pure (record { column = c; value = v })
 
--- UPDATE tname SET set { "," set } [ where ]
+-- UPDATE table-name SET assignment { "," assignment } [ where ]
 unfoldable pub update : ℕ → Parser Update
 update left = do
   t ← table_name
@@ -159,7 +159,7 @@ update left = do
   w ← target left
   pure (record { table = t; assignments = sets; target = w })
 
--- DELETE FROM tname [ where ]
+-- DELETE FROM table-name [ where ]
 unfoldable pub delete : ℕ → Parser Delete
 delete left = do
   expect_word word.From

@@ -6,11 +6,11 @@
 #![tactic(auto)]
 
 mod brackets;
-mod mixed;
+mod cond_or_expr;
 mod type_word;
 mod verb;
 
 pub use brackets::MAX_DEPTH;
-pub use mixed::Mixed;
+pub use cond_or_expr::CondOrExpr;
 pub use type_word::TypeWord;
 pub use verb::Verb;

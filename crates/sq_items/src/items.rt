@@ -1,6 +1,7 @@
 ghost use Rattle.std.specs.Prelude.{◌≡◌, ◌++◌, ◌∷◌, ◌↔◌, [], length, IfOk, IsTrue, OnErr, OnOk};
 
 use std::alloc::{AllocError, Global};
+use std::cmp;
 use std::marker::Model;
 
 /// A list, which contracts see as its elements in order.
@@ -68,11 +69,15 @@ impl<T> Items<T> {
 }
 
 impl<T: Drop> Items<T> {
-    /// Adds an element at the end.
+    /// Adds an element at the end. Room doubles from that for one element on, since most lists of a tree are short.
     pub fn push(&mut self, item: T) -> Result<(), AllocError>
         ensures ok { OnOk result (self.new ≡ self.old ++ item ∷ []) }
         ensures err { OnErr result (self.new ≡ self.old) }
     {
+        let len = self.items.len();
+        if len == self.items.capacity() {
+            self.items.reserve_exact(cmp::max(len, 1))?;
+        }
         self.items.push(item)?;
         Ok(())
     }

@@ -1,4 +1,4 @@
-mod LiteralLemmas
+pub mod LiteralLemmas
 pub mod Longest
 mod Quoted
 mod ReadingLemmas

@@ -9,7 +9,7 @@ use Rattle.sq_lex.specs.Spelling.{doubled}
 use Rattle.sq_lex.specs.declared.literal.Literal.{Literal}
 use Rattle.sq_lex.specs.declared.literal.Literal.TheVariants.{Closed, Open, BadByte}
 
--- so many bytes after an opening quote are these characters, and no more bytes are any
+-- the first `size` bytes after an opening quote are these characters, and no more bytes are any
 pub record IsRead (bytes cs : List ℕ) (size : ℕ) : Type 0 where
   pub ends : take size bytes ≡ doubled cs ++ quote ∷ []
   pub each : list_all is_printable cs ≡ true

@@ -12,11 +12,11 @@ after_separator bytes p at size old new spelled is same text left row =
     let h : IsSeparator bytes size = subst (IsSpelled bytes) is spelled in
     subst (IsRow text (at + size)) (sym same) (separator at size old row (subst (λ bs. IsSeparator bs size) (sym left) h))
 
-pub after_token : (bytes : List ℕ) (p : Piece) (at size : ℕ) (l : Lexeme) (t : Token) (old new : List Token) → IsSpelled bytes p → p ≡ piece.Token size l → t.lexeme ≡ l → t.start ≡ at → t.end ≡ at + size → new ≡ old ++ t ∷ [] → (text : List ℕ) → drop at text ≡ bytes → IsRow text at old → IsRow text (at + size) new
-after_token bytes p at size l t old new spelled is says starts ends pushed text left row =
+pub after_token : (bytes : List ℕ) (p : Piece) (at size : ℕ) (l : Lexeme) (t : Token) (old new : List Token) → IsSpelled bytes p → p ≡ piece.Token size l → t.lexeme ≡ l → t.start ≡ at → new ≡ old ++ t ∷ [] → (text : List ℕ) → drop at text ≡ bytes → IsRow text at old → IsRow text (at + size) new
+after_token bytes p at size l t old new spelled is says starts pushed text left row =
     let h : IsLongest bytes size l = subst (IsSpelled bytes) is spelled in
     let here : IsLongest (drop at text) size t.lexeme = subst (λ m. IsLongest (drop at text) size m) (sym says) (subst (λ bs. IsLongest bs size l) (sym left) h) in
-    subst (IsRow text (at + size)) (sym pushed) (token at size old t row here starts ends)
+    subst (IsRow text (at + size)) (sym pushed) (token at size old t row here starts)
 
 -- the whole text
 pub row_start : (text : List ℕ) (at : ℕ) (tokens : List Token) → at ≡ 0 → tokens ≡ [] → IsRow text at tokens

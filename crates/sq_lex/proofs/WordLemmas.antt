@@ -1,4 +1,4 @@
--- A word's place tells which word it is.
+-- A word's rank tells which word it is.
 use Rattle.std.proofs.Common.{◌≡◌, ◌↔◌, ℕ, IsTrue, true, eqb, refl, sym, ap, ◌∙◌, rules}
 use Rattle.std.proofs.lemmas.Bool.{eqb-true, eq-eqb}
 use denote.Enum.Bare.{tag_one}
@@ -6,109 +6,109 @@ use denote.Enum.Declared.{tag_of}
 use Rattle.sq_lex.specs.contracts.word.Word.{the_type}
 use Rattle.sq_lex.specs.declared.word.Word.{Word}
 use Rattle.sq_lex.specs.declared.word.Word.TheVariants as word
-use Rattle.sq_lex.specs.Word.{place, same_word}
+use Rattle.sq_lex.specs.Word.{rank, same_word}
 
--- the place in the table is that among the enum's variants
-place-tag : (w : Word) → place w ≡ tag_of the_type w
-place-tag word.Absolute = refl
-place-tag word.All = refl
-place-tag word.And = refl
-place-tag word.Any = refl
-place-tag word.As = refl
-place-tag word.Asc = refl
-place-tag word.Authorization = refl
-place-tag word.Avg = refl
-place-tag word.Between = refl
-place-tag word.By = refl
-place-tag word.Char = refl
-place-tag word.Character = refl
-place-tag word.Check = refl
-place-tag word.Close = refl
-place-tag word.Commit = refl
-place-tag word.Count = refl
-place-tag word.Create = refl
-place-tag word.Current = refl
-place-tag word.Cursor = refl
-place-tag word.Dec = refl
-place-tag word.Decimal = refl
-place-tag word.Declare = refl
-place-tag word.Default = refl
-place-tag word.Delete = refl
-place-tag word.Desc = refl
-place-tag word.Distinct = refl
-place-tag word.Escape = refl
-place-tag word.Exists = refl
-place-tag word.Fetch = refl
-place-tag word.First = refl
-place-tag word.For = refl
-place-tag word.Foreign = refl
-place-tag word.From = refl
-place-tag word.Grant = refl
-place-tag word.Group = refl
-place-tag word.Having = refl
-place-tag word.In = refl
-place-tag word.Indicator = refl
-place-tag word.Insensitive = refl
-place-tag word.Insert = refl
-place-tag word.Int = refl
-place-tag word.Integer = refl
-place-tag word.Into = refl
-place-tag word.Is = refl
-place-tag word.Key = refl
-place-tag word.Language = refl
-place-tag word.Last = refl
-place-tag word.Like = refl
-place-tag word.Max = refl
-place-tag word.Min = refl
-place-tag word.Module = refl
-place-tag word.Next = refl
-place-tag word.Not = refl
-place-tag word.Null = refl
-place-tag word.Numeric = refl
-place-tag word.Of = refl
-place-tag word.On = refl
-place-tag word.Open = refl
-place-tag word.Option = refl
-place-tag word.Or = refl
-place-tag word.Order = refl
-place-tag word.Primary = refl
-place-tag word.Prior = refl
-place-tag word.Privileges = refl
-place-tag word.Procedure = refl
-place-tag word.Public = refl
-place-tag word.References = refl
-place-tag word.Relative = refl
-place-tag word.Rollback = refl
-place-tag word.Schema = refl
-place-tag word.Scroll = refl
-place-tag word.Select = refl
-place-tag word.Set = refl
-place-tag word.Smallint = refl
-place-tag word.Some = refl
-place-tag word.Sqlcode = refl
-place-tag word.Sqlstate = refl
-place-tag word.Sum = refl
-place-tag word.Table = refl
-place-tag word.To = refl
-place-tag word.Union = refl
-place-tag word.Unique = refl
-place-tag word.Update = refl
-place-tag word.User = refl
-place-tag word.Values = refl
-place-tag word.Varchar = refl
-place-tag word.Varying = refl
-place-tag word.View = refl
-place-tag word.Where = refl
-place-tag word.With = refl
-place-tag word.Work = refl
+-- the rank in the table is that among the enum's variants
+rank-tag : (w : Word) → rank w ≡ tag_of the_type w
+rank-tag word.Absolute = refl
+rank-tag word.All = refl
+rank-tag word.And = refl
+rank-tag word.Any = refl
+rank-tag word.As = refl
+rank-tag word.Asc = refl
+rank-tag word.Authorization = refl
+rank-tag word.Avg = refl
+rank-tag word.Between = refl
+rank-tag word.By = refl
+rank-tag word.Char = refl
+rank-tag word.Character = refl
+rank-tag word.Check = refl
+rank-tag word.Close = refl
+rank-tag word.Commit = refl
+rank-tag word.Count = refl
+rank-tag word.Create = refl
+rank-tag word.Current = refl
+rank-tag word.Cursor = refl
+rank-tag word.Dec = refl
+rank-tag word.Decimal = refl
+rank-tag word.Declare = refl
+rank-tag word.Default = refl
+rank-tag word.Delete = refl
+rank-tag word.Desc = refl
+rank-tag word.Distinct = refl
+rank-tag word.Escape = refl
+rank-tag word.Exists = refl
+rank-tag word.Fetch = refl
+rank-tag word.First = refl
+rank-tag word.For = refl
+rank-tag word.Foreign = refl
+rank-tag word.From = refl
+rank-tag word.Grant = refl
+rank-tag word.Group = refl
+rank-tag word.Having = refl
+rank-tag word.In = refl
+rank-tag word.Indicator = refl
+rank-tag word.Insensitive = refl
+rank-tag word.Insert = refl
+rank-tag word.Int = refl
+rank-tag word.Integer = refl
+rank-tag word.Into = refl
+rank-tag word.Is = refl
+rank-tag word.Key = refl
+rank-tag word.Language = refl
+rank-tag word.Last = refl
+rank-tag word.Like = refl
+rank-tag word.Max = refl
+rank-tag word.Min = refl
+rank-tag word.Module = refl
+rank-tag word.Next = refl
+rank-tag word.Not = refl
+rank-tag word.Null = refl
+rank-tag word.Numeric = refl
+rank-tag word.Of = refl
+rank-tag word.On = refl
+rank-tag word.Open = refl
+rank-tag word.Option = refl
+rank-tag word.Or = refl
+rank-tag word.Order = refl
+rank-tag word.Primary = refl
+rank-tag word.Prior = refl
+rank-tag word.Privileges = refl
+rank-tag word.Procedure = refl
+rank-tag word.Public = refl
+rank-tag word.References = refl
+rank-tag word.Relative = refl
+rank-tag word.Rollback = refl
+rank-tag word.Schema = refl
+rank-tag word.Scroll = refl
+rank-tag word.Select = refl
+rank-tag word.Set = refl
+rank-tag word.Smallint = refl
+rank-tag word.Some = refl
+rank-tag word.Sqlcode = refl
+rank-tag word.Sqlstate = refl
+rank-tag word.Sum = refl
+rank-tag word.Table = refl
+rank-tag word.To = refl
+rank-tag word.Union = refl
+rank-tag word.Unique = refl
+rank-tag word.Update = refl
+rank-tag word.User = refl
+rank-tag word.Values = refl
+rank-tag word.Varchar = refl
+rank-tag word.Varying = refl
+rank-tag word.View = refl
+rank-tag word.Where = refl
+rank-tag word.With = refl
+rank-tag word.Work = refl
 
--- words of one place are one word
+-- words of one rank are one word
 pub same_word-true : (a b : Word) → same_word a b ≡ true → a ≡ b
-same_word-true a b same = tag_one the_type (search rules) a b (sym (place-tag a) ∙ eqb-true (place a) (place b) same ∙ place-tag b)
+same_word-true a b same = tag_one the_type (search rules) a b (sym (rank-tag a) ∙ eqb-true (rank a) (rank b) same ∙ rank-tag b)
 
--- so comparing places compares words
-pub same_places : (p q : ℕ) (a b : Word) → p ≡ place a → q ≡ place b → IsTrue (eqb p q) ↔ (a ≡ b)
-same_places p q a b at_a at_b = (
-  λ same. same_word-true a b (ap (λ n. eqb n (place b)) (sym at_a) ∙ ap (eqb p) (sym at_b) ∙ same),
-  λ same. eq-eqb p q (at_a ∙ ap place same ∙ sym at_b),
+-- so comparing ranks compares words
+pub same_ranks : (p q : ℕ) (a b : Word) → p ≡ rank a → q ≡ rank b → IsTrue (eqb p q) ↔ (a ≡ b)
+same_ranks p q a b at_a at_b = (
+  λ same. same_word-true a b (ap (λ n. eqb n (rank b)) (sym at_a) ∙ ap (eqb p) (sym at_b) ∙ same),
+  λ same. eq-eqb p q (at_a ∙ ap rank same ∙ sym at_b),
 )

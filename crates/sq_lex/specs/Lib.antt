@@ -3,7 +3,7 @@ pub mod Literal
 pub mod Name
 pub mod Number
 pub mod Piece
-pub mod Place
+pub mod Position
 pub mod Reading
 pub mod Reserved
 pub mod Spelling

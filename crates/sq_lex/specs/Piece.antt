@@ -93,7 +93,7 @@ first_piece bytes =
     else (if slice_index bytes 0 == quote then text bytes
     else symbol bytes))))
 
--- a separator or a token takes one of so many bytes at least, and a fault lies within them
+-- a separator or a token takes one of n bytes at least, and a fault lies within them
 abbrev pub IsWithin : ℕ → Piece → Type 0
 IsWithin n (piece.Separator size) = (0 < size) × (size ≤ n)
 IsWithin n (piece.Token size lexeme) = (0 < size) × (size ≤ n)

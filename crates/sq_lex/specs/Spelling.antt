@@ -66,7 +66,7 @@ IsSpelling bytes (lexeme.Number number) = (number ≡ bytes) × IsNumberSpelling
 IsSpelling bytes (lexeme.Text characters) = IsTextSpelling bytes characters
 IsSpelling bytes (lexeme.Symbol s) = bytes ≡ symbol_codes s
 
--- so many bytes at the front spell the lexeme, and no more of them spell any
+-- the first `size` bytes spell the lexeme, and no more of them spell any
 pub record IsLongest (bytes : List ℕ) (size : ℕ) (l : Lexeme) : Type 0 where
   pub spelled : IsSpelling (take size bytes) l
   pub longest : (n : ℕ) (m : Lexeme) → size < n → n ≤ length bytes → IsSpelling (take n bytes) m → ⊥
@@ -77,7 +77,7 @@ pub record IsComment (bytes : List ℕ) (size : ℕ) : Type 0 where
   pub each : list_all (has class.Comment) (take size bytes) ≡ true
   pub ended : (size == length bytes || slice_index bytes size == line_feed) ≡ true
 
--- so many bytes at the front are a separator: one of white space, or a comment
+-- the first `size` bytes are a separator: one of white space, or a comment
 abbrev pub IsSeparator : List ℕ → ℕ → Type 0
 IsSeparator bytes size = ((is_white (slice_index bytes 0) ≡ true) × (size ≡ 1)) ⊎ IsComment bytes size
 

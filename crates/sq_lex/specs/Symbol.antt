@@ -28,24 +28,24 @@ symbol_of_one a =
     else (if a == 62 then Some symbol.Greater
     else None))))))))))))
 
--- by their place among the symbols
-abbrev pub symbol_place : Symbol → ℕ
-symbol_place symbol.Open = 0
-symbol_place symbol.Close = 1
-symbol_place symbol.Comma = 2
-symbol_place symbol.Semicolon = 3
-symbol_place symbol.Dot = 4
-symbol_place symbol.Colon = 5
-symbol_place symbol.Star = 6
-symbol_place symbol.Plus = 7
-symbol_place symbol.Minus = 8
-symbol_place symbol.Slash = 9
-symbol_place symbol.Equal = 10
-symbol_place symbol.NotEqual = 11
-symbol_place symbol.Less = 12
-symbol_place symbol.Greater = 13
-symbol_place symbol.LessOrEqual = 14
-symbol_place symbol.GreaterOrEqual = 15
+-- by their rank among the symbols
+abbrev pub symbol_rank : Symbol → ℕ
+symbol_rank symbol.Open = 0
+symbol_rank symbol.Close = 1
+symbol_rank symbol.Comma = 2
+symbol_rank symbol.Semicolon = 3
+symbol_rank symbol.Dot = 4
+symbol_rank symbol.Colon = 5
+symbol_rank symbol.Star = 6
+symbol_rank symbol.Plus = 7
+symbol_rank symbol.Minus = 8
+symbol_rank symbol.Slash = 9
+symbol_rank symbol.Equal = 10
+symbol_rank symbol.NotEqual = 11
+symbol_rank symbol.Less = 12
+symbol_rank symbol.Greater = 13
+symbol_rank symbol.LessOrEqual = 14
+symbol_rank symbol.GreaterOrEqual = 15
 
 abbrev pub same_symbol : Symbol → Symbol → Bool
-same_symbol a b = nat_eq (symbol_place a) (symbol_place b)
+same_symbol a b = nat_eq (symbol_rank a) (symbol_rank b)

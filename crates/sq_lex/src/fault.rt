@@ -10,7 +10,8 @@ use thiserror::Error;
 pub enum LexFaultKind {
     /// A byte that begins no token and is no white space, or that a comment or a literal may not have.
     BadByte,
-    /// The line or the text ends before the closing quote. In a literal the first of these two goes before `LongText`.
+    /// The line or the text ends before the closing quote. In a literal the first of these two takes precedence over
+    /// `LongText`.
     OpenText,
     /// A word of more than 18 characters.
     LongName,
@@ -22,7 +23,7 @@ pub enum LexFaultKind {
     LongText,
 }
 
-/// The first fault of a text and its place: the byte itself of a `BadByte`, else the first byte of the token.
+/// The first fault of a text and its position: the byte itself of a `BadByte`, else the first byte of the token.
 #[derive(Clone, Copy, Debug, PartialEq, Eq)]
 pub struct LexFault {
     pub kind: LexFaultKind,

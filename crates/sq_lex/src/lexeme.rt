@@ -4,9 +4,9 @@ use crate::name::Name;
 use crate::number::Number;
 use crate::symbol::Symbol;
 use crate::word::Word;
-use sq_items::Items;
+use sq_items::{Boxed, Items};
 
-/// A lexeme: what a token says, without its place.
+/// A lexeme: what a token says, without where it stands.
 #[derive(Debug, Drop)]
 pub enum Lexeme {
     /// A reserved word.
@@ -16,7 +16,7 @@ pub enum Lexeme {
     /// An unsigned number as it is spelled.
     Number(Number),
     /// The characters of a text literal, each doubled quote once.
-    Text(Items<u8>),
+    Text(Boxed<Items<u8>>),
     /// A symbol.
     Symbol(Symbol),
 }

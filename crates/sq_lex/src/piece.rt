@@ -1,7 +1,8 @@
 //! The piece at the front of a text: a separator, a token or a fault.
 
-ghost use Rattle.std.specs.Prelude.{◌≡◌, ◌≢◌, ◌<◌, ◌≤◌, true, length, map, slice_index, IfOk};
+ghost use Rattle.std.specs.Prelude.{◌≡◌, ◌≢◌, ◌<◌, ◌≤◌, ◌^◌, true, length, map, slice_index, IfOk};
 ghost use Rattle.std.specs.Char.{is_ascii_alphabetic, to_ascii_uppercase};
+ghost use Rattle.sq_lex.specs.declared.literal.Literal.TheVariants.{Closed};
 ghost use Rattle.sq_lex.specs.Piece as spec;
 ghost use Rattle.sq_lex.specs.Spelling.{IsSpelled};
 
@@ -13,16 +14,17 @@ use crate::name::Name;
 use crate::number::Number;
 use crate::reserved::reserved;
 use crate::symbol::Symbol;
+use sq_items::{Boxed, Items};
 use std::alloc::{AllocError, Global};
 
 /// What stands at the front of a text.
 #[derive(Debug, Drop)]
 pub enum Piece {
-    /// White space or a comment, of so many bytes.
+    /// White space or a comment, with its length in bytes.
     Separator(usize),
-    /// A token of so many bytes.
+    /// A token, with its length in bytes.
     Token { size: usize, lexeme: Lexeme },
-    /// A fault so many bytes on.
+    /// A fault, with how many bytes stand before it.
     Fault { at: usize, kind: LexFaultKind },
 }
 
@@ -53,7 +55,7 @@ impl Piece {
     }
 }
 
-/// The byte at a place, or 0 past the end, which no token has.
+/// The byte of this index, or 0 past the end, which no token has.
 fn byte_at(bytes: &[u8], at: usize) -> u8
     ensures value { result ≡ slice_index bytes.now at }
     ensures within { result ≢ 0 → at < length bytes.now }
@@ -164,35 +166,40 @@ fn number(bytes: &[u8]) -> Piece
     }
 }
 
-#[tactic(auto, unfolding(crate::specs::Piece::text))]
+/// The token of a literal of these characters, which takes `size` bytes behind its opening quote.
+fn closed(alloc: Global, characters: Items<u8>, size: usize) -> Result<Piece, AllocError>
+    requires { size < 2 ^ 63 }
+    ensures { IfOk result (λ piece. piece ≡ spec.piece_of_literal (Closed characters size)) }
+{
+    if characters.len() > 240 {
+        return Ok(Piece::Fault {
+            at: 0,
+            kind: LexFaultKind::LongText,
+        });
+    }
+    Ok(Piece::Token {
+        size: 1 + size,
+        lexeme: Lexeme::Text(Boxed::new(alloc, characters)?),
+    })
+}
+
+#[tactic(auto, unfolding(crate::specs::Piece::text), using(crate::proofs::LiteralLemmas::piece_of_kept))]
 fn text(alloc: Global, bytes: &[u8]) -> Result<Piece, AllocError>
     requires { 0 < length bytes.now }
     ensures value { IfOk result (λ piece. piece ≡ spec.text bytes.now) }
     ensures within { IfOk result (spec.IsWithin (length bytes.now)) }
 {
-    Ok(match Literal::after_quote(alloc, &bytes[1..])? {
-        Literal::Closed { characters, size } => {
-            if characters.len() > 240 {
-                Piece::Fault {
-                    at: 0,
-                    kind: LexFaultKind::LongText,
-                }
-            } else {
-                Piece::Token {
-                    size: 1 + size,
-                    lexeme: Lexeme::Text(characters),
-                }
-            }
-        }
-        Literal::Open => Piece::Fault {
+    match Literal::after_quote(alloc, &bytes[1..])? {
+        Literal::Closed { characters, size } => closed(alloc, characters, size),
+        Literal::Open => Ok(Piece::Fault {
             at: 0,
             kind: LexFaultKind::OpenText,
-        },
-        Literal::BadByte(at) => Piece::Fault {
+        }),
+        Literal::BadByte(at) => Ok(Piece::Fault {
             at: 1 + at,
             kind: LexFaultKind::BadByte,
-        },
-    })
+        }),
+    }
 }
 
 #[tactic(auto, unfolding(crate::specs::Piece::symbol))]

@@ -41,9 +41,9 @@ pub enum Symbol {
 }
 
 impl Symbol {
-    /// The symbol's place among the symbols, from 0.
-    pub fn place(self) -> u8
-        ensures { result ≡ spec.symbol_place self }
+    /// The symbol's rank among the symbols, from 0.
+    pub fn rank(self) -> u8
+        ensures { result ≡ spec.symbol_rank self }
     {
         self as u8
     }
@@ -53,7 +53,7 @@ impl Symbol {
         ensures value { result ≡ spec.same_symbol self other }
         ensures same { IsTrue result ↔ (self ≡ other) }
     {
-        self.place() == other.place()
+        self.rank() == other.rank()
     }
 
     /// The symbol of these two characters, if there is one.

@@ -1,17 +1,11 @@
-//! Tokens: lexemes and their places.
+//! Tokens: lexemes and where they stand.
 
 use crate::lexeme::Lexeme;
 
-/// A lexeme and where it stands in the text.
+/// A lexeme and where it stands in the text, of which `Position::of` makes a line and a column.
 #[derive(Debug, Drop)]
 pub struct Token {
     pub lexeme: Lexeme,
     /// The token's first byte, from 0.
     pub start: usize,
-    /// The byte after its last one.
-    pub end: usize,
-    /// The line of the first byte, from 1. A line ends with LF.
-    pub line: usize,
-    /// The column of the first byte, from 1, in bytes.
-    pub column: usize,
 }

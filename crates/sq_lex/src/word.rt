@@ -100,9 +100,9 @@ pub enum Word {
 }
 
 impl Word {
-    /// The word's place in the alphabetical table of reserved words, from 0.
-    pub fn place(self) -> u8
-        ensures { result ≡ spec.place self }
+    /// The word's rank in the alphabetical table of reserved words, from 0.
+    pub fn rank(self) -> u8
+        ensures { result ≡ spec.rank self }
     {
         self as u8
     }
@@ -112,6 +112,6 @@ impl Word {
         ensures value { result ≡ spec.same_word self other }
         ensures same { IsTrue result ↔ (self ≡ other) }
     {
-        self.place() == other.place()
+        self.rank() == other.rank()
     }
 }

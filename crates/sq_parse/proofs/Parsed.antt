@@ -13,8 +13,8 @@ answers_tree rule ts new tree read = ap (answer ts) (sym read)
 
 fault : {T : Type 0} (wanted : Result T ParseError) (e : ParseError) → Err e ≡ wanted → Answers wanted (Err e)
 fault wanted NoMemory is = tt
-fault wanted (Unexpected place) is = is
-fault wanted (TooDeep place) is = is
+fault wanted (Unexpected index) is = is
+fault wanted (TooDeep index) is = is
 fault wanted EndOfText is = is
 
 pub answers_stop : {T : Type 0} (rule : Parser T) (ts : Tokens) (s : Stop) → Stops (whole rule ts) s → Answers (parsed rule ts) (Err (refusal ts s))

@@ -8,9 +8,9 @@ use Rattle.sq_parse.specs.declared.error.ParseError.TheVariants.{NoMemory, Unexp
 use Rattle.sq_reader.specs.declared.stop.Stop.{Stop}
 use Rattle.sq_reader.specs.declared.stop.Stop.TheVariants as stop
 
--- The refusal at this place of a text's tokens. A bracket too many goes before any other fault of its token.
+-- The refusal at the token of this index. A bracket too many takes precedence over any other fault of its token.
 abbrev pub refusal_at : Tokens → ℕ → ParseError
-refusal_at ts place = if nat_lt place (length ts) then (if is_too_deep ts place then TooDeep place else Unexpected place) else EndOfText
+refusal_at ts index = if nat_lt index (length ts) then (if is_too_deep ts index then TooDeep index else Unexpected index) else EndOfText
 
 -- What a reading of a text's tokens comes to: the tree, or the refusal at the token where the reading is stuck.
 abbrev pub answer : {T : Type 0} → Tokens → Outcome T → Result T ParseError
@@ -34,15 +34,15 @@ IsOnlyTree {T = T} tokens_of ts tree = (other : T) → tokens_of other ≡ ts �
 -- What a refusal says of the tokens.
 abbrev pub IsRefusal : Tokens → ParseError → Type 0
 IsRefusal ts NoMemory = Unit {0}
-IsRefusal ts (Unexpected place) = (place < length ts) × (is_too_deep ts place ≡ false)
-IsRefusal ts (TooDeep place) = IsTrue (is_too_deep ts place)
+IsRefusal ts (Unexpected index) = (index < length ts) × (is_too_deep ts index ≡ false)
+IsRefusal ts (TooDeep index) = IsTrue (is_too_deep ts index)
 IsRefusal ts EndOfText = Unit {0}
 
 -- What a refusal says of the trees of the grammar: none has these tokens, or each that has them is deeper than brackets may be.
 abbrev pub HasNoTree : {T : Type 0} → (T → Tokens) → (T → ℕ) → Tokens → ParseError → Type 0
 HasNoTree tokens_of depth_of ts NoMemory = Unit {0}
-HasNoTree {T = T} tokens_of depth_of ts (Unexpected place) = (tree : T) → tokens_of tree ≡ ts → ⊥
-HasNoTree {T = T} tokens_of depth_of ts (TooDeep place) = (tree : T) → tokens_of tree ≡ ts → MAX_DEPTH < depth_of tree
+HasNoTree {T = T} tokens_of depth_of ts (Unexpected index) = (tree : T) → tokens_of tree ≡ ts → ⊥
+HasNoTree {T = T} tokens_of depth_of ts (TooDeep index) = (tree : T) → tokens_of tree ≡ ts → MAX_DEPTH < depth_of tree
 HasNoTree {T = T} tokens_of depth_of ts EndOfText = (tree : T) → tokens_of tree ≡ ts → ⊥
 
 -- the refusal where reading stops

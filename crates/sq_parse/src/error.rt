@@ -10,13 +10,13 @@ use sq_lex::{Lexeme, Symbol, Token};
 use sq_reader::{Reader, Stop};
 use thiserror::Error;
 
-/// Why a text has no tree. A token is named by its place in the text's list of tokens, from 0.
+/// Why a text has no tree. A token is named by its index in the text's list of tokens, from 0.
 #[derive(Clone, Copy, Debug, PartialEq, Eq, Error)]
 pub enum ParseError {
     /// Memory ran out.
     #[error("out of memory")]
     NoMemory,
-    /// The first token that no text of the grammar has after those before it.
+    /// The first token that cannot follow the tokens before it in any text of the grammar.
     #[error("token {0} is unexpected")]
     Unexpected(usize),
     /// An opening bracket before which as many round brackets are open as may be.
@@ -43,13 +43,13 @@ fn open_brackets(tokens: &[Token]) -> usize
     open
 }
 
-/// Whether the token at this place is an opening bracket, before which as many are open as may be.
-fn is_too_deep(tokens: &[Token], place: usize) -> bool
-    requires { place ≤ length tokens.now }
-    ensures { result ≡ spec.is_too_deep (lexemes tokens.now) place }
+/// Whether the token of this index is an opening bracket, before which as many are open as may be.
+fn is_too_deep(tokens: &[Token], index: usize) -> bool
+    requires { index ≤ length tokens.now }
+    ensures { result ≡ spec.is_too_deep (lexemes tokens.now) index }
 {
-    let opens = Reader::new(&tokens[place..]).sees(Symbol::Open);
-    let open = open_brackets(&tokens[..place]);
+    let opens = Reader::new(&tokens[index..]).sees(Symbol::Open);
+    let open = open_brackets(&tokens[..index]);
     opens && open == MAX_DEPTH
 }
 
@@ -60,13 +60,13 @@ pub fn refusal(tokens: &[Token], stop: Stop) -> ParseError
     let Stop::Unfit(left) = stop else {
         return ParseError::NoMemory;
     };
-    let place = tokens.len().saturating_sub(left);
-    if place == tokens.len() {
+    let index = tokens.len().saturating_sub(left);
+    if index == tokens.len() {
         return ParseError::EndOfText;
     }
-    if is_too_deep(tokens, place) {
-        ParseError::TooDeep(place)
+    if is_too_deep(tokens, index) {
+        ParseError::TooDeep(index)
     } else {
-        ParseError::Unexpected(place)
+        ParseError::Unexpected(index)
     }
 }

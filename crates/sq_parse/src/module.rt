@@ -48,7 +48,7 @@ fn declaration(tokens: &mut Reader<'_>) -> Result<Declaration, Stop>
     }
 }
 
-/// `[ "," ] decl`, if it comes.
+/// `[ "," ] declaration`, if it comes.
 #[tactic(auto, unfolding(sq_grammar::specs::Module::bare_declaration))]
 fn bare_declaration(tokens: &mut Reader<'_>) -> Result<Option<BareDeclaration>, Stop>
     ensures value { Reads (spec.bare_declaration tokens.old) result tokens.new }

@@ -59,7 +59,7 @@ fn default_clause(alloc: Global, tokens: &mut Reader<'_>) -> Result<Option<Defau
     Ok(Some(value))
 }
 
-/// `CHECK "(" cond ")"`, in which the bracket is one of `left`.
+/// `CHECK "(" condition ")"`, in which the bracket is one of `left`.
 #[tactic(auto, unfolding(sq_grammar::specs::Schema::check))]
 fn check(alloc: Global, tokens: &mut Reader<'_>, left: usize) -> Result<Cond, Stop>
     requires { 0 < left }

@@ -96,7 +96,7 @@ fn item(alloc: Global, tokens: &mut Reader<'_>) -> Result<Option<ScriptItem>, St
     if tokens.eat_word(Word::Table) {
         let (schema, table) = two_names(tokens)?;
         tokens.expect(Symbol::Semicolon)?;
-        return Ok(Some(ScriptItem::Table(schema, table)));
+        return Ok(Some(ScriptItem::Table { schema, table }));
     }
     if call_if_any(tokens).is_none() {
         return Ok(None);
@@ -104,7 +104,11 @@ fn item(alloc: Global, tokens: &mut Reader<'_>) -> Result<Option<ScriptItem>, St
     let (module, procedure) = two_names(tokens)?;
     let arguments = arguments(alloc, tokens)?;
     match tokens.expect(Symbol::Semicolon) {
-        Ok(()) => Ok(Some(ScriptItem::Call(module, procedure, arguments))),
+        Ok(()) => Ok(Some(ScriptItem::Call {
+            module,
+            procedure,
+            arguments,
+        })),
         Err(stop) => {
             drop(arguments);
             Err(stop)

@@ -9,7 +9,7 @@ ghost use Rattle.sq_grammar.specs.Reading.{all, behind};
 ghost use Rattle.sq_reader.specs.Reads.{Reads};
 
 use crate::expression::{expr, expr_from};
-use sq_grammar::Mixed;
+use sq_grammar::CondOrExpr;
 use sq_items::{Boxed, Items};
 use sq_lex::{Symbol, Word};
 use sq_reader::{Reader, Stop};
@@ -26,17 +26,17 @@ pub struct Grammar<F> {
     pub inner: F,
 }
 
-impl<F: Fn(Global, &mut Reader<'_>, usize) -> Result<Mixed<Cond>, Stop>> Grammar<F> {
+impl<F: Fn(Global, &mut Reader<'_>, usize) -> Result<CondOrExpr<Cond>, Stop>> Grammar<F> {
     /// A condition behind a bracket.
     pub fn inner_cond(&self, tokens: &mut Reader<'_>) -> Result<Cond, Stop>
         requires nests { Nests spec.inside self.now.left (F.pre self.now.inner) (F.post self.now.inner) }
         requires some { 0 < self.now.left }
-        ensures value { Reads (spec.strictly (spec.inside self.now.left) tokens.old) result tokens.new }
+        ensures value { Reads (spec.must_be_cond (spec.inside self.now.left) tokens.old) result tokens.new }
         ensures shorter { OnOk result (length tokens.new < length tokens.old) }
     {
         match (self.inner)(self.alloc, tokens, self.left)? {
-            Mixed::Whole(cond) => Ok(cond),
-            Mixed::Bare(bare) => {
+            CondOrExpr::Cond(cond) => Ok(cond),
+            CondOrExpr::Expr(bare) => {
                 drop(bare);
                 Err(tokens.stop())
             }
@@ -45,14 +45,14 @@ impl<F: Fn(Global, &mut Reader<'_>, usize) -> Result<Mixed<Cond>, Stop>> Grammar
 
     /// A predicate whose first expression is read already, or that expression alone.
     #[tactic(auto, unfolding(sq_grammar::specs::Cond::predicate_from))]
-    fn predicate_from(&self, tokens: &mut Reader<'_>, left: Expr) -> Result<Mixed<Body>, Stop>
+    fn predicate_from(&self, tokens: &mut Reader<'_>, left: Expr) -> Result<CondOrExpr<Body>, Stop>
         requires { Nests spec.inside self.now.left (F.pre self.now.inner) (F.post self.now.inner) }
         ensures value { Reads (spec.predicate_from self.now.left (spec.inside self.now.left) left tokens.old) result tokens.new }
         ensures no_longer { OnOk result (length tokens.new ≤ length tokens.old) }
     {
         match self.tail(tokens) {
-            Ok(Some(tail)) => Ok(Mixed::Whole(Body::Predicate(left, tail))),
-            Ok(None) => Ok(Mixed::Bare(left)),
+            Ok(Some(tail)) => Ok(CondOrExpr::Cond(Body::Predicate(left, tail))),
+            Ok(None) => Ok(CondOrExpr::Expr(left)),
             Err(stop) => {
                 drop(left);
                 Err(stop)
@@ -61,7 +61,7 @@ impl<F: Fn(Global, &mut Reader<'_>, usize) -> Result<Mixed<Cond>, Stop>> Grammar
     }
 
     #[tactic(auto, unfolding(sq_grammar::specs::Cond::bracket))]
-    fn bracket(&self, tokens: &mut Reader<'_>) -> Result<Mixed<Body>, Stop>
+    fn bracket(&self, tokens: &mut Reader<'_>) -> Result<CondOrExpr<Body>, Stop>
         requires { Nests spec.inside self.now.left (F.pre self.now.inner) (F.post self.now.inner) }
         ensures value { Reads (spec.bracket self.now.left (spec.inside self.now.left) tokens.old) result tokens.new }
         ensures shorter { OnOk result (length tokens.new < length tokens.old) }
@@ -73,11 +73,11 @@ impl<F: Fn(Global, &mut Reader<'_>, usize) -> Result<Mixed<Cond>, Stop>> Grammar
             return Err(stop);
         }
         match inner {
-            Mixed::Whole(cond) => {
+            CondOrExpr::Cond(cond) => {
                 let cond = Boxed::new(self.alloc, cond)?;
-                Ok(Mixed::Whole(Body::Bracketed(cond)))
+                Ok(CondOrExpr::Cond(Body::Bracketed(cond)))
             }
-            Mixed::Bare(bare) => {
+            CondOrExpr::Expr(bare) => {
                 let first = Primary::Bracketed(Boxed::new(self.alloc, bare)?);
                 let left = expr_from(self.alloc, tokens, self.left, first)?;
                 self.predicate_from(tokens, left)
@@ -86,7 +86,7 @@ impl<F: Fn(Global, &mut Reader<'_>, usize) -> Result<Mixed<Cond>, Stop>> Grammar
     }
 
     #[tactic(auto, unfolding(sq_grammar::specs::Cond::body))]
-    fn body(&self, tokens: &mut Reader<'_>) -> Result<Mixed<Body>, Stop>
+    fn body(&self, tokens: &mut Reader<'_>) -> Result<CondOrExpr<Body>, Stop>
         requires { Nests spec.inside self.now.left (F.pre self.now.inner) (F.post self.now.inner) }
         ensures value { Reads (spec.body self.now.left (spec.inside self.now.left) tokens.old) result tokens.new }
         ensures shorter { OnOk result (length tokens.new < length tokens.old) }
@@ -94,7 +94,7 @@ impl<F: Fn(Global, &mut Reader<'_>, usize) -> Result<Mixed<Cond>, Stop>> Grammar
         if tokens.eat_word(Word::Exists) {
             let query = self.subquery(tokens)?;
             let query = Boxed::new(self.alloc, query)?;
-            return Ok(Mixed::Whole(Body::Exists(query)));
+            return Ok(CondOrExpr::Cond(Body::Exists(query)));
         }
         if tokens.sees(Symbol::Open) {
             return self.bracket(tokens);
@@ -104,33 +104,33 @@ impl<F: Fn(Global, &mut Reader<'_>, usize) -> Result<Mixed<Cond>, Stop>> Grammar
     }
 
     #[tactic(auto, unfolding(sq_grammar::specs::Cond::test_at))]
-    fn test(&self, tokens: &mut Reader<'_>) -> Result<Mixed<Test>, Stop>
+    fn test(&self, tokens: &mut Reader<'_>) -> Result<CondOrExpr<Test>, Stop>
         requires { Nests spec.inside self.now.left (F.pre self.now.inner) (F.post self.now.inner) }
         ensures value { Reads (spec.test_at self.now.left (spec.inside self.now.left) tokens.old) result tokens.new }
         ensures shorter { OnOk result (length tokens.new < length tokens.old) }
     {
         let negated = tokens.eat_word(Word::Not);
         match self.body(tokens)? {
-            Mixed::Whole(body) => Ok(Mixed::Whole(Test { negated, body })),
-            Mixed::Bare(bare) => {
+            CondOrExpr::Cond(body) => Ok(CondOrExpr::Cond(Test { negated, body })),
+            CondOrExpr::Expr(bare) => {
                 if negated {
                     drop(bare);
                     return Err(tokens.stop());
                 }
-                Ok(Mixed::Bare(bare))
+                Ok(CondOrExpr::Expr(bare))
             }
         }
     }
 
-    #[tactic(auto, unfolding(sq_grammar::specs::Cond::strict_test))]
-    fn strict_test(&self, tokens: &mut Reader<'_>) -> Result<Test, Stop>
+    #[tactic(auto, unfolding(sq_grammar::specs::Cond::must_be_test))]
+    fn must_be_test(&self, tokens: &mut Reader<'_>) -> Result<Test, Stop>
         requires { Nests spec.inside self.now.left (F.pre self.now.inner) (F.post self.now.inner) }
-        ensures value { Reads (spec.strict_test self.now.left (spec.inside self.now.left) tokens.old) result tokens.new }
+        ensures value { Reads (spec.must_be_test self.now.left (spec.inside self.now.left) tokens.old) result tokens.new }
         ensures shorter { OnOk result (length tokens.new < length tokens.old) }
     {
         match self.test(tokens)? {
-            Mixed::Whole(test) => Ok(test),
-            Mixed::Bare(bare) => {
+            CondOrExpr::Cond(test) => Ok(test),
+            CondOrExpr::Expr(bare) => {
                 drop(bare);
                 Err(tokens.stop())
             }
@@ -141,46 +141,46 @@ impl<F: Fn(Global, &mut Reader<'_>, usize) -> Result<Mixed<Cond>, Stop>> Grammar
     #[tactic(auto, using(sq_grammar::proofs::Many::loops))]
     fn more_tests(&self, tokens: &mut Reader<'_>) -> Result<Items<Test>, Stop>
         requires { Nests spec.inside self.now.left (F.pre self.now.inner) (F.post self.now.inner) }
-        ensures value { Reads (all (behind (lexeme.Word word.And) (spec.strict_test self.now.left (spec.inside self.now.left))) tokens.old) result tokens.new }
+        ensures value { Reads (all (behind (lexeme.Word word.And) (spec.must_be_test self.now.left (spec.inside self.now.left))) tokens.old) result tokens.new }
         ensures no_longer { OnOk result (length tokens.new ≤ length tokens.old) }
     {
         let mut items = Items::new(self.alloc);
         while tokens.eat_word(Word::And) {
-            let test = self.strict_test(tokens)?;
+            let test = self.must_be_test(tokens)?;
             items.push(test)?;
         }
         Ok(items)
     }
 
     #[tactic(auto, unfolding(sq_grammar::specs::Cond::conj))]
-    fn conj(&self, tokens: &mut Reader<'_>) -> Result<Mixed<Conj>, Stop>
+    fn conj(&self, tokens: &mut Reader<'_>) -> Result<CondOrExpr<Conj>, Stop>
         requires { Nests spec.inside self.now.left (F.pre self.now.inner) (F.post self.now.inner) }
         ensures value { Reads (spec.conj self.now.left (spec.inside self.now.left) tokens.old) result tokens.new }
         ensures shorter { OnOk result (length tokens.new < length tokens.old) }
     {
         match self.test(tokens)? {
-            Mixed::Whole(first) => {
+            CondOrExpr::Cond(first) => {
                 match self.more_tests(tokens) {
-                    Ok(rest) => Ok(Mixed::Whole(Conj { first, rest })),
+                    Ok(rest) => Ok(CondOrExpr::Cond(Conj { first, rest })),
                     Err(stop) => {
                         drop(first);
                         Err(stop)
                     }
                 }
             }
-            Mixed::Bare(bare) => Ok(Mixed::Bare(bare)),
+            CondOrExpr::Expr(bare) => Ok(CondOrExpr::Expr(bare)),
         }
     }
 
-    #[tactic(auto, unfolding(sq_grammar::specs::Cond::strict_conj))]
-    fn strict_conj(&self, tokens: &mut Reader<'_>) -> Result<Conj, Stop>
+    #[tactic(auto, unfolding(sq_grammar::specs::Cond::must_be_conj))]
+    fn must_be_conj(&self, tokens: &mut Reader<'_>) -> Result<Conj, Stop>
         requires { Nests spec.inside self.now.left (F.pre self.now.inner) (F.post self.now.inner) }
-        ensures value { Reads (spec.strict_conj self.now.left (spec.inside self.now.left) tokens.old) result tokens.new }
+        ensures value { Reads (spec.must_be_conj self.now.left (spec.inside self.now.left) tokens.old) result tokens.new }
         ensures shorter { OnOk result (length tokens.new < length tokens.old) }
     {
         match self.conj(tokens)? {
-            Mixed::Whole(conj) => Ok(conj),
-            Mixed::Bare(bare) => {
+            CondOrExpr::Cond(conj) => Ok(conj),
+            CondOrExpr::Expr(bare) => {
                 drop(bare);
                 Err(tokens.stop())
             }
@@ -191,12 +191,12 @@ impl<F: Fn(Global, &mut Reader<'_>, usize) -> Result<Mixed<Cond>, Stop>> Grammar
     #[tactic(auto, using(sq_grammar::proofs::Many::loops))]
     fn more_conjs(&self, tokens: &mut Reader<'_>) -> Result<Items<Conj>, Stop>
         requires { Nests spec.inside self.now.left (F.pre self.now.inner) (F.post self.now.inner) }
-        ensures value { Reads (all (behind (lexeme.Word word.Or) (spec.strict_conj self.now.left (spec.inside self.now.left))) tokens.old) result tokens.new }
+        ensures value { Reads (all (behind (lexeme.Word word.Or) (spec.must_be_conj self.now.left (spec.inside self.now.left))) tokens.old) result tokens.new }
         ensures no_longer { OnOk result (length tokens.new ≤ length tokens.old) }
     {
         let mut items = Items::new(self.alloc);
         while tokens.eat_word(Word::Or) {
-            let conj = self.strict_conj(tokens)?;
+            let conj = self.must_be_conj(tokens)?;
             items.push(conj)?;
         }
         Ok(items)
@@ -204,28 +204,28 @@ impl<F: Fn(Global, &mut Reader<'_>, usize) -> Result<Mixed<Cond>, Stop>> Grammar
 
     /// A condition, or an expression alone.
     #[tactic(auto, unfolding(sq_grammar::specs::Cond::level))]
-    fn mixed(&self, tokens: &mut Reader<'_>) -> Result<Mixed<Cond>, Stop>
+    fn cond_or_expr(&self, tokens: &mut Reader<'_>) -> Result<CondOrExpr<Cond>, Stop>
         requires { Nests spec.inside self.now.left (F.pre self.now.inner) (F.post self.now.inner) }
         ensures value { Reads (spec.level self.now.left (spec.inside self.now.left) tokens.old) result tokens.new }
         ensures shorter { OnOk result (length tokens.new < length tokens.old) }
     {
         match self.conj(tokens)? {
-            Mixed::Whole(first) => {
+            CondOrExpr::Cond(first) => {
                 match self.more_conjs(tokens) {
-                    Ok(rest) => Ok(Mixed::Whole(Cond { first, rest })),
+                    Ok(rest) => Ok(CondOrExpr::Cond(Cond { first, rest })),
                     Err(stop) => {
                         drop(first);
                         Err(stop)
                     }
                 }
             }
-            Mixed::Bare(bare) => Ok(Mixed::Bare(bare)),
+            CondOrExpr::Expr(bare) => Ok(CondOrExpr::Expr(bare)),
         }
     }
 }
 
 /// A condition or an expression behind a bracket, which is one of the `left` that could be opened before it.
-pub fn inner(alloc: Global, tokens: &mut Reader<'_>, left: usize) -> Result<Mixed<Cond>, Stop>
+pub fn inner(alloc: Global, tokens: &mut Reader<'_>, left: usize) -> Result<CondOrExpr<Cond>, Stop>
     requires { 0 < left }
     ensures value { Reads (spec.inside left tokens.old) result tokens.new }
     ensures shorter { OnOk result (length tokens.new < length tokens.old) }
@@ -235,7 +235,7 @@ pub fn inner(alloc: Global, tokens: &mut Reader<'_>, left: usize) -> Result<Mixe
         left: left - 1,
         inner,
     }
-    .mixed(tokens)
+    .cond_or_expr(tokens)
 }
 
 /// A search condition in which `left` brackets may be open at once (ISO/IEC 9075:1992, 8.12).
@@ -244,9 +244,9 @@ pub fn cond(alloc: Global, tokens: &mut Reader<'_>, left: usize) -> Result<Cond,
     ensures value { Reads (spec.cond left tokens.old) result tokens.new }
     ensures shorter { OnOk result (length tokens.new < length tokens.old) }
 {
-    match (Grammar { alloc, left, inner }).mixed(tokens)? {
-        Mixed::Whole(cond) => Ok(cond),
-        Mixed::Bare(bare) => {
+    match (Grammar { alloc, left, inner }).cond_or_expr(tokens)? {
+        CondOrExpr::Cond(cond) => Ok(cond),
+        CondOrExpr::Expr(bare) => {
             drop(bare);
             Err(tokens.stop())
         }
@@ -256,7 +256,7 @@ pub fn cond(alloc: Global, tokens: &mut Reader<'_>, left: usize) -> Result<Cond,
 /// A condition behind a bracket, which is one of the `left` that could be opened before it.
 pub fn inner_cond(alloc: Global, tokens: &mut Reader<'_>, left: usize) -> Result<Cond, Stop>
     requires { 0 < left }
-    ensures value { Reads (spec.strictly (spec.inside left) tokens.old) result tokens.new }
+    ensures value { Reads (spec.must_be_cond (spec.inside left) tokens.old) result tokens.new }
     ensures shorter { OnOk result (length tokens.new < length tokens.old) }
 {
     Grammar { alloc, left, inner }.inner_cond(tokens)

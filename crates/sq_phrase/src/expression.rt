@@ -7,7 +7,7 @@ ghost use Rattle.sq_grammar.specs.Reading.{all, one_if_any};
 ghost use Rattle.sq_reader.specs.Reads.{Reads};
 
 use sq_items::{Boxed, Items};
-use sq_lex::{Lexeme, Symbol, Word};
+use sq_lex::{Lexeme, Name, Symbol, Word};
 use sq_reader::{Reader, Stop, column_from, parameter_from, sign_if_any};
 use sq_tree::{Added, Expr, Factor, Primary, Scaled, SetFunction, SetQuantifier, Term, TimesSign};
 use std::alloc::Global;
@@ -73,6 +73,15 @@ fn star_of(tokens: &mut Reader<'_>, function: SetFunction) -> bool
     }
 }
 
+/// The primary of a column whose first name is read already.
+fn column(tokens: &mut Reader<'_>, first: Name) -> Result<Primary, Stop>
+    ensures value { Reads (spec.column first tokens.old) result tokens.new }
+    ensures no_longer { OnOk result (length tokens.new ≤ length tokens.old) }
+{
+    let column = column_from(tokens, first)?;
+    Ok(Primary::Column(column))
+}
+
 /// The rules of expressions.
 #[derive(Clone, Copy)]
 pub struct Grammar<F> {
@@ -127,20 +136,45 @@ impl<F: Fn(Global, &mut Reader<'_>, usize) -> Result<Expr, Stop>> Grammar<F> {
         ensures value { Reads (spec.primary_at self.now.left (spec.inside self.now.left) tokens.old) result tokens.new }
         ensures shorter { OnOk result (length tokens.new < length tokens.old) }
     {
-        if let Some(number) = tokens.number_if_any() {
-            return Ok(Primary::Number(number));
+        match tokens.first() {
+            Some(Lexeme::Number(number)) => {
+                tokens.skip();
+                Ok(Primary::Number(*number))
+            }
+            Some(Lexeme::Text(characters)) => {
+                tokens.skip();
+                let characters = Items::from_slice(self.alloc, characters.get().as_slice())?;
+                Ok(Primary::Text(characters))
+            }
+            Some(Lexeme::Name(name)) => {
+                tokens.skip();
+                column(tokens, *name)
+            }
+            Some(Lexeme::Word(_)) => self.word_primary(tokens),
+            Some(Lexeme::Symbol(_)) => self.symbol_primary(tokens),
+            None => Err(tokens.stop()),
         }
-        if let Some(characters) = tokens.text_if_any(self.alloc)? {
-            return Ok(Primary::Text(characters));
-        }
-        if let Some(first) = tokens.name_if_any() {
-            let column = column_from(tokens, first)?;
-            return Ok(Primary::Column(column));
-        }
+    }
+
+    /// A primary that begins with a symbol.
+    fn symbol_primary(&self, tokens: &mut Reader<'_>) -> Result<Primary, Stop>
+        requires { Nests spec.inside self.now.left (F.pre self.now.inner) (F.post self.now.inner) }
+        ensures value { Reads (spec.symbol_primary self.now.left (spec.inside self.now.left) tokens.old) result tokens.new }
+        ensures shorter { OnOk result (length tokens.new < length tokens.old) }
+    {
         if tokens.eat(Symbol::Colon) {
             let parameter = parameter_from(tokens)?;
             return Ok(Primary::Parameter(parameter));
         }
+        self.word_primary(tokens)
+    }
+
+    /// A primary that begins with a reserved word or a bracket.
+    fn word_primary(&self, tokens: &mut Reader<'_>) -> Result<Primary, Stop>
+        requires { Nests spec.inside self.now.left (F.pre self.now.inner) (F.post self.now.inner) }
+        ensures value { Reads (spec.word_primary self.now.left (spec.inside self.now.left) tokens.old) result tokens.new }
+        ensures shorter { OnOk result (length tokens.new < length tokens.old) }
+    {
         if tokens.eat_word(Word::User) {
             return Ok(Primary::User);
         }

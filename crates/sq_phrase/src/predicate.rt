@@ -11,7 +11,7 @@ ghost use Rattle.sq_reader.specs.Reads.{Reads};
 
 use crate::condition::Grammar;
 use crate::expression::expr;
-use sq_grammar::Mixed;
+use sq_grammar::CondOrExpr;
 use sq_items::Boxed;
 use sq_lex::{Lexeme, Symbol, Word};
 use sq_reader::{Reader, Stop};
@@ -77,19 +77,28 @@ fn null_tail(tokens: &mut Reader<'_>) -> Result<Tail, Stop>
     Ok(Tail::Null(negated))
 }
 
+/// An expression, on the heap: the second one that only some predicates have.
+fn boxed_expr(alloc: Global, tokens: &mut Reader<'_>, left: usize) -> Result<Boxed<Expr>, Stop>
+    ensures value { Reads (expressions.expr left tokens.old) result tokens.new }
+    ensures shorter { OnOk result (length tokens.new < length tokens.old) }
+{
+    let value = expr(alloc, tokens, left)?;
+    Ok(Boxed::new(alloc, value)?)
+}
+
 /// `[ ESCAPE expr ]`.
-fn escape(alloc: Global, tokens: &mut Reader<'_>, left: usize) -> Result<Option<Expr>, Stop>
+fn escape(alloc: Global, tokens: &mut Reader<'_>, left: usize) -> Result<Option<Boxed<Expr>>, Stop>
     ensures value { Reads (behind (lexeme.Word word.Escape) (expressions.expr left) tokens.old) result tokens.new }
     ensures no_longer { OnOk result (length tokens.new ≤ length tokens.old) }
 {
     if !tokens.eat_word(Word::Escape) {
         return Ok(None);
     }
-    let escape = expr(alloc, tokens, left)?;
+    let escape = boxed_expr(alloc, tokens, left)?;
     Ok(Some(escape))
 }
 
-impl<F: Fn(Global, &mut Reader<'_>, usize) -> Result<Mixed<Cond>, Stop>> Grammar<F> {
+impl<F: Fn(Global, &mut Reader<'_>, usize) -> Result<CondOrExpr<Cond>, Stop>> Grammar<F> {
     /// What follows a comparison operator.
     #[tactic(auto, unfolding(sq_grammar::specs::Cond::comparison_tail))]
     fn comparison_tail(&self, tokens: &mut Reader<'_>, comparison: Comparison) -> Result<Tail, Stop>
@@ -118,7 +127,7 @@ impl<F: Fn(Global, &mut Reader<'_>, usize) -> Result<Mixed<Cond>, Stop>> Grammar
             drop(low);
             return Err(stop);
         }
-        match expr(self.alloc, tokens, self.left) {
+        match boxed_expr(self.alloc, tokens, self.left) {
             Ok(high) => Ok(Tail::Between(negated, low, high)),
             Err(stop) => {
                 drop(low);

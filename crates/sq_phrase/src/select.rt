@@ -3,7 +3,7 @@
 ghost use Rattle.std.specs.Prelude.{◌≡◌, ◌<◌, ◌≤◌, ◌+◌, length, IfOk, OnOk, OnSome};
 ghost use Rattle.sq_grammar.specs.declared.brackets.TheConstants.{MAX_DEPTH};
 ghost use Rattle.sq_grammar.specs.Cond as conditions;
-ghost use Rattle.sq_grammar.specs.Cond.{strictly};
+ghost use Rattle.sq_grammar.specs.Cond.{must_be_cond};
 ghost use Rattle.sq_grammar.specs.Expr as expressions;
 ghost use Rattle.sq_phrase.specs.Nests.{Nests};
 ghost use Rattle.sq_grammar.specs.Names.{column_reference};
@@ -13,7 +13,7 @@ ghost use Rattle.sq_grammar.specs.Select as spec;
 
 use crate::condition::{Grammar, inner};
 use crate::expression::{inner_expr, quantifier_if_any};
-use sq_grammar::Mixed;
+use sq_grammar::CondOrExpr;
 use sq_lex::{Symbol, Word};
 use sq_reader::{Reader, Stop, column_reference, comma_list, table_name};
 use sq_tree::{
@@ -95,7 +95,7 @@ fn group_by(
     Ok(Some(columns))
 }
 
-impl<F: Fn(Global, &mut Reader<'_>, usize) -> Result<Mixed<Cond>, Stop>> Grammar<F> {
+impl<F: Fn(Global, &mut Reader<'_>, usize) -> Result<CondOrExpr<Cond>, Stop>> Grammar<F> {
     /// A list of expressions behind a bracket.
     pub fn inner_exprs(&self, tokens: &mut Reader<'_>) -> Result<CommaList<Expr>, Stop>
         requires { 0 < self.now.left }
@@ -122,7 +122,7 @@ impl<F: Fn(Global, &mut Reader<'_>, usize) -> Result<Mixed<Cond>, Stop>> Grammar
     fn where_clause(&self, tokens: &mut Reader<'_>) -> Result<Option<Cond>, Stop>
         requires nests { Nests conditions.inside self.now.left (F.pre self.now.inner) (F.post self.now.inner) }
         requires some { 0 < self.now.left }
-        ensures value { Reads (spec.where_clause (strictly (conditions.inside self.now.left)) tokens.old) result tokens.new }
+        ensures value { Reads (spec.where_clause (must_be_cond (conditions.inside self.now.left)) tokens.old) result tokens.new }
         ensures no_longer { OnOk result (length tokens.new ≤ length tokens.old) }
     {
         if !tokens.eat_word(Word::Where) {
@@ -135,7 +135,7 @@ impl<F: Fn(Global, &mut Reader<'_>, usize) -> Result<Mixed<Cond>, Stop>> Grammar
     fn having_clause(&self, tokens: &mut Reader<'_>) -> Result<Option<Cond>, Stop>
         requires nests { Nests conditions.inside self.now.left (F.pre self.now.inner) (F.post self.now.inner) }
         requires some { 0 < self.now.left }
-        ensures value { Reads (spec.having_clause (strictly (conditions.inside self.now.left)) tokens.old) result tokens.new }
+        ensures value { Reads (spec.having_clause (must_be_cond (conditions.inside self.now.left)) tokens.old) result tokens.new }
         ensures no_longer { OnOk result (length tokens.new ≤ length tokens.old) }
     {
         if !tokens.eat_word(Word::Having) {
@@ -149,7 +149,7 @@ impl<F: Fn(Global, &mut Reader<'_>, usize) -> Result<Mixed<Cond>, Stop>> Grammar
     fn table_expression(&self, tokens: &mut Reader<'_>) -> Result<TableExpression, Stop>
         requires nests { Nests conditions.inside self.now.left (F.pre self.now.inner) (F.post self.now.inner) }
         requires some { 0 < self.now.left }
-        ensures value { Reads (spec.table_expression (strictly (conditions.inside self.now.left)) tokens.old) result tokens.new }
+        ensures value { Reads (spec.table_expression (must_be_cond (conditions.inside self.now.left)) tokens.old) result tokens.new }
         ensures shorter { OnOk result (length tokens.new < length tokens.old) }
     {
         let from = from_clause(self.alloc, tokens)?;
@@ -208,7 +208,7 @@ impl<F: Fn(Global, &mut Reader<'_>, usize) -> Result<Mixed<Cond>, Stop>> Grammar
         }
     }
 
-    /// `"(" spec ")"`.
+    /// `"(" specification ")"`.
     #[tactic(auto, unfolding(sq_grammar::specs::Cond::subquery))]
     pub fn subquery(&self, tokens: &mut Reader<'_>) -> Result<QuerySpecification, Stop>
         requires { Nests conditions.inside self.now.left (F.pre self.now.inner) (F.post self.now.inner) }

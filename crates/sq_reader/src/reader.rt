@@ -230,7 +230,7 @@ impl<'a> Reader<'a> {
         match &token.lexeme {
             Lexeme::Text(characters) => {
                 self.tokens = rest;
-                Ok(Some(Items::from_slice(alloc, characters.as_slice())?))
+                Ok(Some(Items::from_slice(alloc, characters.get().as_slice())?))
             }
             _ => Ok(None),
         }

@@ -45,10 +45,12 @@ pub(crate) fn action_of<S: Store>(
     ensures of_meaning { IfErr result IsItemFault }
 {
     match item {
-        ScriptItem::Call(module, name, arguments) => {
-            called(alloc, session, *module, *name, arguments)
-        }
-        ScriptItem::Table(user, name) => shown(session, *user, *name),
+        ScriptItem::Call {
+            module,
+            procedure,
+            arguments,
+        } => called(alloc, session, *module, *procedure, arguments),
+        ScriptItem::Table { schema, table } => shown(session, *schema, *table),
     }
 }
 

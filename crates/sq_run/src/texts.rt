@@ -1,4 +1,4 @@
-//! Reading texts: from bytes to trees, and from a token's number to its place.
+//! Reading texts: from bytes to trees, and from a token's number to its position.
 ghost use Rattle.std.specs.Prelude.{◌≡◌, Ok, IfErr, IfOk, IsOk};
 ghost use Rattle.sq_lex.specs.Reading.{reading};
 ghost use Rattle.sq_lex.specs.Token.{lexemes};
@@ -10,7 +10,7 @@ ghost use Rattle.sq_run.specs.Fault.{IsParseFault, IsRefusal, IsRefusalIfAny, Is
 ghost use Rattle.sq_run.specs.Run.{AllSpell, Spells, texts};
 
 use crate::refusal::{Refusal, RefusalName};
-use sq_lex::{LexError, Token, lex};
+use sq_lex::{LexError, Position, Token, lex};
 use sq_parse::{ParseError, parse_module, parse_schema, parse_script};
 use sq_tree::{ModuleText, SchemaText, ScriptText};
 use std::alloc::{AllocError, AllocFailed, Global};
@@ -121,7 +121,7 @@ pub(crate) fn read_text<T: TextTree>(
     let tokens = tokens_of(alloc, number, text)?;
     match T::parse(alloc, tokens.as_slice()) {
         Ok(tree) => Ok(tree),
-        Err(fault) => Err(parse_fault(tokens.as_slice(), number, fault)),
+        Err(fault) => Err(parse_fault(text, tokens.as_slice(), number, fault)),
     }
 }
 
@@ -142,28 +142,37 @@ fn tokens_of(alloc: Global, number: usize, text: &[u8]) -> Result<Vec<Token>, Te
 }
 
 /// What a parse's fault means for a text. A text that ends too early is refused at its last token.
-fn parse_fault(tokens: &[Token], number: usize, fault: ParseError) -> TextFault
+fn parse_fault(text: &[u8], tokens: &[Token], number: usize, fault: ParseError) -> TextFault
     ensures { IsParseFault number fault result }
 {
     match fault {
         ParseError::NoMemory => TextFault::NoMemory,
-        ParseError::Unexpected(token) => refused_at(tokens, number, token, RefusalName::Unexpected),
-        ParseError::TooDeep(token) => refused_at(tokens, number, token, RefusalName::TooDeep),
+        ParseError::Unexpected(token) => {
+            refused_at(text, tokens, number, token, RefusalName::Unexpected)
+        }
+        ParseError::TooDeep(token) => refused_at(text, tokens, number, token, RefusalName::TooDeep),
         ParseError::EndOfText => {
             let last = tokens.len().saturating_sub(1);
-            refused_at(tokens, number, last, RefusalName::EndOfText)
+            refused_at(text, tokens, number, last, RefusalName::EndOfText)
         }
     }
 }
 
 /// A refusal at a token, or at the start of a text that has no such token.
-fn refused_at(tokens: &[Token], number: usize, token: usize, what: RefusalName) -> TextFault
+fn refused_at(
+    text: &[u8],
+    tokens: &[Token],
+    number: usize,
+    token: usize,
+    what: RefusalName,
+) -> TextFault
     ensures { IsRefusal number what result }
 {
-    let (line, column) = match tokens.get(token) {
-        Some(token) => (token.line, token.column),
-        None => (1, 1),
+    let start = match tokens.get(token) {
+        Some(token) => token.start,
+        None => 0,
     };
+    let Position { line, column, .. } = Position::of(text, start);
     TextFault::Refused(Refusal {
         text: number,
         line,
@@ -184,7 +193,7 @@ pub(crate) fn refused_again(
     ensures { IsRefusalIfAny number what result }
 {
     match lex(alloc, text) {
-        Ok(tokens) => refused_at(tokens.as_slice(), number, token, what),
+        Ok(tokens) => refused_at(text, tokens.as_slice(), number, token, what),
         Err(LexError::NoMemory) => TextFault::NoMemory,
         Err(LexError::Fault(_)) => unreachable!(),
     }

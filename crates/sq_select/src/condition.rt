@@ -180,7 +180,7 @@ fn bind_tail<N: Names>(
             compared_query(environment.alloc, *comparison, *quantifier, left, query)
         }
         Tail::Between(negated, low, high) => {
-            between(*negated, left, low, high, environment, functions)
+            between(*negated, left, low, high.get(), environment, functions)
         }
         Tail::InQuery(negated, query) => {
             let query = bind_subquery(query.get(), names, environment);

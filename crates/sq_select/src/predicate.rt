@@ -227,7 +227,7 @@ pub fn like(
     negated: bool,
     left: ExprResult,
     pattern: &Expr,
-    escape: &Option<Expr>,
+    escape: &Option<Boxed<Expr>>,
     environment: &Environment,
     functions: &mut SetFunctions,
 ) -> PredicateResult {
@@ -235,7 +235,7 @@ pub fn like(
     match escape {
         None => like_plain(negated, left, pattern),
         Some(escape) => {
-            let escape = bind_expr(escape, environment, functions);
+            let escape = bind_expr(escape.get(), environment, functions);
             like_escape(negated, left, pattern, escape)
         }
     }

@@ -160,7 +160,7 @@ impl Tree for Tail {
                 sink.word(Word::Between)?;
                 low.walk(sink)?;
                 sink.word(Word::And)?;
-                high.walk(sink)
+                high.get().walk(sink)
             }
             Tail::InQuery(negated, query) => {
                 sink.words_if(*negated, &[Word::Not])?;
@@ -182,7 +182,7 @@ impl Tree for Tail {
                 pattern.walk(sink)?;
                 if let Some(escape) = escape {
                     sink.word(Word::Escape)?;
-                    escape.walk(sink)?;
+                    escape.get().walk(sink)?;
                 }
                 Ok(())
             }

@@ -21,14 +21,18 @@ impl Tree for ScriptItem {
 
     fn walk<S: Sink>(&self, sink: &mut S) -> Result<(), S::Stop> {
         match self {
-            ScriptItem::Call(module, procedure, arguments) => {
+            ScriptItem::Call {
+                module,
+                procedure,
+                arguments,
+            } => {
                 sink.name(Name::new(b"CALL"))?;
                 sink.name(*module)?;
                 sink.symbol(Symbol::Dot)?;
                 sink.name(*procedure)?;
                 arguments.walk(sink)?;
             }
-            ScriptItem::Table(schema, table) => {
+            ScriptItem::Table { schema, table } => {
                 sink.word(Word::Table)?;
                 sink.name(*schema)?;
                 sink.symbol(Symbol::Dot)?;

@@ -2,7 +2,7 @@
 
 ghost use Rattle.std.specs.Prelude.{◌≡◌, ◌∷◌, [], fold, map, OnOk};
 ghost use Rattle.sq_lex.specs.declared.lexeme.Lexeme.TheVariants as lexeme;
-ghost use Rattle.sq_tree.specs.Tree.{said};
+ghost use Rattle.sq_tree.specs.Tree.{if_written};
 
 use sq_lex::{Lexeme, Name, Number, Symbol, Word};
 
@@ -44,7 +44,7 @@ pub trait Sink {
 
     /// Takes some reserved words, where they are written.
     final fn words_if(&mut self, written: bool, words: &[Word]) -> Result<(), Self::Stop>
-        ensures { OnOk result (self.new ≡ fold after self.old (said written (map lexeme.Word words.now))) }
+        ensures { OnOk result (self.new ≡ fold after self.old (if_written written (map lexeme.Word words.now))) }
     {
         if written {
             self.words(words)?;
@@ -61,7 +61,7 @@ pub trait Sink {
 
     /// Takes a symbol, where it is written.
     final fn symbol_if(&mut self, written: bool, symbol: Symbol) -> Result<(), Self::Stop>
-        ensures { OnOk result (self.new ≡ fold after self.old (said written (lexeme.Symbol symbol ∷ []))) }
+        ensures { OnOk result (self.new ≡ fold after self.old (if_written written (lexeme.Symbol symbol ∷ []))) }
     {
         if written {
             self.symbol(symbol)?;

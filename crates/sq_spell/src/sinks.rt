@@ -1,7 +1,7 @@
 //! The three sinks: a list of the tokens, their number, and how deep round brackets nest in them.
 
 use crate::sink::Sink;
-use sq_items::Items;
+use sq_items::{Boxed, Items};
 use sq_lex::{Lexeme, Symbol};
 use std::alloc::{AllocError, Global};
 use std::convert::Infallible;
@@ -26,7 +26,8 @@ impl Sink for Writer {
 
     fn text(&mut self, characters: &[u8]) -> Result<(), AllocError> {
         let text = Items::from_slice(self.alloc, characters)?;
-        self.lexemes.push(Lexeme::Text(text))
+        self.lexemes
+            .push(Lexeme::Text(Boxed::new(self.alloc, text)?))
     }
 }
 

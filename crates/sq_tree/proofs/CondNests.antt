@@ -8,7 +8,7 @@ use Rattle.sq_tree.specs.Cond.{comparison_token, compared_token, compared_tokens
 use Rattle.sq_tree.proofs.TreeDepth.{optional_depth}
 use Rattle.sq_tree.proofs.ExprDepth.{expr_depth}
 use Rattle.sq_tree.proofs.CondDepth.{select_list_depth, body_depth, tail_depth, test_depth, conj_depth, cond_depth, table_expression_depth, query_specification_depth}
-use Rattle.sq_tree.proofs.Nests.{Nests, IsPlain, nests-is, nests-plain, nests-append, nests-bracketed, nests-said, nests-none, nests-proved, nests-optional, nests-optional0, nests-comma, nests-comma0}
+use Rattle.sq_tree.proofs.Nests.{Nests, IsPlain, nests-is, nests-plain, nests-append, nests-bracketed, nests-if_written, nests-none, nests-proved, nests-optional, nests-optional0, nests-comma, nests-comma0}
 use Rattle.sq_tree.proofs.ExprNests.{expr_nests, quantifier_nests, table_name_nests, column_reference_nests}
 use Rattle.sq_tree.specs.declared.list.CommaList.{CommaList}
 use Rattle.sq_tree.specs.declared.expr.Expr.{Expr}
@@ -47,10 +47,10 @@ compared_nests : (q : Option Quantifier) → Nests (optional compared_tokens q) 
 compared_nests q = nests-optional0 compared_tokens (λ x. nests-plain _ (compared_plain x) nests-none) q
 
 not_nests : (negated : Bool) → Nests (not_tokens negated) 0
-not_nests negated = nests-said negated (nests-plain _ (λ n. refl) nests-none)
+not_nests negated = nests-if_written negated (nests-plain _ (λ n. refl) nests-none)
 
 correlation_nests : (c : Correlation) → Nests (correlation_tokens c) 0
-correlation_nests c = nests-append (nests-said c.as_word (nests-plain _ (λ n. refl) nests-none)) (nests-plain _ (λ n. refl) nests-none)
+correlation_nests c = nests-append (nests-if_written c.as_word (nests-plain _ (λ n. refl) nests-none)) (nests-plain _ (λ n. refl) nests-none)
 
 table_reference_nests : (t : TableReference) → Nests (table_reference_tokens t) 0
 table_reference_nests t = nests-append (table_name_nests t.table) (nests-optional0 correlation_tokens correlation_nests t.correlation)

@@ -4,7 +4,7 @@ use Rattle.sq_tree.specs.Tree.{optional}
 use Rattle.sq_tree.specs.Names.{table_name_tokens, column_reference_tokens, indicator_tokens, parameter_tokens}
 use Rattle.sq_tree.specs.Expr.{sign_token, sign_tokens, times_token, function_token, quantifier_token, quantifier_tokens, signed_number_tokens, expr_tokens, added_tokens, term_tokens, scaled_tokens, factor_tokens, primary_tokens}
 use Rattle.sq_tree.proofs.ExprDepth.{expr_depth, added_depth, term_depth, scaled_depth, factor_depth, primary_depth}
-use Rattle.sq_tree.proofs.Nests.{Nests, IsPlain, nests-is, nests-plain, nests-append, nests-bracketed, nests-said, nests-none, nests-proved, nests-optional0}
+use Rattle.sq_tree.proofs.Nests.{Nests, IsPlain, nests-is, nests-plain, nests-append, nests-bracketed, nests-if_written, nests-none, nests-proved, nests-optional0}
 use Rattle.sq_tree.specs.declared.names.TableName.{TableName}
 use Rattle.sq_tree.specs.declared.names.ColumnReference.{ColumnReference}
 use Rattle.sq_tree.specs.declared.names.Indicator.{Indicator}
@@ -61,7 +61,7 @@ pub column_reference_nests : (c : ColumnReference) → Nests (column_reference_t
 column_reference_nests c = nests-append (nests-optional0 _ (λ x. nests-append (table_name_nests x) (nests-plain _ (λ n. refl) nests-none)) c.qualifier) (nests-plain _ (λ n. refl) nests-none)
 
 indicator_nests : (i : Indicator) → Nests (indicator_tokens i) 0
-indicator_nests i = nests-append (nests-said i.word (nests-plain _ (λ n. refl) nests-none)) (nests-plain _ (λ n. refl) (nests-plain _ (λ n. refl) nests-none))
+indicator_nests i = nests-append (nests-if_written i.word (nests-plain _ (λ n. refl) nests-none)) (nests-plain _ (λ n. refl) (nests-plain _ (λ n. refl) nests-none))
 
 pub parameter_nests : (p : Parameter) → Nests (parameter_tokens p) 0
 parameter_nests p = nests-plain _ (λ n. refl) (nests-plain _ (λ n. refl) (nests-optional0 indicator_tokens indicator_nests p.indicator))

@@ -2,7 +2,7 @@
 use Rattle.std.proofs.Common.{◌≡◌, [], ◌∷◌, refl, arith}
 use Rattle.sq_tree.specs.Module.{sort_key_token, direction_tokens, sort_specification_tokens, order_by_tokens, cursor_tokens, declaration_tokens, bare_declaration_tokens, declarations_tokens, procedure_tokens, module_item_tokens, module_tokens, module_depth}
 use Rattle.sq_tree.proofs.ModuleDepth.{declaration_depth, bare_declaration_depth, declarations_depth, cursor_depth, procedure_depth, module_item_depth, module_text_depth}
-use Rattle.sq_tree.proofs.Nests.{Nests, IsPlain, nests-deepest, nests-as, nests-plain, nests-append, nests-bracketed, nests-said, nests-none, nests-row, nests-optional0, nests-comma, nests-comma0}
+use Rattle.sq_tree.proofs.Nests.{Nests, IsPlain, nests-deepest, nests-as, nests-plain, nests-append, nests-bracketed, nests-if_written, nests-none, nests-row, nests-optional0, nests-comma, nests-comma0}
 use Rattle.sq_tree.proofs.QueryNests.{query_nests}
 use Rattle.sq_tree.proofs.StatementNests.{data_type_nests, statement_nests}
 use Rattle.sq_lex.specs.declared.lexeme.Lexeme.TheVariants as lexeme
@@ -40,7 +40,7 @@ order_by_nests : (sorts : CommaList SortSpecification) → Nests (order_by_token
 order_by_nests sorts = (nests-plain _ (λ n. refl) (nests-plain _ (λ n. refl) (nests-comma0 sort_specification_tokens sort_nests sorts)))
 
 cursor_nests : (c : Cursor) → Nests (cursor_tokens c) (cursor_depth c)
-cursor_nests c = nests-as (nests-plain _ (λ n. refl) (nests-plain _ (λ n. refl) (nests-append (nests-append (nests-append (nests-append (nests-said {ts = lexeme.Word word.Insensitive ∷ []} c.insensitive (nests-plain _ (λ n. refl) nests-none)) (nests-said {ts = lexeme.Word word.Scroll ∷ []} c.scroll (nests-plain _ (λ n. refl) nests-none))) (nests-plain _ (λ n. refl) (nests-plain _ (λ n. refl) (query_nests c.query)))) (nests-optional0 order_by_tokens order_by_nests c.order_by)) (nests-said {ts = lexeme.Symbol symbol.Semicolon ∷ []} c.semicolon (nests-plain _ (λ n. refl) nests-none))))) (omega arith)
+cursor_nests c = nests-as (nests-plain _ (λ n. refl) (nests-plain _ (λ n. refl) (nests-append (nests-append (nests-append (nests-append (nests-if_written {ts = lexeme.Word word.Insensitive ∷ []} c.insensitive (nests-plain _ (λ n. refl) nests-none)) (nests-if_written {ts = lexeme.Word word.Scroll ∷ []} c.scroll (nests-plain _ (λ n. refl) nests-none))) (nests-plain _ (λ n. refl) (nests-plain _ (λ n. refl) (query_nests c.query)))) (nests-optional0 order_by_tokens order_by_nests c.order_by)) (nests-if_written {ts = lexeme.Symbol symbol.Semicolon ∷ []} c.semicolon (nests-plain _ (λ n. refl) nests-none))))) (omega arith)
 
 declaration_nests : (d : Declaration) → Nests (declaration_tokens d) (declaration_depth d)
 declaration_nests (Parameter name data_type) = (nests-plain _ (λ n. refl) (nests-plain _ (λ n. refl) (data_type_nests data_type)))
@@ -48,7 +48,7 @@ declaration_nests Sqlcode = (nests-plain _ (λ n. refl) nests-none)
 declaration_nests Sqlstate = (nests-plain _ (λ n. refl) nests-none)
 
 bare_declaration_nests : (b : BareDeclaration) → Nests (bare_declaration_tokens b) (bare_declaration_depth b)
-bare_declaration_nests b = nests-as (nests-append (nests-said {ts = lexeme.Symbol symbol.Comma ∷ []} b.comma (nests-plain _ (λ n. refl) nests-none)) (declaration_nests b.declaration)) (omega arith)
+bare_declaration_nests b = nests-as (nests-append (nests-if_written {ts = lexeme.Symbol symbol.Comma ∷ []} b.comma (nests-plain _ (λ n. refl) nests-none)) (declaration_nests b.declaration)) (omega arith)
 
 declarations_nests : (d : Declarations) → Nests (declarations_tokens d) (declarations_depth d)
 declarations_nests (Bracketed declarations) = nests-bracketed (nests-comma declaration_tokens declaration_depth declaration_nests declarations)

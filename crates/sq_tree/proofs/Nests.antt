@@ -6,7 +6,7 @@ use Rattle.std.proofs.lemmas.List.Sums.{fold-append}
 use Rattle.sq_lex.specs.declared.lexeme.Lexeme.{Lexeme}
 use Rattle.sq_lex.specs.declared.lexeme.Lexeme.TheVariants as lexeme
 use Rattle.sq_lex.specs.declared.symbol.Symbol.TheVariants as symbol
-use Rattle.sq_tree.specs.Tree.{Tokens, said, optional, bracketed}
+use Rattle.sq_tree.specs.Tree.{Tokens, if_written, optional, bracketed}
 use Rattle.sq_tree.specs.List.{comma_then, comma_tokens}
 use Rattle.sq_tree.specs.Brackets.{open_after, deepest_from, deepest}
 use Rattle.sq_tree.proofs.TreeDepth.{optional_depth, greatest}
@@ -62,9 +62,9 @@ nests-bracketed {ts = ts} {d = d} h = record {
   deep = λ n. omega (arith, deepest_from-append (n + 1) ts (lexeme.Symbol symbol.Close ∷ []), h.deep (n + 1), h.closed (n + 1));
 }
 
-pub nests-said : {ts : Tokens} (b : Bool) → Nests ts 0 → Nests (said b ts) 0
-nests-said true h = h
-nests-said false h = nests-none
+pub nests-if_written : {ts : Tokens} (b : Bool) → Nests ts 0 → Nests (if_written b ts) 0
+nests-if_written true h = h
+nests-if_written false h = nests-none
 
 pub nests-optional : {A : Type 0} (tokens : A → Tokens) (depth : A → ℕ) → ((x : A) → Nests (tokens x) (depth x)) → (o : Option A) → Nests (optional tokens o) (optional_depth depth o)
 nests-optional tokens depth h None = nests-none

@@ -4,7 +4,7 @@ use Rattle.std.specs.List.{flat_map}
 use Rattle.std.proofs.lemmas.List.Folds.{flat_map-map}
 use Rattle.sq_lex.specs.declared.lexeme.Lexeme.TheVariants as lexeme
 use Rattle.sq_lex.specs.declared.word.Word.TheVariants as word
-use Rattle.sq_tree.specs.Tree.{said, bracketed}
+use Rattle.sq_tree.specs.Tree.{if_written, bracketed}
 use Rattle.sq_tree.proofs.TreeDepth.{greatest}
 use Rattle.sq_tree.specs.Cond.{query_specification_tokens}
 use Rattle.sq_tree.proofs.CondDepth.{query_specification_depth}
@@ -21,7 +21,7 @@ pub query_tokens-out : (q : Query) → query_tokens q ≡ query_term_tokens (out
 unfolding query_tokens query_term_tokens union_term_tokens
 query_tokens-out q = fold_out-Query _ _ _ _ _ _ q ∙ ap (λ ts. query_term_tokens (out-Query q).first ++ ts) (flat_map-map (λ ts. ts) union_term_tokens (out-Query q).rest)
 
-pub union_term_tokens-out : (u : UnionTerm) → union_term_tokens u ≡ lexeme.Word word.Union ∷ said u.all (lexeme.Word word.All ∷ []) ++ query_term_tokens u.term
+pub union_term_tokens-out : (u : UnionTerm) → union_term_tokens u ≡ lexeme.Word word.Union ∷ if_written u.all (lexeme.Word word.All ∷ []) ++ query_term_tokens u.term
 unfolding union_term_tokens query_term_tokens
 union_term_tokens-out u = fold_out-UnionTerm _ _ _ _ _ _ u
 

@@ -2,7 +2,7 @@
 use Rattle.std.proofs.Common.{refl, ◌∙◌, subst, arith}
 use Rattle.sq_tree.specs.Query.{query_tokens, query_term_tokens, union_term_tokens}
 use Rattle.sq_tree.proofs.QueryDepth.{query_depth, query_term_depth, union_term_depth}
-use Rattle.sq_tree.proofs.Nests.{Nests, nests-is, nests-plain, nests-append, nests-bracketed, nests-said, nests-none, nests-proved}
+use Rattle.sq_tree.proofs.Nests.{Nests, nests-is, nests-plain, nests-append, nests-bracketed, nests-if_written, nests-none, nests-proved}
 use Rattle.sq_tree.proofs.CondNests.{query_specification_nests}
 use Rattle.sq_tree.specs.declared.query.Query.{Query, Query-F, roll-Query, fold-roll-Query, map-Query, ind-Query}
 use Rattle.sq_tree.specs.declared.query.UnionTerm.{UnionTerm, UnionTerm-F, roll-UnionTerm, fold-roll-UnionTerm, map-UnionTerm}
@@ -39,7 +39,7 @@ query_step y = nests-is (nests-append y.first.1 (nests-proved union_term_tokens 
 
 union_step : (y : UnionTerm-F T Q U) → UnionNests (roll-UnionTerm (map-UnionTerm T Q U QueryTerm Query UnionTerm (λ e. e.0) (λ e. e.0) (λ e. e.0) y))
 unfolding union_term_tokens union_term_depth query_term_tokens query_term_depth
-union_step y = nests-is (nests-plain _ (λ n. refl) (nests-append (nests-said y.all (nests-plain _ (λ n. refl) nests-none)) y.term.1)) (fold-roll-UnionTerm _ _ _ _ _ _ _) (fold-roll-UnionTerm _ _ _ _ _ _ _ ∙ omega arith)
+union_step y = nests-is (nests-plain _ (λ n. refl) (nests-append (nests-if_written y.all (nests-plain _ (λ n. refl) nests-none)) y.term.1)) (fold-roll-UnionTerm _ _ _ _ _ _ _) (fold-roll-UnionTerm _ _ _ _ _ _ _ ∙ omega arith)
 
 pub query_nests : (q : Query) → QueryNests q
 query_nests q = ind-Query TermNests QueryNests UnionNests

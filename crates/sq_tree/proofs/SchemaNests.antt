@@ -4,7 +4,7 @@ use Rattle.sq_tree.specs.Schema.{references_tokens, foreign_key_tokens, default_
 use Rattle.sq_tree.proofs.CondDepth.{cond_depth}
 use Rattle.sq_tree.proofs.DataTypeDepth.{bracket_depth}
 use Rattle.sq_tree.proofs.SchemaDepth.{references_depth, foreign_key_depth, column_constraint_depth, column_definition_depth, table_element_depth, table_definition_depth, view_definition_depth, action_depth, privileges_depth, grant_depth, schema_element_depth, schema_definition_depth, schema_text_depth}
-use Rattle.sq_tree.proofs.Nests.{Nests, nests-deepest, nests-as, nests-plain, nests-append, nests-bracketed, nests-said, nests-none, nests-row, nests-optional0, nests-comma, nests-comma0}
+use Rattle.sq_tree.proofs.Nests.{Nests, nests-deepest, nests-as, nests-plain, nests-append, nests-bracketed, nests-if_written, nests-none, nests-row, nests-optional0, nests-comma, nests-comma0}
 use Rattle.sq_tree.proofs.ExprNests.{signed_number_nests, table_name_nests}
 use Rattle.sq_tree.proofs.CondNests.{cond_nests, query_specification_nests}
 use Rattle.sq_tree.proofs.StatementNests.{columns_nests, some_columns_nests, data_type_nests}
@@ -78,7 +78,7 @@ table_nests : (t : TableDefinition) → Nests (table_definition_tokens t) (table
 table_nests t = nests-as (nests-plain _ (λ n. refl) (nests-plain _ (λ n. refl) (nests-append (table_name_nests t.name) (nests-bracketed (nests-comma table_element_tokens table_element_depth table_element_nests t.elements))))) (omega arith)
 
 view_nests : (v : ViewDefinition) → Nests (view_definition_tokens v) (view_definition_depth v)
-view_nests v = nests-as (nests-plain _ (λ n. refl) (nests-plain _ (λ n. refl) (nests-append (nests-append (nests-append (table_name_nests v.name) (some_columns_nests v.columns)) (nests-plain _ (λ n. refl) (query_specification_nests v.query))) (nests-said {ts = lexeme.Word word.With ∷ lexeme.Word word.Check ∷ lexeme.Word word.Option ∷ []} v.check_option (nests-plain _ (λ n. refl) (nests-plain _ (λ n. refl) (nests-plain _ (λ n. refl) nests-none))))))) (omega arith)
+view_nests v = nests-as (nests-plain _ (λ n. refl) (nests-plain _ (λ n. refl) (nests-append (nests-append (nests-append (table_name_nests v.name) (some_columns_nests v.columns)) (nests-plain _ (λ n. refl) (query_specification_nests v.query))) (nests-if_written {ts = lexeme.Word word.With ∷ lexeme.Word word.Check ∷ lexeme.Word word.Option ∷ []} v.check_option (nests-plain _ (λ n. refl) (nests-plain _ (λ n. refl) (nests-plain _ (λ n. refl) nests-none))))))) (omega arith)
 
 action_nests : (a : Action) → Nests (action_tokens a) (action_depth a)
 action_nests action.Select = (nests-plain _ (λ n. refl) nests-none)
@@ -96,7 +96,7 @@ grantee_nests grantee.Public = (nests-plain _ (λ n. refl) nests-none)
 grantee_nests (grantee.User name) = (nests-plain _ (λ n. refl) nests-none)
 
 grant_nests : (g : GrantStatement) → Nests (grant_tokens g) (grant_depth g)
-grant_nests g = nests-as (nests-plain _ (λ n. refl) (nests-append (nests-append (nests-append (nests-append (privileges_nests g.privileges) (nests-plain _ (λ n. refl) (nests-said {ts = lexeme.Word word.Table ∷ []} g.table_word (nests-plain _ (λ n. refl) nests-none)))) (table_name_nests g.table)) (nests-plain _ (λ n. refl) (nests-comma0 grantee_tokens grantee_nests g.grantees))) (nests-said {ts = lexeme.Word word.With ∷ lexeme.Word word.Grant ∷ lexeme.Word word.Option ∷ []} g.grant_option (nests-plain _ (λ n. refl) (nests-plain _ (λ n. refl) (nests-plain _ (λ n. refl) nests-none)))))) (omega arith)
+grant_nests g = nests-as (nests-plain _ (λ n. refl) (nests-append (nests-append (nests-append (nests-append (privileges_nests g.privileges) (nests-plain _ (λ n. refl) (nests-if_written {ts = lexeme.Word word.Table ∷ []} g.table_word (nests-plain _ (λ n. refl) nests-none)))) (table_name_nests g.table)) (nests-plain _ (λ n. refl) (nests-comma0 grantee_tokens grantee_nests g.grantees))) (nests-if_written {ts = lexeme.Word word.With ∷ lexeme.Word word.Grant ∷ lexeme.Word word.Option ∷ []} g.grant_option (nests-plain _ (λ n. refl) (nests-plain _ (λ n. refl) (nests-plain _ (λ n. refl) nests-none)))))) (omega arith)
 
 schema_element_nests : (e : SchemaElement) → Nests (schema_element_tokens e) (schema_element_depth e)
 schema_element_nests (Table table) = table_nests table
@@ -104,7 +104,7 @@ schema_element_nests (View view) = view_nests view
 schema_element_nests (Grant grant) = grant_nests grant
 
 schema_nests : (s : SchemaDefinition) → Nests (schema_definition_tokens s) (schema_definition_depth s)
-schema_nests s = nests-as (nests-plain _ (λ n. refl) (nests-plain _ (λ n. refl) (nests-plain _ (λ n. refl) (nests-plain _ (λ n. refl) (nests-append (nests-row schema_element_tokens schema_element_depth schema_element_nests s.elements) (nests-said {ts = lexeme.Symbol symbol.Semicolon ∷ []} s.semicolon (nests-plain _ (λ n. refl) nests-none))))))) (omega arith)
+schema_nests s = nests-as (nests-plain _ (λ n. refl) (nests-plain _ (λ n. refl) (nests-plain _ (λ n. refl) (nests-plain _ (λ n. refl) (nests-append (nests-row schema_element_tokens schema_element_depth schema_element_nests s.elements) (nests-if_written {ts = lexeme.Symbol symbol.Semicolon ∷ []} s.semicolon (nests-plain _ (λ n. refl) nests-none))))))) (omega arith)
 
 -- the depth of a schema text, by that of its parts
 pub schema_depth-parts : (s : SchemaText) → schema_depth s ≡ schema_text_depth s

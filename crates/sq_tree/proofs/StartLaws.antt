@@ -5,7 +5,7 @@ use Rattle.std.proofs.lemmas.List.{take-append-drop}
 use Rattle.std.proofs.lemmas.Grind.{flat_map-append}
 use Rattle.sq_lex.specs.declared.lexeme.Lexeme.TheVariants as lexeme
 use Rattle.sq_lex.specs.declared.symbol.Symbol.TheVariants as symbol
-use Rattle.sq_tree.specs.Tree.{Tokens, said}
+use Rattle.sq_tree.specs.Tree.{Tokens, if_written}
 use Rattle.sq_tree.specs.Schema.{schema_element_tokens, schema_definition_tokens, schema_tokens}
 use Rattle.sq_tree.specs.Module.{module_item_tokens, module_tokens}
 use Rattle.sq_tree.specs.Script.{ended_item_tokens, script_tokens}
@@ -21,9 +21,9 @@ split_at tokens n parts = ap (flat_map tokens) (sym (take-append-drop n parts)) 
 pub schema_begins : (s : SchemaText) (n : ℕ) → schema_tokens s ≡ tokens_of_first schema_definition_tokens n (schemas s) ++ flat_map schema_definition_tokens (drop n (schemas s))
 schema_begins s n = split_at schema_definition_tokens n (schemas s)
 
-pub element_begins : (s : SchemaDefinition) (n : ℕ) → schema_definition_tokens s ≡ (schema_head s ++ tokens_of_first schema_element_tokens n s.elements) ++ (flat_map schema_element_tokens (drop n s.elements) ++ said s.semicolon (lexeme.Symbol symbol.Semicolon ∷ []))
+pub element_begins : (s : SchemaDefinition) (n : ℕ) → schema_definition_tokens s ≡ (schema_head s ++ tokens_of_first schema_element_tokens n s.elements) ++ (flat_map schema_element_tokens (drop n s.elements) ++ if_written s.semicolon (lexeme.Symbol symbol.Semicolon ∷ []))
 element_begins s n =
-    let end : Tokens = said s.semicolon (lexeme.Symbol symbol.Semicolon ∷ []) in
+    let end : Tokens = if_written s.semicolon (lexeme.Symbol symbol.Semicolon ∷ []) in
     ap (λ ts. schema_head s ++ (ts ++ end)) (split_at schema_element_tokens n s.elements)
     ∙ ap (λ ts. schema_head s ++ ts) (append_assoc (tokens_of_first schema_element_tokens n s.elements) (flat_map schema_element_tokens (drop n s.elements)) end)
     ∙ sym (append_assoc (schema_head s) (tokens_of_first schema_element_tokens n s.elements) (flat_map schema_element_tokens (drop n s.elements) ++ end))

@@ -10,7 +10,7 @@ use Rattle.sq_tree.specs.DataType.{exact_word_tokens, character_word_tokens, var
 use Rattle.sq_tree.specs.Statement.{position_tokens, orientation_tokens, fetch_from_tokens, fetch_tokens, select_tokens, new_value_tokens, insert_source_tokens, insert_tokens, target_tokens, assignment_tokens, update_tokens, delete_tokens, statement_tokens}
 use Rattle.sq_tree.proofs.DataTypeDepth.{bracket_depth, data_type_depth}
 use Rattle.sq_tree.proofs.StatementDepth.{select_depth, new_value_depth, insert_source_depth, insert_depth, target_depth, assignment_depth, update_depth, delete_depth, statement_depth}
-use Rattle.sq_tree.proofs.Nests.{Nests, nests-as, nests-plain, nests-append, nests-bracketed, nests-said, nests-none, nests-optional, nests-optional0, nests-comma, nests-comma0}
+use Rattle.sq_tree.proofs.Nests.{Nests, nests-as, nests-plain, nests-append, nests-bracketed, nests-if_written, nests-none, nests-optional, nests-optional0, nests-comma, nests-comma0}
 use Rattle.sq_tree.proofs.ExprNests.{expr_nests, quantifier_nests, signed_number_nests, table_name_nests, parameter_nests}
 use Rattle.sq_tree.proofs.CondNests.{cond_nests, select_list_nests, table_expression_nests, query_specification_nests}
 use Rattle.sq_tree.specs.declared.list.CommaList.{CommaList}
@@ -136,5 +136,5 @@ statement_nests (statement.Select select) = select_nests select
 statement_nests (statement.Insert insert) = insert_nests insert
 statement_nests (statement.Update update) = update_nests update
 statement_nests (statement.Delete delete) = delete_nests delete
-statement_nests (statement.Commit work) = (nests-plain _ (λ n. refl) (nests-said {ts = lexeme.Word word.Work ∷ []} work (nests-plain _ (λ n. refl) nests-none)))
-statement_nests (statement.Rollback work) = (nests-plain _ (λ n. refl) (nests-said {ts = lexeme.Word word.Work ∷ []} work (nests-plain _ (λ n. refl) nests-none)))
+statement_nests (statement.Commit work) = (nests-plain _ (λ n. refl) (nests-if_written {ts = lexeme.Word word.Work ∷ []} work (nests-plain _ (λ n. refl) nests-none)))
+statement_nests (statement.Rollback work) = (nests-plain _ (λ n. refl) (nests-if_written {ts = lexeme.Word word.Work ∷ []} work (nests-plain _ (λ n. refl) nests-none)))

@@ -5,7 +5,7 @@ use Rattle.sq_lex.specs.declared.lexeme.Lexeme.{Lexeme}
 use Rattle.sq_lex.specs.declared.lexeme.Lexeme.TheVariants as lexeme
 use Rattle.sq_lex.specs.declared.symbol.Symbol.TheVariants as symbol
 use Rattle.sq_lex.specs.declared.word.Word.TheVariants as word
-use Rattle.sq_tree.specs.Tree.{Tokens, said, optional, bracketed}
+use Rattle.sq_tree.specs.Tree.{Tokens, if_written, optional, bracketed}
 use Rattle.sq_tree.specs.List.{comma_tokens}
 use Rattle.sq_tree.specs.Names.{name_tokens, table_name_tokens, column_reference_tokens}
 use Rattle.sq_tree.specs.Expr.{expr_tokens, quantifier_tokens}
@@ -49,7 +49,7 @@ compared_tokens q = compared_token q ∷ []
 
 -- [ NOT ]
 abbrev pub not_tokens : Bool → Tokens
-not_tokens negated = said negated (lexeme.Word word.Not ∷ [])
+not_tokens negated = if_written negated (lexeme.Word word.Not ∷ [])
 
 -- ESCAPE expr
 abbrev pub escape_tokens : Expr → Tokens
@@ -57,7 +57,7 @@ escape_tokens e = lexeme.Word word.Escape ∷ expr_tokens e
 
 -- [ AS ] name
 abbrev pub correlation_tokens : Correlation → Tokens
-correlation_tokens c = said c.as_word (lexeme.Word word.As ∷ []) ++ name_tokens c.name
+correlation_tokens c = if_written c.as_word (lexeme.Word word.As ∷ []) ++ name_tokens c.name
 
 -- table-ref = table-name [ [ AS ] name ]
 abbrev pub table_reference_tokens : TableReference → Tokens

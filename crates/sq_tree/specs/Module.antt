@@ -4,7 +4,7 @@ use Rattle.sq_lex.specs.declared.lexeme.Lexeme.{Lexeme}
 use Rattle.sq_lex.specs.declared.lexeme.Lexeme.TheVariants as lexeme
 use Rattle.sq_lex.specs.declared.symbol.Symbol.TheVariants as symbol
 use Rattle.sq_lex.specs.declared.word.Word.TheVariants as word
-use Rattle.sq_tree.specs.Tree.{Tokens, said, optional, bracketed}
+use Rattle.sq_tree.specs.Tree.{Tokens, if_written, optional, bracketed}
 use Rattle.sq_tree.specs.Brackets.{deepest}
 use Rattle.sq_tree.specs.List.{comma_tokens, row_tokens}
 use Rattle.sq_tree.specs.DataType.{data_type_tokens}
@@ -47,7 +47,7 @@ order_by_tokens sorts = lexeme.Word word.Order ∷ lexeme.Word word.By ∷ comma
 
 -- cursor = DECLARE name [ INSENSITIVE ] [ SCROLL ] CURSOR FOR query [ ORDER BY .. ], and [ ";" ]
 abbrev pub cursor_tokens : Cursor → Tokens
-cursor_tokens c = lexeme.Word word.Declare ∷ lexeme.Name c.name ∷ said c.insensitive (lexeme.Word word.Insensitive ∷ []) ++ said c.scroll (lexeme.Word word.Scroll ∷ []) ++ lexeme.Word word.Cursor ∷ lexeme.Word word.For ∷ query_tokens c.query ++ optional order_by_tokens c.order_by ++ said c.semicolon (lexeme.Symbol symbol.Semicolon ∷ [])
+cursor_tokens c = lexeme.Word word.Declare ∷ lexeme.Name c.name ∷ if_written c.insensitive (lexeme.Word word.Insensitive ∷ []) ++ if_written c.scroll (lexeme.Word word.Scroll ∷ []) ++ lexeme.Word word.Cursor ∷ lexeme.Word word.For ∷ query_tokens c.query ++ optional order_by_tokens c.order_by ++ if_written c.semicolon (lexeme.Symbol symbol.Semicolon ∷ [])
 
 -- declaration = ":" name type | SQLCODE | SQLSTATE
 abbrev pub declaration_tokens : Declaration → Tokens
@@ -57,7 +57,7 @@ declaration_tokens Sqlstate = lexeme.Word word.Sqlstate ∷ []
 
 -- [ "," ] declaration
 abbrev pub bare_declaration_tokens : BareDeclaration → Tokens
-bare_declaration_tokens b = said b.comma (lexeme.Symbol symbol.Comma ∷ []) ++ declaration_tokens b.declaration
+bare_declaration_tokens b = if_written b.comma (lexeme.Symbol symbol.Comma ∷ []) ++ declaration_tokens b.declaration
 
 -- declarations = "(" declaration { "," declaration } ")" | declaration { [ "," ] declaration }
 abbrev pub declarations_tokens : Declarations → Tokens

@@ -4,7 +4,7 @@ use Rattle.sq_lex.specs.declared.lexeme.Lexeme.TheVariants as lexeme
 use Rattle.sq_lex.specs.declared.symbol.Symbol.TheVariants as symbol
 use Rattle.sq_lex.specs.declared.word.Word.TheVariants as word
 use Rattle.sq_lex.specs.declared.name.Name.{Name}
-use Rattle.sq_tree.specs.Tree.{Tokens, said, optional, bracketed}
+use Rattle.sq_tree.specs.Tree.{Tokens, if_written, optional, bracketed}
 use Rattle.sq_tree.specs.List.{comma_tokens}
 use Rattle.sq_tree.specs.declared.list.CommaList.{CommaList}
 use Rattle.sq_tree.specs.declared.names.TableName.{TableName}
@@ -34,7 +34,7 @@ column_reference_tokens c = optional qualifier_dot c.qualifier ++ name_tokens c.
 
 -- [ INDICATOR ] ":" name
 abbrev pub indicator_tokens : Indicator → Tokens
-indicator_tokens i = said i.word (lexeme.Word word.Indicator ∷ []) ++ lexeme.Symbol symbol.Colon ∷ lexeme.Name i.name ∷ []
+indicator_tokens i = if_written i.word (lexeme.Word word.Indicator ∷ []) ++ lexeme.Symbol symbol.Colon ∷ lexeme.Name i.name ∷ []
 
 -- parameter = ":" name [ [ INDICATOR ] ":" name ]
 abbrev pub parameter_tokens : Parameter → Tokens

@@ -3,7 +3,7 @@ use Rattle.std.specs.Prelude.{[], ◌∷◌, ◌++◌}
 use Rattle.std.specs.List.{flat_map}
 use Rattle.sq_lex.specs.declared.lexeme.Lexeme.TheVariants as lexeme
 use Rattle.sq_lex.specs.declared.word.Word.TheVariants as word
-use Rattle.sq_tree.specs.Tree.{Tokens, said, bracketed}
+use Rattle.sq_tree.specs.Tree.{Tokens, if_written, bracketed}
 use Rattle.sq_tree.specs.Cond.{query_specification_tokens}
 use Rattle.sq_tree.specs.declared.query.QueryTerm.{QueryTerm, fold-QueryTerm, QueryTerm-F}
 use Rattle.sq_tree.specs.declared.query.QueryTerm.TheOpen as layer
@@ -19,7 +19,7 @@ query_term_layer (layer.Bracketed query) = bracketed query
 
 -- UNION [ ALL ] query-term
 abbrev pub union_term_layer : UnionTerm-F Tokens Tokens Tokens → Tokens
-union_term_layer u = lexeme.Word word.Union ∷ said u.all (lexeme.Word word.All ∷ []) ++ u.term
+union_term_layer u = lexeme.Word word.Union ∷ if_written u.all (lexeme.Word word.All ∷ []) ++ u.term
 
 -- query = query-term { UNION [ ALL ] query-term }
 abbrev pub query_layer : Query-F Tokens Tokens Tokens → Tokens

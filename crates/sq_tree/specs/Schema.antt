@@ -3,7 +3,7 @@ use Rattle.std.specs.Prelude.{ℕ, [], ◌∷◌, ◌++◌}
 use Rattle.sq_lex.specs.declared.lexeme.Lexeme.TheVariants as lexeme
 use Rattle.sq_lex.specs.declared.symbol.Symbol.TheVariants as symbol
 use Rattle.sq_lex.specs.declared.word.Word.TheVariants as word
-use Rattle.sq_tree.specs.Tree.{Tokens, said, optional, bracketed}
+use Rattle.sq_tree.specs.Tree.{Tokens, if_written, optional, bracketed}
 use Rattle.sq_tree.specs.Brackets.{deepest}
 use Rattle.sq_tree.specs.List.{comma_tokens, row_tokens}
 use Rattle.sq_tree.specs.Names.{table_name_tokens, columns_tokens}
@@ -83,7 +83,7 @@ table_definition_tokens t = lexeme.Word word.Create ∷ lexeme.Word word.Table �
 
 -- view = CREATE VIEW table-name [ columns ] AS specification [ WITH CHECK OPTION ]
 abbrev pub view_definition_tokens : ViewDefinition → Tokens
-view_definition_tokens v = lexeme.Word word.Create ∷ lexeme.Word word.View ∷ table_name_tokens v.name ++ optional columns_tokens v.columns ++ lexeme.Word word.As ∷ query_specification_tokens v.query ++ said v.check_option (lexeme.Word word.With ∷ lexeme.Word word.Check ∷ lexeme.Word word.Option ∷ [])
+view_definition_tokens v = lexeme.Word word.Create ∷ lexeme.Word word.View ∷ table_name_tokens v.name ++ optional columns_tokens v.columns ++ lexeme.Word word.As ∷ query_specification_tokens v.query ++ if_written v.check_option (lexeme.Word word.With ∷ lexeme.Word word.Check ∷ lexeme.Word word.Option ∷ [])
 
 -- action = SELECT | INSERT | DELETE | UPDATE [ columns ] | REFERENCES [ columns ]
 abbrev pub action_tokens : Action → Tokens
@@ -105,7 +105,7 @@ grantee_tokens (grantee.User name) = lexeme.Name name ∷ []
 
 -- grant = GRANT privileges ON [ TABLE ] table-name TO grantee { "," grantee } [ WITH GRANT OPTION ]
 abbrev pub grant_tokens : GrantStatement → Tokens
-grant_tokens g = lexeme.Word word.Grant ∷ privileges_tokens g.privileges ++ lexeme.Word word.On ∷ said g.table_word (lexeme.Word word.Table ∷ []) ++ table_name_tokens g.table ++ lexeme.Word word.To ∷ comma_tokens grantee_tokens g.grantees ++ said g.grant_option (lexeme.Word word.With ∷ lexeme.Word word.Grant ∷ lexeme.Word word.Option ∷ [])
+grant_tokens g = lexeme.Word word.Grant ∷ privileges_tokens g.privileges ++ lexeme.Word word.On ∷ if_written g.table_word (lexeme.Word word.Table ∷ []) ++ table_name_tokens g.table ++ lexeme.Word word.To ∷ comma_tokens grantee_tokens g.grantees ++ if_written g.grant_option (lexeme.Word word.With ∷ lexeme.Word word.Grant ∷ lexeme.Word word.Option ∷ [])
 
 -- table | view | grant
 abbrev pub schema_element_tokens : SchemaElement → Tokens
@@ -115,7 +115,7 @@ schema_element_tokens (Grant grant) = grant_tokens grant
 
 -- schema = CREATE SCHEMA AUTHORIZATION name { table | view | grant }, and [ ";" ]
 abbrev pub schema_definition_tokens : SchemaDefinition → Tokens
-schema_definition_tokens s = lexeme.Word word.Create ∷ lexeme.Word word.Schema ∷ lexeme.Word word.Authorization ∷ lexeme.Name s.authorization ∷ row_tokens schema_element_tokens s.elements ++ said s.semicolon (lexeme.Symbol symbol.Semicolon ∷ [])
+schema_definition_tokens s = lexeme.Word word.Create ∷ lexeme.Word word.Schema ∷ lexeme.Word word.Authorization ∷ lexeme.Name s.authorization ∷ row_tokens schema_element_tokens s.elements ++ if_written s.semicolon (lexeme.Symbol symbol.Semicolon ∷ [])
 
 -- schema-text = schema [ ";" ] { schema [ ";" ] }
 abbrev pub schema_tokens : SchemaText → Tokens

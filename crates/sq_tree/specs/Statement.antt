@@ -3,7 +3,7 @@ use Rattle.std.specs.Prelude.{Bool, [], ◌∷◌, ◌++◌}
 use Rattle.sq_lex.specs.declared.lexeme.Lexeme.TheVariants as lexeme
 use Rattle.sq_lex.specs.declared.symbol.Symbol.TheVariants as symbol
 use Rattle.sq_lex.specs.declared.word.Word.TheVariants as word
-use Rattle.sq_tree.specs.Tree.{Tokens, said, optional, bracketed}
+use Rattle.sq_tree.specs.Tree.{Tokens, if_written, optional, bracketed}
 use Rattle.sq_tree.specs.List.{comma_tokens}
 use Rattle.sq_tree.specs.Names.{table_name_tokens, parameter_tokens, columns_tokens}
 use Rattle.sq_tree.specs.Expr.{expr_tokens, quantifier_tokens, signed_number_tokens}
@@ -87,7 +87,7 @@ delete_tokens d = lexeme.Word word.Delete ∷ lexeme.Word word.From ∷ table_na
 
 -- [ WORK ]
 abbrev pub work_tokens : Bool → Tokens
-work_tokens written = said written (lexeme.Word word.Work ∷ [])
+work_tokens written = if_written written (lexeme.Word word.Work ∷ [])
 
 abbrev pub statement_tokens : Statement → Tokens
 statement_tokens (statement.Open cursor) = lexeme.Word word.Open ∷ lexeme.Name cursor ∷ []

@@ -8,9 +8,9 @@ abbrev pub Tokens : Type 0
 Tokens = List Lexeme
 
 -- [ x ], where a Bool says whether x is written
-abbrev pub said : Bool → Tokens → Tokens
-said true ts = ts
-said false ts = []
+abbrev pub if_written : Bool → Tokens → Tokens
+if_written true ts = ts
+if_written false ts = []
 
 -- [ x ], where an Option holds the x that is written
 abbrev pub optional : {A : Type 0} → (A → Tokens) → Option A → Tokens

@@ -79,9 +79,9 @@ pub struct Test {
 pub enum Body {
     /// A predicate that begins with an expression, and what follows that expression.
     Predicate(Expr, Tail),
-    /// `EXISTS "(" spec ")"`.
+    /// `EXISTS "(" specification ")"`.
     Exists(Boxed<QuerySpecification>),
-    /// `"(" cond ")"`.
+    /// `"(" condition ")"`.
     Bracketed(Boxed<Cond>),
 }
 
@@ -91,16 +91,16 @@ pub enum Body {
 pub enum Tail {
     /// `op expr`.
     Compare(Comparison, Expr),
-    /// `op [ ALL | ANY | SOME ] "(" spec ")"`.
+    /// `op [ ALL | ANY | SOME ] "(" specification ")"`.
     CompareQuery(Comparison, Option<Quantifier>, Boxed<QuerySpecification>),
     /// `[ NOT ] BETWEEN expr AND expr`.
-    Between(bool, Expr, Expr),
-    /// `[ NOT ] IN "(" spec ")"`.
+    Between(bool, Expr, Boxed<Expr>),
+    /// `[ NOT ] IN "(" specification ")"`.
     InQuery(bool, Boxed<QuerySpecification>),
     /// `[ NOT ] IN "(" expr { "," expr } ")"`.
     InList(bool, CommaList<Expr>),
     /// `[ NOT ] LIKE expr [ ESCAPE expr ]`.
-    Like(bool, Expr, Option<Expr>),
+    Like(bool, Expr, Option<Boxed<Expr>>),
     /// `IS [ NOT ] NULL`.
     Null(bool),
 }

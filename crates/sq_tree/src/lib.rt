@@ -1,6 +1,6 @@
 //! The trees of schema texts, module texts and script texts, as plain data.
 //!
-//! A tree keeps each word and bracket that a text may have or lack, so it has one list of tokens; it keeps no places.
+//! A tree keeps each word and bracket that a text may have or lack, so it has one list of tokens; it keeps no positions.
 //! Lists joined by AND, by OR, by signs and by commas are flat; only round brackets nest.
 #![tactic(auto)]
 

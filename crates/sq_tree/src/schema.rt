@@ -48,7 +48,7 @@ pub enum TableElement {
     /// `PRIMARY KEY "(" columns ")"`.
     PrimaryKey(CommaList<Name>),
     ForeignKey(ForeignKey),
-    /// `CHECK "(" cond ")"`.
+    /// `CHECK "(" condition ")"`.
     Check(Cond),
 }
 
@@ -92,7 +92,7 @@ pub enum ColumnConstraint {
     Unique,
     PrimaryKey,
     References(References),
-    /// `CHECK "(" cond ")"`.
+    /// `CHECK "(" condition ")"`.
     Check(Cond),
 }
 

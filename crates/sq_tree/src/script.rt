@@ -15,9 +15,16 @@ pub struct ScriptText {
 #[derive(Drop)]
 pub enum ScriptItem {
     /// `CALL module "." procedure arguments`.
-    Call(Name, Name, Arguments),
+    Call {
+        module: Name,
+        procedure: Name,
+        arguments: Arguments,
+    },
     /// `TABLE schema "." table`.
-    Table(Name, Name),
+    Table {
+        schema: Name,
+        table: Name,
+    },
 }
 
 /// The arguments of a call.

@@ -1,10 +1,12 @@
--- What texts come to, from their bytes alone: the report of a run, or the first refusal with its place and cause. All
+-- What texts come to, from their bytes alone: the report of a run, or the first refusal with its position and cause. All
 -- schema texts are read and judged, then all modules, then the script; then the script runs.
 use Rattle.std.specs.Prelude.{ℕ, zero, suc, ◌+◌, ◌-◌, List, [], ◌∷◌, map, length, drop, slice_get, nat_lt, if◌then◌else◌, Option, option_map, Some, None, unwrap_or, Result, Ok, Err}
+use Rattle.sq_lex.specs.Position.{position}
 use Rattle.sq_lex.specs.Reading.{reading}
 use Rattle.sq_lex.specs.Token.{lexemes}
 use Rattle.sq_lex.specs.declared.fault.LexFault.{LexFault}
 use Rattle.sq_lex.specs.declared.fault.LexFaultKind.{LexFaultKind}
+use Rattle.sq_lex.specs.declared.position.Position.{Position}
 use Rattle.sq_lex.specs.declared.token.Token.{Token}
 use Rattle.sq_tree.specs.declared.«module».ModuleText.{ModuleText}
 use Rattle.sq_tree.specs.declared.schema.SchemaText.{SchemaText}
@@ -56,35 +58,39 @@ pub data Answer : Type 0 where
 -- ---- a text
 
 pub record ReadText (T : Type 0) : Type 0 where
+  pub text : Bytes
   pub tokens : List Token
   pub tree : T
 
 -- at a token, or at the first byte of a text without tokens
-abbrev pub fault_at_token : Option Token → Cause → Fault
-fault_at_token None cause = record { line = 1; column = 1; cause = cause }
-fault_at_token (Some t) cause = record { line = t.line; column = t.column; cause = cause }
+abbrev pub start_of : Option Token → ℕ
+start_of None = 0
+start_of (Some t) = t.start
 
-abbrev pub fault_at : List Token → ℕ → Cause → Fault
-fault_at tokens place cause = fault_at_token (slice_get tokens place) cause
+abbrev pub fault_at_position : Position → Cause → Fault
+fault_at_position p cause = record { line = p.line; column = p.column; cause = cause }
 
--- where reading is stuck: a bracket too many goes before any other fault of its token; past the end it is the last token
-abbrev pub grammar_fault : List Token → ℕ → Fault
-grammar_fault tokens place =
-    if nat_lt place (length tokens)
-    then fault_at tokens place (if is_too_deep (lexemes tokens) place then Cause.too_deep else Cause.unexpected)
-    else fault_at tokens (length tokens - 1) Cause.end_of_text
+abbrev pub fault_at : Bytes → List Token → ℕ → Cause → Fault
+fault_at text tokens index cause = fault_at_position (position text (start_of (slice_get tokens index))) cause
 
-abbrev pub of_outcome : {T : Type 0} → List Token → Outcome T → Result (ReadText T) Fault
-of_outcome tokens (Ok read) = Ok (record { tokens = tokens; tree = read.0 })
-of_outcome tokens (Err left) = Err (grammar_fault tokens (length tokens - left))
+-- where reading is stuck: a bracket too many takes precedence over any other fault of its token; past the end it is the last token
+abbrev pub grammar_fault : Bytes → List Token → ℕ → Fault
+grammar_fault text tokens index =
+    if nat_lt index (length tokens)
+    then fault_at text tokens index (if is_too_deep (lexemes tokens) index then Cause.too_deep else Cause.unexpected)
+    else fault_at text tokens (length tokens - 1) Cause.end_of_text
 
-abbrev pub of_tokens : {T : Type 0} → Parser T → Result (List Token) LexFault → Result (ReadText T) Fault
-of_tokens rule (Err fault) = Err (record { line = fault.line; column = fault.column; cause = Cause.lexical fault.kind })
-of_tokens rule (Ok tokens) = of_outcome tokens (whole rule (lexemes tokens))
+abbrev pub of_outcome : {T : Type 0} → Bytes → List Token → Outcome T → Result (ReadText T) Fault
+of_outcome text tokens (Ok read) = Ok (record { text = text; tokens = tokens; tree = read.0 })
+of_outcome text tokens (Err left) = Err (grammar_fault text tokens (length tokens - left))
+
+abbrev pub of_tokens : {T : Type 0} → Parser T → Bytes → Result (List Token) LexFault → Result (ReadText T) Fault
+of_tokens rule text (Err fault) = Err (record { line = fault.line; column = fault.column; cause = Cause.lexical fault.kind })
+of_tokens rule text (Ok tokens) = of_outcome text tokens (whole rule (lexemes tokens))
 
 -- a text read by a rule of the grammar
 abbrev pub read_text : {T : Type 0} → Parser T → Bytes → Result (ReadText T) Fault
-read_text rule text = of_tokens rule (reading text)
+read_text rule text = of_tokens rule text (reading text)
 
 -- some texts, up to the first that has a fault
 abbrev pub with_first : {T : Type 0} → ℕ → Result (ReadText T) Fault → Result (List (ReadText T)) Refusal → Result (List (ReadText T)) Refusal
@@ -124,8 +130,11 @@ behind_module_part None tokens = tokens
 behind_module_part (Some n) tokens = behind_items (module_item MAX_DEPTH) n (drop 6 tokens)
 
 -- a fault at the first token of what is left
-abbrev pub fault_before : List Token → Tokens → Cause → Fault
-fault_before tokens left cause = fault_at tokens (length tokens - length left) cause
+abbrev pub fault_before : Bytes → List Token → Tokens → Cause → Fault
+fault_before text tokens left cause = fault_at text tokens (length tokens - length left) cause
+
+abbrev pub text_of : {T : Type 0} → List (ReadText T) → ℕ → Bytes
+text_of texts number = unwrap_or (option_map (λ t. t.text) (slice_get texts number)) []
 
 abbrev pub tokens_of : {T : Type 0} → List (ReadText T) → ℕ → List Token
 tokens_of texts number = unwrap_or (option_map (λ t. t.tokens) (slice_get texts number)) []
@@ -134,7 +143,7 @@ tokens_of texts number = unwrap_or (option_map (λ t. t.tokens) (slice_get texts
 
 abbrev pub of_script_refusal : Option ScriptRefusal → List SchemaText → List ModuleText → ReadText ScriptText → ℕ → Answer
 of_script_refusal (Some r) schemas modules script row_numbers =
-    Answer.script_refused (fault_before script.tokens (behind_items script_item r.item (lexemes script.tokens)) (Cause.of_script r.fault))
+    Answer.script_refused (fault_before script.text script.tokens (behind_items script_item r.item (lexemes script.tokens)) (Cause.of_script r.fault))
 of_script_refusal None schemas modules script row_numbers =
     let p = program_of schemas modules row_numbers in Answer.reported (report p (first_state p) (map item_of_script script.tree.items))
 
@@ -146,7 +155,7 @@ with_script schemas modules (Ok script) row_numbers =
 abbrev pub module_refusal : List (ReadText ModuleText) → ModuleRefusal → Refusal
 module_refusal texts r = record {
   text = r.text;
-  fault = fault_before (tokens_of texts r.text) (behind_module_part r.item (lexemes (tokens_of texts r.text))) (Cause.of_module r.fault);
+  fault = fault_before (text_of texts r.text) (tokens_of texts r.text) (behind_module_part r.item (lexemes (tokens_of texts r.text))) (Cause.of_module r.fault);
 }
 
 abbrev pub of_module_refusal : Option ModuleRefusal → List SchemaText → List (ReadText ModuleText) → Bytes → ℕ → Answer
@@ -160,7 +169,7 @@ with_modules schemas (Ok modules) script row_numbers = of_module_refusal (first_
 abbrev pub schema_refusal : List (ReadText SchemaText) → SchemaRefusal → Refusal
 schema_refusal texts r = record {
   text = r.text;
-  fault = fault_before (tokens_of texts r.text) (behind_schemas r.schema r.element (lexemes (tokens_of texts r.text))) (Cause.of_schema r.fault);
+  fault = fault_before (text_of texts r.text) (tokens_of texts r.text) (behind_schemas r.schema r.element (lexemes (tokens_of texts r.text))) (Cause.of_schema r.fault);
 }
 
 abbrev pub of_schema_refusal : Option SchemaRefusal → List (ReadText SchemaText) → List Bytes → Bytes → ℕ → Answer

@@ -6,12 +6,12 @@ use Rattle.sq_lex.proofs.reading.lex.Given as goal
 -- the tokens so far and those of what is left are the reading
 abbrev pub invariant-loop-rest : goal.invariant-loop-rest
 invariant-loop-rest l = record {
-  whole : followed l.tokens.items (tokens_from l.place 0 l.rest) ≡ reading l.text;
-  row : IsRow l.text l.place.byte l.tokens.items;
-  left : drop l.place.byte l.text ≡ l.rest;
-  byte : l.place.byte + length l.rest ≡ length l.text;
-  line : l.place.line ≤ l.place.byte + 1;
-  column : l.place.column ≤ l.place.byte + 1;
+  whole : followed l.tokens.items (tokens_from l.position 0 l.rest) ≡ reading l.text;
+  row : IsRow l.text l.position.byte l.tokens.items;
+  left : drop l.position.byte l.text ≡ l.rest;
+  byte : l.position.byte + length l.rest ≡ length l.text;
+  line : l.position.line ≤ l.position.byte + 1;
+  column : l.position.column ≤ l.position.byte + 1;
 }
 
 abbrev pub decreases-loop-rest : goal.decreases-loop-rest

@@ -5,4 +5,4 @@ use Rattle.sq_phrase.proofs.condition.+inner.Goals as goal
 
 pub returns-clause-value : goal.returns-clause-value
 unfolding inside
-returns-clause-value t c = rw (deeper (λ n. inside n c.args.tokens.now) c.args.left (omega arith)) c.mixed.ensures.value
+returns-clause-value t c = rw (deeper (λ n. inside n c.args.tokens.now) c.args.left (omega arith)) c.cond_or_expr.ensures.value

@@ -7,7 +7,7 @@ use Rattle.sq_phrase.proofs.condition.Grammar.more_conjs.Given as goal
 
 abbrev pub invariant-loop-tokens : goal.invariant-loop-tokens
 invariant-loop-tokens g l = record {
-  read : with_front l.items (all (behind (lexeme.Word word.Or) (spec.strict_conj l.self.left (spec.inside l.self.left))) l.tokens) ≡ all (behind (lexeme.Word word.Or) (spec.strict_conj l.self.left (spec.inside l.self.left))) l.fn.tokens;
+  read : with_front l.items (all (behind (lexeme.Word word.Or) (spec.must_be_conj l.self.left (spec.inside l.self.left))) l.tokens) ≡ all (behind (lexeme.Word word.Or) (spec.must_be_conj l.self.left (spec.inside l.self.left))) l.fn.tokens;
   shorter : length l.tokens ≤ length l.fn.tokens;
 }
 

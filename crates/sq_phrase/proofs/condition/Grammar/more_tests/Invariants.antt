@@ -7,7 +7,7 @@ use Rattle.sq_phrase.proofs.condition.Grammar.more_tests.Given as goal
 
 abbrev pub invariant-loop-tokens : goal.invariant-loop-tokens
 invariant-loop-tokens g l = record {
-  read : with_front l.items (all (behind (lexeme.Word word.And) (spec.strict_test l.self.left (spec.inside l.self.left))) l.tokens) ≡ all (behind (lexeme.Word word.And) (spec.strict_test l.self.left (spec.inside l.self.left))) l.fn.tokens;
+  read : with_front l.items (all (behind (lexeme.Word word.And) (spec.must_be_test l.self.left (spec.inside l.self.left))) l.tokens) ≡ all (behind (lexeme.Word word.And) (spec.must_be_test l.self.left (spec.inside l.self.left))) l.fn.tokens;
   shorter : length l.tokens ≤ length l.fn.tokens;
 }
 

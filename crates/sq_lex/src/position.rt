@@ -1,11 +1,11 @@
-//! Places in a text.
+//! Positions in a text.
 
 ghost use Rattle.std.specs.Prelude.{◌≡◌, ◌+◌, ◌<◌, ◌≤◌, ◌^◌, length};
-ghost use Rattle.sq_lex.specs.Place as spec;
+ghost use Rattle.sq_lex.specs.Position as spec;
 
 /// Where a byte stands in a text.
 #[derive(Clone, Copy, Debug)]
-pub struct Place {
+pub struct Position {
     /// From 0.
     pub byte: usize,
     /// From 1. A line ends with LF.
@@ -14,20 +14,32 @@ pub struct Place {
     pub column: usize,
 }
 
-impl Place {
-    /// The first byte's place.
-    pub fn start() -> Place
+impl Position {
+    /// The position of a byte of a text, and past the text's end that of its end.
+    pub fn of(text: &[u8], byte: usize) -> Position
+        ensures { result ≡ spec.position text.now byte }
+    {
+        let before = if byte < text.len() {
+            &text[..byte]
+        } else {
+            text
+        };
+        Position::start().past(before)
+    }
+
+    /// The first byte's position.
+    pub(crate) fn start() -> Position
         ensures { result ≡ spec.start }
     {
-        Place {
+        Position {
             byte: 0,
             line: 1,
             column: 1,
         }
     }
 
-    /// The place after these bytes.
-    pub fn past(self, bytes: &[u8]) -> Place
+    /// The position after these bytes.
+    pub(crate) fn past(self, bytes: &[u8]) -> Position
         requires byte { self.byte + length bytes.now < 2 ^ 64 }
         requires line { self.line + length bytes.now < 2 ^ 64 }
         requires column { self.column + length bytes.now < 2 ^ 64 }
@@ -36,28 +48,28 @@ impl Place {
         ensures line { result.line ≤ self.line + length bytes.now }
         ensures column { result.column ≤ self.column + length bytes.now }
     {
-        let mut place = self;
+        let mut position = self;
         for byte in bytes {
-            place = place.next(*byte);
+            position = position.next(*byte);
         }
-        place
+        position
     }
 
-    /// The place after one that has this byte.
-    fn next(self, byte: u8) -> Place
+    /// The position after one that has this byte.
+    fn next(self, byte: u8) -> Position
         requires byte { self.byte + 1 < 2 ^ 64 }
         requires line { self.line + 1 < 2 ^ 64 }
         requires column { self.column + 1 < 2 ^ 64 }
         ensures { result ≡ spec.next self byte }
     {
         if byte == b'\n' {
-            Place {
+            Position {
                 byte: self.byte + 1,
                 line: self.line + 1,
                 column: 1,
             }
         } else {
-            Place {
+            Position {
                 byte: self.byte + 1,
                 line: self.line,
                 column: self.column + 1,

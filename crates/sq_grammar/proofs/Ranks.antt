@@ -1,4 +1,4 @@
--- A word or a symbol is the one that has its place in the table.
+-- A word or a symbol is the one that has its rank in the table.
 use Rattle.std.proofs.Common.{◌≡◌, true, ap}
 use Rattle.sq_lex.specs.declared.lexeme.Lexeme.{Lexeme}
 use Rattle.sq_lex.specs.declared.lexeme.Lexeme.TheVariants as lexeme
