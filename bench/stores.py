@@ -39,8 +39,9 @@ def heap(program, rows, changes, keys):
 
 def memory(program, rows, keys):
     """The greatest memory of a run that inserts and commits so many rows, in bytes."""
-    child = subprocess.Popen([program, str(rows), "0", str(keys), "fill"], stdout=subprocess.DEVNULL)
-    return os.wait4(child.pid, 0)[2].ru_maxrss * 1024
+    words = ["/usr/bin/time", "-f", "%M", program, str(rows), "0", str(keys), "fill"]
+    done = subprocess.run(words, stdout=subprocess.DEVNULL, stderr=subprocess.PIPE, check=True, text=True)
+    return int(done.stderr.split()[-1]) * 1024
 
 
 class Lite:
