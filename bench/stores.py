@@ -1,200 +1,142 @@
 #!/usr/bin/env python3
-"""Times the heap store beside SQLite in memory, on a million rows of two INTEGER columns.
+"""Times the heap store beside SQLite in memory, on a table of two INTEGER columns.
 
-bench/stores.py: run anywhere, while nothing else runs. It writes a program into a new folder, with copies of the crates that it
-stands on, and has `rt try` compile and run it: unproved, with a check at each access to memory and not optimized, so it is many
-times slower than a proved build, and its figures only compare with each other. SQLite does the same work inside one statement each, so that no time goes to parsing or to calls from Python.
-Figures are milliseconds, and bytes for each row. docs/BENCHMARKS.md has some.
+    bench/stores.py [--program PROGRAM] [--rows 1000000] [--changes 100000] [--times 3]
+
+The program is crates/sq_store_bench, which is proved and built first unless another is named. Each of its changes is an
+`apply` of its own. SQLite does the same work twice: in one statement, and by a prepared statement for each row, which
+includes what Python's sqlite3 takes for a call. Milliseconds, the least of so many times; and the bytes of memory for each
+row. docs/BENCHMARKS.md has some. Run it while nothing else runs.
 """
-
+import argparse
 import os
-import shutil
 import sqlite3
 import subprocess
-import sys
 import tempfile
 import time
+from pathlib import Path
 
-CRATES = {
-    "sq_items": "",
-    "sq_value": "sq_items smallvec thiserror",
-    "sq_store": "sq_items sq_value thiserror",
-    "sq_heap": "sq_items sq_value sq_store",
-    "timed": "sq_items sq_value sq_store sq_heap",
-}
-
-PROGRAM = """//! Times the heap store.
-#![tactic(auto)]
-
-use sq_heap::HeapStore;
-use sq_store::{Change, Meter, Store};
-use sq_value::{Decimal, Key, Row, Value};
-use std::alloc::{AllocError, AllocGlobal, Global};
-use std::fs::{self, Files};
-use std::io::{self, ErrorKind};
-use std::time::Instant;
-
-const KEYS: usize = @KEYS@;
-const COUNT: i64 = 1_000_000;
-const FEW: i64 = 100_000;
-
-fn number(value: i64) -> Value {
-    Value::Num(Decimal::new(value, 0))
-}
-
-fn row(alloc: Global, first: i64, second: i64) -> Result<Row, AllocError> {
-    let mut row = Row::new(alloc);
-    row.push(number(first))?;
-    row.push(number(second))?;
-    Ok(row)
-}
-
-fn apply(alloc: Global, store: &mut HeapStore, change: Change) -> io::Result<()> {
-    let mut changes = Vec::new(alloc);
-    changes.push(change)?;
-    match store.apply(alloc, 0, changes) {
-        Ok(()) => Ok(()),
-        Err(_) => Err(ErrorKind::Other.into()),
-    }
-}
-
-fn keys(alloc: Global) -> Result<Vec<Vec<Vec<usize>>>, AllocError> {
-    let mut keys = Vec::new(alloc);
-    for column in 0..KEYS {
-        keys.push(Vec::from_slice(alloc, &[column])?)?;
-    }
-    let mut tables = Vec::new(alloc);
-    tables.push(keys)?;
-    Ok(tables)
-}
-
-fn pages<R: Files + AllocGlobal>(rt: &R) -> io::Result<u64> {
-    let text = fs::read_to_string(rt, "/proc/self/statm")?;
-    match text.split(' ').nth(1) {
-        Some(word) => match word.parse::<u64>() {
-            Ok(pages) => Ok(pages),
-            Err(_) => Err(ErrorKind::Other.into()),
-        },
-        None => Err(ErrorKind::Other.into()),
-    }
-}
-
-fn find_all(alloc: Global, store: &HeapStore) -> io::Result<u64> {
-    let mut meter = Meter::new();
-    for at in 0..COUNT {
-        let values = [number(at * 7919 % COUNT)];
-        let key = Key::new(alloc, &values)?;
-        let _ = store.find_key(0, 0, &key, &mut meter);
-    }
-    Ok(meter.count())
-}
-
-fn walk(store: &HeapStore) -> u64 {
-    let mut meter = Meter::new();
-    let mut next = 1;
-    while let Some((number, _)) = store.next_from(0, next, &mut meter) {
-        next = number + 1;
-    }
-    meter.count()
-}
-
-fn main(rt: HostRuntime) -> io::Result<()> {
-    let alloc = rt.alloc();
-    let mut store = HeapStore::new(alloc, keys(alloc)?.as_slice(), 1_000_000_000)?;
-    let before = pages(&rt)?;
-    let start = Instant::now(&rt)?;
-    for at in 0..COUNT {
-        apply(alloc, &mut store, Change::Insert(row(alloc, at, at)?))?;
-    }
-    println!(rt; "insert {}", start.elapsed(&rt)?.as_millis())?;
-    store.commit();
-    println!(rt; "bytes {}", (pages(&rt)? - before) * 4096 / COUNT as u64)?;
-    if KEYS > 0 {
-        let start = Instant::now(&rt)?;
-        let found = find_all(alloc, &store)?;
-        println!(rt; "find_key {} {found}", start.elapsed(&rt)?.as_millis())?;
-    }
-    let start = Instant::now(&rt)?;
-    for at in 0..FEW {
-        let moved = row(alloc, at + 2 * COUNT, at + 2 * COUNT)?;
-        apply(alloc, &mut store, Change::Replace(at as u64 + 1, moved))?;
-    }
-    println!(rt; "replace {}", start.elapsed(&rt)?.as_millis())?;
-    let start = Instant::now(&rt)?;
-    store.rollback();
-    println!(rt; "rollback {}", start.elapsed(&rt)?.as_millis())?;
-    for at in 0..COUNT / 2 {
-        apply(alloc, &mut store, Change::Remove(2 * at as u64 + 2))?;
-    }
-    store.commit();
-    let start = Instant::now(&rt)?;
-    let rows = walk(&store);
-    println!(rt; "walk {} {rows}", start.elapsed(&rt)?.as_millis())?;
-    for at in 0..COUNT / 2 {
-        apply(alloc, &mut store, Change::Remove(2 * at as u64 + 1))?;
-    }
-    store.commit();
-    let start = Instant::now(&rt)?;
-    let rows = walk(&store);
-    println!(rt; "gap {} {rows}", start.elapsed(&rt)?.as_micros())
-}
-"""
-
-NUMBERS = "WITH RECURSIVE n(x) AS (SELECT 0 UNION ALL SELECT x + 1 FROM n WHERE x < 999999) "
+CRATE = Path(__file__).resolve().parent.parent / "crates" / "sq_store_bench"
 
 
-def heap(keys):
-    """What the program prints, by the first word of each line."""
-    top = os.path.dirname(os.path.dirname(os.path.abspath(__file__)))
-    with tempfile.TemporaryDirectory() as room:
-        for crate in CRATES:
-            if crate != "timed":
-                shutil.copytree(os.path.join(top, "crates", crate), os.path.join(room, "crates", crate))
-        os.makedirs(os.path.join(room, "crates", "timed", "src"))
-        with open(os.path.join(room, "crates.txt"), "w") as file:
-            file.write("".join("%s: %s\n" % it for it in CRATES.items()))
-        with open(os.path.join(room, "crates", "timed", "src", "main.rt"), "w") as file:
-            file.write(PROGRAM.replace("@KEYS@", str(keys)))
-        done = subprocess.run(["rt", "try", "--steps", "1", "--seconds", "600"], cwd=os.path.join(room, "crates", "timed"), stdout=subprocess.PIPE, stderr=subprocess.PIPE, text=True)
-        figures = {line.split()[0]: line.split()[1] for line in done.stdout.splitlines() if len(line.split()) > 1}
-        if "gap" not in figures:
-            sys.exit(done.stdout + done.stderr)
-        return figures
+def built():
+    """The program, proved and built from what earlier checks kept."""
+    with tempfile.TemporaryFile() as log:
+        subprocess.run(["rt", "run", "--", "0", "0", "0"], cwd=CRATE, stdout=log, stderr=log, check=True)
+    return CRATE / "out" / "sq_store_bench"
 
 
-def timed(base, *statements):
-    start = time.perf_counter()
-    for statement in statements:
-        base.execute(statement).fetchall()
-    return "%d" % ((time.perf_counter() - start) * 1000)
-
-
-def sqlite(keys):
-    base = sqlite3.connect(":memory:", isolation_level=None)
-    words = ["A INTEGER NOT NULL", "B INTEGER NOT NULL"]
-    # UNIQUE on a column that is no INTEGER PRIMARY KEY has an index of its own, as a key has here.
-    base.execute("CREATE TABLE T (%s)" % ", ".join(word + (" UNIQUE" if at < keys else "") for at, word in enumerate(words)))
+def heap(program, rows, changes, keys):
+    """Milliseconds of each piece of work, by its first name."""
+    words = [program, str(rows), str(changes), str(keys), "time"]
+    done = subprocess.run(words, stdout=subprocess.PIPE, check=True, text=True)
     figures = {}
-    base.execute("BEGIN")
-    figures["insert"] = timed(base, NUMBERS + "INSERT INTO T SELECT x, x FROM n")
-    base.execute("COMMIT")
-    figures["bytes"] = "%d" % (base.execute("PRAGMA page_count").fetchone()[0] * base.execute("PRAGMA page_size").fetchone()[0] / 1e6)
-    if keys:
-        figures["find_key"] = timed(base, NUMBERS + "SELECT sum(T.B) FROM n CROSS JOIN T WHERE T.A = n.x * 7919 % 1000000")
-    base.execute("BEGIN")
-    figures["replace"] = timed(base, "UPDATE T SET A = A + 2000000, B = B + 2000000 WHERE ROWID <= 100000")
-    figures["rollback"] = timed(base, "ROLLBACK")
-    base.execute("DELETE FROM T WHERE ROWID % 2 = 0")
-    figures["walk"] = timed(base, "SELECT sum(B) FROM T NOT INDEXED")
+    for line in done.stdout.splitlines():
+        name, _, micros = line.rsplit(" ", 2)
+        figures.setdefault(name, int(micros) / 1000)
     return figures
 
 
+def memory(program, rows, keys):
+    """The greatest memory of a run that inserts and commits so many rows, in bytes."""
+    words = ["/usr/bin/time", "-f", "%M", program, str(rows), "0", str(keys), "fill"]
+    done = subprocess.run(words, stdout=subprocess.DEVNULL, stderr=subprocess.PIPE, check=True, text=True)
+    return int(done.stderr.split()[-1]) * 1024
+
+
+class Lite:
+    """SQLite's table with the same rows and keys."""
+
+    def __init__(self, rows, changes, keys):
+        self.rows, self.changes, self.keys = rows, changes, keys
+        self.base = sqlite3.connect(":memory:", isolation_level=None)
+        # UNIQUE on a column that is no INTEGER PRIMARY KEY has an index of its own, as a key has here.
+        words = ["A INTEGER NOT NULL", "B INTEGER NOT NULL"]
+        columns = ", ".join(word + (" UNIQUE" if at < keys else "") for at, word in enumerate(words))
+        self.base.execute(f"CREATE TABLE T ({columns})")
+
+    def timed(self, work):
+        start = time.perf_counter()
+        work()
+        return (time.perf_counter() - start) * 1000
+
+    def do(self, statement):
+        return self.timed(lambda: self.base.execute(statement).fetchall())
+
+    def each(self, statement, values):
+        return self.timed(lambda: self.base.executemany(statement, values))
+
+    def numbers(self):
+        return f"WITH RECURSIVE N(X) AS (SELECT 0 UNION ALL SELECT X + 1 FROM N WHERE X < {self.rows - 1}) "
+
+    def run(self, in_one):
+        rows, changes = self.rows, self.changes
+        figures = {}
+        self.base.execute("BEGIN")
+        if in_one:
+            figures["insert"] = self.do(self.numbers() + "INSERT INTO T SELECT X, X FROM N")
+        else:
+            figures["insert"] = self.each("INSERT INTO T VALUES (?, ?)", ((x, x) for x in range(rows)))
+        figures["commit"] = self.do("COMMIT")
+        if self.keys and in_one:
+            figures["find_key"] = self.do(self.numbers() + f"SELECT sum(T.B) FROM N CROSS JOIN T WHERE T.A = N.X * 7919 % {rows}")
+        self.base.execute("BEGIN")
+        if in_one:
+            figures["replace"] = self.do(f"UPDATE T SET A = A + {rows}, B = B + {rows} WHERE ROWID <= {changes}")
+        else:
+            moved = ((rows + x, rows + x, x + 1) for x in range(changes))
+            figures["replace"] = self.each("UPDATE T SET A = ?, B = ? WHERE ROWID = ?", moved)
+        figures["rollback"] = self.do("ROLLBACK")
+        figures["walk"] = self.do("SELECT sum(B) FROM T NOT INDEXED")
+        self.base.execute("DELETE FROM T WHERE ROWID % 2 = 0")
+        figures["walk half"] = self.do("SELECT sum(B) FROM T NOT INDEXED")
+        return figures
+
+    def bytes(self):
+        size = "SELECT page_count * page_size FROM pragma_page_count(), pragma_page_size()"
+        self.base.execute(self.numbers() + "INSERT INTO T SELECT X, X FROM N")
+        return self.base.execute(size).fetchone()[0]
+
+
+def least(times, run):
+    """Of each figure the least of so many runs."""
+    runs = [run() for _ in range(times)]
+    return {name: min(figures[name] for figures in runs) for name in runs[0]}
+
+
+def shown(figures, name):
+    return "%.1f" % figures[name] if name in figures else ""
+
+
+def compare(program, rows, changes, keys, times):
+    ours = least(times, lambda: heap(program, rows, changes, keys))
+    one = least(times, lambda: Lite(rows, changes, keys).run(True))
+    each = least(times, lambda: Lite(rows, changes, keys).run(False))
+    print(f"\n| {rows} rows, {keys} keys, {changes} changes | store | SQLite, one statement | SQLite, a statement for each row |")
+    print("|---|---|---|---|")
+    for name in ours:
+        if keys or name != "find_key":
+            print(f"| {name} | {shown(ours, name)} | {shown(one, name)} | {shown(each, name)} |")
+    empty = memory(program, 0, keys)
+    ours_bytes = (memory(program, rows, keys) - empty) / rows
+    print(f"| bytes for a row | {ours_bytes:.0f} | {Lite(rows, changes, keys).bytes() / rows:.0f} | |")
+
+
 def main():
-    print("processors %d, SQLite %s" % (os.cpu_count(), sqlite3.sqlite_version))
+    words = argparse.ArgumentParser()
+    words.add_argument("--program", type=Path)
+    words.add_argument("--rows", type=int, default=1_000_000)
+    words.add_argument("--changes", type=int, default=100_000)
+    words.add_argument("--times", type=int, default=3)
+    asked = words.parse_args()
+    program = (asked.program or built()).resolve()
+    print(f"processors {os.cpu_count()}, SQLite {sqlite3.sqlite_version}")
     for keys in range(3):
-        ours, theirs = heap(keys), sqlite(keys)
-        for name in ours:
-            print("%d keys: %-9s %8s, SQLite %s" % (keys, name, ours[name], theirs.get(name, "-")))
+        compare(program, asked.rows, asked.changes, keys, asked.times)
+    print("\n| Changes, each with its take_back, 1 key | microseconds for each |\n|---|---|")
+    for rows in (1_000, asked.rows):
+        figures = least(asked.times, lambda: heap(program, rows, 1_000, 1))
+        print(f"| at {rows} rows | {figures['attempt']:.2f} |")
 
 
 main()

@@ -1,7 +1,8 @@
 //! Times the heap store: the work that `work.rt` lists, on a table of two INTEGER columns.
 //!
-//! `sq_store_bench ROWS CHANGES KEYS [time]`. For each piece of work it prints a line with a count that shows that the work
-//! was done, and with `time` its milliseconds. ROWS 0 leaves the table empty, which shows what the process itself takes.
+//! `sq_store_bench ROWS CHANGES KEYS [time | fill]`. For each piece of work it prints a line with a count that shows that the
+//! work was done, and with `time` its microseconds. With `fill` it only inserts the rows, with a commit after each: the
+//! memory which that takes is the table's.
 #![tactic(auto)]
 
 mod rows;
@@ -11,7 +12,7 @@ use sq_heap::HeapStore;
 use sq_store::Store;
 use std::env::{self, Env};
 use std::io;
-use work::{Bench, run};
+use work::{Bench, Task, run};
 
 fn main(rt: HostRuntime) -> io::Result<()> {
     let bench = bench_of(&rt)?;
@@ -27,7 +28,7 @@ fn bench_of<R: Env + AllocGlobal>(rt: &R) -> io::Result<Bench> {
         rows: number_of(words.next()),
         changes: number_of(words.next()),
         keys: number_of(words.next()) as usize,
-        is_timed: words.next().is_some(),
+        task: task_of(words.next()),
     })
 }
 
@@ -36,5 +37,14 @@ fn number_of(word: Option<String>) -> u32 {
     match word {
         Some(word) => word.parse::<u32>().unwrap_or(0),
         None => 0,
+    }
+}
+
+/// What a word asks for.
+fn task_of(word: Option<String>) -> Task {
+    match word {
+        Some(word) if word.as_str() == "time" => Task::Timed,
+        Some(word) if word.as_str() == "fill" => Task::Fill,
+        _ => Task::All,
     }
 }

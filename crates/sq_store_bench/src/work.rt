@@ -12,8 +12,18 @@ pub(crate) struct Bench {
     pub(crate) rows: u32,
     pub(crate) changes: u32,
     pub(crate) keys: usize,
-    /// Whether milliseconds are printed.
-    pub(crate) is_timed: bool,
+    pub(crate) task: Task,
+}
+
+/// What is asked for.
+#[derive(Clone, Copy)]
+pub(crate) enum Task {
+    /// All work.
+    All,
+    /// All work, with its microseconds.
+    Timed,
+    /// Only rows that are inserted and committed.
+    Fill,
 }
 
 /// A piece of work.
@@ -21,6 +31,8 @@ pub(crate) struct Bench {
 enum Work {
     /// Inserts the rows, each by an `apply` of its own.
     Insert,
+    /// The same, with a commit after each.
+    Fill,
     /// Commits.
     Commit,
     /// Finds each row by its first key, in mixed order.
@@ -58,23 +70,36 @@ const ALL: [(Work, &str); 13] = [
     (Work::LookFirst, "look in none"),
 ];
 
-/// Does all work, and prints a line for each piece of it.
+/// Does what is asked for, and prints a line for each piece of it.
 pub(crate) fn run<S: Store, R: Print + Clock + AllocGlobal>(
     rt: &R,
     bench: &Bench,
     store: &mut S,
 ) -> io::Result<()> {
+    if let Task::Fill = bench.task {
+        return run_one(rt, bench, store, Work::Fill, "fill");
+    }
     for (work, name) in ALL {
-        let start = Instant::now(rt)?;
-        let count = perform(rt.alloc(), bench, store, work)?;
-        let time = start.elapsed(rt)?.as_micros();
-        if bench.is_timed {
-            println!(rt; "{name} {count} {time}")?;
-        } else {
-            println!(rt; "{name} {count}")?;
-        }
+        run_one(rt, bench, store, work, name)?;
     }
     Ok(())
+}
+
+/// Does a piece of work, and prints its line.
+fn run_one<S: Store, R: Print + Clock + AllocGlobal>(
+    rt: &R,
+    bench: &Bench,
+    store: &mut S,
+    work: Work,
+    name: &str,
+) -> io::Result<()> {
+    let start = Instant::now(rt)?;
+    let count = perform(rt.alloc(), bench, store, work)?;
+    let time = start.elapsed(rt)?.as_micros();
+    match bench.task {
+        Task::Timed => println!(rt; "{name} {count} {time}"),
+        Task::All | Task::Fill => println!(rt; "{name} {count}"),
+    }
 }
 
 /// Does a piece of work, and says how many calls did what they should.
@@ -85,7 +110,8 @@ fn perform<S: Store>(
     work: Work,
 ) -> Result<u64, AllocError> {
     match work {
-        Work::Insert => insert(alloc, store, bench.rows),
+        Work::Insert => insert(alloc, store, bench.rows, false),
+        Work::Fill => insert(alloc, store, bench.rows, true),
         Work::Commit => {
             store.commit();
             Ok(0)
@@ -129,11 +155,19 @@ fn make<S: Store>(
     }
 }
 
-fn insert<S: Store>(alloc: Global, store: &mut S, rows: u32) -> Result<u64, AllocError> {
+fn insert<S: Store>(
+    alloc: Global,
+    store: &mut S,
+    rows: u32,
+    commits: bool,
+) -> Result<u64, AllocError> {
     let mut made: u64 = 0;
     for value in 0..rows {
         let new = Change::Insert(row(alloc, value)?);
         made = made.saturating_add(make(alloc, store, new, false)?);
+        if commits {
+            store.commit();
+        }
     }
     Ok(made)
 }

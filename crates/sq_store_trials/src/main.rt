@@ -1,13 +1,14 @@
 //! Trials of the two stores: the same actions on each, with the content, the ways to find rows and the numbers left printed
-//! after each action. `rt try sq_store_trials --fail-alloc 1..` refuses each allocation in turn; where an `apply` meets
-//! that, the content must be as before, and the `apply` is made once more.
+//! after each action. Where an `apply` is refused memory, the store must show what it showed before, and the `apply` is made
+//! once more; so the report is the same, and a rollback behind it shows what is committed. `tools/refuse_allocations.py`
+//! refuses each allocation in turn.
 #![tactic(auto)]
 
 mod action;
 mod shown;
 
 use action::{Action, Step, changes_of};
-use shown::{content_of, show};
+use shown::{seen_of, show};
 use sq_heap::HeapStore;
 use sq_store::{ApplyFault, Change, ListStore, Store, can_apply};
 use std::alloc::{AllocError, Global};
@@ -16,7 +17,7 @@ use std::io;
 const NONE: Step = Step::Nothing;
 
 /// What is done to each store, one after the other.
-const ACTIONS: [Action; 16] = [
+const ACTIONS: [Action; 17] = [
     Action::Apply([
         Step::Insert(1, 10),
         Step::Insert(2, 20),
@@ -49,6 +50,7 @@ const ACTIONS: [Action; 16] = [
         Step::Insert(3, 30),
         Step::Insert(4, 40),
     ]),
+    Action::Rollback,
 ];
 
 fn main(rt: HostRuntime) -> io::Result<()> {
@@ -102,11 +104,11 @@ fn apply<S: Store>(
     steps: [Step; 3],
     back: bool,
 ) -> Result<&'static str, AllocError> {
-    let before = content_of(alloc, store)?;
+    let before = seen_of(alloc, store)?;
     let came = apply_once(alloc, store, changes_of(alloc, steps)?, back);
     match came {
         Some(came) => Ok(came),
-        None if content_of(alloc, store)?.as_slice() == before.as_slice() => {
+        None if seen_of(alloc, store)?.as_slice() == before.as_slice() => {
             let came = apply_once(alloc, store, changes_of(alloc, steps)?, back);
             Ok(came.unwrap_or("refused twice"))
         }

@@ -18,7 +18,7 @@ fn column(row: &Row, place: usize) -> i64 {
 }
 
 /// For each row its number and two columns, and then how many numbers are left.
-pub(crate) fn content_of<S: Store>(alloc: Global, store: &S) -> Result<Vec<i64>, AllocError> {
+fn content_of<S: Store>(alloc: Global, store: &S) -> Result<Vec<i64>, AllocError> {
     let mut content = Vec::new(alloc);
     if store.table_count() == 0 {
         return Ok(content);
@@ -53,6 +53,23 @@ fn numbers_of<S: Store>(
     Ok(numbers)
 }
 
+/// All that a store shows: its rows, the numbers left, the first number from each number on, where the first key finds each
+/// value, and where the second key finds each row.
+pub(crate) fn seen_of<S: Store>(alloc: Global, store: &S) -> Result<Vec<i64>, AllocError> {
+    let mut meter = Meter::new();
+    let mut seen = content_of(alloc, store)?;
+    for number in numbers_of(alloc, store, &mut meter)?.as_slice() {
+        seen.push(*number as i64)?;
+    }
+    for value in 1..=9 {
+        seen.push(found(alloc, store, value, &mut meter)?.unwrap_or(0) as i64)?;
+    }
+    for at in 1..=MOST {
+        seen.push(found_again(alloc, store, at, &mut meter)? as i64)?;
+    }
+    Ok(seen)
+}
+
 /// Prints the rows, the first number from each number on, where the first key finds each value, and how many rows were
 /// handed out for that.
 pub(crate) fn show<S: Store>(rt: &impl Print, alloc: Global, store: &S) -> io::Result<()> {
@@ -82,5 +99,25 @@ fn found<S: Store>(
     match store.find_key(0, 0, &key, meter) {
         Some((at, _)) => Ok(Some(at)),
         None => Ok(None),
+    }
+}
+
+/// The number under which the second key finds the row under a number, 0 where there is none.
+fn found_again<S: Store>(
+    alloc: Global,
+    store: &S,
+    at: u64,
+    meter: &mut Meter,
+) -> Result<u64, AllocError> {
+    if store.table_count() == 0 || store.keys(0).len() < 2 {
+        return Ok(0);
+    }
+    let Some(row) = store.row(0, at, meter) else {
+        return Ok(0);
+    };
+    let key = Key::new(alloc, row.as_slice())?;
+    match store.find_key(0, 1, &key, meter) {
+        Some((again, _)) => Ok(again),
+        None => Ok(0),
     }
 }
