@@ -166,30 +166,51 @@ impl Program {
             &cursors,
             &procedure.statement,
         );
+        let statement = match unless_no_memory(bound) {
+            Ok(statement) => statement,
+            Err(error) => {
+                drop(parameters);
+                return Err(error);
+            }
+        };
         let name = ProcedureName {
             module: module.name,
             name: procedure.name,
         };
-        self.insert_procedure(name, user, parameters, bound)
-    }
-
-    fn insert_procedure(
-        &mut self,
-        name: ProcedureName,
-        user: Name,
-        parameters: Items<ParameterDesc>,
-        statement: Result<BoundStatement, BindFault>,
-    ) -> Result<(), AllocError> {
-        if let Err(BindFault::NoMemory) = &statement {
-            drop((parameters, statement));
-            return Err(AllocError);
-        }
         let procedure = BoundProcedure {
             user,
             parameters,
             statement,
         };
-        named(self.procedures.insert(name, procedure).is_ok())
+        inserted(&mut self.procedures, name, procedure)
+    }
+}
+
+/// Gives a value the name of a procedure.
+fn inserted<T: Drop>(
+    named: &mut IndexMap<ProcedureName, T>,
+    name: ProcedureName,
+    value: T,
+) -> Result<(), AllocError> {
+    match named.insert(name, value) {
+        Ok(before) => {
+            drop(before);
+            Ok(())
+        }
+        Err(failed) => {
+            drop(failed);
+            Err(AllocError)
+        }
+    }
+}
+
+/// What is bound, or its fault; running out of memory is none.
+fn unless_no_memory<T: Drop>(
+    bound: Result<T, BindFault>,
+) -> Result<Result<T, BindFault>, AllocError> {
+    match bound {
+        Err(BindFault::NoMemory) => Err(AllocError),
+        bound => Ok(bound),
     }
 }
 

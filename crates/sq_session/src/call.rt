@@ -92,13 +92,29 @@ fn with_values<S: Store>(
         procedure,
         values: values.as_slice(),
     };
+    let ended = performed_with(&called, statement, machine, meter);
+    drop(values);
+    ended
+}
+
+/// Performs a statement that may read the parameters' values.
+fn performed_with<S: Store>(
+    called: &Called<'_>,
+    statement: &BoundStatement,
+    machine: &mut Machine<S>,
+    meter: &mut Meter,
+) -> Result<Done, Fault>
+    requires { takes_memory (kind_of called.now.procedure.now.parameters statement.now) ≡ true }
+    ensures step { IfSome (ending result) (λ d. MayStep (kind_of called.now.procedure.now.parameters statement.now) machine.old d machine.new) }
+    ensures err { OnErr result (machine.new ≡ machine.old) }
+{
     match statement {
-        BoundStatement::Open(cursor) => machine.open(&called, *cursor, meter),
-        BoundStatement::Fetch(fetch) => machine.fetch(&called, fetch, meter),
-        BoundStatement::Select(select) => machine.select(&called, select, meter),
-        BoundStatement::Insert(insert) => machine.insert(&called, insert, meter),
-        BoundStatement::Update(update) => machine.update(&called, update, meter),
-        BoundStatement::Delete(target) => machine.delete(&called, target, meter),
+        BoundStatement::Open(cursor) => machine.open(called, *cursor, meter),
+        BoundStatement::Fetch(fetch) => machine.fetch(called, fetch, meter),
+        BoundStatement::Select(select) => machine.select(called, select, meter),
+        BoundStatement::Insert(insert) => machine.insert(called, insert, meter),
+        BoundStatement::Update(update) => machine.update(called, update, meter),
+        BoundStatement::Delete(target) => machine.delete(called, target, meter),
         BoundStatement::Close(_) | BoundStatement::Commit | BoundStatement::Rollback =>
             unreachable!(),
     }

@@ -1,9 +1,9 @@
 //! FETCH (ISO/IEC 9075:1992, 13.3).
 
-ghost use Rattle.std.specs.Prelude.{◌≡◌, ◌<◌, false, length, slice_index_or, IfErr, IfOk, OnErr};
-ghost use Rattle.sq_session.specs.Kind.{fetching};
+ghost use Rattle.std.specs.Prelude.{◌≡◌, ◌<◌, false, true, length, slice_index_or, IfErr, IfOk, OnErr};
+ghost use Rattle.sq_session.specs.Kind.{fetching, names_set};
 ghost use Rattle.sq_session.specs.State.{besides};
-ghost use Rattle.sq_session.specs.Step.{Comes, ComesOn, ComesToNumber, ComesToRow, Refusal, is_refused};
+ghost use Rattle.sq_session.specs.Step.{Comes, ComesOn, ComesToNumber, ComesToRow, Refusal, Retrieves, is_refused};
 
 use crate::called::Called;
 use crate::cursor::{CursorState, NumbersCursor, RowsCursor, next_there, place_reached, row_at};
@@ -102,8 +102,7 @@ fn fetch_number<S: Store>(
         cursor.on = None;
         return Ok(Done::without_outputs(called.alloc, Status::NoData));
     };
-    let row = shown(called.alloc, reached.row, query.columns.as_slice())?;
-    let done = row_retrieved(called, fetch.outputs.as_slice(), row.as_slice())?;
+    let done = shown_row_retrieved(called, fetch, query, reached.row)?;
     cursor.passed = reached.passed;
     cursor.on = Some(reached.number);
     Ok(done)
@@ -128,8 +127,7 @@ fn fetch_walk<S: Store>(
         walk.on = None;
         return Ok(Done::without_outputs(called.alloc, Status::NoData));
     };
-    let row = shown(called.alloc, row, query.columns.as_slice())?;
-    let done = row_retrieved(called, fetch.outputs.as_slice(), row.as_slice())?;
+    let done = shown_row_retrieved(called, fetch, query, row)?;
     walk.next = number + 1;
     walk.on = Some(number);
     Ok(done)
@@ -146,6 +144,22 @@ fn updatable_query<'a>(called: &Called<'a>, cursor: usize) -> Result<&'a Updatab
         },
         None => Err(Fault::NOT_WELL_FORMED),
     }
+}
+
+/// Sets the targets from a row of the base table, as a query shows it.
+fn shown_row_retrieved(
+    called: &Called<'_>,
+    fetch: &BoundFetch,
+    query: &UpdatableQuery,
+    row: &Row,
+) -> Result<Done, Fault>
+    ensures retrieved { IfOk result (Retrieves true (names_set called.now.procedure.now.parameters fetch.now.outputs)) }
+    ensures refused { IfErr result Refusal }
+{
+    let row = shown(called.alloc, row, query.columns.as_slice())?;
+    let done = row_retrieved(called, fetch.outputs.as_slice(), row.as_slice());
+    drop(row);
+    done
 }
 
 /// The columns of a row that a query names.

@@ -44,7 +44,6 @@ impl<S: Store> Model for Session<S> {
 impl<S: Store> Session<S> {
     /// A session of these modules over a store of the catalog's tables, with all cursors closed; or the first refusal, module
     /// by module.
-    #[tactic(auto, using(crate::proofs::Closed::replicated_closed))]
     pub fn new(
         alloc: Global,
         catalog: Catalog,
@@ -54,15 +53,39 @@ impl<S: Store> Session<S> {
         ensures start { IfOk result (λ s. (s.state.tables ≡ S.content_now store) × (s.state.committed ≡ S.committed store) × AreClosed s.state.cursors) }
         ensures refused { IfErr result (IsOfSomeModule (length modules.now)) }
     {
-        admit(alloc, modules)?;
-        let program = Program::bind(alloc, &catalog, modules)?;
-        let machine = Machine::new(alloc, store, program.cursors.len())?;
-        Ok(Session {
-            alloc,
-            catalog,
-            program,
-            machine,
-        })
+        match program_of(alloc, &catalog, modules) {
+            Ok(program) => Ok(Session::with_program(alloc, catalog, program, store)?),
+            Err(fault) => {
+                drop(store);
+                drop(catalog);
+                Err(fault)
+            }
+        }
+    }
+
+    /// A session of bound modules.
+    #[tactic(auto, using(crate::proofs::Closed::replicated_closed))]
+    fn with_program(
+        alloc: Global,
+        catalog: Catalog,
+        program: Program,
+        store: S,
+    ) -> Result<Session<S>, AllocError>
+        ensures start { IfOk result (λ s. (s.state.tables ≡ S.content_now store) × (s.state.committed ≡ S.committed store) × AreClosed s.state.cursors) }
+    {
+        match Machine::new(alloc, store, program.cursors.len()) {
+            Ok(machine) => Ok(Session {
+                alloc,
+                catalog,
+                program,
+                machine,
+            }),
+            Err(error) => {
+                drop(program);
+                drop(catalog);
+                Err(error)
+            }
+        }
     }
 
     /// The number of the procedure of this module and name.
@@ -139,6 +162,18 @@ impl<S: Store> Session<S> {
         }
         rows_of(alloc, store, table)
     }
+}
+
+/// The procedures and cursors of modules, or the first refusal.
+fn program_of(
+    alloc: Global,
+    catalog: &Catalog,
+    modules: &[ModuleText],
+) -> Result<Program, SessionFault>
+    ensures refused { IfErr result (IsOfSomeModule (length modules.now)) }
+{
+    admit(alloc, modules)?;
+    Ok(Program::bind(alloc, catalog, modules)?)
 }
 
 /// A table's rows with their numbers.
