@@ -10,8 +10,8 @@ returns-in-Some g c =
     let q = c.min-passed.result in
     let e = c.as_slice-numbers.ensures in
     reached t c.args.cursor.now.numbers _ p q c.loop-place.place (subst (λ z. q ≡ min p (length z)) e c.min-passed.ensures)
-        (left_is p q c.as_slice-numbers.result.now c.min-passed.ensures ∙ ap (λ z. drop p z) e)
-        c.loop-place-test.true c.loop-place.invariant (ap is_some c.in-Some.ensures.row)
+    (left_is p q c.as_slice-numbers.result.now c.min-passed.ensures ∙ ap (λ z. drop p z) e)
+    c.loop-place-test.true c.loop-place.invariant (ap is_some c.in-Some.ensures.row)
 
 pub returns : goal.returns
 returns g c =
@@ -20,5 +20,5 @@ returns g c =
     let q = c.min-passed.result in
     let e = c.as_slice-numbers.ensures in
     none_there t c.args.cursor.now.numbers _ p q c.loop-place.place (subst (λ z. q ≡ min p (length z)) e c.min-passed.ensures)
-        (left_is p q c.as_slice-numbers.result.now c.min-passed.ensures ∙ ap (λ z. drop p z) e)
-        c.loop-place-test.false c.loop-place.invariant
+    (left_is p q c.as_slice-numbers.result.now c.min-passed.ensures ∙ ap (λ z. drop p z) e)
+    c.loop-place-test.false c.loop-place.invariant
