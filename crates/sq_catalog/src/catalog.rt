@@ -6,10 +6,9 @@ ghost use Rattle.sq_catalog.specs.Fault.{IsOfSomeText, IsOfText};
 
 use crate::fault::{CatalogFault, ElementFault, RefusalName, SchemaRefusal, refused_if};
 use crate::grants::{Held, Privilege};
-use crate::written::{add_name, pushed};
+use crate::written::add_name;
 use indexmap::{IndexMap, IndexSet};
 use sq_bound::{Action, Names, TableDesc, TablePlace};
-use sq_items::Items;
 use sq_lex::Name;
 use sq_tree::{SchemaDefinition, SchemaElement, SchemaText, TableName};
 use std::alloc::Global;

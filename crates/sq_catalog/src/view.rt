@@ -5,7 +5,7 @@ ghost use Rattle.std.specs.Prelude.{◌≤◌, length, IfOk};
 use crate::catalog::{Catalog, FullName, full_name};
 use crate::fault::{ElementFault, RefusalName, refused_as, refused_if};
 use crate::grants::Privilege;
-use crate::written::{add_name, names_of, pushed};
+use crate::written::{add_name, names_of};
 use indexmap::IndexSet;
 use sq_bind::{BoundView, bind_view};
 use sq_bound::{
