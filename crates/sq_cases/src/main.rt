@@ -2,11 +2,13 @@
 //! table it prints how many cases there were, and each that differs.
 #![tactic(auto)]
 
+mod calls;
 mod domains;
 mod grammar;
 mod hostile;
 mod keys;
 mod lines;
+mod opened;
 mod run;
 mod runs;
 mod tally;
@@ -15,6 +17,8 @@ mod values;
 mod written;
 
 use lines::Kind;
+use sq_heap::HeapStore;
+use sq_store::ListStore;
 use std::io;
 
 /// Tables with a case a line, each with the kind of its cases.
@@ -37,12 +41,19 @@ const RUNS: [&str; 7] = [
     "runs-limits.txt",
 ];
 
+/// Tables of whole runs that say of some calls what no report shows.
+const CALLS: [&str; 1] = ["runs-worked.txt"];
+
 fn main(rt: HostRuntime) -> io::Result<()> {
     for (file, kind) in LINES {
         lines::try_table(&rt, file, kind)?;
     }
     for file in RUNS {
-        runs::try_table(&rt, file)?;
+        runs::try_table::<_, HeapStore>(&rt, file, "HeapStore")?;
+        runs::try_table::<_, ListStore>(&rt, file, "ListStore")?;
+    }
+    for file in CALLS {
+        runs::try_calls(&rt, file)?;
     }
     Ok(())
 }

@@ -18,11 +18,11 @@ enum Part {
 /// The texts of a run, and its report or refusal.
 #[derive(Drop)]
 pub struct Run {
-    row_numbers: u64,
-    schemas: Vec<Vec<u8>>,
-    modules: Vec<Vec<u8>>,
-    script: Vec<u8>,
-    wanted: Vec<u8>,
+    pub row_numbers: u64,
+    pub schemas: Vec<Vec<u8>>,
+    pub modules: Vec<Vec<u8>>,
+    pub script: Vec<u8>,
+    pub wanted: Vec<u8>,
     part: Part,
 }
 
@@ -31,7 +31,8 @@ impl Run {
     ///
     /// A line `|..` is a line of text, `...` one that no line feed ends. Before them stands what they are: `schema`,
     /// `module`, `script` or `report`. `rows 3` limits row numbers, and `refused module 1 2:14 Unexpected` stands for a
-    /// report: the refused text by its kind and its number among those, a line and a column, and the refusal.
+    /// report: the refused text by its kind and its number among those, a line and a column, and the refusal. A line
+    /// `call ..` is of `calls`.
     pub fn read(alloc: Global, lines: &str) -> Result<Run, AllocError> {
         let mut run = Run {
             row_numbers: 1_000_000,
@@ -87,14 +88,10 @@ impl Run {
             }
             "script" => self.part = Part::Script,
             "report" => self.part = Part::Wanted,
+            "call" => {}
             _ => self.wanted.extend_from_slice(line.as_bytes())?,
         }
         Ok(())
-    }
-
-    /// The report or the refusal that is wanted.
-    pub fn wanted(&self) -> &[u8] {
-        self.wanted.as_slice()
     }
 
     /// The report or the refusal of a run over a store.

@@ -1,31 +1,67 @@
 //! Tables of whole runs: a line `run` and its name, then its lines.
+use crate::calls::{answer, calls_of};
 use crate::run::Run;
 use crate::tally::Tally;
 use sq_heap::HeapStore;
+use sq_store::Store;
 use std::rt::Files;
 use std::{fs, io, str};
 
-/// Tries each run of a table.
-pub fn try_table<R: Files + Print + AllocGlobal>(rt: &R, file: &str) -> io::Result<()> {
+/// Tries each run of a table over a store of this name.
+pub fn try_table<R: Files + Print + AllocGlobal, S: Store>(
+    rt: &R,
+    file: &str,
+    store: &str,
+) -> io::Result<()> {
     let table = fs::read_to_string(rt, file)?;
     let mut tally = Tally::new();
     for block in table.split("\nrun ").skip(1) {
         let (name, lines) = block.split_once('\n').unwrap_or((block, ""));
-        try_run(rt, &mut tally, name, lines)?;
+        try_run::<R, S>(rt, &mut tally, name, lines)?;
     }
-    tally.print(rt, file)
+    tally.print(rt, format!(in rt.alloc(); "{file}, {store}")?.as_str())
 }
 
-fn try_run<R: Print + AllocGlobal>(
+fn try_run<R: Print + AllocGlobal, S: Store>(
     rt: &R,
     tally: &mut Tally,
     name: &str,
     lines: &str,
 ) -> io::Result<()> {
     let run = Run::read(rt.alloc(), lines)?;
-    let got = run.answer::<HeapStore>(rt.alloc())?;
-    let (wanted, got) = first_difference(run.wanted(), got.as_slice());
+    let got = run.answer::<S>(rt.alloc())?;
+    let (wanted, got) = first_difference(run.wanted.as_slice(), got.as_slice());
     tally.compare(rt, name, wanted, got)
+}
+
+/// Tries what the lines `call ..` of a table say of single calls.
+pub fn try_calls<R: Files + Print + AllocGlobal>(rt: &R, file: &str) -> io::Result<()> {
+    let table = fs::read_to_string(rt, file)?;
+    let mut tally = Tally::new();
+    for block in table.split("\nrun ").skip(1) {
+        let (name, lines) = block.split_once('\n').unwrap_or((block, ""));
+        if lines.contains("\ncall ") {
+            try_calls_of_run(rt, &mut tally, name, lines)?;
+        }
+    }
+    tally.print(rt, format!(in rt.alloc(); "{file}, single calls")?.as_str())
+}
+
+fn try_calls_of_run<R: Print + AllocGlobal>(
+    rt: &R,
+    tally: &mut Tally,
+    name: &str,
+    lines: &str,
+) -> io::Result<()> {
+    let run = Run::read(rt.alloc(), lines)?;
+    let calls = calls_of::<HeapStore>(rt.alloc(), &run)?;
+    for line in lines.lines() {
+        if let Some(wanted) = line.strip_prefix("call ") {
+            let got = answer(rt.alloc(), calls.as_slice(), wanted)?;
+            tally.compare(rt, name, wanted, got.as_str())?;
+        }
+    }
+    Ok(())
 }
 
 /// The first line in which two reports differ.

@@ -1,6 +1,5 @@
 //! From a script's items to calls and tables that are there.
-ghost use Rattle.std.specs.Prelude.{◌≡◌, map, IfErr, IfOk, IsTrue};
-ghost use Rattle.sq_value.specs.Text.{IsText};
+ghost use Rattle.std.specs.Prelude.{◌≡◌, map, IfErr, IfOk};
 ghost use Rattle.sq_tree.specs.declared.script.ScriptItem.TheVariants as script;
 ghost use Rattle.sq_meaning.specs.Spelled.{listed, signed_number};
 ghost use Rattle.sq_model.specs.Script as model;
@@ -142,15 +141,8 @@ fn text_of(alloc: Global, characters: &[u8]) -> Result<Text, ItemFault>
     ensures value { IfOk result (λ text. text ≡ characters.now) }
     ensures of_meaning { IfErr result IsItemFault }
 {
-    if !is_text(characters) {
+    if !Text::is_text(characters) {
         return Err(ItemFault::Refused(RefusalName::BadArguments));
     }
     Ok(Text::new(alloc, characters)?)
-}
-
-/// Whether there are at most 240 codes, each from 32 to 126.
-fn is_text(codes: &[u8]) -> bool
-    ensures { IsTrue result → IsText codes.now }
-{
-    codes.len() <= 240 && codes.iter().all(|code| 32 <= *code && *code <= 126)
 }

@@ -1,6 +1,6 @@
 //! Texts.
 
-ghost use Rattle.std.specs.Prelude.{◌≡◌, ◌≤◌, IfOk, ◌==◌, take, replicate};
+ghost use Rattle.std.specs.Prelude.{◌≡◌, ◌≤◌, IfOk, IsFalse, IsTrue, ◌==◌, take, replicate};
 ghost use Rattle.std.specs.List.{list_all};
 ghost use Rattle.sq_value.specs.Text.{IsText, of_length, only_blanks_past, trimmed};
 
@@ -26,6 +26,14 @@ impl Model for Text {
 }
 
 impl Text {
+    /// Whether these codes make a text: at most 240, each from 32 to 126.
+    pub fn is_text(codes: &[u8]) -> bool
+        ensures text { IsTrue result → IsText codes.now }
+        ensures no_text { IsFalse result → IsText codes.now → ⊥ }
+    {
+        codes.len() <= 240 && codes.iter().all(|code| 32 <= *code && *code <= 126)
+    }
+
     /// A text of these codes.
     pub fn new(alloc: Global, codes: &[u8]) -> Result<Text, AllocError>
         requires { IsText codes.now }

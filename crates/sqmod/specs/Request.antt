@@ -1,10 +1,18 @@
 -- What comes of a request.
-use Rattle.std.specs.Prelude.{⊤, Result, Ok, Err}
+use Rattle.std.specs.Prelude.{◌≡◌, ℕ, ⊤, length, Result, Ok, Err}
 use Rattle.sq_run.specs.declared.refusal.RunFault.{RunFault}
 use Rattle.sq_run.specs.declared.refusal.RunFault.TheVariants as run
+use Rattle.sqmod.specs.CommandLine.{IsAmong}
+use Rattle.sqmod.specs.declared.command_line.Request.{Request}
 use Rattle.sqmod.specs.declared.fault.Fault.{Fault}
-use Rattle.sqmod.specs.declared.fault.Fault.TheVariants.{Refused, Output, NoMemory}
+use Rattle.sqmod.specs.declared.fault.Fault.TheVariants.{Unread, Refused, Output, NoMemory}
 use Rattle.sqmod.specs.declared.fault.Source.TheVariants.{Schema, Module, Script}
+use Rattle.sqmod.specs.declared.texts.Texts.{Texts}
+
+-- a text of each file
+pub record AreTexts (request : Request) (texts : Texts) : Type 0 where
+  pub schemas : length texts.schemas.items ≡ length request.schemas.items
+  pub modules : length texts.modules.items ≡ length request.modules.items
 
 -- what a fault of a run is for the program
 abbrev pub fault_of : RunFault → Fault
@@ -19,3 +27,14 @@ abbrev pub ended_with : Result ⊤ Fault → Result ⊤ Fault → Result ⊤ Fau
 ended_with (Err (Refused source refusal)) flushed = Err (Refused source refusal)
 ended_with ran (Err fault) = Err fault
 ended_with ran (Ok done) = ran
+
+-- the text that a fault names, if it names one, is among so many schemas, so many modules and a script
+abbrev pub NamesOneOf : ℕ → ℕ → Fault → Type 0
+NamesOneOf schemas modules (Unread source) = IsAmong schemas modules source
+NamesOneOf schemas modules (Refused source refusal) = IsAmong schemas modules source
+NamesOneOf schemas modules Output = ⊤
+NamesOneOf schemas modules (NoMemory items) = ⊤
+
+-- the file that a fault names, if it names one, is the request's
+abbrev pub NamesFile : Request → Fault → Type 0
+NamesFile request fault = NamesOneOf (length request.schemas.items) (length request.modules.items) fault

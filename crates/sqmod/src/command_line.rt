@@ -1,5 +1,5 @@
 //! The command line, read by `clap`.
-ghost use Rattle.std.specs.Prelude.{◌≡◌, ◌≤◌, None, [], IfOk, codes, map, option_map, unwrap_or};
+ghost use Rattle.std.specs.Prelude.{◌≡◌, ◌≤◌, Some, None, [], IfOk, codes, map, option_map, unwrap_or};
 ghost use Rattle.clap.specs.Words.{found_of, matched_of, one_text, raw_values};
 ghost use Rattle.sqmod.specs.CommandLine as spec;
 
@@ -22,23 +22,17 @@ pub(crate) struct Request<'a> {
 }
 
 impl<'a> Request<'a> {
-    /// The name of the file of a text.
+    /// The name of the file of one of its texts.
     pub(crate) fn file(&self, source: Source) -> &'a str
-        ensures { result.now ≡ spec.file_of self.now source }
+        requires { spec.HasFile self.now source }
+        ensures { spec.file_of self.now source ≡ Some result.now }
     {
         match source {
-            Source::Schema(index) => name_at(self.schemas.as_slice(), index),
-            Source::Module(index) => name_at(self.modules.as_slice(), index),
+            Source::Schema(index) => self.schemas[index],
+            Source::Module(index) => self.modules[index],
             Source::Script => self.script,
         }
     }
-}
-
-/// The name at an index, or no name past the last.
-fn name_at<'a>(files: &[&'a str], index: usize) -> &'a str
-    ensures { result.now ≡ spec.name_at files.now index }
-{
-    files.get(index).copied().unwrap_or("")
 }
 
 /// Reads `sqmod run [--schema F]... [--module F]... --script F [--rows N]`.

@@ -4,6 +4,7 @@
 
 ghost use Rattle.std.specs.Prelude.{◌≡◌, ◌≤◌};
 ghost use Rattle.sqmod.specs.Fault.{status_of};
+ghost use Rattle.sqmod.specs.Request.{NamesFile};
 
 mod command_line;
 mod fault;
@@ -77,6 +78,7 @@ fn refuse_for_memory<R: Eprint>(rt: &R) -> u8 {
 
 /// Says what went wrong and gives the status for it.
 fn report<R: Eprint>(rt: &R, request: &Request<'_>, fault: Fault) -> u8
+    requires { NamesFile request.now fault }
     ensures { result ≡ status_of fault }
 {
     let _ = match fault {

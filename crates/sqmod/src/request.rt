@@ -1,5 +1,6 @@
 //! A request, from its files to the report on standard output.
-ghost use Rattle.std.specs.Prelude.{◌≡◌, ◌≤◌};
+ghost use Rattle.std.specs.Prelude.{◌≡◌, ◌≤◌, length, IfErr};
+ghost use Rattle.sqmod.specs.declared.fault.Fault.TheVariants.{Output};
 ghost use Rattle.sqmod.specs.Request as spec;
 
 use crate::command_line::Request;
@@ -18,15 +19,41 @@ pub(crate) fn run_request<R: Files + Print + AllocGlobal>(
     request: &Request<'_>,
 ) -> Result<(), Fault>
     requires { request.now.row_numbers ≤ MOST_ROW_NUMBERS }
+    ensures { IfErr result (spec.NamesFile request.now) }
 {
     let texts = read_texts(rt, request)?;
     let limits = Limits {
         row_numbers: request.row_numbers,
     };
-    let mut writer = BufWriter::new(rt.alloc(), io::writer(rt)).map_err(|_| Fault::NoMemory(0))?;
-    let ran = run_texts(rt.alloc(), &texts, limits, &mut writer);
-    let flushed = writer.flush().map_err(|_| Fault::Output);
+    let ended = report_of_texts(rt, &texts, limits);
+    drop(texts);
+    ended
+}
+
+/// Runs a script and writes the report to standard output.
+fn report_of_texts<R: Print + AllocGlobal>(
+    rt: &R,
+    texts: &Texts,
+    limits: Limits,
+) -> Result<(), Fault>
+    requires { limits.row_numbers ≤ MOST_ROW_NUMBERS }
+    ensures { IfErr result (spec.NamesOneOf (length texts.now.schemas.items) (length texts.now.modules.items)) }
+{
+    let Ok(mut writer) = BufWriter::new(rt.alloc(), io::writer(rt)) else {
+        return Err(Fault::NoMemory(0));
+    };
+    let ran = run_texts(rt.alloc(), texts, limits, &mut writer);
+    let flushed = flush(&mut writer);
     ended(ran, flushed)
+}
+
+fn flush<W: Write>(writer: &mut W) -> Result<(), Fault>
+    ensures { IfErr result (λ fault. fault ≡ Output) }
+{
+    match writer.flush() {
+        Ok(()) => Ok(()),
+        Err(_) => Err(Fault::Output),
+    }
 }
 
 /// How a request ends, by its run and the flush after it. A refusal has written nothing and stays; after any other run a
@@ -47,6 +74,7 @@ fn run_texts<W: Write>(
     writer: &mut W,
 ) -> Result<(), Fault>
     requires { limits.row_numbers ≤ MOST_ROW_NUMBERS }
+    ensures { IfErr result (spec.NamesOneOf (length texts.now.schemas.items) (length texts.now.modules.items)) }
 {
     let mut out = OutOf::new(writer);
     let ran = run::<HeapStore, OutOf<&mut W>>(
@@ -57,7 +85,10 @@ fn run_texts<W: Write>(
         limits,
         &mut out,
     );
-    ran.map_err(fault_of)
+    match ran {
+        Ok(()) => Ok(()),
+        Err(fault) => Err(fault_of(fault)),
+    }
 }
 
 /// What a fault of a run means for the program.

@@ -1,4 +1,7 @@
 //! What the command line asks for, and what the program prints to standard error.
+ghost use Rattle.std.specs.Prelude.{IsTrue};
+ghost use Rattle.sqmod.specs.Request.{NamesFile};
+
 use crate::command_line::{Request, read_request};
 use crate::fault::{Fault, Source};
 use crate::recorder::Recorder;
@@ -205,6 +208,20 @@ const FAULTS: [(Fault, &str); 6] = [
     (Fault::NoMemory(7), "sqmod: want of memory after 7 items\n"),
 ];
 
+/// Whether a fault names no file but those of a request.
+fn names_its_file(request: &Request<'_>, fault: Fault) -> bool
+    ensures { IsTrue result → NamesFile request.now fault }
+{
+    match fault {
+        Fault::Unread(source) | Fault::Refused(source, _) => match source {
+            Source::Schema(index) => index < request.schemas.len(),
+            Source::Module(index) => index < request.modules.len(),
+            Source::Script => true,
+        },
+        Fault::Output | Fault::NoMemory(_) => true,
+    }
+}
+
 /// Whether a fault is reported by this line.
 fn is_reported(alloc: Global, fault: Fault, line: &str) -> Result<bool, Fail> {
     let request = Request {
@@ -213,6 +230,9 @@ fn is_reported(alloc: Global, fault: Fault, line: &str) -> Result<bool, Fail> {
         script: "c",
         row_numbers: 1,
     };
+    if !names_its_file(&request, fault) {
+        return Ok(false);
+    }
     let recorder = Recorder::new(alloc);
     let _ = report(&recorder, &request, fault);
     Ok(recorder.has_printed(line))

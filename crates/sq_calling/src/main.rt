@@ -1,0 +1,61 @@
+//! A caller of `run`: it runs a small script in memory and prints the report.
+#![tactic(auto)]
+
+ghost use Rattle.std.specs.Prelude.{◌×◌, Some, [], IfErr, IfOk};
+ghost use Rattle.sq_run.specs.Refused.{RefusedText};
+ghost use Rattle.sq_run.specs.Run.{Run, texts};
+ghost use Rattle.sq_run.specs.Steps.{Reported};
+
+use sq_heap::HeapStore;
+use sq_run::{Limits, OutOf, RunFault, run};
+use std::alloc::{AllocError, Global};
+use std::io::{self, Write};
+
+/// The report of a script, as a `Vec`. Where memory runs out for it, the fault is `Write`, since a `Vec` then takes no more.
+fn report_of(
+    alloc: Global,
+    schemas: &[Vec<u8>],
+    modules: &[Vec<u8>],
+    script: &[u8],
+) -> Result<Vec<u8>, RunFault>
+    // It is the report of a run of the trees that the texts spell.
+    ensures report { IfOk result (λ report. (r : Run (texts schemas.now) (texts modules.now) script.now)
+        × Reported r.actions r.start (Some []) (Some report.items)) }
+    ensures refused { IfErr result (RefusedText (texts schemas.now) (texts modules.now) script.now) }
+{
+    let mut report = Vec::new(alloc);
+    let mut out = OutOf::new(&mut report);
+    let limits = Limits {
+        row_numbers: 1_000_000,
+    };
+    match run::<HeapStore, _>(alloc, schemas, modules, script, limits, &mut out) {
+        Ok(()) => Ok(report),
+        Err(fault) => {
+            drop(report);
+            Err(fault)
+        }
+    }
+}
+
+const SCHEMA: &[u8] = b"CREATE SCHEMA AUTHORIZATION U CREATE TABLE D (A INTEGER NOT NULL PRIMARY KEY)";
+
+const MODULE: &[u8] = b"MODULE M LANGUAGE C AUTHORIZATION U
+PROCEDURE ADD (SQLSTATE, :A INTEGER); INSERT INTO D VALUES (:A);
+";
+
+const SCRIPT: &[u8] = b"CALL M.ADD (7); CALL M.ADD (7); TABLE U.D;";
+
+fn main(rt: HostRuntime) -> io::Result<()> {
+    let schemas = one_text(rt.alloc(), SCHEMA)?;
+    let modules = one_text(rt.alloc(), MODULE)?;
+    match report_of(rt.alloc(), schemas.as_slice(), modules.as_slice(), SCRIPT) {
+        Ok(report) => io::writer(&rt).write_all(report.as_slice()),
+        Err(fault) => println!(rt; "{fault}"),
+    }
+}
+
+fn one_text(alloc: Global, text: &[u8]) -> Result<Vec<Vec<u8>>, AllocError> {
+    let mut texts = Vec::new(alloc);
+    texts.push(Vec::from_slice(alloc, text)?)?;
+    Ok(texts)
+}

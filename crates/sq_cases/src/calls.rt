@@ -1,0 +1,98 @@
+//! What a report does not show of a run's calls: how many rows were read to choose rows.
+
+use crate::opened::{OpenRun, open_run};
+use crate::run::Run;
+use sq_items::Items;
+use sq_lex::Name;
+use sq_session::Session;
+use sq_store::Store;
+use sq_tree::{Argument, Arguments, ScriptItem, Sign, SignedNumber};
+use sq_value::{Decimal, Text, Value};
+use std::alloc::{AllocError, Global};
+
+/// What a session says of a call, which its line of the report does not.
+#[derive(Clone, Copy, Debug)]
+pub struct Facts {
+    reads: u64,
+}
+
+/// The calls of a run, made one after the other; none where a text is refused.
+pub fn calls_of<S: Store>(alloc: Global, run: &Run) -> Result<Vec<Facts>, AllocError> {
+    match open_run::<S>(alloc, run) {
+        Some(opened) => {
+            let OpenRun {
+                mut session,
+                script,
+            } = opened;
+            made(alloc, &mut session, script.items.as_slice())
+        }
+        None => Ok(Vec::new(alloc)),
+    }
+}
+
+fn made<S: Store>(
+    alloc: Global,
+    session: &mut Session<S>,
+    items: &[ScriptItem],
+) -> Result<Vec<Facts>, AllocError> {
+    let mut calls = Vec::new(alloc);
+    for item in items {
+        if let ScriptItem::Call(module, name, arguments) = item {
+            calls.push(called(alloc, session, *module, *name, arguments)?)?;
+        }
+    }
+    Ok(calls)
+}
+
+fn called<S: Store>(
+    alloc: Global,
+    session: &mut Session<S>,
+    module: Name,
+    name: Name,
+    arguments: &Arguments,
+) -> Result<Facts, AllocError> {
+    let procedure = session.procedure(module, name).unwrap_or(usize::MAX);
+    let values = values_of(alloc, arguments)?;
+    let reply = session.call(alloc, procedure, values.as_slice())?;
+    Ok(Facts { reads: reply.reads })
+}
+
+fn values_of(alloc: Global, arguments: &Arguments) -> Result<Items<Value>, AllocError> {
+    let mut values = Items::new(alloc);
+    if let Arguments::Listed(arguments) = arguments {
+        values.push(value_of(alloc, &arguments.first)?)?;
+        for argument in arguments.rest.as_slice() {
+            values.push(value_of(alloc, argument)?)?;
+        }
+    }
+    Ok(values)
+}
+
+/// The value of an argument; null for what spells no value.
+fn value_of(alloc: Global, argument: &Argument) -> Result<Value, AllocError> {
+    match argument {
+        Argument::Number(number) => Ok(number_of(number)),
+        Argument::Text(characters) if Text::is_text(characters.as_slice()) => {
+            Ok(Value::Chars(Text::new(alloc, characters.as_slice())?))
+        }
+        Argument::Text(_) | Argument::Null => Ok(Value::Null),
+    }
+}
+
+fn number_of(literal: &SignedNumber) -> Value {
+    match (Decimal::read(literal.number.codes()), literal.sign) {
+        (Ok(number), Some(Sign::Minus)) => Value::Num(number.neg()),
+        (Ok(number), _) => Value::Num(number),
+        (Err(_), _) => Value::Null,
+    }
+}
+
+/// What is so of a call, where `3 reads 1` is wanted. Calls count from 1.
+pub fn answer(alloc: Global, calls: &[Facts], wanted: &str) -> Result<String, AllocError> {
+    let (number, _) = wanted.split_once(' ').unwrap_or((wanted, ""));
+    let place = number.parse::<usize>().unwrap_or(0).wrapping_sub(1);
+    match calls.get(place) {
+        Some(called) => format!(in alloc; "{number} reads {}", called.reads),
+        None => String::from_str(alloc, "no such call"),
+    }
+}
