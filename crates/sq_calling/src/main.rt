@@ -1,7 +1,7 @@
 //! A caller of `run`: it runs a small script in memory and prints the report.
 #![tactic(auto)]
 
-ghost use Rattle.std.specs.Prelude.{◌×◌, Some, [], IfErr, IfOk};
+ghost use Rattle.std.specs.Prelude.{Some, [], IfErr, IfOk};
 ghost use Rattle.sq_run.specs.Refused.{RefusedText};
 ghost use Rattle.sq_run.specs.Run.{Run, texts};
 ghost use Rattle.sq_run.specs.Steps.{Reported};
@@ -23,15 +23,14 @@ fn report_of(
         × Reported r.actions r.start (Some []) (Some report.items)) }
     ensures refused { IfErr result (RefusedText (texts schemas.now) (texts modules.now) script.now) }
 {
-    let mut report = Vec::new(alloc);
-    let mut out = OutOf::new(&mut report);
+    let mut out = OutOf::new(Vec::new(alloc));
     let limits = Limits {
         row_numbers: 1_000_000,
     };
     match run::<HeapStore, _>(alloc, schemas, modules, script, limits, &mut out) {
-        Ok(()) => Ok(report),
+        Ok(()) => Ok(out.into_writer()),
         Err(fault) => {
-            drop(report);
+            drop(out);
             Err(fault)
         }
     }

@@ -34,6 +34,14 @@ impl<W> OutOf<W> {
         }
     }
 
+    /// The writer, with what it has taken.
+    pub fn into_writer(self) -> W
+        ensures { result ≡ self.writer }
+    {
+        let OutOf { writer, .. } = self;
+        writer
+    }
+
     /// Records whether the writer failed, and passes its result on.
     fn noted(&mut self, answer: io::Result<usize>, offered: usize) -> Result<usize, OutFault>
         ensures noted { self.new ≡ record self.old { failed = self.old.failed || is_fault result offered } }
