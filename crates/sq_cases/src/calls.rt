@@ -27,7 +27,10 @@ pub fn calls_of<S: Store>(alloc: Global, run: &Run) -> Result<Vec<Facts>, AllocE
                 mut session,
                 script,
             } = opened;
-            made(alloc, &mut session, script.items.as_slice())
+            let calls = made(alloc, &mut session, script.items.as_slice());
+            drop(session);
+            drop(script);
+            calls
         }
         None => Ok(Vec::new(alloc)),
     }

@@ -1,6 +1,5 @@
 -- What a script names is found in its session, from the first item to the last.
-use Rattle.std.proofs.Common.{◌≡◌, ℕ, zero, suc, ◌<◌, List, [], ◌∷◌, length, get_or, sym, arith}
-use Rattle.std.specs.List.{All}
+use Rattle.std.proofs.Common.{◌≡◌, ℕ, zero, suc, ◌<◌, List, [], ◌∷◌, length, get_or, All, sym, arith}
 use Rattle.sq_session.specs.Session.{Session}
 use Rattle.sq_run.specs.Steps.{IsFound}
 use Rattle.sq_run.specs.declared.action.Action.{Action}

@@ -1,5 +1,4 @@
-ghost use Rattle.std.specs.Prelude.{◌≡◌, ◌≤◌, false, IfErr, IfOk, OnOk};
-ghost use Rattle.std.specs.List.{All};
+ghost use Rattle.std.specs.Prelude.{◌≡◌, ◌≤◌, false, All, IfErr, IfOk, OnOk};
 ghost use Rattle.sq_run.specs.Refused.{InOrder, RefusedText};
 ghost use Rattle.sq_run.specs.Run.{Run, texts};
 ghost use Rattle.sq_run.specs.Steps.{IsFound, Reported, Step};

@@ -1,5 +1,4 @@
-use Rattle.std.proofs.Common.{take}
-use Rattle.std.specs.List.{All}
+use Rattle.std.proofs.Common.{take, All}
 use Rattle.sq_run.specs.Asked.{AreActions}
 use Rattle.sq_run.specs.Steps.{IsFound}
 use Rattle.sq_run.proofs.prepare.actions_in.Given as goal
