@@ -1,7 +1,9 @@
-//! What a report does not show of a run's calls: how many rows were read to choose rows.
+//! What a report does not show of a run's calls: the fault of a statement, and how many rows were read to choose rows.
+ghost use Rattle.std.specs.Prelude.{◌≤◌};
 
 use crate::opened::{OpenRun, open_run};
 use crate::run::Run;
+use sq_bound::BindFault;
 use sq_items::Items;
 use sq_lex::Name;
 use sq_session::Session;
@@ -13,6 +15,7 @@ use std::alloc::{AllocError, Global};
 /// What a session says of a call, which its line of the report does not.
 #[derive(Clone, Copy, Debug)]
 pub struct Facts {
+    fault: Option<BindFault>,
     reads: u64,
 }
 
@@ -24,7 +27,10 @@ pub fn calls_of<S: Store>(alloc: Global, run: &Run) -> Result<Vec<Facts>, AllocE
                 mut session,
                 script,
             } = opened;
-            made(alloc, &mut session, script.items.as_slice())
+            let calls = made(alloc, &mut session, script.items.as_slice());
+            drop(session);
+            drop(script);
+            calls
         }
         None => Ok(Vec::new(alloc)),
     }
@@ -54,7 +60,10 @@ fn called<S: Store>(
     let procedure = session.procedure(module, name).unwrap_or(usize::MAX);
     let values = values_of(alloc, arguments)?;
     let reply = session.call(alloc, procedure, values.as_slice())?;
-    Ok(Facts { reads: reply.reads })
+    Ok(Facts {
+        fault: session.fault(procedure),
+        reads: reply.reads,
+    })
 }
 
 fn values_of(alloc: Global, arguments: &Arguments) -> Result<Items<Value>, AllocError> {
@@ -87,12 +96,26 @@ fn number_of(literal: &SignedNumber) -> Value {
     }
 }
 
-/// What is so of a call, where `3 reads 1` is wanted. Calls count from 1.
+/// What is so of a call, where `3 reads 1` or `7 fault UnknownTable` is wanted. Calls count from 1.
 pub fn answer(alloc: Global, calls: &[Facts], wanted: &str) -> Result<String, AllocError> {
-    let (number, _) = wanted.split_once(' ').unwrap_or((wanted, ""));
+    let (number, rest) = wanted.split_once(' ').unwrap_or((wanted, ""));
     let place = number.parse::<usize>().unwrap_or(0).wrapping_sub(1);
     match calls.get(place) {
-        Some(called) => format!(in alloc; "{number} reads {}", called.reads),
+        Some(called) if rest.starts_with("reads ") => {
+            format!(in alloc; "{number} reads {}", called.reads)
+        }
+        Some(called) => shown_fault(alloc, number, called.fault),
         None => String::from_str(alloc, "no such call"),
+    }
+}
+
+fn shown_fault(
+    alloc: Global,
+    number: &str,
+    fault: Option<BindFault>,
+) -> Result<String, AllocError> {
+    match fault {
+        Some(fault) => format!(in alloc; "{number} fault {fault:?}"),
+        None => format!(in alloc; "{number} has no fault"),
     }
 }

@@ -42,7 +42,13 @@ const RUNS: [&str; 7] = [
 ];
 
 /// Tables of whole runs that say of some calls what no report shows.
-const CALLS: [&str; 1] = ["runs-worked.txt"];
+const CALLS: [&str; 5] = [
+    "runs-statuses.txt",
+    "runs-worked.txt",
+    "runs-accepted.txt",
+    "runs-refused.txt",
+    "runs-limits.txt",
+];
 
 fn main(rt: HostRuntime) -> io::Result<()> {
     for (file, kind) in LINES {

@@ -14,12 +14,18 @@ pub fn try_table<R: Files + Print + AllocGlobal, S: Store>(
     store: &str,
 ) -> io::Result<()> {
     let table = fs::read_to_string(rt, file)?;
+    let tried = try_runs::<R, S>(rt, table.as_str());
+    drop(table);
+    tried?.print_part(rt, file, store)
+}
+
+fn try_runs<R: Print + AllocGlobal, S: Store>(rt: &R, table: &str) -> io::Result<Tally> {
     let mut tally = Tally::new();
     for block in table.split("\nrun ").skip(1) {
         let (name, lines) = block.split_once('\n').unwrap_or((block, ""));
         try_run::<R, S>(rt, &mut tally, name, lines)?;
     }
-    tally.print(rt, format!(in rt.alloc(); "{file}, {store}")?.as_str())
+    Ok(tally)
 }
 
 fn try_run<R: Print + AllocGlobal, S: Store>(
@@ -37,6 +43,12 @@ fn try_run<R: Print + AllocGlobal, S: Store>(
 /// Tries what the lines `call ..` of a table say of single calls.
 pub fn try_calls<R: Files + Print + AllocGlobal>(rt: &R, file: &str) -> io::Result<()> {
     let table = fs::read_to_string(rt, file)?;
+    let tried = try_calls_of_runs(rt, table.as_str());
+    drop(table);
+    tried?.print_part(rt, file, "single calls")
+}
+
+fn try_calls_of_runs<R: Print + AllocGlobal>(rt: &R, table: &str) -> io::Result<Tally> {
     let mut tally = Tally::new();
     for block in table.split("\nrun ").skip(1) {
         let (name, lines) = block.split_once('\n').unwrap_or((block, ""));
@@ -44,7 +56,7 @@ pub fn try_calls<R: Files + Print + AllocGlobal>(rt: &R, file: &str) -> io::Resu
             try_calls_of_run(rt, &mut tally, name, lines)?;
         }
     }
-    tally.print(rt, format!(in rt.alloc(); "{file}, single calls")?.as_str())
+    Ok(tally)
 }
 
 fn try_calls_of_run<R: Print + AllocGlobal>(
@@ -54,7 +66,9 @@ fn try_calls_of_run<R: Print + AllocGlobal>(
     lines: &str,
 ) -> io::Result<()> {
     let run = Run::read(rt.alloc(), lines)?;
-    let calls = calls_of::<HeapStore>(rt.alloc(), &run)?;
+    let calls = calls_of::<HeapStore>(rt.alloc(), &run);
+    drop(run);
+    let calls = calls?;
     for line in lines.lines() {
         if let Some(wanted) = line.strip_prefix("call ") {
             let got = answer(rt.alloc(), calls.as_slice(), wanted)?;

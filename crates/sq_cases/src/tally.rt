@@ -37,4 +37,10 @@ impl Tally {
         let Tally { cases, differ } = self;
         println!(rt; "{table}: {cases} cases, {differ} differ")
     }
+
+    /// Prints what was counted where a table is tried in more ways than one.
+    pub fn print_part(self, rt: &impl Print, table: &str, part: &str) -> io::Result<()> {
+        let Tally { cases, differ } = self;
+        println!(rt; "{table}, {part}: {cases} cases, {differ} differ")
+    }
 }

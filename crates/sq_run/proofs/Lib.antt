@@ -1,3 +1,4 @@
+pub mod Found
 pub mod Refused
 pub mod Spelled
 pub mod Steps

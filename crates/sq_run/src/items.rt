@@ -6,6 +6,7 @@ ghost use Rattle.sq_model.specs.Script as model;
 ghost use Rattle.sq_model.specs.Run.{item_of_script};
 ghost use Rattle.sq_run.specs.Action.{item_of};
 ghost use Rattle.sq_run.specs.Fault.{IsItemFault};
+ghost use Rattle.sq_run.specs.Steps.{IsFound};
 
 use crate::action::{Action, CallAction, ShowAction};
 use crate::refusal::RefusalName;
@@ -42,6 +43,7 @@ pub(crate) fn action_of<S: Store>(
     item: &ScriptItem,
 ) -> Result<Action, ItemFault>
     ensures action { IfOk result (λ action. item_of action ≡ item_of_script item.now) }
+    ensures found { IfOk result (IsFound session.now) }
     ensures of_meaning { IfErr result IsItemFault }
 {
     match item {
@@ -62,6 +64,7 @@ fn called<S: Store>(
     arguments: &Arguments,
 ) -> Result<Action, ItemFault>
     ensures action { IfOk result (λ action. item_of action ≡ item_of_script (script.Call «module» name arguments.now)) }
+    ensures found { IfOk result (IsFound session.now) }
     ensures of_meaning { IfErr result IsItemFault }
 {
     let Some(procedure) = session.procedure(module, name) else {
@@ -81,6 +84,7 @@ fn called<S: Store>(
 
 fn shown<S: Store>(session: &Session<S>, user: Name, name: Name) -> Result<Action, ItemFault>
     ensures action { IfOk result (λ action. item_of action ≡ item_of_script (script.Table user name)) }
+    ensures found { IfOk result (IsFound session.now) }
     ensures of_meaning { IfErr result IsItemFault }
 {
     match session.table(user, name) {

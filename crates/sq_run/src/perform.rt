@@ -1,7 +1,7 @@
-ghost use Rattle.std.specs.Prelude.{◌≡◌, ◌≤◌, false, IfErr, IfOk, OnOk};
+ghost use Rattle.std.specs.Prelude.{◌≡◌, ◌≤◌, false, All, IfErr, IfOk, OnOk};
 ghost use Rattle.sq_run.specs.Refused.{InOrder, RefusedText};
 ghost use Rattle.sq_run.specs.Run.{Run, texts};
-ghost use Rattle.sq_run.specs.Steps.{Reported, Step};
+ghost use Rattle.sq_run.specs.Steps.{IsFound, Reported, Step};
 ghost use Rattle.sq_run.specs.Performed.{IsScriptStop, Performed};
 ghost use Rattle.sq_run.specs.Stop.{StoppedAt, Wrote, is_write};
 
@@ -45,7 +45,11 @@ pub fn run<S: Store, W: Out>(
     ensures order { IfErr result (InOrder (texts schemas.now) (texts modules.now)) }
 {
     match open_session::<S>(alloc, schemas, modules, limits) {
-        Ok(mut session) => run_script(alloc, &mut session, script, out),
+        Ok(mut session) => {
+            let answer = run_script(alloc, &mut session, script, out);
+            drop(session);
+            answer
+        }
         Err(fault) => Err(fault),
     }
 }
@@ -76,6 +80,7 @@ fn perform_all<S: Store, W: Out>(
     actions: &[Action],
     out: &mut W,
 ) -> Result<(), RunFault>
+    requires found { All (IsFound session.old) actions.now }
     requires open_out { W.failed out.old ≡ false }
     ensures report { OnOk result (Reported actions.now session.old (W.taken out.old) (W.taken out.new)) }
     ensures stopped { IfErr result (StoppedAt actions.now session.old (W.taken out.old) (W.taken out.new)) }
@@ -101,7 +106,10 @@ fn perform<S: Store>(
     session: &mut Session<S>,
     action: &Action,
 ) -> Result<Vec<u8>, AllocError>
+    requires { IsFound session.old action.now }
     ensures step { IfOk result (λ lines. Step action.now session.old lines.items session.new) }
+    ensures procedures { session.new.procedures ≡ session.old.procedures }
+    ensures tables { session.new.tables ≡ session.old.tables }
 {
     match action {
         Action::Call(call) => {

@@ -1,5 +1,5 @@
 //! From texts to a session and what its script asks for.
-ghost use Rattle.std.specs.Prelude.{◌≡◌, ◌≤◌, ◌<◌, length, IfErr, IfOk, IsOk};
+ghost use Rattle.std.specs.Prelude.{◌≡◌, ◌≤◌, ◌<◌, length, All, IfErr, IfOk, IsOk};
 ghost use Rattle.sq_lex.specs.Reading.{reading};
 ghost use Rattle.sq_tree.specs.Schema.{schema_tokens, schema_depth};
 ghost use Rattle.sq_tree.specs.Module.{module_tokens, module_depth};
@@ -7,6 +7,7 @@ ghost use Rattle.sq_module.specs.Refusal.{IsOfSomeModule};
 ghost use Rattle.sq_run.specs.Fault.{IsItemFault, IsOfMeaning, IsOpeningFault, IsRefusedScript, IsScriptFault, SomeRefused, run_fault};
 ghost use Rattle.sq_run.specs.Run.{AllSpell, IsStart, SomeTrees, texts};
 ghost use Rattle.sq_run.specs.Asked.{AreActions, AreAsked};
+ghost use Rattle.sq_run.specs.Steps.{IsFound};
 
 use crate::action::Action;
 use crate::items::{ItemFault, action_of};
@@ -49,6 +50,7 @@ pub(crate) fn read_script<S: Store>(
     script: &[u8],
 ) -> Result<Vec<Action>, RunFault>
     ensures asked { IfOk result (λ actions. AreAsked script.now actions.items) }
+    ensures found { IfOk result (λ actions. All (IsFound session.now) actions.items) }
     ensures refused { IfErr result (IsScriptFault script.now) }
 {
     match actions_of(alloc, session, script) {
@@ -177,6 +179,7 @@ fn actions_of<S: Store>(
     script: &[u8],
 ) -> Result<Vec<Action>, TextFault>
     ensures asked { IfOk result (λ actions. AreAsked script.now actions.items) }
+    ensures found { IfOk result (λ actions. All (IsFound session.now) actions.items) }
     ensures refused { IfErr result (IsRefusedScript script.now) }
 {
     let tree = read_text::<ScriptText>(alloc, 0, script)?;
@@ -193,6 +196,7 @@ fn actions_in<S: Store>(
 ) -> Result<Vec<Action>, TextFault>
     requires read { IsOk (reading script.now) }
     ensures actions { IfOk result (λ actions. AreActions tree.now.items actions.items) }
+    ensures found { IfOk result (λ actions. All (IsFound session.now) actions.items) }
     ensures of_meaning { IfErr result (IsOfMeaning 0) }
 {
     let mut actions = Vec::new(alloc);

@@ -1,7 +1,13 @@
 use Rattle.std.proofs.Common.{◌≡◌, ap, sym, ◌∙◌, arith, length}
 use Rattle.sq_run.specs.Steps.{Step}
+use Rattle.sq_run.proofs.Found.{found_at}
 use Rattle.sq_run.proofs.Steps.{stopped_write, wrote_more}
 use Rattle.sq_run.proofs.perform.perform_all.Goals as goal
+
+pub perform-requires : goal.perform-requires
+perform-requires g c =
+    found_at c.args.actions.now c.loop-done.done c.index-actions-done.result c.args.session.now c.loop-done.session
+    c.loop-done-test.true c.index-actions-done.is c.loop-done.invariant.procedures c.loop-done.invariant.tables c.requires.found
 
 pub returns-in-Err-clause-stopped : goal.returns-in-Err-clause-stopped
 returns-in-Err-clause-stopped g c =
@@ -23,4 +29,6 @@ loop-done-preserved g c =
       untouched = λ none. absurd (omega arith);
       small = omega (arith, c.loop-done.invariant.small);
       open_yet = c.in_default-write_whole.ensures.still;
+      procedures = c.perform.ensures.procedures ∙ c.loop-done.invariant.procedures;
+      tables = c.perform.ensures.tables ∙ c.loop-done.invariant.tables;
     }

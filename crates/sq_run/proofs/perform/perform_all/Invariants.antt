@@ -11,4 +11,6 @@ invariant-loop-done g l =
       untouched : l.done ≡ 0 → taken l.out ≡ taken l.initial.out;
       small : l.written ≤ l.done * 2 ^ 64;
       open_yet : g.W.Out.failed l.out ≡ false;
+      procedures : l.session.procedures ≡ first.procedures;
+      tables : l.session.tables ≡ first.tables;
     }
