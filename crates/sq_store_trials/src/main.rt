@@ -8,7 +8,7 @@ mod action;
 mod shown;
 
 use action::{Action, Step, changes_of};
-use shown::{seen_of, show};
+use shown::{content_of, found_in, show};
 use sq_heap::HeapStore;
 use sq_store::{ApplyFault, Change, ListStore, Store, can_apply};
 use std::alloc::{AllocError, Global};
@@ -104,16 +104,18 @@ fn apply<S: Store>(
     steps: [Step; 3],
     back: bool,
 ) -> Result<&'static str, AllocError> {
-    let before = seen_of(alloc, store)?;
-    let came = apply_once(alloc, store, changes_of(alloc, steps)?, back);
-    match came {
-        Some(came) => Ok(came),
-        None if seen_of(alloc, store)?.as_slice() == before.as_slice() => {
-            let came = apply_once(alloc, store, changes_of(alloc, steps)?, back);
-            Ok(came.unwrap_or("refused twice"))
-        }
-        None => Ok("refused and changed"),
+    let content = content_of(alloc, store)?;
+    let found = found_in(alloc, store)?;
+    if let Some(came) = apply_once(alloc, store, changes_of(alloc, steps)?, back) {
+        return Ok(came);
     }
+    if content_of(alloc, store)?.as_slice() != content.as_slice()
+        || found_in(alloc, store)?.as_slice() != found.as_slice()
+    {
+        return Ok("refused and changed");
+    }
+    let came = apply_once(alloc, store, changes_of(alloc, steps)?, back);
+    Ok(came.unwrap_or("refused twice"))
 }
 
 /// Makes changes. None: memory is refused.

@@ -18,7 +18,7 @@ fn column(row: &Row, place: usize) -> i64 {
 }
 
 /// For each row its number and two columns, and then how many numbers are left.
-fn content_of<S: Store>(alloc: Global, store: &S) -> Result<Vec<i64>, AllocError> {
+pub(crate) fn content_of<S: Store>(alloc: Global, store: &S) -> Result<Vec<i64>, AllocError> {
     let mut content = Vec::new(alloc);
     if store.table_count() == 0 {
         return Ok(content);
@@ -53,21 +53,18 @@ fn numbers_of<S: Store>(
     Ok(numbers)
 }
 
-/// All that a store shows: its rows, the numbers left, the first number from each number on, where the first key finds each
-/// value, and where the second key finds each row.
-pub(crate) fn seen_of<S: Store>(alloc: Global, store: &S) -> Result<Vec<i64>, AllocError> {
+/// Which rows a store finds: the first number from each number on, the number under which the first key finds each value, and
+/// the one under which the second key finds each row.
+pub(crate) fn found_in<S: Store>(alloc: Global, store: &S) -> Result<Vec<u64>, AllocError> {
     let mut meter = Meter::new();
-    let mut seen = content_of(alloc, store)?;
-    for number in numbers_of(alloc, store, &mut meter)?.as_slice() {
-        seen.push(*number as i64)?;
-    }
+    let mut numbers = numbers_of(alloc, store, &mut meter)?;
     for value in 1..=9 {
-        seen.push(found(alloc, store, value, &mut meter)?.unwrap_or(0) as i64)?;
+        numbers.push(found(alloc, store, value, &mut meter)?.unwrap_or(0))?;
     }
     for at in 1..=MOST {
-        seen.push(found_again(alloc, store, at, &mut meter)? as i64)?;
+        numbers.push(found_again(alloc, store, at, &mut meter)?)?;
     }
-    Ok(seen)
+    Ok(numbers)
 }
 
 /// Prints the rows, the first number from each number on, where the first key finds each value, and how many rows were
