@@ -1,5 +1,5 @@
 -- What a script names is found in its session, from the first item to the last.
-use Rattle.std.proofs.Common.{◌≡◌, ℕ, zero, suc, ◌<◌, List, [], ◌∷◌, length, get_or, All, sym, arith}
+use Rattle.std.proofs.Common.{◌≡◌, ℕ, ◌<◌, List, length, get_or, All, sym, subst}
 use Rattle.sq_session.specs.Session.{Session}
 use Rattle.sq_run.specs.Steps.{IsFound}
 use Rattle.sq_run.specs.declared.action.Action.{Action}
@@ -12,6 +12,4 @@ found_later (Show x) s t procedures tables is = rw tables is
 
 pub found_at : (items : List Action) (i : ℕ) (a : Action) (s t : Session) → i < length items → a ≡ get_or items i a
     → t.procedures ≡ s.procedures → t.tables ≡ s.tables → All (IsFound s) items → IsFound t a
-found_at [] i a s t lt e procedures tables all = absurd (omega arith)
-found_at (x ∷ xs) zero a s t lt e procedures tables all = rw e (found_later x s t procedures tables all.0)
-found_at (x ∷ xs) (suc i) a s t lt e procedures tables all = found_at xs i a s t (omega arith) e procedures tables all.1
+found_at items i a s t lt e procedures tables all = found_later a s t procedures tables (subst (IsFound s) (sym e) (all i a lt))

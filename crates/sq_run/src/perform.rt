@@ -45,11 +45,7 @@ pub fn run<S: Store, W: Out>(
     ensures order { IfErr result (InOrder (texts schemas.now) (texts modules.now)) }
 {
     match open_session::<S>(alloc, schemas, modules, limits) {
-        Ok(mut session) => {
-            let answer = run_script(alloc, &mut session, script, out);
-            drop(session);
-            answer
-        }
+        Ok(mut session) => run_script(alloc, &mut session, script, out),
         Err(fault) => Err(fault),
     }
 }
