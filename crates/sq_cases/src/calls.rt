@@ -43,8 +43,13 @@ fn made<S: Store>(
 ) -> Result<Vec<Facts>, AllocError> {
     let mut calls = Vec::new(alloc);
     for item in items {
-        if let ScriptItem::Call(module, name, arguments) = item {
-            calls.push(called(alloc, session, *module, *name, arguments)?)?;
+        if let ScriptItem::Call {
+            module,
+            procedure,
+            arguments,
+        } = item
+        {
+            calls.push(called(alloc, session, *module, *procedure, arguments)?)?;
         }
     }
     Ok(calls)
