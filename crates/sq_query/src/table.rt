@@ -76,23 +76,50 @@ pub(crate) fn numbered_rows<'a, S: Store>(
 /// The rows of a table or view.
 pub(crate) fn rows_at<'a>(place: TablePlace, context: &Context<'a>) -> Result<Vec<&'a Row>, Fault> {
     match place {
-        TablePlace::Base(place) => match context.bases.iter().find(|base| base.place == place) {
-            Some(base) => Ok(Vec::from_slice(context.alloc, base.rows.as_slice())?),
-            None => Err(Fault::NOT_WELL_FORMED),
+        TablePlace::Base(place) => Ok(Vec::from_slice(
+            context.alloc,
+            base_at(place, context)?.rows.as_slice(),
+        )?),
+        TablePlace::View(place) => view_at(place, context)?.lend(context.alloc),
+    }
+}
+
+/// No rows of a table or view, but the status that the view's query ended with.
+pub(crate) fn no_rows_at<'a>(
+    place: TablePlace,
+    context: &Context<'a>,
+) -> Result<Vec<&'a Row>, Fault> {
+    match place {
+        TablePlace::Base(place) => {
+            base_at(place, context)?;
+        }
+        TablePlace::View(place) => {
+            view_at(place, context)?;
+        }
+    }
+    Ok(Vec::new(context.alloc))
+}
+
+fn base_at<'a>(place: usize, context: &Context<'a>) -> Result<&'a BaseRows<'a>, Fault> {
+    match context.bases.iter().find(|base| base.place == place) {
+        Some(base) => Ok(base),
+        None => Err(Fault::NOT_WELL_FORMED),
+    }
+}
+
+/// The rows of a view, or the status that its query ended with.
+fn view_at<'a>(place: usize, context: &Context<'a>) -> Result<&'a ViewRows, Fault> {
+    match context.views.iter().find(|view| view.place == place) {
+        Some(view) => match view.failure {
+            None => Ok(view),
+            Some(failure) => Err(Fault::Status(failure)),
         },
-        TablePlace::View(place) => match context.views.iter().find(|view| view.place == place) {
-            Some(view) => view.lend(context.alloc),
-            None => Err(Fault::NOT_WELL_FORMED),
-        },
+        None => Err(Fault::NOT_WELL_FORMED),
     }
 }
 
 impl ViewRows {
-    /// The rows, or the status.
     fn lend(&self, alloc: Global) -> Result<Vec<&Row>, Fault> {
-        if let Some(failure) = self.failure {
-            return Err(Fault::Status(failure));
-        }
         let mut rows = Vec::new(alloc);
         for row in self.rows.as_slice() {
             rows.push(row)?;
