@@ -31,7 +31,7 @@ const LINES: [(&str, Kind); 5] = [
 ];
 
 /// Tables of whole runs.
-const RUNS: [&str; 7] = [
+const RUNS: [&str; 8] = [
     "runs-small.txt",
     "runs-statuses.txt",
     "runs-worked.txt",
@@ -39,6 +39,7 @@ const RUNS: [&str; 7] = [
     "runs-refused.txt",
     "runs-broken.txt",
     "runs-limits.txt",
+    "runs-random.txt",
 ];
 
 /// Tables of whole runs that say of some calls what no report shows.
