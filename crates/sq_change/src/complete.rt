@@ -1,15 +1,16 @@
 //! A change of a base table, where check options and constraints allow it.
 
 ghost use Rattle.std.specs.Prelude.{◌≡◌, OnErr, OnOk, Some};
+ghost use Rattle.sq_change.specs.Changed.{CanApply};
 ghost use Rattle.sq_store.specs.Content.{changed_by, table_at, with_table};
 
 use crate::constraint::{check_options_met, rows_satisfied};
 use crate::reference::{Referenced, referenced_by, references_satisfied};
-use crate::setting::{Setting, base_table};
-use sq_bound::{Names, TablePlace};
+use crate::setting::{Base, Setting};
+use sq_bound::{BaseTable, Names, TablePlace};
 use sq_lex::Name;
 use sq_query::{Failure, Fault};
-use sq_store::{ApplyFault, Change, Store, can_apply};
+use sq_store::{ApplyFault, Change, Store};
 use sq_value::Value;
 use std::alloc::Global;
 
@@ -18,31 +19,31 @@ use std::alloc::Global;
 pub(crate) struct Changed {
     /// The table that the statement names.
     pub(crate) named: TablePlace,
-    /// The place of the base table under it.
-    pub(crate) place: usize,
     pub(crate) changes: Vec<Change>,
     /// The keys whose values rows may lose by it.
     pub(crate) lost_keys: Vec<usize>,
 }
 
-/// Makes the changes. In this order: check options, constraints on one row, keys, references.
+/// Makes the changes of a base table. In this order: check options, constraints on one row, keys, references.
 pub(crate) fn complete<N: Names, S: Store>(
     alloc: Global,
     names: &N,
+    base: Base<'_>,
     changed: Changed,
     store: &mut S,
     user: Name,
     parameters: &[Value],
 ) -> Result<(), Fault>
+    requires { CanApply (S.row_numbers store.old) (S.key_columns store.old) (S.content_now store.old) base.place changed.changes.items }
     ensures ok { OnOk result (S.content_now store.new
-        ≡ with_table (S.content_now store.old) changed.place (changed_by (table_at (S.content_now store.old) changed.place) changed.changes.items)) }
+        ≡ with_table (S.content_now store.old) base.entry.place (changed_by (table_at (S.content_now store.old) base.entry.place) changed.changes.items)) }
     ensures err { OnErr result (S.content_now store.new ≡ S.content_now store.old) }
     ensures committed { S.committed store.new ≡ S.committed store.old }
     ensures keys { S.key_columns store.new ≡ S.key_columns store.old }
     ensures numbers { S.row_numbers store.new ≡ S.row_numbers store.old }
 {
     let setting = Setting::new(alloc, names, &*store, user, parameters);
-    let referenced = match rows_admitted(&setting, &changed) {
+    let referenced = match rows_admitted(&setting, base.table, &changed) {
         Ok(referenced) => referenced,
         Err(fault) => {
             drop(changed);
@@ -50,18 +51,17 @@ pub(crate) fn complete<N: Names, S: Store>(
         }
     };
     let Changed {
-        place,
         changes,
         lost_keys,
         ..
     } = changed;
-    apply(alloc, store, place, changes)?;
+    apply(alloc, store, base.place, changes)?;
     let satisfied = references_satisfied(
         alloc,
         names,
         store,
         referenced.as_slice(),
-        place,
+        base.place,
         lost_keys.as_slice(),
     );
     if satisfied.is_err() {
@@ -73,9 +73,9 @@ pub(crate) fn complete<N: Names, S: Store>(
 /// Whether the rows that are put in a table may be there, and the rows to which they refer.
 fn rows_admitted<N: Names, S: Store>(
     setting: &Setting<'_, N, S>,
+    table: &BaseTable,
     changed: &Changed,
 ) -> Result<Vec<Referenced>, Fault> {
-    let table = base_table(setting.names, changed.place)?;
     let changes = changed.changes.as_slice();
     check_options_met(setting, changed.named, changes)?;
     rows_satisfied(setting, table, changes)?;
@@ -89,6 +89,7 @@ fn apply<S: Store>(
     place: usize,
     changes: Vec<Change>,
 ) -> Result<(), Fault>
+    requires { CanApply (S.row_numbers store.old) (S.key_columns store.old) (S.content_now store.old) place changes.items }
     ensures ok { OnOk result (S.content_now store.new
         ≡ with_table (S.content_now store.old) place (changed_by (table_at (S.content_now store.old) place) changes.items)) }
     ensures before { OnOk result (S.before store.new ≡ Some (S.content_now store.old)) }
@@ -97,10 +98,6 @@ fn apply<S: Store>(
     ensures keys { S.key_columns store.new ≡ S.key_columns store.old }
     ensures numbers { S.row_numbers store.new ≡ S.row_numbers store.old }
 {
-    if !can_apply(store, place, changes.as_slice()) {
-        drop(changes);
-        return Err(Fault::NOT_WELL_FORMED);
-    }
     match store.apply(alloc, place, changes) {
         Ok(()) => Ok(()),
         Err(ApplyFault::Duplicate) => Err(Fault::Status(Failure::IntegrityConstraintViolation)),

@@ -1,6 +1,6 @@
 //! What a statement reads.
 
-ghost use Rattle.std.specs.Prelude.{◌≡◌};
+ghost use Rattle.std.specs.Prelude.{◌≡◌, ◌<◌, length, IfOk};
 
 use sq_bound::{BaseTable, BoundCond, BoundExpr, Leaf, Names, TableBody, TablePlace};
 use sq_lex::Name;
@@ -62,6 +62,29 @@ impl<'a, N: Names, S: Store> Setting<'a, N, S> {
             self.inputs(),
         )
     }
+}
+
+/// A base table, and its place among the tables of the store.
+#[derive(Clone, Copy)]
+pub(crate) struct Base<'a> {
+    pub(crate) place: usize,
+    pub(crate) table: &'a BaseTable,
+}
+
+/// The base table at a place, whose rows the store keeps.
+pub(crate) fn base_at<'a, N: Names, S: Store>(
+    names: &'a N,
+    store: &S,
+    place: usize,
+) -> Result<Base<'a>, Fault>
+    ensures place { IfOk result (λ base. base.place ≡ place) }
+    ensures kept { IfOk result (λ base. base.place < length (S.content_now store.now)) }
+{
+    if place >= store.table_count() {
+        return Err(Fault::NOT_WELL_FORMED);
+    }
+    let table = base_table(names, place)?;
+    Ok(Base { place, table })
 }
 
 /// The base table at a place.

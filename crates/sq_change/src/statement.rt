@@ -1,16 +1,19 @@
 //! The three statements that change a table.
 
-ghost use Rattle.std.specs.Prelude.{◌≡◌, ◌<◌, true, vec_len, IfOk, Ok, OnErr, OnOk};
-ghost use Rattle.sq_change.specs.Changed.{Removals, Replacements, are_insertions};
-ghost use Rattle.sq_change.specs.Statement.{Deletes, Inserts, IsGiven, Updates, base_of};
+ghost use Rattle.std.specs.Prelude.{◌≡◌, ◌<◌, true, length, vec_len, IfOk, Ok, OnErr, OnOk};
+ghost use Rattle.std.specs.List.{list_all};
+ghost use Rattle.sq_store.specs.Change.{rows_put};
+ghost use Rattle.sq_store.specs.Keys.{has_keys, keys_at};
+ghost use Rattle.sq_change.specs.Changed.{CanApply, Removals, Replacements, are_insertions};
+ghost use Rattle.sq_change.specs.Statement.{Deletes, Inserts, IsGiven, Updates};
 
 use crate::complete::{Changed, complete};
 use crate::given::new_rows;
-use crate::setting::{Setting, base_table};
+use crate::setting::{Base, Setting, base_at};
 use crate::target::{all_keys, changed_table, keys_assigned, numbers_changed, removed, replaced};
-use sq_bound::{BoundInsert, BoundUpdate, ChangeTarget, Names, TablePlace};
+use sq_bound::{BaseTable, BoundInsert, BoundUpdate, ChangeTarget, Names, TablePlace};
 use sq_query::{Failure, Fault, Inputs};
-use sq_store::{Change, Meter, Store};
+use sq_store::{Change, Meter, Store, can_apply};
 use std::alloc::Global;
 
 /// Performs an insert statement (ISO/IEC 9075:1992, 13.8).
@@ -30,33 +33,35 @@ pub fn insert<N: Names, S: Store>(
     ensures numbers { S.row_numbers store.new ≡ S.row_numbers store.old }
 {
     let Inputs { user, parameters } = inputs;
+    let base = base_at(names, &*store, insert.base)?;
     let setting = Setting::new(alloc, names, &*store, user, parameters);
-    let changed = inserted(&setting, insert, meter)?;
-    complete(alloc, names, changed, store, user, parameters)
+    let changed = inserted(&setting, insert, base, meter)?;
+    complete(alloc, names, base, changed, store, user, parameters)
 }
 
 /// The new rows of an insert statement, which need as many row numbers (own rule).
 fn inserted<N: Names, S: Store>(
     setting: &Setting<'_, N, S>,
     insert: &BoundInsert,
+    base: Base<'_>,
     meter: &mut Meter,
 ) -> Result<Changed, Fault>
-    ensures place { IfOk result (λ changed. changed.place ≡ insert.now.base) }
+    requires { base.place < length (S.content_now setting.now.store.now) }
+    ensures applicable { IfOk result (λ changed. CanApply (S.row_numbers setting.now.store.now) (S.key_columns setting.now.store.now) (S.content_now setting.now.store.now) base.entry.place changed.changes.items) }
     ensures insertions { IfOk result (λ changed. are_insertions changed.changes.items ≡ true) }
     ensures some { IfOk result (λ changed. 0 < vec_len changed.changes) }
 {
-    let table = base_table(setting.names, insert.base)?;
-    if insert.base >= setting.store.table_count() {
-        return Err(Fault::NOT_WELL_FORMED);
-    }
-    let changes = new_rows(setting, insert, table, meter)?;
-    if changes.len() as u64 > setting.store.numbers_left(insert.base) {
+    let changes = new_rows(setting, insert, base.table, meter)?;
+    if changes.len() as u64 > setting.store.numbers_left(base.place) {
         drop(changes);
         return Err(Fault::Status(Failure::NoRowNumberLeft));
     }
+    if !can_apply(setting.store, base.place, changes.as_slice()) {
+        drop(changes);
+        return Err(Fault::NOT_WELL_FORMED);
+    }
     Ok(Changed {
         named: insert.table,
-        place: insert.base,
         changes,
         lost_keys: Vec::new(setting.alloc),
     })
@@ -81,49 +86,46 @@ pub fn update<N: Names, S: Store>(
     ensures numbers { S.row_numbers store.new ≡ S.row_numbers store.old }
 {
     let Inputs { user, parameters } = inputs;
+    let (named, place) = changed_table(&update.target);
+    let base = base_at(names, &*store, place)?;
     let setting = Setting::new(alloc, names, &*store, user, parameters);
-    let changed = updated(&setting, update, on, meter)?;
-    complete(alloc, names, changed, store, user, parameters)
+    let changed = updated(&setting, named, base, update, on, meter)?;
+    complete(alloc, names, base, changed, store, user, parameters)
 }
 
 /// The changed rows of an update statement.
 fn updated<N: Names, S: Store>(
     setting: &Setting<'_, N, S>,
+    named: TablePlace,
+    base: Base<'_>,
     update: &BoundUpdate,
     on: Option<u64>,
     meter: &mut Meter,
 ) -> Result<Changed, Fault>
-    requires { IsGiven update.now.target on }
-    ensures place { IfOk result (λ changed. changed.place ≡ base_of update.now.target) }
+    requires given { IsGiven update.now.target on }
+    requires kept { base.place < length (S.content_now setting.now.store.now) }
     ensures replacements { IfOk result (λ changed. Replacements update.now.target on changed.changes.items) }
+    ensures columns { IfOk result (λ changed. list_all (has_keys (keys_at (S.key_columns setting.now.store.now) base.entry.place)) (rows_put changed.changes.items) ≡ true) }
 {
-    let (named, place) = changed_table(&update.target);
-    let table = base_table(setting.names, place)?;
-    if place >= setting.store.table_count() {
-        return Err(Fault::NOT_WELL_FORMED);
-    }
     let assignments = update.assignments.as_slice();
     let numbers = numbers_changed(setting, &update.target, on, meter)?;
-    let changes = replaced(setting, table, place, assignments, numbers.as_slice());
+    let changes = replaced(setting, base, assignments, numbers.as_slice());
     drop(numbers);
-    let lost_keys = keys_assigned(setting.alloc, table, assignments);
-    changed(named, place, changes, lost_keys)
+    let lost_keys = keys_assigned(setting.alloc, base.table, assignments);
+    changed(named, changes, lost_keys)
 }
 
 /// Changes, and the keys whose values rows may lose by them.
 fn changed(
     named: TablePlace,
-    place: usize,
     changes: Result<Vec<Change>, Fault>,
     lost_keys: Result<Vec<usize>, Fault>,
 ) -> Result<Changed, Fault>
-    ensures place { IfOk result (λ changed. changed.place ≡ place) }
-    ensures changes { IfOk result (λ changed. changes ≡ Ok changed.changes) }
+    ensures { IfOk result (λ changed. changes ≡ Ok changed.changes) }
 {
     match (changes, lost_keys) {
         (Ok(changes), Ok(lost_keys)) => Ok(Changed {
             named,
-            place,
             changes,
             lost_keys,
         }),
@@ -157,26 +159,27 @@ pub fn delete<N: Names, S: Store>(
     ensures numbers { S.row_numbers store.new ≡ S.row_numbers store.old }
 {
     let Inputs { user, parameters } = inputs;
+    let (named, place) = changed_table(target);
+    let base = base_at(names, &*store, place)?;
     let setting = Setting::new(alloc, names, &*store, user, parameters);
-    let changed = deleted(&setting, target, on, meter)?;
-    complete(alloc, names, changed, store, user, parameters)
+    let changed = deleted(&setting, named, base.table, target, on, meter)?;
+    complete(alloc, names, base, changed, store, user, parameters)
 }
 
 /// The removed rows of a delete statement.
 fn deleted<N: Names, S: Store>(
     setting: &Setting<'_, N, S>,
+    named: TablePlace,
+    table: &BaseTable,
     target: &ChangeTarget,
     on: Option<u64>,
     meter: &mut Meter,
 ) -> Result<Changed, Fault>
     requires { IsGiven target.now on }
-    ensures place { IfOk result (λ changed. changed.place ≡ base_of target.now) }
-    ensures removals { IfOk result (λ changed. Removals target.now on changed.changes.items) }
+    ensures { IfOk result (λ changed. Removals target.now on changed.changes.items) }
 {
-    let (named, place) = changed_table(target);
-    let table = base_table(setting.names, place)?;
     let numbers = numbers_changed(setting, target, on, meter)?;
     let changes = removed(setting.alloc, numbers.as_slice());
     drop(numbers);
-    changed(named, place, changes, all_keys(setting.alloc, table))
+    changed(named, changes, all_keys(setting.alloc, table))
 }

@@ -1,10 +1,13 @@
 //! The rows that UPDATE and DELETE change (ISO/IEC 9075:1992, 13.6, 13.7, 13.9 and 13.10).
 
 ghost use Rattle.std.specs.Prelude.{◌≡◌, ◌<◌, ◌∷◌, [], length, map, true, IfOk};
+ghost use Rattle.std.specs.List.{list_all};
+ghost use Rattle.sq_store.specs.Change.{rows_put};
+ghost use Rattle.sq_store.specs.Keys.{has_keys, keys_at};
 ghost use Rattle.sq_change.specs.Changed.{are_replacements};
 ghost use Rattle.sq_change.specs.Statement.{Chosen, IsGiven, base_of};
 
-use crate::setting::Setting;
+use crate::setting::{Base, Setting};
 use crate::storing::stored_value;
 use sq_bound::{BaseTable, BoundAssignment, ChangeTarget, Names, TablePlace};
 use sq_items::Items;
@@ -68,19 +71,19 @@ fn only(alloc: Global, number: u64) -> Result<Vec<u64>, Fault>
 /// The rows under these numbers after the set clauses.
 pub(crate) fn replaced<N: Names, S: Store>(
     setting: &Setting<'_, N, S>,
-    table: &BaseTable,
-    place: usize,
+    base: Base<'_>,
     assignments: &[BoundAssignment],
     numbers: &[u64],
 ) -> Result<Vec<Change>, Fault>
-    requires { place < length (S.content_now setting.now.store.now) }
-    ensures { IfOk result (λ changes. are_replacements numbers.now changes.items ≡ true) }
+    requires { base.place < length (S.content_now setting.now.store.now) }
+    ensures replacements { IfOk result (λ changes. are_replacements numbers.now changes.items ≡ true) }
+    ensures columns { IfOk result (λ changes. list_all (has_keys (keys_at (S.key_columns setting.now.store.now) base.entry.place)) (rows_put changes.items) ≡ true) }
 {
     let mut changes = Vec::new(setting.alloc);
     let mut meter = Meter::new();
     for number in numbers {
-        if let Some(row) = setting.store.row(place, *number, &mut meter) {
-            let row = updated_row(setting, table, assignments, row)?;
+        if let Some(row) = setting.store.row(base.place, *number, &mut meter) {
+            let row = updated_row(setting, base.table, assignments, row)?;
             changes.push(Change::Replace(*number, row))?;
         }
     }
@@ -93,7 +96,9 @@ fn updated_row<N: Names, S: Store>(
     table: &BaseTable,
     assignments: &[BoundAssignment],
     row: &Row,
-) -> Result<Row, Fault> {
+) -> Result<Row, Fault>
+    ensures { IfOk result (λ updated. length updated ≡ length row.now) }
+{
     let mut updated = copy_row(setting.alloc, row.as_slice())?.into_vec();
     for assignment in assignments {
         assign(setting, table, assignment, row, updated.as_mut_slice())?;

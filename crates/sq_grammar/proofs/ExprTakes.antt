@@ -34,7 +34,7 @@ use Rattle.sq_tree.proofs.ExprLaws as law
 use Rattle.sq_tree.proofs.ExprLaws.{primary_cases}
 use Rattle.sq_grammar.specs.Reading.{Tokens, Parser, sees, number_of, text_of, name_of, all, pure}
 use Rattle.sq_grammar.specs.Names.{sign_if_any, column_from, parameter_from}
-use Rattle.sq_grammar.specs.Expr.{times_if_any, quantifier_if_any, function_of, star_of, argument_of, set_function, primary_at, factor, scaled, term, added, level, level_from, inside, expr, expr_from}
+use Rattle.sq_grammar.specs.Expr.{times_if_any, quantifier_if_any, function_of, argument_of, set_function, primary_at, factor, scaled, term, added, level, level_from, inside, expr, expr_from}
 use Rattle.sq_grammar.specs.Expr as spec
 use Rattle.sq_grammar.proofs.Takes.{Takes, done, fits, lifted, andthen, plainly, mapped, word, mark, closing, expected, eaten, uneaten, met, unmet, openly, rows, follows}
 use Rattle.sq_grammar.proofs.NamesTakes.{a_colon, column_cases, column_1, column_2, column_3, column_from_1, column_from_2, column_from_3, parameter_from_takes, sign_takes}

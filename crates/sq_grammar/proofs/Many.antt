@@ -78,8 +78,3 @@ deeper p (suc n) h = ap (λ m. p (suc m)) (omega arith)
 pub front-nil : {A : Type 0} (r : Outcome (List A)) → with_front [] r ≡ r
 front-nil (Ok x) = refl
 front-nil (Err n) = refl
-
-pub more_reads : {A : Type 0} (parser : Parser A) (xs : List A) (now mid after : Tokens) (found : Bool) (x : A) (r : Outcome (List A)) → with_front xs (all (behind comma parser) now) ≡ r → eat comma now ≡ Ok (found, mid) → found ≡ true → parser mid ≡ Ok (x, after) → length after < length now → with_front (xs ++ x ∷ []) (all (behind comma parser) after) ≡ r
-more_reads parser xs now mid after found x r read e there s less =
-    let h : eat comma now ≡ Ok (true, mid) = e ∙ ap (λ b. Ok (b, mid)) there in
-    front-some (behind comma parser) xs now r x after read (rw h (rw s refl)) less

@@ -5,7 +5,6 @@ use Rattle.sq_lex.specs.declared.symbol.Symbol.TheVariants as symbol
 use Rattle.sq_lex.specs.declared.word.Word.TheVariants as word
 use Rattle.sq_tree.specs.declared.query.Query.{Query, roll-Query}
 use Rattle.sq_tree.specs.declared.query.QueryTerm.TheVariants as terms
-use Rattle.sq_tree.specs.Tree.{Tokens}
 use Rattle.sq_tree.specs.Tree as tree
 use Rattle.sq_tree.specs.Query.{query_tokens, query_term_tokens, union_term_tokens}
 use Rattle.sq_tree.proofs.QueryDepth.{query_depth, query_term_depth, union_term_depth}

@@ -9,7 +9,7 @@ use Rattle.std.proofs.lemmas.Option.{get_or_from_slice_get, slice_get-get_or, sl
 use Rattle.std.specs.Cmp.Lexicographic.{pointwise, same_text}
 use Rattle.std.specs.List.{AllByRecursion, list_all, list_any, position, position_or_len}
 use Rattle.std.specs.Option.{option_or}
-use Rattle.std.specs.Prelude.{◌≡◌, ◌⊎◌, ℕ, zero, suc, ◌<◌, Bool, true, false, not, ◌&&◌, ◌||◌, List, [], ◌∷◌, ◌++◌, length, if◌then◌else◌, nat_eq, nat_lt, slice_get, find, fold, filter_map, flat_map, map, option_to_list, reverse, get_or, Option, option_map, refl, Some, None, Ok, ⊤}
+use Rattle.std.specs.Prelude.{◌≡◌, ◌⊎◌, ℕ, zero, suc, ◌<◌, Bool, true, false, not, ◌&&◌, ◌||◌, List, [], ◌∷◌, ◌++◌, length, if◌then◌else◌, nat_eq, nat_lt, slice_get, find, fold, filter_map, flat_map, map, option_to_list, get_or, Option, option_map, refl, Some, None, Ok, ⊤}
 use Rattle.sq_lex.specs.declared.name.Name.{Name}
 use Rattle.sq_store.specs.Content.{no_rows, table_at}
 use Rattle.sq_tree.specs.declared.«module».ModuleText.{ModuleText}
@@ -24,7 +24,7 @@ use Rattle.sq_model.specs.Catalog.{base_count, column_domain, tables_of}
 use Rattle.sq_model.specs.Constraints.{AreInDomains, ChecksHold, ConstraintsHold, DomainsHold, all_satisfied, demanded, key_satisfied, keys_satisfied, reference_satisfied, row_satisfied, rows_of_base}
 use Rattle.sq_model.specs.Machine.{Call, Program, State, first_state, stepped}
 use Rattle.sq_model.specs.Run.{Item, after, program_of}
-use Rattle.sq_model.specs.Schema.{BaseTable, Element, Elements, base_place, base_table_of, base_tables, column_definitions, keys, table_references}
+use Rattle.sq_model.specs.Schema.{BaseTable, Elements, base_place, base_table_of, base_tables, column_definitions, keys, table_references}
 use Rattle.sq_model.specs.SchemaRefusal.{Part, elements_of, elements_with, first_schema_refusal, is_made, is_made_again, name_twice, other_schema, part_fault, refusal_at, refused_for, same_user, schema_faults, schema_parts, schema_refusal, users_with}
 use Rattle.sq_meaning.specs.Tables.{rows_in}
 use Rattle.sq_meaning.specs.declared.status.Status.{Status}

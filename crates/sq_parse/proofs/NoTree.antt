@@ -1,16 +1,15 @@
 -- A text that is refused has no tree of the grammar within the limit of brackets.
-use Rattle.std.proofs.Common.{◌≡◌, ℕ, ◌-◌, ◌<◌, ◌≤◌, Bool, true, false, cond, [], length, Err, nat_lt, refl, sym, ◌∙◌, subst, arith}
-use Rattle.std.proofs.lemmas.Bool.{ltb-true, ltb-false}
+use Rattle.std.proofs.Common.{◌≡◌, ℕ, ◌-◌, Bool, true, false, cond, [], length, nat_lt, refl, arith}
+use Rattle.std.proofs.lemmas.Bool.{ltb-false}
 use Rattle.sq_grammar.specs.Reading.{Tokens, Parser, whole}
 use Rattle.sq_grammar.specs.Brackets.{is_too_deep}
 use Rattle.sq_grammar.proofs.Takes.{Takes}
 use Rattle.sq_grammar.proofs.Refused.{refused_deep}
-use Rattle.sq_parse.specs.declared.error.ParseError.{ParseError}
-use Rattle.sq_parse.specs.declared.error.ParseError.TheVariants.{NoMemory, Unexpected, TooDeep, EndOfText}
+use Rattle.sq_parse.specs.declared.error.ParseError.TheVariants.{Unexpected, TooDeep, EndOfText}
 use Rattle.sq_reader.specs.declared.stop.Stop.{Stop}
 use Rattle.sq_reader.specs.declared.stop.Stop.TheVariants as stop
 use Rattle.sq_reader.specs.Reads.{Stops}
-use Rattle.sq_parse.specs.Refusal.{IsRefusal, HasNoTree, refusal_at, refusal}
+use Rattle.sq_parse.specs.Refusal.{HasNoTree, refusal}
 use Rattle.sq_grammar.specs.declared.brackets.TheConstants.{MAX_DEPTH}
 
 -- what the refusal says of the trees, each of which the parser takes, but for its depth

@@ -1,5 +1,5 @@
 -- A reading of all of the tokens, as the answer of a parse.
-use Rattle.std.proofs.Common.{◌≡◌, ◌-◌, Result, Ok, Err, length, sym, ap, subst}
+use Rattle.std.proofs.Common.{◌≡◌, ◌-◌, Result, Ok, Err, length, sym, ap}
 use Rattle.sq_grammar.specs.Reading.{Tokens, Parser, whole}
 use Rattle.sq_parse.specs.declared.error.ParseError.{ParseError}
 use Rattle.sq_parse.specs.declared.error.ParseError.TheVariants.{NoMemory, Unexpected, TooDeep, EndOfText}

@@ -41,16 +41,45 @@ pub(crate) fn grouped<'a>(
     outer: Option<&'a Frame<'a>>,
     context: &Context<'_>,
 ) -> Result<Vec<Group<'a>>, Fault> {
-    let mut groups = Vec::new(context.alloc);
-    if grouping.by_columns {
-        let sorted = sorted_lines(grouping.columns.as_slice(), lines, outer, context)?;
-        for lines in sorted.lines.values() {
-            groups.push(group_of(grouping, lines, outer, context)?)?;
+    if !grouping.by_columns {
+        let mut groups = Vec::new(context.alloc);
+        add_group(grouping, lines, outer, context, &mut groups)?;
+        return Ok(groups);
+    }
+    match sorted_lines(grouping.columns.as_slice(), lines, outer, context) {
+        Ok(sorted) => {
+            let groups = groups_of(grouping, &sorted, outer, context);
+            drop(sorted);
+            groups
         }
-    } else {
-        groups.push(group_of(grouping, lines, outer, context)?)?;
+        Err(fault) => Err(fault),
+    }
+}
+
+/// The groups of lines that are sorted by their grouping columns.
+fn groups_of<'a>(
+    grouping: &Grouping,
+    sorted: &Sorted<'a>,
+    outer: Option<&Frame<'_>>,
+    context: &Context<'_>,
+) -> Result<Vec<Group<'a>>, Fault> {
+    let mut groups = Vec::new(context.alloc);
+    for lines in sorted.lines.values() {
+        add_group(grouping, lines, outer, context, &mut groups)?;
     }
     Ok(groups)
+}
+
+/// Adds the group of these lines.
+fn add_group<'a>(
+    grouping: &Grouping,
+    lines: &Lines<'a>,
+    outer: Option<&Frame<'_>>,
+    context: &Context<'_>,
+    groups: &mut Vec<Group<'a>>,
+) -> Result<(), Fault> {
+    let group = group_of(grouping, lines, outer, context)?;
+    Ok(groups.push(group)?)
 }
 
 /// The lines by their values in these columns.

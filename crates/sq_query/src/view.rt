@@ -1,14 +1,14 @@
 //! The tables that a statement reads: its base tables, and its views, each evaluated once.
 
-use crate::condition::rows;
+use crate::condition::outermost_rows;
 use crate::context::Context;
 use crate::fault::Fault;
-use crate::memo::Memo;
 use crate::needed::{Needed, is_among, view_at};
 use crate::table::{BaseRows, ViewRows, base_tables};
 use sq_bound::Names;
 use sq_lex::Name;
 use sq_store::{Meter, Store};
+use sq_value::Row;
 use std::alloc::{AllocError, Global};
 
 /// The rows of the base tables and views that a statement reads.
@@ -86,7 +86,16 @@ fn view_rows<'a, N: Names>(
         bases,
         views,
     };
-    match rows(&view.query, None, &context, &mut Memo::new(alloc)) {
+    outcome_of_view(alloc, place, outermost_rows(&view.query, &context))
+}
+
+/// What a view's query ended with. Want of memory is no outcome.
+fn outcome_of_view(
+    alloc: Global,
+    place: usize,
+    rows: Result<Vec<Row>, Fault>,
+) -> Result<ViewRows, Fault> {
+    match rows {
         Ok(rows) => Ok(ViewRows {
             place,
             rows,

@@ -11,11 +11,6 @@ use Rattle.sq_store.specs.Content.{changed, changed_by, inserted, no_rows, remov
 use Rattle.sq_store.proofs.Search.{put}
 use Rattle.sq_store.specs.Rising.{rising_between, has_rising_rows, is_rising, all_rising}
 
-pub next_changed : (t : Table) (change : Change) → (changed t change).next ≤ t.next + 1
-next_changed t (Insert row) = omega arith
-next_changed t (Replace number row) = omega arith
-next_changed t (Remove number) = omega arith
-
 -- only a new row takes a number
 pub next_changed_by : (t : Table) (changes : List Change) → (changed_by t changes).next ≡ t.next + insert_count changes
 next_changed_by t [] = omega arith

@@ -1,10 +1,8 @@
 -- The place that a binary search over rising numbers answers.
 use Rattle.std.proofs.Common.{◌≡◌, ℕ, zero, suc, ◌+◌, ◌<◌, ◌≤◌, true, false, nat_eq, nat_lt, find, map, cond, slice_set, List, [], ◌∷◌, length, slice_index_or, slice_get, arith, refl, sym, ◌∙◌}
-use Rattle.std.proofs.Common.{Bor, Option, Some, None}
-use Rattle.std.proofs.lemmas.Option.{slice_get-get_or, slice_get_past, slice_get_read}
+use Rattle.std.proofs.Common.{Option, Some, None}
+use Rattle.std.proofs.lemmas.Option.{slice_get-get_or, slice_get_past}
 use Rattle.std.specs.List.Sorted.{IsPartitionPoint, IsPartitionedBy}
-use Rattle.std.specs.Option.{option_copied}
-use Rattle.std.specs.Slice.{IsItemAt}
 use Rattle.std.proofs.lemmas.Grind.{common_steps}
 use Rattle.sq_value.specs.declared.value.Value.{Value}
 use Rattle.sq_store.specs.declared.table.Numbered.{Numbered}
@@ -37,11 +35,6 @@ find_at_point number (r ∷ rs) (suc i) le point =
     let later : first_among rs number ≡ slice_get rs i = find_at_point number rs i (omega arith)
     (λ k d low high. point.0 (suc k) d (omega arith) (omega arith), λ k d low high. point.1 (suc k) d (omega arith) (omega arith)) in
     grind (arith, common_steps)
-
--- what `get` lends is the element there
-pub option_copied_at : {X : Type 0} (xs : List X) (i : ℕ) (r : Option (Bor X)) → IsItemAt xs i r → option_copied r ≡ slice_get xs i
-option_copied_at xs i None at = sym (slice_get_past xs i at.3)
-option_copied_at xs i (Some x) at = sym (slice_get_read xs (length xs) i x.now refl at.3.0 at.1)
 
 -- ---- the row under a number
 

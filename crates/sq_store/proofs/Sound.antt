@@ -12,7 +12,7 @@ use Rattle.sq_store.specs.declared.change.Change.{Change}
 use Rattle.sq_store.specs.declared.change.Change.TheVariants.{Insert, Replace, Remove}
 use Rattle.sq_store.specs.Change.{insert_count, rows_put}
 use Rattle.sq_store.specs.Content.{Content, changed, changed_by, empty, no_rows, table_at}
-use Rattle.sq_store.specs.Keys.{Keys, are_keyed, has_columns, has_distinct_keys, has_keys, have_keys, keys_at, keys_of, key_at}
+use Rattle.sq_store.specs.Keys.{Keys, are_keyed, has_columns, has_distinct_keys, has_keys, have_keys, keys_at, keys_of}
 use Rattle.sq_store.specs.Rising.{has_rising_rows, all_rising}
 use Rattle.sq_store.specs.Sound.{is_sound}
 use Rattle.sq_store.specs.laws.Sound.{keyed_of, rises_of}
@@ -108,11 +108,6 @@ keyed_at (keys ∷ rest) (t ∷ ts) (suc table) h lt = grind (arith, common_step
 -- the rows of a table have the columns of its keys
 pub columns_at : (row_numbers : ℕ) (keys : List Keys) (ts : Content) (table : ℕ) → is_sound row_numbers keys ts ≡ true → table < length ts → have_keys (keys_at keys table) (table_at ts table).rows ≡ true
 columns_at row_numbers keys ts table h lt = grind (arith, common_steps, keyed_at keys ts table, keyed_of row_numbers keys ts)
-
--- the columns of one key
-pub key_columns_at : (row_numbers : ℕ) (keys : List Keys) (ts : Content) (table key : ℕ) → is_sound row_numbers keys ts ≡ true → table < length ts → key < length (keys_at keys table)
-    → list_all (λ r. has_columns (key_at keys table key) r.row) (table_at ts table).rows ≡ true
-key_columns_at row_numbers keys ts table key h lt k = have_one (keys_at keys table) (table_at ts table).rows key (columns_at row_numbers keys ts table h lt) k
 
 pub rises_at : (row_numbers : ℕ) (keys : List Keys) (ts : Content) (table : ℕ) → is_sound row_numbers keys ts ≡ true → has_rising_rows (table_at ts table) ≡ true
 rises_at row_numbers keys ts table h = rows_rise_at row_numbers ts table (rises_of row_numbers keys ts h)

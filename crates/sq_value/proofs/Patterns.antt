@@ -23,9 +23,6 @@ pub read_put : (read : Result (List Item) LikeFault) (i : Item) (text : List ℕ
 read_put (Ok items) i text old new are put = put items are
 read_put (Err fault) i text old new are put = are
 
-pub fault_kept : (read : Result (List Item) LikeFault) (i : Item) (fault : LikeFault) → read ≡ Err fault → with_item i read ≡ Err fault
-fault_kept read i fault h = ap (with_item i) h
-
 pub cut_is : (read : Result (List Item) LikeFault) (text : List ℕ) (cuts : List Bool) (truth : Truth) → AreCutsAsRead read text cuts → truth ≡ known (get_or cuts 0 false) → Ok truth ≡ cut_as_read text read
 cut_is (Ok items) text cuts truth are is = ap Ok (is ∙ ap known (are.each 0 (omega arith)))
 cut_is (Err fault) text cuts truth are is = absurd are

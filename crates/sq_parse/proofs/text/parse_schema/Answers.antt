@@ -1,4 +1,4 @@
-use Rattle.std.proofs.Common.{Err, ◌-◌, lit≤, sym, subst, ap, ◌∙◌}
+use Rattle.std.proofs.Common.{Err, ◌-◌, lit≤, sym, subst, ◌∙◌}
 use Rattle.sq_grammar.proofs.Spells.{whole_is}
 use Rattle.sq_grammar.proofs.SchemaSound.{schema_sound}
 use Rattle.sq_grammar.specs.Schema.{schema_text}
@@ -9,8 +9,6 @@ use Rattle.sq_parse.proofs.Parsed.{answers_tree, answers_stop}
 use Rattle.sq_parse.proofs.NoTree.{no_tree}
 use Rattle.sq_grammar.specs.declared.brackets.TheConstants.{MAX_DEPTH}
 use Rattle.sq_grammar.proofs.OneSchema.{one_schema_text}
-use Rattle.sq_tree.specs.declared.schema.SchemaText.{SchemaText}
-use Rattle.sq_grammar.specs.Reading.{whole}
 use Rattle.sq_lex.specs.Token.{lexemes}
 use Rattle.sq_parse.proofs.text.parse_schema.Goals as goal
 

@@ -1,7 +1,6 @@
-use Rattle.std.proofs.Common.{rules, arith, ◌≡◌, ◌<◌, ◌≤◌, length}
-use Rattle.sq_grammar.specs.Reading.{behind, comma, all}
-use Rattle.sq_grammar.proofs.Many.{front-nil, more_reads, all_ends}
-use Rattle.sq_reader.proofs.Stops.{more_stops}
+use Rattle.std.proofs.Common.{arith}
+use Rattle.sq_grammar.specs.Reading.{comma}
+use Rattle.sq_grammar.proofs.Many.{front-nil, all_ends}
 use Rattle.sq_reader.proofs.list.more.Goals as goal
 
 pub loop-tokens-init : goal.loop-tokens-init
