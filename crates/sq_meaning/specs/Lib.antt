@@ -7,6 +7,7 @@ pub mod Placed
 pub mod Query
 pub mod Kind
 pub mod QueryExpression
+pub mod WellFormed
 pub mod Assignment
 pub mod Spelled
 pub mod Tables
