@@ -116,6 +116,10 @@ pub record Agrees {N : Naming} (m : Reading N) (k : Kinds N) : Type 0 where
   pub columns : (c : N.Column) (scopes : List (List N.Table)) → k.column c scopes ≡ (each (each m.item) scopes >>= λ items. m.place c items >>= kind_there k scopes)
   pub rows : (t : N.Table) → Fits AreRowsOf (k.columns t) (m.rows t)
 
+abbrev pub OnlyIf : Bool → Type 0 → Type 0
+OnlyIf true P = P
+OnlyIf false P = ⊤
+
 module _ {N : Naming} (m : Reading N) (k : Kinds N) (IsDeclared : N.Parameter → Type 0) where
   -- ---- value expressions
 
@@ -216,14 +220,10 @@ module _ {N : Naming} (m : Reading N) (k : Kinds N) (IsDeclared : N.Parameter �
   abbrev pub IsLineOf : List N.Table → Line → Type 0
   IsLineOf = AllZip (λ t row. Has (λ kinds. IsRowOf kinds row) (k.columns t))
 
-  abbrev pub IfLine : Bool → Type 0 → Type 0
-  IfLine true P = P
-  IfLine false P = ⊤
-
   -- a scope of a level: its items, a row of each table, and a group of such lines
   pub record IsScopeOf (level : Level N) (scope : Scope N.Item) : Type 0 where
     pub items : each m.item level.from ≡ Ok scope.items
-    pub line : IfLine level.has_line (IsLineOf level.from scope.line)
+    pub line : OnlyIf level.has_line (IsLineOf level.from scope.line)
     pub group : AllByRecursion (IsLineOf level.from) scope.group
 
   -- an environment at these levels, with a value of its kind for each parameter that is declared
