@@ -74,8 +74,8 @@ module _ {N : Naming} (m : Reading N) (k : Kinds N) (IsDeclared : N.Parameter �
   reference_fits : Agrees m k → (levels : List (Level N)) (c : N.Column) (env : Env N.Item) → MayStand m k IsDeclared levels (column c) → IsEnvOf m k IsDeclared levels env
       → Fits IsOfKind (k.column c (froms levels)) (value m (column c) env)
   reference_fits agrees levels c env stands is_env =
-      subst (λ o. Fits IsOfKind o (value m (column c) env)) (sym (agrees.columns c (froms levels) ∙ ap (λ r. and_then r (λ items. and_then (m.place c items) (kind_there k (froms levels)))) items))
-      (same_fits (λ p. HasLine levels p.depth) IsOfKind (m.place c (items_in env)) (kind_there k (froms levels)) (value_at env)
+      subst (λ o. Fits IsOfKind o (value m (column c) env)) (sym (agrees.columns c (froms levels) ∙ ap (λ r. and_then r (λ items. and_then (m.place c items) (kind_there k.columns (froms levels)))) items))
+      (same_fits (λ p. HasLine levels p.depth) IsOfKind (m.place c (items_in env)) (kind_there k.columns (froms levels)) (value_at env)
       (subst (λ r. Has (λ p. HasLine levels p.depth) (and_then r (m.place c))) items stands)
       (λ p there. place_fits levels env.scopes p.depth p.item p.column is_env.scopes there))
     where

@@ -103,17 +103,17 @@ inside_function (level ∷ outer) = of_lines level.from ∷ outer
 abbrev pub shown_level : {N : Naming} → SelectList N → List N.Table → List N.Column → Clause N → Level N
 shown_level list from by having = record { from = from; has_line = not (is_grouped list by having) || is_some_of by }
 
--- the kind of the column at a place
-abbrev pub kind_there : {N : Naming} → Kinds N → List (List N.Table) → Place → Outcome Kind
-kind_there k scopes p = do
+-- the kind of the column at a place, by the kinds of the tables' columns
+abbrev pub kind_there : {T : Type 0} → (T → Outcome (List Kind)) → List (List T) → Place → Outcome Kind
+kind_there columns scopes p = do
   from ← well_formed (slice_get scopes p.depth)
   t ← well_formed (slice_get from p.item)
-  kinds ← k.columns t
+  kinds ← columns t
   well_formed (slice_get kinds p.column)
 
 -- what is known of columns and tables beforehand is what a reading finds
 pub record Agrees {N : Naming} (m : Reading N) (k : Kinds N) : Type 0 where
-  pub columns : (c : N.Column) (scopes : List (List N.Table)) → k.column c scopes ≡ (each (each m.item) scopes >>= λ items. m.place c items >>= kind_there k scopes)
+  pub columns : (c : N.Column) (scopes : List (List N.Table)) → k.column c scopes ≡ (each (each m.item) scopes >>= λ items. m.place c items >>= kind_there k.columns scopes)
   pub rows : (t : N.Table) → Fits AreRowsOf (k.columns t) (m.rows t)
 
 abbrev pub OnlyIf : Bool → Type 0 → Type 0
