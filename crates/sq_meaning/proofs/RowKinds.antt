@@ -10,12 +10,12 @@ use Rattle.sq_value.specs.declared.value.Value.{Value}
 use Rattle.sq_value.specs.laws.ValueOrder.{same_equiv}
 use Rattle.sq_meaning.specs.Status.{Outcome, and_then, each}
 use Rattle.sq_meaning.specs.Syntax.{Naming, Expr, column, SelectList, all_columns, expressions}
-use Rattle.sq_meaning.specs.Environment.{Row, Line, Scope, Env, within, alone}
+use Rattle.sq_meaning.specs.Environment.{Row, Line, Scope, Env, within, alone, items_in}
 use Rattle.sq_meaning.specs.Expression.{Reading, value}
 use Rattle.sq_meaning.specs.Kind.{Kinds, kind, list_kinds}
 use Rattle.sq_meaning.specs.Query.{is_some_of, first_line, group_scope, grouping_values, grouped, groups_by, group_scopes, listed_values}
 use Rattle.sq_meaning.specs.Rows.{product, same_row, firsts, classes}
-use Rattle.sq_meaning.specs.WellFormed.{Answers, Has, HasValue, Fits, IsRowOf, AreRowsOf, Level, froms, of_lines, Agrees, OnlyIf, WellFormedExpr, WellFormedExprs, WellFormedColumn, WellFormedTable, WellFormedList, IsLineOf, IsScopeOf, IsEnvOf}
+use Rattle.sq_meaning.specs.WellFormed.{Answers, Has, HasValue, Fits, IsRowOf, AreRowsOf, Level, froms, of_lines, Agrees, OnlyIf, WellFormedExpr, WellFormedExprs, WellFormedColumn, WellFormedTable, WellFormedList, IsLineOf, IsScopeOf, AreItemsOf, IsEnvOf}
 use Rattle.sq_meaning.proofs.AnswerLaws.{all_true, all_weaker, all_mapped, all_flat_mapped, all_filtered, all_firsts, fits_there, fits_any, weaker, then_answers, each_answers, each_fits, each_valued}
 use Rattle.sq_meaning.proofs.ValueKinds.{value_fits}
 
@@ -113,11 +113,19 @@ module _ {N : Naming} (m : Reading N) (k : Kinds N) (IsDeclared : N.Parameter �
       all_flat_mapped (IsRowOfTable t) (IsLineOf m k IsDeclared (t ∷ from)) (λ row. map (λ line. row ∷ line) (product tables))
       (λ row p. all_mapped (IsLineOf m k IsDeclared from) (IsLineOf m k IsDeclared (t ∷ from)) (λ line. row ∷ line) (λ line q. (p, q)) (product tables) (lines_of from tables h.1)) rows h.0
 
+  items_within : (level : Level N) (levels : List (Level N)) (scope : Scope N.Item) (env : Env N.Item) → each m.item level.from ≡ Ok scope.items → AreItemsOf m k IsDeclared (froms levels) (items_in env)
+      → AreItemsOf m k IsDeclared (froms (level ∷ levels)) (items_in (within scope env))
+  items_within level levels scope env e is = (
+    scope.items ∷ is.0,
+    ap (λ r. and_then r (λ y. and_then (each (each m.item) (froms levels)) (λ ys. Ok (y ∷ ys)))) e ∙ ap (λ r. and_then r (λ ys. Ok (scope.items ∷ ys))) is.1,
+    λ c. agrees.outer c scope.items is.0 (items_in env) (is.2 c),
+  )
+
   pub within_scope : (level : Level N) (levels : List (Level N)) (scope : Scope N.Item) (env : Env N.Item) → IsScopeOf m k IsDeclared level scope → IsEnvOf m k IsDeclared levels env → IsEnvOf m k IsDeclared (level ∷ levels) (within scope env)
-  within_scope level levels scope env s e = record { scopes = (s, e.scopes); inputs = e.inputs }
+  within_scope level levels scope env s e = record { items = items_within level levels scope env s.items e.items; scopes = (s.found, e.scopes); inputs = e.inputs }
 
   pub line_scope : (from : List N.Table) (heads : List N.Item) (line : Line) → each m.item from ≡ Ok heads → IsLineOf m k IsDeclared from line → IsScopeOf m k IsDeclared (of_lines from) (alone heads line)
-  line_scope from heads line items is_line = record { items = items; line = is_line; group = tt }
+  line_scope from heads line items is_line = record { items = items; found = record { line = is_line; group = tt } }
 
   -- ---- expressions
 
@@ -166,7 +174,7 @@ module _ {N : Naming} (m : Reading N) (k : Kinds N) (IsDeclared : N.Parameter �
   -- ---- what the select list is computed for
 
   group_is_scope : (from : List N.Table) (some : Bool) (heads : List N.Item) (group : List Line) → each m.item from ≡ Ok heads → IsGroupOf from some group → IsScopeOf m k IsDeclared (record { from = from; has_line = some }) (group_scope heads group)
-  group_is_scope from some heads group items g = record { items = items; line = g.first; group = g.lines }
+  group_is_scope from some heads group items g = record { items = items; found = record { line = g.first; group = g.lines } }
 
   groups_are_scopes : (levels : List (Level N)) (from : List N.Table) (functions : List (Expr N)) (by : List N.Column) (heads : List N.Item) (lines : List Line) (env : Env N.Item) → each m.item from ≡ Ok heads
       → AllByRecursion (WellFormedColumn m k IsDeclared (of_lines from ∷ levels)) by → WellFormedExprs m k IsDeclared (record { from = from; has_line = is_some_of by } ∷ levels) functions
@@ -203,7 +211,7 @@ module _ {N : Naming} (m : Reading N) (k : Kinds N) (IsDeclared : N.Parameter �
   pub listed_answer : (levels : List (Level N)) (from : List N.Table) (g some : Bool) (list : SelectList N) (scope : Scope N.Item) (env : Env N.Item)
       → WellFormedList m k IsDeclared (record { from = from; has_line = not g || some } ∷ levels) g list → IsScopeOf m k IsDeclared (record { from = from; has_line = not g || some }) scope → IsEnvOf m k IsDeclared levels env
       → Answers (λ row. Has (λ kinds. IsRowOf kinds row) (list_kinds k (froms levels) from list)) (listed_values m list (within scope env))
-  listed_answer levels from g some all_columns scope env w s is_env = star_kinds from scope.line (line_if g some w s.line)
+  listed_answer levels from g some all_columns scope env w s is_env = star_kinds from scope.line (line_if g some w s.found.line)
   listed_answer levels from g some (expressions es) scope env w s is_env =
       values_answer (record { from = from; has_line = not g || some } ∷ levels) es (within scope env) w (within_scope (record { from = from; has_line = not g || some }) levels scope env s is_env)
 

@@ -12,7 +12,7 @@ use Rattle.sq_meaning.specs.Syntax.{Naming, Expr, literal, parameter, user, colu
 use Rattle.sq_meaning.specs.Environment.{Row, Line, Input, Scope, Env, Place, within, alone, items_in, value_at}
 use Rattle.sq_meaning.specs.Expression.{Reading, value, over_group, with_sign, sum_of, product_of, function_value, distinct_values}
 use Rattle.sq_meaning.specs.Kind.{Kinds, kind, signed_kind, sum_kind, product_kind, function_kind}
-use Rattle.sq_meaning.specs.WellFormed.{Answers, Has, HasValue, Fits, IsRowOf, Level, froms, HasLine, of_lines, inside_function, kind_there, Agrees, MayStand, WellFormedExpr, OnlyIf, IsInQuery, IsLineOf, IsScopeOf, IsEnvOf}
+use Rattle.sq_meaning.specs.WellFormed.{Answers, Has, HasValue, Fits, IsRowOf, Level, froms, HasLine, of_lines, inside_function, kind_there, Agrees, MayStand, WellFormedExpr, OnlyIf, IsInQuery, IsLineOf, HasRowsOf, IsEnvOf}
 use Rattle.sq_meaning.proofs.AnswerLaws.{known, then_fits, each_answers}
 use Rattle.sq_meaning.proofs.OperatorKinds.{number_of_scale, literal_fits, sum_fits, product_fits, sign_fits, function_fits, length_fixed}
 
@@ -54,7 +54,7 @@ module _ {N : Naming} (m : Reading N) (k : Kinds N) (IsDeclared : N.Parameter �
   item_fits (t ∷ from) (row ∷ line) zero j h = row_fits (k.columns t) row j h.0
   item_fits (t ∷ from) (row ∷ line) (suc i) j h = item_fits from line i j h.1
 
-  place_fits : (levels : List (Level N)) (scopes : List (Scope N.Item)) (d i j : ℕ) → AllZip (IsScopeOf m k IsDeclared) levels scopes → HasLine levels d
+  place_fits : (levels : List (Level N)) (scopes : List (Scope N.Item)) (d i j : ℕ) → AllZip (HasRowsOf m k IsDeclared) levels scopes → HasLine levels d
       → Fits IsOfKind (and_then (well_formed (slice_get (froms levels) d)) (λ from. and_then (well_formed (slice_get from i)) (λ t. and_then (k.columns t) (λ kinds. well_formed (slice_get kinds j)))))
       (well_formed (option_and_then (λ (scope : Scope N.Item). option_and_then (λ row. slice_get row j) (slice_get scope.line i)) (slice_get scopes d)))
   place_fits [] scopes d i j h there = absurd there
@@ -62,29 +62,17 @@ module _ {N : Naming} (m : Reading N) (k : Kinds N) (IsDeclared : N.Parameter �
   place_fits (level ∷ outer) (s ∷ scopes) zero i j h there = item_fits level.from s.line i j (if_line level.has_line there h.0.line)
   place_fits (level ∷ outer) (s ∷ scopes) (suc d) i j h there = place_fits outer scopes d i j h.1 there
 
-  -- the items of the FROM clauses around are those of the scopes
-  pub items_known : (levels : List (Level N)) (scopes : List (Scope N.Item)) → AllZip (IsScopeOf m k IsDeclared) levels scopes → each (each m.item) (froms levels) ≡ Ok (map (λ s. s.items) scopes)
-  items_known [] [] h = refl
-  items_known [] (s ∷ scopes) h = absurd h
-  items_known (level ∷ outer) [] h = absurd h
-  items_known (level ∷ outer) (s ∷ scopes) h =
-      ap (λ r. and_then r (λ y. and_then (each (each m.item) (froms outer)) (λ ys. Ok (y ∷ ys)))) h.0.items
-      ∙ ap (λ r. and_then r (λ ys. Ok (s.items ∷ ys))) (items_known outer scopes h.1)
-
   reference_fits : Agrees m k → (levels : List (Level N)) (c : N.Column) (env : Env N.Item) → MayStand m k IsDeclared levels (column c) → IsEnvOf m k IsDeclared levels env
       → Fits IsOfKind (k.column c (froms levels)) (value m (column c) env)
   reference_fits agrees levels c env stands is_env =
-      subst (λ o. Fits IsOfKind o (value m (column c) env)) (sym (agrees.columns c (froms levels) ∙ ap (λ r. and_then r (λ items. and_then (m.place c items) (kind_there k.columns (froms levels)))) items))
+      subst (λ o. Fits IsOfKind o (value m (column c) env)) (sym (agrees.columns c (froms levels) ∙ (λ i. and_then (is_env.items.1 i) (λ items. and_then (m.place c items) (kind_there k.columns (froms levels)))) ∙ ap (λ r. and_then r (kind_there k.columns (froms levels))) (is_env.items.2 c)))
       (same_fits (λ p. HasLine levels p.depth) IsOfKind (m.place c (items_in env)) (kind_there k.columns (froms levels)) (value_at env)
-      (subst (λ r. Has (λ p. HasLine levels p.depth) (and_then r (m.place c))) items stands)
+      (subst (Has (λ p. HasLine levels p.depth)) (ap (λ r. and_then r (m.place c)) is_env.items.1 ∙ is_env.items.2 c) stands)
       (λ p there. place_fits levels env.scopes p.depth p.item p.column is_env.scopes there))
-    where
-      items : each (each m.item) (froms levels) ≡ Ok (items_in env)
-      items = items_known levels env.scopes is_env.scopes
 
   -- ---- set functions
 
-  count_fits : (levels : List (Level N)) (scopes : List (Scope N.Item)) (inputs : List Input) (name : List ℕ) → MayStand m k IsDeclared levels count_rows → AllZip (IsScopeOf m k IsDeclared) levels scopes
+  count_fits : (levels : List (Level N)) (scopes : List (Scope N.Item)) (inputs : List Input) (name : List ℕ) → MayStand m k IsDeclared levels count_rows → AllZip (HasRowsOf m k IsDeclared) levels scopes
       → Fits IsOfKind (kind k (froms levels) count_rows) (value m count_rows (record { scopes = scopes; inputs = inputs; user = name }))
   count_fits [] scopes inputs name stands h = absurd stands
   count_fits (level ∷ outer) [] inputs name stands h = absurd h
@@ -99,7 +87,7 @@ module _ {N : Naming} (m : Reading N) (k : Kinds N) (IsDeclared : N.Parameter �
   group_fits (level ∷ outer) (s ∷ scopes) inputs name e within_fits stands is_env =
       each_of_kind IsOfKind (IsLineOf m k IsDeclared level.from) (kind k (level.from ∷ froms outer) e) (λ line. value m e (within (alone s.items line) (record { scopes = scopes; inputs = inputs; user = name })))
       (λ line is_line. within_fits (of_lines level.from ∷ outer) (within (alone s.items line) (record { scopes = scopes; inputs = inputs; user = name })) stands.1
-      (record { scopes = (record { items = is_env.scopes.0.items; line = is_line; group = tt }, is_env.scopes.1); inputs = is_env.inputs }))
+      (record { items = is_env.items; scopes = (record { line = is_line; group = tt }, is_env.scopes.1); inputs = is_env.inputs }))
       s.group is_env.scopes.0.group
 
   -- ---- values

@@ -13,4 +13,5 @@ pub mod Spelled
 pub mod Tables
 pub mod SortKeys
 pub mod Target
+pub mod Database
 pub mod Quiet

@@ -10,7 +10,8 @@ use Rattle.sq_meaning.specs.Status.{Outcome, ◌>>=◌, each, well_formed}
 use Rattle.sq_meaning.specs.declared.status.Status.{Status}
 use Rattle.sq_meaning.specs.declared.status.Status.TheVariants.{SyntaxErrorOrAccessRuleViolation}
 use Rattle.sq_meaning.specs.Syntax.{Naming, Expr, literal, parameter, user, column, count_rows, set_function, signed, added, scaled, bracketed, SelectList, all_columns, expressions, Cond, Conds, Clause, Select, compare, compare_subquery, compare_quantified, between, in_subquery, in_list, like, is_null, exists, negated, conjunction, disjunction, no_cond, a_cond, absent, present, select, Query, specification, union}
-use Rattle.sq_meaning.specs.Environment.{Row, Line, Scope, Env, Input, Place}
+use Rattle.sq_meaning.specs.Environment.{Row, Line, Scope, Env, Input, Place, items_in}
+use Rattle.sq_meaning.specs.Placed.{Placed, PlacedParameter}
 use Rattle.sq_meaning.specs.Expression.{Reading}
 use Rattle.sq_meaning.specs.Query.{is_grouped, is_some_of}
 use Rattle.sq_meaning.specs.Kind.{Kinds, kind, list_kinds, select_kinds, common_kinds, query_kinds}
@@ -111,8 +112,10 @@ kind_there columns scopes p = do
   kinds ← columns t
   well_formed (slice_get kinds p.column)
 
--- what is known of columns and tables beforehand is what a reading finds
+-- What is known of columns and tables beforehand is what a reading finds. What a column reference means depends on the
+-- scopes further out only by what it means there.
 pub record Agrees {N : Naming} (m : Reading N) (k : Kinds N) : Type 0 where
+  pub outer : (c : N.Column) (items : List N.Item) (xs ys : List (List N.Item)) → m.place c xs ≡ m.place c ys → m.place c (items ∷ xs) ≡ m.place c (items ∷ ys)
   pub columns : (c : N.Column) (scopes : List (List N.Table)) → k.column c scopes ≡ (each (each m.item) scopes >>= λ items. m.place c items >>= kind_there k.columns scopes)
   pub rows : (t : N.Table) → Fits AreRowsOf (k.columns t) (m.rows t)
 
@@ -220,13 +223,43 @@ module _ {N : Naming} (m : Reading N) (k : Kinds N) (IsDeclared : N.Parameter �
   abbrev pub IsLineOf : List N.Table → Line → Type 0
   IsLineOf = AllZip (λ t row. Has (λ kinds. IsRowOf kinds row) (k.columns t))
 
-  -- a scope of a level: its items, a row of each table, and a group of such lines
-  pub record IsScopeOf (level : Level N) (scope : Scope N.Item) : Type 0 where
-    pub items : each m.item level.from ≡ Ok scope.items
+  -- the rows of a scope of a level: a row of each table, and a group of such lines
+  pub record HasRowsOf (level : Level N) (scope : Scope N.Item) : Type 0 where
     pub line : OnlyIf level.has_line (IsLineOf level.from scope.line)
     pub group : AllByRecursion (IsLineOf level.from) scope.group
 
+  -- and its items are those of the tables
+  pub record IsScopeOf (level : Level N) (scope : Scope N.Item) : Type 0 where
+    pub items : each m.item level.from ≡ Ok scope.items
+    pub found : HasRowsOf level scope
+
+  -- column references mean in these scopes what they mean among the tables' items
+  abbrev pub AreItemsOf : List (List N.Table) → List (List N.Item) → Type 0
+  AreItemsOf scopes items = (xs : List (List N.Item)) × (each (each m.item) scopes ≡ Ok xs) × ((c : N.Column) → m.place c xs ≡ m.place c items)
+
   -- an environment at these levels, with a value of its kind for each parameter that is declared
   pub record IsEnvOf (levels : List (Level N)) (env : Env N.Item) : Type 0 where
-    pub scopes : AllZip IsScopeOf levels env.scopes
+    pub items : AreItemsOf (froms levels) (items_in env)
+    pub scopes : AllZip HasRowsOf levels env.scopes
     pub inputs : (p : N.Parameter) → IsDeclared p → Fits IsOfKind (k.parameter p) (m.input p env.inputs)
+
+-- ---- trees by places: the kinds of each table's columns, and of each parameter
+
+abbrev pub kinds_by_place : {T : Type 0} → (T → Outcome (List Kind)) → List Kind → Kinds (Placed T)
+kinds_by_place columns parameters = record {
+  column = λ p scopes. kind_there columns scopes p;
+  parameter = λ p. well_formed (slice_get parameters p.position);
+  columns = columns;
+}
+
+-- a parameter is there, and its indicator parameter, too
+abbrev pub IsThere : List Kind → Option ℕ → Type 0
+IsThere parameters None = ⊤
+IsThere parameters (Some i) = HasValue (well_formed (slice_get parameters i))
+
+abbrev pub IsDeclaredAt : List Kind → PlacedParameter → Type 0
+IsDeclaredAt parameters p = HasValue (well_formed (slice_get parameters p.position)) × IsThere parameters p.indicator
+
+-- each input has a value of its kind
+abbrev pub AreInputsOf : List Kind → List Input → Type 0
+AreInputsOf = AllZip (λ c i. IsOfKind c i.value)
