@@ -7,9 +7,11 @@ pub mod Placed
 pub mod Query
 pub mod Kind
 pub mod QueryExpression
+pub mod WellFormed
 pub mod Assignment
 pub mod Spelled
 pub mod Tables
 pub mod SortKeys
 pub mod Target
+pub mod Database
 pub mod Quiet

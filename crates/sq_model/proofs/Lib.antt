@@ -1,6 +1,7 @@
 pub mod Bind
 pub mod CallLaws
 pub mod DomainLaws
+pub mod KindLaws
 pub mod PrivilegeLaws
 pub mod CursorLaws
 pub mod Computed
