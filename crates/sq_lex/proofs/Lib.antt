@@ -1,5 +1,6 @@
 pub mod LiteralLemmas
 pub mod Longest
+mod Places
 mod Quoted
 mod ReadingLemmas
 mod Rows

@@ -51,7 +51,7 @@ kept_more characters new spelled character size rest is =
     ∙ sym (kept-joined (characters ++ character ∷ []) (spelled + size) rest)
     ∙ ap (λ cs. kept (joined cs (spelled + size) rest)) (sym is)
 
-take-all : (n : ℕ) (xs : List ℕ) → length xs ≤ n → take n xs ≡ xs
+pub take-all : (n : ℕ) (xs : List ℕ) → length xs ≤ n → take n xs ≡ xs
 take-all zero [] short = refl
 take-all zero (x ∷ xs) short = absurd (omega (arith, short))
 take-all (suc n) [] short = refl

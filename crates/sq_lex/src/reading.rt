@@ -1,11 +1,12 @@
 //! The reading of a whole text.
 
-ghost use Rattle.std.specs.Prelude.{ℕ, List, ◌≡◌, ◌+◌, ◌<◌, ◌≤◌, ◌^◌, length, take, drop, MatchResult, IfOk, IfErr, Ok};
+ghost use Rattle.std.specs.Prelude.{◌≡◌, ◌+◌, ◌<◌, ◌≤◌, length, drop, MatchResult, IfOk, IfErr, Ok};
 ghost use Rattle.sq_lex.specs.Position as positions;
 ghost use Rattle.sq_lex.specs.Row.{IsRow};
+ghost use Rattle.sq_lex.specs.Reading as spec;
 ghost use Rattle.sq_lex.specs.Reading.{reading, tokens_from, followed, IsCause};
 
-use crate::fault::{LexError, LexFault};
+use crate::fault::{LexError, LexFault, LexFaultKind};
 use crate::piece::Piece;
 use crate::position::Position;
 use crate::token::Token;
@@ -20,45 +21,41 @@ pub fn lex(alloc: Global, text: &[u8]) -> Result<Vec<Token>, LexError>
     ensures value { MatchResult result (λ tokens. reading text.now ≡ Ok tokens.items) (IsCause (reading text.now)) }
 {
     let mut tokens = Vec::new(alloc);
-    let mut position = Position::start();
-    let mut rest = text;
-    while !rest.is_empty() {
-        let size = read_piece(alloc, &mut tokens, position, rest)?;
-        position = position.past(&rest[..size]);
-        rest = &rest[size..];
+    let mut at = 0;
+    while at < text.len() {
+        let size = read_piece(alloc, &mut tokens, text, at)?;
+        at += size;
     }
     Ok(tokens)
 }
 
-/// Reads the piece at the front of the bytes at a position, adds its token where it is one, and answers its size.
+/// Reads the piece of a text at a byte, adds its token where it is one, and answers its size.
 fn read_piece(
     alloc: Global,
     tokens: &mut Vec<Token>,
-    position: Position,
-    rest: &[u8],
+    text: &[u8],
+    at: usize,
 ) -> Result<usize, LexError>
-    requires some { 0 < length rest.now }
-    requires byte { position.byte + length rest.now < 2 ^ 64 }
-    requires line { position.line + length rest.now < 2 ^ 64 }
-    requires column { position.column + length rest.now < 2 ^ 64 }
-    ensures within { IfOk result (λ size. (0 < size) × (size ≤ length rest.now)) }
-    ensures read { IfOk result (λ size. followed tokens.new.items (tokens_from (positions.past position (take size rest.now)) 0 (drop size rest.now))
-        ≡ followed tokens.old.items (tokens_from position 0 rest.now)) }
-    ensures row { IfOk result (λ size. (text : List ℕ) → drop position.byte text ≡ rest.now → IsRow text position.byte tokens.old.items → IsRow text (position.byte + size) tokens.new.items) }
-    ensures fault { IfErr result (IsCause (tokens_from position 0 rest.now)) }
+    requires { at < length text.now }
+    ensures within { IfOk result (λ size. (0 < size) × (at + size ≤ length text.now)) }
+    ensures read { IfOk result (λ size. followed tokens.new.items (tokens_from (positions.position text.now (at + size)) 0 (drop (at + size) text.now)) ≡ followed tokens.old.items (tokens_from (positions.position text.now at) 0 (drop at text.now))) }
+    ensures row { IfOk result (λ size. IsRow text.now at tokens.old.items → IsRow text.now (at + size) tokens.new.items) }
+    ensures fault { IfErr result (IsCause (tokens_from (positions.position text.now at) 0 (drop at text.now))) }
 {
-    match Piece::first(alloc, rest)? {
+    match Piece::first(alloc, &text[at..])? {
         Piece::Separator(size) => Ok(size),
         Piece::Token { size, lexeme } => {
-            tokens.push(Token {
-                lexeme,
-                start: position.byte,
-            })?;
+            tokens.push(Token { lexeme, start: at })?;
             Ok(size)
         }
-        Piece::Fault { at, kind } => {
-            let Position { line, column, .. } = position.past(&rest[..at]);
-            Err(LexError::Fault(LexFault { kind, line, column }))
-        }
+        Piece::Fault { at: before, kind } => Err(fault_at(text, at + before, kind)),
     }
+}
+
+/// A fault at a byte of a text.
+fn fault_at(text: &[u8], at: usize, kind: LexFaultKind) -> LexError
+    ensures { result ≡ LexError.Fault (spec.fault_at (positions.position text.now at) kind) }
+{
+    let Position { line, column, .. } = Position::of(text, at);
+    LexError::Fault(LexFault { kind, line, column })
 }

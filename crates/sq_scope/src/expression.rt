@@ -28,6 +28,9 @@ pub struct Typed {
 /// What binding an expression answers.
 pub type ExprResult = Result<Found<Typed>, BindFault>;
 
+/// The same without what is found, which is gathered beside it.
+type TypedResult = Result<Typed, BindFault>;
+
 /// The set functions of a query that are bound so far.
 #[derive(Drop)]
 pub struct SetFunctions {
@@ -58,45 +61,66 @@ impl SetFunctions {
     }
 }
 
-#[cycle(bind_expr)]
+/// A value expression and what is found in it.
 pub fn bind_expr(
     expr: &Expr,
     environment: &Environment,
     functions: &mut SetFunctions,
 ) -> ExprResult {
-    let mut bound = bind_term(&expr.first, environment, functions);
+    let mut findings = Findings::NONE;
+    let part = expr_value(expr, environment, functions, &mut findings)?;
+    Ok(Found { part, findings })
+}
+
+/// A value expression. What is found in it is added to `findings`.
+#[cycle(bind_expr)]
+fn expr_value(
+    expr: &Expr,
+    environment: &Environment,
+    functions: &mut SetFunctions,
+    findings: &mut Findings,
+) -> TypedResult {
+    let mut bound = term_value(&expr.first, environment, functions, findings);
     for added in expr.rest.as_slice() {
         let operator = match added.sign {
             Sign::Plus => Operator::Plus,
             Sign::Minus => Operator::Minus,
         };
-        let term = bind_term(&added.term, environment, functions);
+        let term = term_value(&added.term, environment, functions, findings);
         bound = operation(environment.alloc, bound, operator, term);
+        findings.can_fail = true;
     }
     bound
 }
 
 #[cycle(bind_expr)]
-fn bind_term(term: &Term, environment: &Environment, functions: &mut SetFunctions) -> ExprResult {
-    let mut bound = bind_factor(&term.first, environment, functions);
+fn term_value(
+    term: &Term,
+    environment: &Environment,
+    functions: &mut SetFunctions,
+    findings: &mut Findings,
+) -> TypedResult {
+    let mut bound = factor_value(&term.first, environment, functions, findings);
     for scaled in term.rest.as_slice() {
         let operator = match scaled.sign {
             TimesSign::Times => Operator::Times,
             TimesSign::Over => Operator::Over,
         };
-        let factor = bind_factor(&scaled.factor, environment, functions);
+        let factor = factor_value(&scaled.factor, environment, functions, findings);
         bound = operation(environment.alloc, bound, operator, factor);
+        findings.can_fail = true;
     }
     bound
 }
 
 #[cycle(bind_expr)]
-fn bind_factor(
+fn factor_value(
     factor: &Factor,
     environment: &Environment,
     functions: &mut SetFunctions,
-) -> ExprResult {
-    let bound = bind_primary(&factor.primary, environment, functions);
+    findings: &mut Findings,
+) -> TypedResult {
+    let bound = primary_value(&factor.primary, environment, functions, findings);
     match factor.sign {
         None => bound,
         Some(sign) => signed(environment.alloc, sign, bound),
@@ -104,11 +128,12 @@ fn bind_factor(
 }
 
 #[cycle(bind_expr)]
-fn bind_primary(
+fn primary_value(
     primary: &Primary,
     environment: &Environment,
     functions: &mut SetFunctions,
-) -> ExprResult {
+    findings: &mut Findings,
+) -> TypedResult {
     match primary {
         Primary::Number(number) => number_literal(*number),
         Primary::Text(characters) => text_literal(environment.alloc, characters.as_slice()),
@@ -116,50 +141,45 @@ fn bind_primary(
             environment.parameters.as_slice(),
             *parameter,
         ),
-        Primary::User => Ok(user_value()),
-        Primary::Column(reference) => column_value(environment, reference),
-        Primary::CountRows => count_rows(functions),
+        Primary::User => Ok(user_value(findings)),
+        Primary::Column(reference) => column_value(environment, reference, findings),
+        Primary::CountRows => count_rows(functions, findings),
         Primary::SetFunction(function, quantifier, expr) => {
             let mut inner = SetFunctions::forbidden(environment.alloc);
-            let operand = bind_expr(expr.get(), environment, &mut inner);
+            let mut inside = Findings::NONE;
+            let operand = expr_value(expr.get(), environment, &mut inner, &mut inside);
             drop(inner);
-            set_function(*function, *quantifier, operand, functions)
+            findings.has_set_function = true;
+            set_function(*function, *quantifier, operand, inside, functions)
         }
-        Primary::Bracketed(expr) => bind_expr(expr.get(), environment, functions),
+        Primary::Bracketed(expr) => expr_value(expr.get(), environment, functions, findings),
     }
 }
 
-/// An expression about which nothing is found.
-fn plain(expr: BoundExpr, kind: Kind) -> Found<Typed> {
-    Found {
-        part: Typed { expr, kind },
-        findings: Findings::NONE,
-    }
-}
-
-fn number_literal(number: Number) -> ExprResult {
+fn number_literal(number: Number) -> TypedResult {
     let value = number_value(number)?;
     let kind = Kind::Num(value.scale());
-    Ok(plain(BoundExpr::Literal(Value::Num(value)), kind))
+    Ok(Typed {
+        expr: BoundExpr::Literal(Value::Num(value)),
+        kind,
+    })
 }
 
-fn text_literal(alloc: Global, characters: &[u8]) -> ExprResult {
+fn text_literal(alloc: Global, characters: &[u8]) -> TypedResult {
     let value = text_value(alloc, characters)?;
     let kind = Kind::Chars(characters.len() as u16);
-    Ok(plain(BoundExpr::Literal(value), kind))
+    Ok(Typed {
+        expr: BoundExpr::Literal(value),
+        kind,
+    })
 }
 
 /// USER, a text of 18 characters (6.2; the length is an own rule).
-fn user_value() -> Found<Typed> {
-    Found {
-        part: Typed {
-            expr: BoundExpr::User,
-            kind: Kind::Chars(18),
-        },
-        findings: Findings {
-            has_user: true,
-            ..Findings::NONE
-        },
+fn user_value(findings: &mut Findings) -> Typed {
+    findings.has_user = true;
+    Typed {
+        expr: BoundExpr::User,
+        kind: Kind::Chars(18),
     }
 }
 
@@ -192,28 +212,33 @@ pub fn indicator_of(
     }
 }
 
-fn parameter_value(parameters: &[ParameterDesc], parameter: Parameter) -> ExprResult {
+fn parameter_value(parameters: &[ParameterDesc], parameter: Parameter) -> TypedResult {
     let (position, domain) = parameter_of(parameters, parameter.name)?;
     let indicator = indicator_of(parameters, parameter.indicator)?;
     let input = Input {
         parameter: position,
         indicator,
     };
-    Ok(plain(BoundExpr::Parameter(input), domain.kind()))
+    Ok(Typed {
+        expr: BoundExpr::Parameter(input),
+        kind: domain.kind(),
+    })
 }
 
-fn column_value(environment: &Environment, reference: &ColumnReference) -> ExprResult {
+fn column_value(
+    environment: &Environment,
+    reference: &ColumnReference,
+    findings: &mut Findings,
+) -> TypedResult {
     let found = environment.column(reference)?;
     let place = found.place;
     if place.depth > 0 && !found.is_grouped {
         return Err(BindFault::UngroupedColumn);
     }
-    Ok(Found {
-        part: Typed {
-            expr: BoundExpr::Column(place),
-            kind: found.kind,
-        },
-        findings: column_findings(found),
+    *findings = findings.and(column_findings(found));
+    Ok(Typed {
+        expr: BoundExpr::Column(place),
+        kind: found.kind,
     })
 }
 
@@ -232,9 +257,8 @@ pub fn column_findings(found: FoundColumn) -> Findings {
 }
 
 /// An operand with a sign before it (6.12). A plus changes nothing.
-fn signed(alloc: Global, sign: Sign, operand: ExprResult) -> ExprResult {
-    let Found { part, findings } = operand?;
-    let Typed { expr, kind } = part;
+fn signed(alloc: Global, sign: Sign, operand: TypedResult) -> TypedResult {
+    let Typed { expr, kind } = operand?;
     if !is_number(kind) {
         drop(expr);
         return Err(BindFault::KindMismatch);
@@ -243,25 +267,22 @@ fn signed(alloc: Global, sign: Sign, operand: ExprResult) -> ExprResult {
         Sign::Plus => expr,
         Sign::Minus => BoundExpr::Negated(Boxed::new(alloc, expr)?),
     };
-    Ok(Found {
-        part: Typed { expr, kind },
-        findings,
-    })
+    Ok(Typed { expr, kind })
 }
 
-/// Two operands and the operator between them.
-fn operation(alloc: Global, left: ExprResult, operator: Operator, right: ExprResult) -> ExprResult {
+/// Two operands and the operator between them. The fault of the first is answered first.
+fn operation(
+    alloc: Global,
+    left: TypedResult,
+    operator: Operator,
+    right: TypedResult,
+) -> TypedResult {
     let (left, right) = both(left, right)?;
     operated(alloc, left, operator, right)
 }
 
-fn operated(
-    alloc: Global,
-    left: Found<Typed>,
-    operator: Operator,
-    right: Found<Typed>,
-) -> ExprResult {
-    let kind = match operation_kind(left.part.kind, operator, right.part.kind) {
+fn operated(alloc: Global, left: Typed, operator: Operator, right: Typed) -> TypedResult {
+    let kind = match operation_kind(left.kind, operator, right.kind) {
         Ok(kind) => kind,
         Err(fault) => {
             drop(left);
@@ -269,12 +290,8 @@ fn operated(
             return Err(fault);
         }
     };
-    let findings = left.findings.and(right.findings).failing();
-    let expr = with_operation(alloc, left.part.expr, operator, right.part.expr)?;
-    Ok(Found {
-        part: Typed { expr, kind },
-        findings,
-    })
+    let expr = with_operation(alloc, left.expr, operator, right.expr)?;
+    Ok(Typed { expr, kind })
 }
 
 /// The expression with a further operation behind it.
@@ -313,20 +330,15 @@ fn begun(alloc: Global, first: BoundExpr, operation: Operation) -> Result<BoundE
 }
 
 /// What a set function of a query is known by.
-fn numbered(number: usize, kind: Kind) -> Found<Typed> {
-    Found {
-        part: Typed {
-            expr: BoundExpr::SetFunction(number),
-            kind,
-        },
-        findings: Findings {
-            has_set_function: true,
-            ..Findings::NONE
-        },
+fn numbered(number: usize, kind: Kind) -> Typed {
+    Typed {
+        expr: BoundExpr::SetFunction(number),
+        kind,
     }
 }
 
-fn count_rows(functions: &mut SetFunctions) -> ExprResult {
+fn count_rows(functions: &mut SetFunctions, findings: &mut Findings) -> TypedResult {
+    findings.has_set_function = true;
     if !functions.allowed {
         return Err(BindFault::MisplacedSetFunction);
     }
@@ -339,11 +351,11 @@ fn count_rows(functions: &mut SetFunctions) -> ExprResult {
 fn set_function(
     function: SetFunction,
     quantifier: Option<SetQuantifier>,
-    operand: ExprResult,
+    operand: TypedResult,
+    findings: Findings,
     functions: &mut SetFunctions,
-) -> ExprResult {
-    let Found { part, findings } = operand?;
-    let Typed { expr, kind } = part;
+) -> TypedResult {
+    let Typed { expr, kind } = operand?;
     if !functions.allowed || findings.reach > 0 {
         drop(expr);
         return Err(BindFault::MisplacedSetFunction);
