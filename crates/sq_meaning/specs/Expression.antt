@@ -1,6 +1,6 @@
 -- The value of a value expression in an environment (ISO/IEC 9075:1992, 6.2, 6.5 and 6.11 to 6.13). Operands are
 -- evaluated from left to right, and the first status met is the outcome.
-use Rattle.std.specs.Prelude.{pos, Bool, if◌then◌else◌, List, [], ◌∷◌, ◌++◌, length, Result, Ok}
+use Rattle.std.specs.Prelude.{ℕ, ◌+◌, ◌-◌, max, nat_le, pos, Bool, if◌then◌else◌, List, [], ◌∷◌, ◌++◌, length, Result, Ok}
 use Rattle.sq_lex.specs.declared.name.Name.{Name}
 use Rattle.sq_value.specs.Number.{Number}
 use Rattle.sq_value.specs.Arithmetic as number
@@ -31,25 +31,31 @@ pub record Reading (N : Naming) : Type 0 where
   pub item : N.Table → Outcome N.Item
   pub rows : N.Table → Outcome (List Row)
 
--- ---- arithmetic (6.12): null where an operand is null
+-- ---- arithmetic (6.12)
 
 abbrev pub number_outcome : Result Number ArithmeticFault → Outcome Value
 number_outcome result = with_status arithmetic_status (number_or_fault result)
 
-abbrev pub calculated : (Number → Number → Result Number ArithmeticFault) → Value → Value → Outcome Value
-calculated operation (Num a) (Num b) = number_outcome (operation a b)
+-- between numbers; null where an operand is null
+abbrev pub calculated : (Number → Number → Outcome Value) → Value → Value → Outcome Value
+calculated operation (Num a) (Num b) = operation a b
 calculated operation Null Null = Ok Null
 calculated operation Null (Num b) = Ok Null
 calculated operation (Num a) Null = Ok Null
 calculated operation _ _ = not_well_formed
 
 abbrev pub sum_of : Sign → Value → Value → Outcome Value
-sum_of Plus = calculated number.added
-sum_of Minus = calculated number.subtracted
+sum_of Plus = calculated (λ a b. number_outcome (number.added a b))
+sum_of Minus = calculated (λ a b. number_outcome (number.subtracted a b))
 
+-- no more than 18 digits are made behind the point (own rule)
+abbrev pub with_places : ℕ → Outcome Value → Outcome Value
+with_places places outcome = if nat_le places 18 then outcome else not_well_formed
+
+-- the scale of a product is the sum of both; a dividend is brought to as many places as its quotient needs
 abbrev pub product_of : TimesSign → Value → Value → Outcome Value
-product_of Times = calculated number.multiplied
-product_of Over = calculated number.divided
+product_of Times = calculated (λ a b. with_places (a.scale + b.scale) (number_outcome (number.multiplied a b)))
+product_of Over = calculated (λ a b. with_places (max a.scale b.scale + b.scale - a.scale) (number_outcome (number.divided a b)))
 
 abbrev pub with_sign : Sign → Value → Outcome Value
 with_sign sign Null = Ok Null
