@@ -1,6 +1,7 @@
 -- The value of an expression, part by part.
 use Rattle.std.proofs.Common.{◌≡◌, ℕ, zero, suc, ◌+◌, ◌<◌, List, [], ◌∷◌, length, drop, map, get_or, refl, sym, ◌∙◌, ap, subst, Result, Ok, Err}
 use Rattle.std.specs.Prelude.{fold, slice_get, slice_index_or}
+use Rattle.std.specs.Result.{IsErrAnd}
 use Rattle.std.proofs.lemmas.List.{drop_more}
 use Rattle.sq_value.specs.declared.value.Value.{Value}
 use Rattle.sq_meaning.specs.Status.{Outcome, ◌>>=◌, well_formed}
@@ -17,7 +18,7 @@ use Rattle.sq_bound.specs.declared.expression.BoundExpr.{BoundExpr}
 use Rattle.sq_bound.specs.declared.expression.BoundExpr.TheVariants as bound
 use Rattle.sq_bound.specs.declared.expression.Operator.{Operator}
 use Rattle.sq_bound.specs.declared.expression.Operator.TheVariants.{Plus, Minus, Times, Over}
-use Rattle.sq_bound.specs.declared.expression.Operation.{Operation, out-Operation}
+use Rattle.sq_bound.specs.declared.expression.Operation.{Operation}
 use Rattle.sq_bound.proofs.ExpressionLaws.{expr_of-Literal, expr_of-Parameter, expr_of-User, expr_of-Column, expr_of-SetFunction, expr_of-Negated, expr_of-Operations, operation_of-out}
 use Rattle.sq_query.specs.Arithmetic.{operation}
 use Rattle.sq_query.specs.Fault.{Meets, status_of}
@@ -26,6 +27,11 @@ use Rattle.sq_query.specs.declared.fault.Fault.TheVariants as fault
 
 pub meets_by : (r : Result Value Fault) (o p : Outcome Value) → o ≡ p → Meets r p → Meets r o
 meets_by r o p same h = subst (λ (x : Outcome Value). Meets r x) (sym same) h
+
+-- `?` hands the fault on
+pub handed_on : {A : Type 0} (r : Result A Fault) (f : Fault) (o : Outcome A) → IsErrAnd r (λ g. g ≡ f) → Meets {A = A} (Err f) o → Meets r o
+handed_on (Ok v) f o is failed = absurd is
+handed_on {A} (Err g) f o is failed = subst (λ (x : Fault). Meets {A = A} (Err x) o) (sym is) failed
 
 -- ---- one level of an expression
 
@@ -60,7 +66,7 @@ pub group_function : (m : Reading (Placed TablePlace)) (env : Env (Unit {0})) (v
     → e ≡ bound.SetFunction n → value m (expr_of (map literal values) e) env ≡ well_formed (slice_get values n)
 group_function m env values e n is =
     level m env (map literal values) e (bound.SetFunction n) (slice_index_or (map literal values) n missing) is (expr_of-SetFunction (map literal values) n)
-        ∙ function_meant m env values n
+    ∙ function_meant m env values n
 
 pub negated_value : (m : Reading (Placed TablePlace)) (env : Env (Unit {0})) (functions : List PlacedExpr) (e operand : BoundExpr)
     → e ≡ bound.Negated operand → value m (expr_of functions e) env ≡ (value m (expr_of functions operand) env >>= with_sign sign.Minus)
@@ -80,9 +86,9 @@ operated_value m env Times a b = refl
 operated_value m env Over a b = refl
 
 operation_value : (m : Reading (Placed TablePlace)) (env : Env (Unit {0})) (functions : List PlacedExpr) (o : Operation) (left : PlacedExpr)
-    → value m (operation_of functions o left) env ≡ (value m left env >>= λ x. value m (expr_of functions (out-Operation o).operand) env >>= operation (out-Operation o).operator x)
+    → value m (operation_of functions o left) env ≡ (value m left env >>= λ x. value m (expr_of functions o.operand) env >>= operation o.operator x)
 operation_value m env functions o left =
-    ap (λ (e : PlacedExpr). value m e env) (operation_of-out functions o left) ∙ operated_value m env (out-Operation o).operator left (expr_of functions (out-Operation o).operand)
+    ap (λ (e : PlacedExpr). value m e env) (operation_of-out functions o left) ∙ operated_value m env o.operator left (expr_of functions o.operand)
 
 -- only the value of what stands on the left counts
 same_behind : (m : Reading (Placed TablePlace)) (env : Env (Unit {0})) (functions : List PlacedExpr) (a b : PlacedExpr) (os : List Operation)
@@ -90,9 +96,9 @@ same_behind : (m : Reading (Placed TablePlace)) (env : Env (Unit {0})) (function
 same_behind m env functions a b [] same = same
 same_behind m env functions a b (o ∷ os) same =
     same_behind m env functions (operation_of functions o a) (operation_of functions o b) os
-        (operation_value m env functions o a
-            ∙ ap (λ (r : Outcome Value). r >>= λ x. value m (expr_of functions (out-Operation o).operand) env >>= operation (out-Operation o).operator x) same
-            ∙ sym (operation_value m env functions o b))
+    (operation_value m env functions o a
+    ∙ ap (λ (r : Outcome Value). r >>= λ x. value m (expr_of functions o.operand) env >>= operation o.operator x) same
+    ∙ sym (operation_value m env functions o b))
 
 -- its status is the outcome
 stops_behind : (m : Reading (Placed TablePlace)) (env : Env (Unit {0})) (functions : List PlacedExpr) (a : PlacedExpr) (os : List Operation) (f : Fault)
@@ -101,8 +107,8 @@ stops_behind m env functions a os fault.NoMemory h = tt
 stops_behind m env functions a [] (fault.Status f) h = h
 stops_behind m env functions a (o ∷ os) (fault.Status f) h =
     stops_behind m env functions (operation_of functions o a) os (fault.Status f)
-        (operation_value m env functions o a
-            ∙ ap (λ (r : Outcome Value). r >>= λ x. value m (expr_of functions (out-Operation o).operand) env >>= operation (out-Operation o).operator x) h)
+    (operation_value m env functions o a
+    ∙ ap (λ (r : Outcome Value). r >>= λ x. value m (expr_of functions o.operand) env >>= operation o.operator x) h)
 
 -- the first operator of those that are left
 first_left : (m : Reading (Placed TablePlace)) (env : Env (Unit {0})) (functions : List PlacedExpr) (whole : Outcome Value) (left : Value) (os : List Operation) (i : ℕ) (o : Operation)
@@ -113,20 +119,20 @@ first_left m env functions whole left os i o within is so_far =
 
 pub operation_done : (m : Reading (Placed TablePlace)) (env : Env (Unit {0})) (functions : List PlacedExpr) (whole : Outcome Value) (left next : Value) (os : List Operation) (i : ℕ) (o : Operation)
     → i < length os → o ≡ get_or os i o → whole ≡ value m (operations functions (literal left) (drop i os)) env
-    → (value m (expr_of functions (out-Operation o).operand) env >>= operation (out-Operation o).operator left) ≡ Ok next
+    → (value m (expr_of functions o.operand) env >>= operation o.operator left) ≡ Ok next
     → whole ≡ value m (operations functions (literal next) (drop (i + 1) os)) env
 operation_done m env functions whole left next os i o within is so_far done =
     first_left m env functions whole left os i o within is so_far
-        ∙ same_behind m env functions (operation_of functions o (literal left)) (literal next) (drop (i + 1) os) (operation_value m env functions o (literal left) ∙ done)
+    ∙ same_behind m env functions (operation_of functions o (literal left)) (literal next) (drop (i + 1) os) (operation_value m env functions o (literal left) ∙ done)
 
 pub operation_failed : (m : Reading (Placed TablePlace)) (env : Env (Unit {0})) (functions : List PlacedExpr) (whole : Outcome Value) (left : Value) (os : List Operation) (i : ℕ) (o : Operation) (f : Fault)
     → i < length os → o ≡ get_or os i o → whole ≡ value m (operations functions (literal left) (drop i os)) env
-    → Meets {A = Value} (Err f) (value m (expr_of functions (out-Operation o).operand) env >>= operation (out-Operation o).operator left)
+    → Meets {A = Value} (Err f) (value m (expr_of functions o.operand) env >>= operation o.operator left)
     → Meets {A = Value} (Err f) whole
 operation_failed m env functions whole left os i o fault.NoMemory within is so_far failed = tt
 operation_failed m env functions whole left os i o (fault.Status f) within is so_far failed =
     first_left m env functions whole left os i o within is so_far
-        ∙ stops_behind m env functions (operation_of functions o (literal left)) (drop (i + 1) os) (fault.Status f) (operation_value m env functions o (literal left) ∙ failed)
+    ∙ stops_behind m env functions (operation_of functions o (literal left)) (drop (i + 1) os) (fault.Status f) (operation_value m env functions o (literal left) ∙ failed)
 
 operations_value : (m : Reading (Placed TablePlace)) (env : Env (Unit {0})) (functions : List PlacedExpr) (e first : BoundExpr) (os : List Operation)
     → e ≡ bound.Operations first os → value m (expr_of functions e) env ≡ value m (operations functions (expr_of functions first) os) env
@@ -136,7 +142,7 @@ pub first_failed : (m : Reading (Placed TablePlace)) (env : Env (Unit {0})) (fun
     → e ≡ bound.Operations first os → Meets {A = Value} (Err f) (value m (expr_of functions first) env) → Meets {A = Value} (Err f) (value m (expr_of functions e) env)
 first_failed m env functions e first os f is failed =
     meets_by (Err f) (value m (expr_of functions e) env) (value m (operations functions (expr_of functions first) os) env) (operations_value m env functions e first os is)
-        (stops_behind m env functions (expr_of functions first) os f failed)
+    (stops_behind m env functions (expr_of functions first) os f failed)
 
 pub first_done : (m : Reading (Placed TablePlace)) (env : Env (Unit {0})) (functions : List PlacedExpr) (e first : BoundExpr) (os : List Operation) (left : Value)
     → e ≡ bound.Operations first os → value m (expr_of functions first) env ≡ Ok left

@@ -8,6 +8,7 @@ ghost use Rattle.sq_meaning.specs.Status.{Outcome, and_then, each, well_formed};
 ghost use Rattle.sq_meaning.specs.Environment.{with_indicator, is_below_zero};
 ghost use Rattle.sq_meaning.specs.Expression as meaning;
 ghost use Rattle.sq_meaning.specs.Placed.{input_at, placed_value};
+ghost use Rattle.sq_value.specs.Text.{IsText, of_length};
 ghost use Rattle.sq_value.specs.declared.value.Value.{Value as AnyValue};
 ghost use Rattle.sq_bound.specs.Expression.{parameter_meant};
 ghost use Rattle.sq_query.specs.Arithmetic.{operation};
@@ -20,6 +21,7 @@ use crate::fault::Fault;
 use crate::found::Found;
 use crate::frame::{Frame, column_value};
 use sq_bound::{BoundExpr, Input, Operator};
+use sq_lex::Name;
 use sq_value::{Row, Text, Value};
 
 /// The value of an expression.
@@ -132,16 +134,33 @@ fn is_below_zero(value: &Value) -> bool
 fn user_value<'a>(context: &Context<'_>) -> Result<Found<'a>, Fault>
     ensures { Meets result (Ok (meaning.user_value context.now.user)) }
 {
-    let name = context.user;
-    let mut codes = [b' '; 18];
-    codes[..name.codes().len()].copy_from_slice(name.codes());
-    if !Text::is_text(&codes) {
-        return Err(Fault::NOT_WELL_FORMED);
-    }
+    let codes = padded(context.user);
     Ok(Found::made(Value::Chars(Text::new(context.alloc, &codes)?)))
 }
 
+fn padded(name: Name) -> [u8; 18]
+    ensures value { result ≡ of_length 18 name }
+    ensures text { IsText result }
+{
+    let mut codes = [b' '; 18];
+    let spelled = name.codes();
+    codes[..spelled.len()].copy_from_slice(spelled);
+    codes
+}
+
+/// The value itself, a copy where it stands somewhere.
+pub(crate) fn owned_value(
+    expr: &BoundExpr,
+    frame: &Frame<'_>,
+    context: &Context<'_>,
+) -> Result<Value, Fault>
+    ensures { Meets result (meaning.value (reading context.now) (on_line frame.now expr.now) (env_of frame.now context.now)) }
+{
+    Ok(value(expr, frame, context)?.into_value(context.alloc)?)
+}
+
 /// The values of expressions, as a row.
+#[tactic(auto, using(crate::proofs::Each::each_ends))]
 pub(crate) fn row_of(
     exprs: &[BoundExpr],
     frame: &Frame<'_>,
@@ -151,8 +170,8 @@ pub(crate) fn row_of(
 {
     let mut row = Row::new(context.alloc);
     for expr in exprs {
-        let value = value(expr, frame, context)?.into_value(context.alloc)?;
-        row.push(value)?;
+        let cell = owned_value(expr, frame, context)?;
+        row.push(cell)?;
     }
     Ok(row)
 }
