@@ -5,5 +5,6 @@ mod Quoted
 mod ReadingLemmas
 mod Rows
 mod Runs
+pub mod Spelled
 pub mod SymbolLemmas
 pub mod WordLemmas

@@ -1,5 +1,11 @@
 -- What a statement ends with that has no answer (ISO/IEC 9075:1992, 22.1).
 use Rattle.std.specs.Prelude.{◌≡◌, Result, Ok, Err, ⊤}
+use Rattle.sq_value.specs.declared.fault.ArithmeticFault.{ArithmeticFault}
+use Rattle.sq_value.specs.declared.fault.ArithmeticFault.TheVariants as arithmetic
+use Rattle.sq_value.specs.declared.fault.LikeFault.{LikeFault}
+use Rattle.sq_value.specs.declared.fault.LikeFault.TheVariants as like
+use Rattle.sq_value.specs.declared.fault.RetrieveFault.{RetrieveFault}
+use Rattle.sq_value.specs.declared.fault.RetrieveFault.TheVariants as retrieve
 use Rattle.sq_value.specs.declared.fault.StoreFault.{StoreFault}
 use Rattle.sq_value.specs.declared.fault.StoreFault.TheVariants as store
 use Rattle.sq_meaning.specs.Status.{Outcome}
@@ -24,6 +30,18 @@ status_of failure.InvalidCursorState = status.InvalidCursorState
 status_of failure.SyntaxErrorOrAccessRuleViolation = status.SyntaxErrorOrAccessRuleViolation
 status_of failure.CheckOptionViolation = status.CheckOptionViolation
 status_of failure.NoRowNumberLeft = status.NoRowNumberLeft
+
+abbrev pub fault_of_arithmetic : ArithmeticFault → Fault
+fault_of_arithmetic arithmetic.Range = fault.Status failure.NumericValueOutOfRange
+fault_of_arithmetic arithmetic.ZeroDivisor = fault.Status failure.DivisionByZero
+
+abbrev pub fault_of_like : LikeFault → Fault
+fault_of_like like.EscapeLength = fault.Status failure.InvalidEscapeCharacter
+fault_of_like like.EscapeSequence = fault.Status failure.InvalidEscapeSequence
+
+abbrev pub fault_of_retrieving : RetrieveFault → Fault
+fault_of_retrieving retrieve.Range = fault.Status failure.NumericValueOutOfRange
+fault_of_retrieving retrieve.NoMemory = fault.NoMemory
 
 abbrev pub fault_of_storing : StoreFault → Fault
 fault_of_storing store.Range = fault.Status failure.NumericValueOutOfRange

@@ -1,18 +1,26 @@
 //! Arithmetic: null where an operand is null (ISO/IEC 9075:1992, 6.12).
 
+ghost use Rattle.std.specs.Prelude.{◌+◌, ◌-◌, max};
+ghost use Rattle.sq_tree.specs.declared.expr.Sign.TheVariants as sign;
+ghost use Rattle.sq_meaning.specs.Expression.{number_outcome, with_places, with_sign};
+ghost use Rattle.sq_value.specs.Arithmetic as number;
+ghost use Rattle.sq_value.specs.declared.value.Value.TheVariants.{Num};
+ghost use Rattle.sq_query.specs.Arithmetic.{operation};
+ghost use Rattle.sq_query.specs.Fault.{Meets};
+
 use crate::fault::Fault;
 use sq_bound::Operator;
-use sq_value::{Decimal, Value};
+use sq_value::{ArithmeticFault, Decimal, Value};
 
 /// The greatest scale of a number.
 pub(crate) const GREATEST_SCALE: u8 = 18;
 
 /// The result of an operator between two values.
-pub(crate) fn calculated(operator: Operator, left: &Value, right: &Value) -> Result<Value, Fault> {
+pub(crate) fn calculated(operator: Operator, left: &Value, right: &Value) -> Result<Value, Fault>
+    ensures { Meets result (operation operator left.now right.now) }
+{
     match (left, right) {
-        (Value::Num(left), Value::Num(right)) => {
-            Ok(Value::Num(number(operator, *left, *right)?))
-        }
+        (Value::Num(left), Value::Num(right)) => { number(operator, *left, *right) }
         (Value::Null, Value::Null | Value::Num(_)) | (Value::Num(_), Value::Null) => {
             Ok(Value::Null)
         }
@@ -20,32 +28,50 @@ pub(crate) fn calculated(operator: Operator, left: &Value, right: &Value) -> Res
     }
 }
 
-fn number(operator: Operator, left: Decimal, right: Decimal) -> Result<Decimal, Fault> {
+fn number(operator: Operator, left: Decimal, right: Decimal) -> Result<Value, Fault>
+    ensures { Meets result (operation operator (Num left) (Num right)) }
+{
     match operator {
-        Operator::Plus => Ok(left.add(right)?),
-        Operator::Minus => Ok(left.sub(right)?),
+        Operator::Plus => made(left.add(right)),
+        Operator::Minus => made(left.sub(right)),
         Operator::Times => product(left, right),
         Operator::Over => quotient(left, right),
     }
 }
 
-fn product(left: Decimal, right: Decimal) -> Result<Decimal, Fault> {
+fn product(left: Decimal, right: Decimal) -> Result<Value, Fault>
+    ensures { Meets result (with_places (left.scale + right.scale) (number_outcome (number.multiplied left right))) }
+{
     if left.scale() + right.scale() > GREATEST_SCALE {
         return Err(Fault::NOT_WELL_FORMED);
     }
-    Ok(left.mul(right)?)
+    made(left.mul(right))
 }
 
-fn quotient(left: Decimal, right: Decimal) -> Result<Decimal, Fault> {
+fn quotient(left: Decimal, right: Decimal) -> Result<Value, Fault>
+    ensures { Meets result (with_places (max left.scale right.scale + right.scale - left.scale) (number_outcome (number.divided left right))) }
+{
     let scale = left.scale().max(right.scale());
     if scale + right.scale() - left.scale() > GREATEST_SCALE {
         return Err(Fault::NOT_WELL_FORMED);
     }
-    Ok(left.div(right)?)
+    made(left.div(right))
+}
+
+/// The number, or the status of its fault.
+fn made(number: Result<Decimal, ArithmeticFault>) -> Result<Value, Fault>
+    ensures { Meets result (number_outcome number) }
+{
+    match number {
+        Ok(number) => Ok(Value::Num(number)),
+        Err(fault) => Err(Fault::from(fault)),
+    }
 }
 
 /// The value with the other sign.
-pub(crate) fn negated(value: &Value) -> Result<Value, Fault> {
+pub(crate) fn negated(value: &Value) -> Result<Value, Fault>
+    ensures { Meets result (with_sign sign.Minus value.now) }
+{
     match value {
         Value::Null => Ok(Value::Null),
         Value::Num(number) => Ok(Value::Num(number.neg())),

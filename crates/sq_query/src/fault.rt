@@ -85,6 +85,10 @@ impl<T: Drop> From<AllocFailed<T>> for Fault {
 }
 
 impl From<ArithmeticFault> for Fault {
+    ghost use Rattle.sq_query.specs.Fault.{fault_of_arithmetic};
+
+    ghost from_gives = { λ fault answer. answer ≡ fault_of_arithmetic fault };
+
     fn from(fault: ArithmeticFault) -> Fault {
         match fault {
             ArithmeticFault::Range => Fault::Status(Failure::NumericValueOutOfRange),
@@ -94,6 +98,10 @@ impl From<ArithmeticFault> for Fault {
 }
 
 impl From<LikeFault> for Fault {
+    ghost use Rattle.sq_query.specs.Fault.{fault_of_like};
+
+    ghost from_gives = { λ fault answer. answer ≡ fault_of_like fault };
+
     fn from(fault: LikeFault) -> Fault {
         match fault {
             LikeFault::EscapeLength => Fault::Status(Failure::InvalidEscapeCharacter),
@@ -117,6 +125,10 @@ impl From<StoreFault> for Fault {
 }
 
 impl From<RetrieveFault> for Fault {
+    ghost use Rattle.sq_query.specs.Fault.{fault_of_retrieving};
+
+    ghost from_gives = { λ fault answer. answer ≡ fault_of_retrieving fault };
+
     fn from(fault: RetrieveFault) -> Fault {
         match fault {
             RetrieveFault::Range => Fault::Status(Failure::NumericValueOutOfRange),
