@@ -1,12 +1,18 @@
--- What a catalog defines (ISO/IEC 9075:1992, 11.1 and 11.3).
-use Rattle.std.specs.Prelude.{ℕ, Bool, ◌&&◌, List, Option, nat_eq, position}
+-- What a catalog defines, and what schema texts declare (ISO/IEC 9075:1992, 11.1 and 11.3).
+use Rattle.std.specs.Prelude.{◌≡◌, ℕ, ◌+◌, Bool, ◌&&◌, List, [], ◌∷◌, ◌++◌, length, flat_map, Option, unwrap_or, nat_eq, position}
 use Rattle.std.specs.Cmp.Lexicographic.{pointwise}
 use Rattle.sq_lex.specs.declared.name.Name.{Name}
+use Rattle.sq_tree.specs.declared.names.TableName.{TableName}
+use Rattle.sq_tree.specs.declared.schema.SchemaDefinition.{SchemaDefinition}
+use Rattle.sq_tree.specs.declared.schema.SchemaElement.{SchemaElement}
+use Rattle.sq_tree.specs.declared.schema.SchemaElement.TheVariants as element
+use Rattle.sq_tree.specs.declared.schema.SchemaText.{SchemaText}
 use Rattle.sq_catalog.specs.declared.catalog.FullName.{FullName}
 
--- the base tables' names, each at the place of its table
+-- the base tables' names, each at the place of its table, and the number of tables for which a store is given keys
 pub record Catalog : Type 0 where
   pub tables : List FullName
+  pub stored : ℕ
 
 abbrev pub is_table : Name → Name → FullName → Bool
 is_table user name t = pointwise nat_eq user t.user && pointwise nat_eq name t.name
@@ -14,3 +20,31 @@ is_table user name t = pointwise nat_eq user t.user && pointwise nat_eq name t.n
 -- the place of the table of this owner and name
 abbrev pub table_number : List FullName → Name → Name → Option ℕ
 table_number tables user name = position (is_table user name) tables
+
+-- ---- the base tables of schema texts, in the order of the texts
+
+-- a table's full name: an unqualified one is in the user's own schema (5.4)
+abbrev pub named_by : Name → TableName → FullName
+named_by user written = record { user = unwrap_or written.schema user; name = written.table }
+
+-- the base table that an element of this user's schema creates
+abbrev pub table_in : Name → SchemaElement → List FullName
+table_in user (element.Table t) = named_by user t.name ∷ []
+table_in user (element.View v) = []
+table_in user (element.Grant g) = []
+
+abbrev pub schema_tables : SchemaDefinition → List FullName
+schema_tables d = flat_map (table_in d.authorization) d.elements
+
+abbrev pub text_tables : SchemaText → List FullName
+text_tables t = flat_map schema_tables (t.first ∷ t.rest)
+
+abbrev pub declared_tables : List SchemaText → List FullName
+declared_tables texts = flat_map text_tables texts
+
+-- ---- a catalog that grows
+
+-- these base tables are added, each with its keys
+pub record Gains (old new : Catalog) (names : List FullName) : Type 0 where
+  pub tables : new.tables ≡ old.tables ++ names
+  pub stored : new.stored ≡ old.stored + length names

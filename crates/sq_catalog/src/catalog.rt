@@ -1,7 +1,9 @@
 //! The catalog, built element by element (ISO/IEC 9075:1992, 11.1).
 
-ghost use Rattle.std.specs.Prelude.{◌≡◌, IfErr, length};
-ghost use Rattle.sq_catalog.specs.Catalog.{table_number};
+ghost use Rattle.std.specs.Prelude.{◌≡◌, [], ◌∷◌, ◌++◌, true, IfErr, IfOk, IsNone, None, OnOk, is_none, length};
+ghost use Rattle.std.specs.Map.{keys_of};
+ghost use Rattle.sq_lex.specs.declared.name.Name.{Name as Named};
+ghost use Rattle.sq_catalog.specs.Catalog.{Gains, declared_tables, named_by, schema_tables, table_in, table_number, text_tables};
 ghost use Rattle.sq_catalog.specs.Fault.{IsOfSomeText, IsOfText};
 
 use crate::fault::{CatalogFault, ElementFault, RefusalName, SchemaRefusal, refused_if};
@@ -44,12 +46,13 @@ pub struct Catalog {
 }
 
 impl Model for Catalog {
+    ghost use Rattle.std.specs.Prelude.{length};
     ghost use Rattle.std.specs.Map.{keys_of};
     ghost use Rattle.sq_catalog.specs.Catalog.{Catalog};
 
     ghost Value = { Catalog };
 
-    ghost view = { λ c. record { tables = keys_of c.bases.entries } };
+    ghost view = { λ c. record { tables = keys_of c.bases.entries; stored = length c.keys.items } };
 }
 
 impl Catalog {
@@ -60,6 +63,8 @@ impl Catalog {
         texts: &[SchemaText],
         limits: Limits,
     ) -> Result<Catalog, CatalogFault>
+        ensures tables { IfOk result (λ c. c.tables ≡ declared_tables texts.now) }
+        ensures stored { IfOk result (λ c. c.stored ≡ length c.tables) }
         ensures refused { IfErr result (IsOfSomeText (length texts.now)) }
     {
         let mut catalog = Catalog {
@@ -83,7 +88,9 @@ impl Catalog {
     }
 
     /// For each base table in the order of the texts, the column positions of each of its keys.
-    pub fn keys(&self) -> &[Vec<Vec<usize>>] {
+    pub fn keys(&self) -> &[Vec<Vec<usize>>]
+        ensures { length result.now ≡ self.now.stored }
+    {
         self.keys.as_slice()
     }
 
@@ -92,6 +99,7 @@ impl Catalog {
     }
 
     fn add_text(&mut self, text: usize, tree: &SchemaText) -> Result<(), CatalogFault>
+        ensures tables { OnOk result (Gains self.old self.new (text_tables tree.now)) }
         ensures refused { IfErr result (IsOfText text) }
     {
         self.add_schema(text, 0, &tree.first)?;
@@ -107,18 +115,24 @@ impl Catalog {
         schema: usize,
         definition: &SchemaDefinition,
     ) -> Result<(), CatalogFault>
+        ensures tables { OnOk result (Gains self.old self.new (schema_tables definition.now)) }
         ensures refused { IfErr result (IsOfText text) }
     {
         let user = definition.authorization;
-        placed(add_name(&mut self.users, user), text, schema, None)?;
+        if let Err(fault) = add_name(&mut self.users, user) {
+            return Err(placed(fault, text, schema, None));
+        }
         for (number, element) in definition.elements.as_slice().iter().enumerate() {
-            let added = self.add_element(user, element);
-            placed(added, text, schema, Some(number))?;
+            if let Err(fault) = self.add_element(user, element) {
+                return Err(placed(fault, text, schema, Some(number)));
+            }
         }
         Ok(())
     }
 
-    fn add_element(&mut self, user: Name, element: &SchemaElement) -> Result<(), ElementFault> {
+    fn add_element(&mut self, user: Name, element: &SchemaElement) -> Result<(), ElementFault>
+        ensures tables { OnOk result (Gains self.old self.new (table_in user element.now)) }
+    {
         match element {
             SchemaElement::Table(table) => self.create_table(user, table),
             SchemaElement::View(view) => self.create_view(user, view),
@@ -131,13 +145,17 @@ impl Catalog {
         &self,
         user: Name,
         full_name: &FullName,
-    ) -> Result<(), ElementFault> {
+    ) -> Result<(), ElementFault>
+        ensures { OnOk result (full_name.now.user ≡ user → table_number self.now.tables full_name.now.user full_name.now.name ≡ None) }
+    {
         let is_used = full_name.user == user && self.place_of(full_name).is_some();
         refused_if(is_used, RefusalName::NameTwice)
     }
 
     /// A table or view stands under its schema's user, and there are at most 1000.
-    pub(crate) fn check_place(&self, user: Name, full_name: &FullName) -> Result<(), ElementFault> {
+    pub(crate) fn check_place(&self, user: Name, full_name: &FullName) -> Result<(), ElementFault>
+        ensures { OnOk result (full_name.now.user ≡ user) }
+    {
         refused_if(full_name.user != user, RefusalName::OtherSchema)?;
         let tables = self.bases.len().saturating_add(self.views.len());
         refused_if(tables >= MOST_TABLES, RefusalName::TooManyTables)
@@ -158,7 +176,11 @@ impl Catalog {
         &mut self,
         name: FullName,
         table: TableDesc,
-    ) -> Result<(), ElementFault> {
+    ) -> Result<(), ElementFault>
+        requires { table_number self.old.tables name.user name.name ≡ None }
+        ensures tables { OnOk result (self.new.tables ≡ self.old.tables ++ name ∷ []) }
+        ensures stored { self.new.stored ≡ self.old.stored }
+    {
         insert_table(&mut self.bases, name, table)
     }
 
@@ -167,7 +189,9 @@ impl Catalog {
         &mut self,
         name: FullName,
         table: TableDesc,
-    ) -> Result<(), ElementFault> {
+    ) -> Result<(), ElementFault>
+        ensures { self.new ≡ self.old }
+    {
         insert_table(&mut self.views, name, table)
     }
 
@@ -179,7 +203,9 @@ impl Catalog {
     }
 
     /// Where the table or view of this name stands.
-    pub(crate) fn place_of(&self, full_name: &FullName) -> Option<TablePlace> {
+    pub(crate) fn place_of(&self, full_name: &FullName) -> Option<TablePlace>
+        ensures { is_none result ≡ true → table_number self.now.tables full_name.now.user full_name.now.name ≡ None }
+    {
         match self.bases.get_index_of(full_name) {
             Some(place) => Some(TablePlace::Base(place)),
             None => Some(TablePlace::View(self.views.get_index_of(full_name)?)),
@@ -223,7 +249,9 @@ fn insert_table(
     tables: &mut IndexMap<FullName, TableDesc>,
     name: FullName,
     table: TableDesc,
-) -> Result<(), ElementFault> {
+) -> Result<(), ElementFault>
+    ensures { OnOk result (table_number (keys_of tables.old.entries) name.user name.name ≡ None → keys_of tables.new.entries ≡ keys_of tables.old.entries ++ name ∷ []) }
+{
     match tables.insert(name, table) {
         Ok(before) => {
             drop(before);
@@ -238,27 +266,28 @@ fn insert_table(
 
 /// A fault of an element with the element's place.
 fn placed(
-    answer: Result<(), ElementFault>,
+    fault: ElementFault,
     text: usize,
     schema: usize,
     element: Option<usize>,
-) -> Result<(), CatalogFault>
-    ensures refused { IfErr result (IsOfText text) }
+) -> CatalogFault
+    ensures { IsOfText text result }
 {
-    match answer {
-        Ok(()) => Ok(()),
-        Err(ElementFault::Refused(name)) => Err(CatalogFault::Refused(SchemaRefusal {
+    match fault {
+        ElementFault::Refused(name) => CatalogFault::Refused(SchemaRefusal {
             name,
             text,
             schema,
             element,
-        })),
-        Err(ElementFault::NoMemory) => Err(CatalogFault::NoMemory),
+        }),
+        ElementFault::NoMemory => CatalogFault::NoMemory,
     }
 }
 
 /// The full name that a text of a user writes.
-pub(crate) fn full_name(user: Name, written: TableName) -> FullName {
+pub(crate) fn full_name(user: Name, written: TableName) -> FullName
+    ensures { result ≡ named_by user written }
+{
     FullName {
         user: match written.schema {
             Some(owner) => owner,

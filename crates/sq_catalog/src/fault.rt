@@ -1,6 +1,6 @@
 //! Why schema texts are refused.
 
-ghost use Rattle.std.specs.Prelude.{◌≡◌};
+ghost use Rattle.std.specs.Prelude.{◌≡◌, false, OnOk};
 
 use sq_bound::BindFault;
 use std::alloc::AllocError;
@@ -71,7 +71,9 @@ impl From<AllocError> for ElementFault {
 }
 
 /// The refusal, if something is wrong.
-pub(crate) fn refused_if(is_wrong: bool, name: RefusalName) -> Result<(), ElementFault> {
+pub(crate) fn refused_if(is_wrong: bool, name: RefusalName) -> Result<(), ElementFault>
+    ensures { OnOk result (is_wrong ≡ false) }
+{
     if is_wrong {
         Err(ElementFault::Refused(name))
     } else {

@@ -1,5 +1,7 @@
 //! Privileges: what users and PUBLIC hold, with or without the grant option, and GRANT (ISO/IEC 9075:1992, 10.3, 11.36).
 
+ghost use Rattle.std.specs.Prelude.{◌≡◌, OnOk};
+
 use crate::catalog::{Catalog, FullName, full_name};
 use crate::fault::{ElementFault, RefusalName, refused_if};
 use crate::written::{has_twice, names_of, pushed};
@@ -105,7 +107,9 @@ impl Catalog {
         &mut self,
         user: Name,
         statement: &GrantStatement,
-    ) -> Result<(), ElementFault> {
+    ) -> Result<(), ElementFault>
+        ensures { OnOk result (self.new ≡ self.old) }
+    {
         let name = full_name(user, statement.table);
         let Some(place) = self.place_of(&name) else {
             return Err(ElementFault::Refused(RefusalName::UnknownName));
@@ -127,7 +131,9 @@ impl Catalog {
         privileges: &[Privilege],
         grantees: &CommaList<Grantee>,
         to_grant: bool,
-    ) -> Result<(), ElementFault> {
+    ) -> Result<(), ElementFault>
+        ensures { OnOk result (self.new ≡ self.old) }
+    {
         self.add_grantee(table, privileges, &grantees.first, to_grant)?;
         for grantee in grantees.rest.as_slice() {
             self.add_grantee(table, privileges, grantee, to_grant)?;
@@ -141,7 +147,9 @@ impl Catalog {
         privileges: &[Privilege],
         grantee: &Grantee,
         to_grant: bool,
-    ) -> Result<(), ElementFault> {
+    ) -> Result<(), ElementFault>
+        ensures { OnOk result (self.new ≡ self.old) }
+    {
         for privilege in privileges {
             let user = user_of(grantee);
             self.held.add(user, table, *privilege, to_grant)?;

@@ -1,6 +1,7 @@
 //! CREATE TABLE (ISO/IEC 9075:1992, 11.3 to 11.9).
 
-ghost use Rattle.std.specs.Prelude.{IsTrue};
+ghost use Rattle.std.specs.Prelude.{◌≡◌, ◌∷◌, [], IsTrue, OnOk};
+ghost use Rattle.sq_catalog.specs.Catalog.{Gains, named_by};
 ghost use Rattle.sq_value.specs.Domain.{IsDomain, FitsKind};
 
 use crate::catalog::{Catalog, FullName, full_name};
@@ -43,12 +44,16 @@ impl Catalog {
         &mut self,
         user: Name,
         definition: &TableDefinition,
-    ) -> Result<(), ElementFault> {
+    ) -> Result<(), ElementFault>
+        ensures { OnOk result (Gains self.old self.new (named_by user definition.now.name ∷ [])) }
+    {
         let name = full_name(user, definition.name);
         self.check_new_name(user, &name)?;
         let (table, keys) = self.new_table(user, &name, definition)?;
-        let added = self.add_base(name, table);
-        let keys = kept(keys, added)?;
+        if let Err(fault) = self.add_base(name, table) {
+            drop(keys);
+            return Err(fault);
+        }
         pushed(self.keys.push(keys).is_ok())
     }
 
@@ -58,7 +63,9 @@ impl Catalog {
         user: Name,
         name: &FullName,
         definition: &TableDefinition,
-    ) -> Result<(TableDesc, Vec<Vec<usize>>), ElementFault> {
+    ) -> Result<(TableDesc, Vec<Vec<usize>>), ElementFault>
+        ensures { OnOk result (name.now.user ≡ user) }
+    {
         let draft = self.draft(user, name, definition)?;
         let table = self.table_of(user, name, &draft);
         let keys = draft.keys.for_store(self.alloc());
@@ -112,13 +119,18 @@ impl Catalog {
         user: Name,
         name: &FullName,
         draft: &Draft<'_>,
-    ) -> Result<TableDesc, ElementFault> {
+    ) -> Result<TableDesc, ElementFault>
+        ensures { OnOk result (name.now.user ≡ user) }
+    {
         let columns = columns_of(self.alloc(), draft.written.columns.as_slice())?;
         draft.check_keys()?;
         let base = (&*self).base_of(name, columns.as_slice(), &*draft);
         let (columns, base) = both(Ok(columns), base)?;
-        let test = self.check_rest(user, name, draft, &base);
-        let (columns, base) = kept((columns, base), test)?;
+        if let Err(fault) = self.check_rest(user, name, draft, &base) {
+            drop(base);
+            drop(columns);
+            return Err(fault);
+        }
         described(self.alloc(), name, columns, base)
     }
 
@@ -160,7 +172,9 @@ impl Catalog {
         name: &FullName,
         draft: &Draft<'_>,
         base: &BaseTable,
-    ) -> Result<(), ElementFault> {
+    ) -> Result<(), ElementFault>
+        ensures { OnOk result (name.now.user ≡ user) }
+    {
         check_privileges(
             self,
             user,

@@ -1,6 +1,6 @@
 //! CREATE VIEW (ISO/IEC 9075:1992, 11.19).
 
-ghost use Rattle.std.specs.Prelude.{◌≤◌, length, IfOk};
+ghost use Rattle.std.specs.Prelude.{◌≡◌, ◌≤◌, length, IfOk, OnOk};
 
 use crate::catalog::{Catalog, FullName, full_name};
 use crate::fault::{ElementFault, RefusalName, refused_as, refused_if};
@@ -38,7 +38,9 @@ impl Catalog {
         &mut self,
         user: Name,
         definition: &ViewDefinition,
-    ) -> Result<(), ElementFault> {
+    ) -> Result<(), ElementFault>
+        ensures { OnOk result (self.new ≡ self.old) }
+    {
         let name = full_name(user, definition.name);
         self.check_new_name(user, &name)?;
         let NewView { table, grants } = self.defined_view(user, &name, definition)?;
@@ -65,7 +67,9 @@ impl Catalog {
         owner: Name,
         table: TablePlace,
         grants: &[OwnerGrant],
-    ) -> Result<(), ElementFault> {
+    ) -> Result<(), ElementFault>
+        ensures { OnOk result (self.new ≡ self.old) }
+    {
         for held in grants {
             self.held.add(Some(owner), table, held.privilege, false)?;
             if held.can_grant {

@@ -1,5 +1,7 @@
 //! What a table definition writes, by kinds of its elements (ISO/IEC 9075:1992, 11.3, 11.4, 11.6).
 
+ghost use Rattle.std.specs.Prelude.{◌≡◌, true, OnOk};
+
 use crate::fault::{ElementFault, RefusalName, refused_if};
 use indexmap::IndexSet;
 use sq_items::Items;
@@ -147,7 +149,9 @@ impl<'t> Written<'t> {
 }
 
 /// Whether a push found room.
-pub(crate) fn pushed(found_room: bool) -> Result<(), ElementFault> {
+pub(crate) fn pushed(found_room: bool) -> Result<(), ElementFault>
+    ensures { OnOk result (found_room ≡ true) }
+{
     if found_room {
         Ok(())
     } else {

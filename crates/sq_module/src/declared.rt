@@ -1,5 +1,9 @@
 //! Declarations of parameters (ISO/IEC 9075:1992, 12.3).
 
+ghost use Rattle.std.specs.Prelude.{◌≡◌, [], ◌∷◌, ◌++◌, true, false, IfOk};
+ghost use Rattle.std.specs.List.{list_any};
+ghost use Rattle.sq_module.specs.Program.{same_name};
+
 use indexmap::IndexSet;
 use sq_bound::{ParameterDesc, domain_of};
 use sq_items::Items;
@@ -78,7 +82,10 @@ pub(crate) fn has_bad_parameter(
 }
 
 /// Adds a name; whether it was not there.
-pub(crate) fn is_new(names: &mut IndexSet<Name>, name: Name) -> Result<bool, AllocError> {
+pub(crate) fn is_new(names: &mut IndexSet<Name>, name: Name) -> Result<bool, AllocError>
+    ensures new { IfOk result (λ is. is ≡ true → list_any (same_name name) names.old.keys ≡ false) }
+    ensures last { IfOk result (λ is. is ≡ true → names.new.keys ≡ names.old.keys ++ name ∷ []) }
+{
     match names.insert_full(name) {
         Ok((_, is_new)) => Ok(is_new),
         Err(_) => Err(AllocError),

@@ -1,5 +1,10 @@
 //! The procedures and cursors of all modules, with their names as places.
 
+ghost use Rattle.std.specs.Prelude.{◌≡◌, [], ◌∷◌, IfOk, OnOk};
+ghost use Rattle.std.specs.Map.{keys_of};
+ghost use Rattle.indexmap.specs.IndexSet.{insert_key};
+ghost use Rattle.sq_module.specs.Program.{declared_procedures, module_procedures, same_procedure, with_procedures};
+
 use crate::declared::{listed, parameters_of};
 use crate::opener::Openers;
 use indexmap::IndexMap;
@@ -69,7 +74,9 @@ impl Program {
         alloc: Global,
         catalog: &Catalog,
         modules: &[ModuleText],
-    ) -> Result<Program, AllocError> {
+    ) -> Result<Program, AllocError>
+        ensures { IfOk result (λ program. keys_of program.procedures.entries ≡ with_procedures [] (declared_procedures modules.now)) }
+    {
         let mut program = Program {
             procedures: IndexMap::new(alloc),
             cursors: Vec::new(alloc),
@@ -85,7 +92,9 @@ impl Program {
         alloc: Global,
         catalog: &Catalog,
         module: &ModuleText,
-    ) -> Result<(), AllocError> {
+    ) -> Result<(), AllocError>
+        ensures { OnOk result (keys_of self.new.procedures.entries ≡ with_procedures (keys_of self.old.procedures.entries) (module_procedures «module».now)) }
+    {
         let numbers = self.add_cursors(alloc, catalog, module)?;
         self.add_procedures(alloc, catalog, module, &numbers)
     }
@@ -96,7 +105,9 @@ impl Program {
         alloc: Global,
         catalog: &Catalog,
         module: &ModuleText,
-    ) -> Result<IndexMap<Name, usize>, AllocError> {
+    ) -> Result<IndexMap<Name, usize>, AllocError>
+        ensures { self.new.procedures ≡ self.old.procedures }
+    {
         let items = module.items.as_slice();
         let openers = Openers::of(alloc, items)?;
         let mut numbers = IndexMap::new(alloc);
@@ -118,7 +129,9 @@ impl Program {
         user: Name,
         name: Name,
         bound: Result<BoundCursor, BindFault>,
-    ) -> Result<(), AllocError> {
+    ) -> Result<(), AllocError>
+        ensures { self.new.procedures ≡ self.old.procedures }
+    {
         match without_fault(bound)? {
             Some(cursor) => {
                 let number = self.cursors.len();
@@ -135,7 +148,9 @@ impl Program {
         catalog: &Catalog,
         module: &ModuleText,
         numbers: &IndexMap<Name, usize>,
-    ) -> Result<(), AllocError> {
+    ) -> Result<(), AllocError>
+        ensures { OnOk result (keys_of self.new.procedures.entries ≡ with_procedures (keys_of self.old.procedures.entries) (module_procedures «module».now)) }
+    {
         for item in module.items.as_slice() {
             if let ModuleItem::Procedure(procedure) = item {
                 self.add_procedure(alloc, catalog, module, numbers, procedure)?;
@@ -151,7 +166,9 @@ impl Program {
         module: &ModuleText,
         numbers: &IndexMap<Name, usize>,
         procedure: &Procedure,
-    ) -> Result<(), AllocError> {
+    ) -> Result<(), AllocError>
+        ensures { OnOk result (keys_of self.new.procedures.entries ≡ insert_key same_procedure (keys_of self.old.procedures.entries) (record { «module» = «module».now.name; name = procedure.now.name })) }
+    {
         let parameters = parameters_in(alloc, procedure)?;
         let user = module.authorization;
         let cursors = ModuleCursors {
@@ -191,7 +208,9 @@ fn inserted<T: Drop>(
     named: &mut IndexMap<ProcedureName, T>,
     name: ProcedureName,
     value: T,
-) -> Result<(), AllocError> {
+) -> Result<(), AllocError>
+    ensures { OnOk result (keys_of named.new.entries ≡ insert_key same_procedure (keys_of named.old.entries) name) }
+{
     match named.insert(name, value) {
         Ok(before) => {
             drop(before);

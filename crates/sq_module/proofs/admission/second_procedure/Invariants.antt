@@ -1,0 +1,9 @@
+use Rattle.std.proofs.Common.{◌≡◌, [], take}
+use Rattle.sq_module.specs.Program.{AreNew, names_in}
+use Rattle.sq_module.proofs.admission.second_procedure.Given as goal
+
+abbrev pub invariant-loop-place : goal.invariant-loop-place
+invariant-loop-place l = record {
+  keys : l.names.keys ≡ names_in (take l.place l.items);
+  new : AreNew [] (names_in (take l.place l.items));
+}

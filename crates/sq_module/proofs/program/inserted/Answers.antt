@@ -1,0 +1,7 @@
+use Rattle.std.proofs.Common.{ap, ◌∙◌}
+use Rattle.std.specs.Map.{keys_of}
+use Rattle.sq_module.proofs.Names.{keys_insert}
+use Rattle.sq_module.proofs.program.inserted.Goals as goal
+
+pub returns-in-Ok : goal.returns-in-Ok
+returns-in-Ok g c = ap keys_of c.in-Ok.ensures.entries ∙ keys_insert _ c.args.named.now.entries c.args.name c.args.value

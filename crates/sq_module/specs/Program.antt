@@ -1,0 +1,53 @@
+-- The procedures that modules declare, and that their names differ (ISO/IEC 9075:1992, 12.1 and 12.3).
+use Rattle.std.specs.Prelude.{◌≡◌, Bool, false, ◌&&◌, List, [], ◌∷◌, ◌++◌, flat_map, fold, nat_eq, ⊤}
+use Rattle.std.specs.List.{list_any}
+use Rattle.std.specs.Cmp.Lexicographic.{pointwise}
+use Rattle.indexmap.specs.IndexSet.{insert_key}
+use Rattle.sq_lex.specs.declared.name.Name.{Name}
+use Rattle.sq_tree.specs.declared.module.ModuleItem.{ModuleItem}
+use Rattle.sq_tree.specs.declared.module.ModuleItem.TheVariants as item
+use Rattle.sq_tree.specs.declared.module.ModuleText.{ModuleText}
+use Rattle.sq_module.specs.declared.program.ProcedureName.{ProcedureName}
+
+abbrev pub same_name : Name → Name → Bool
+same_name = pointwise nat_eq
+
+abbrev pub same_procedure : ProcedureName → ProcedureName → Bool
+same_procedure p q = same_name p.«module» q.«module» && same_name p.name q.name
+
+-- ---- in the order of the texts
+
+abbrev pub name_in : ModuleItem → List Name
+name_in (item.Procedure p) = p.name ∷ []
+name_in (item.Cursor c) = []
+
+-- the names of the procedures among the items of a module
+abbrev pub names_in : List ModuleItem → List Name
+names_in items = flat_map name_in items
+
+abbrev pub procedure_in : Name → ModuleItem → List ProcedureName
+procedure_in «module» (item.Procedure p) = record { «module» = «module»; name = p.name } ∷ []
+procedure_in «module» (item.Cursor c) = []
+
+abbrev pub module_procedures : ModuleText → List ProcedureName
+module_procedures m = flat_map (procedure_in m.name) m.items
+
+-- the procedures of all modules, each by its module's name and its own
+abbrev pub declared_procedures : List ModuleText → List ProcedureName
+declared_procedures modules = flat_map module_procedures modules
+
+-- those behind others; of two with one name the first place counts
+abbrev pub with_procedures : List ProcedureName → List ProcedureName → List ProcedureName
+with_procedures before procedures = fold (insert_key same_procedure) before procedures
+
+-- ---- names that differ
+
+-- each of the names differs from those before it
+abbrev pub AreNew : List Name → List Name → Type 0
+AreNew before [] = ⊤
+AreNew before (name ∷ names) = (list_any (same_name name) before ≡ false) × AreNew (before ++ name ∷ []) names
+
+-- the modules have different names, and so have the procedures of each
+abbrev pub HaveNames : List Name → List ModuleText → Type 0
+HaveNames before [] = ⊤
+HaveNames before (m ∷ modules) = (list_any (same_name m.name) before ≡ false) × AreNew [] (names_in m.items) × HaveNames (before ++ m.name ∷ []) modules
