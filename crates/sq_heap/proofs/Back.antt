@@ -1,5 +1,5 @@
 -- Going back.
-use Rattle.std.proofs.Common.{◌≡◌, ℕ, zero, suc, ◌+◌, ◌<◌, ◌≤◌, true, nat_eq, nat_lt, List, [], ◌∷◌, ◌++◌, length, take, drop, get_or, slice_set, Some, None, is_some, arith, refl, sym, ap, ◌∙◌, append_assoc, length-append}
+use Rattle.std.proofs.Common.{◌≡◌, ℕ, zero, suc, ◌+◌, ◌<◌, ◌≤◌, true, nat_eq, nat_lt, List, [], ◌∷◌, ◌++◌, length, take, drop, get_or, slice_set, Some, None, is_some, arith, refl, sym, ap, ◌∙◌, append_assoc}
 use Rattle.std.proofs.lemmas.Grind.{common_steps}
 use Rattle.sq_store.specs.declared.change.Change.{Change}
 use Rattle.sq_store.specs.declared.table.Table.{Table}
@@ -160,12 +160,6 @@ goes_back_take ss us later later_us g = ap (take (length us)) g.grown ∙ take_a
 
 pub goes_back_committed : (ss : List Slot) (us : List Undo) (later : List Slot) (later_us : List Undo) → GoesBack ss us later later_us → back later later_us ≡ back ss us
 goes_back_committed ss us later later_us g = ap (back later) g.grown ∙ back_append later us g.made ∙ ap (λ ys. back ys us) g.undone
-
-pub goes_back_length : (ss : List Slot) (us : List Undo) (later : List Slot) (later_us : List Undo) → GoesBack ss us later later_us → length us ≤ length later_us
-goes_back_length ss us later later_us g = longer us g.made later_us g.grown
-  where
-    longer : (us made vs : List Undo) → vs ≡ us ++ made → length us ≤ length vs
-    longer us made vs e = let same : length vs ≡ length (us ++ made) = ap length e in let sum : length (us ++ made) ≡ length us + length made = length-append us made in omega arith
 
 pub fits_drop : (n : ℕ) (us : List Undo) (from : ℕ) → fits n us ≡ true → fits n (drop from us) ≡ true
 fits_drop n us zero h = h

@@ -88,11 +88,6 @@ counted_turned cs ss later at q v s old counts turns e lt sum b = by_test (nat_e
     let two : row_in b at s ≡ 0 = not_in_block b at s f in
     omega (arith, put, counts b, one, two, turns b))
 
-pub counted_alike : (cs : List ℕ) (ss later : List Slot) (at : ℕ) (s old : Slot) → Counted cs ss → Turns at old s ss later → rows_of old ≡ rows_of s → Counted cs later
-counted_alike cs ss later at s old counts turns e b =
-    let same : row_in b at old ≡ row_in b at s = row_of_kind b at old s e in
-    omega (arith, counts b, turns b)
-
 -- a slot's rows are among those of its block
 pub counted_least : (cs : List ℕ) (ss later : List Slot) (at q : ℕ) (old : Slot) → Counted cs ss → Turns at old None ss later → q ≡ at / BLOCK → rows_of old ≤ slice_index_or cs q 0
 counted_least cs ss later at q old counts turns e =

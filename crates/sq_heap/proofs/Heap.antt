@@ -1,6 +1,6 @@
 -- Tables of a heap store, one changed at a time.
 use Rattle.std.proofs.Common.{◌≡◌, ℕ, zero, suc, ◌+◌, ◌<◌, ◌≤◌, Bool, true, false, ◌&&◌, ◌||◌, nat_eq, nat_lt, List, [], ◌∷◌, ◌++◌, length, drop, take, map, get_or, slice_set, Option, Some, None, arith, refl, sym, ap, ◌∙◌}
-use Rattle.std.specs.List.{list_all, list_any}
+use Rattle.std.specs.List.{list_any}
 use Rattle.std.proofs.lemmas.List.{replicate_more}
 use Rattle.std.proofs.lemmas.Bool.{false≢true}
 use Rattle.std.proofs.lemmas.Grind.{common_steps}
@@ -13,14 +13,12 @@ use Rattle.sq_store.specs.Keys.{keys_of as given_keys}
 use Rattle.sq_store.specs.Keys.{Keys, are_keyed, has_distinct_keys, have_keys, keys_at}
 use Rattle.sq_store.specs.Sound.{is_sound}
 use Rattle.sq_store.specs.laws.Sound.{keyed_of}
-use Rattle.sq_store.proofs.Sound.{columns_at, next_at, sound_length}
+use Rattle.sq_store.proofs.Sound.{next_at, sound_length}
 use Rattle.sq_heap.specs.Heap.{all_before, all_committed, all_keys, all_now, are_listed, are_within, before_of, committed_of, has_none, now_of, table_keys}
 use Rattle.sq_heap.specs.Index.{keys_of}
-use Rattle.sq_heap.specs.Alone.{slots_have}
-use Rattle.sq_heap.specs.Slots.{Slot, rows_from, table_of}
+use Rattle.sq_heap.specs.Slots.{Slot, table_of}
 use Rattle.sq_heap.specs.Undo.{back}
 use Rattle.sq_heap.proofs.Back.{back_take_drop}
-use Rattle.sq_heap.proofs.Columns.{slots_of_keys}
 use Rattle.sq_heap.specs.declared.mark.Mark.{Mark}
 use Rattle.sq_heap.specs.declared.undo.Undo.{Undo}
 use Rattle.sq_heap.specs.declared.table.HeapTable.{HeapTable}
@@ -273,20 +271,6 @@ keyed_distinct (k ∷ keys) (t ∷ ts) (suc i) h lt =
 
 pub distinct_at : (row_numbers : ℕ) (keys : List Keys) (ts : Content) (i : ℕ) → is_sound row_numbers keys ts ≡ true → i < length ts → has_distinct_keys (keys_at keys i) (table_at ts i) ≡ true
 distinct_at row_numbers keys ts i h lt = keyed_distinct keys ts i (keyed_of row_numbers keys ts h) lt
-
--- the rows of a table have the columns of its keys
-pub key_slots : (row_numbers : ℕ) (keys : List Keys) (ts : List HeapTable) (i key : ℕ) (columns : List ℕ) (t : HeapTable) → is_sound row_numbers keys (all_now ts) ≡ true → i < length (all_now ts) → t ≡ get_or ts i t
-    → key < length (keys_at keys i) → columns ≡ get_or (keys_at keys i) key columns → slots_have columns t.slots.list.items ≡ true
-key_slots row_numbers keys ts i key columns t h lt e k c =
-    let within : i < length ts = let long : length (all_now ts) ≡ length ts = length_map now_of ts in omega arith in
-    let there : have_keys (keys_at keys i) (table_at (all_now ts) i).rows ≡ true = columns_at row_numbers keys (all_now ts) i h lt in
-    let here : have_keys (keys_at keys i) (rows_from 1 t.slots.list.items) ≡ true = ap (λ (u : Table). have_keys (keys_at keys i) u.rows) (sym (map_at now_of ts i t within e)) ∙ there in
-    one_key (keys_at keys i) key columns t.slots.list.items (slots_of_keys (keys_at keys i) 1 t.slots.list.items here) k c
-  where
-    one_key : (keys : Keys) (key : ℕ) (columns : List ℕ) (ss : List Slot) → list_all (λ c. slots_have c ss) keys ≡ true → key < length keys → columns ≡ get_or keys key columns → slots_have columns ss ≡ true
-    one_key [] key columns ss h lt e = absurd (omega arith)
-    one_key (k ∷ keys) zero columns ss h lt e = ap (λ (c : List ℕ). slots_have c ss) e ∙ left_of (slots_have k ss) (list_all (λ c. slots_have c ss) keys) h
-    one_key (k ∷ keys) (suc key) columns ss h lt e = one_key keys key columns ss (right_of (slots_have k ss) (list_all (λ c. slots_have c ss) keys) h) (omega arith) e
 
 -- ---- the keys of each table
 

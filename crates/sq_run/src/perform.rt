@@ -51,6 +51,7 @@ pub fn run<S: Store, W: Out>(
 }
 
 /// Does what a script asks a session for, and writes the report.
+#[tactic(auto, using(crate::proofs::Wrote::refused_stop, crate::proofs::Wrote::script_writes_none))]
 fn run_script<S: Store, W: Out>(
     alloc: Global,
     session: &mut Session<S>,

@@ -1,5 +1,4 @@
-use Rattle.std.proofs.Common.{sym, ◌∙◌}
-use Rattle.sq_run.proofs.Wrote.{performed_all, performed_some, refused_stop, script_writes_none}
+use Rattle.sq_run.proofs.Wrote.{performed_all, performed_some}
 use Rattle.sq_run.proofs.perform.run_script.Goals as goal
 
 pub returns-in-Ok-clause-report : goal.returns-in-Ok-clause-report
@@ -11,10 +10,3 @@ pub returns-in-Ok-clause-stopped : goal.returns-in-Ok-clause-stopped
 returns-in-Ok-clause-stopped g c =
     performed_some c.args.script.now c.args.session.now c.in-Ok.actions.items (g.W.Out.taken c.args.out.now) (g.W.Out.taken c.perform_all.new.out) c.perform_all.result
     c.in-Ok.ensures.asked (rw c.as_slice.ensures.value at c.perform_all.ensures.stopped)
-
-pub returns-in-Err-clause-stopped : goal.returns-in-Err-clause-stopped
-returns-in-Err-clause-stopped g c =
-    refused_stop c.args.script.now c.args.session.now (g.W.Out.taken c.args.out.now) c.in-Err.fault c.in-Err.ensures.refused
-
-pub returns-in-Err-clause-failed : goal.returns-in-Err-clause-failed
-returns-in-Err-clause-failed g c = c.requires.open_out ∙ sym (script_writes_none c.args.script.now c.in-Err.fault c.in-Err.ensures.refused)
