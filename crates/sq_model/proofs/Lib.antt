@@ -2,6 +2,7 @@ pub mod Bind
 pub mod CallLaws
 pub mod DomainLaws
 pub mod KindLaws
+pub mod AnswerLaws
 pub mod PrivilegeLaws
 pub mod CursorLaws
 pub mod Computed
