@@ -9,7 +9,7 @@ use Rattle.sq_bound.specs.declared.expression.Input.{Input}
 use Rattle.sq_bound.specs.declared.expression.BoundExpr.{BoundExpr, fold-roll-BoundExpr}
 use Rattle.sq_bound.specs.declared.expression.BoundExpr.TheVariants as bound
 use Rattle.sq_bound.specs.declared.expression.BoundExpr.TheOpen as layer
-use Rattle.sq_bound.specs.declared.expression.Operation.{Operation, out-Operation, fold_out-Operation}
+use Rattle.sq_bound.specs.declared.expression.Operation.{Operation, fold_out-Operation}
 use Rattle.sq_bound.specs.Expression.{PlacedExpr, expr_of, operation_of, operated, missing, place_meant, parameter_meant}
 
 pub expr_of-Literal : (functions : List PlacedExpr) (v : Value) → expr_of functions (bound.Literal v) ≡ literal v
@@ -44,7 +44,7 @@ pub expr_of-Operations : (functions : List PlacedExpr) (first : BoundExpr) (rest
 unfolding expr_of operation_of
 expr_of-Operations functions first rest = ap (expr_of functions) (sym (bound.rolls-Operations first rest)) ∙ fold-roll-BoundExpr _ _ _ _ (layer.Operations first rest) ∙ fold_mapped (λ left o. o left) (operation_of functions) (expr_of functions first) rest
 
-pub operation_of-out : (functions : List PlacedExpr) (o : Operation) (left : PlacedExpr) → operation_of functions o left ≡ operated (out-Operation o).operator left (expr_of functions (out-Operation o).operand)
+pub operation_of-out : (functions : List PlacedExpr) (o : Operation) (left : PlacedExpr) → operation_of functions o left ≡ operated o.operator left (expr_of functions o.operand)
 unfolding expr_of operation_of
 operation_of-out functions o left = ap (λ (f : PlacedExpr → PlacedExpr). f left) (fold_out-Operation _ _ _ _ o)
 

@@ -1,3 +1,4 @@
 pub mod Fault
 pub mod Arithmetic
 pub mod Frame
+pub mod Found

@@ -20,9 +20,7 @@ pub(crate) fn calculated(operator: Operator, left: &Value, right: &Value) -> Res
     ensures { Meets result (operation operator left.now right.now) }
 {
     match (left, right) {
-        (Value::Num(left), Value::Num(right)) => {
-            number(operator, *left, *right)
-        }
+        (Value::Num(left), Value::Num(right)) => { number(operator, *left, *right) }
         (Value::Null, Value::Null | Value::Num(_)) | (Value::Num(_), Value::Null) => {
             Ok(Value::Null)
         }

@@ -1,9 +1,12 @@
 //! A value that is lent where it stands, or made.
 
+ghost use Rattle.std.specs.Prelude.{◌≡◌, IfOk};
+
 use sq_value::Value;
 use std::alloc::{AllocError, Global};
+use std::marker::Model;
 
-/// The value of an expression.
+/// The value of an expression, as which contracts see it.
 #[derive(Drop)]
 pub(crate) struct Found<'a> {
     lent: Option<&'a Value>,
@@ -11,9 +14,20 @@ pub(crate) struct Found<'a> {
     made: Value,
 }
 
+impl<'a> Model for Found<'a> {
+    ghost use Rattle.sq_value.specs.declared.value.Value.{Value as AnyValue};
+    ghost use Rattle.sq_query.specs.Found.{found};
+
+    ghost Value = { AnyValue };
+
+    ghost view = { λ f. found f.lent f.made };
+}
+
 impl<'a> Found<'a> {
     /// A value that stands somewhere.
-    pub(crate) fn lent(value: &'a Value) -> Found<'a> {
+    pub(crate) fn lent(value: &'a Value) -> Found<'a>
+        ensures { result ≡ value.now }
+    {
         Found {
             lent: Some(value),
             made: Value::Null,
@@ -21,7 +35,9 @@ impl<'a> Found<'a> {
     }
 
     /// A value that was computed.
-    pub(crate) fn made(value: Value) -> Found<'a> {
+    pub(crate) fn made(value: Value) -> Found<'a>
+        ensures { result ≡ value }
+    {
         Found {
             lent: None,
             made: value,
@@ -29,7 +45,9 @@ impl<'a> Found<'a> {
     }
 
     /// Lends the value.
-    pub(crate) fn get(&self) -> &Value {
+    pub(crate) fn get(&self) -> &Value
+        ensures { result.now ≡ self.now }
+    {
         match self.lent {
             Some(value) => value,
             None => &self.made,
@@ -37,7 +55,9 @@ impl<'a> Found<'a> {
     }
 
     /// The value itself, a copy where it was lent.
-    pub(crate) fn into_value(self, alloc: Global) -> Result<Value, AllocError> {
+    pub(crate) fn into_value(self, alloc: Global) -> Result<Value, AllocError>
+        ensures { IfOk result (λ value. value ≡ self.entry) }
+    {
         let Found { lent, made } = self;
         match lent {
             Some(value) => value.copy(alloc),
