@@ -172,11 +172,7 @@ impl Catalog {
     }
 
     /// Adds a base table of a new name.
-    pub(crate) fn add_base(
-        &mut self,
-        name: FullName,
-        table: TableDesc,
-    ) -> Result<(), ElementFault>
+    pub(crate) fn add_base(&mut self, name: FullName, table: TableDesc) -> Result<(), ElementFault>
         requires { table_number self.old.tables name.user name.name ≡ None }
         ensures tables { OnOk result (self.new.tables ≡ self.old.tables ++ name ∷ []) }
         ensures stored { self.new.stored ≡ self.old.stored }
@@ -185,11 +181,7 @@ impl Catalog {
     }
 
     /// Adds a view of a new name.
-    pub(crate) fn add_view(
-        &mut self,
-        name: FullName,
-        table: TableDesc,
-    ) -> Result<(), ElementFault>
+    pub(crate) fn add_view(&mut self, name: FullName, table: TableDesc) -> Result<(), ElementFault>
         ensures { self.new ≡ self.old }
     {
         insert_table(&mut self.views, name, table)
@@ -265,12 +257,7 @@ fn insert_table(
 }
 
 /// A fault of an element with the element's place.
-fn placed(
-    fault: ElementFault,
-    text: usize,
-    schema: usize,
-    element: Option<usize>,
-) -> CatalogFault
+fn placed(fault: ElementFault, text: usize, schema: usize, element: Option<usize>) -> CatalogFault
     ensures { IsOfText text result }
 {
     match fault {

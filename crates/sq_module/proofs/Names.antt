@@ -24,6 +24,7 @@ keys_insert eq (e ∷ es) k v = by (eq k e.0) refl (keys_insert eq es k v)
     moved : (b : Bool) → e.0 ∷ (if b then keys_of es else keys_of es ++ k ∷ []) ≡ (if b then e.0 ∷ keys_of es else e.0 ∷ (keys_of es ++ k ∷ []))
     moved true = refl
     moved false = refl
+
     by : (b : Bool) → eq k e.0 ≡ b → keys_of (insert_entry eq es k v) ≡ insert_key eq (keys_of es) k → keys_of (insert_entry eq (e ∷ es) k v) ≡ insert_key eq (keys_of (e ∷ es)) k
     by true h rest = rw h refl
     by false h rest = rw h (ap (λ ks. e.0 ∷ ks) rest ∙ moved (list_any (eq k) (keys_of es)))
@@ -68,9 +69,10 @@ pub modules_next : (modules : List ModuleText) (i : ℕ) (m : ModuleText) (keys 
     → HaveNames [] (take i modules) → list_any (same_name m.name) keys ≡ false → new ≡ keys ++ m.name ∷ [] → AreNew [] (names_in m.items)
     → (new ≡ map (λ x. x.name) (take (i + 1) modules)) × HaveNames [] (take (i + 1) modules)
 modules_next modules i m keys new lt e is have none last own =
-    let more : take (i + 1) modules ≡ take i modules ++ m ∷ [] = take_more modules i m lt ∙ ap (λ x. take i modules ++ x ∷ []) (sym e) in
-    (last ∙ ap (λ l. l ++ m.name ∷ []) is ∙ sym (map-append (λ x. x.name) (take i modules) (m ∷ [])) ∙ sym (ap (map (λ x. x.name)) more),
-      rw more (have_last [] (take i modules) m have (rw (← is) none) own))
+    let more : take (i + 1) modules ≡ take i modules ++ m ∷ [] = take_more modules i m lt ∙ ap (λ x. take i modules ++ x ∷ []) (sym e) in (
+      last ∙ ap (λ l. l ++ m.name ∷ []) is ∙ sym (map-append (λ x. x.name) (take i modules) (m ∷ [])) ∙ sym (ap (map (λ x. x.name)) more),
+      rw more (have_last [] (take i modules) m have (rw (← is) none) own),
+    )
 
 -- ---- where names differ, the procedures of a program are those of the modules
 
@@ -99,6 +101,7 @@ other_name m name (n ∷ names) none = by (same_name name n) refl (other_name m 
     no : (b : Bool) → b && false ≡ false
     no true = refl
     no false = refl
+
     by : (b : Bool) → same_name name n ≡ b → (list_any (same_name name) names ≡ false → list_any (same_procedure (key_of m name)) (map (key_of m) names) ≡ false)
         → list_any (same_procedure (key_of m name)) (map (key_of m) (n ∷ names)) ≡ false
     by true h rest = absurd (true≢false (sym (ap (λ b. b || list_any (same_name name) names) h) ∙ none))
@@ -110,12 +113,12 @@ module_keys m before earlier [] none are = sym (append-nil (before ++ map (key_o
 module_keys m before earlier (n ∷ names) none are =
     let now = before ++ map (key_of m) earlier in
     let fresh : list_any (same_procedure (key_of m n)) now ≡ false =
-        list_any-append (same_procedure (key_of m n)) before (map (key_of m) earlier)
-        ∙ ap₂ (λ a b. a || b) (other_module m n before none) (other_name m n earlier are.0) in
+    list_any-append (same_procedure (key_of m n)) before (map (key_of m) earlier)
+    ∙ ap₂ (λ a b. a || b) (other_module m n before none) (other_name m n earlier are.0) in
     let more : before ++ map (key_of m) (earlier ++ n ∷ []) ≡ now ++ key_of m n ∷ [] =
-        ap (λ l. before ++ l) (map-append (key_of m) earlier (n ∷ [])) ∙ sym (append_assoc before (map (key_of m) earlier) (key_of m n ∷ [])) in
+    ap (λ l. before ++ l) (map-append (key_of m) earlier (n ∷ [])) ∙ sym (append_assoc before (map (key_of m) earlier) (key_of m n ∷ [])) in
     let rest : with_procedures (now ++ key_of m n ∷ []) (map (key_of m) names) ≡ (now ++ key_of m n ∷ []) ++ map (key_of m) names =
-        rw more at (module_keys m before (earlier ++ n ∷ []) names none are.1) in
+    rw more at (module_keys m before (earlier ++ n ∷ []) names none are.1) in
     ap (λ b. with_procedures (if b then now else now ++ key_of m n ∷ []) (map (key_of m) names)) fresh ∙ rest ∙ append_assoc now (key_of m n ∷ []) (map (key_of m) names)
 
 -- keys of these modules alone
@@ -143,9 +146,9 @@ all_keys names keys (m ∷ modules) of have =
     let own = names_in m.items in
     let same : module_procedures m ≡ map (key_of m.name) own = keys_of_names m.name m.items in
     let here : with_procedures keys (module_procedures m) ≡ keys ++ module_procedures m =
-        rw same (rw (append-nil keys) at (module_keys m.name keys [] own (of m.name have.0) have.1)) in
+    rw same (rw (append-nil keys) at (module_keys m.name keys [] own (of m.name have.0) have.1)) in
     let rest : with_procedures (keys ++ map (key_of m.name) own) (declared_procedures modules) ≡ (keys ++ map (key_of m.name) own) ++ declared_procedures modules =
-        all_keys (names ++ m.name ∷ []) (keys ++ map (key_of m.name) own) modules (of_more names keys m.name own of) have.2 in
+    all_keys (names ++ m.name ∷ []) (keys ++ map (key_of m.name) own) modules (of_more names keys m.name own of) have.2 in
     fold_append (insert_key same_procedure) keys (module_procedures m) (declared_procedures modules)
     ∙ ap (λ ks. with_procedures ks (declared_procedures modules)) (here ∙ ap (λ ks. keys ++ ks) same) ∙ rest
     ∙ ap (λ ks. (keys ++ ks) ++ declared_procedures modules) (sym same) ∙ append_assoc keys (module_procedures m) (declared_procedures modules)

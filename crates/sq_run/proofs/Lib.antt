@@ -1,4 +1,5 @@
 pub mod Found
+pub mod Opened
 pub mod Refused
 pub mod Spelled
 pub mod Steps

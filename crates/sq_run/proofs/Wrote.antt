@@ -9,7 +9,8 @@ use Rattle.sq_run.specs.Asked.{AreAsked}
 use Rattle.sq_run.specs.Fault.{IsOpeningFault, IsScriptFault}
 use Rattle.sq_run.specs.Performed.{IsScriptStop, Performed}
 use Rattle.sq_run.specs.Refused.{InOrder, RefusedText}
-use Rattle.sq_run.specs.Run.{IsStart, Run, SomeTrees}
+use Rattle.sq_run.specs.Opened.{Opened}
+use Rattle.sq_run.specs.Run.{Run, SomeTrees}
 use Rattle.sq_run.specs.Steps.{Reported}
 use Rattle.sq_run.specs.Stop.{StoppedAt, Wrote, is_write}
 use Rattle.sq_run.specs.declared.action.Action.{Action}
@@ -55,41 +56,41 @@ script_writes_none script (NoMemory items) is = refl
 
 -- ---- a session of schemas and modules, as its script is performed
 
-abbrev pub run_of : {schemas modules : List Bytes} {script : Bytes} (start : Session) (actions : List Action) → IsStart start
-    → SomeTrees schema_tokens schemas → SomeTrees module_tokens modules → AreAsked script actions → Run schemas modules script
-run_of start actions is_start s m asked = record {
-  schema_trees = s.0;
-  module_trees = m.0;
+abbrev pub run_of : {schemas modules : List Bytes} {script : Bytes} (start : Session) (actions : List Action) → Opened schemas modules start
+    → AreAsked script actions → Run schemas modules script
+run_of start actions opened asked = record {
+  schema_trees = opened.schema_trees;
+  module_trees = opened.module_trees;
   script_tree = asked.tree;
-  schemas_spell = s.1;
-  modules_spell = m.1;
+  schemas_spell = opened.schemas_spell;
+  modules_spell = opened.modules_spell;
   script_spells = asked.spells;
   start = start;
-  is_start = is_start;
+  is_opened = opened.is_opened;
   actions = actions;
   are_items = asked.are_items;
 }
 
 pub wrote_all : (schemas modules : List Bytes) (script : Bytes) (start : Session) (old new : Option Bytes) (answer : Result (Unit {0}) RunFault)
-    → IsStart start → SomeTrees schema_tokens schemas → SomeTrees module_tokens modules → OnOk answer (Performed script start old new)
+    → Opened schemas modules start → OnOk answer (Performed script start old new)
     → OnOk answer ((r : Run schemas modules script) × Reported r.actions r.start old new)
-wrote_all schemas modules script start old new (Ok u) is_start s m done = (run_of start done.actions is_start s m done.asked, done.reported)
-wrote_all schemas modules script start old new (Err e) is_start s m done = done
+wrote_all schemas modules script start old new (Ok u) opened done = (run_of start done.actions opened done.asked, done.reported)
+wrote_all schemas modules script start old new (Err e) opened done = done
 
 wrote_by : (schemas modules : List Bytes) (script : Bytes) (start : Session) (old new : Option Bytes) (fault : RunFault)
-    → IsStart start → SomeTrees schema_tokens schemas → SomeTrees module_tokens modules → IsScriptStop script start old new fault → Wrote schemas modules script old new fault
-wrote_by schemas modules script start old new (SchemaRefused refusal) is_start s m stop = absurd stop
-wrote_by schemas modules script start old new (ModuleRefused refusal) is_start s m stop = absurd stop
-wrote_by schemas modules script start old new (ScriptRefused refusal) is_start s m stop = stop.0
-wrote_by schemas modules script start old new (Write bytes) is_start s m stop = (run_of start stop.actions is_start s m stop.asked, stop.inside)
-wrote_by schemas modules script start old new (NoMemory zero) is_start s m stop = stop
-wrote_by schemas modules script start old new (NoMemory (suc items)) is_start s m stop = (run_of start stop.actions is_start s m stop.asked, stop.fewer, stop.reported)
+    → Opened schemas modules start → IsScriptStop script start old new fault → Wrote schemas modules script old new fault
+wrote_by schemas modules script start old new (SchemaRefused refusal) opened stop = absurd stop
+wrote_by schemas modules script start old new (ModuleRefused refusal) opened stop = absurd stop
+wrote_by schemas modules script start old new (ScriptRefused refusal) opened stop = stop.0
+wrote_by schemas modules script start old new (Write bytes) opened stop = (run_of start stop.actions opened stop.asked, stop.inside)
+wrote_by schemas modules script start old new (NoMemory zero) opened stop = stop
+wrote_by schemas modules script start old new (NoMemory (suc items)) opened stop = (run_of start stop.actions opened stop.asked, stop.fewer, stop.reported)
 
 pub wrote_some : (schemas modules : List Bytes) (script : Bytes) (start : Session) (old new : Option Bytes) (answer : Result (Unit {0}) RunFault)
-    → IsStart start → SomeTrees schema_tokens schemas → SomeTrees module_tokens modules → IfErr answer (IsScriptStop script start old new)
+    → Opened schemas modules start → IfErr answer (IsScriptStop script start old new)
     → IfErr answer (Wrote schemas modules script old new)
-wrote_some schemas modules script start old new (Ok u) is_start s m stop = stop
-wrote_some schemas modules script start old new (Err fault) is_start s m stop = wrote_by schemas modules script start old new fault is_start s m stop
+wrote_some schemas modules script start old new (Ok u) opened stop = stop
+wrote_some schemas modules script start old new (Err fault) opened stop = wrote_by schemas modules script start old new fault opened stop
 
 refused_by : (schemas modules : List Bytes) (script : Bytes) (start : Session) (old new : Option Bytes) (fault : RunFault)
     → IsScriptStop script start old new fault → RefusedText schemas modules script fault

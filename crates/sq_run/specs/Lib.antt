@@ -1,3 +1,4 @@
+pub mod Opened
 pub mod Action
 pub mod Asked
 pub mod Fault

@@ -1,5 +1,5 @@
 -- What the texts of a run spell, and what a session does with them.
-use Rattle.std.specs.Prelude.{◌≡◌, ℕ, List, [], ◌∷◌, map, Ok, Vec, ⊤}
+use Rattle.std.specs.Prelude.{◌≡◌, ℕ, List, [], ◌∷◌, length, map, Ok, Vec, ⊤}
 use Rattle.std.specs.declared.alloc.Global.{Global}
 use Rattle.sq_lex.specs.declared.lexeme.Lexeme.{Lexeme}
 use Rattle.sq_lex.specs.declared.token.Token.{Token}
@@ -14,7 +14,9 @@ use Rattle.sq_tree.specs.declared.script.ScriptText.{ScriptText}
 use Rattle.sq_store.specs.Content.{no_rows}
 use Rattle.sq_model.specs.Report.{Bytes}
 use Rattle.sq_model.specs.Run.{item_of_script}
-use Rattle.sq_session.specs.Session.{Session}
+use Rattle.sq_catalog.specs.Catalog.{declared_tables}
+use Rattle.sq_module.specs.Program.{declared_procedures}
+use Rattle.sq_session.specs.Session.{Session, names_of}
 use Rattle.sq_session.specs.State.{AreClosed}
 use Rattle.sq_run.specs.Action.{item_of}
 use Rattle.sq_run.specs.declared.action.Action.{Action}
@@ -39,14 +41,19 @@ AllSpell tokens_of _ _ = ⊥
 abbrev pub SomeTrees : {T : Type 0} → (T → List Lexeme) → List Bytes → Type 0
 SomeTrees {T = T} tokens_of all = (trees : List T) × AllSpell tokens_of all trees
 
--- a session with empty tables and closed cursors
+-- a session with an empty table for each base table, and with closed cursors
 pub record IsStart (s : Session) : Type 0 where
-  pub tables : ℕ
-  pub empty : s.state.tables ≡ no_rows tables
-  pub committed : s.state.committed ≡ no_rows tables
+  pub empty : s.state.tables ≡ no_rows (length s.tables)
+  pub committed : s.state.committed ≡ no_rows (length s.tables)
   pub closed : AreClosed s.state.cursors
 
--- trees that the texts spell, a session as it is before the first call, and what it is asked for: the items of the script, each with its number or place there
+-- a session of these trees, as it is before the first call: its tables and procedures are those that they declare, in their order
+pub record IsOpened (schemas : List SchemaText) (modules : List ModuleText) (s : Session) : Type 0 where
+  pub tables : s.tables ≡ declared_tables schemas
+  pub procedures : names_of s.procedures ≡ declared_procedures modules
+  pub start : IsStart s
+
+-- trees that the texts spell, a session of them as it is before the first call, and what it is asked for: the items of the script, each with its number or place there
 pub record Run (schemas modules : List Bytes) (script : Bytes) : Type 0 where
   pub schema_trees : List SchemaText
   pub module_trees : List ModuleText
@@ -55,6 +62,6 @@ pub record Run (schemas modules : List Bytes) (script : Bytes) : Type 0 where
   pub modules_spell : AllSpell module_tokens modules module_trees
   pub script_spells : Spells script (script_tokens script_tree)
   pub start : Session
-  pub is_start : IsStart start
+  pub is_opened : IsOpened schema_trees module_trees start
   pub actions : List Action
   pub are_items : map item_of actions ≡ map item_of_script script_tree.items

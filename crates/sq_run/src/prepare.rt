@@ -5,6 +5,10 @@ ghost use Rattle.sq_tree.specs.Schema.{schema_tokens, schema_depth};
 ghost use Rattle.sq_tree.specs.Module.{module_tokens, module_depth};
 ghost use Rattle.sq_module.specs.Refusal.{IsOfSomeModule};
 ghost use Rattle.sq_run.specs.Fault.{IsItemFault, IsOfMeaning, IsOpeningFault, IsRefusedScript, IsScriptFault, SomeRefused, run_fault};
+ghost use Rattle.sq_catalog.specs.Catalog.{declared_tables};
+ghost use Rattle.sq_module.specs.Program.{declared_procedures};
+ghost use Rattle.sq_session.specs.Session.{names_of};
+ghost use Rattle.sq_run.specs.Opened.{Defined, Holds, Opened};
 ghost use Rattle.sq_run.specs.Run.{AllSpell, IsStart, SomeTrees, texts};
 ghost use Rattle.sq_run.specs.Asked.{AreActions, AreAsked};
 ghost use Rattle.sq_run.specs.Steps.{IsFound};
@@ -21,6 +25,7 @@ use sq_tree::{ModuleText, SchemaText, ScriptText};
 use std::alloc::Global;
 
 /// The session that the schema and module texts open. All schemas are read and defined before the first module is read.
+#[tactic(auto, using(crate::proofs::Opened::opened_by))]
 pub(crate) fn open_session<S: Store>(
     alloc: Global,
     schemas: &[Vec<u8>],
@@ -30,7 +35,7 @@ pub(crate) fn open_session<S: Store>(
     requires numbers { limits.row_numbers ≤ MOST_ROW_NUMBERS }
     ensures schemas { IfOk result (λ _. SomeTrees schema_tokens (texts schemas.now)) }
     ensures modules { IfOk result (λ _. SomeTrees module_tokens (texts modules.now)) }
-    ensures start { IfOk result IsStart }
+    ensures opened { IfOk result (Opened (texts schemas.now) (texts modules.now)) }
     ensures refused { IfErr result (IsOpeningFault (texts schemas.now) (texts modules.now)) }
 {
     let catalog = match catalog_of(alloc, schemas, limits) {
@@ -60,20 +65,36 @@ pub(crate) fn read_script<S: Store>(
 }
 
 /// What the schema texts define.
+#[tactic(auto, using(crate::proofs::Opened::defined_if))]
 fn catalog_of(alloc: Global, schemas: &[Vec<u8>], limits: Limits) -> Result<Catalog, TextFault>
     ensures spelled { IfOk result (λ _. SomeTrees schema_tokens (texts schemas.now)) }
+    ensures defined { IfOk result (Defined (texts schemas.now)) }
+    ensures stored { IfOk result (λ c. c.stored ≡ length c.tables) }
     ensures refused { IfErr result (SomeRefused schema_tokens schema_depth (texts schemas.now)) }
 {
     let trees = read_all::<SchemaText>(alloc, schemas)?;
-    let answer = match Catalog::build(alloc, trees.as_slice(), limits) {
-        Ok(catalog) => Ok(catalog),
-        Err(CatalogFault::NoMemory) => Err(TextFault::NoMemory),
-        Err(CatalogFault::Refused(refusal)) => {
-            Err(refused_schema(alloc, schemas, trees.as_slice(), refusal))
-        }
-    };
+    let answer = built(alloc, schemas, trees.as_slice(), limits);
     drop(trees);
     answer
+}
+
+/// What the trees of the schema texts define.
+fn built(
+    alloc: Global,
+    schemas: &[Vec<u8>],
+    trees: &[SchemaText],
+    limits: Limits,
+) -> Result<Catalog, TextFault>
+    requires spelled { AllSpell schema_tokens (texts schemas.now) trees.now }
+    ensures tables { IfOk result (λ c. c.tables ≡ declared_tables trees.now) }
+    ensures stored { IfOk result (λ c. c.stored ≡ length c.tables) }
+    ensures refused { IfErr result (SomeRefused schema_tokens schema_depth (texts schemas.now)) }
+{
+    match Catalog::build(alloc, trees, limits) {
+        Ok(catalog) => Ok(catalog),
+        Err(CatalogFault::NoMemory) => Err(TextFault::NoMemory),
+        Err(CatalogFault::Refused(refusal)) => Err(refused_schema(alloc, schemas, trees, refusal)),
+    }
 }
 
 /// A refusal of a schema definition at its first token, or of one of its elements at that one's.
@@ -103,6 +124,7 @@ fn refused_schema(
 }
 
 /// A session of the modules over the tables of a catalog.
+#[tactic(auto, using(crate::proofs::Opened::holds_if))]
 fn session_of<S: Store>(
     alloc: Global,
     catalog: Catalog,
@@ -110,8 +132,9 @@ fn session_of<S: Store>(
     limits: Limits,
 ) -> Result<Session<S>, TextFault>
     requires numbers { limits.row_numbers ≤ MOST_ROW_NUMBERS }
+    requires stored { catalog.stored ≡ length catalog.tables }
     ensures spelled { IfOk result (λ _. SomeTrees module_tokens (texts modules.now)) }
-    ensures start { IfOk result IsStart }
+    ensures holds { IfOk result (Holds catalog.tables (texts modules.now)) }
     ensures refused { IfErr result (SomeRefused module_tokens module_depth (texts modules.now)) }
 {
     let trees = match read_all::<ModuleText>(alloc, modules) {
@@ -121,15 +144,32 @@ fn session_of<S: Store>(
             return Err(fault);
         }
     };
-    let answer = match session_over(alloc, catalog, trees.as_slice(), limits) {
-        Ok(session) => Ok(session),
-        Err(SessionFault::NoMemory) => Err(TextFault::NoMemory),
-        Err(SessionFault::Refused(refusal)) => {
-            Err(refused_module(alloc, modules, trees.as_slice(), refusal))
-        }
-    };
+    let answer = session_from(alloc, catalog, modules, trees.as_slice(), limits);
     drop(trees);
     answer
+}
+
+/// A session of the trees of the module texts.
+fn session_from<S: Store>(
+    alloc: Global,
+    catalog: Catalog,
+    modules: &[Vec<u8>],
+    trees: &[ModuleText],
+    limits: Limits,
+) -> Result<Session<S>, TextFault>
+    requires numbers { limits.row_numbers ≤ MOST_ROW_NUMBERS }
+    requires stored { catalog.stored ≡ length catalog.tables }
+    requires spelled { AllSpell module_tokens (texts modules.now) trees.now }
+    ensures tables { IfOk result (λ s. s.tables ≡ catalog.tables) }
+    ensures procedures { IfOk result (λ s. names_of s.procedures ≡ declared_procedures trees.now) }
+    ensures start { IfOk result IsStart }
+    ensures refused { IfErr result (SomeRefused module_tokens module_depth (texts modules.now)) }
+{
+    match session_over(alloc, catalog, trees, limits) {
+        Ok(session) => Ok(session),
+        Err(SessionFault::NoMemory) => Err(TextFault::NoMemory),
+        Err(SessionFault::Refused(refusal)) => Err(refused_module(alloc, modules, trees, refusal)),
+    }
 }
 
 /// A session of modules over a new store.
@@ -140,6 +180,9 @@ fn session_over<S: Store>(
     limits: Limits,
 ) -> Result<Session<S>, SessionFault>
     requires numbers { limits.row_numbers ≤ MOST_ROW_NUMBERS }
+    requires stored { catalog.stored ≡ length catalog.tables }
+    ensures tables { IfOk result (λ s. s.tables ≡ catalog.tables) }
+    ensures procedures { IfOk result (λ s. names_of s.procedures ≡ declared_procedures modules.now) }
     ensures start { IfOk result IsStart }
     ensures refused { IfErr result (IsOfSomeModule (length modules.now)) }
 {

@@ -2,13 +2,14 @@
 use Rattle.std.proofs.Common.{◌≡◌, ◌&&◌, ◌+◌, ℕ, zero, suc, Bool, not, cond, List, [], ◌∷◌, length, map, nat_eq, nat_lt, position, Option, Some, None, slice_get, option_map, Result, Ok, Err, refl, ap, ap₂, arith}
 use Rattle.std.specs.Cmp.Lexicographic.{pointwise}
 use Rattle.std.specs.List.{position_or_len}
+use Rattle.std.specs.Map.{keys_of}
 use Rattle.sq_lex.specs.declared.name.Name.{Name}
 use Rattle.sq_bound.specs.declared.fault.BindFault.{BindFault}
 use Rattle.sq_bound.specs.declared.statement.BoundStatement.{BoundStatement}
 use Rattle.sq_module.specs.declared.program.BoundProcedure.{BoundProcedure}
 use Rattle.sq_module.specs.declared.program.ProcedureName.{ProcedureName}
 use Rattle.sq_session.specs.Kind.{fault_at, kind_at, kind_of}
-use Rattle.sq_session.specs.Session.{is_procedure, procedure_number, procedures_of}
+use Rattle.sq_session.specs.Session.{is_procedure, names_of, procedure_number, procedures_of}
 
 abbrev Entry : Type 0
 Entry = ProcedureName × BoundProcedure
@@ -39,3 +40,8 @@ pub fault_is : (es : List Entry) (n : ℕ) (e : Entry) (f : BindFault) → slice
 fault_is [] n e f h k = cc
 fault_is (x ∷ es) zero e f h k = grind (arith, h, k)
 fault_is (x ∷ es) (suc n) e f h k = fault_is es n e f h k
+
+-- the names of a program's procedures are its keys
+pub names_are : (es : List Entry) → names_of (procedures_of es) ≡ keys_of es
+names_are [] = refl
+names_are (e ∷ es) = ap (λ names. e.0 ∷ names) (names_are es)

@@ -31,3 +31,10 @@ procedure_of p = record { «module» = p.0.«module»; name = p.0.name; statemen
 
 abbrev pub procedures_of : List (ProcedureName × BoundProcedure) → List Procedure
 procedures_of procedures = map procedure_of procedures
+
+-- the names of procedures, in their order
+abbrev pub name_of : Procedure → ProcedureName
+name_of p = record { «module» = p.«module»; name = p.name }
+
+abbrev pub names_of : List Procedure → List ProcedureName
+names_of procedures = map name_of procedures

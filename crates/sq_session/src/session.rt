@@ -6,7 +6,9 @@ ghost use Rattle.sq_module.specs.Refusal.{IsOfSomeModule};
 ghost use Rattle.sq_session.specs.Lent.{lent};
 ghost use Rattle.sq_catalog.specs.Catalog.{table_number};
 ghost use Rattle.sq_session.specs.Kind.{fault_at, kind_at, needs_memory};
-ghost use Rattle.sq_session.specs.Session.{procedure_number};
+ghost use Rattle.std.specs.Map.{keys_of};
+ghost use Rattle.sq_module.specs.Program.{declared_procedures};
+ghost use Rattle.sq_session.specs.Session.{names_of, procedure_number};
 ghost use Rattle.sq_session.specs.State.{AreClosed};
 ghost use Rattle.sq_session.specs.Step.{MayCall, is_success};
 
@@ -51,6 +53,8 @@ impl<S: Store> Session<S> {
         store: S,
     ) -> Result<Session<S>, SessionFault>
         ensures start { IfOk result (λ s. (s.state.tables ≡ S.content_now store) × (s.state.committed ≡ S.committed store) × AreClosed s.state.cursors) }
+        ensures procedures { IfOk result (λ s. names_of s.procedures ≡ declared_procedures modules.now) }
+        ensures tables { IfOk result (λ s. s.tables ≡ catalog.tables) }
         ensures refused { IfErr result (IsOfSomeModule (length modules.now)) }
     {
         match program_of(alloc, &catalog, modules) {
@@ -64,7 +68,7 @@ impl<S: Store> Session<S> {
     }
 
     /// A session of bound modules.
-    #[tactic(auto, using(crate::proofs::Closed::replicated_closed))]
+    #[tactic(auto, using(crate::proofs::Closed::replicated_closed, crate::proofs::Named::names_are))]
     fn with_program(
         alloc: Global,
         catalog: Catalog,
@@ -72,6 +76,8 @@ impl<S: Store> Session<S> {
         store: S,
     ) -> Result<Session<S>, AllocError>
         ensures start { IfOk result (λ s. (s.state.tables ≡ S.content_now store) × (s.state.committed ≡ S.committed store) × AreClosed s.state.cursors) }
+        ensures procedures { IfOk result (λ s. names_of s.procedures ≡ keys_of program.procedures.entries) }
+        ensures tables { IfOk result (λ s. s.tables ≡ catalog.tables) }
     {
         match Machine::new(alloc, store, program.cursors.len()) {
             Ok(machine) => Ok(Session {
@@ -165,11 +171,13 @@ impl<S: Store> Session<S> {
 }
 
 /// The procedures and cursors of modules, or the first refusal.
+#[tactic(auto, using(sq_module::proofs::Names::all_declared))]
 fn program_of(
     alloc: Global,
     catalog: &Catalog,
     modules: &[ModuleText],
 ) -> Result<Program, SessionFault>
+    ensures procedures { IfOk result (λ program. keys_of program.procedures.entries ≡ declared_procedures modules.now) }
     ensures refused { IfErr result (IsOfSomeModule (length modules.now)) }
 {
     admit(alloc, modules)?;

@@ -8,12 +8,12 @@ use Rattle.sq_run.proofs.perform.run.Goals as goal
 pub returns-in-Ok-clause-report : goal.returns-in-Ok-clause-report
 returns-in-Ok-clause-report g c =
     wrote_all (texts c.args.schemas.now) (texts c.args.modules.now) c.args.script.now c.in-Ok.session (g.W.Out.taken c.args.out.now) (g.W.Out.taken c.run_script.new.out) c.run_script.result
-    c.in-Ok.ensures.start c.in-Ok.ensures.schemas c.in-Ok.ensures.modules c.run_script.ensures.report
+    c.in-Ok.ensures.opened c.run_script.ensures.report
 
 pub returns-in-Ok-clause-stopped : goal.returns-in-Ok-clause-stopped
 returns-in-Ok-clause-stopped g c =
     wrote_some (texts c.args.schemas.now) (texts c.args.modules.now) c.args.script.now c.in-Ok.session (g.W.Out.taken c.args.out.now) (g.W.Out.taken c.run_script.new.out) c.run_script.result
-    c.in-Ok.ensures.start c.in-Ok.ensures.schemas c.in-Ok.ensures.modules c.run_script.ensures.stopped
+    c.in-Ok.ensures.opened c.run_script.ensures.stopped
 
 pub returns-in-Ok-clause-refused : goal.returns-in-Ok-clause-refused
 returns-in-Ok-clause-refused g c =

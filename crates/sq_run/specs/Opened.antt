@@ -1,0 +1,35 @@
+-- What schema and module texts open.
+use Rattle.std.specs.Prelude.{◌≡◌, List, length}
+use Rattle.sq_tree.specs.Schema.{schema_tokens}
+use Rattle.sq_tree.specs.Module.{module_tokens}
+use Rattle.sq_tree.specs.declared.module.ModuleText.{ModuleText}
+use Rattle.sq_tree.specs.declared.schema.SchemaText.{SchemaText}
+use Rattle.sq_model.specs.Report.{Bytes}
+use Rattle.sq_catalog.specs.Catalog.{Catalog, declared_tables}
+use Rattle.sq_catalog.specs.declared.catalog.FullName.{FullName}
+use Rattle.sq_module.specs.Program.{declared_procedures}
+use Rattle.sq_session.specs.Session.{Session, names_of}
+use Rattle.sq_run.specs.Run.{AllSpell, IsOpened, IsStart}
+
+-- a catalog of trees that the schemas spell
+pub record Defined (schemas : List Bytes) (c : Catalog) : Type 0 where
+  pub trees : List SchemaText
+  pub spelled : AllSpell schema_tokens schemas trees
+  pub tables : c.tables ≡ declared_tables trees
+  pub stored : c.stored ≡ length c.tables
+
+-- a session over these tables, of trees that the modules spell
+pub record Holds (tables : List FullName) (modules : List Bytes) (s : Session) : Type 0 where
+  pub trees : List ModuleText
+  pub spelled : AllSpell module_tokens modules trees
+  pub tables_are : s.tables ≡ tables
+  pub procedures : names_of s.procedures ≡ declared_procedures trees
+  pub start : IsStart s
+
+-- a session of trees that the texts spell
+pub record Opened (schemas modules : List Bytes) (s : Session) : Type 0 where
+  pub schema_trees : List SchemaText
+  pub module_trees : List ModuleText
+  pub schemas_spell : AllSpell schema_tokens schemas schema_trees
+  pub modules_spell : AllSpell module_tokens modules module_trees
+  pub is_opened : IsOpened schema_trees module_trees s
