@@ -1,6 +1,8 @@
 //! What names mean: tables and views, privileges, cursors and parameters.
 
 ghost use Rattle.std.specs.Prelude.{◌≤◌, length};
+ghost use Rattle.sq_value.specs.Domain.{IsDomain};
+ghost use Rattle.sq_bound.specs.Parameter.{IsDomain-prop};
 
 use crate::condition::{BoundCond, BoundSpecification, TablePlace};
 use crate::query::BoundCursor;
@@ -57,6 +59,7 @@ pub struct KnownCursor<'a> {
 pub struct ParameterDesc {
     pub name: Name,
     pub domain: Domain,
+    ghost is_domain: { IsDomain domain } by { IsDomain-prop domain },
 }
 
 /// A base table or a view.

@@ -1,10 +1,17 @@
 -- A call that ends with another status than success leaves the tables as they were.
-use Rattle.std.proofs.Common.{◌≡◌, ℕ, Bool, true, false, Option, Some, None, slice_get, ap, subst}
-use Rattle.sq_session.specs.Kind.{Fetching, Kind}
+use Rattle.std.proofs.Common.{◌≡◌, ℕ, Bool, true, false, List, Option, Some, None, Ok, Err, slice_get, ap, subst}
+use Rattle.sq_value.specs.declared.value.Value.{Value}
+use Rattle.sq_meaning.specs.Status.{Outcome}
+use Rattle.sq_session.specs.Fetch.{come_to_number, come_to_row, over_numbers, over_rows}
+use Rattle.sq_session.specs.Kind.{Fetching, Kind, read_parameters}
+use Rattle.sq_session.specs.Parameter.{started_values}
 use Rattle.sq_session.specs.State.{State, committed_state, is_open, rolled_back}
-use Rattle.sq_session.specs.Step.{ChangesIf, DeletesIf, Ends, MayCall, MayClose, MayCloseIf, MayDeleteAt, MayFetch, MayFetchIf, MayOpen, MayOpenIf, MayStep, MayUpdateAt, MovesIf, OpensIf, UpdatesIf, is_on_row, is_refused, is_success}
+use Rattle.sq_session.specs.Step.{ChangesIf, Comes, DeletesIf, Ends, MayCall, MayClose, MayCloseIf, MayDeleteAt, MayFetch, MayFetchFrom, MayOpen, MayOpenIf, MayStep, MayUpdateAt, OpensIf, UpdatesIf, WalksIf, is_on_row, is_success}
+use Rattle.sq_session.specs.Target.{is_refused}
 use Rattle.sq_session.specs.declared.cursor.CursorState.{CursorState}
+use Rattle.sq_session.specs.declared.cursor.CursorState.TheVariants as cursor
 use Rattle.sq_session.specs.declared.reply.Done.{Done}
+use Rattle.sq_session.specs.declared.walk.WalkingCursor.{WalkingCursor}
 
 abbrev Kept : State → State → Type 0
 Kept b a = a.tables ≡ b.tables
@@ -26,17 +33,23 @@ may_open : (o : Option CursorState) (n : ℕ) (b : State) (d : Done) (a : State)
 may_open None n b d a h = same b a h.1
 may_open (Some c) n b d a h = open_if (is_open c) n b d a h
 
-moves_if : (r : Bool) (f : Fetching) (b : State) (d : Done) (a : State) → MovesIf r f b d a → Kept b a
-moves_if true f b d a h = same b a h.1
-moves_if false f b d a h = h.0.0
+comes : (o : Outcome (CursorState × Done)) (n : ℕ) (b : State) (d : Done) (a : State) → Comes o n b d a → Kept b a
+comes (Ok come) n b d a h = ap (λ s. s.tables) h.1
+comes (Err st) n b d a h = same b a h.1
 
-fetch_if : (o : Bool) (f : Fetching) (b : State) (d : Done) (a : State) → MayFetchIf o f b d a → Kept b a
-fetch_if true f b d a h = moves_if (is_refused d.status) f b d a h
-fetch_if false f b d a h = same b a h.1
+walks_if : (r : Bool) (f : Fetching) (c : WalkingCursor) (b : State) (d : Done) (a : State) → WalksIf r f c b d a → Kept b a
+walks_if true f c b d a h = same b a h.1
+walks_if false f c b d a h = ap (λ s. s.tables) h.2
 
-may_fetch : (o : Option CursorState) (f : Fetching) (b : State) (d : Done) (a : State) → MayFetch o f b d a → Kept b a
-may_fetch None f b d a h = same b a h.1
-may_fetch (Some c) f b d a h = fetch_if (is_open c) f b d a h
+fetch_from : (c : CursorState) (f : Fetching) (vs : List Value) (b : State) (d : Done) (a : State) → MayFetchFrom c f vs b d a → Kept b a
+fetch_from cursor.Closed f vs b d a h = same b a h.1
+fetch_from (cursor.Rows c) f vs b d a h = comes (over_rows (come_to_row f vs c)) f.cursor b d a h
+fetch_from (cursor.Numbers c) f vs b d a h = comes (over_numbers (come_to_number f b.tables c)) f.cursor b d a h
+fetch_from (cursor.Walking c) f vs b d a h = walks_if (is_refused d.status) f c b d a h
+
+may_fetch : (o : Option CursorState) (f : Fetching) (vs : List Value) (b : State) (d : Done) (a : State) → MayFetch o f vs b d a → Kept b a
+may_fetch None f vs b d a h = same b a h.1
+may_fetch (Some c) f vs b d a h = fetch_from c f vs b d a h
 
 close_if : (o : Bool) (n : ℕ) (b : State) (d : Done) (a : State) → MayCloseIf o n b d a → Kept b a
 close_if true n b d a h = ap (λ s. s.tables) h.1
@@ -73,18 +86,18 @@ delete_at false n b d a h e = same b a h.1
 ends : (w b : State) (d : Done) (a : State) → Ends w d a → is_success d.status ≡ false → Kept b a
 ends w b d a h e = let k : true ≡ false = subst (λ x. is_success x.status ≡ false) h.0 e in cc
 
-step : (k : Kind) (b : State) (d : Done) (a : State) → MayStep k b d a → is_success d.status ≡ false → Kept b a
-step (Kind.opens n) b d a h e = may_open (slice_get b.cursors n) n b d a h
-step (Kind.fetches f) b d a h e = may_fetch (slice_get b.cursors f.cursor) f b d a h
-step (Kind.closes n) b d a h e = may_close (slice_get b.cursors n) n b d a h
-step (Kind.selects names) b d a h e = same b a h.0
-step Kind.changes b d a h e = changes_if (is_success d.status) b a h.1 e
-step Kind.updates b d a h e = updates_if (is_success d.status) b a h.1 e
-step (Kind.updates_at p) b d a h e = update_at (is_on_row b p) b d a h e
-step (Kind.deletes_at p) b d a h e = delete_at (is_on_row b p) p.cursor b d a h e
-step Kind.commits b d a h e = ends (committed_state b) b d a h e
-step Kind.rolls_back b d a h e = ends (rolled_back b) b d a h e
+step : (k : Kind) (vs : List Value) (b : State) (d : Done) (a : State) → MayStep k vs b d a → is_success d.status ≡ false → Kept b a
+step (Kind.opens n) vs b d a h e = may_open (slice_get b.cursors n) n b d a h
+step (Kind.fetches f) vs b d a h e = may_fetch (slice_get b.cursors f.cursor) f vs b d a h
+step (Kind.closes n) vs b d a h e = may_close (slice_get b.cursors n) n b d a h
+step (Kind.selects s) vs b d a h e = same b a h.0
+step Kind.changes vs b d a h e = changes_if (is_success d.status) b a h.1 e
+step Kind.updates vs b d a h e = updates_if (is_success d.status) b a h.1 e
+step (Kind.updates_at p) vs b d a h e = update_at (is_on_row b p) b d a h e
+step (Kind.deletes_at p) vs b d a h e = delete_at (is_on_row b p) p.cursor b d a h e
+step Kind.commits vs b d a h e = ends (committed_state b) b d a h e
+step Kind.rolls_back vs b d a h e = ends (rolled_back b) b d a h e
 
-pub kept_by_failure : (k : Option Kind) (b : State) (d : Done) (a : State) → MayCall k b d a → is_success d.status ≡ false → a.tables ≡ b.tables
-kept_by_failure None b d a h e = same b a h.1
-kept_by_failure (Some k) b d a h e = step k b d a h e
+pub kept_by_failure : (k : Option Kind) (vs : List Value) (b : State) (d : Done) (a : State) → MayCall k vs b d a → is_success d.status ≡ false → a.tables ≡ b.tables
+kept_by_failure None vs b d a h e = same b a h.1
+kept_by_failure (Some k) vs b d a h e = step k (started_values (read_parameters k) vs) b d a h e

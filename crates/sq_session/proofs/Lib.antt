@@ -1,7 +1,13 @@
 pub mod Besides
 pub mod Closed
+pub mod Fetched
 pub mod Kept
 pub mod Named
 pub mod NextNumber
-pub mod Targets
+pub mod Reached
+pub mod Read
+pub mod Selected
+pub mod Shown
+pub mod Started
 pub mod TableWalk
+pub mod Targets

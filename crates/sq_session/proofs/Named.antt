@@ -7,6 +7,7 @@ use Rattle.sq_lex.specs.declared.name.Name.{Name}
 use Rattle.sq_bound.specs.declared.fault.BindFault.{BindFault}
 use Rattle.sq_bound.specs.declared.statement.BoundStatement.{BoundStatement}
 use Rattle.sq_module.specs.declared.program.BoundProcedure.{BoundProcedure}
+use Rattle.sq_module.specs.declared.program.DeclaredCursor.{DeclaredCursor}
 use Rattle.sq_module.specs.declared.program.ProcedureName.{ProcedureName}
 use Rattle.sq_session.specs.Kind.{fault_at, kind_at, kind_of}
 use Rattle.sq_session.specs.Session.{is_procedure, names_of, procedure_number, procedures_of}
@@ -17,31 +18,31 @@ Entry = ProcedureName × BoundProcedure
 abbrev is_name : Name → Name → ProcedureName → Bool
 is_name «module» name k = pointwise nat_eq «module» k.«module» && pointwise nat_eq name k.name
 
-same_place : («module» name : Name) (es : List Entry) → position_or_len (is_procedure «module» name) (procedures_of es) ≡ position_or_len (is_name «module» name) (map (λ e. e.0) es)
-same_place «module» name [] = refl
-same_place «module» name (e ∷ es) = ap (λ n. cond (not (is_name «module» name e.0)) (1 + n) 0) (same_place «module» name es)
+same_place : (cs : List DeclaredCursor) («module» name : Name) (es : List Entry) → position_or_len (is_procedure «module» name) (procedures_of cs es) ≡ position_or_len (is_name «module» name) (map (λ e. e.0) es)
+same_place cs «module» name [] = refl
+same_place cs «module» name (e ∷ es) = ap (λ n. cond (not (is_name «module» name e.0)) (1 + n) 0) (same_place cs «module» name es)
 
-same_length : (es : List Entry) → length (procedures_of es) ≡ length (map (λ e. e.0) es)
-same_length [] = refl
-same_length (e ∷ es) = ap (λ n. suc n) (same_length es)
+same_length : (cs : List DeclaredCursor) (es : List Entry) → length (procedures_of cs es) ≡ length (map (λ e. e.0) es)
+same_length cs [] = refl
+same_length cs (e ∷ es) = ap (λ n. suc n) (same_length cs es)
 
 -- a procedure is found by the key of its entry
-pub number_is : («module» name : Name) (es : List Entry) → procedure_number (procedures_of es) «module» name ≡ position (is_name «module» name) (map (λ e. e.0) es)
-number_is «module» name es = ap₂ (λ n m. cond (nat_lt n m) (Some n) None) (same_place «module» name es) (same_length es)
+pub number_is : (cs : List DeclaredCursor) («module» name : Name) (es : List Entry) → procedure_number (procedures_of cs es) «module» name ≡ position (is_name «module» name) (map (λ e. e.0) es)
+number_is cs «module» name es = ap₂ (λ n m. cond (nat_lt n m) (Some n) None) (same_place cs «module» name es) (same_length cs es)
 
 -- what its statement is, is so of its entry's
-pub kind_is : (es : List Entry) (n : ℕ) (e : Entry) (s : BoundStatement) → slice_get es n ≡ Some e → e.1.statement ≡ Ok s → kind_at (procedures_of es) n ≡ Some (kind_of e.1.parameters s)
-kind_is [] n e s h k = cc
-kind_is (x ∷ es) zero e s h k = grind (arith, h, k)
-kind_is (x ∷ es) (suc n) e s h k = kind_is es n e s h k
+pub kind_is : (cs : List DeclaredCursor) (es : List Entry) (n : ℕ) (e : Entry) (s : BoundStatement) → slice_get es n ≡ Some e → e.1.statement ≡ Ok s → kind_at (procedures_of cs es) n ≡ Some (kind_of cs e.1.parameters s)
+kind_is cs [] n e s h k = cc
+kind_is cs (x ∷ es) zero e s h k = grind (arith, h, k)
+kind_is cs (x ∷ es) (suc n) e s h k = kind_is cs es n e s h k
 
 -- and its fault is that of its entry
-pub fault_is : (es : List Entry) (n : ℕ) (e : Entry) (f : BindFault) → slice_get es n ≡ Some e → e.1.statement ≡ Err f → fault_at (procedures_of es) n ≡ Some f
-fault_is [] n e f h k = cc
-fault_is (x ∷ es) zero e f h k = grind (arith, h, k)
-fault_is (x ∷ es) (suc n) e f h k = fault_is es n e f h k
+pub fault_is : (cs : List DeclaredCursor) (es : List Entry) (n : ℕ) (e : Entry) (f : BindFault) → slice_get es n ≡ Some e → e.1.statement ≡ Err f → fault_at (procedures_of cs es) n ≡ Some f
+fault_is cs [] n e f h k = cc
+fault_is cs (x ∷ es) zero e f h k = grind (arith, h, k)
+fault_is cs (x ∷ es) (suc n) e f h k = fault_is cs es n e f h k
 
 -- the names of a program's procedures are its keys
-pub names_are : (es : List Entry) → names_of (procedures_of es) ≡ keys_of es
-names_are [] = refl
-names_are (e ∷ es) = ap (λ names. e.0 ∷ names) (names_are es)
+pub names_are : (cs : List DeclaredCursor) (es : List Entry) → names_of (procedures_of cs es) ≡ keys_of es
+names_are cs [] = refl
+names_are cs (e ∷ es) = ap (λ names. e.0 ∷ names) (names_are cs es)

@@ -1,10 +1,11 @@
 -- A walk over a table by rising numbers.
-use Rattle.std.proofs.Common.{◌≡◌, ℕ, ◌+◌, ◌<◌, ◌≤◌, Bool, true, false, nat_eq, nat_le, List, [], ◌∷◌, arith, refl, is_some, Some, None, find, filter, subst}
+use Rattle.std.proofs.Common.{◌≡◌, ℕ, ◌+◌, ◌<◌, ◌≤◌, Bool, true, false, nat_eq, nat_le, List, [], ◌∷◌, arith, refl, is_some, Some, None, find, filter, subst, ap}
+use Rattle.std.specs.Option.{option_map}
 use Rattle.std.proofs.lemmas.Grind.{common_steps}
 use Rattle.sq_store.specs.declared.table.Numbered.{Numbered}
 use Rattle.sq_store.specs.Content.{Content, first_from, table_at}
 use Rattle.sq_store.specs.Rising.{rising_between, all_rising}
-use Rattle.sq_session.specs.State.{is_there}
+use Rattle.sq_session.specs.Fetch.{row_on}
 use Rattle.sq_store.proofs.Rises.{rows_rise_at, next_at}
 
 -- the rows at or after a number
@@ -56,11 +57,12 @@ found_from number (r ∷ rs) f e = found_by number r f rs (number ≤ f.number) 
     (λ t k. found_from number rs f k)
 
 -- what is found by a number or more is found by its own number
-there_by : (number : ℕ) (rs : List Numbered) (f : Numbered) → find (λ r. nat_le number r.number) rs ≡ Some f → is_some (find (λ r. nat_eq r.number f.number) rs) ≡ true
-there_by number [] f e = cc
-there_by number (r ∷ rs) f e = found_by number r f rs (is_some (find (λ x. nat_eq x.number f.number) (r ∷ rs)) ≡ true) e
-    (λ t q. rw (← q) (grind (arith, common_steps)))
-    (λ t k. let ih : is_some (find (λ x. nat_eq x.number f.number) rs) ≡ true = there_by number rs f k in grind (arith, common_steps, ih))
+row_by : (number : ℕ) (rs : List Numbered) (f : Numbered) → find (λ r. nat_le number r.number) rs ≡ Some f → find (λ r. nat_eq r.number f.number) rs ≡ Some f
+row_by number [] f e = cc
+row_by number (r ∷ rs) f e = found_by number r f rs (find (λ x. nat_eq x.number f.number) (r ∷ rs) ≡ Some f) e
+    (λ t q. let P : Numbered → Type 0 = λ g. find (λ x. nat_eq x.number g.number) (r ∷ rs) ≡ Some g in subst P q (grind (arith, common_steps)))
+    (λ t k. let ih : find (λ x. nat_eq x.number f.number) rs ≡ Some f = row_by number rs f k in
+    let le : number ≤ f.number = found_from number rs f k in grind (arith, common_steps))
 
 rows_from_next : (low number : ℕ) (rs : List Numbered) (next : ℕ) (f : Numbered) → rising_between low rs next ≡ true → find (λ r. nat_le number r.number) rs ≡ Some f
     → rows_from number rs ≡ f ∷ rows_from (f.number + 1) rs
@@ -84,9 +86,9 @@ walked_below row_numbers content table number f h e =
     let below : f.number < t.next = found_below 1 number t.rows t.next f (rows_rise_at row_numbers content table h) e in
     omega (arith, below, next_at row_numbers content table h)
 
--- what is found from a number is there
-pub found_there : (content : Content) (table number : ℕ) (f : Numbered) → first_from (table_at content table) number ≡ Some f → is_there (table_at content table) f.number ≡ true
-found_there content table number f e = there_by number (table_at content table).rows f e
+-- what is found from a number is the row under its number
+pub found_row : (content : Content) (table number : ℕ) (f : Numbered) → first_from (table_at content table) number ≡ Some f → row_on (table_at content table) (Some f.number) ≡ Some f.row
+found_row content table number f e = ap (λ o. option_map (λ (r : Numbered). r.row) o) (row_by number (table_at content table).rows f e)
 
 -- what is found from a number is not before it
 pub found_behind : (content : Content) (table number : ℕ) (f : Numbered) → first_from (table_at content table) number ≡ Some f → number ≤ f.number

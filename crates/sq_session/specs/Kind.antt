@@ -1,12 +1,14 @@
--- What a statement is to the tables and the cursors: which cursor it works on, whether it may change rows, and which
--- parameters it sets.
-use Rattle.std.specs.Prelude.{ℕ, suc, Bool, true, false, List, [], ◌∷◌, flat_map, if◌then◌else◌, nat_eq, option_to_list, slice_get, option_and_then, Option, None, Some, Result}
-use Rattle.std.specs.List.{list_any}
+-- What a statement is to the tables, the cursors and the parameters: which cursor it works on, whether it may change rows,
+-- and which parameters it sets.
+use Rattle.std.specs.Prelude.{ℕ, Bool, true, false, List, [], slice_get, option_and_then, Option, None, Some, Result}
 use Rattle.std.specs.Result.{result_err, result_ok}
 use Rattle.sq_lex.specs.declared.name.Name.{Name}
 use Rattle.sq_bound.specs.declared.fault.BindFault.{BindFault}
 use Rattle.sq_bound.specs.declared.names.ParameterDesc.{ParameterDesc}
+use Rattle.sq_bound.specs.declared.query.CursorBody.{CursorBody}
+use Rattle.sq_bound.specs.declared.query.CursorBody.TheVariants as body
 use Rattle.sq_bound.specs.declared.statement.BoundFetch.{BoundFetch}
+use Rattle.sq_bound.specs.declared.statement.BoundSelect.{BoundSelect}
 use Rattle.sq_bound.specs.declared.statement.BoundStatement.{BoundStatement}
 use Rattle.sq_bound.specs.declared.statement.BoundStatement.TheVariants as statement
 use Rattle.sq_bound.specs.declared.statement.ChangeTarget.{ChangeTarget}
@@ -14,29 +16,44 @@ use Rattle.sq_bound.specs.declared.statement.ChangeTarget.TheVariants as target
 use Rattle.sq_bound.specs.declared.statement.FetchOrientation.{FetchOrientation}
 use Rattle.sq_bound.specs.declared.statement.Output.{Output}
 use Rattle.sq_bound.specs.declared.statement.PositionedTarget.{PositionedTarget}
+use Rattle.sq_module.specs.declared.program.DeclaredCursor.{DeclaredCursor}
 
--- ---- targets (13.3, 13.5)
+-- ---- cursors (13.1)
 
--- the parameters that targets and their indicators are
-abbrev pub places_set : List Output → List ℕ
-places_set targets = flat_map (λ t. t.parameter ∷ option_to_list t.indicator) targets
+-- the columns of the base table that an updatable query shows
+abbrev pub columns_of : CursorBody → Option (List ℕ)
+columns_of (body.Rows query order) = None
+columns_of (body.Updatable u) = Some u.columns
 
--- the names of the parameters at these places, where the first of these parameters has this place
-abbrev pub names_at : List ℕ → ℕ → List ParameterDesc → List Name
-names_at places first [] = []
-names_at places first (p ∷ ps) = if list_any (nat_eq first) places then p.name ∷ names_at places (suc first) ps else names_at places (suc first) ps
+abbrev pub columns_at : List DeclaredCursor → ℕ → Option (List ℕ)
+columns_at cursors number = option_and_then (λ c. columns_of c.cursor.body) (slice_get cursors number)
 
--- the names of the parameters that are set, in the order of their declaration
-abbrev pub names_set : List ParameterDesc → List Output → List Name
-names_set parameters targets = names_at (places_set targets) 0 parameters
+-- ---- statements with parameters
 
+-- FETCH (13.3); the columns are those of an updatable cursor
 pub record Fetching : Type 0 where
   pub cursor : ℕ
   pub orientation : FetchOrientation
-  pub names : List Name
+  pub columns : Option (List ℕ)
+  pub parameters : List ParameterDesc
+  pub targets : List Output
 
-abbrev pub fetching : List ParameterDesc → BoundFetch → Fetching
-fetching parameters f = record { cursor = f.cursor; orientation = f.orientation; names = names_set parameters f.outputs }
+abbrev pub fetching : List DeclaredCursor → List ParameterDesc → BoundFetch → Fetching
+fetching cursors parameters f = record {
+  cursor = f.cursor;
+  orientation = f.orientation;
+  columns = columns_at cursors f.cursor;
+  parameters = parameters;
+  targets = f.outputs;
+}
+
+-- SELECT INTO (13.5)
+pub record Selecting : Type 0 where
+  pub parameters : List ParameterDesc
+  pub targets : List Output
+
+abbrev pub selecting : List ParameterDesc → BoundSelect → Selecting
+selecting parameters s = record { parameters = parameters; targets = s.outputs }
 
 -- ---- statements
 
@@ -45,7 +62,7 @@ pub data Kind : Type 0 where
   opens : ℕ → Kind
   fetches : Fetching → Kind
   closes : ℕ → Kind
-  selects : List Name → Kind
+  selects : Selecting → Kind
   changes : Kind
   updates : Kind
   updates_at : PositionedTarget → Kind
@@ -61,17 +78,22 @@ abbrev pub delete_kind : ChangeTarget → Kind
 delete_kind (target.Searched t) = Kind.changes
 delete_kind (target.Positioned p) = Kind.deletes_at p
 
--- a statement of a procedure with these parameters
-abbrev pub kind_of : List ParameterDesc → BoundStatement → Kind
-kind_of parameters (statement.Open number) = Kind.opens number
-kind_of parameters (statement.Fetch f) = Kind.fetches (fetching parameters f)
-kind_of parameters (statement.Close number) = Kind.closes number
-kind_of parameters (statement.Select s) = Kind.selects (names_set parameters s.outputs)
-kind_of parameters (statement.Insert i) = Kind.changes
-kind_of parameters (statement.Update u) = update_kind u.target
-kind_of parameters (statement.Delete t) = delete_kind t
-kind_of parameters statement.Commit = Kind.commits
-kind_of parameters statement.Rollback = Kind.rolls_back
+-- a statement of a procedure with these parameters, where modules declare these cursors
+abbrev pub kind_of : List DeclaredCursor → List ParameterDesc → BoundStatement → Kind
+kind_of cursors parameters (statement.Open number) = Kind.opens number
+kind_of cursors parameters (statement.Fetch f) = Kind.fetches (fetching cursors parameters f)
+kind_of cursors parameters (statement.Close number) = Kind.closes number
+kind_of cursors parameters (statement.Select s) = Kind.selects (selecting parameters s)
+kind_of cursors parameters (statement.Insert i) = Kind.changes
+kind_of cursors parameters (statement.Update u) = update_kind u.target
+kind_of cursors parameters (statement.Delete t) = delete_kind t
+kind_of cursors parameters statement.Commit = Kind.commits
+kind_of cursors parameters statement.Rollback = Kind.rolls_back
+
+-- the parameters of the procedure, where the statement reads their values itself
+abbrev pub read_parameters : Kind → List ParameterDesc
+read_parameters (Kind.fetches f) = f.parameters
+read_parameters _ = []
 
 -- ---- what takes memory: every statement but CLOSE, COMMIT and ROLLBACK
 

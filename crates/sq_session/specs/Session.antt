@@ -5,6 +5,7 @@ use Rattle.std.specs.Result.{result_map_both}
 use Rattle.sq_lex.specs.declared.name.Name.{Name}
 use Rattle.sq_catalog.specs.declared.catalog.FullName.{FullName}
 use Rattle.sq_module.specs.declared.program.BoundProcedure.{BoundProcedure}
+use Rattle.sq_module.specs.declared.program.DeclaredCursor.{DeclaredCursor}
 use Rattle.sq_module.specs.declared.program.ProcedureName.{ProcedureName}
 use Rattle.sq_session.specs.Kind.{Procedure, kind_of}
 use Rattle.sq_session.specs.State.{State}
@@ -26,11 +27,11 @@ procedure_number procedures «module» name = position (is_procedure «module» 
 
 -- ---- the procedures of a program
 
-abbrev pub procedure_of : ProcedureName × BoundProcedure → Procedure
-procedure_of p = record { «module» = p.0.«module»; name = p.0.name; statement = result_map_both (kind_of p.1.parameters) (λ f. f) p.1.statement }
+abbrev pub procedure_of : List DeclaredCursor → ProcedureName × BoundProcedure → Procedure
+procedure_of cursors p = record { «module» = p.0.«module»; name = p.0.name; statement = result_map_both (kind_of cursors p.1.parameters) (λ f. f) p.1.statement }
 
-abbrev pub procedures_of : List (ProcedureName × BoundProcedure) → List Procedure
-procedures_of procedures = map procedure_of procedures
+abbrev pub procedures_of : List DeclaredCursor → List (ProcedureName × BoundProcedure) → List Procedure
+procedures_of cursors procedures = map (procedure_of cursors) procedures
 
 -- the names of procedures, in their order
 abbrev pub name_of : Procedure → ProcedureName

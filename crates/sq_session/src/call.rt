@@ -3,6 +3,7 @@
 ghost use Rattle.std.specs.Prelude.{◌≡◌, false, IfOk, IfSome, IsSome, None, OnErr, Some, true};
 ghost use Rattle.sq_query.specs.declared.fault.Fault.TheVariants as fault;
 ghost use Rattle.sq_session.specs.Kind.{kind_at, kind_of, needs_memory, takes_memory};
+ghost use Rattle.sq_session.specs.Parameter.{started_values};
 ghost use Rattle.sq_session.specs.Session.{procedures_of};
 ghost use Rattle.sq_session.specs.Step.{MayCall, MayStep, ending};
 
@@ -29,9 +30,9 @@ pub(crate) fn call<S: Store>(
     meter: &mut Meter,
 ) -> Result<Done, Fault>
     ensures step { IfSome (ending result) (λ d.
-        MayCall (kind_at (procedures_of program.now.procedures.entries) procedure) machine.old d machine.new) }
+        MayCall (kind_at (procedures_of program.now.cursors.items program.now.procedures.entries) procedure) values.now machine.old d machine.new) }
     ensures err { OnErr result (machine.new ≡ machine.old) }
-    ensures memory { needs_memory (kind_at (procedures_of program.now.procedures.entries) procedure) ≡ false → IsSome (ending result) }
+    ensures memory { needs_memory (kind_at (procedures_of program.now.cursors.items program.now.procedures.entries) procedure) ≡ false → IsSome (ending result) }
 {
     let Some((_, procedure)) = program.procedures.get_index(procedure) else {
         return Err(Fault::NOT_WELL_FORMED);
@@ -55,9 +56,10 @@ fn performed<S: Store>(
     machine: &mut Machine<S>,
     meter: &mut Meter,
 ) -> Result<Done, Fault>
-    ensures step { IfSome (ending result) (λ d. MayStep (kind_of procedure.now.parameters statement.now) machine.old d machine.new) }
+    ensures step { IfSome (ending result) (λ d. MayStep (kind_of program.now.cursors.items procedure.now.parameters statement.now)
+        (started_values procedure.now.parameters values.now) machine.old d machine.new) }
     ensures err { OnErr result (machine.new ≡ machine.old) }
-    ensures memory { takes_memory (kind_of procedure.now.parameters statement.now) ≡ false → IsSome (ending result) }
+    ensures memory { takes_memory (kind_of program.now.cursors.items procedure.now.parameters statement.now) ≡ false → IsSome (ending result) }
 {
     match statement {
         BoundStatement::Close(cursor) => machine.close(alloc, *cursor),
@@ -80,8 +82,9 @@ fn with_values<S: Store>(
     machine: &mut Machine<S>,
     meter: &mut Meter,
 ) -> Result<Done, Fault>
-    requires { takes_memory (kind_of procedure.now.parameters statement.now) ≡ true }
-    ensures step { IfSome (ending result) (λ d. MayStep (kind_of procedure.now.parameters statement.now) machine.old d machine.new) }
+    requires { takes_memory (kind_of program.now.cursors.items procedure.now.parameters statement.now) ≡ true }
+    ensures step { IfSome (ending result) (λ d. MayStep (kind_of program.now.cursors.items procedure.now.parameters statement.now)
+        (started_values procedure.now.parameters values.now) machine.old d machine.new) }
     ensures err { OnErr result (machine.new ≡ machine.old) }
 {
     let values = started_values(alloc, procedure.parameters.as_slice(), values)?;
@@ -104,8 +107,9 @@ fn performed_with<S: Store>(
     machine: &mut Machine<S>,
     meter: &mut Meter,
 ) -> Result<Done, Fault>
-    requires { takes_memory (kind_of called.now.procedure.now.parameters statement.now) ≡ true }
-    ensures step { IfSome (ending result) (λ d. MayStep (kind_of called.now.procedure.now.parameters statement.now) machine.old d machine.new) }
+    requires { takes_memory (kind_of called.now.cursors.now called.now.procedure.now.parameters statement.now) ≡ true }
+    ensures step { IfSome (ending result) (λ d. MayStep (kind_of called.now.cursors.now called.now.procedure.now.parameters statement.now)
+        called.now.values.now machine.old d machine.new) }
     ensures err { OnErr result (machine.new ≡ machine.old) }
 {
     match statement {

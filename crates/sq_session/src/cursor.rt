@@ -1,10 +1,12 @@
 //! Cursors, and the place that a FETCH reaches (ISO/IEC 9075:1992, 4.21, 13.2 and 13.3).
 
-ghost use Rattle.std.specs.Prelude.{◌≡◌, ◌<◌, ◌^◌, IfErr, IfOk, length, MatchOption, None, Some, option_copied};
+ghost use Rattle.std.specs.Prelude.{◌≡◌, ◌<◌, ◌^◌, IfOk, IfSome, length, MatchOption, None, Some, option_copied};
 ghost use Rattle.sq_model.specs.Cursor.{bounded, row_at as row_of};
+ghost use Rattle.sq_query.specs.Fault.{Meets};
 ghost use Rattle.sq_store.specs.Content.{table_at};
 ghost use Rattle.sq_session.specs.State.{next_number, number_on};
-ghost use Rattle.sq_session.specs.Step.{IsBeforeFirst, IsNumber, IsReached, IsWanted, Refusal};
+ghost use Rattle.sq_session.specs.Fetch.{number_of, place_reached, place_wanted, row_on};
+ghost use Rattle.sq_session.specs.Step.{IsBeforeFirst};
 
 use crate::called::Called;
 use crate::walk::{WalkingCursor, started_walk};
@@ -112,8 +114,7 @@ pub(crate) fn place_reached(
     place: usize,
 ) -> Result<usize, Fault>
     requires { count < 2 ^ 63 }
-    ensures reached { IfOk result (IsReached orientation count place) }
-    ensures refused { IfErr result Refusal }
+    ensures { Meets result (place_reached values.now orientation count place) }
 {
     Ok(bounded(count, place_wanted(orientation, values, count, place)?))
 }
@@ -125,8 +126,7 @@ fn place_wanted(
     count: usize,
     place: usize,
 ) -> Result<i128, Fault>
-    ensures wanted { IfOk result (IsWanted orientation count place) }
-    ensures refused { IfErr result Refusal }
+    ensures { Meets result (place_wanted values.now orientation count place) }
 {
     match orientation {
         FetchOrientation::Next => Ok(place as i128 + 1),
@@ -163,8 +163,7 @@ fn bounded(count: usize, wanted: i128) -> usize
 
 /// The number of an orientation.
 fn number_of(distance: Distance, values: &[Value]) -> Result<i64, Fault>
-    ensures number { IfOk result (IsNumber distance) }
-    ensures refused { IfErr result Refusal }
+    ensures { Meets result (number_of values.now distance) }
 {
     match distance {
         Distance::Number(number) => Ok(number),
@@ -200,7 +199,8 @@ pub(crate) fn next_there<'a, S: Store>(
     meter: &mut Meter,
 ) -> Option<Reached<'a>>
     requires { cursor.now.table < length (S.content_now store.now) }
-    ensures { let next = next_number (table_at (S.content_now store.now) cursor.now.table) cursor.now in
+    ensures row { IfSome result (λ r. row_on (table_at (S.content_now store.now) cursor.now.table) (Some r.number) ≡ Some r.row.now) }
+    ensures next { let next = next_number (table_at (S.content_now store.now) cursor.now.table) cursor.now in
         MatchOption result ((next.on ≡ None) × (next.passed ≡ length cursor.now.numbers)) (λ r. (next.on ≡ Some r.number) × (next.passed ≡ r.passed)) }
 {
     let numbers = cursor.numbers.as_slice();

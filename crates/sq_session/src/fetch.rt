@@ -1,9 +1,10 @@
 //! FETCH (ISO/IEC 9075:1992, 13.3).
 
-ghost use Rattle.std.specs.Prelude.{◌≡◌, ◌<◌, false, true, length, slice_index_or, IfErr, IfOk, OnErr};
-ghost use Rattle.sq_session.specs.Kind.{fetching, names_set};
-ghost use Rattle.sq_session.specs.State.{besides};
-ghost use Rattle.sq_session.specs.Step.{Comes, ComesOn, ComesToNumber, ComesToRow, Refusal, Retrieves, is_refused};
+ghost use Rattle.std.specs.Prelude.{◌≡◌, ◌<◌, length, slice_get, IfErr, IfOk, IfSome, OnErr};
+ghost use Rattle.sq_query.specs.Fault.{Meets};
+ghost use Rattle.sq_session.specs.Fetch.{HasCome, HasFetched, HasWalked, Refusal, come_to_number, come_to_row, shown, shown_fetched};
+ghost use Rattle.sq_session.specs.Kind.{columns_at, fetching};
+ghost use Rattle.sq_session.specs.Step.{MayFetch, ending};
 
 use crate::called::Called;
 use crate::cursor::{CursorState, NumbersCursor, RowsCursor, next_there, place_reached, row_at};
@@ -13,13 +14,13 @@ use crate::walk::{WalkingCursor, next_of_walk};
 use sq_bound::{BoundFetch, CursorBody, UpdatableQuery};
 use sq_items::Items;
 use sq_meaning::Status;
-use sq_query::Fault;
+use sq_query::{Failure, Fault};
 use sq_store::{Meter, Store};
-use sq_value::Row;
+use sq_value::{Row, Value};
 use std::alloc::Global;
 
 /// FETCH of the cursor of a number. A status of retrieving leaves it where it came.
-#[tactic(auto, using(crate::proofs::Besides::besides_put, crate::proofs::Besides::cursor_put, crate::proofs::Besides::put_same))]
+#[tactic(auto, using(crate::proofs::Besides::put_same))]
 pub(crate) fn fetch_at<S: Store>(
     called: &Called<'_>,
     fetch: &BoundFetch,
@@ -28,12 +29,10 @@ pub(crate) fn fetch_at<S: Store>(
     meter: &mut Meter,
 ) -> Result<Done, Fault>
     requires { fetch.now.cursor < length cursors.old }
-    ensures besides { besides fetch.now.cursor cursors.new ≡ besides fetch.now.cursor cursors.old }
-    ensures comes { IfOk result (λ d. Comes (fetching called.now.procedure.now.parameters fetch.now) (S.content_now store.now)
-        (slice_index_or cursors.old fetch.now.cursor CursorState.Closed) d (slice_index_or cursors.new fetch.now.cursor CursorState.Closed)) }
-    ensures known { IfOk result (λ d. is_refused d.status ≡ false) }
+    ensures step { IfSome (ending result) (λ d. MayFetch (slice_get cursors.old fetch.now.cursor) (fetching called.now.cursors.now called.now.procedure.now.parameters fetch.now)
+        called.now.values.now (record { tables = S.content_now store.now; committed = S.committed store.now; cursors = cursors.old }) d
+        (record { tables = S.content_now store.now; committed = S.committed store.now; cursors = cursors.new })) }
     ensures err { OnErr result (cursors.new ≡ cursors.old) }
-    ensures refused { IfErr result Refusal }
 {
     fetch_cursor(called, fetch, &mut cursors[fetch.cursor], store, meter)
 }
@@ -46,13 +45,12 @@ fn fetch_cursor<S: Store>(
     store: &S,
     meter: &mut Meter,
 ) -> Result<Done, Fault>
-    ensures comes { IfOk result (λ d. Comes (fetching called.now.procedure.now.parameters fetch.now) (S.content_now store.now) cursor.old d cursor.new) }
-    ensures known { IfOk result (λ d. is_refused d.status ≡ false) }
+    ensures fetched { HasFetched (fetching called.now.cursors.now called.now.procedure.now.parameters fetch.now) called.now.values.now (S.content_now store.now)
+        cursor.old result cursor.new }
     ensures err { OnErr result (cursor.new ≡ cursor.old) }
-    ensures refused { IfErr result Refusal }
 {
     match cursor {
-        CursorState::Closed => Err(Fault::NOT_WELL_FORMED),
+        CursorState::Closed => Err(Fault::Status(Failure::InvalidCursorState)),
         CursorState::Numbers(numbers) => fetch_number(called, fetch, numbers, store, meter),
         CursorState::Walking(walk) => fetch_walk(called, fetch, walk, store, meter),
         CursorState::Rows(rows) => fetch_row(called, fetch, rows),
@@ -65,10 +63,8 @@ fn fetch_row(
     fetch: &BoundFetch,
     cursor: &mut RowsCursor,
 ) -> Result<Done, Fault>
-    ensures comes { IfOk result (λ d. ComesToRow (fetching called.now.procedure.now.parameters fetch.now) cursor.old d cursor.new) }
-    ensures known { IfOk result (λ d. is_refused d.status ≡ false) }
+    ensures comes { HasCome result cursor.new (come_to_row (fetching called.now.cursors.now called.now.procedure.now.parameters fetch.now) called.now.values.now cursor.old) }
     ensures err { OnErr result (cursor.new ≡ cursor.old) }
-    ensures refused { IfErr result Refusal }
 {
     let rows = cursor.rows.as_slice();
     let place = place_reached(fetch.orientation, called.values, rows.len(), cursor.place)?;
@@ -88,10 +84,8 @@ fn fetch_number<S: Store>(
     store: &S,
     meter: &mut Meter,
 ) -> Result<Done, Fault>
-    ensures comes { IfOk result (λ d. ComesToNumber (fetching called.now.procedure.now.parameters fetch.now) (S.content_now store.now) cursor.old d cursor.new) }
-    ensures known { IfOk result (λ d. is_refused d.status ≡ false) }
+    ensures comes { HasCome result cursor.new (come_to_number (fetching called.now.cursors.now called.now.procedure.now.parameters fetch.now) (S.content_now store.now) cursor.old) }
     ensures err { OnErr result (cursor.new ≡ cursor.old) }
-    ensures refused { IfErr result Refusal }
 {
     let query = updatable_query(called, fetch.cursor)?;
     if cursor.table >= store.table_count() {
@@ -102,10 +96,14 @@ fn fetch_number<S: Store>(
         cursor.on = None;
         return Ok(Done::without_outputs(called.alloc, Status::NoData));
     };
-    let done = shown_row_retrieved(called, fetch, query, reached.row)?;
-    cursor.passed = reached.passed;
-    cursor.on = Some(reached.number);
-    Ok(done)
+    match shown_row_retrieved(called, fetch, query, reached.row) {
+        Ok(done) => {
+            cursor.passed = reached.passed;
+            cursor.on = Some(reached.number);
+            Ok(done)
+        }
+        Err(fault) => Err(fault),
+    }
 }
 
 /// FETCH of a cursor that walks.
@@ -116,10 +114,8 @@ fn fetch_walk<S: Store>(
     store: &S,
     meter: &mut Meter,
 ) -> Result<Done, Fault>
-    ensures comes { IfOk result (λ d. ComesOn (fetching called.now.procedure.now.parameters fetch.now) (S.content_now store.now) walk.old d walk.new) }
-    ensures known { IfOk result (λ d. is_refused d.status ≡ false) }
+    ensures walked { HasWalked (fetching called.now.cursors.now called.now.procedure.now.parameters fetch.now) (S.content_now store.now) walk.old result walk.new }
     ensures err { OnErr result (walk.new ≡ walk.old) }
-    ensures refused { IfErr result Refusal }
 {
     let query = updatable_query(called, fetch.cursor)?;
     let Some((number, row)) = next_of_walk(called, &query.target, store, walk, meter)? else {
@@ -127,15 +123,20 @@ fn fetch_walk<S: Store>(
         walk.on = None;
         return Ok(Done::without_outputs(called.alloc, Status::NoData));
     };
-    let done = shown_row_retrieved(called, fetch, query, row)?;
-    walk.next = number + 1;
-    walk.on = Some(number);
-    Ok(done)
+    match shown_row_retrieved(called, fetch, query, row) {
+        Ok(done) => {
+            walk.next = number + 1;
+            walk.on = Some(number);
+            Ok(done)
+        }
+        Err(fault) => Err(fault),
+    }
 }
 
 /// The query of an updatable cursor.
 fn updatable_query<'a>(called: &Called<'a>, cursor: usize) -> Result<&'a UpdatableQuery, Fault>
-    ensures { IfErr result Refusal }
+    ensures query { IfOk result (λ query. columns_at called.now.cursors.now cursor ≡ Some query.now.columns) }
+    ensures refused { IfErr result (λ f. (columns_at called.now.cursors.now cursor ≡ None) × (f ≡ Fault.NOT_WELL_FORMED)) }
 {
     match called.cursors.get(cursor) {
         Some(declared) => match &declared.cursor.body {
@@ -153,24 +154,30 @@ fn shown_row_retrieved(
     query: &UpdatableQuery,
     row: &Row,
 ) -> Result<Done, Fault>
-    ensures retrieved { IfOk result (Retrieves true (names_set called.now.procedure.now.parameters fetch.now.outputs)) }
-    ensures refused { IfErr result Refusal }
+    ensures { Meets result (shown_fetched (fetching called.now.cursors.now called.now.procedure.now.parameters fetch.now) query.now.columns (Some row.now)) }
 {
-    let row = shown(called.alloc, row, query.columns.as_slice())?;
-    let done = row_retrieved(called, fetch.outputs.as_slice(), row.as_slice());
-    drop(row);
-    done
+    match shown(called.alloc, row.as_slice(), query.columns.as_slice()) {
+        Ok(row) => {
+            let done = row_retrieved(called, fetch.outputs.as_slice(), row.as_slice());
+            drop(row);
+            done
+        }
+        Err(fault) => Err(fault),
+    }
 }
 
 /// The columns of a row that a query names.
-fn shown(alloc: Global, row: &Row, columns: &[usize]) -> Result<Row, Fault>
-    ensures { IfErr result Refusal }
+fn shown(alloc: Global, row: &[Value], columns: &[usize]) -> Result<Row, Fault>
+    ensures { Meets result (shown columns.now row.now) }
 {
     let mut values = Items::new(alloc);
     for column in columns {
-        match row.as_slice().get(*column) {
+        match row.get(*column) {
             Some(value) => values.push(value.copy(alloc)?)?,
-            None => return Err(Fault::NOT_WELL_FORMED),
+            None => {
+                drop(values);
+                return Err(Fault::NOT_WELL_FORMED);
+            }
         }
     }
     Ok(values)

@@ -1,5 +1,6 @@
 //! Modules, cursors and transactions: a session makes one procedure call after the other (ISO/IEC 9075:1992, 4.21, clause 12,
-//! 13.1 to 13.5, 14.3 and 14.4). What a call may do to the tables and cursors stands in `specs/Step.antt`.
+//! 13.1 to 13.5, 14.3 and 14.4). What a call may do to the tables and cursors, and what it answers, stands in
+//! `specs/Step.antt`, with the rules of FETCH in `specs/Fetch.antt` and those of targets in `specs/Target.antt`.
 //!
 //! A bound statement could, as far as its type says, name a cursor, a parameter or a column that isn't there. Such a statement
 //! ends with 42000; binding makes none.

@@ -5,16 +5,17 @@ ghost use Rattle.sq_change.specs.Statement.{IsGiven};
 ghost use Rattle.sq_meaning.specs.declared.status.Status.TheVariants as status;
 ghost use Rattle.sq_query.specs.declared.fault.Failure.TheVariants as failure;
 ghost use Rattle.sq_query.specs.declared.fault.Fault.TheVariants as fault;
-ghost use Rattle.sq_session.specs.Kind.{delete_kind, fetching, names_set, update_kind};
+ghost use Rattle.sq_session.specs.Kind.{delete_kind, fetching, selecting, update_kind};
 ghost use Rattle.sq_session.specs.State.{committed_state, rolled_back};
-ghost use Rattle.sq_session.specs.Step.{MayChange, MayClose, MayFetch, MayOpen, MayOpenIf, MayStep, Moves, Sets, ended, ending, is_on_row, is_ready};
+ghost use Rattle.sq_session.specs.Step.{MayChange, MayClose, MayFetch, MayOpen, MayOpenIf, MayStep, Selects, ending, is_on_row, is_ready};
+ghost use Rattle.sq_session.specs.Target.{ended};
 
 use crate::called::Called;
 use crate::cursor::{CursorState, number_on, opened};
 use crate::cursors::{close_all, closed_cursors, leave_row, put, put_lists};
 use crate::fetch::fetch_at;
 use crate::reply::Done;
-use crate::target::row_retrieved;
+use crate::target::only_row_retrieved;
 use crate::walk::{ListedCursor, listed_walk};
 use sq_bound::{BoundFetch, BoundInsert, BoundSelect, BoundUpdate, ChangeTarget, PositionedTarget};
 use sq_change::{delete, insert, update};
@@ -97,27 +98,12 @@ impl<S: Store> Machine<S> {
         meter: &mut Meter,
     ) -> Result<Done, Fault>
         ensures step { IfSome (ending result) (λ d. MayFetch (slice_get self.old.cursors fetch.now.cursor)
-            (fetching called.now.procedure.now.parameters fetch.now) self.old d self.new) }
+            (fetching called.now.cursors.now called.now.procedure.now.parameters fetch.now) called.now.values.now self.old d self.new) }
         ensures err { OnErr result (self.new ≡ self.old) }
     {
-        match self.cursors.get(fetch.cursor) {
-            None => Err(Fault::NOT_WELL_FORMED),
-            Some(CursorState::Closed) => Err(Fault::Status(Failure::InvalidCursorState)),
-            Some(_) => self.fetch_open(called, fetch, meter),
+        if fetch.cursor >= self.cursors.len() {
+            return Err(Fault::NOT_WELL_FORMED);
         }
-    }
-
-    /// FETCH of a cursor that is open.
-    fn fetch_open(
-        &mut self,
-        called: &Called<'_>,
-        fetch: &BoundFetch,
-        meter: &mut Meter,
-    ) -> Result<Done, Fault>
-        requires { fetch.now.cursor < length self.old.cursors }
-        ensures step { IfSome (ending result) (λ d. Moves (fetching called.now.procedure.now.parameters fetch.now) self.old d self.new) }
-        ensures err { OnErr result (self.new ≡ self.old) }
-    {
         fetch_at(
             called,
             fetch,
@@ -144,28 +130,30 @@ impl<S: Store> Machine<S> {
     }
 
     /// A select statement of one row (13.5).
+    #[tactic(auto, using(crate::proofs::Selected::selects_from, crate::proofs::Selected::selects_none))]
     pub(crate) fn select(
         &self,
         called: &Called<'_>,
         select: &BoundSelect,
         meter: &mut Meter,
     ) -> Result<Done, Fault>
-        ensures { IfSome (ending result) (Sets (names_set called.now.procedure.now.parameters select.now.outputs)) }
+        ensures { IfSome (ending result) (Selects (selecting called.now.procedure.now.parameters select.now)) }
     {
-        let rows = specification_rows(
+        let found = specification_rows(
             called.alloc,
             called.catalog,
             &select.query,
             &self.store,
             called.inputs(),
             meter,
-        )?;
-        match rows.split_first() {
-            None => Err(Fault::Status(Failure::NoData)),
-            Some((row, others)) if others.is_empty() => {
-                row_retrieved(called, select.outputs.as_slice(), row.as_slice())
+        );
+        match found {
+            Ok(rows) => {
+                let done = only_row_retrieved(called, select, rows.as_slice());
+                drop(rows);
+                done
             }
-            Some(_) => Err(Fault::Status(Failure::CardinalityViolation)),
+            Err(fault) => Err(fault),
         }
     }
 
@@ -197,7 +185,7 @@ impl<S: Store> Machine<S> {
         statement: &BoundUpdate,
         meter: &mut Meter,
     ) -> Result<Done, Fault>
-        ensures step { IfSome (ending result) (λ d. MayStep (update_kind statement.now.target) self.old d self.new) }
+        ensures step { IfSome (ending result) (λ d. MayStep (update_kind statement.now.target) called.now.values.now self.old d self.new) }
         ensures err { OnErr result (self.new ≡ self.old) }
     {
         let on = self.current(&statement.target)?;
@@ -230,7 +218,7 @@ impl<S: Store> Machine<S> {
         target: &ChangeTarget,
         meter: &mut Meter,
     ) -> Result<Done, Fault>
-        ensures step { IfSome (ending result) (λ d. MayStep (delete_kind target.now) self.old d self.new) }
+        ensures step { IfSome (ending result) (λ d. MayStep (delete_kind target.now) called.now.values.now self.old d self.new) }
         ensures err { OnErr result (self.new ≡ self.old) }
     {
         let on = self.current(target)?;

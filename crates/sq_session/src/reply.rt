@@ -2,7 +2,7 @@
 
 ghost use Rattle.std.specs.Prelude.{◌≡◌};
 ghost use Rattle.sq_meaning.specs.declared.status.Status.TheVariants as status;
-ghost use Rattle.sq_session.specs.Step.{ended};
+ghost use Rattle.sq_session.specs.Target.{ended};
 
 use sq_items::Items;
 use sq_lex::Name;

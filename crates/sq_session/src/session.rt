@@ -36,11 +36,15 @@ pub struct Session<S: Store> {
 }
 
 impl<S: Store> Model for Session<S> {
+    ghost use Rattle.std.specs.Coded.{codes};
+    ghost use Rattle.sq_bound.specs.contracts.names.ParameterDesc as parameter;
     ghost use Rattle.sq_session.specs.Session.{Session, procedures_of};
 
     ghost Value = { Session };
 
-    ghost view = { λ s. record { procedures = procedures_of s.program.procedures.entries; tables = s.catalog.tables; state = s.machine } };
+    ghost coded = { Prim.hlevel (codes, parameter.the_row.coded) };
+
+    ghost view = { λ s. record { procedures = procedures_of s.program.cursors.items s.program.procedures.entries; tables = s.catalog.tables; state = s.machine } };
 }
 
 impl<S: Store> Session<S> {
@@ -131,7 +135,7 @@ impl<S: Store> Session<S> {
         values: &[Value],
     ) -> Result<Reply, AllocError>
         ensures step { IfOk result (λ r.
-            MayCall (kind_at self.old.procedures procedure) self.old.state (record { status = r.status; outputs = r.outputs }) self.new.state) }
+            MayCall (kind_at self.old.procedures procedure) values.now self.old.state (record { status = r.status; outputs = r.outputs }) self.new.state) }
         ensures kept { IfOk result (λ r. is_success r.status ≡ false → self.new.state.tables ≡ self.old.state.tables) }
         ensures procedures { self.new.procedures ≡ self.old.procedures }
         ensures tables { self.new.tables ≡ self.old.tables }

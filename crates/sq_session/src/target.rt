@@ -1,18 +1,20 @@
 //! Targets: the parameters that get the values of a row (ISO/IEC 9075:1992, 9.1).
 
-ghost use Rattle.std.specs.Prelude.{◌≡◌, ◌<◌, ◌^◌, ◌++◌, ◌∷◌, [], map, nat_eq, option_to_list, is_some, true, unsigned_abs, IfErr, IfOk, OnOk};
-ghost use Rattle.std.specs.List.{list_any};
-ghost use Rattle.sq_session.specs.Kind.{names_at, names_set, places_set};
-ghost use Rattle.sq_session.specs.Step.{Refusal, RetrievalFault, Retrieves, is_done};
+ghost use Rattle.std.specs.Prelude.{◌≡◌, ◌<◌, ◌^◌, ◌++◌, ◌∷◌, [], find, nat_eq, option_copied, unsigned_abs, IfOk, OnOk};
+ghost use Rattle.sq_meaning.specs.Status.{and_then};
+ghost use Rattle.sq_model.specs.Machine.{single_row};
+ghost use Rattle.sq_model.specs.Parameter.{whole};
+ghost use Rattle.sq_query.specs.Fault.{Meets};
+ghost use Rattle.sq_session.specs.Target.{IsSet, joined, null_set, outputs_from, row_reply, row_set, set_behind, set_reply, target_set, value_set};
 
 use crate::called::Called;
 use crate::reply::{Done, Output};
-use sq_bound::ParameterDesc;
-use sq_change::{fits_kind, is_domain};
+use sq_bound::{BoundSelect, ParameterDesc};
+use sq_change::fits_kind;
 use sq_items::Items;
 use sq_meaning::Status;
 use sq_query::{Failure, Fault};
-use sq_value::{Decimal, RetrieveFault, Retrieved, Value, retrieve};
+use sq_value::{Decimal, RetrieveFault, Retrieved, Row, Value, retrieve};
 use std::alloc::{AllocError, Global};
 
 /// A parameter's place, and its new value.
@@ -25,7 +27,7 @@ struct Assignment {
 /// What targets and their indicators are set to, and whether a text was cut.
 #[derive(Drop)]
 struct Assignments {
-    list: Vec<Assignment>,
+    list: Items<Assignment>,
     is_cut: bool,
 }
 
@@ -35,8 +37,7 @@ pub(crate) fn row_retrieved(
     targets: &[sq_bound::Output],
     row: &[Value],
 ) -> Result<Done, Fault>
-    ensures retrieved { IfOk result (Retrieves true (names_set called.now.procedure.now.parameters targets.now)) }
-    ensures refused { IfErr result Refusal }
+    ensures { Meets result (row_reply called.now.procedure.now.parameters targets.now row.now) }
 {
     match assignments_of(called, targets, row) {
         Ok(assignments) => Ok(done(called, &assignments)?),
@@ -47,11 +48,24 @@ pub(crate) fn row_retrieved(
     }
 }
 
+/// Sets the targets of a select statement from the only row.
+pub(crate) fn only_row_retrieved(
+    called: &Called<'_>,
+    select: &BoundSelect,
+    rows: &[Row],
+) -> Result<Done, Fault>
+    ensures { Meets result (and_then (single_row rows.now) (row_reply called.now.procedure.now.parameters select.now.outputs)) }
+{
+    match rows {
+        [] => Err(Fault::Status(Failure::NoData)),
+        [row] => row_retrieved(called, select.outputs.as_slice(), row.as_slice()),
+        _ => Err(Fault::Status(Failure::CardinalityViolation)),
+    }
+}
+
 /// The targets and their indicators, in the order in which the parameters are declared.
 fn done(called: &Called<'_>, assignments: &Assignments) -> Result<Done, AllocError>
-    ensures done { IfOk result (λ d. is_done d.status ≡ true) }
-    ensures outputs { IfOk result (λ d. map (λ o. o.name) d.outputs
-        ≡ names_at (map (λ a. a.parameter) assignments.now.list.items) 0 called.now.procedure.now.parameters) }
+    ensures { IfOk result (λ d. d ≡ set_reply called.now.procedure.now.parameters assignments.now) }
 {
     let parameters = called.procedure.parameters.as_slice();
     let outputs = outputs_of(called.alloc, parameters, assignments.list.as_slice())?;
@@ -70,30 +84,27 @@ fn outputs_of(
     parameters: &[ParameterDesc],
     assignments: &[Assignment],
 ) -> Result<Items<Output>, AllocError>
-    ensures { IfOk result (λ outputs. map (λ o. o.name) outputs ≡ names_at (map (λ a. a.parameter) assignments.now) 0 parameters.now) }
+    ensures { IfOk result (λ outputs. outputs ≡ outputs_from 0 assignments.now parameters.now) }
 {
     let mut outputs = Items::new(alloc);
     for (place, parameter) in parameters.iter().enumerate() {
-        if let Some(value) = assigned_to(assignments, place) {
+        if let Some(assignment) = assigned_to(assignments, place) {
             outputs.push(Output {
                 name: parameter.name,
-                value: value.copy(alloc)?,
+                value: assignment.value.copy(alloc)?,
             })?;
         }
     }
     Ok(outputs)
 }
 
-/// The value to which a parameter is set, if it is.
-fn assigned_to(assignments: &[Assignment], place: usize) -> Option<&Value>
-    ensures { is_some result ≡ list_any (nat_eq place) (map (λ a. a.parameter) assignments.now) }
+/// What a parameter is set to, if it is.
+fn assigned_to(assignments: &[Assignment], place: usize) -> Option<&Assignment>
+    ensures { option_copied result ≡ find (λ a. nat_eq a.parameter place) assignments.now }
 {
-    for assignment in assignments {
-        if assignment.parameter == place {
-            return Some(&assignment.value);
-        }
-    }
-    None
+    assignments
+        .iter()
+        .find(|assignment| assignment.parameter == place)
 }
 
 fn assignments_of(
@@ -101,19 +112,24 @@ fn assignments_of(
     targets: &[sq_bound::Output],
     row: &[Value],
 ) -> Result<Assignments, Fault>
-    ensures places { IfOk result (λ a. map (λ a. a.parameter) a.list.items ≡ places_set targets.now) }
-    ensures fault { IfErr result RetrievalFault }
+    ensures { Meets result (row_set called.now.procedure.now.parameters targets.now row.now) }
 {
     if targets.len() != row.len() {
         return Err(Fault::NOT_WELL_FORMED);
     }
     let mut assignments = Assignments {
-        list: Vec::new(called.alloc),
+        list: Items::new(called.alloc),
         is_cut: false,
     };
     let parameters = called.procedure.parameters.as_slice();
     for (place, target) in targets.iter().enumerate() {
-        assignments.set(called.alloc, parameters, *target, &row[place])?;
+        match assignments.set(called.alloc, parameters, *target, &row[place]) {
+            Ok(()) => {}
+            Err(fault) => {
+                drop(assignments);
+                return Err(fault);
+            }
+        }
     }
     Ok(assignments)
 }
@@ -127,9 +143,7 @@ impl Assignments {
         target: sq_bound::Output,
         value: &Value,
     ) -> Result<(), Fault>
-        ensures places { OnOk result (map (λ a. a.parameter) self.new.list.items
-            ≡ map (λ a. a.parameter) self.old.list.items ++ target.parameter ∷ option_to_list target.indicator) }
-        ensures fault { IfErr result RetrievalFault }
+        ensures { IsSet result (set_behind self.old (target_set parameters.now target value.now)) self.new }
     {
         let Some(parameter) = parameters.get(target.parameter) else {
             return Err(Fault::NOT_WELL_FORMED);
@@ -137,7 +151,7 @@ impl Assignments {
         if let Value::Null = value {
             return self.set_null(target);
         }
-        if !is_domain(parameter.domain) || !fits_kind(parameter.domain, value) {
+        if !fits_kind(parameter.domain, value) {
             return Err(Fault::NOT_WELL_FORMED);
         }
         match retrieve(alloc, value, parameter.domain) {
@@ -149,9 +163,7 @@ impl Assignments {
 
     /// Null is retrieved beside an indicator alone, which is set to -1.
     fn set_null(&mut self, target: sq_bound::Output) -> Result<(), Fault>
-        ensures places { OnOk result (map (λ a. a.parameter) self.new.list.items
-            ≡ map (λ a. a.parameter) self.old.list.items ++ target.parameter ∷ option_to_list target.indicator) }
-        ensures fault { IfErr result RetrievalFault }
+        ensures { IsSet result (set_behind self.old (null_set target)) self.new }
     {
         let Some(indicator) = target.indicator else {
             return Err(Fault::Status(Failure::NullWithoutIndicator));
@@ -166,8 +178,7 @@ impl Assignments {
         target: sq_bound::Output,
         retrieved: Retrieved,
     ) -> Result<(), AllocError>
-        ensures { OnOk result (map (λ a. a.parameter) self.new.list.items
-            ≡ map (λ a. a.parameter) self.old.list.items ++ target.parameter ∷ option_to_list target.indicator) }
+        ensures { OnOk result (self.new ≡ joined self.old (value_set target retrieved)) }
     {
         let Retrieved { value, uncut } = retrieved;
         self.add(target.parameter, value)?;
@@ -181,7 +192,7 @@ impl Assignments {
     }
 
     fn add(&mut self, parameter: usize, value: Value) -> Result<(), AllocError>
-        ensures { OnOk result (map (λ a. a.parameter) self.new.list.items ≡ map (λ a. a.parameter) self.old.list.items ++ parameter ∷ []) }
+        ensures { OnOk result (self.new ≡ record self.old { list = self.old.list ++ record { parameter = parameter; value = value } ∷ [] }) }
     {
         self.list.push(Assignment { parameter, value })?;
         Ok(())
@@ -191,6 +202,7 @@ impl Assignments {
 /// A whole number.
 fn whole(number: i64) -> Value
     requires { unsigned_abs number < 10 ^ 18 }
+    ensures { result ≡ whole number }
 {
     Value::Num(Decimal::new(number, 0))
 }

@@ -3,10 +3,10 @@
 //! Such a cursor means the same rows as a list of their numbers made at OPEN, as long as no UPDATE changes what its
 //! conditions read. So the rows that are left are listed before an UPDATE of a column that they read.
 
-ghost use Rattle.std.specs.Prelude.{◌≡◌, ◌≤◌, ◌<◌, length, None, true, IfErr, IfOk, IfSome};
+ghost use Rattle.std.specs.Prelude.{◌≡◌, ◌≤◌, ◌<◌, length, None, Some, IfErr, IfOk, IfSome};
 ghost use Rattle.sq_store.specs.Content.{table_at};
-ghost use Rattle.sq_session.specs.State.{is_open, is_there, number_on};
-ghost use Rattle.sq_session.specs.Step.{Refusal};
+ghost use Rattle.sq_session.specs.State.{is_open, number_on};
+ghost use Rattle.sq_session.specs.Fetch.{Refusal, row_on};
 
 use crate::called::Called;
 use crate::cursor::{CursorState, NumbersCursor};
@@ -90,7 +90,7 @@ impl<'a> Walk<'a> {
 }
 
 /// The first row from a number on, and before a mark, that the target means.
-#[tactic(auto, using(crate::proofs::TableWalk::found_behind, crate::proofs::TableWalk::found_there))]
+#[tactic(auto, using(crate::proofs::TableWalk::found_behind))]
 fn next_chosen<'s, S: Store>(
     walk: &Walk<'_>,
     store: &'s S,
@@ -100,7 +100,7 @@ fn next_chosen<'s, S: Store>(
 ) -> Result<Option<(u64, &'s Row)>, Fault>
     requires { walk.now.table < length (S.content_now store.now) }
     ensures found { IfOk result (λ found. IfSome found (λ r. (from ≤ r.0) × (r.0 < mark))) }
-    ensures there { IfOk result (λ found. IfSome found (λ r. is_there (table_at (S.content_now store.now) walk.now.table) r.0 ≡ true)) }
+    ensures there { IfOk result (λ found. IfSome found (λ r. row_on (table_at (S.content_now store.now) walk.now.table) (Some r.0) ≡ Some r.1.now)) }
     ensures refused { IfErr result Refusal }
 {
     let mut number = from;
@@ -125,7 +125,7 @@ pub(crate) fn next_of_walk<'s, S: Store>(
     meter: &mut Meter,
 ) -> Result<Option<(u64, &'s Row)>, Fault>
     ensures found { IfOk result (λ found. IfSome found (λ r. (cursor.now.next ≤ r.0) × (r.0 < cursor.now.mark))) }
-    ensures there { IfOk result (λ found. IfSome found (λ r. is_there (table_at (S.content_now store.now) cursor.now.table) r.0 ≡ true)) }
+    ensures there { IfOk result (λ found. IfSome found (λ r. row_on (table_at (S.content_now store.now) cursor.now.table) (Some r.0) ≡ Some r.1.now)) }
     ensures refused { IfErr result Refusal }
 {
     if cursor.table >= store.table_count() {

@@ -1,12 +1,16 @@
 use Rattle.std.proofs.Common.{sym}
 use Rattle.sq_module.specs.declared.program.BoundProcedure.{BoundProcedure}
 use Rattle.sq_module.specs.declared.program.ProcedureName.{ProcedureName}
+use Rattle.sq_session.specs.Step.{ending}
 use Rattle.sq_session.proofs.Named.{kind_is}
+use Rattle.sq_session.proofs.Read.{as_read}
 use Rattle.sq_session.proofs.call.call.Goals as goal
 
 pub returns-in-Ok : goal.returns-in-Ok
 returns-in-Ok g c =
     let entries = c.args.program.now.procedures.entries in
     let entry : ProcedureName × BoundProcedure = (c.in-Some.field-0-0.now, c.in-Some.procedure.now) in
-    let kind = kind_is entries c.args.procedure entry c.in-Ok.statement (sym c.in-Some.ensures.entry) c.in-Ok.is in
-    record { step = rw kind c.performed.ensures.step; err = c.performed.ensures.err; memory = rw kind c.performed.ensures.memory }
+    let cursors = c.args.program.now.cursors.items in
+    let kind = kind_is cursors entries c.args.procedure entry c.in-Ok.statement (sym c.in-Some.ensures.entry) c.in-Ok.is in
+    let read = as_read cursors entry.1.parameters c.in-Ok.statement c.args.values.now c.args.machine.now (ending c.performed.result) _ c.performed.ensures.step in
+    record { step = rw kind read; err = c.performed.ensures.err; memory = rw kind c.performed.ensures.memory }

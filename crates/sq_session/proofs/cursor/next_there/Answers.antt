@@ -1,10 +1,12 @@
 use Rattle.std.proofs.Common.{◌≡◌, ap, drop, is_some, length, min, subst, ◌∙◌}
+use Rattle.std.specs.Option.{option_map}
 use Rattle.sq_store.specs.Content.{table_at}
+use Rattle.sq_store.specs.declared.table.Numbered.{Numbered}
 use Rattle.sq_session.proofs.NextNumber.{left_is, none_there, reached}
 use Rattle.sq_session.proofs.cursor.next_there.Goals as goal
 
-pub returns-in-Some : goal.returns-in-Some
-returns-in-Some g c =
+pub returns-in-Some-clause-next : goal.returns-in-Some-clause-next
+returns-in-Some-clause-next g c =
     let t = table_at (g.S.Store.content_now c.args.store.now) c.args.cursor.now.table in
     let p = c.args.cursor.now.passed in
     let q = c.min-passed.result in
@@ -13,8 +15,8 @@ returns-in-Some g c =
     (left_is p q c.as_slice-numbers.result.now c.min-passed.ensures ∙ ap (λ z. drop p z) e)
     c.loop-place-test.true c.loop-place.invariant (ap is_some c.in-Some.ensures.row)
 
-pub returns : goal.returns
-returns g c =
+pub returns-clause-next : goal.returns-clause-next
+returns-clause-next g c =
     let t = table_at (g.S.Store.content_now c.args.store.now) c.args.cursor.now.table in
     let p = c.args.cursor.now.passed in
     let q = c.min-passed.result in
@@ -22,3 +24,6 @@ returns g c =
     none_there t c.args.cursor.now.numbers _ p q c.loop-place.place (subst (λ z. q ≡ min p (length z)) e c.min-passed.ensures)
     (left_is p q c.as_slice-numbers.result.now c.min-passed.ensures ∙ ap (λ z. drop p z) e)
     c.loop-place-test.false c.loop-place.invariant
+
+pub returns-in-Some-clause-row : goal.returns-in-Some-clause-row
+returns-in-Some-clause-row g c = ap (λ o. option_map (λ (r : Numbered). r.row) o) c.in-Some.ensures.row

@@ -1,0 +1,39 @@
+-- A statement reads the values of those parameters that its kind names.
+use Rattle.std.proofs.Common.{List, Option, Some, None, IfSome}
+use Rattle.sq_value.specs.declared.value.Value.{Value}
+use Rattle.sq_bound.specs.declared.names.ParameterDesc.{ParameterDesc}
+use Rattle.sq_bound.specs.declared.statement.BoundStatement.{BoundStatement}
+use Rattle.sq_bound.specs.declared.statement.BoundStatement.TheVariants as statement
+use Rattle.sq_bound.specs.declared.statement.ChangeTarget.{ChangeTarget}
+use Rattle.sq_bound.specs.declared.statement.ChangeTarget.TheVariants as target
+use Rattle.sq_module.specs.declared.program.DeclaredCursor.{DeclaredCursor}
+use Rattle.sq_session.specs.Kind.{delete_kind, kind_of, read_parameters, update_kind}
+use Rattle.sq_session.specs.Parameter.{started_values}
+use Rattle.sq_session.specs.State.{State}
+use Rattle.sq_session.specs.Step.{MayStep}
+use Rattle.sq_session.specs.declared.reply.Done.{Done}
+
+of_update : (t : ChangeTarget) (vs ws : List Value) (b : State) (d : Done) (a : State) → MayStep (update_kind t) vs b d a → MayStep (update_kind t) ws b d a
+of_update (target.Searched t) vs ws b d a h = h
+of_update (target.Positioned p) vs ws b d a h = h
+
+of_delete : (t : ChangeTarget) (vs ws : List Value) (b : State) (d : Done) (a : State) → MayStep (delete_kind t) vs b d a → MayStep (delete_kind t) ws b d a
+of_delete (target.Searched t) vs ws b d a h = h
+of_delete (target.Positioned p) vs ws b d a h = h
+
+done_as_read : (cs : List DeclaredCursor) (ps : List ParameterDesc) (s : BoundStatement) (vs : List Value) (b : State) (d : Done) (a : State)
+    → MayStep (kind_of cs ps s) (started_values ps vs) b d a → MayStep (kind_of cs ps s) (started_values (read_parameters (kind_of cs ps s)) vs) b d a
+done_as_read cs ps (statement.Open n) vs b d a h = h
+done_as_read cs ps (statement.Fetch f) vs b d a h = h
+done_as_read cs ps (statement.Close n) vs b d a h = h
+done_as_read cs ps (statement.Select s) vs b d a h = h
+done_as_read cs ps (statement.Insert i) vs b d a h = h
+done_as_read cs ps (statement.Update u) vs b d a h = of_update u.target _ _ b d a h
+done_as_read cs ps (statement.Delete t) vs b d a h = of_delete t _ _ b d a h
+done_as_read cs ps statement.Commit vs b d a h = h
+done_as_read cs ps statement.Rollback vs b d a h = h
+
+pub as_read : (cs : List DeclaredCursor) (ps : List ParameterDesc) (s : BoundStatement) (vs : List Value) (b : State) (o : Option Done) (a : State)
+    → IfSome o (λ d. MayStep (kind_of cs ps s) (started_values ps vs) b d a) → IfSome o (λ d. MayStep (kind_of cs ps s) (started_values (read_parameters (kind_of cs ps s)) vs) b d a)
+as_read cs ps s vs b None a h = tt
+as_read cs ps s vs b (Some d) a h = done_as_read cs ps s vs b d a h

@@ -1,0 +1,99 @@
+-- The value at which a parameter starts.
+use Rattle.std.proofs.Common.{rules, ◌≡◌, ◌≤◌, drop, slice_get, Option, Some, None, add-one, append_assoc, ◌++◌, ◌+◌, ◌<◌, ℕ, zero, suc, List, [], ◌∷◌, get_or, length, map, take, Result, Ok, Err, refl, sym, ap, ◌∙◌, subst, arith}
+use Rattle.std.specs.List.{zip}
+use Rattle.std.proofs.lemmas.List.{drop_more}
+use Rattle.sq_bound.specs.declared.names.ParameterDesc.{ParameterDesc}
+use Rattle.sq_session.specs.Parameter.{started_values}
+use Rattle.sq_value.specs.Domain.{FitsKind, start_value}
+use Rattle.sq_value.specs.Storing.{IsStored, stored}
+use Rattle.sq_value.specs.declared.domain.Domain.{Domain}
+use Rattle.sq_value.specs.declared.domain.Domain.TheVariants.{Small, Int, Numeric, Char, VarChar}
+use Rattle.sq_value.specs.declared.fault.StoreFault.{StoreFault}
+use Rattle.sq_value.specs.declared.fault.StoreFault.TheVariants.{Range, TooLong, NoMemory}
+use Rattle.sq_value.specs.declared.value.Value.{Value}
+use Rattle.sq_value.specs.declared.value.Value.TheVariants.{Null, Num, Chars}
+use Rattle.sq_meaning.specs.Assignment.{IsStoreOutcome, assigned}
+use Rattle.sq_meaning.proofs.AssignmentLaws.{store_statuses}
+use Rattle.sq_model.specs.Parameter.{started}
+
+outcome : (d : Domain) (v : Value) (r : Result Value StoreFault) → stored d v ≡ r → IsStoreOutcome r (assigned d v)
+outcome d v r h = let P : Result Value StoreFault → Type 0 = λ x. IsStoreOutcome x (assigned d v) in subst P h (store_statuses d v)
+
+pub starts_null : (d : Domain) (v w : Value) → v ≡ Null → w ≡ start_value d → w ≡ started d v
+starts_null d v w e h = rw e h
+
+pub starts_unfit : (d : Domain) (v w : Value) → ¬ FitsKind d v → w ≡ start_value d → w ≡ started d v
+starts_unfit d Null w unfit h = h
+starts_unfit Small (Num n) w unfit h = absurd (unfit (search rules))
+starts_unfit Int (Num n) w unfit h = absurd (unfit (search rules))
+starts_unfit (Numeric p s) (Num n) w unfit h = absurd (unfit (search rules))
+starts_unfit (Char l) (Num n) w unfit h = h
+starts_unfit (VarChar l) (Num n) w unfit h = h
+starts_unfit Small (Chars t) w unfit h = h
+starts_unfit Int (Chars t) w unfit h = h
+starts_unfit (Numeric p s) (Chars t) w unfit h = h
+starts_unfit (Char l) (Chars t) w unfit h = absurd (unfit (search rules))
+starts_unfit (VarChar l) (Chars t) w unfit h = absurd (unfit (search rules))
+
+pub starts_stored : (d : Domain) (v w : Value) → IsStored (Ok w) (stored d v) → ¬ (v ≡ Null) → w ≡ started d v
+starts_stored d Null w h given = absurd (given refl)
+starts_stored d (Num n) w h given = let k : assigned d (Num n) ≡ Ok w = outcome d (Num n) (Ok w) h in rw k refl
+starts_stored d (Chars t) w h given = let k : assigned d (Chars t) ≡ Ok w = outcome d (Chars t) (Ok w) h in rw k refl
+
+pub starts_range : (d : Domain) (v w : Value) → IsStored (Err Range) (stored d v) → w ≡ start_value d → w ≡ started d v
+starts_range d Null w h e = e
+starts_range d (Num n) w h e = let k = outcome d (Num n) (Err Range) h in rw k e
+starts_range d (Chars t) w h e = let k = outcome d (Chars t) (Err Range) h in rw k e
+
+pub starts_too_long : (d : Domain) (v w : Value) → IsStored (Err TooLong) (stored d v) → w ≡ start_value d → w ≡ started d v
+starts_too_long d Null w h e = e
+starts_too_long d (Num n) w h e = let k = outcome d (Num n) (Err TooLong) h in rw k e
+starts_too_long d (Chars t) w h e = let k = outcome d (Chars t) (Err TooLong) h in rw k e
+
+-- ---- one parameter after the other
+
+-- these are started, and the others stand behind them
+abbrev pub IsStarted : List ParameterDesc → List Value → ℕ → List Value → Type 0
+IsStarted ps vs i ws = ws ++ started_values (drop i ps) (drop i vs) ≡ started_values ps vs
+
+pub started_first : (ps : List ParameterDesc) (vs : List Value) → IsStarted ps vs 0 []
+started_first ps vs = refl
+
+-- the value at an index is the first of those from there
+from_value : (vs : List Value) (i : ℕ) (v : Value) → slice_get vs i ≡ Some v → drop i vs ≡ v ∷ drop (i + 1) vs
+from_value [] i v h = cc
+from_value (x ∷ xs) zero v h = let e : x ≡ v = cc in ap (λ y. y ∷ xs) e
+from_value (x ∷ xs) (suc i) v h = rw add-one (from_value xs i v h ∙ ap (λ n. v ∷ drop n xs) (add-one i))
+
+none_from : (vs : List Value) (i : ℕ) → slice_get vs i ≡ None → drop i vs ≡ []
+none_from [] zero h = refl
+none_from [] (suc i) h = refl
+none_from (x ∷ xs) zero h = cc
+none_from (x ∷ xs) (suc i) h = none_from xs i h
+
+append_nil : (xs : List Value) → xs ++ [] ≡ xs
+append_nil [] = refl
+append_nil (x ∷ xs) = ap (λ ys. x ∷ ys) (append_nil xs)
+
+pub started_next : (ps : List ParameterDesc) (vs : List Value) (i : ℕ) (p : ParameterDesc) (v w : Value) (ws : List Value) → i < length ps → slice_get vs i ≡ Some v
+    → w ≡ started (get_or ps i p).domain v → IsStarted ps vs i ws → IsStarted ps vs (i + 1) (ws ++ w ∷ [])
+started_next ps vs i p v w ws lt h e so =
+    let rest = started_values (drop (i + 1) ps) (drop (i + 1) vs) in
+    let one : started_values (drop i ps) (drop i vs) ≡ w ∷ rest = rw (drop_more ps i p lt, from_value vs i v h) (ap (λ x. x ∷ rest) (sym e)) in
+    append_assoc ws (w ∷ []) rest ∙ ap (λ l. ws ++ l) (sym one) ∙ so
+
+zip_short : (ps : List ParameterDesc) → started_values ps [] ≡ []
+zip_short [] = refl
+zip_short (p ∷ ps) = refl
+
+pub started_short : (ps : List ParameterDesc) (vs : List Value) (i : ℕ) (ws : List Value) → slice_get vs i ≡ None → IsStarted ps vs i ws → ws ≡ started_values ps vs
+started_short ps vs i ws h so = sym (append_nil ws) ∙ ap (λ l. ws ++ l) (sym (zip_short (drop i ps))) ∙ ap (λ l. ws ++ started_values (drop i ps) l) (sym (none_from vs i h)) ∙ so
+
+past : (ps : List ParameterDesc) (i : ℕ) → length ps ≤ i → drop i ps ≡ []
+past [] zero h = refl
+past [] (suc i) h = refl
+past (x ∷ xs) zero h = absurd (omega (arith, h))
+past (x ∷ xs) (suc i) h = past xs i (omega (arith, h))
+
+pub started_all : (ps : List ParameterDesc) (vs : List Value) (i : ℕ) (ws : List Value) → length ps ≤ i → IsStarted ps vs i ws → ws ≡ started_values ps vs
+started_all ps vs i ws h so = sym (append_nil ws) ∙ ap (λ l. ws ++ started_values l (drop i vs)) (sym (past ps i h)) ∙ so

@@ -1,0 +1,13 @@
+use Rattle.std.proofs.Common.{ap, get_or}
+use Rattle.sq_session.specs.Kind.{fetching}
+use Rattle.sq_session.proofs.Fetched.{may_fetch}
+use Rattle.sq_session.proofs.fetch.fetch_at.Goals as goal
+
+pub returns-clause-step : goal.returns-clause-step
+returns-clause-step g c =
+    let called = c.args.called.now in
+    let cursors = c.args.cursors.now in
+    let number = c.args.fetch.now.cursor in
+    let old = get_or cursors number c.index-cursors-fetch.result in
+    may_fetch (fetching called.cursors.now called.procedure.now.parameters c.args.fetch.now) called.values.now (g.S.Store.content_now c.args.store.now) (g.S.Store.committed c.args.store.now) cursors
+    old c.fetch_cursor.new.cursor c.fetch_cursor.result c.requires (ap (λ d. get_or cursors number d) c.index-cursors-fetch.is) c.fetch_cursor.ensures.fetched c.fetch_cursor.ensures.err

@@ -1,0 +1,136 @@
+-- FETCH (ISO/IEC 9075:1992, 13.3): where a cursor comes, and how the statement ends then. Where a rule of the language is
+-- broken it ends with 42000, and the cursor stays where it is.
+use Rattle.std.specs.Prelude.{◌≡◌, ◌≤◌, ◌<◌, ◌+◌, ⊤, ℕ, ℤ, true, false, List, length, slice_get, Option, None, Some, Result, Ok, Err}
+use Rattle.std.specs.Option.{option_and_then, option_map}
+use Rattle.sq_value.specs.declared.value.Value.{Value}
+use Rattle.sq_value.specs.declared.value.Value.TheVariants as value
+use Rattle.sq_store.specs.Content.{Content, row_at, table_at}
+use Rattle.sq_store.specs.declared.table.Table.{Table}
+use Rattle.sq_bound.specs.declared.statement.Distance.{Distance}
+use Rattle.sq_bound.specs.declared.statement.Distance.TheVariants as distance
+use Rattle.sq_bound.specs.declared.statement.FetchOrientation.{FetchOrientation}
+use Rattle.sq_bound.specs.declared.statement.FetchOrientation.TheVariants as orientation
+use Rattle.sq_meaning.specs.Status.{Outcome, and_then, each, not_well_formed, well_formed}
+use Rattle.sq_meaning.specs.declared.status.Status.TheVariants as status
+use Rattle.sq_model.specs.Cursor.{Move, bounded, wanted, row_at as row_of}
+use Rattle.sq_query.specs.Fault.{status_of}
+use Rattle.sq_query.specs.declared.fault.Failure.TheVariants as failure
+use Rattle.sq_query.specs.declared.fault.Fault.{Fault}
+use Rattle.sq_query.specs.declared.fault.Fault.TheVariants as fault
+use Rattle.sq_session.specs.Kind.{Fetching}
+use Rattle.sq_session.specs.State.{is_there, next_number}
+use Rattle.sq_session.specs.Target.{ended, is_refused, row_reply}
+use Rattle.sq_session.specs.declared.cursor.CursorState.{CursorState}
+use Rattle.sq_session.specs.declared.cursor.CursorState.TheVariants as cursor
+use Rattle.sq_session.specs.declared.cursor.NumbersCursor.{NumbersCursor}
+use Rattle.sq_session.specs.declared.cursor.RowsCursor.{RowsCursor}
+use Rattle.sq_session.specs.declared.reply.Done.{Done}
+use Rattle.sq_session.specs.declared.walk.WalkingCursor.{WalkingCursor}
+
+-- ---- the place that an orientation means
+
+abbrev pub whole_number : Value → Outcome ℤ
+whole_number (value.Num n) = Ok n.unscaled
+whole_number value.Null = not_well_formed
+whole_number (value.Chars t) = not_well_formed
+
+-- a number that is written, or that of a parameter
+abbrev pub number_of : List Value → Distance → Outcome ℤ
+number_of values (distance.Number n) = Ok n
+number_of values (distance.Parameter p) = and_then (well_formed (slice_get values p)) whole_number
+
+abbrev pub move_of : List Value → FetchOrientation → Outcome Move
+move_of values orientation.Next = Ok Move.next
+move_of values orientation.Prior = Ok Move.prior
+move_of values orientation.First = Ok Move.first
+move_of values orientation.Last = Ok Move.last
+move_of values (orientation.Absolute d) = and_then (number_of values d) (λ n. Ok (Move.absolute n))
+move_of values (orientation.Relative d) = and_then (number_of values d) (λ n. Ok (Move.relative n))
+
+-- the place that is wanted among so many rows, from the place that the cursor is at
+abbrev pub place_wanted : List Value → FetchOrientation → ℕ → ℕ → Outcome ℤ
+place_wanted values o count place = and_then (move_of values o) (λ m. Ok (wanted m count place))
+
+-- that one, or the nearest that there is
+abbrev pub place_reached : List Value → FetchOrientation → ℕ → ℕ → Outcome ℕ
+place_reached values o count place = and_then (place_wanted values o count place) (λ w. Ok (bounded count w))
+
+-- ---- the reply
+
+-- without a row it ends with 02000; with one, the targets are set from it
+abbrev pub row_fetched : Fetching → Option (List Value) → Outcome Done
+row_fetched f None = Ok (ended status.NoData)
+row_fetched f (Some row) = row_reply f.parameters f.targets row
+
+-- the columns of a row of the base table that an updatable cursor's query shows
+abbrev pub shown : List ℕ → List Value → Outcome (List Value)
+shown columns row = each (λ c. well_formed (slice_get row c)) columns
+
+abbrev pub shown_fetched : Fetching → List ℕ → Option (List Value) → Outcome Done
+shown_fetched f columns None = Ok (ended status.NoData)
+shown_fetched f columns (Some row) = and_then (shown columns row) (row_reply f.parameters f.targets)
+
+-- the row under the number that a cursor is on, as it is now
+abbrev pub row_on : Table → Option ℕ → Option (List Value)
+row_on t on = option_map (λ r. r.row) (option_and_then (row_at t) on)
+
+-- ---- where a cursor comes, and the reply
+
+-- one over rows comes to the place that is reached
+abbrev pub row_come_to : Fetching → RowsCursor → ℕ → Outcome (RowsCursor × Done)
+row_come_to f c place = and_then (row_fetched f (row_of c.rows place)) (λ d. Ok (record c { place = place }, d))
+
+abbrev pub come_to_row : Fetching → List Value → RowsCursor → Outcome (RowsCursor × Done)
+come_to_row f values c = and_then (place_reached values f.orientation (length c.rows) c.place) (row_come_to f c)
+
+-- one over numbers comes to the next under which there is a row now
+abbrev pub number_come_to : Fetching → List ℕ → Table → NumbersCursor → Outcome (NumbersCursor × Done)
+number_come_to f columns t c = and_then (shown_fetched f columns (row_on t c.on)) (λ d. Ok (c, d))
+
+abbrev pub come_to_number : Fetching → Content → NumbersCursor → Outcome (NumbersCursor × Done)
+come_to_number f tables c = and_then (well_formed f.columns) (λ columns. and_then (well_formed (slice_get tables c.table)) (λ t. number_come_to f columns t (next_number t c)))
+
+-- one that walks goes on to a row that is there, from where it stood on and before its mark, or to its end
+abbrev pub WalksTo : Table → WalkingCursor → Option ℕ → ℕ → Type 0
+WalksTo t c None next = next ≡ c.mark
+WalksTo t c (Some n) next = (is_there t n ≡ true) × (c.next ≤ n) × (n < c.mark) × (next ≡ n + 1)
+
+abbrev pub ComesOn : Fetching → Content → WalkingCursor → Done → WalkingCursor → Type 0
+ComesOn f tables c d e =
+    (e ≡ record c { next = e.next; on = e.on }) × WalksTo (table_at tables c.table) c e.on e.next
+    × (and_then (well_formed f.columns) (λ columns. shown_fetched f columns (row_on (table_at tables c.table) e.on)) ≡ Ok d)
+
+-- ---- of any cursor
+
+abbrev pub over_rows : Outcome (RowsCursor × Done) → Outcome (CursorState × Done)
+over_rows o = and_then o (λ come. Ok (cursor.Rows come.0, come.1))
+
+abbrev pub over_numbers : Outcome (NumbersCursor × Done) → Outcome (CursorState × Done)
+over_numbers o = and_then o (λ come. Ok (cursor.Numbers come.0, come.1))
+
+-- ---- while the statement runs
+
+-- a broken rule, or want of memory
+abbrev pub Refusal : Fault → Type 0
+Refusal (fault.Status f) = f ≡ failure.SyntaxErrorOrAccessRuleViolation
+Refusal fault.NoMemory = ⊤
+
+-- the cursor has come where it is to come, and the statement ends so, or with a status; want of memory is no outcome of a definition
+abbrev pub HasCome : {C : Type 0} → Result Done Fault → C → Outcome (C × Done) → Type 0
+HasCome (Ok d) now wanted = wanted ≡ Ok (now, d)
+HasCome (Err (fault.Status f)) now wanted = wanted ≡ Err (status_of f)
+HasCome (Err fault.NoMemory) now wanted = ⊤
+
+abbrev pub HasWalked : Fetching → Content → WalkingCursor → Result Done Fault → WalkingCursor → Type 0
+HasWalked f tables c (Ok d) now = (is_refused d.status ≡ false) × ComesOn f tables c d now
+HasWalked f tables c (Err e) now = Refusal e
+
+abbrev pub IsWalking : (WalkingCursor → Type 0) → CursorState → Type 0
+IsWalking P (cursor.Walking c) = P c
+IsWalking P _ = ⊥
+
+abbrev pub HasFetched : Fetching → List Value → Content → CursorState → Result Done Fault → CursorState → Type 0
+HasFetched f values tables cursor.Closed r now = r ≡ Err (fault.Status failure.InvalidCursorState)
+HasFetched f values tables (cursor.Rows c) r now = HasCome r now (over_rows (come_to_row f values c))
+HasFetched f values tables (cursor.Numbers c) r now = HasCome r now (over_numbers (come_to_number f tables c))
+HasFetched f values tables (cursor.Walking c) r now = IsWalking (HasWalked f tables c r) now

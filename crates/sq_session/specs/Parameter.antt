@@ -1,0 +1,10 @@
+-- The parameters of a call (ISO/IEC 9075:1992, 12.3).
+use Rattle.std.specs.Prelude.{List, map}
+use Rattle.std.specs.List.{zip}
+use Rattle.sq_value.specs.declared.value.Value.{Value}
+use Rattle.sq_bound.specs.declared.names.ParameterDesc.{ParameterDesc}
+use Rattle.sq_model.specs.Parameter.{started}
+
+-- the values at which they start: what is handed in, stored
+abbrev pub started_values : List ParameterDesc → List Value → List Value
+started_values parameters values = map (λ p. started p.0.domain p.1) (zip parameters values)
