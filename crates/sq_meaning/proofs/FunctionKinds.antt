@@ -1,9 +1,8 @@
 -- The set functions of well-formed expressions, conditions and clauses are well formed where those stand (ISO/IEC
 -- 9075:1992, 6.5).
-use Rattle.std.proofs.Common.{◌≡◌, List, [], ◌∷◌, ◌++◌, Option, Some, None, Ok, Err}
-use Rattle.std.specs.Prelude.{⊤, Bool}
+use Rattle.std.proofs.Common.{List, ◌++◌, Option, Some, None, Ok, Err}
+use Rattle.std.specs.Prelude.{Bool}
 use Rattle.std.specs.List.{AllByRecursion, flat_map}
-use Rattle.sq_value.specs.declared.domain.Kind.{Kind}
 use Rattle.sq_meaning.specs.Status.{Outcome, and_then}
 use Rattle.sq_meaning.specs.Syntax.{Naming, Expr, literal, parameter, user, column, count_rows, set_function, signed, added, scaled, bracketed, SelectList, all_columns, expressions, Cond, Conds, Clause, compare, compare_subquery, compare_quantified, between, in_subquery, in_list, like, is_null, exists, negated, conjunction, disjunction, no_cond, a_cond, absent, present}
 use Rattle.sq_meaning.specs.Expression.{Reading, set_functions}

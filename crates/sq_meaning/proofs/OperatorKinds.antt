@@ -1,8 +1,8 @@
 -- What an operator gives for operands of their kinds is of the operator's kind (ISO/IEC 9075:1992, 6.5 and 6.12), or ends
 -- with a status other than 42000.
-use Rattle.std.proofs.Common.{◌≡◌, ℕ, Bool, true, false, List, [], ◌∷◌, Option, Some, None, refl, sym, ap, subst, ◌∙◌, Ok, Err, arith}
+use Rattle.std.proofs.Common.{◌≡◌, ℕ, Bool, true, false, List, [], ◌∷◌, Some, refl, ap, subst, ◌∙◌, Ok, Err, arith}
 use Rattle.std.proofs.lemmas.List.{length-append, length-replicate, length-take}
-use Rattle.std.specs.Prelude.{ℤ, pos, ◌+◌, ◌-◌, ◌*ℤ◌, ◌+ℤ◌, ◌-ℤ◌, int_div, ⊤, min, max, nat_le, nat_lt, if◌then◌else◌, find, filter, filter_map, not, length, take, replicate, unwrap_or, unsigned_abs, ◌^◌, Result}
+use Rattle.std.specs.Prelude.{ℤ, pos, ◌+◌, ◌-◌, ◌*ℤ◌, ◌+ℤ◌, ◌-ℤ◌, int_div, min, max, nat_le, nat_lt, if◌then◌else◌, find, not, length, take, replicate, unwrap_or, unsigned_abs, ◌^◌}
 use Rattle.std.specs.Ordering.{int_eq}
 use Rattle.std.specs.List.{AllByRecursion}
 use Rattle.sq_value.specs.Arithmetic as number
@@ -10,11 +10,10 @@ use Rattle.sq_value.specs.Arithmetic.{in_range, at_scale}
 use Rattle.sq_value.specs.Comparison.{is_same}
 use Rattle.sq_value.specs.Domain.{IsOfKind}
 use Rattle.sq_value.specs.Number.{Number}
-use Rattle.sq_value.specs.SetFunctions.{number_in, numbers, sum_of as numbers_sum, mean_of, total, extreme, without_nulls, is_null, is_unsurpassed}
+use Rattle.sq_value.specs.SetFunctions.{numbers, sum_of as numbers_sum, mean_of, total, extreme, without_nulls, is_null, is_unsurpassed}
 use Rattle.sq_value.specs.Text.{of_length}
 use Rattle.sq_value.specs.declared.domain.Kind.{Kind}
 use Rattle.sq_value.specs.declared.domain.Kind.TheVariants as kind
-use Rattle.sq_value.specs.declared.fault.ArithmeticFault.{ArithmeticFault}
 use Rattle.sq_value.specs.declared.fault.ArithmeticFault.TheVariants as fault
 use Rattle.sq_value.specs.declared.set_functions.Extreme.{Extreme}
 use Rattle.sq_value.specs.declared.set_functions.Extreme.TheVariants.{Least, Greatest}

@@ -1,12 +1,11 @@
 -- A well-formed condition has a truth, and a well-formed query specification rows of its kinds, or there is none for another
 -- cause than 42000 (ISO/IEC 9075:1992, 7.9 and clause 8).
-use Rattle.std.proofs.Common.{◌≡◌, Bool, true, false, List, [], ◌∷◌, ◌++◌, map, Option, Some, None, refl, sym, subst, Ok, Err}
+use Rattle.std.proofs.Common.{◌≡◌, Bool, List, [], ◌∷◌, ◌++◌, Option, Some, None, sym, subst, Ok, Err}
 use Rattle.std.specs.Prelude.{⊤, if◌then◌else◌, Result}
 use Rattle.std.specs.List.{AllByRecursion}
 use Rattle.sq_value.specs.Pattern.{liked}
 use Rattle.sq_value.specs.SetFunctions.{is_null as is_null_value}
 use Rattle.sq_value.specs.Truth.{negation, known as known_truth, both, either}
-use Rattle.sq_value.specs.declared.domain.Kind.{Kind}
 use Rattle.sq_value.specs.declared.fault.LikeFault.{LikeFault}
 use Rattle.sq_value.specs.declared.fault.LikeFault.TheVariants as like_fault
 use Rattle.sq_value.specs.declared.truth.Truth.{Truth}
@@ -14,7 +13,6 @@ use Rattle.sq_value.specs.declared.truth.Truth.TheVariants.{False, Unknown, True
 use Rattle.sq_value.specs.declared.value.Value.{Value}
 use Rattle.sq_tree.specs.declared.cond.Comparison.{Comparison}
 use Rattle.sq_tree.specs.declared.cond.Comparison.TheVariants.{Equal, LessOrEqual, GreaterOrEqual}
-use Rattle.sq_tree.specs.declared.cond.Quantifier.{Quantifier}
 use Rattle.sq_tree.specs.declared.cond.Quantifier.TheVariants as quantifier
 use Rattle.sq_meaning.specs.Status.{Outcome, and_then, each, kept, with_status, like_status}
 use Rattle.sq_meaning.specs.Syntax.{Naming, Expr, SelectList, Cond, Conds, Clause, Select, compare, compare_subquery, compare_quantified, between, in_subquery, in_list, like, is_null, exists, negated, conjunction, disjunction, no_cond, a_cond, absent, present, select}
@@ -23,8 +21,8 @@ use Rattle.sq_meaning.specs.Expression.{Reading, value}
 use Rattle.sq_meaning.specs.Kind.{Kinds, list_kinds, select_kinds}
 use Rattle.sq_meaning.specs.Query.{compared, comparison, and_also, or_else, any_in_turn, only_value, compared_with_rows, has_rows, like_truth, list_functions, clause_functions, is_some_of, is_grouped, scopes_of, listed_values, is_true, truth, all_truth, any_truth, clause_truth, rows}
 use Rattle.sq_meaning.specs.Rows.{product, firsts, same_row}
-use Rattle.sq_meaning.specs.WellFormed.{Answers, Has, HasValue, IsRowOf, AreRowsOf, Level, froms, of_lines, shown_level, Agrees, WellFormedExpr, WellFormedPair, WellFormedText, WellFormedEscape, WellFormedTable, WellFormedList, WellFormedColumn, WellFormedCond, WellFormedConds, WellFormedClause, WellFormedSelect, IsLineOf, IsScopeOf, IsEnvOf}
-use Rattle.sq_meaning.proofs.AnswerLaws.{all_firsts_if, valued, there, weaker, then_answers, each_answers, kept_answers, each_valued}
+use Rattle.sq_meaning.specs.WellFormed.{Answers, Has, IsRowOf, AreRowsOf, Level, froms, of_lines, shown_level, Agrees, WellFormedExpr, WellFormedPair, WellFormedText, WellFormedEscape, WellFormedTable, WellFormedCond, WellFormedConds, WellFormedClause, WellFormedSelect, IsLineOf, IsScopeOf, IsEnvOf}
+use Rattle.sq_meaning.proofs.AnswerLaws.{all_firsts_if, valued, weaker, then_answers, each_answers, kept_answers, each_valued}
 use Rattle.sq_meaning.proofs.FunctionKinds.{functions_well_formed}
 use Rattle.sq_meaning.proofs.RowKinds.{each_known, AreTables, tables_answer, lines_of, within_scope, line_scope, value_answers, scopes_answer, listed_answer, list_valued}
 

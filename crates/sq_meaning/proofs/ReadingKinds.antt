@@ -1,7 +1,7 @@
 -- What is known of trees by place and by name is what their readings find: so the laws of kinds hold of either.
 use Rattle.std.proofs.Common.{◌≡◌, ℕ, zero, suc, Bool, true, false, List, [], ◌∷◌, map, Option, Some, None, refl, sym, ap, subst, ◌∙◌, cond, Ok, Err}
 use Rattle.std.specs.Prelude.{⊤, if◌then◌else◌, slice_get, find}
-use Rattle.std.specs.List.{AllByRecursion, AllZip}
+use Rattle.std.specs.List.{AllZip}
 use Rattle.std.specs.Option.{option_map}
 use Rattle.sq_lex.specs.declared.name.Name.{Name}
 use Rattle.sq_value.specs.Domain.{IsOfKind, kind_of}
@@ -9,20 +9,18 @@ use Rattle.sq_value.specs.declared.domain.Kind.{Kind}
 use Rattle.sq_value.specs.declared.value.Value.{Value}
 use Rattle.sq_value.specs.declared.value.Value.TheVariants.{Null}
 use Rattle.sq_store.specs.Content.{Content, table_at}
-use Rattle.sq_tree.specs.declared.names.ColumnReference.{ColumnReference}
 use Rattle.sq_tree.specs.declared.names.Parameter.{Parameter}
 use Rattle.sq_meaning.specs.Status.{Outcome, and_then, each, well_formed}
-use Rattle.sq_meaning.specs.Syntax.{Select, Query}
-use Rattle.sq_meaning.specs.Environment.{Row, Input, Env, Place, TableName, TableReference, same_name, same_table, is_below_zero, with_indicator, input_named, input_value, fitting, nearest, place_of, Scope, outermost}
-use Rattle.sq_meaning.specs.Expression.{Reading}
-use Rattle.sq_meaning.specs.Kind.{Kinds, select_kinds, query_kinds}
+use Rattle.sq_meaning.specs.Syntax.{Query}
+use Rattle.sq_meaning.specs.Environment.{Row, Input, Place, TableName, TableReference, same_name, same_table, is_below_zero, with_indicator, input_named, input_value, fitting, nearest, place_of, Scope, outermost}
+use Rattle.sq_meaning.specs.Kind.{select_kinds, query_kinds}
 use Rattle.sq_meaning.specs.Placed.{Placed, PlacedParameter, input_at, placed_value, by_place}
 use Rattle.sq_meaning.specs.Query.{rows}
 use Rattle.sq_meaning.specs.QueryExpression.{ordered_rows}
 use Rattle.sq_meaning.specs.Rows.{SortColumn}
 use Rattle.sq_meaning.specs.Spelled.{Named}
-use Rattle.sq_meaning.specs.Tables.{Tables, TableBody, TableDescriptor, base_table, viewed_table, Declared, descriptor_of, column_kinds, item_of, kind_at, kinds_by_name, reading_by_name, rows_in, table_rows, by_name}
-use Rattle.sq_meaning.specs.WellFormed.{Answers, Has, HasValue, Fits, AreRowsOf, Level, froms, HasRowsOf, kind_there, Agrees, WellFormedSelect, WellFormedQuery, IsEnvOf, kinds_by_place, IsThere, IsDeclaredAt, AreInputsOf}
+use Rattle.sq_meaning.specs.Tables.{Tables, TableBody, base_table, viewed_table, Declared, descriptor_of, column_kinds, item_of, kind_at, kinds_by_name, reading_by_name, rows_in, table_rows, by_name}
+use Rattle.sq_meaning.specs.WellFormed.{Answers, Has, Fits, AreRowsOf, Level, froms, HasRowsOf, kind_there, Agrees, WellFormedQuery, IsEnvOf, kinds_by_place, IsThere, IsDeclaredAt, AreInputsOf}
 use Rattle.sq_meaning.specs.Database.{IsBodyOf, IsDatabaseOf, kind_named, IndicatorIsDeclared, IsDeclaredIn, AreInputsAs}
 use Rattle.sq_meaning.proofs.AnswerLaws.{there, weaker, fits_any, then_answers}
 use Rattle.sq_meaning.proofs.OutcomeLaws.{each_value, then_then}

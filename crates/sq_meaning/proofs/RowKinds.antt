@@ -1,12 +1,11 @@
 -- The phases of a well-formed query specification (ISO/IEC 9075:1992, 7.4 to 7.9): lines, groups and shown rows are of the
 -- kinds of their tables and expressions.
-use Rattle.std.proofs.Common.{◌≡◌, ℕ, Bool, true, false, List, [], ◌∷◌, ◌++◌, map, refl, sym, ap, subst, ◌∙◌, cond, Ok, Err}
+use Rattle.std.proofs.Common.{◌≡◌, Bool, true, false, List, [], ◌∷◌, ◌++◌, map, refl, ap, ◌∙◌, Ok, Err}
 use Rattle.std.specs.Prelude.{⊤, IsTrue, IsFalse, if◌then◌else◌, not, ◌||◌, ◌&&◌, filter}
 use Rattle.std.specs.List.{AllByRecursion, AllZip, flat_map}
 use Rattle.sq_value.specs.Comparison.{is_same}
 use Rattle.sq_value.specs.Domain.{IsOfKind}
 use Rattle.sq_value.specs.declared.domain.Kind.{Kind}
-use Rattle.sq_value.specs.declared.value.Value.{Value}
 use Rattle.sq_value.specs.laws.ValueOrder.{same_equiv}
 use Rattle.sq_meaning.specs.Status.{Outcome, and_then, each}
 use Rattle.sq_meaning.specs.Syntax.{Naming, Expr, column, SelectList, all_columns, expressions}
@@ -15,8 +14,8 @@ use Rattle.sq_meaning.specs.Expression.{Reading, value}
 use Rattle.sq_meaning.specs.Kind.{Kinds, kind, list_kinds}
 use Rattle.sq_meaning.specs.Query.{is_some_of, first_line, group_scope, grouping_values, grouped, groups_by, group_scopes, listed_values}
 use Rattle.sq_meaning.specs.Rows.{product, same_row, firsts, classes}
-use Rattle.sq_meaning.specs.WellFormed.{Answers, Has, HasValue, Fits, IsRowOf, AreRowsOf, Level, froms, of_lines, Agrees, OnlyIf, WellFormedExpr, WellFormedExprs, WellFormedColumn, WellFormedTable, WellFormedList, IsLineOf, IsScopeOf, AreItemsOf, IsEnvOf}
-use Rattle.sq_meaning.proofs.AnswerLaws.{all_true, all_weaker, all_mapped, all_flat_mapped, all_filtered, all_firsts, fits_there, fits_any, weaker, then_answers, each_answers, each_fits, each_valued}
+use Rattle.sq_meaning.specs.WellFormed.{Answers, Has, HasValue, IsRowOf, AreRowsOf, Level, froms, of_lines, Agrees, OnlyIf, WellFormedExpr, WellFormedExprs, WellFormedColumn, WellFormedTable, WellFormedList, IsLineOf, IsScopeOf, AreItemsOf, IsEnvOf}
+use Rattle.sq_meaning.proofs.AnswerLaws.{all_weaker, all_mapped, all_flat_mapped, all_filtered, all_firsts, fits_there, fits_any, weaker, then_answers, each_answers, each_fits, each_valued}
 use Rattle.sq_meaning.proofs.ValueKinds.{value_fits}
 
 -- ---- classes have elements

@@ -1,9 +1,9 @@
 -- The rows of a well-formed query expression are of its kinds, also in the order of ORDER BY, or there are none for another
 -- cause than 42000 (ISO/IEC 9075:1992, 7.10 and 13.1).
-use Rattle.std.proofs.Common.{◌≡◌, ℕ, Bool, true, false, List, [], ◌∷◌, ◌++◌, refl, sym, ap, subst, ◌∙◌, Ok, Err, arith}
+use Rattle.std.proofs.Common.{◌≡◌, ℕ, Bool, true, false, List, [], ◌∷◌, ◌++◌, ap, subst, ◌∙◌, Ok, Err, arith}
 use Rattle.std.proofs.lemmas.List.{length-append, length-replicate}
 use Rattle.std.specs.Prelude.{⊤, ◌+◌, ◌-◌, ◌≤◌, max, length, replicate, if◌then◌else◌}
-use Rattle.std.specs.List.{AllByRecursion, AllZip, zip}
+use Rattle.std.specs.List.{AllByRecursion}
 use Rattle.sq_value.specs.Arithmetic.{at_scale}
 use Rattle.sq_value.specs.Comparison.{padded}
 use Rattle.sq_value.specs.Domain.{IsOfKind}
@@ -19,7 +19,7 @@ use Rattle.sq_meaning.specs.Kind.{Kinds, common_kind, common_kinds, query_kinds}
 use Rattle.sq_meaning.specs.QueryExpression.{brought_to, row_brought_to, query_rows, ordered_rows}
 use Rattle.sq_meaning.specs.Rows.{firsts, same_row, sorted, SortColumn, by_columns}
 use Rattle.sq_meaning.specs.WellFormed.{Answers, Has, HasValue, IsRowOf, AreRowsOf, Agrees, WellFormedQuery, IsEnvOf}
-use Rattle.sq_meaning.proofs.AnswerLaws.{all_weaker, all_appended, all_firsts, all_sorted, known, then_answers, each_answers}
+use Rattle.sq_meaning.proofs.AnswerLaws.{all_weaker, all_appended, all_firsts, all_sorted, then_answers, each_answers}
 use Rattle.sq_meaning.proofs.OperatorKinds.{number_of_scale}
 use Rattle.sq_meaning.proofs.QueryKinds.{rows_of_kinds}
 

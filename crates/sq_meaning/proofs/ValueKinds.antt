@@ -1,18 +1,17 @@
 -- The value of a well-formed expression is of the expression's kind, or there is none for another cause than 42000 (ISO/IEC
 -- 9075:1992, 6.11 to 6.13).
-use Rattle.std.proofs.Common.{◌≡◌, ℕ, zero, suc, Bool, true, false, List, [], ◌∷◌, map, Option, Some, None, refl, sym, ap, subst, ◌∙◌, Ok, Err}
-use Rattle.std.specs.Prelude.{⊤, IsTrue, slice_get, pos, length}
+use Rattle.std.proofs.Common.{◌≡◌, ℕ, zero, suc, Bool, true, false, List, [], ◌∷◌, sym, ap, subst, ◌∙◌, Ok, Err}
+use Rattle.std.specs.Prelude.{IsTrue, slice_get, pos, length}
 use Rattle.std.specs.List.{AllByRecursion, AllZip}
 use Rattle.std.specs.Option.{option_and_then}
 use Rattle.sq_value.specs.Domain.{IsOfKind}
 use Rattle.sq_value.specs.declared.domain.Kind.{Kind}
-use Rattle.sq_value.specs.declared.value.Value.{Value}
 use Rattle.sq_meaning.specs.Status.{Outcome, and_then, each, well_formed}
 use Rattle.sq_meaning.specs.Syntax.{Naming, Expr, literal, parameter, user, column, count_rows, set_function, signed, added, scaled, bracketed}
-use Rattle.sq_meaning.specs.Environment.{Row, Line, Input, Scope, Env, Place, within, alone, items_in, value_at}
+use Rattle.sq_meaning.specs.Environment.{Row, Line, Input, Scope, Env, within, alone, items_in, value_at}
 use Rattle.sq_meaning.specs.Expression.{Reading, value, over_group, with_sign, sum_of, product_of, function_value, distinct_values}
 use Rattle.sq_meaning.specs.Kind.{Kinds, kind, signed_kind, sum_kind, product_kind, function_kind}
-use Rattle.sq_meaning.specs.WellFormed.{Answers, Has, HasValue, Fits, IsRowOf, Level, froms, HasLine, of_lines, inside_function, kind_there, Agrees, MayStand, WellFormedExpr, OnlyIf, IsInQuery, IsLineOf, HasRowsOf, IsEnvOf}
+use Rattle.sq_meaning.specs.WellFormed.{Answers, Has, Fits, IsRowOf, Level, froms, HasLine, of_lines, inside_function, kind_there, Agrees, MayStand, OnlyIf, IsInQuery, IsLineOf, HasRowsOf, IsEnvOf}
 use Rattle.sq_meaning.proofs.AnswerLaws.{known, then_fits, each_answers}
 use Rattle.sq_meaning.proofs.OperatorKinds.{number_of_scale, literal_fits, sum_fits, product_fits, sign_fits, function_fits, length_fixed}
 

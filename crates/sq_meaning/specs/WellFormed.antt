@@ -5,7 +5,6 @@ use Rattle.std.specs.List.{AllByRecursion, AllZip}
 use Rattle.sq_value.specs.Domain.{IsOfKind}
 use Rattle.sq_value.specs.declared.domain.Kind.{Kind}
 use Rattle.sq_value.specs.declared.domain.Kind.TheVariants.{Num, Chars, Vary}
-use Rattle.sq_value.specs.declared.value.Value.{Value}
 use Rattle.sq_meaning.specs.Status.{Outcome, ◌>>=◌, each, well_formed}
 use Rattle.sq_meaning.specs.declared.status.Status.{Status}
 use Rattle.sq_meaning.specs.declared.status.Status.TheVariants.{SyntaxErrorOrAccessRuleViolation}
@@ -14,7 +13,7 @@ use Rattle.sq_meaning.specs.Environment.{Row, Line, Scope, Env, Input, Place, it
 use Rattle.sq_meaning.specs.Placed.{Placed, PlacedParameter}
 use Rattle.sq_meaning.specs.Expression.{Reading}
 use Rattle.sq_meaning.specs.Query.{is_grouped, is_some_of}
-use Rattle.sq_meaning.specs.Kind.{Kinds, kind, list_kinds, select_kinds, common_kinds, query_kinds}
+use Rattle.sq_meaning.specs.Kind.{Kinds, kind, select_kinds, query_kinds}
 
 -- ---- outcomes
 
