@@ -1,6 +1,6 @@
 //! The spellings of the reserved words.
 
-ghost use Rattle.std.specs.Prelude.{ℕ, List, ◌∷◌, ◌≡◌, map};
+ghost use Rattle.std.specs.Prelude.{◌≡◌, map};
 ghost use Rattle.sq_lex.specs.Reserved as spec;
 
 use crate::word::Word;
@@ -100,46 +100,12 @@ static RESERVED: [(&[u8], Word); 91] = [
     (b"WORK", Word::Work),
 ];
 
-/// The reserved words among which those with this first letter are.
-#[tactic(auto, unfolding(crate::specs::Reserved::reserved))]
-fn beginning_with(letter: u8) -> &'static [(&'static [u8], Word)]
-    ensures { (rest : List ℕ) → spec.lookup (map (λ entry. (entry.0.now, entry.1)) result.now) (letter ∷ rest) ≡ spec.reserved (letter ∷ rest) }
-{
-    match letter {
-        b'A' => &RESERVED[0..8],
-        b'B' => &RESERVED[8..10],
-        b'C' => &RESERVED[10..19],
-        b'D' => &RESERVED[19..26],
-        b'E' => &RESERVED[26..28],
-        b'F' => &RESERVED[28..33],
-        b'G' => &RESERVED[33..35],
-        b'H' => &RESERVED[35..36],
-        b'I' => &RESERVED[36..44],
-        b'K' => &RESERVED[44..45],
-        b'L' => &RESERVED[45..48],
-        b'M' => &RESERVED[48..51],
-        b'N' => &RESERVED[51..55],
-        b'O' => &RESERVED[55..61],
-        b'P' => &RESERVED[61..66],
-        b'R' => &RESERVED[66..69],
-        b'S' => &RESERVED[69..78],
-        b'T' => &RESERVED[78..80],
-        b'U' => &RESERVED[80..84],
-        b'V' => &RESERVED[84..88],
-        b'W' => &RESERVED[88..91],
-        _ => &RESERVED,
-    }
-}
-
 /// The reserved word with this spelling in upper case, if there is one.
 #[tactic(auto, unfolding(crate::specs::Reserved::reserved))]
 pub fn reserved(spelling: &[u8]) -> Option<Word>
     ensures { result ≡ spec.reserved spelling.now }
 {
-    match spelling {
-        [letter, ..] => lookup(beginning_with(*letter), spelling),
-        [] => None,
-    }
+    lookup(&RESERVED, spelling)
 }
 
 /// The word with this spelling among these.
