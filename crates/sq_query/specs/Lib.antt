@@ -1,3 +1,4 @@
+pub mod Comparison
 pub mod Fault
 pub mod Arithmetic
 pub mod Frame
