@@ -2,3 +2,5 @@ pub mod Comparison
 pub mod Fault
 pub mod Arithmetic
 pub mod Frame
+pub mod Index
+pub mod SetFunction
