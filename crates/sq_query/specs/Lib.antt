@@ -4,3 +4,4 @@ pub mod Arithmetic
 pub mod Frame
 pub mod Index
 pub mod SetFunction
+pub mod Members
