@@ -1,3 +1,5 @@
 pub mod Firsts
 pub mod Membership
+pub mod StableSort
+pub mod Sorting
 pub mod Walk

@@ -5,3 +5,4 @@ pub mod Frame
 pub mod Index
 pub mod SetFunction
 pub mod Members
+pub mod Order
