@@ -1,3 +1,7 @@
+pub mod Firsts
+pub mod Membership
+pub mod StableSort
+pub mod Sorting
 pub mod Walk
 pub mod Frames
 pub mod Expressions

@@ -1,5 +1,7 @@
 -- What a statement ends with that has no answer (ISO/IEC 9075:1992, 22.1).
-use Rattle.std.specs.Prelude.{◌≡◌, Result, Ok, Err, ⊤}
+use Rattle.std.specs.Prelude.{◌≡◌, List, Result, Ok, Err, Vec, ⊤}
+use Rattle.std.specs.declared.alloc.Global.{Global}
+use Rattle.sq_value.specs.declared.value.Value.{Value}
 use Rattle.sq_value.specs.declared.fault.ArithmeticFault.{ArithmeticFault}
 use Rattle.sq_value.specs.declared.fault.ArithmeticFault.TheVariants as arithmetic
 use Rattle.sq_value.specs.declared.fault.LikeFault.{LikeFault}
@@ -53,3 +55,23 @@ abbrev pub Meets : {A : Type 0} → Result A Fault → Outcome A → Type 0
 Meets (Ok a) outcome = outcome ≡ Ok a
 Meets (Err (fault.Status f)) outcome = outcome ≡ Err (status_of f)
 Meets (Err fault.NoMemory) outcome = ⊤
+
+-- the same of an answer that contracts see by what it holds
+abbrev pub MeetsAs : {A B : Type 0} → (A → B) → Result A Fault → Outcome B → Type 0
+MeetsAs view (Ok a) outcome = outcome ≡ Ok (view a)
+MeetsAs view (Err (fault.Status f)) outcome = outcome ≡ Err (status_of f)
+MeetsAs view (Err fault.NoMemory) outcome = ⊤
+
+abbrev pub rows_in : Vec (List Value) Global → List (List Value)
+rows_in rows = rows.items
+
+-- rows that are the outcome
+abbrev pub HasRows : Result (Vec (List Value) Global) Fault → Outcome (List (List Value)) → Type 0
+HasRows = MeetsAs rows_in
+
+abbrev pub values_in : Vec Value Global → List Value
+values_in values = values.items
+
+-- values that are the outcome
+abbrev pub HasValues : Result (Vec Value Global) Fault → Outcome (List Value) → Type 0
+HasValues = MeetsAs values_in
