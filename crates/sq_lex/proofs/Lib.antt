@@ -4,5 +4,6 @@ mod Quoted
 mod ReadingLemmas
 mod Rows
 mod Runs
+pub mod Spelled
 pub mod SymbolLemmas
 pub mod WordLemmas

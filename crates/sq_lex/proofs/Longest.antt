@@ -2,6 +2,7 @@
 use Rattle.std.proofs.Common.{◌≡◌, ℕ, zero, suc, ◌+◌, ◌-◌, ◌<◌, ◌≤◌, ◌==◌, ◌&&◌, ◌||◌, Bool, true, false, cond, List, [], ◌∷◌, ◌++◌, length, take, drop, map, refl, sym, ap, subst, ◌∙◌, arith, inl, inr, ◌⊎◌, Option, Some, None}
 use Rattle.std.proofs.Math.Seq.{take-add}
 use Rattle.std.proofs.lemmas.Bool.{cond_both, and_parts, eqb-true, ltb-false}
+use Rattle.std.proofs.lemmas.Bool.Decides.{nat_tests}
 use Rattle.std.proofs.lemmas.List.{append-nil, length-take-le}
 use Rattle.std.proofs.lemmas.List.Folds.{length-prefix_len}
 use Rattle.std.specs.Prelude.{slice_index, nat_lt}
@@ -11,7 +12,9 @@ use Rattle.sq_lex.specs.Characters.{line_feed, point, quote, has, is_white}
 use Rattle.sq_lex.specs.Literal.{literal}
 use Rattle.sq_lex.specs.Piece.{begins_comment, comment, word, number, text, symbol as symbol_piece, first_piece, begins_number, digits, fraction_size, lexeme_of_word, longest_symbol, piece_of_literal}
 use Rattle.sq_lex.specs.Reserved.{reserved}
-use Rattle.sq_lex.specs.Spelling.{IsWordSpelling, IsNumberSpelling, IsTextSpelling, IsSpelling, IsLongest, IsSpelled, doubled, symbol_codes}
+use Rattle.sq_lex.specs.Name.{IsWordSpelling}
+use Rattle.sq_lex.specs.Number.{IsNumberSpelling}
+use Rattle.sq_lex.specs.Spelling.{IsTextSpelling, IsSpelling, IsLongest, IsSpelled, doubled, symbol_codes}
 use Rattle.sq_lex.specs.Symbol.{symbol_of_one, symbol_of_two}
 use Rattle.sq_lex.specs.declared.characters.Class.TheVariants as class
 use Rattle.sq_lex.specs.declared.fault.LexFaultKind.TheVariants as fault
@@ -88,6 +91,10 @@ word_spelled bytes l few = record {
   each = run_passes (has class.Word) bytes;
   short = omega (arith, length-prefix_len (has class.Word) bytes, ltb-false 18 (word_size bytes) few);
 }
+
+-- the run of a word that is short enough is a spelling
+pub word_taken : (bytes : List ℕ) (size : ℕ) → is_ascii_alphabetic (head bytes) ≡ true → size ≡ word_size bytes → size ≤ 18 → IsWordSpelling (take size bytes)
+word_taken bytes size l e few = subst (λ n. IsWordSpelling (take n bytes)) (sym e) (word_spelled bytes l (grind (arith, nat_tests)))
 
 word_longest : (bytes : List ℕ) → is_ascii_alphabetic (head bytes) ≡ true → (n : ℕ) (m : Lexeme) → word_size bytes < n → n ≤ length bytes → IsSpelling (take n bytes) m → ⊥
 word_longest bytes l n m long within =
@@ -174,6 +181,15 @@ number_spelled bytes h few false e =
       some = omega (arith, w, size, some);
       few = omega (arith, w, size, bound);
     }
+
+-- the digits, the point and the digits of a number that is short enough are a spelling
+pub number_taken : (bytes : List ℕ) (whole fraction places : ℕ) → begins_number bytes ≡ true → whole ≡ digits bytes → fraction ≡ fraction_size (drop whole bytes) → places ≡ fraction - 1 → whole + places ≤ 18
+    → IsNumberSpelling (take (whole + fraction) bytes)
+number_taken bytes whole fraction places h w f p few =
+    let same : fraction ≡ fraction_size (rest_of bytes) = f ∙ ap (λ n. fraction_size (drop n bytes)) w in
+    let short : digits bytes + (fraction_size (rest_of bytes) - 1) ≤ 18 = omega (arith, w, same, p, few) in
+    let spelled = number_spelled bytes h (grind (arith, nat_tests)) (head (rest_of bytes) == point) refl in
+    subst (λ n. IsNumberSpelling (take n bytes)) (sym ((λ i. w i + same i))) spelled
 
 number_within : (bytes : List ℕ) (n : ℕ) → n ≤ length bytes → (w f : List ℕ) → (take n bytes ≡ w ++ point ∷ f) ⊎ ((take n bytes ≡ w) × (f ≡ [])) → list_all (has class.Digit) w ≡ true → list_all (has class.Digit) f ≡ true
     → n ≤ digits bytes + fraction_size (rest_of bytes)

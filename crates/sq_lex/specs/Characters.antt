@@ -1,5 +1,5 @@
 -- Kinds of characters (ISO/IEC 9075:1992, 5.1 <SQL terminal character>, here the bytes 32 to 126 with tab, LF and CR).
-use Rattle.std.specs.Prelude.{ℕ, Bool, ◌&&◌, ◌||◌, ◌==◌, nat_le}
+use Rattle.std.specs.Prelude.{ℕ, ◌≤◌, Bool, ◌&&◌, ◌||◌, ◌==◌, nat_le}
 use Rattle.std.specs.Char.{is_ascii_digit, is_ascii_alphabetic}
 use Rattle.sq_lex.specs.declared.characters.Class.{Class}
 use Rattle.sq_lex.specs.declared.characters.Class.TheVariants as class
@@ -44,6 +44,9 @@ is_line_end b = b == carriage_return || b == line_feed
 -- what may stand in a text literal
 abbrev pub is_printable : ℕ → Bool
 is_printable b = nat_le blank b && nat_le b tilde
+
+abbrev pub IsPrintable : ℕ → Type 0
+IsPrintable b = (blank ≤ b) × (b ≤ tilde)
 
 -- a word goes on with letters, digits and `_`; a comment may also have tabs and CR
 abbrev pub has : Class → ℕ → Bool

@@ -3,6 +3,8 @@ use Rattle.std.specs.Prelude.{ℕ, ◌≡◌, ◌+◌, ◌<◌, ◌≤◌, ◌�
 use Rattle.std.specs.Char.{is_ascii_alphabetic, to_ascii_uppercase}
 use Rattle.std.specs.List.{list_all}
 use Rattle.sq_lex.specs.Characters.{line_feed, point, quote, has, is_printable, is_white}
+use Rattle.sq_lex.specs.Name.{IsWordSpelling}
+use Rattle.sq_lex.specs.Number.{IsNumberSpelling}
 use Rattle.sq_lex.specs.Piece.{begins_comment}
 use Rattle.sq_lex.specs.Reserved.{reserved}
 use Rattle.sq_lex.specs.declared.characters.Class.TheVariants as class
@@ -12,22 +14,6 @@ use Rattle.sq_lex.specs.declared.piece.Piece.{Piece}
 use Rattle.sq_lex.specs.declared.piece.Piece.TheVariants as piece
 use Rattle.sq_lex.specs.declared.symbol.Symbol.{Symbol}
 use Rattle.sq_lex.specs.declared.symbol.Symbol.TheVariants as symbol
-
--- a letter, then letters, digits and `_`; at most 18 (own rule)
-pub record IsWordSpelling (bytes : List ℕ) : Type 0 where
-  pub letter : is_ascii_alphabetic (slice_index bytes 0) ≡ true
-  pub each : list_all (has class.Word) bytes ≡ true
-  pub short : length bytes ≤ 18
-
--- digits with at most one point among, before or after them; from 1 to 18 digits (own rule)
-pub record IsNumberSpelling (bytes : List ℕ) : Type 0 where
-  pub whole : List ℕ
-  pub fraction : List ℕ
-  pub spelled : (bytes ≡ whole ++ point ∷ fraction) ⊎ ((bytes ≡ whole) × (fraction ≡ []))
-  pub whole_digits : list_all (has class.Digit) whole ≡ true
-  pub fraction_digits : list_all (has class.Digit) fraction ≡ true
-  pub some : 0 < length whole + length fraction
-  pub few : length whole + length fraction ≤ 18
 
 -- characters with each quote doubled
 abbrev pub doubled : List ℕ → List ℕ

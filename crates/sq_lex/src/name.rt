@@ -1,18 +1,22 @@
 //! Names, in place.
 
 ghost use Rattle.std.specs.Prelude.{◌≡◌, ◌≤◌, length, Some, refl, nat_eq};
+ghost use Rattle.std.specs.List.{All};
 ghost use Rattle.std.specs.Ordering.{nat_cmp};
 ghost use Rattle.std.specs.Cmp.{on_equiv, on_total, on_po, on_per, partial_equiv_from_equiv};
 ghost use Rattle.std.specs.Cmp.Lexicographic.{pointwise, slice_cmp, nat_list_eq_equiv, nat_list_cmp_total, texts_po, texts_ties};
 ghost use Rattle.std.specs.Cmp.Rules.{hashing};
 ghost use Rattle.std.specs.Hash as fed;
 ghost use Rattle.std.proofs.Common.{rules};
+ghost use Rattle.sq_lex.specs.Characters.{IsPrintable};
+ghost use Rattle.sq_lex.specs.Name.{IsWordSpelling};
 
 use std::cmp::Ordering;
 use std::hash::{Hash, Hasher};
 use std::marker::Model;
 
-/// An identifier, folded to upper case: up to 18 codes, in place. Contracts see it as the list of its codes.
+/// An identifier, folded to upper case: a letter, then letters, digits and `_`, up to 18 of them, in place. Contracts see it as
+/// the list of its codes.
 #[derive(Clone, Copy, Debug)]
 pub struct Name {
     codes: [u8; 18],
@@ -42,7 +46,7 @@ impl Model for Name {
 impl Name {
     /// The name with these codes.
     pub fn new(codes: &[u8]) -> Name
-        requires { length codes.now ≤ 18 }
+        requires { IsWordSpelling codes.now }
         ensures { result ≡ codes.now }
     {
         let mut padded = [0; 18];
@@ -53,10 +57,12 @@ impl Name {
         }
     }
 
-    /// Lends the codes.
+    /// Lends the codes, which are printable characters.
     pub fn codes(&self) -> &[u8]
         ensures value { result.now ≡ self.now }
         ensures short { length self.now ≤ 18 }
+        ensures spelled { IsWordSpelling self.now }
+        ensures printable { All IsPrintable self.now }
     {
         &self.codes[..self.len as usize]
     }

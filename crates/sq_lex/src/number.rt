@@ -3,10 +3,11 @@
 ghost use Rattle.std.specs.Prelude.{◌≡◌, ◌≤◌, length, nat_eq};
 ghost use Rattle.std.specs.Cmp.{partial_equiv_from_equiv};
 ghost use Rattle.std.specs.Cmp.Lexicographic.{pointwise, nat_list_eq_equiv};
+ghost use Rattle.sq_lex.specs.Number.{IsNumberSpelling};
 
 use std::marker::Model;
 
-/// A number as it is spelled: up to 18 digits and a point, in place. Contracts see it as the list of its codes.
+/// A number as it is spelled: from 1 to 18 digits and at most one point, in place. Contracts see it as the list of its codes.
 #[derive(Clone, Copy, Debug)]
 pub struct Number {
     codes: [u8; 19],
@@ -36,7 +37,7 @@ impl Model for Number {
 impl Number {
     /// The number with this spelling.
     pub fn new(codes: &[u8]) -> Number
-        requires { length codes.now ≤ 19 }
+        requires { IsNumberSpelling codes.now }
         ensures { result ≡ codes.now }
     {
         let mut padded = [0; 19];
@@ -51,6 +52,7 @@ impl Number {
     pub fn codes(&self) -> &[u8]
         ensures value { result.now ≡ self.now }
         ensures short { length self.now ≤ 19 }
+        ensures spelled { IsNumberSpelling self.now }
     {
         &self.codes[..self.len as usize]
     }

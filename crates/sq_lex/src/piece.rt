@@ -3,6 +3,7 @@
 ghost use Rattle.std.specs.Prelude.{◌≡◌, ◌≢◌, ◌<◌, ◌≤◌, ◌^◌, true, length, map, slice_index, IfOk};
 ghost use Rattle.std.specs.Char.{is_ascii_alphabetic, to_ascii_uppercase};
 ghost use Rattle.sq_lex.specs.declared.literal.Literal.TheVariants.{Closed};
+ghost use Rattle.sq_lex.specs.Name.{IsWordSpelling};
 ghost use Rattle.sq_lex.specs.Piece as spec;
 ghost use Rattle.sq_lex.specs.Spelling.{IsSpelled};
 
@@ -88,7 +89,7 @@ fn comment(bytes: &[u8]) -> Piece
 
 /// A name, folded to upper case.
 fn folded(bytes: &[u8]) -> Name
-    requires { length bytes.now ≤ 18 }
+    requires { IsWordSpelling bytes.now }
     ensures { result ≡ map to_ascii_uppercase bytes.now }
 {
     let mut codes = [0; 18];

@@ -1,0 +1,5 @@
+use Rattle.sq_lex.proofs.Spelled.{name_in_place}
+use Rattle.sq_lex.proofs.name.Name.new.Goals as goal
+
+pub invariant_of-result : goal.invariant_of-result
+invariant_of-result c = name_in_place _ _ c.copy_from_slice.ensures.after c.requires
