@@ -180,7 +180,7 @@ fn is_same(left: &Lexeme, right: &Lexeme) -> bool {
         (Lexeme::Name(left), Lexeme::Name(right)) => left == right,
         (Lexeme::Number(left), Lexeme::Number(right)) => left == right,
         (Lexeme::Text(left), Lexeme::Text(right)) => {
-            left.get().as_slice() == right.get().as_slice()
+            left.get().codes() == right.get().codes()
         }
         (Lexeme::Symbol(left), Lexeme::Symbol(right)) => left == right,
         _ => false,

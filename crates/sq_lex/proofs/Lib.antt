@@ -1,6 +1,6 @@
 pub mod LiteralLemmas
 pub mod Longest
-mod Quoted
+pub mod Quoted
 mod ReadingLemmas
 mod Rows
 mod Runs

@@ -10,7 +10,7 @@ use sq_bound::{
     SetFunctionCall,
 };
 use sq_items::{Boxed, Items};
-use sq_lex::{Name, Number};
+use sq_lex::{Characters, Name, Number};
 use sq_tree::{
     ColumnReference, Expr, Factor, Indicator, Parameter, Primary, SetFunction, SetQuantifier, Sign,
     Term, TimesSign,
@@ -111,7 +111,7 @@ fn bind_primary(
 ) -> ExprResult {
     match primary {
         Primary::Number(number) => number_literal(*number),
-        Primary::Text(characters) => text_literal(environment.alloc, characters.as_slice()),
+        Primary::Text(characters) => text_literal(environment.alloc, characters),
         Primary::Parameter(parameter) => parameter_value(
             environment.parameters.as_slice(),
             *parameter,
@@ -138,14 +138,14 @@ fn plain(expr: BoundExpr, kind: Kind) -> Found<Typed> {
 }
 
 fn number_literal(number: Number) -> ExprResult {
-    let value = number_value(number)?;
+    let value = number_value(number);
     let kind = Kind::Num(value.scale());
     Ok(plain(BoundExpr::Literal(Value::Num(value)), kind))
 }
 
-fn text_literal(alloc: Global, characters: &[u8]) -> ExprResult {
+fn text_literal(alloc: Global, characters: &Characters) -> ExprResult {
     let value = text_value(alloc, characters)?;
-    let kind = Kind::Chars(characters.len() as u16);
+    let kind = Kind::Chars(characters.codes().len() as u16);
     Ok(plain(BoundExpr::Literal(value), kind))
 }
 
