@@ -246,7 +246,7 @@ fn numbered_column(count: usize, number: Number) -> Result<usize, BindFault> {
     if !is_whole(number) {
         return Err(BindFault::BadSortKey);
     }
-    let position = number_value(number)?.unscaled();
+    let position = number_value(number).unscaled();
     if position < 1 || position as u64 > count as u64 {
         return Err(BindFault::BadSortKey);
     }

@@ -322,5 +322,5 @@ fn whole_distance(signed: &SignedNumber) -> Result<Distance, BindFault> {
     if !is_whole(signed.number) {
         return Err(BindFault::BadOrientation);
     }
-    Ok(Distance::Number(signed_value(*signed)?.unscaled()))
+    Ok(Distance::Number(signed_value(*signed).unscaled()))
 }

@@ -6,10 +6,11 @@ use crate::run::Run;
 use sq_bound::BindFault;
 use sq_items::Items;
 use sq_lex::Name;
+use sq_scope::{signed_value, text_value};
 use sq_session::Session;
 use sq_store::Store;
-use sq_tree::{Argument, Arguments, ScriptItem, Sign, SignedNumber};
-use sq_value::{Decimal, Text, Value};
+use sq_tree::{Argument, Arguments, ScriptItem};
+use sq_value::Value;
 use std::alloc::{AllocError, Global};
 
 /// What a session says of a call, which its line of the report does not.
@@ -82,22 +83,12 @@ fn values_of(alloc: Global, arguments: &Arguments) -> Result<Items<Value>, Alloc
     Ok(values)
 }
 
-/// The value of an argument; null for what spells no value.
+/// The value of an argument.
 fn value_of(alloc: Global, argument: &Argument) -> Result<Value, AllocError> {
     match argument {
-        Argument::Number(number) => Ok(number_of(number)),
-        Argument::Text(characters) if Text::is_text(characters.as_slice()) => {
-            Ok(Value::Chars(Text::new(alloc, characters.as_slice())?))
-        }
-        Argument::Text(_) | Argument::Null => Ok(Value::Null),
-    }
-}
-
-fn number_of(literal: &SignedNumber) -> Value {
-    match (Decimal::read(literal.number.codes()), literal.sign) {
-        (Ok(number), Some(Sign::Minus)) => Value::Num(number.neg()),
-        (Ok(number), _) => Value::Num(number),
-        (Err(_), _) => Value::Null,
+        Argument::Number(number) => Ok(Value::Num(signed_value(*number))),
+        Argument::Text(characters) => text_value(alloc, characters),
+        Argument::Null => Ok(Value::Null),
     }
 }
 

@@ -179,9 +179,7 @@ fn is_same(left: &Lexeme, right: &Lexeme) -> bool {
         (Lexeme::Word(left), Lexeme::Word(right)) => left.is(*right),
         (Lexeme::Name(left), Lexeme::Name(right)) => left == right,
         (Lexeme::Number(left), Lexeme::Number(right)) => left == right,
-        (Lexeme::Text(left), Lexeme::Text(right)) => {
-            left.get().as_slice() == right.get().as_slice()
-        }
+        (Lexeme::Text(left), Lexeme::Text(right)) => { left.get().codes() == right.get().codes() }
         (Lexeme::Symbol(left), Lexeme::Symbol(right)) => left == right,
         _ => false,
     }

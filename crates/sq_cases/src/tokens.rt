@@ -36,7 +36,7 @@ fn push_lexeme(out: &mut String, lexeme: &Lexeme) -> Result<(), AllocError> {
         Lexeme::Symbol(symbol) => write!(out, "{symbol:?}"),
         Lexeme::Name(name) => push_codes(out, "name", name.codes()),
         Lexeme::Number(number) => push_codes(out, "number", number.codes()),
-        Lexeme::Text(text) => push_codes(out, "text", text.get().as_slice()),
+        Lexeme::Text(text) => push_codes(out, "text", text.get().codes()),
     }
 }
 

@@ -4,54 +4,72 @@ ghost use Rattle.std.specs.Prelude.{◌≡◌, false, OnOk};
 
 use sq_bound::BindFault;
 use std::alloc::AllocError;
+use std::error;
+use std::fmt;
 use thiserror::Error;
 
 /// What is wrong with a schema definition or one of its elements. The least that holds is answered.
-#[derive(Clone, Copy, Debug, PartialEq, Eq, Error)]
+#[derive(Clone, Copy, Debug, PartialEq, Eq)]
 pub enum RefusalName {
     /// A user's second schema, a table or view name of the schema that is used, or a column name twice in one table or view.
-    #[error("NameTwice")]
     NameTwice,
     /// A table or column that a key, reference or grant names is not there.
-    #[error("UnknownName")]
     UnknownName,
     /// A precision, scale or length that is no whole number written without a point, or out of range.
-    #[error("BadType")]
     BadType,
     /// A key column is not declared NOT NULL.
-    #[error("NullableKey")]
     NullableKey,
     /// Two primary keys in a table, a column twice in a key or reference list, or more than 6 columns in one.
-    #[error("BadKey")]
     BadKey,
     /// A reference to a view or to columns that are no key; counts or kinds differ; no list and no primary key.
-    #[error("BadReference")]
     BadReference,
     /// A CHECK condition with a fault.
-    #[error("BadCheck")]
     BadCheck,
     /// A default of another kind, one that can't be stored, or USER in a text shorter than 18.
-    #[error("BadDefault")]
     BadDefault,
     /// A view whose query has a fault, whose column list has another count, or with a column without a name.
-    #[error("BadView")]
     BadView,
     /// A check option on a view that is not updatable.
-    #[error("BadCheckOption")]
     BadCheckOption,
     /// SELECT for a view, REFERENCES for a reference, or the grant option for a grant is missing.
-    #[error("PrivilegeMissing")]
     PrivilegeMissing,
     /// More than 64 columns in a table.
-    #[error("TooManyColumns")]
     TooManyColumns,
     /// A table or view under another user's name, or a column twice in a grant's list.
-    #[error("OtherSchema")]
     OtherSchema,
     /// More than 1000 tables and views.
-    #[error("TooManyTables")]
     TooManyTables,
 }
+
+impl RefusalName {
+    /// The name as it is printed.
+    fn text(self) -> &'static str {
+        match self {
+            RefusalName::NameTwice => "NameTwice",
+            RefusalName::UnknownName => "UnknownName",
+            RefusalName::BadType => "BadType",
+            RefusalName::NullableKey => "NullableKey",
+            RefusalName::BadKey => "BadKey",
+            RefusalName::BadReference => "BadReference",
+            RefusalName::BadCheck => "BadCheck",
+            RefusalName::BadDefault => "BadDefault",
+            RefusalName::BadView => "BadView",
+            RefusalName::BadCheckOption => "BadCheckOption",
+            RefusalName::PrivilegeMissing => "PrivilegeMissing",
+            RefusalName::TooManyColumns => "TooManyColumns",
+            RefusalName::OtherSchema => "OtherSchema",
+            RefusalName::TooManyTables => "TooManyTables",
+        }
+    }
+}
+
+impl fmt::Display for RefusalName {
+    fn fmt<W: fmt::Write>(&self, f: &mut fmt::Formatter<W>) -> fmt::Result {
+        f.write_str(self.text())
+    }
+}
+
+impl error::Error for RefusalName {}
 
 /// Why an element is not defined.
 #[derive(Clone, Copy, Debug, PartialEq, Eq)]

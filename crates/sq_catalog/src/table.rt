@@ -253,15 +253,11 @@ fn default_of(
     match written {
         None | Some(DefaultValue::Null) => Ok(ColumnDefault::Value(Value::Null)),
         Some(DefaultValue::User) => user_default(domain),
-        Some(DefaultValue::Number(signed)) => match signed_value(*signed) {
-            Ok(number) => stored_default(alloc, Value::Num(number), domain),
-            Err(_) => bad_default(),
-        },
+        Some(DefaultValue::Number(signed)) => {
+            stored_default(alloc, Value::Num(signed_value(*signed)), domain)
+        }
         Some(DefaultValue::Text(characters)) => {
-            match text_value(alloc, characters.as_slice()) {
-                Ok(value) => stored_default(alloc, value, domain),
-                Err(fault) => Err(refused_as(fault, RefusalName::BadDefault)),
-            }
+            stored_default(alloc, text_value(alloc, characters)?, domain)
         }
     }
 }

@@ -1,7 +1,7 @@
 pub mod LiteralLemmas
 pub mod Longest
 mod Places
-mod Quoted
+pub mod Quoted
 mod ReadingLemmas
 mod Rows
 mod Runs

@@ -1,10 +1,13 @@
 -- A literal that is read has its characters with each quote doubled, and nothing longer is one.
-use Rattle.std.proofs.Common.{◌≡◌, ℕ, zero, suc, ◌+◌, ◌≤◌, ◌==◌, ◌&&◌, Bool, true, false, cond, List, [], ◌∷◌, ◌++◌, length, take, drop, refl, sym, ap, ◌∙◌, arith}
+use Rattle.std.proofs.Common.{◌≡◌, ℕ, zero, suc, ◌+◌, ◌≤◌, ◌==◌, ◌&&◌, Bool, true, false, cond, List, [], ◌∷◌, ◌++◌, length, take, drop, refl, sym, ap, subst, ◌∙◌, arith}
 use Rattle.std.proofs.lemmas.Bool.{cond_both, eqb-true}
+use Rattle.std.proofs.lemmas.Bool.Decides.{nat_tests}
+use Rattle.std.proofs.lemmas.List.Elements.{All-take}
+use Rattle.std.proofs.lemmas.List.Sums.{AllPass-from_list_all}
 use Rattle.std.specs.Prelude.{slice_index}
-use Rattle.std.specs.List.{list_all}
-use Rattle.sq_lex.specs.Characters.{quote, is_line_end, is_printable}
-use Rattle.sq_lex.specs.Literal.{literal, after_quote, with_character}
+use Rattle.std.specs.List.{All, list_all}
+use Rattle.sq_lex.specs.Characters.{IsPrintable, quote, is_line_end, is_printable}
+use Rattle.sq_lex.specs.Literal.{literal, after_quote, kept, with_character}
 use Rattle.sq_lex.specs.Spelling.{doubled}
 use Rattle.sq_lex.specs.declared.literal.Literal.{Literal}
 use Rattle.sq_lex.specs.declared.literal.Literal.TheVariants.{Closed, Open, BadByte}
@@ -128,3 +131,21 @@ said (b ∷ c ∷ more) =
     cond_both (b == quote) (after_quote (c ∷ more)) (cond (is_line_end b) Open (cond (is_printable b) (with_character b 1 (literal (c ∷ more))) (BadByte 0))) (Says (b ∷ c ∷ more))
     (λ q. cond_both (c == quote) (with_character quote 2 (literal more)) (Closed [] 1) (Says (b ∷ c ∷ more)) (λ r. two_said b c more q r (literal more) (said more)) (λ nr. closed b (c ∷ more) q nr))
     (λ nq. plain_said b (c ∷ more) nq (said (c ∷ more)))
+
+-- ---- the characters that are kept print
+
+printed : (c : ℕ) → is_printable c ≡ true → IsPrintable c
+printed c h = (grind (arith, nat_tests), grind (arith, nat_tests))
+
+abbrev characters_of : Literal → List ℕ
+characters_of (Closed cs size) = cs
+characters_of Open = []
+characters_of (BadByte at) = []
+
+kept_print_of : (bytes : List ℕ) (l : Literal) → Says bytes l → All IsPrintable (characters_of (kept l))
+kept_print_of bytes (Closed cs size) read = All-take IsPrintable 241 cs (λ k d within. printed _ (AllPass-from_list_all is_printable cs read.each k d within))
+kept_print_of bytes Open read = λ k d within. absurd (omega (arith, within))
+kept_print_of bytes (BadByte at) read = λ k d within. absurd (omega (arith, within))
+
+pub kept_print : (bytes characters : List ℕ) (size : ℕ) → Closed characters size ≡ kept (literal bytes) → All IsPrintable characters
+kept_print bytes characters size e = subst (All IsPrintable) (sym (ap characters_of e)) (kept_print_of bytes (literal bytes) (said bytes))

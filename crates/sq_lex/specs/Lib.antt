@@ -8,6 +8,7 @@ pub mod Reading
 pub mod Reserved
 pub mod Spelling
 pub mod Symbol
+pub mod Text
 pub mod Token
 pub mod Word
 pub mod Row

@@ -3,8 +3,9 @@
 use crate::name::Name;
 use crate::number::Number;
 use crate::symbol::Symbol;
+use crate::text::Characters;
 use crate::word::Word;
-use sq_items::{Boxed, Items};
+use sq_items::Boxed;
 
 /// A lexeme: what a token says, without where it stands.
 #[derive(Debug, Drop)]
@@ -16,7 +17,7 @@ pub enum Lexeme {
     /// An unsigned number as it is spelled.
     Number(Number),
     /// The characters of a text literal, each doubled quote once.
-    Text(Boxed<Items<u8>>),
+    Text(Boxed<Characters>),
     /// A symbol.
     Symbol(Symbol),
 }

@@ -12,6 +12,7 @@ mod position;
 mod reading;
 mod reserved;
 mod symbol;
+mod text;
 mod token;
 mod word;
 
@@ -22,5 +23,6 @@ pub use number::Number;
 pub use position::Position;
 pub use reading::lex;
 pub use symbol::Symbol;
+pub use text::Characters;
 pub use token::Token;
 pub use word::Word;

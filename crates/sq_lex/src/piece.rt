@@ -2,6 +2,8 @@
 
 ghost use Rattle.std.specs.Prelude.{◌≡◌, ◌≢◌, ◌<◌, ◌≤◌, ◌^◌, true, length, map, slice_index, IfOk};
 ghost use Rattle.std.specs.Char.{is_ascii_alphabetic, to_ascii_uppercase};
+ghost use Rattle.std.specs.List.{All};
+ghost use Rattle.sq_lex.specs.Characters.{IsPrintable};
 ghost use Rattle.sq_lex.specs.declared.literal.Literal.TheVariants.{Closed};
 ghost use Rattle.sq_lex.specs.Name.{IsWordSpelling};
 ghost use Rattle.sq_lex.specs.Piece as spec;
@@ -15,6 +17,7 @@ use crate::name::Name;
 use crate::number::Number;
 use crate::reserved::reserved;
 use crate::symbol::Symbol;
+use crate::text::Characters;
 use sq_items::{Boxed, Items};
 use std::alloc::{AllocError, Global};
 
@@ -169,7 +172,8 @@ fn number(bytes: &[u8]) -> Piece
 
 /// The token of a literal of these characters, which takes `size` bytes behind its opening quote.
 fn closed(alloc: Global, characters: Items<u8>, size: usize) -> Result<Piece, AllocError>
-    requires { size < 2 ^ 63 }
+    requires size { size < 2 ^ 63 }
+    requires printable { All IsPrintable characters }
     ensures { IfOk result (λ piece. piece ≡ spec.piece_of_literal (Closed characters size)) }
 {
     if characters.len() > 240 {
@@ -178,6 +182,7 @@ fn closed(alloc: Global, characters: Items<u8>, size: usize) -> Result<Piece, Al
             kind: LexFaultKind::LongText,
         });
     }
+    let characters = Characters::from_items(characters);
     Ok(Piece::Token {
         size: 1 + size,
         lexeme: Lexeme::Text(Boxed::new(alloc, characters)?),

@@ -143,7 +143,7 @@ impl<F: Fn(Global, &mut Reader<'_>, usize) -> Result<Expr, Stop>> Grammar<F> {
             }
             Some(Lexeme::Text(characters)) => {
                 tokens.skip();
-                let characters = Items::from_slice(self.alloc, characters.get().as_slice())?;
+                let characters = characters.get().copy(self.alloc)?;
                 Ok(Primary::Text(characters))
             }
             Some(Lexeme::Name(name)) => {

@@ -8,8 +8,7 @@ ghost use Rattle.sq_reader.specs.Reads.{Reads};
 ghost use Rattle.sq_lex.specs.Token.{lexemes};
 
 use crate::stop::Stop;
-use sq_items::Items;
-use sq_lex::{Lexeme, Name, Number, Symbol, Token, Word};
+use sq_lex::{Characters, Lexeme, Name, Number, Symbol, Token, Word};
 use std::alloc::Global;
 use std::marker::Model;
 
@@ -219,7 +218,7 @@ impl<'a> Reader<'a> {
 
     /// Takes a text literal if one comes next, and copies its characters.
     #[tactic(auto, unfolding(sq_grammar::specs::Reading::one_if_any))]
-    pub fn text_if_any(&mut self, alloc: Global) -> Result<Option<Items<u8>>, Stop>
+    pub fn text_if_any(&mut self, alloc: Global) -> Result<Option<Characters>, Stop>
         ensures value { Reads (spec.one_if_any spec.text_of self.old) result self.new }
         ensures shorter { IfOk result (λ found. OnSome found (length self.new < length self.old)) }
         ensures no_longer { OnOk result (length self.new ≤ length self.old) }
@@ -230,7 +229,7 @@ impl<'a> Reader<'a> {
         match &token.lexeme {
             Lexeme::Text(characters) => {
                 self.tokens = rest;
-                Ok(Some(Items::from_slice(alloc, characters.get().as_slice())?))
+                Ok(Some(characters.get().copy(alloc)?))
             }
             _ => Ok(None),
         }

@@ -12,10 +12,11 @@ use crate::action::{Action, CallAction, ShowAction};
 use crate::refusal::RefusalName;
 use sq_items::Items;
 use sq_lex::Name;
+use sq_scope::{number_value, text_value};
 use sq_session::Session;
 use sq_store::Store;
 use sq_tree::{Argument, Arguments, CommaList, ScriptItem, Sign, SignedNumber};
-use sq_value::{Decimal, Text, Value};
+use sq_value::{Decimal, Value};
 use std::alloc::{AllocError, Global};
 
 /// Why an item is not taken.
@@ -123,32 +124,18 @@ fn value_of(alloc: Global, argument: &Argument) -> Result<Value, ItemFault>
 {
     match argument {
         Argument::Null => Ok(Value::Null),
-        Argument::Number(number) => Ok(Value::Num(number_of(number)?)),
-        Argument::Text(characters) => Ok(Value::Chars(text_of(alloc, characters.as_slice())?)),
+        Argument::Number(number) => Ok(Value::Num(number_of(number))),
+        Argument::Text(characters) => Ok(text_value(alloc, characters)?),
     }
 }
 
-/// The number of a numeric literal. One that spells no number fits no parameter; the lexer reads none.
-fn number_of(literal: &SignedNumber) -> Result<Decimal, ItemFault>
-    ensures value { IfOk result (λ number. number ≡ signed_number literal.now) }
-    ensures of_meaning { IfErr result IsItemFault }
+/// The number of a numeric literal.
+fn number_of(literal: &SignedNumber) -> Decimal
+    ensures { result ≡ signed_number literal.now }
 {
-    let Ok(number) = Decimal::read(literal.number.codes()) else {
-        return Err(ItemFault::Refused(RefusalName::BadArguments));
-    };
-    Ok(match literal.sign {
+    let number = number_value(literal.number);
+    match literal.sign {
         Some(Sign::Minus) => number.neg(),
         Some(Sign::Plus) | None => number,
-    })
-}
-
-/// The text of a literal. One that is none of the language's fits no parameter; the lexer reads none.
-fn text_of(alloc: Global, characters: &[u8]) -> Result<Text, ItemFault>
-    ensures value { IfOk result (λ text. text ≡ characters.now) }
-    ensures of_meaning { IfErr result IsItemFault }
-{
-    if !Text::is_text(characters) {
-        return Err(ItemFault::Refused(RefusalName::BadArguments));
     }
-    Ok(Text::new(alloc, characters)?)
 }

@@ -10,7 +10,7 @@ use sq_bound::{
     SetFunctionCall,
 };
 use sq_items::{Boxed, Items};
-use sq_lex::{Name, Number};
+use sq_lex::{Characters, Name, Number};
 use sq_tree::{
     ColumnReference, Expr, Factor, Indicator, Parameter, Primary, SetFunction, SetQuantifier, Sign,
     Term, TimesSign,
@@ -136,7 +136,7 @@ fn primary_value(
 ) -> TypedResult {
     match primary {
         Primary::Number(number) => number_literal(*number),
-        Primary::Text(characters) => text_literal(environment.alloc, characters.as_slice()),
+        Primary::Text(characters) => text_literal(environment.alloc, characters),
         Primary::Parameter(parameter) => parameter_value(
             environment.parameters.as_slice(),
             *parameter,
@@ -157,7 +157,7 @@ fn primary_value(
 }
 
 fn number_literal(number: Number) -> TypedResult {
-    let value = number_value(number)?;
+    let value = number_value(number);
     let kind = Kind::Num(value.scale());
     Ok(Typed {
         expr: BoundExpr::Literal(Value::Num(value)),
@@ -165,9 +165,9 @@ fn number_literal(number: Number) -> TypedResult {
     })
 }
 
-fn text_literal(alloc: Global, characters: &[u8]) -> TypedResult {
+fn text_literal(alloc: Global, characters: &Characters) -> TypedResult {
     let value = text_value(alloc, characters)?;
-    let kind = Kind::Chars(characters.len() as u16);
+    let kind = Kind::Chars(characters.codes().len() as u16);
     Ok(Typed {
         expr: BoundExpr::Literal(value),
         kind,

@@ -1,38 +1,36 @@
 //! Literals as values.
 
-ghost use Rattle.std.specs.Prelude.{OnOk, length, ◌≤◌};
+ghost use Rattle.std.specs.Prelude.{◌≡◌, IfOk, Ok};
+ghost use Rattle.sq_value.specs.Spelling.{read};
+ghost use Rattle.sq_value.specs.declared.value.Value.TheVariants as value;
 
-use sq_bound::BindFault;
-use sq_lex::Number;
+use sq_lex::{Characters, Number};
 use sq_tree::{Sign, SignedNumber};
 use sq_value::{Decimal, Text, Value};
-use std::alloc::Global;
+use std::alloc::{AllocError, Global};
 
-/// The number of an unsigned numeric literal (ISO/IEC 9075:1992, 5.3).
-pub fn number_value(number: Number) -> Result<Decimal, BindFault> {
-    match Decimal::read(number.codes()) {
-        Ok(value) => Ok(value),
-        Err(_) => Err(BindFault::BadLiteral),
-    }
+/// The number of an unsigned numeric literal (ISO/IEC 9075:1992, 5.3). Each spelling is that of a number.
+#[tactic(auto, using(crate::proofs::Literals::number_is_read))]
+pub fn number_value(number: Number) -> Decimal
+    ensures { read number ≡ Ok result }
+{
+    Decimal::read(number.codes()).unwrap()
 }
 
 /// The number of a numeric literal with or without a sign.
-pub fn signed_value(signed: SignedNumber) -> Result<Decimal, BindFault> {
-    let value = number_value(signed.number)?;
+pub fn signed_value(signed: SignedNumber) -> Decimal {
+    let value = number_value(signed.number);
     match signed.sign {
-        Some(Sign::Minus) => Ok(value.neg()),
-        _ => Ok(value),
+        Some(Sign::Minus) => value.neg(),
+        _ => value,
     }
 }
 
 /// The value of a text literal.
-pub fn text_value(alloc: Global, characters: &[u8]) -> Result<Value, BindFault>
-    ensures { OnOk result (length characters.now ≤ 240) }
+pub fn text_value(alloc: Global, characters: &Characters) -> Result<Value, AllocError>
+    ensures { IfOk result (λ v. v ≡ value.Chars characters.now) }
 {
-    if !Text::is_text(characters) {
-        return Err(BindFault::BadLiteral);
-    }
-    Ok(Value::Chars(Text::new(alloc, characters)?))
+    Ok(Value::Chars(Text::new(alloc, characters.codes())?))
 }
 
 /// Whether a number is written without a point.

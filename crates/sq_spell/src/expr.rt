@@ -136,7 +136,7 @@ impl Tree for Primary {
     fn walk<S: Sink>(&self, sink: &mut S) -> Result<(), S::Stop> {
         match self {
             Primary::Number(number) => sink.number(*number),
-            Primary::Text(characters) => sink.text(characters.as_slice()),
+            Primary::Text(characters) => sink.text(characters),
             Primary::Parameter(parameter) => parameter.walk(sink),
             Primary::User => sink.word(Word::User),
             Primary::Column(column) => column.walk(sink),

@@ -123,7 +123,7 @@ impl Tree for DefaultValue {
         sink.word(Word::Default)?;
         match self {
             DefaultValue::Number(number) => number.walk(sink),
-            DefaultValue::Text(characters) => sink.text(characters.as_slice()),
+            DefaultValue::Text(characters) => sink.text(characters),
             DefaultValue::User => sink.word(Word::User),
             DefaultValue::Null => sink.word(Word::Null),
         }

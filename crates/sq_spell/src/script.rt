@@ -68,7 +68,7 @@ impl Tree for Argument {
     fn walk<S: Sink>(&self, sink: &mut S) -> Result<(), S::Stop> {
         match self {
             Argument::Number(number) => number.walk(sink),
-            Argument::Text(characters) => sink.text(characters.as_slice()),
+            Argument::Text(characters) => sink.text(characters),
             Argument::Null => sink.symbol(Symbol::Star),
         }
     }

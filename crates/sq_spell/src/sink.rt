@@ -4,7 +4,7 @@ ghost use Rattle.std.specs.Prelude.{◌≡◌, ◌∷◌, [], fold, map, OnOk};
 ghost use Rattle.sq_lex.specs.declared.lexeme.Lexeme.TheVariants as lexeme;
 ghost use Rattle.sq_tree.specs.Tree.{if_written};
 
-use sq_lex::{Lexeme, Name, Number, Symbol, Word};
+use sq_lex::{Characters, Lexeme, Name, Number, Symbol, Word};
 
 /// Takes tokens, one behind the other.
 pub trait Sink {
@@ -21,7 +21,7 @@ pub trait Sink {
         ensures { OnOk result (self.new ≡ after self.old token) };
 
     /// Takes a text literal with these characters.
-    fn text(&mut self, characters: &[u8]) -> Result<(), Self::Stop>
+    fn text(&mut self, characters: &Characters) -> Result<(), Self::Stop>
         ensures { OnOk result (self.new ≡ after self.old (lexeme.Text characters.now)) };
 
     /// Takes a reserved word.

@@ -2,7 +2,7 @@
 
 use crate::sink::Sink;
 use sq_items::{Boxed, Items};
-use sq_lex::{Lexeme, Symbol};
+use sq_lex::{Characters, Lexeme, Symbol};
 use std::alloc::{AllocError, Global};
 use std::convert::Infallible;
 
@@ -24,8 +24,8 @@ impl Sink for Writer {
         self.lexemes.push(token)
     }
 
-    fn text(&mut self, characters: &[u8]) -> Result<(), AllocError> {
-        let text = Items::from_slice(self.alloc, characters)?;
+    fn text(&mut self, characters: &Characters) -> Result<(), AllocError> {
+        let text = characters.copy(self.alloc)?;
         self.lexemes
             .push(Lexeme::Text(Boxed::new(self.alloc, text)?))
     }
@@ -49,7 +49,7 @@ impl Sink for Counter {
         Ok(())
     }
 
-    fn text(&mut self, _characters: &[u8]) -> Result<(), Infallible> {
+    fn text(&mut self, _characters: &Characters) -> Result<(), Infallible> {
         self.tokens = self.tokens.saturating_add(1);
         Ok(())
     }
@@ -79,7 +79,7 @@ impl Sink for Depth {
         Ok(())
     }
 
-    fn text(&mut self, _characters: &[u8]) -> Result<(), Infallible> {
+    fn text(&mut self, _characters: &Characters) -> Result<(), Infallible> {
         self.most = self.most.max(self.now);
         Ok(())
     }

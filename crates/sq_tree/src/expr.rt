@@ -2,7 +2,7 @@
 
 use crate::names::{ColumnReference, Parameter};
 use sq_items::{Boxed, Items};
-use sq_lex::Number;
+use sq_lex::{Characters, Number};
 
 /// `+` or `-`.
 #[derive(Clone, Copy, Debug, PartialEq, Eq)]
@@ -88,7 +88,7 @@ pub struct Factor {
 pub enum Primary {
     Number(Number),
     /// The characters of a text literal.
-    Text(Items<u8>),
+    Text(Characters),
     Parameter(Parameter),
     User,
     Column(ColumnReference),

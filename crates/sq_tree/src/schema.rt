@@ -6,7 +6,7 @@ use crate::expr::SignedNumber;
 use crate::list::CommaList;
 use crate::names::TableName;
 use sq_items::Items;
-use sq_lex::Name;
+use sq_lex::{Characters, Name};
 
 /// A schema text: one schema definition or more.
 #[derive(Drop)]
@@ -80,7 +80,7 @@ pub struct ColumnDefinition {
 pub enum DefaultValue {
     Number(SignedNumber),
     /// The characters of a text literal.
-    Text(Items<u8>),
+    Text(Characters),
     User,
     Null,
 }

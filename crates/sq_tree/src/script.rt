@@ -3,7 +3,7 @@
 use crate::expr::SignedNumber;
 use crate::list::CommaList;
 use sq_items::Items;
-use sq_lex::Name;
+use sq_lex::{Characters, Name};
 
 /// A script text: items, each with a semicolon behind it.
 #[derive(Drop)]
@@ -43,7 +43,7 @@ pub enum Arguments {
 pub enum Argument {
     Number(SignedNumber),
     /// The characters of a text literal.
-    Text(Items<u8>),
+    Text(Characters),
     /// `*`: null.
     Null,
 }
