@@ -12,7 +12,7 @@ returns-in-Some-Number-clause-value g c =
 
 pub returns-in_ok-characters-in-Some-Text-clause-value : goal.returns-in_ok-characters-in-Some-Text-clause-value
 returns-in_ok-characters-in-Some-Text-clause-value g c =
-    let same : c.in_ok-characters-in-Some-Text.characters ≡ c.in-Some-Text.characters = c.in_ok-characters-in-Some-Text.ensures ∙ c.as_slice.ensures ∙ c.get.ensures in
+    let same : c.in_ok-characters-in-Some-Text.characters ≡ c.in-Some-Text.characters = c.in_ok-characters-in-Some-Text.ensures ∙ c.get.ensures in
     at_text c.args.self.now.left (inside c.args.self.now.left) c.args.tokens.now c.in-Some-Text.characters (sym c.in-Some-Text.ensures ∙ ap Some c.in-Some-Text.field-0-is)
     ∙ (λ i. Ok (primary.Text (sym same i), sym c.skip-in-Some-Text.ensures i))
 
