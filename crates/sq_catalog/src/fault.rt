@@ -4,8 +4,7 @@ ghost use Rattle.std.specs.Prelude.{◌≡◌, false, OnOk};
 
 use sq_bound::BindFault;
 use std::alloc::AllocError;
-use std::error;
-use std::fmt;
+use std::{error, fmt};
 use thiserror::Error;
 
 /// What is wrong with a schema definition or one of its elements. The least that holds is answered.

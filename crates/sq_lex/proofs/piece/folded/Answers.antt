@@ -10,5 +10,5 @@ new-requires c =
     let bytes = c.args.bytes.now in
     let size : length bytes ≡ c.loop-at.at = omega (arith, c.loop-at-test.false, c.loop-at.auto.at-end) in
     let all : take (length bytes) c.loop-at.codes ≡ map to_ascii_uppercase bytes =
-        ap (λ n. take n c.loop-at.codes) size ∙ c.loop-at.invariant.folded ∙ ap (map to_ascii_uppercase) (take_all c.loop-at.at bytes c.loop-at-test.false) in
+    ap (λ n. take n c.loop-at.codes) size ∙ c.loop-at.invariant.folded ∙ ap (map to_ascii_uppercase) (take_all c.loop-at.at bytes c.loop-at-test.false) in
     subst IsWordSpelling (sym all) (word_folded bytes c.requires)
