@@ -7,6 +7,10 @@ For each workload it prints processor seconds, the program's greatest memory, an
 can be said in it. The program's time includes reading the texts and writing the report; sqlite3 runs in this process over
 prepared statements, with the tables made before the clock starts. What can't be said in it: modules and grants, and a text as
 long as the longest here.
+
+A second time of sqlite3 is that of the same statements written out as one text, with their values in it, which it parses one
+after the other in one transaction, as the program reads its script. That is given for inserts and changes; rows can't be
+fetched by such a text.
 """
 import argparse
 import os
@@ -16,6 +20,7 @@ import sys
 import tempfile
 import time
 from pathlib import Path
+from typing import Callable, NamedTuple, Optional
 
 ROOT = Path(__file__).resolve().parent.parent
 SCHEMA = "CREATE SCHEMA AUTHORIZATION U\n"
@@ -23,6 +28,16 @@ MODULE = "MODULE M LANGUAGE C AUTHORIZATION U\n"
 KEYED = SCHEMA + "CREATE TABLE T (K INTEGER NOT NULL PRIMARY KEY, A INTEGER CHECK (A >= 0), C CHAR(5))\n"
 NUMBERS = SCHEMA + "CREATE TABLE D (D INTEGER)\nCREATE TABLE T (N INTEGER, A INTEGER)\n"
 INSERT = "PROCEDURE INS (SQLCODE, :K INTEGER, :A INTEGER); INSERT INTO T VALUES (:K, :A, 'ABC');\n"
+
+
+class Workload(NamedTuple):
+    schema: str
+    modules: list
+    script: str
+    # The same work on a database of sqlite3.
+    lite: Optional[Callable] = None
+    # The same statements as a text for sqlite3.
+    lite_text: Optional[str] = None
 
 
 def calls(count, call):
@@ -37,35 +52,46 @@ def insert_in_lite(db, count=100_000):
     db.executemany("INSERT INTO T VALUES (?, ?, 'ABC')", ((i, i % 97) for i in range(count)))
 
 
+def inserts_as_text(count):
+    return calls(count, lambda i: f"INSERT INTO T VALUES ({i}, {i % 97}, 'ABC')")
+
+
 # ---- statements on rows
 
 
-def keyed(statement="", run="", lite=None):
-    """100,000 inserts, and then a run of the procedures of a text; sqlite3 does what `lite` says after its inserts."""
+def keyed(statement="", run="", lite=lambda db: None, lite_text=None):
+    """100,000 inserts, and then a run of the procedures of a text; sqlite3 does what `lite` or `lite_text` says after its inserts."""
     def work(db):
         insert_in_lite(db)
         lite(db)
-    return lambda: (KEYED, MODULE + INSERT + statement, inserts(100_000) + run, work if lite else None)
+
+    def workload():
+        text = None if lite_text is None else inserts_as_text(100_000) + lite_text
+        return Workload(KEYED, [MODULE + INSERT + statement], inserts(100_000) + run, work, text)
+    return workload
 
 
-keyed_inserts = keyed(lite=lambda db: None)
+keyed_inserts = keyed(lite_text="")
 
 keyed_updates = keyed(
     "PROCEDURE UPD (SQLCODE, :K INTEGER, :A INTEGER); UPDATE T SET A = :A WHERE K = :K;\n",
     calls(100_000, lambda i: f"CALL M.UPD ({i}, 5)"),
-    lambda db: db.executemany("UPDATE T SET A = ? WHERE K = ?", ((5, i) for i in range(100_000))))
+    lambda db: db.executemany("UPDATE T SET A = ? WHERE K = ?", ((5, i) for i in range(100_000))),
+    calls(100_000, lambda i: f"UPDATE T SET A = 5 WHERE K = {i}"))
 
 keyed_deletes = keyed(
     "PROCEDURE DEL (SQLCODE, :K INTEGER); DELETE FROM T WHERE K = :K;\n",
     calls(100_000, lambda i: f"CALL M.DEL ({i})"),
-    lambda db: db.executemany("DELETE FROM T WHERE K = ?", ((i,) for i in range(100_000))))
+    lambda db: db.executemany("DELETE FROM T WHERE K = ?", ((i,) for i in range(100_000))),
+    calls(100_000, lambda i: f"DELETE FROM T WHERE K = {i}"))
 
 moved_keys = keyed(
     "PROCEDURE SHK (SQLCODE); UPDATE T SET K = K - 1;\n",
     "CALL M.SHK;\n",
-    lambda db: db.execute("UPDATE T SET K = K - 1"))
+    lambda db: db.execute("UPDATE T SET K = K - 1"),
+    "UPDATE T SET K = K - 1;\n")
 
-rollback = keyed("PROCEDURE RBK (SQLCODE); ROLLBACK;\n", "CALL M.RBK;\n", lambda db: db.rollback())
+rollback = keyed("PROCEDURE RBK (SQLCODE); ROLLBACK;\n", "CALL M.RBK;\n", lambda db: db.rollback(), "ROLLBACK;\n")
 
 
 # ---- cursors
@@ -106,7 +132,7 @@ def many_cursors():
         for _ in range(1000):
             for cursor in cursors:
                 cursor.fetchone()
-    return KEYED, [MODULE + INSERT, *modules], script, lite
+    return Workload(KEYED, [MODULE + INSERT, *modules], script, lite)
 
 
 # ---- queries over a table T (N, A) of the numbers from 0 on, which a procedure makes from a table of digits
@@ -130,7 +156,7 @@ def queried(query, power, rows=None):
         db.execute(fill)
         for _row in db.execute(query):
             pass
-    return lambda: (NUMBERS, module, script, lite)
+    return lambda: Workload(NUMBERS, [module], script, lite)
 
 
 def join_of(count):
@@ -151,12 +177,13 @@ def large_catalog():
     schema += "CREATE VIEW V0 AS SELECT A FROM T0\n" + "".join(f"CREATE VIEW V{i} AS SELECT A FROM V{i - 1}\n" for i in range(1, 100))
     schema += "".join(f"GRANT SELECT ON T{i % 900} TO W{i}\n" for i in range(10_000))
     module = MODULE + "".join(f"PROCEDURE P{i} (SQLCODE); INSERT INTO T{i % 900} VALUES ({i});\n" for i in range(10_000))
-    return schema, module, calls(10_000, lambda i: f"CALL M.P{9_999 - i}"), None
+    return Workload(schema, [module], calls(10_000, lambda i: f"CALL M.P{9_999 - i}"))
 
 
 def large_module():
     tests = " AND ".join(["A = B + 1 * (C - 1)"] * 900_000)
-    return SCHEMA + "CREATE TABLE T (A INTEGER, B INTEGER, C INTEGER)\n", MODULE + f"PROCEDURE P (SQLCODE); DELETE FROM T WHERE {tests};\n", "CALL M.P;\n", None
+    module = MODULE + f"PROCEDURE P (SQLCODE); DELETE FROM T WHERE {tests};\n"
+    return Workload(SCHEMA + "CREATE TABLE T (A INTEGER, B INTEGER, C INTEGER)\n", [module], "CALL M.P;\n")
 
 
 def large_script():
@@ -164,7 +191,9 @@ def large_script():
 
     def lite(db):
         db.executemany("INSERT INTO T VALUES (?, ?)", ((i, i % 100000) for i in range(1_000_000)))
-    return SCHEMA + "CREATE TABLE T (K INTEGER, A INTEGER)\n", module, calls(1_000_000, lambda i: f"CALL M.INS ({i:09}, {i % 100000:05})"), lite
+    script = calls(1_000_000, lambda i: f"CALL M.INS ({i:09}, {i % 100000:05})")
+    text = calls(1_000_000, lambda i: f"INSERT INTO T VALUES ({i:09}, {i % 100000:05})")
+    return Workload(SCHEMA + "CREATE TABLE T (K INTEGER, A INTEGER)\n", [module], script, lite, text)
 
 
 WORKLOADS = {
@@ -206,12 +235,19 @@ def timed(program, schema, modules, script):
 
 
 def timed_lite(schema, work):
-    """Processor seconds of the same work in sqlite3."""
+    """Processor seconds of the same work in sqlite3, to print; none where it can't be said there."""
+    if work is None:
+        return ""
     db = sqlite3.connect(":memory:")
     db.executescript(schema.replace(SCHEMA, "").replace(")\n", ");\n"))
     start = time.process_time()
     work(db)
-    return time.process_time() - start
+    return f"{time.process_time() - start:.2f}"
+
+
+def as_one_transaction(text):
+    """The work of running a text's statements, one after the other, in one transaction."""
+    return None if text is None else lambda db: db.executescript("BEGIN;\n" + text)
 
 
 def main():
@@ -219,16 +255,16 @@ def main():
     parser.add_argument("--program", default=str(ROOT / "crates/sqmod/out/sqmod"))
     parser.add_argument("names", nargs="*")
     options = parser.parse_args()
-    print("| Workload | sqmod, s | sqmod, MB | sqlite3, s |\n|---|---|---|---|")
+    print("| Workload | sqmod, s | sqmod, MB | sqlite3, s | sqlite3 from a text, s |\n|---|---|---|---|---|")
     for name, workload in WORKLOADS.items():
         if options.names and not any(word in name for word in options.names):
             continue
-        schema, modules, script, lite = workload()
-        modules = [modules] if isinstance(modules, str) else modules
+        schema, modules, script, lite, lite_text = workload()
         seconds, megabytes, status = timed(options.program, schema, modules, script)
-        beside = f"{timed_lite(schema, lite):.2f}" if lite else ""
+        beside = timed_lite(schema, lite)
+        from_text = timed_lite(schema, as_one_transaction(lite_text))
         note = "" if status == 0 else f" (exit {status})"
-        print(f"| {name}{note} | {seconds:.2f} | {megabytes:.0f} | {beside} |", flush=True)
+        print(f"| {name}{note} | {seconds:.2f} | {megabytes:.0f} | {beside} | {from_text} |", flush=True)
 
 
 if __name__ == "__main__":
