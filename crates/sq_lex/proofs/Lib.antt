@@ -1,3 +1,4 @@
+pub mod FirstLetters
 pub mod LiteralLemmas
 pub mod Longest
 mod Places

@@ -1,5 +1,5 @@
 -- The spellings of the reserved words (ISO/IEC 9075:1992, 5.2 <reserved word>, of which these are in the language).
-use Rattle.std.specs.Prelude.{ℕ, nat_eq, List, [], ◌∷◌, Option, Some, None, codes, if◌then◌else◌}
+use Rattle.std.specs.Prelude.{ℕ, nat_eq, slice_index, List, [], ◌∷◌, Option, Some, None, codes, if◌then◌else◌}
 use Rattle.std.specs.Cmp.Lexicographic.{pointwise}
 use Rattle.sq_lex.specs.declared.word.Word.{Word}
 use Rattle.sq_lex.specs.declared.word.Word.TheVariants as word
@@ -37,3 +37,10 @@ lookup (entry ∷ entries) spelling = if pointwise nat_eq entry.0 spelling then 
 -- the reserved word with this spelling, if there is one
 unfoldable pub reserved : List ℕ → Option Word
 reserved spelling = lookup reserved_words spelling
+
+-- where the words of each letter from A to Z begin among them, and where they end
+abbrev pub starts : List ℕ
+starts = 0 ∷ 8 ∷ 10 ∷ 19 ∷ 26 ∷ 28 ∷ 33 ∷ 35 ∷ 36 ∷ 44 ∷ 44 ∷ 45 ∷ 48 ∷ 51 ∷ 55 ∷ 61 ∷ 66 ∷ 66 ∷ 69 ∷ 78 ∷ 80 ∷ 84 ∷ 88 ∷ 91 ∷ 91 ∷ 91 ∷ 91 ∷ []
+
+unfoldable pub start : ℕ → ℕ
+start place = slice_index starts place

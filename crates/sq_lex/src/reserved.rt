@@ -1,6 +1,6 @@
 //! The spellings of the reserved words.
 
-ghost use Rattle.std.specs.Prelude.{◌≡◌, map};
+ghost use Rattle.std.specs.Prelude.{◌≡◌, ◌<◌, ◌≤◌, ◌-◌, drop, length, map, take};
 ghost use Rattle.sq_lex.specs.Reserved as spec;
 
 use crate::word::Word;
@@ -100,12 +100,44 @@ static RESERVED: [(&[u8], Word); 91] = [
     (b"WORK", Word::Work),
 ];
 
-/// The reserved word with this spelling in upper case, if there is one.
-#[tactic(auto, unfolding(crate::specs::Reserved::reserved))]
+/// Where the words of each letter from A to Z begin in the table, and where it ends.
+static STARTS: [u8; 27] = [
+    0, 8, 10, 19, 26, 28, 33, 35, 36, 44, 44, 45, 48, 51, 55, 61, 66, 66, 69, 78, 80, 84, 88, 91,
+    91, 91, 91,
+];
+
+#[tactic(auto, unfolding(crate::specs::Reserved::start))]
+fn start(place: usize) -> usize
+    requires { place < 27 }
+    ensures { result ≡ spec.start place }
+{
+    STARTS[place] as usize
+}
+
+/// The reserved word with this spelling in upper case, if there is one. It is looked up among those with its first letter.
+#[tactic(auto, unfolding(crate::specs::Reserved::reserved), using(crate::proofs::FirstLetters::ordered, crate::proofs::FirstLetters::inside))]
 pub fn reserved(spelling: &[u8]) -> Option<Word>
     ensures { result ≡ spec.reserved spelling.now }
 {
-    lookup(&RESERVED, spelling)
+    let letter = match spelling {
+        [letter, ..] => *letter,
+        [] => return None,
+    };
+    if letter < b'A' || b'Z' < letter {
+        return lookup(&RESERVED, spelling);
+    }
+    let place = (letter - b'A') as usize;
+    lookup_between(&RESERVED, start(place), start(place + 1), spelling)
+}
+
+/// The word with this spelling among those from one place to another.
+#[tactic(auto, using(crate::proofs::FirstLetters::map_part))]
+fn lookup_between(words: &[(&[u8], Word)], from: usize, to: usize, spelling: &[u8]) -> Option<Word>
+    requires ordered { from ≤ to }
+    requires within { to ≤ length words.now }
+    ensures { result ≡ spec.lookup (take (to - from) (drop from (map (λ entry. (entry.0.now, entry.1)) words.now))) spelling.now }
+{
+    lookup(&words[from..to], spelling)
 }
 
 /// The word with this spelling among these.
