@@ -36,7 +36,7 @@ pub expr_of-Negated : (functions : List PlacedExpr) (e : BoundExpr) → expr_of 
 unfolding expr_of
 expr_of-Negated functions e = ap (expr_of functions) (sym (bound.rolls-Negated e)) ∙ fold-roll-BoundExpr _ _ _ _ (layer.Negated e)
 
-fold_mapped : {A B C : Type 0} (f : C → A → C) (g : B → A) (c : C) (bs : List B) → fold f c (map g bs) ≡ fold (λ x b. f x (g b)) c bs
+pub fold_mapped : {A B C : Type 0} (f : C → A → C) (g : B → A) (c : C) (bs : List B) → fold f c (map g bs) ≡ fold (λ x b. f x (g b)) c bs
 fold_mapped f g c [] = refl
 fold_mapped f g c (b ∷ bs) = fold_mapped f g (f c (g b)) bs
 

@@ -1,1 +1,3 @@
+pub mod ConditionLaws
 pub mod ExpressionLaws
+pub mod QueryLaws

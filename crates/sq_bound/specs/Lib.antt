@@ -1,2 +1,5 @@
+pub mod Condition
 pub mod Expression
 pub mod Parameter
+pub mod Query
+pub mod SetFunction
