@@ -1,1 +1,3 @@
 pub mod Literals
+pub mod Operations
+pub mod Scopes

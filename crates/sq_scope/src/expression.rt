@@ -1,5 +1,16 @@
 //! Value expressions: columns and parameters become places, and kinds are checked (ISO/IEC 9075:1992, 6.2 to 6.5, 6.11 to 6.13).
 
+ghost use Rattle.std.specs.Prelude.{◌≡◌, ◌∷◌, ◌++◌, [], IfOk, Ok, length};
+ghost use Rattle.sq_meaning.specs.Syntax.{literal, signed};
+ghost use Rattle.sq_bound.specs.Expression.{expr_of};
+ghost use Rattle.sq_tree.specs.declared.expr.Sign.TheVariants.{Minus};
+ghost use Rattle.sq_value.specs.Spelling.{read};
+ghost use Rattle.sq_value.specs.declared.value.Value.TheVariants as value;
+ghost use Rattle.sq_value.specs.declared.domain.Kind.TheVariants as kind;
+ghost use Rattle.sq_scope.specs.Expression.{IsOperation, IsSigned, IsTree, IsTypedOperation, with_sign};
+ghost use Rattle.sq_scope.specs.declared.expression.Typed.{Typed as TypedExpr};
+ghost use Rattle.sq_value.specs.Number.{Number as Read};
+
 use crate::findings::{Findings, Found};
 use crate::kinds::{is_number, operation_kind, set_function_kind};
 use crate::literal::{number_value, text_value};
@@ -156,7 +167,9 @@ fn primary_value(
     }
 }
 
-fn number_literal(number: Number) -> TypedResult {
+fn number_literal(number: Number) -> TypedResult
+    ensures { IfOk result (λ typed. (n : Read) × (read number ≡ Ok n) × IsTree (λ functions. literal (value.Num n)) typed.expr × (typed.kind ≡ kind.Num n.scale)) }
+{
     let value = number_value(number);
     let kind = Kind::Num(value.scale());
     Ok(Typed {
@@ -165,7 +178,9 @@ fn number_literal(number: Number) -> TypedResult {
     })
 }
 
-fn text_literal(alloc: Global, characters: &Characters) -> TypedResult {
+fn text_literal(alloc: Global, characters: &Characters) -> TypedResult
+    ensures { IfOk result (λ typed. IsTree (λ functions. literal (value.Chars characters.now)) typed.expr × (typed.kind ≡ kind.Chars (length characters.now))) }
+{
     let value = text_value(alloc, characters)?;
     let kind = Kind::Chars(characters.codes().len() as u16);
     Ok(Typed {
@@ -256,18 +271,35 @@ pub fn column_findings(found: FoundColumn) -> Findings {
     }
 }
 
-/// An operand with a sign before it (6.12). A plus changes nothing.
-fn signed(alloc: Global, sign: Sign, operand: TypedResult) -> TypedResult {
-    let Typed { expr, kind } = operand?;
+/// An operand with a sign before it (6.12).
+fn signed(alloc: Global, sign: Sign, operand: TypedResult) -> TypedResult
+    ensures { IfOk result (λ typed. (e : TypedExpr) × (operand ≡ Ok e) × IsSigned sign e typed) }
+{
+    let operand = operand?;
+    let kind = operand.kind;
     if !is_number(kind) {
-        drop(expr);
+        drop(operand);
         return Err(BindFault::KindMismatch);
     }
-    let expr = match sign {
-        Sign::Plus => expr,
-        Sign::Minus => BoundExpr::Negated(Boxed::new(alloc, expr)?),
-    };
+    let expr = with_sign(alloc, sign, operand.expr)?;
     Ok(Typed { expr, kind })
+}
+
+/// A plus changes nothing.
+fn with_sign(alloc: Global, sign: Sign, operand: BoundExpr) -> Result<BoundExpr, BindFault>
+    ensures { IfOk result (IsTree (λ functions. with_sign sign (expr_of functions operand))) }
+{
+    match sign {
+        Sign::Plus => Ok(operand),
+        Sign::Minus => negated(alloc, operand),
+    }
+}
+
+fn negated(alloc: Global, operand: BoundExpr) -> Result<BoundExpr, BindFault>
+    ensures { IfOk result (IsTree (λ functions. signed Minus (expr_of functions operand))) }
+{
+    let boxed = Boxed::new(alloc, operand)?;
+    Ok(BoundExpr::Negated(boxed))
 }
 
 /// Two operands and the operator between them. The fault of the first is answered first.
@@ -276,12 +308,16 @@ fn operation(
     left: TypedResult,
     operator: Operator,
     right: TypedResult,
-) -> TypedResult {
+) -> TypedResult
+    ensures { IfOk result (λ typed. (l : TypedExpr) × (r : TypedExpr) × (left ≡ Ok l) × (right ≡ Ok r) × IsTypedOperation l operator r typed) }
+{
     let (left, right) = both(left, right)?;
     operated(alloc, left, operator, right)
 }
 
-fn operated(alloc: Global, left: Typed, operator: Operator, right: Typed) -> TypedResult {
+fn operated(alloc: Global, left: Typed, operator: Operator, right: Typed) -> TypedResult
+    ensures { IfOk result (IsTypedOperation left operator right) }
+{
     let kind = match operation_kind(left.kind, operator, right.kind) {
         Ok(kind) => kind,
         Err(fault) => {
@@ -300,7 +336,9 @@ fn with_operation(
     left: BoundExpr,
     operator: Operator,
     operand: BoundExpr,
-) -> Result<BoundExpr, BindFault> {
+) -> Result<BoundExpr, BindFault>
+    ensures { IfOk result (IsOperation left operator operand) }
+{
     let operation = Operation { operator, operand };
     match left {
         BoundExpr::Operations(first, mut rest) => match rest.push(operation) {
@@ -316,7 +354,9 @@ fn with_operation(
 }
 
 /// An operand with its first operation behind it.
-fn begun(alloc: Global, first: BoundExpr, operation: Operation) -> Result<BoundExpr, BindFault> {
+fn begun(alloc: Global, first: BoundExpr, operation: Operation) -> Result<BoundExpr, BindFault>
+    ensures { IfOk result (IsOperation first operation.operator operation.operand) }
+{
     let mut rest = Items::new(alloc);
     let pushed = rest.push(operation);
     match (Boxed::new(alloc, first), pushed) {

@@ -1,6 +1,10 @@
 //! What column references mean: FROM items in scopes, the nearest first (ISO/IEC 9075:1992, 6.3, 6.4).
 
-use sq_bound::{BindFault, ParameterDesc, Place, TableDesc};
+ghost use Rattle.std.specs.Prelude.{◌≡◌, IfOk, MatchResult, find};
+ghost use Rattle.sq_meaning.specs.Environment.{names_item, same_name};
+ghost use Rattle.sq_scope.specs.Scope.{FitsColumn, FitsMore, FitsOnly, column_over, columns_over, fits, item_meant, with_fit};
+
+use sq_bound::{BindFault, Column, ParameterDesc, Place, TableDesc};
 use sq_items::Items;
 use sq_lex::Name;
 use sq_tree::{ColumnReference, TableName};
@@ -61,18 +65,13 @@ pub fn item_over(
     table: &TableDesc,
     correlation: Option<Name>,
     at_leaf: bool,
-) -> Result<FromItem, BindFault> {
+) -> Result<FromItem, BindFault>
+    ensures named { IfOk result (λ item. (item.user ≡ table.now.user) × (item.name ≡ table.now.name) × (item.correlation ≡ correlation)) }
+    ensures columns { IfOk result (λ item. item.columns ≡ columns_over at_leaf table.now.columns) }
+{
     let mut columns = Items::new(alloc);
     for (position, column) in table.columns.as_slice().iter().enumerate() {
-        columns.push(ItemColumn {
-            name: column.name,
-            position: if at_leaf {
-                column.leaf_column
-            } else {
-                position
-            },
-            kind: column.kind,
-        })?;
+        columns.push(column_over(at_leaf, position, column))?;
     }
     Ok(FromItem {
         user: table.user,
@@ -82,18 +81,34 @@ pub fn item_over(
     })
 }
 
+fn column_over(at_leaf: bool, position: usize, column: &Column) -> ItemColumn
+    ensures { result ≡ column_over at_leaf (position, column.now) }
+{
+    ItemColumn {
+        name: column.name,
+        position: if at_leaf {
+            column.leaf_column
+        } else {
+            position
+        },
+        kind: column.kind,
+    }
+}
+
 impl FromItem {
     /// Whether the qualifier names the item: by its correlation name or, where it has none, by its table's name, with or
     /// without the owner.
-    fn fits(&self, qualifier: Option<TableName>) -> bool {
+    fn fits(&self, qualifier: Option<TableName>) -> bool
+        ensures { result ≡ names_item qualifier (item_meant self.now) }
+    {
         let Some(qualifier) = qualifier else {
             return true;
         };
         match (self.correlation, qualifier.schema) {
-            (Some(correlation), None) => correlation == qualifier.table,
+            (Some(correlation), None) => qualifier.table == correlation,
             (Some(_), Some(_)) => false,
-            (None, None) => self.name == qualifier.table,
-            (None, Some(user)) => self.user == user && self.name == qualifier.table,
+            (None, None) => qualifier.table == self.name,
+            (None, Some(user)) => user == self.user && qualifier.table == self.name,
         }
     }
 
@@ -107,16 +122,25 @@ impl FromItem {
     }
 
     /// The column that the reference fits.
-    fn column(&self, reference: &ColumnReference) -> Option<ItemColumn> {
-        if !self.fits(reference.qualifier) {
-            return None;
+    fn column(&self, reference: &ColumnReference) -> Option<ItemColumn>
+        ensures { FitsColumn reference.now self.now result }
+    {
+        if self.fits(reference.qualifier) {
+            self.column_named(reference.column)
+        } else {
+            None
         }
-        for column in self.columns.as_slice() {
-            if column.name == reference.column {
-                return Some(*column);
-            }
-        }
-        None
+    }
+
+    /// The column of this name.
+    fn column_named(&self, name: Name) -> Option<ItemColumn>
+        ensures { result ≡ find (λ column. same_name column.name name) self.now.columns }
+    {
+        self.columns
+            .as_slice()
+            .iter()
+            .find(|column| column.name == name)
+            .copied()
     }
 }
 
@@ -127,17 +151,14 @@ pub fn is_exposed(items: &[FromItem], item: &FromItem) -> bool {
 
 impl Scope {
     /// The items and columns of this scope that a reference fits: none, one, or a fault for more.
-    fn fitting(
-        &self,
-        reference: &ColumnReference,
-    ) -> Result<Option<(usize, ItemColumn)>, BindFault> {
+    fn fitting(&self, reference: &ColumnReference) -> Result<Option<(usize, ItemColumn)>, BindFault>
+        ensures { let items = self.now.items in MatchResult result (FitsOnly items (fits reference.now items)) (FitsMore (fits reference.now items)) }
+    {
         let mut found = None;
         for (number, item) in self.items.as_slice().iter().enumerate() {
-            if let Some(column) = item.column(reference) {
-                if found.is_some() {
-                    return Err(BindFault::AmbiguousName);
-                }
-                found = Some((number, column));
+            match with_fit(found, number, item.column(reference)) {
+                Ok(next) => found = next,
+                Err(fault) => return Err(fault),
             }
         }
         Ok(found)
@@ -152,6 +173,21 @@ impl Scope {
                 .iter()
                 .any(|place| is_at(place, item, column)),
         }
+    }
+}
+
+/// What fits so far, with what fits in a further item.
+fn with_fit(
+    found: Option<(usize, ItemColumn)>,
+    number: usize,
+    column: Option<ItemColumn>,
+) -> Result<Option<(usize, ItemColumn)>, BindFault>
+    ensures { result ≡ with_fit found number column }
+{
+    match (found, column) {
+        (found, None) => Ok(found),
+        (None, Some(column)) => Ok(Some((number, column))),
+        (Some(_), Some(_)) => Err(BindFault::AmbiguousName),
     }
 }
 

@@ -1,0 +1,61 @@
+-- What column references fit in the items of a scope (ISO/IEC 9075:1992, 6.3 and 6.4), by the definitions' items.
+use Rattle.std.specs.Prelude.{◌≡◌, ℕ, Bool, List, [], ◌∷◌, map, slice_get, Option, Some, None, Result, Ok, Err, if◌then◌else◌}
+use Rattle.std.specs.List.{enumerate_from}
+use Rattle.std.specs.Option.{option_map, option_and_then}
+use Rattle.sq_tree.specs.declared.names.ColumnReference.{ColumnReference}
+use Rattle.sq_meaning.specs.Environment.{Item, column_in, fitting}
+use Rattle.sq_bound.specs.declared.fault.BindFault.{BindFault}
+use Rattle.sq_bound.specs.declared.fault.BindFault.TheVariants.{AmbiguousName}
+use Rattle.sq_bound.specs.declared.names.Column.{Column}
+use Rattle.sq_scope.specs.declared.scope.FromItem.{FromItem}
+use Rattle.sq_scope.specs.declared.scope.ItemColumn.{ItemColumn}
+
+-- ---- items
+
+-- an item of FROM, by what names it and its columns
+abbrev pub item_meant : FromItem → Item
+item_meant item = record {
+  reference = record { table = record { user = item.user; name = item.name }; correlation = item.correlation };
+  columns = map (λ column. column.name) item.columns;
+}
+
+abbrev pub items_meant : List FromItem → List Item
+items_meant items = map item_meant items
+
+-- a column of a table, at its own position or at that of the base table's column that it is
+abbrev pub column_over : Bool → ℕ × Column → ItemColumn
+column_over at_leaf c = record { name = c.1.name; position = if at_leaf then c.1.leaf_column else c.0; kind = c.1.kind }
+
+-- the columns of an item over a table
+abbrev pub columns_over : Bool → List Column → List ItemColumn
+columns_over at_leaf columns = map (column_over at_leaf) (enumerate_from 0 columns)
+
+-- a column, by the numbers of its item and of it there
+abbrev pub column_numbered : List FromItem → ℕ × ℕ → Option (ℕ × ItemColumn)
+column_numbered items at = option_and_then (λ item. option_map (λ column. (at.0, column)) (slice_get item.columns at.1)) (slice_get items at.0)
+
+-- ---- what a reference fits
+
+-- the items of a scope that fit, each with the column
+abbrev pub fits : ColumnReference → List FromItem → List (ℕ × ℕ)
+fits r items = fitting r (items_meant items)
+
+-- the column of an item that a reference fits
+abbrev pub FitsColumn : ColumnReference → FromItem → Option ItemColumn → Type 0
+FitsColumn r item None = column_in r (item_meant item) ≡ None
+FitsColumn r item (Some column) = (k : ℕ) × (column_in r (item_meant item) ≡ Some k) × (slice_get item.columns k ≡ Some column)
+
+-- the only column of a scope that a reference fits, if it fits one
+abbrev pub FitsOnly : List FromItem → List (ℕ × ℕ) → Option (ℕ × ItemColumn) → Type 0
+FitsOnly items fits None = fits ≡ []
+FitsOnly items fits (Some c) = (at : ℕ × ℕ) × (fits ≡ at ∷ []) × (column_numbered items at ≡ Some c)
+
+-- what fits so far, with what fits in the item of a number
+abbrev pub with_fit : Option (ℕ × ItemColumn) → ℕ → Option ItemColumn → Result (Option (ℕ × ItemColumn)) BindFault
+with_fit found n None = Ok found
+with_fit None n (Some column) = Ok (Some (n, column))
+with_fit (Some earlier) n (Some column) = Err AmbiguousName
+
+-- more than one, which is a fault
+abbrev pub FitsMore : List (ℕ × ℕ) → BindFault → Type 0
+FitsMore fits fault = (fault ≡ AmbiguousName) × (a : ℕ × ℕ) × (b : ℕ × ℕ) × (others : List (ℕ × ℕ)) × (fits ≡ a ∷ b ∷ others)
