@@ -1,2 +1,3 @@
 pub mod Expression
 pub mod Parameter
+pub mod SetFunction
