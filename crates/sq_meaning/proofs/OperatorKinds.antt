@@ -1,10 +1,10 @@
 -- What an operator gives for operands of their kinds is of the operator's kind (ISO/IEC 9075:1992, 6.5 and 6.12), or ends
 -- with a status other than 42000.
-use Rattle.std.proofs.Common.{◌≡◌, ℕ, Bool, true, false, List, [], ◌∷◌, Some, refl, ap, subst, ◌∙◌, Ok, Err, arith}
+use Rattle.std.proofs.Common.{◌≡◌, ℕ, Bool, true, false, ◌&&◌, List, [], ◌∷◌, Some, refl, sym, ap, subst, ◌∙◌, Ok, Err, arith, eq-eqb}
 use Rattle.std.proofs.lemmas.List.{length-append, length-replicate, length-take}
 use Rattle.std.specs.Prelude.{ℤ, pos, ◌+◌, ◌-◌, ◌*ℤ◌, ◌+ℤ◌, ◌-ℤ◌, int_div, min, max, nat_le, nat_lt, if◌then◌else◌, find, not, length, take, replicate, unwrap_or, unsigned_abs, ◌^◌}
 use Rattle.std.specs.Ordering.{int_eq}
-use Rattle.std.specs.List.{AllByRecursion}
+use Rattle.std.specs.List.{AllByRecursion, list_all}
 use Rattle.sq_value.specs.Arithmetic as number
 use Rattle.sq_value.specs.Arithmetic.{in_range, at_scale}
 use Rattle.sq_value.specs.Comparison.{is_same}
@@ -26,7 +26,7 @@ use Rattle.sq_tree.specs.declared.expr.TimesSign.TheVariants.{Times, Over}
 use Rattle.sq_tree.specs.declared.expr.SetFunction.{SetFunction}
 use Rattle.sq_tree.specs.declared.expr.SetFunction.TheVariants.{Count, Sum, Avg, Min, Max}
 use Rattle.sq_meaning.specs.Status.{Outcome, and_then, not_well_formed, with_status, arithmetic_status}
-use Rattle.sq_meaning.specs.Expression.{number_outcome, calculated, sum_of, with_places, product_of, with_sign, function_value, distinct_values}
+use Rattle.sq_meaning.specs.Expression.{number_outcome, calculated, sum_of, with_places, product_of, with_sign, is_of_scale, are_of_one_scale, function_value, distinct_values}
 use Rattle.sq_meaning.specs.Kind.{kind_of_value, of_scale, signed_kind, sum_kind, product_kind, function_kind}
 use Rattle.sq_meaning.specs.WellFormed.{Answers, Fits}
 use Rattle.sq_meaning.proofs.AnswerLaws.{all_filtered, all_firsts_if}
@@ -161,6 +161,23 @@ mean_of_scale : (s : ℕ) (ns : List Number) → AllByRecursion (λ n. n.scale �
 mean_of_scale s [] h = tt
 mean_of_scale s (n ∷ ns) h = scaled_so n.scale s (with_status arithmetic_status (mean_of (n ∷ ns))) h.0 (number_of_scale n.scale (int_div (total (n ∷ ns)) (pos (length (n ∷ ns)))))
 
+-- the values of a kind of numbers are of one scale
+all_of_scale : (s : ℕ) (vs : List Value) → AllByRecursion (IsOfKind (kind.Num s)) vs → list_all (is_of_scale s) vs ≡ true
+all_of_scale s [] h = refl
+all_of_scale s (Null ∷ vs) h = all_of_scale s vs h.1
+all_of_scale s (Num n ∷ vs) h = (λ i. eq-eqb n.scale s h.0 i && all_of_scale s vs h.1 i)
+all_of_scale s (Chars t ∷ vs) h = absurd h.0
+
+one_scale : (s : ℕ) (vs : List Value) → AllByRecursion (IsOfKind (kind.Num s)) vs → are_of_one_scale vs ≡ true
+one_scale s [] h = refl
+one_scale s (Null ∷ vs) h = one_scale s vs h.1
+one_scale s (Num n ∷ vs) h = all_of_scale n.scale (Num n ∷ vs) (subst (λ i. AllByRecursion (IsOfKind (kind.Num i)) (Num n ∷ vs)) (sym h.0) h)
+one_scale s (Chars t ∷ vs) h = absurd h.0
+
+if_one_scale : (s : ℕ) (vs : List Value) (r : Outcome Value) → AllByRecursion (IsOfKind (kind.Num s)) vs → Answers (IsOfKind (kind.Num s)) r
+    → Answers (IsOfKind (kind.Num s)) (if are_of_one_scale vs then r else not_well_formed)
+if_one_scale s vs r h answers = subst (λ (b : Bool). Answers (IsOfKind (kind.Num s)) (if b then r else not_well_formed)) (sym (one_scale s vs h)) answers
+
 found_of_kind : (c : Kind) (test : Value → Bool) (vs : List Value) → AllByRecursion (IsOfKind c) vs → IsOfKind c (unwrap_or (find test vs) Null)
 found_of_kind c test [] h = tt
 found_of_kind c test (v ∷ vs) h = split (test v) (found_of_kind c test vs h.1)
@@ -174,10 +191,12 @@ extreme_of_kind c e vs h = found_of_kind c (is_unsurpassed e (without_nulls vs))
 
 of_values : (function : SetFunction) (c : Kind) (vs : List Value) → AllByRecursion (IsOfKind c) vs → Fits IsOfKind (function_kind function c) (function_value function vs)
 of_values Count c vs h = number_of_scale 0 (pos (length (without_nulls vs)))
-of_values Sum (kind.Num s) vs h = sum_of_scale s (numbers vs) (numbers_of_scale s vs h)
+of_values Sum (kind.Num s) vs h =
+    if_one_scale s vs (with_status arithmetic_status (numbers_sum (numbers vs))) h (sum_of_scale s (numbers vs) (numbers_of_scale s vs h))
 of_values Sum (kind.Chars n) vs h = tt
 of_values Sum (kind.Vary n) vs h = tt
-of_values Avg (kind.Num s) vs h = mean_of_scale s (numbers vs) (numbers_of_scale s vs h)
+of_values Avg (kind.Num s) vs h =
+    if_one_scale s vs (with_status arithmetic_status (mean_of (numbers vs))) h (mean_of_scale s (numbers vs) (numbers_of_scale s vs h))
 of_values Avg (kind.Chars n) vs h = tt
 of_values Avg (kind.Vary n) vs h = tt
 of_values Min c vs h = extreme_of_kind c Least vs h

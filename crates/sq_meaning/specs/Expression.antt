@@ -1,6 +1,7 @@
 -- The value of a value expression in an environment (ISO/IEC 9075:1992, 6.2, 6.5 and 6.11 to 6.13). Operands are
 -- evaluated from left to right, and the first status met is the outcome.
-use Rattle.std.specs.Prelude.{ℕ, ◌+◌, ◌-◌, max, nat_le, pos, Bool, if◌then◌else◌, List, [], ◌∷◌, ◌++◌, length, Result, Ok}
+use Rattle.std.specs.Prelude.{ℕ, ◌+◌, ◌-◌, max, nat_le, pos, Bool, true, false, ◌==◌, if◌then◌else◌, List, [], ◌∷◌, ◌++◌, length, Result, Ok}
+use Rattle.std.specs.List.{list_all}
 use Rattle.sq_lex.specs.declared.name.Name.{Name}
 use Rattle.sq_value.specs.Number.{Number}
 use Rattle.sq_value.specs.Arithmetic as number
@@ -68,11 +69,32 @@ with_sign sign (Chars t) = not_well_formed
 abbrev pub count_of : {A : Type 0} → List A → Outcome Value
 count_of xs = number_outcome (in_range 0 (pos (length xs)))
 
--- the value of a set function over the values of its operand: nulls are left out
+-- null, or a number of the scale
+abbrev pub is_of_scale : ℕ → Value → Bool
+is_of_scale scale Null = true
+is_of_scale scale (Num n) = n.scale == scale
+is_of_scale scale (Chars t) = false
+
+-- the scale of the first number, and 0 where there is none
+abbrev pub first_scale : List Value → ℕ
+first_scale [] = 0
+first_scale (Null ∷ vs) = first_scale vs
+first_scale (Num n ∷ vs) = n.scale
+first_scale (Chars t ∷ vs) = first_scale vs
+
+-- nulls aside, numbers of one scale
+abbrev pub are_of_one_scale : List Value → Bool
+are_of_one_scale vs = list_all (is_of_scale (first_scale vs)) vs
+
+abbrev pub if_of_one_scale : List Value → Outcome Value → Outcome Value
+if_of_one_scale vs outcome = if are_of_one_scale vs then outcome else not_well_formed
+
+-- the value of a set function over the values of its operand: nulls are left out. Numbers that are added up are of one
+-- scale, as the values of one expression are
 abbrev pub function_value : SetFunction → List Value → Outcome Value
 function_value Count values = count_of (without_nulls values)
-function_value Sum values = with_status arithmetic_status (summed values)
-function_value Avg values = with_status arithmetic_status (averaged values)
+function_value Sum values = if_of_one_scale values (with_status arithmetic_status (summed values))
+function_value Avg values = if_of_one_scale values (with_status arithmetic_status (averaged values))
 function_value Min values = Ok (extreme Least values)
 function_value Max values = Ok (extreme Greatest values)
 

@@ -7,3 +7,8 @@ pub mod Frames
 pub mod Expressions
 pub mod Each
 pub mod UserText
+pub mod Lines
+pub mod Classes
+pub mod Views
+pub mod ByKeys
+pub mod Groups

@@ -71,3 +71,8 @@ table_rows context (View place) = well_formed (find (λ t. nat_eq t.place place)
 
 abbrev pub reading : Context → Reading (Placed TablePlace)
 reading context = by_place (table_rows context)
+
+-- the scopes of the queries around
+abbrev pub scopes_beyond : Option (Bor Frame) → List (Scope (Unit {0}))
+scopes_beyond None = []
+scopes_beyond (Some frame) = scopes_of frame.now

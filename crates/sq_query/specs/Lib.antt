@@ -4,6 +4,9 @@ pub mod Arithmetic
 pub mod Frame
 pub mod Found
 pub mod Index
-pub mod SetFunction
 pub mod Members
 pub mod Order
+pub mod Lines
+pub mod ByKey
+pub mod Group
+pub mod Select

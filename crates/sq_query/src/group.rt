@@ -1,132 +1,177 @@
 //! Groups of lines (ISO/IEC 9075:1992, 7.7).
 
-ghost use Rattle.std.specs.Prelude.{◌<◌};
+ghost use Rattle.std.specs.Prelude.{◌≡◌, ◌∷◌, [], map};
+ghost use Rattle.sq_bound.specs.Expression.{place_meant};
+ghost use Rattle.sq_bound.specs.SetFunction.{call_of};
+ghost use Rattle.sq_meaning.specs.Status.{and_then, each};
+ghost use Rattle.sq_meaning.specs.Query as meaning;
+ghost use Rattle.sq_query.specs.Fault.{Meets, MeetsAs, HasValues};
+ghost use Rattle.sq_query.specs.Frame.{lent, column_meant};
+ghost use Rattle.sq_query.specs.Lines.{lines_lent, lines_in};
+ghost use Rattle.sq_query.specs.Group.{key_of_line, values_meant, classes_of, lines_of_list, line_lists, seen_of_group, seen_of_groups, rows_of_line, group_seen, groups_in};
 
+use crate::by_key::ByKey;
 use crate::context::Context;
 use crate::fault::Fault;
 use crate::frame::{Frame, Group, Lines, column_value, line_frame};
 use crate::set_function::function_values;
-use indexmap::IndexMap;
-use sq_bound::{Grouping, Place};
+use sq_bound::{Place, SetFunctionCall};
 use sq_value::{Key, Row, Truth, Value};
 use std::alloc::Global;
 
-/// Lines by the values of their grouping columns, in the order of their first occurrences.
-#[derive(Drop)]
-struct Sorted<'a> {
-    lines: IndexMap<Key, Lines<'a>>,
-}
-
-impl<'a> Sorted<'a> {
-    /// Adds a line to those of its key.
-    fn add(
-        &mut self,
-        alloc: Global,
-        key: Result<Key, Fault>,
-        line: &[&'a Row],
-        width: usize,
-    ) -> Result<(), Fault>
-        requires { 0 < width }
-    {
-        let lines = self.lines.entry(key?)?.or_insert(Lines::new(alloc, width));
-        Ok(lines.push(line)?)
-    }
-}
-
-/// The groups of a grouped query, each with its first line and the values of its set functions. Without GROUP BY there is
-/// one, also of no lines.
+/// The groups of a grouped query by its grouping columns, each with its first line and the values of its set functions.
+/// Without grouping columns there is one, also of no lines.
 pub(crate) fn grouped<'a>(
-    grouping: &Grouping,
+    columns: &[Place],
+    calls: &[SetFunctionCall],
     lines: &'a Lines<'a>,
     outer: Option<&'a Frame<'a>>,
     context: &Context<'_>,
-) -> Result<Vec<Group<'a>>, Fault> {
-    if !grouping.by_columns {
-        let mut groups = Vec::new(context.alloc);
-        add_group(grouping, lines, outer, context, &mut groups)?;
-        return Ok(groups);
-    }
-    match sorted_lines(grouping.columns.as_slice(), lines, outer, context) {
-        Ok(sorted) => {
-            let groups = groups_of(grouping, &sorted, outer, context);
-            drop(sorted);
-            groups
-        }
-        Err(fault) => Err(fault),
-    }
+) -> Result<Vec<Group<'a>>, Fault>
+    ensures { MeetsAs groups_in result (seen_of_groups columns.now (map call_of calls.now) outer.entry context.now (lines_in lines.now)) }
+{
+    let lent = lines.lend(context.alloc)?;
+    groups_by(columns, calls, lent.as_slice(), outer, context)
 }
 
-/// The groups of lines that are sorted by their grouping columns.
-fn groups_of<'a>(
-    grouping: &Grouping,
-    sorted: &Sorted<'a>,
+fn groups_by<'a>(
+    columns: &[Place],
+    calls: &[SetFunctionCall],
+    lines: &[&'a [&'a Row]],
     outer: Option<&Frame<'_>>,
     context: &Context<'_>,
-) -> Result<Vec<Group<'a>>, Fault> {
+) -> Result<Vec<Group<'a>>, Fault>
+    ensures { MeetsAs groups_in result (seen_of_groups columns.now (map call_of calls.now) outer.entry context.now (lines_lent lines.now)) }
+{
+    if columns.is_empty() {
+        return only_group(calls, lines, outer, context);
+    }
+    column_groups(columns, calls, lines, outer, context)
+}
+
+/// All lines as one group.
+fn only_group<'a>(
+    calls: &[SetFunctionCall],
+    lines: &[&'a [&'a Row]],
+    outer: Option<&Frame<'_>>,
+    context: &Context<'_>,
+) -> Result<Vec<Group<'a>>, Fault>
+    ensures { MeetsAs groups_in result (each (seen_of_group (map call_of calls.now) outer.entry context.now) (lines_lent lines.now ∷ [])) }
+{
+    let group = group_of(calls, lines, outer, context)?;
     let mut groups = Vec::new(context.alloc);
-    for lines in sorted.lines.values() {
-        add_group(grouping, lines, outer, context, &mut groups)?;
+    groups.push(group)?;
+    Ok(groups)
+}
+
+/// The groups by the grouping columns.
+fn column_groups<'a>(
+    columns: &[Place],
+    calls: &[SetFunctionCall],
+    lines: &[&'a [&'a Row]],
+    outer: Option<&Frame<'_>>,
+    context: &Context<'_>,
+) -> Result<Vec<Group<'a>>, Fault>
+    ensures { MeetsAs groups_in result (and_then (classes_of columns.now outer.entry context.now (lines_lent lines.now)) (each (seen_of_group (map call_of calls.now) outer.entry context.now))) }
+{
+    let classes = classes_of(columns, lines, outer, context)?;
+    groups_of(calls, classes.lists.as_slice(), outer, context)
+}
+
+/// The groups of these lists of lines.
+#[tactic(auto, using(crate::proofs::Each::each_ends))]
+fn groups_of<'a>(
+    calls: &[SetFunctionCall],
+    lists: &[Vec<&'a [&'a Row]>],
+    outer: Option<&Frame<'_>>,
+    context: &Context<'_>,
+) -> Result<Vec<Group<'a>>, Fault>
+    ensures { MeetsAs groups_in result (each (seen_of_group (map call_of calls.now) outer.entry context.now) (map lines_of_list lists.now)) }
+{
+    let mut groups = Vec::new(context.alloc);
+    for list in lists {
+        let group = group_of(calls, list.as_slice(), outer, context)?;
+        groups.push(group)?;
     }
     Ok(groups)
 }
 
-/// Adds the group of these lines.
-fn add_group<'a>(
-    grouping: &Grouping,
-    lines: &Lines<'a>,
+/// A group with the values of its set functions.
+fn group_of<'a>(
+    calls: &[SetFunctionCall],
+    lines: &[&'a [&'a Row]],
     outer: Option<&Frame<'_>>,
     context: &Context<'_>,
-    groups: &mut Vec<Group<'a>>,
-) -> Result<(), Fault> {
-    let group = group_of(grouping, lines, outer, context)?;
-    Ok(groups.push(group)?)
+) -> Result<Group<'a>, Fault>
+    ensures { MeetsAs group_seen result (seen_of_group (map call_of calls.now) outer.entry context.now (lines_lent lines.now)) }
+{
+    let functions = function_values(calls, lines, outer, context)?;
+    let line = first_line(context.alloc, lines)?;
+    Ok(Group { line, functions })
 }
 
-/// The lines by their values in these columns.
-fn sorted_lines<'a>(
-    columns: &[Place],
-    lines: &'a Lines<'a>,
-    outer: Option<&'a Frame<'a>>,
-    context: &Context<'_>,
-) -> Result<Sorted<'a>, Fault> {
-    let mut sorted = Sorted {
-        lines: IndexMap::new(context.alloc),
-    };
-    for row in (0..lines.rows.len()).step_by(lines.width) {
-        let line = lines.line_at(row);
-        let key = grouping_key(columns, &line_frame(line, outer), context.alloc);
-        sorted.add(context.alloc, key, line, lines.width)?;
+/// The first of these lines, and an empty one where there is none.
+fn first_line<'a>(alloc: Global, lines: &[&[&'a Row]]) -> Result<Vec<&'a Row>, Fault>
+    ensures { MeetsAs rows_of_line result (Ok (meaning.first_line (lines_lent lines.now))) }
+{
+    match lines.first() {
+        Some(line) => Ok(Vec::from_slice(alloc, *line)?),
+        None => Ok(Vec::new(alloc)),
     }
-    Ok(sorted)
+}
+
+/// The lines by the values of their grouping columns.
+fn classes_of<'a>(
+    columns: &[Place],
+    lines: &[&'a [&'a Row]],
+    outer: Option<&Frame<'_>>,
+    context: &Context<'_>,
+) -> Result<ByKey<&'a [&'a Row]>, Fault>
+    ensures { MeetsAs line_lists result (classes_of columns.now outer.entry context.now (lines_lent lines.now)) }
+{
+    let mut classes = ByKey::new(context.alloc);
+    for line in lines {
+        let key = key_of_line(columns, *line, outer, context)?;
+        classes.add(context.alloc, key, *line)?;
+    }
+    Ok(classes)
 }
 
 /// The values of the grouping columns in a line.
-fn grouping_key(columns: &[Place], frame: &Frame<'_>, alloc: Global) -> Result<Key, Fault> {
+fn key_of_line(
+    columns: &[Place],
+    line: &[&Row],
+    outer: Option<&Frame<'_>>,
+    context: &Context<'_>,
+) -> Result<Key, Fault>
+    ensures { Meets result (key_of_line columns.now outer.entry context.now (lent line.now)) }
+{
+    key_in(columns, &line_frame(line, outer), context.alloc)
+}
+
+fn key_in(columns: &[Place], frame: &Frame<'_>, alloc: Global) -> Result<Key, Fault>
+    ensures { Meets result (values_meant frame.now columns.now) }
+{
     let values = values_at(columns, frame, alloc)?;
     Ok(Key::new(alloc, values.as_slice())?)
 }
 
-fn values_at(columns: &[Place], frame: &Frame<'_>, alloc: Global) -> Result<Vec<Value>, Fault> {
+#[tactic(auto, using(crate::proofs::Each::each_ends))]
+fn values_at(columns: &[Place], frame: &Frame<'_>, alloc: Global) -> Result<Vec<Value>, Fault>
+    ensures { HasValues result (values_meant frame.now columns.now) }
+{
     let mut values = Vec::new(alloc);
     for column in columns {
-        let value = column_value(*column, frame)?.into_value(alloc)?;
+        let value = value_at(*column, frame, alloc)?;
         values.push(value)?;
     }
     Ok(values)
 }
 
-/// A group with the values of its set functions.
-fn group_of<'a>(
-    grouping: &Grouping,
-    lines: &Lines<'a>,
-    outer: Option<&Frame<'_>>,
-    context: &Context<'_>,
-) -> Result<Group<'a>, Fault> {
-    let functions = function_values(grouping.set_functions.as_slice(), lines, outer, context)?;
-    Ok(Group {
-        line: Vec::from_slice(context.alloc, lines.line_at(0))?,
-        functions,
-    })
+fn value_at(column: Place, frame: &Frame<'_>, alloc: Global) -> Result<Value, Fault>
+    ensures { Meets result (column_meant frame.now column) }
+{
+    Ok(column_value(column, frame)?.into_value(alloc)?)
 }
 
 /// Adds a group of which HAVING is true.

@@ -7,6 +7,7 @@
 #![tactic(auto)]
 
 mod arithmetic;
+mod by_key;
 mod comparison;
 mod condition;
 mod context;

@@ -1,5 +1,5 @@
 use Rattle.std.proofs.Common.{◌≡◌, drop}
-use Rattle.sq_query.specs.SetFunction.{first_scale}
+use Rattle.sq_meaning.specs.Expression.{first_scale}
 use Rattle.sq_query.proofs.set_function.first_scale.Given as goal
 
 -- no number has come so far
