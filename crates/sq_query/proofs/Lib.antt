@@ -7,3 +7,4 @@ pub mod Frames
 pub mod Expressions
 pub mod Each
 pub mod UserText
+pub mod Wholes

@@ -7,3 +7,4 @@ pub mod Index
 pub mod SetFunction
 pub mod Members
 pub mod Order
+pub mod Whole
