@@ -12,3 +12,4 @@ pub mod Classes
 pub mod Views
 pub mod ByKeys
 pub mod Groups
+pub mod Wholes

@@ -10,3 +10,4 @@ pub mod Lines
 pub mod ByKey
 pub mod Group
 pub mod Select
+pub mod Whole

@@ -1,7 +1,7 @@
 //! The values of value expressions (ISO/IEC 9075:1992, 6.2, 6.5 and 6.11 to 6.13). Operands are evaluated from left to
 //! right, and the first status met is the outcome.
 
-ghost use Rattle.std.specs.Prelude.{◌≡◌, if◌then◌else◌, map, slice_get, Ok};
+ghost use Rattle.std.specs.Prelude.{◌≡◌, [], if◌then◌else◌, map, slice_get, IfOk, Ok};
 ghost use Rattle.sq_value.specs.declared.value.Value.TheVariants.{Null};
 ghost use Rattle.sq_tree.specs.declared.expr.Sign.TheVariants as sign;
 ghost use Rattle.sq_meaning.specs.Status.{Outcome, and_then, each, well_formed};
@@ -20,12 +20,29 @@ use crate::context::Context;
 use crate::fault::Fault;
 use crate::found::Found;
 use crate::frame::{Frame, column_value};
+use crate::whole_expression::whole_value;
 use sq_bound::{BoundExpr, Input, Operator};
+use sq_items::Items;
 use sq_lex::Name;
 use sq_value::{Row, Text, Value};
+use std::alloc::{AllocError, Global};
 
 /// The value of an expression.
 pub(crate) fn value<'a>(
+    expr: &'a BoundExpr,
+    frame: &Frame<'a>,
+    context: &Context<'a>,
+) -> Result<Found<'a>, Fault>
+    ensures { Meets result (meaning.value (reading context.now) (on_line frame.now expr.now) (env_of frame.now context.now)) }
+{
+    match whole_value(expr, frame, context) {
+        Some(number) => Ok(Found::made(number.value())),
+        None => any_value(expr, frame, context),
+    }
+}
+
+/// The value of an expression, whether it is one over whole numbers or not.
+fn any_value<'a>(
     expr: &'a BoundExpr,
     frame: &Frame<'a>,
     context: &Context<'a>,
@@ -38,11 +55,11 @@ pub(crate) fn value<'a>(
         BoundExpr::User => user_value(context),
         BoundExpr::Column(place) => column_value(*place, frame),
         BoundExpr::SetFunction(number) => function_value(*number, frame),
-        BoundExpr::Negated(operand) => negated_or_fault(value(operand.get(), frame, context)),
+        BoundExpr::Negated(operand) => negated_or_fault(any_value(operand.get(), frame, context)),
         BoundExpr::Operations(first, rest) => {
-            let mut left = value(first.get(), frame, context)?;
+            let mut left = any_value(first.get(), frame, context)?;
             for operation in rest.as_slice() {
-                let right = value(&operation.operand, frame, context);
+                let right = any_value(&operation.operand, frame, context);
                 left = calculated_or_fault(operation.operator, left, right)?;
             }
             Ok(left)
@@ -168,10 +185,17 @@ pub(crate) fn row_of(
 ) -> Result<Row, Fault>
     ensures { Meets result (each (λ e. meaning.value (reading context.now) e (env_of frame.now context.now)) (map (on_line frame.now) exprs.now)) }
 {
-    let mut row = Row::new(context.alloc);
+    let mut row = row_with_room(context.alloc, exprs.len())?;
     for expr in exprs {
         let cell = owned_value(expr, frame, context)?;
         row.push(cell)?;
     }
     Ok(row)
+}
+
+/// A row without values, with room for so many.
+fn row_with_room(alloc: Global, count: usize) -> Result<Row, AllocError>
+    ensures { IfOk result (λ row. row ≡ []) }
+{
+    Ok(Items::from_vec(Vec::with_capacity(alloc, count)?))
 }

@@ -31,6 +31,8 @@ mod table;
 mod target;
 mod union;
 mod view;
+mod whole;
+mod whole_expression;
 
 pub use fault::{Failure, Fault};
 pub use inputs::Inputs;

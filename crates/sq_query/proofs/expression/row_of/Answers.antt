@@ -8,7 +8,7 @@ use Rattle.sq_query.proofs.Expressions.{handed_on}
 use Rattle.sq_query.proofs.expression.row_of.Goals as goal
 
 pub loop-expr-init : goal.loop-expr-init
-loop-expr-init c = after_start c.new-row.result _ c.new-row.ensures
+loop-expr-init c = after_start c.in_ok-row.row _ c.in_ok-row.ensures
 
 pub loop-expr-preserved : goal.loop-expr-preserved
 loop-expr-preserved c =
@@ -22,6 +22,6 @@ returns-in_err-cell c =
     let f = λ (e : PlacedExpr). value (reading c.args.context.now) e (env_of c.args.frame.now c.args.context.now) in
     let g = on_line c.args.frame.now in
     let whole = each f (map g c.args.exprs.now) in
-    handed_on c.from_residual.result c.in_err-cell.field-0.0 whole c.from_residual.ensures.1
+    handed_on c.from_residual-in_err-cell.result c.in_err-cell.field-0.0 whole c.from_residual-in_err-cell.ensures.1
     (each_failed f g whole c.loop-expr.row c.args.exprs.now c.loop-expr.expr-index c.expr-item.result c.in_err-cell.field-0.0
     c.loop-expr-test.true c.expr-item.is c.loop-expr.invariant c.in_err-cell.ensures)

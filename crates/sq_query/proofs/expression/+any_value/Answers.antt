@@ -11,7 +11,7 @@ use Rattle.sq_bound.specs.declared.expression.BoundExpr.TheVariants as bound
 use Rattle.sq_bound.specs.declared.expression.Operation.{Operation}
 use Rattle.sq_query.specs.Frame.{env_of, group_values, reading}
 use Rattle.sq_query.proofs.Expressions.{handed_on, meets_by, literal_value, parameter_value, name_value, placed_column, group_function, negated_value, first_failed, first_done, operation_done, operation_failed}
-use Rattle.sq_query.proofs.expression.+value.Goals as goal
+use Rattle.sq_query.proofs.expression.+any_value.Goals as goal
 
 pub returns-in-Literal : goal.returns-in-Literal
 returns-in-Literal t c =
@@ -60,7 +60,7 @@ returns-in-Negated t c =
     let operand = c.get.result.now in
     meets_by c.negated_or_fault.result (value m (expr_of fs c.args.expr.now) env) (value m (expr_of fs operand) env >>= with_sign sign.Minus)
     (negated_value m env fs c.args.expr.now operand (c.in-Negated.is ∙ ap bound.Negated (sym c.get.ensures)))
-    (c.negated_or_fault.ensures (value m (expr_of fs operand) env) c.value.ensures)
+    (c.negated_or_fault.ensures (value m (expr_of fs operand) env) c.any_value.ensures)
 
 pub returns-in_err-left-in-Operations : goal.returns-in_err-left-in-Operations
 returns-in_err-left-in-Operations t c =
@@ -92,7 +92,7 @@ loop-operation-preserved t c =
     operation_done m env fs (value m (expr_of fs c.args.expr.now) env) c.loop-operation.left c.in_ok-left-in-Operations-2.left
     c.as_slice-operation-items.result.now c.loop-operation.operation-index c.operation-item.result
     c.loop-operation-test.true c.operation-item.is c.loop-operation.invariant
-    (c.in_ok-left-in-Operations-2.ensures (value m (expr_of fs c.operation-item.result.operand) env) c.value-right.ensures)
+    (c.in_ok-left-in-Operations-2.ensures (value m (expr_of fs c.operation-item.result.operand) env) c.any_value-right.ensures)
 
 pub returns-in_err-left-in-Operations-2 : goal.returns-in_err-left-in-Operations-2
 returns-in_err-left-in-Operations-2 t c =
@@ -104,4 +104,4 @@ returns-in_err-left-in-Operations-2 t c =
     (operation_failed m env fs (value m (expr_of fs c.args.expr.now) env) c.loop-operation.left
     c.as_slice-operation-items.result.now c.loop-operation.operation-index c.operation-item.result f
     c.loop-operation-test.true c.operation-item.is c.loop-operation.invariant
-    (c.in_err-left-in-Operations-2.ensures (value m (expr_of fs c.operation-item.result.operand) env) c.value-right.ensures))
+    (c.in_err-left-in-Operations-2.ensures (value m (expr_of fs c.operation-item.result.operand) env) c.any_value-right.ensures))
