@@ -2,13 +2,20 @@
 use Rattle.std.specs.Prelude.{ℕ, List, [], ◌∷◌, map, find, nat_eq, slice_get, Option, Some, None, Ok, Err}
 use Rattle.std.specs.Option.{option_map, option_and_then}
 use Rattle.std.specs.Borrow.{Bor}
+use Rattle.sq_value.specs.declared.truth.Truth.{Truth}
 use Rattle.sq_value.specs.declared.value.Value.{Value}
 use Rattle.sq_meaning.specs.Status.{Outcome, ◌>>=◌, well_formed}
 use Rattle.sq_meaning.specs.Syntax.{literal}
 use Rattle.sq_meaning.specs.Environment.{Row, Line, Input, Scope, Env, alone, value_at}
 use Rattle.sq_meaning.specs.Expression.{Reading}
 use Rattle.sq_meaning.specs.Placed.{Placed, by_place}
+use Rattle.sq_meaning.specs.Query.{truth}
+use Rattle.sq_bound.specs.Condition.{PlacedCond, cond_of, conj_of, test_of, predicate_of}
 use Rattle.sq_bound.specs.Expression.{PlacedExpr, place_meant, expr_of}
+use Rattle.sq_bound.specs.declared.condition.BoundCond.{BoundCond}
+use Rattle.sq_bound.specs.declared.condition.BoundConj.{BoundConj}
+use Rattle.sq_bound.specs.declared.condition.BoundTest.{BoundTest}
+use Rattle.sq_bound.specs.declared.condition.Predicate.{Predicate}
 use Rattle.sq_bound.specs.declared.condition.TablePlace.{TablePlace}
 use Rattle.sq_bound.specs.declared.condition.TablePlace.TheVariants.{Base, View}
 use Rattle.sq_bound.specs.declared.expression.BoundExpr.{BoundExpr}
@@ -71,3 +78,25 @@ table_rows context (View place) = well_formed (find (λ t. nat_eq t.place place)
 
 abbrev pub reading : Context → Reading (Placed TablePlace)
 reading context = by_place (table_rows context)
+
+-- the scopes of the queries around
+abbrev pub scopes_beyond : Option (Bor Frame) → List (Scope (Unit {0}))
+scopes_beyond None = []
+scopes_beyond (Some frame) = scopes_of frame.now
+
+-- the truth of a condition on a line
+abbrev pub truth_in : Frame → Context → PlacedCond → Outcome Truth
+truth_in frame context c = truth (reading context) c (env_of frame context)
+
+-- conditions on a line, in which the set functions have their values
+abbrev pub cond_on : Frame → BoundCond → PlacedCond
+cond_on frame = cond_of (map literal (group_values frame))
+
+abbrev pub conj_on : Frame → BoundConj → PlacedCond
+conj_on frame = conj_of (map literal (group_values frame))
+
+abbrev pub test_on : Frame → BoundTest → PlacedCond
+test_on frame = test_of (map literal (group_values frame))
+
+abbrev pub predicate_on : Frame → Predicate → PlacedCond
+predicate_on frame = predicate_of (map literal (group_values frame))
