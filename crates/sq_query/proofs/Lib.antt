@@ -7,3 +7,5 @@ pub mod Frames
 pub mod Expressions
 pub mod Each
 pub mod UserText
+pub mod Predicates
+pub mod Turns

@@ -7,3 +7,5 @@ pub mod Index
 pub mod SetFunction
 pub mod Members
 pub mod Order
+pub mod Predicate
+pub mod Row
