@@ -25,8 +25,8 @@ use Rattle.sq_query.specs.Fault.{Meets, status_of}
 use Rattle.sq_query.specs.declared.fault.Fault.{Fault}
 use Rattle.sq_query.specs.declared.fault.Fault.TheVariants as fault
 
-pub meets_by : (r : Result Value Fault) (o p : Outcome Value) → o ≡ p → Meets r p → Meets r o
-meets_by r o p same h = subst (λ (x : Outcome Value). Meets r x) (sym same) h
+pub meets_by : {A : Type 0} (r : Result A Fault) (o p : Outcome A) → o ≡ p → Meets r p → Meets r o
+meets_by {A} r o p same h = subst (λ (x : Outcome A). Meets r x) (sym same) h
 
 -- `?` hands the fault on
 pub handed_on : {A : Type 0} (r : Result A Fault) (f : Fault) (o : Outcome A) → IsErrAnd r (λ g. g ≡ f) → Meets {A = A} (Err f) o → Meets r o

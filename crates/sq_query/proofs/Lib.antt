@@ -13,3 +13,5 @@ pub mod Views
 pub mod ByKeys
 pub mod Groups
 pub mod Wholes
+pub mod Predicates
+pub mod Turns

@@ -2,12 +2,15 @@
 use Rattle.std.specs.Prelude.{ℕ, List, [], ◌∷◌, map, find, nat_eq, slice_get, Option, Some, None, Ok, Err}
 use Rattle.std.specs.Option.{option_map, option_and_then}
 use Rattle.std.specs.Borrow.{Bor}
+use Rattle.sq_value.specs.declared.truth.Truth.{Truth}
 use Rattle.sq_value.specs.declared.value.Value.{Value}
 use Rattle.sq_meaning.specs.Status.{Outcome, ◌>>=◌, well_formed}
 use Rattle.sq_meaning.specs.Syntax.{literal}
 use Rattle.sq_meaning.specs.Environment.{Row, Line, Input, Scope, Env, alone, value_at}
 use Rattle.sq_meaning.specs.Expression.{Reading}
 use Rattle.sq_meaning.specs.Placed.{Placed, by_place}
+use Rattle.sq_meaning.specs.Query.{truth}
+use Rattle.sq_bound.specs.Condition.{PlacedCond}
 use Rattle.sq_bound.specs.Expression.{PlacedExpr, place_meant, expr_of}
 use Rattle.sq_bound.specs.declared.condition.TablePlace.{TablePlace}
 use Rattle.sq_bound.specs.declared.condition.TablePlace.TheVariants.{Base, View}
@@ -76,3 +79,7 @@ reading context = by_place (table_rows context)
 abbrev pub scopes_beyond : Option (Bor Frame) → List (Scope (Unit {0}))
 scopes_beyond None = []
 scopes_beyond (Some frame) = scopes_of frame.now
+
+-- the truth of a condition on a line
+abbrev pub truth_in : Frame → Context → PlacedCond → Outcome Truth
+truth_in frame context c = truth (reading context) c (env_of frame context)

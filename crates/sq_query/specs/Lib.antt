@@ -11,3 +11,5 @@ pub mod ByKey
 pub mod Group
 pub mod Select
 pub mod Whole
+pub mod Predicate
+pub mod Row
