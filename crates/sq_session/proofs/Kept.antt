@@ -3,10 +3,10 @@ use Rattle.std.proofs.Common.{◌≡◌, ℕ, Bool, true, false, List, Option, S
 use Rattle.sq_value.specs.declared.value.Value.{Value}
 use Rattle.sq_meaning.specs.Status.{Outcome}
 use Rattle.sq_session.specs.Fetch.{come_to_number, come_to_row, over_numbers, over_rows}
-use Rattle.sq_session.specs.Kind.{Fetching, Kind, read_parameters}
+use Rattle.sq_session.specs.Kind.{Fetching, Kind, Opening, Over, read_parameters}
 use Rattle.sq_session.specs.Parameter.{started_values}
 use Rattle.sq_session.specs.State.{State, committed_state, is_open, rolled_back}
-use Rattle.sq_session.specs.Step.{ChangesIf, Comes, DeletesIf, Ends, MayCall, MayClose, MayCloseIf, MayDeleteAt, MayFetch, MayFetchFrom, MayOpen, MayOpenIf, MayStep, MayUpdateAt, OpensIf, UpdatesIf, WalksIf, is_on_row, is_success}
+use Rattle.sq_session.specs.Step.{ChangesIf, Comes, DeletesIf, Ends, MayCall, MayClose, MayCloseIf, MayDeleteAt, MayFetch, MayFetchFrom, MayOpen, MayOpenIf, MayOpenOver, MayStep, MayUpdateAt, OpensAs, UpdatesIf, WalksIf, is_on_row, is_success}
 use Rattle.sq_session.specs.Target.{is_refused}
 use Rattle.sq_session.specs.declared.cursor.CursorState.{CursorState}
 use Rattle.sq_session.specs.declared.cursor.CursorState.TheVariants as cursor
@@ -21,17 +21,21 @@ same b a h = ap (λ s. s.tables) h
 
 -- ---- cursors
 
-opens_if : (s : Bool) (n : ℕ) (b a : State) → OpensIf s n b a → Kept b a
-opens_if true n b a h = h.0.0
-opens_if false n b a h = same b a h
+opens_as : (o : Outcome CursorState) (n : ℕ) (b : State) (d : Done) (a : State) → OpensAs o n b d a → Kept b a
+opens_as (Ok c) n b d a h = ap (λ s. s.tables) h.1
+opens_as (Err st) n b d a h = same b a h.1
 
-open_if : (o : Bool) (n : ℕ) (b : State) (d : Done) (a : State) → MayOpenIf o n b d a → Kept b a
-open_if true n b d a h = same b a h.1
-open_if false n b d a h = opens_if (is_success d.status) n b a h.1
+open_over : (v : Option Over) (n : ℕ) (vs : List Value) (b : State) (d : Done) (a : State) → MayOpenOver v n vs b d a → Kept b a
+open_over None n vs b d a h = same b a h.1
+open_over (Some v) n vs b d a h = opens_as h.0 n b d a h.2
 
-may_open : (o : Option CursorState) (n : ℕ) (b : State) (d : Done) (a : State) → MayOpen o n b d a → Kept b a
-may_open None n b d a h = same b a h.1
-may_open (Some c) n b d a h = open_if (is_open c) n b d a h
+open_if : (is : Bool) (o : Opening) (vs : List Value) (b : State) (d : Done) (a : State) → MayOpenIf is o vs b d a → Kept b a
+open_if true o vs b d a h = same b a h.1
+open_if false o vs b d a h = open_over o.over o.cursor vs b d a h
+
+may_open : (c : Option CursorState) (o : Opening) (vs : List Value) (b : State) (d : Done) (a : State) → MayOpen c o vs b d a → Kept b a
+may_open None o vs b d a h = same b a h.1
+may_open (Some c) o vs b d a h = open_if (is_open c) o vs b d a h
 
 comes : (o : Outcome (CursorState × Done)) (n : ℕ) (b : State) (d : Done) (a : State) → Comes o n b d a → Kept b a
 comes (Ok come) n b d a h = ap (λ s. s.tables) h.1
@@ -87,7 +91,7 @@ ends : (w b : State) (d : Done) (a : State) → Ends w d a → is_success d.stat
 ends w b d a h e = let k : true ≡ false = subst (λ x. is_success x.status ≡ false) h.0 e in cc
 
 step : (k : Kind) (vs : List Value) (b : State) (d : Done) (a : State) → MayStep k vs b d a → is_success d.status ≡ false → Kept b a
-step (Kind.opens n) vs b d a h e = may_open (slice_get b.cursors n) n b d a h
+step (Kind.opens o) vs b d a h e = may_open (slice_get b.cursors o.cursor) o vs b d a h
 step (Kind.fetches f) vs b d a h e = may_fetch (slice_get b.cursors f.cursor) f vs b d a h
 step (Kind.closes n) vs b d a h e = may_close (slice_get b.cursors n) n b d a h
 step (Kind.selects s) vs b d a h e = same b a h.0

@@ -1,9 +1,11 @@
 pub mod Besides
 pub mod Closed
 pub mod Fetched
+pub mod Fitting
 pub mod Kept
 pub mod Named
 pub mod NextNumber
+pub mod Opened
 pub mod Reached
 pub mod Read
 pub mod Selected

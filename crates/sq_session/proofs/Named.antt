@@ -4,12 +4,15 @@ use Rattle.std.specs.Cmp.Lexicographic.{pointwise}
 use Rattle.std.specs.List.{position_or_len}
 use Rattle.std.specs.Map.{keys_of}
 use Rattle.sq_lex.specs.declared.name.Name.{Name}
+use Rattle.sq_value.specs.declared.value.Value.{Value}
+use Rattle.sq_model.specs.Script.{fit}
 use Rattle.sq_bound.specs.declared.fault.BindFault.{BindFault}
 use Rattle.sq_bound.specs.declared.statement.BoundStatement.{BoundStatement}
 use Rattle.sq_module.specs.declared.program.BoundProcedure.{BoundProcedure}
 use Rattle.sq_module.specs.declared.program.DeclaredCursor.{DeclaredCursor}
 use Rattle.sq_module.specs.declared.program.ProcedureName.{ProcedureName}
-use Rattle.sq_session.specs.Kind.{fault_at, kind_at, kind_of}
+use Rattle.sq_session.specs.Kind.{fault_at, fits_at, kind_at, kind_of}
+use Rattle.sq_session.specs.Parameter.{declared}
 use Rattle.sq_session.specs.Session.{is_procedure, names_of, procedure_number, procedures_of}
 
 abbrev Entry : Type 0
@@ -41,6 +44,12 @@ pub fault_is : (cs : List DeclaredCursor) (es : List Entry) (n : ℕ) (e : Entry
 fault_is cs [] n e f h k = cc
 fault_is cs (x ∷ es) zero e f h k = grind (arith, h, k)
 fault_is cs (x ∷ es) (suc n) e f h k = fault_is cs es n e f h k
+
+-- it takes the values that the parameters of its entry do
+pub fits_are : (cs : List DeclaredCursor) (es : List Entry) (n : ℕ) (e : Entry) (values : List Value) → slice_get es n ≡ Some e → fits_at (procedures_of cs es) n values ≡ fit (map declared e.1.parameters) values
+fits_are cs [] n e values h = cc
+fits_are cs (x ∷ es) zero e values h = let same : x ≡ e = cc in ap (λ (y : Entry). fit (map declared y.1.parameters) values) same
+fits_are cs (x ∷ es) (suc n) e values h = fits_are cs es n e values h
 
 -- the names of a program's procedures are its keys
 pub names_are : (cs : List DeclaredCursor) (es : List Entry) → names_of (procedures_of cs es) ≡ keys_of es

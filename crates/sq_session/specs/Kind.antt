@@ -1,12 +1,17 @@
 -- What a statement is to the tables, the cursors and the parameters: which cursor it works on, whether it may change rows,
 -- and which parameters it sets.
-use Rattle.std.specs.Prelude.{ℕ, Bool, true, false, List, [], slice_get, option_and_then, Option, None, Some, Result}
+use Rattle.std.specs.Prelude.{ℕ, Bool, true, false, if◌then◌else◌, List, [], slice_get, option_and_then, Option, None, Some, Result}
+use Rattle.std.specs.Option.{option_map, option_map_or}
 use Rattle.std.specs.Result.{result_err, result_ok}
 use Rattle.sq_lex.specs.declared.name.Name.{Name}
+use Rattle.sq_value.specs.declared.value.Value.{Value}
+use Rattle.sq_meaning.specs.Tables.{Declared}
+use Rattle.sq_model.specs.Script.{fit}
 use Rattle.sq_bound.specs.declared.fault.BindFault.{BindFault}
 use Rattle.sq_bound.specs.declared.names.ParameterDesc.{ParameterDesc}
 use Rattle.sq_bound.specs.declared.query.CursorBody.{CursorBody}
 use Rattle.sq_bound.specs.declared.query.CursorBody.TheVariants as body
+use Rattle.sq_bound.specs.declared.query.Target.{Target}
 use Rattle.sq_bound.specs.declared.statement.BoundFetch.{BoundFetch}
 use Rattle.sq_bound.specs.declared.statement.BoundSelect.{BoundSelect}
 use Rattle.sq_bound.specs.declared.statement.BoundStatement.{BoundStatement}
@@ -28,7 +33,33 @@ columns_of (body.Updatable u) = Some u.columns
 abbrev pub columns_at : List DeclaredCursor → ℕ → Option (List ℕ)
 columns_at cursors number = option_and_then (λ c. columns_of c.cursor.body) (slice_get cursors number)
 
+-- what an open cursor goes over: the rows of its query, numbers of rows of a base table, or, where no condition may answer
+-- a status, the base table itself
+pub data Over : Type 0 where
+  rows : Over
+  numbers : ℕ → Over
+  walk : ℕ → Over
+
+abbrev pub over_target : Target → Over
+over_target t = if t.is_quiet then Over.walk t.base else Over.numbers t.base
+
+abbrev pub over_of : CursorBody → Over
+over_of (body.Rows query order) = Over.rows
+over_of (body.Updatable u) = over_target u.target
+
+abbrev pub over_at : List DeclaredCursor → ℕ → Option Over
+over_at cursors number = option_map (λ c. over_of c.cursor.body) (slice_get cursors number)
+
 -- ---- statements with parameters
+
+-- OPEN (13.2)
+pub record Opening : Type 0 where
+  pub cursor : ℕ
+  pub over : Option Over
+  pub parameters : List ParameterDesc
+
+abbrev pub opening : List DeclaredCursor → List ParameterDesc → ℕ → Opening
+opening cursors parameters number = record { cursor = number; over = over_at cursors number; parameters = parameters }
 
 -- FETCH (13.3); the columns are those of an updatable cursor
 pub record Fetching : Type 0 where
@@ -57,9 +88,9 @@ selecting parameters s = record { parameters = parameters; targets = s.outputs }
 
 -- ---- statements
 
--- a cursor is named by its number; INSERT and a searched DELETE change rows, a searched UPDATE updates them
+-- CLOSE names a cursor by its number; INSERT and a searched DELETE change rows, a searched UPDATE updates them
 pub data Kind : Type 0 where
-  opens : ℕ → Kind
+  opens : Opening → Kind
   fetches : Fetching → Kind
   closes : ℕ → Kind
   selects : Selecting → Kind
@@ -80,7 +111,7 @@ delete_kind (target.Positioned p) = Kind.deletes_at p
 
 -- a statement of a procedure with these parameters, where modules declare these cursors
 abbrev pub kind_of : List DeclaredCursor → List ParameterDesc → BoundStatement → Kind
-kind_of cursors parameters (statement.Open number) = Kind.opens number
+kind_of cursors parameters (statement.Open number) = Kind.opens (opening cursors parameters number)
 kind_of cursors parameters (statement.Fetch f) = Kind.fetches (fetching cursors parameters f)
 kind_of cursors parameters (statement.Close number) = Kind.closes number
 kind_of cursors parameters (statement.Select s) = Kind.selects (selecting parameters s)
@@ -92,6 +123,7 @@ kind_of cursors parameters statement.Rollback = Kind.rolls_back
 
 -- the parameters of the procedure, where the statement reads their values itself
 abbrev pub read_parameters : Kind → List ParameterDesc
+read_parameters (Kind.opens o) = o.parameters
 read_parameters (Kind.fetches f) = f.parameters
 read_parameters _ = []
 
@@ -105,10 +137,11 @@ takes_memory _ = true
 
 -- ---- procedures
 
--- the names of its module and its own, and what its statement is, or the fault that it has (12.3)
+-- the names of its module and its own, its parameters, and what its statement is, or the fault that it has (12.3)
 pub record Procedure : Type 0 where
   pub «module» : Name
   pub name : Name
+  pub parameters : List Declared
   pub statement : Result Kind BindFault
 
 -- what the statement of a procedure is, if there is such a procedure and its statement has no fault
@@ -118,6 +151,10 @@ kind_at procedures number = option_and_then (λ p. result_ok p.statement) (slice
 -- the fault for which a procedure answers 42000 at each call
 abbrev pub fault_at : List Procedure → ℕ → Option BindFault
 fault_at procedures number = option_and_then (λ p. result_err p.statement) (slice_get procedures number)
+
+-- whether a procedure takes these values: as many as it has parameters, each null or one that its parameter can store
+abbrev pub fits_at : List Procedure → ℕ → List Value → Bool
+fits_at procedures number values = option_map_or (λ p. fit p.parameters values) (slice_get procedures number) false
 
 abbrev pub needs_memory : Option Kind → Bool
 needs_memory None = false

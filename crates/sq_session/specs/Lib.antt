@@ -1,6 +1,7 @@
 pub mod Fetch
 pub mod Kind
 pub mod Lent
+pub mod Open
 pub mod Parameter
 pub mod Session
 pub mod State

@@ -3,7 +3,12 @@ use Rattle.std.specs.Prelude.{List, map}
 use Rattle.std.specs.List.{zip}
 use Rattle.sq_value.specs.declared.value.Value.{Value}
 use Rattle.sq_bound.specs.declared.names.ParameterDesc.{ParameterDesc}
+use Rattle.sq_meaning.specs.Tables.{Declared}
 use Rattle.sq_model.specs.Parameter.{started}
+
+-- what is declared of one
+abbrev pub declared : ParameterDesc → Declared
+declared p = record { name = p.name; domain = p.domain }
 
 -- the values at which they start: what is handed in, stored
 abbrev pub started_values : List ParameterDesc → List Value → List Value

@@ -8,6 +8,7 @@ use Rattle.sq_module.specs.declared.program.BoundProcedure.{BoundProcedure}
 use Rattle.sq_module.specs.declared.program.DeclaredCursor.{DeclaredCursor}
 use Rattle.sq_module.specs.declared.program.ProcedureName.{ProcedureName}
 use Rattle.sq_session.specs.Kind.{Procedure, kind_of}
+use Rattle.sq_session.specs.Parameter.{declared}
 use Rattle.sq_session.specs.State.{State}
 
 -- the procedures and the base tables, each at its number, and what calls work on
@@ -28,7 +29,12 @@ procedure_number procedures «module» name = position (is_procedure «module» 
 -- ---- the procedures of a program
 
 abbrev pub procedure_of : List DeclaredCursor → ProcedureName × BoundProcedure → Procedure
-procedure_of cursors p = record { «module» = p.0.«module»; name = p.0.name; statement = result_map_both (kind_of cursors p.1.parameters) (λ f. f) p.1.statement }
+procedure_of cursors p = record {
+  «module» = p.0.«module»;
+  name = p.0.name;
+  parameters = map declared p.1.parameters;
+  statement = result_map_both (kind_of cursors p.1.parameters) (λ f. f) p.1.statement;
+}
 
 abbrev pub procedures_of : List DeclaredCursor → List (ProcedureName × BoundProcedure) → List Procedure
 procedures_of cursors procedures = map (procedure_of cursors) procedures

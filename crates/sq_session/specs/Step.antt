@@ -1,7 +1,7 @@
 -- What one call may do to the tables and the cursors, and what it answers (ISO/IEC 9075:1992, 13.2 to 13.10, 14.3 and 14.4).
 -- FETCH, CLOSE, COMMIT, ROLLBACK and every statement on a cursor that is not in the state that it needs are said whole, but
--- for the row that a cursor comes to that walks; of SELECT INTO, what the rows of its query do; of OPEN, where the cursor is
--- after it; of the others, what they leave as it was.
+-- for the row that a cursor comes to that walks; of SELECT INTO and OPEN, what the rows of their queries do; of the others,
+-- what they leave as it was.
 use Rattle.std.specs.Prelude.{◌≡◌, ℕ, Bool, true, false, List, [], map, is_some, slice_get, option_and_then, Option, Some, None, Result, Ok, Err}
 use Rattle.sq_value.specs.declared.value.Value.{Value}
 use Rattle.sq_store.specs.Content.{row_at, table_at}
@@ -16,7 +16,8 @@ use Rattle.sq_query.specs.declared.fault.Fault.{Fault}
 use Rattle.sq_query.specs.declared.fault.Fault.TheVariants as fault
 use Rattle.sq_model.specs.Machine.{single_row}
 use Rattle.sq_session.specs.Fetch.{ComesOn, come_to_number, come_to_row, over_numbers, over_rows}
-use Rattle.sq_session.specs.Kind.{Fetching, Kind, Selecting, read_parameters}
+use Rattle.sq_session.specs.Kind.{Fetching, Kind, Opening, Over, Selecting, read_parameters}
+use Rattle.sq_session.specs.Open.{IsOpenOver}
 use Rattle.sq_session.specs.Parameter.{started_values}
 use Rattle.sq_session.specs.State.{State, besides, committed_state, cursor_at, is_open, number_on, rolled_back, with_cursor}
 use Rattle.sq_session.specs.Target.{ended, is_refused, row_reply}
@@ -45,32 +46,27 @@ is_success _ = false
 abbrev pub Refuses : Status → State → Done → State → Type 0
 Refuses st before d after = (d ≡ ended st) × (after ≡ before)
 
--- ---- cursors
+-- ---- OPEN (13.2)
 
--- the tables and all other cursors are as they were
-abbrev pub Touches : ℕ → State → State → Type 0
-Touches number before after = (after.tables ≡ before.tables) × (after.committed ≡ before.committed) × (besides number after.cursors ≡ besides number before.cursors)
+-- the cursor is then so; or it ends with a status, and nothing changes
+abbrev pub OpensAs : Outcome CursorState → ℕ → State → Done → State → Type 0
+OpensAs (Ok c) number before d after = (d ≡ ended status.SuccessfulCompletion) × (after ≡ with_cursor before number c)
+OpensAs (Err st) number before d after = Refuses st before d after
 
--- an open cursor before its first row
-abbrev pub IsBeforeFirst : CursorState → Type 0
-IsBeforeFirst cursor.Closed = ⊥
-IsBeforeFirst (cursor.Numbers c) = (c.passed ≡ 0) × (c.on ≡ None)
-IsBeforeFirst (cursor.Walking c) = (c.next ≡ 0) × (c.on ≡ None)
-IsBeforeFirst (cursor.Rows c) = c.place ≡ 0
-
--- OPEN (13.2): with another status than success nothing changes
-abbrev pub OpensIf : Bool → ℕ → State → State → Type 0
-OpensIf true number before after = Touches number before after × IsBeforeFirst (cursor_at after number)
-OpensIf false number before after = after ≡ before
+-- there is such a cursor only where a module declares one without a fault
+abbrev pub MayOpenOver : Option Over → ℕ → List Value → State → Done → State → Type 0
+MayOpenOver None number values before d after = Refuses status.SyntaxErrorOrAccessRuleViolation before d after
+MayOpenOver (Some over) number values before d after =
+    (opened : Outcome CursorState) × IsOpenOver over values before.tables opened × OpensAs opened number before d after
 
 -- a cursor that is open already is left alone
-abbrev pub MayOpenIf : Bool → ℕ → State → Done → State → Type 0
-MayOpenIf true number before d after = Refuses status.InvalidCursorState before d after
-MayOpenIf false number before d after = (d.outputs ≡ []) × OpensIf (is_success d.status) number before after
+abbrev pub MayOpenIf : Bool → Opening → List Value → State → Done → State → Type 0
+MayOpenIf true o values before d after = Refuses status.InvalidCursorState before d after
+MayOpenIf false o values before d after = MayOpenOver o.over o.cursor values before d after
 
-abbrev pub MayOpen : Option CursorState → ℕ → State → Done → State → Type 0
-MayOpen None number before d after = Refuses status.SyntaxErrorOrAccessRuleViolation before d after
-MayOpen (Some c) number before d after = MayOpenIf (is_open c) number before d after
+abbrev pub MayOpen : Option CursorState → Opening → List Value → State → Done → State → Type 0
+MayOpen None o values before d after = Refuses status.SyntaxErrorOrAccessRuleViolation before d after
+MayOpen (Some c) o values before d after = MayOpenIf (is_open c) o values before d after
 
 -- ---- FETCH (13.3)
 
@@ -158,7 +154,7 @@ Ends wanted d after = (d ≡ ended status.SuccessfulCompletion) × (after ≡ wa
 
 -- a statement of a procedure whose parameters start at these values
 abbrev pub MayStep : Kind → List Value → State → Done → State → Type 0
-MayStep (Kind.opens number) values before d after = MayOpen (slice_get before.cursors number) number before d after
+MayStep (Kind.opens o) values before d after = MayOpen (slice_get before.cursors o.cursor) o values before d after
 MayStep (Kind.fetches f) values before d after = MayFetch (slice_get before.cursors f.cursor) f values before d after
 MayStep (Kind.closes number) values before d after = MayClose (slice_get before.cursors number) number before d after
 MayStep (Kind.selects s) values before d after = (after ≡ before) × Selects s d

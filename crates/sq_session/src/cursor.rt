@@ -1,18 +1,16 @@
-//! Cursors, and the place that a FETCH reaches (ISO/IEC 9075:1992, 4.21, 13.2 and 13.3).
+//! Cursors, and the place that a FETCH reaches (ISO/IEC 9075:1992, 4.21 and 13.3).
 
-ghost use Rattle.std.specs.Prelude.{◌≡◌, ◌<◌, ◌^◌, IfOk, IfSome, length, MatchOption, None, Some, option_copied};
+ghost use Rattle.std.specs.Prelude.{◌≡◌, ◌<◌, ◌^◌, IfSome, length, MatchOption, None, Some, option_copied};
 ghost use Rattle.sq_model.specs.Cursor.{bounded, row_at as row_of};
 ghost use Rattle.sq_query.specs.Fault.{Meets};
 ghost use Rattle.sq_store.specs.Content.{table_at};
 ghost use Rattle.sq_session.specs.State.{next_number, number_on};
 ghost use Rattle.sq_session.specs.Fetch.{number_of, place_reached, place_wanted, row_on};
-ghost use Rattle.sq_session.specs.Step.{IsBeforeFirst};
 
-use crate::called::Called;
-use crate::walk::{WalkingCursor, started_walk};
-use sq_bound::{BoundCursor, CursorBody, Distance, FetchOrientation};
+use crate::walk::WalkingCursor;
+use sq_bound::{Distance, FetchOrientation};
 use sq_items::Items;
-use sq_query::{Fault, numbers_of, ordered_rows};
+use sq_query::Fault;
 use sq_store::{Meter, Store};
 use sq_value::{Row, Value};
 
@@ -56,53 +54,6 @@ pub(crate) fn number_on(cursor: &CursorState) -> Option<u64>
         CursorState::Numbers(numbers) => numbers.on,
         CursorState::Walking(walk) => walk.on,
         CursorState::Closed | CursorState::Rows(_) => None,
-    }
-}
-
-/// An open cursor, before its first row.
-pub(crate) fn opened<S: Store>(
-    called: &Called<'_>,
-    cursor: &BoundCursor,
-    store: &S,
-    meter: &mut Meter,
-) -> Result<CursorState, Fault>
-    ensures { IfOk result IsBeforeFirst }
-{
-    match &cursor.body {
-        CursorBody::Rows(query, order) => {
-            let rows = ordered_rows(
-                called.alloc,
-                called.catalog,
-                query,
-                order.as_slice(),
-                store,
-                called.inputs(),
-                meter,
-            )?;
-            Ok(CursorState::Rows(RowsCursor {
-                rows: Items::from_vec(rows),
-                place: 0,
-            }))
-        }
-        CursorBody::Updatable(updatable) if updatable.target.is_quiet => Ok(CursorState::Walking(
-            started_walk(called, updatable.target.base, store)?,
-        )),
-        CursorBody::Updatable(updatable) => {
-            let numbers = numbers_of(
-                called.alloc,
-                called.catalog,
-                &updatable.target,
-                store,
-                called.inputs(),
-                meter,
-            )?;
-            Ok(CursorState::Numbers(NumbersCursor {
-                table: updatable.target.base,
-                numbers: Items::from_vec(numbers),
-                passed: 0,
-                on: None,
-            }))
-        }
     }
 }
 

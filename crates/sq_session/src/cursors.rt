@@ -1,6 +1,6 @@
 //! The cursors of a session, by their numbers.
 
-ghost use Rattle.std.specs.Prelude.{◌≡◌, ◌<◌, length, map, None, replicate, slice_index_or, IfOk};
+ghost use Rattle.std.specs.Prelude.{◌≡◌, map, None, replicate, slice_index_or, IfOk};
 ghost use Rattle.sq_session.specs.State.{all_closed, besides, is_open, number_on};
 
 use crate::cursor::CursorState;
@@ -26,16 +26,6 @@ pub(crate) fn close_all(cursors: &mut [CursorState])
     for cursor in cursors.iter_mut() {
         *cursor = CursorState::Closed;
     }
-}
-
-/// Puts a cursor in the stead of another.
-#[tactic(auto, using(crate::proofs::Besides::besides_put, crate::proofs::Besides::cursor_put))]
-pub(crate) fn put(cursors: &mut [CursorState], number: usize, cursor: CursorState)
-    requires { number < length cursors.old }
-    ensures besides { besides number cursors.new ≡ besides number cursors.old }
-    ensures put { slice_index_or cursors.new number CursorState.Closed ≡ cursor }
-{
-    cursors[number] = cursor;
 }
 
 /// Takes a cursor off its row.

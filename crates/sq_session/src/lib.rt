@@ -2,8 +2,8 @@
 //! 13.1 to 13.5, 14.3 and 14.4). What a call may do to the tables and cursors, and what it answers, stands in
 //! `specs/Step.antt`, with the rules of FETCH in `specs/Fetch.antt` and those of targets in `specs/Target.antt`.
 //!
-//! A bound statement could, as far as its type says, name a cursor, a parameter or a column that isn't there. Such a statement
-//! ends with 42000; binding makes none.
+//! A bound statement could, as far as its type says, name a cursor, a parameter, a table or a column that isn't there. Such a
+//! statement ends with 42000. That binding makes none is not proved.
 #![tactic(auto)]
 
 mod call;
@@ -12,6 +12,7 @@ mod cursor;
 mod cursors;
 mod fetch;
 mod machine;
+mod open;
 mod parameter;
 mod reads;
 mod reply;

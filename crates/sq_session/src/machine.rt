@@ -1,19 +1,20 @@
 //! The tables and cursors of a session, and the statements that work on them.
 
-ghost use Rattle.std.specs.Prelude.{◌≡◌, false, IfErr, IfOk, IfSome, IsSome, OnErr, OnOk, ◌<◌, length, is_ok, is_some, replicate, slice_get};
+ghost use Rattle.std.specs.Prelude.{◌≡◌, IfErr, IfOk, IfSome, IsSome, OnErr, OnOk, ◌<◌, length, is_ok, is_some, replicate, slice_get};
 ghost use Rattle.sq_change.specs.Statement.{IsGiven};
 ghost use Rattle.sq_meaning.specs.declared.status.Status.TheVariants as status;
 ghost use Rattle.sq_query.specs.declared.fault.Failure.TheVariants as failure;
 ghost use Rattle.sq_query.specs.declared.fault.Fault.TheVariants as fault;
-ghost use Rattle.sq_session.specs.Kind.{delete_kind, fetching, selecting, update_kind};
+ghost use Rattle.sq_session.specs.Kind.{delete_kind, fetching, opening, over_at, selecting, update_kind};
 ghost use Rattle.sq_session.specs.State.{committed_state, rolled_back};
-ghost use Rattle.sq_session.specs.Step.{MayChange, MayClose, MayFetch, MayOpen, MayOpenIf, MayStep, Selects, ending, is_on_row, is_ready};
+ghost use Rattle.sq_session.specs.Step.{MayChange, MayClose, MayFetch, MayOpen, MayOpenOver, MayStep, Selects, ending, is_on_row, is_ready};
 ghost use Rattle.sq_session.specs.Target.{ended};
 
 use crate::called::Called;
-use crate::cursor::{CursorState, number_on, opened};
-use crate::cursors::{close_all, closed_cursors, leave_row, put, put_lists};
+use crate::cursor::{CursorState, number_on};
+use crate::cursors::{close_all, closed_cursors, leave_row, put_lists};
 use crate::fetch::fetch_at;
+use crate::open::open_closed;
 use crate::reply::Done;
 use crate::target::only_row_retrieved;
 use crate::walk::{ListedCursor, listed_walk};
@@ -61,7 +62,8 @@ impl<S: Store> Machine<S> {
         number: usize,
         meter: &mut Meter,
     ) -> Result<Done, Fault>
-        ensures step { IfSome (ending result) (λ d. MayOpen (slice_get self.old.cursors number) number self.old d self.new) }
+        ensures step { IfSome (ending result) (λ d. MayOpen (slice_get self.old.cursors number)
+            (opening called.now.cursors.now called.now.procedure.now.parameters number) called.now.values.now self.old d self.new) }
         ensures err { OnErr result (self.new ≡ self.old) }
     {
         match self.cursors.get(number) {
@@ -79,15 +81,16 @@ impl<S: Store> Machine<S> {
         meter: &mut Meter,
     ) -> Result<Done, Fault>
         requires { number < length self.old.cursors }
-        ensures step { IfSome (ending result) (λ d. MayOpenIf false number self.old d self.new) }
+        ensures step { IfSome (ending result) (λ d. MayOpenOver (over_at called.now.cursors.now number) number called.now.values.now self.old d self.new) }
         ensures err { OnErr result (self.new ≡ self.old) }
     {
-        let Some(declared) = called.cursors.get(number) else {
-            return Err(Fault::NOT_WELL_FORMED);
-        };
-        let cursor = opened(called, &declared.cursor, &self.store, meter)?;
-        put(self.cursors.as_mut_slice(), number, cursor);
-        Ok(Done::successful(called.alloc))
+        open_closed(
+            called,
+            number,
+            self.cursors.as_mut_slice(),
+            &self.store,
+            meter,
+        )
     }
 
     /// FETCH (13.3). A status of retrieving leaves the cursor where it came.
@@ -294,9 +297,15 @@ impl<S: Store> Machine<S> {
         statement: &BoundUpdate,
     ) -> Result<Vec<ListedCursor>, Fault> {
         let mut listed = Vec::new(called.alloc);
-        for (number, cursor) in self.cursors.iter().enumerate() {
+        for (number, (cursor, declared)) in self.cursors.iter().zip(called.cursors).enumerate() {
             if let CursorState::Walking(walk) = cursor {
-                if let Some(numbers) = listed_walk(called, number, statement, &self.store, walk)? {
+                if let Some(numbers) = listed_walk(
+                    called,
+                    declared,
+                    statement,
+                    &self.store,
+                    walk,
+                )? {
                     listed.push(ListedCursor { number, numbers })?;
                 }
             }

@@ -1,42 +1,72 @@
 //! The parameters of a call: which values they take, and at which they start (ISO/IEC 9075:1992, 12.3).
 
-ghost use Rattle.std.specs.Prelude.{◌≡◌, IfOk};
+ghost use Rattle.std.specs.Prelude.{◌≡◌, ◌==◌, false, map, IfOk};
+ghost use Rattle.std.specs.List.{list_all};
 ghost use Rattle.sq_value.specs.Domain.{FitsKind};
+ghost use Rattle.sq_value.specs.Memory.{takes_memory};
+ghost use Rattle.sq_value.specs.Text.{only_blanks_past};
 ghost use Rattle.sq_model.specs.Parameter.{started};
-ghost use Rattle.sq_session.specs.Parameter.{started_values};
+ghost use Rattle.sq_model.specs.Script.{fit, fits_in};
+ghost use Rattle.sq_session.specs.Parameter.{declared, started_values};
 
 use sq_bound::ParameterDesc;
-use sq_change::{fits_kind, is_domain};
+use sq_change::fits_kind;
 use sq_items::Items;
 use sq_value::{Domain, StoreFault, Value, start_value, store};
 use std::alloc::{AllocError, Global};
 
 /// Whether there are as many values as parameters, each null or one that its parameter can store.
-pub(crate) fn all_fit(alloc: Global, parameters: &[ParameterDesc], values: &[Value]) -> bool {
-    parameters.len() == values.len()
-        && parameters.iter().zip(values).all(|(parameter, value)| fits_in(
-            alloc,
-            parameter.domain,
-            value,
-        ))
-}
-
-/// Whether the domain can store the value.
-fn fits_in(alloc: Global, domain: Domain, value: &Value) -> bool {
-    if !is_domain(domain) || !fits_kind(domain, value) {
+pub(crate) fn all_fit(alloc: Global, parameters: &[ParameterDesc], values: &[Value]) -> bool
+    ensures { result ≡ fit (map declared parameters.now) values.now }
+{
+    if parameters.len() != values.len() {
         return false;
     }
-    match (domain, value) {
-        (Domain::Char(length) | Domain::VarChar(length), Value::Chars(text)) => {
-            has_only_blanks_past(text.codes(), length as usize)
+    for (place, parameter) in parameters.iter().enumerate() {
+        if !fits(alloc, *parameter, &values[place]) {
+            return false;
         }
-        _ => store(alloc, value, domain).is_ok(),
     }
+    true
+}
+
+/// Whether the value is null or one that the parameter can store.
+#[tactic(auto, using(crate::proofs::Fitting::text_kept, crate::proofs::Fitting::text_cut))]
+fn fits(alloc: Global, parameter: ParameterDesc, value: &Value) -> bool
+    ensures { result ≡ fits_in parameter.domain value.now }
+{
+    match value {
+        Value::Null => true,
+        Value::Num(_) => number_fits(alloc, parameter, value),
+        Value::Chars(text) => match parameter.domain {
+            Domain::Char(length) | Domain::VarChar(length) => {
+                has_only_blanks_past(text.codes(), length as usize)
+            }
+            Domain::Small | Domain::Int | Domain::Numeric(..) => false,
+        },
+    }
+}
+
+/// Whether the parameter can store the number.
+#[tactic(auto, using(crate::proofs::Fitting::number_stored, crate::proofs::Fitting::number_unfit))]
+fn number_fits(alloc: Global, parameter: ParameterDesc, number: &Value) -> bool
+    requires { takes_memory number.now ≡ false }
+    ensures { result ≡ fits_in parameter.domain number.now }
+{
+    fits_kind(parameter.domain, number) && store(alloc, number, parameter.domain).is_ok()
 }
 
 /// Whether no other code than blanks stands past the first `length`.
-fn has_only_blanks_past(codes: &[u8], length: usize) -> bool {
-    codes.len() <= length || codes[length..].iter().all(|code| *code == b' ')
+fn has_only_blanks_past(codes: &[u8], length: usize) -> bool
+    ensures { result ≡ only_blanks_past length codes.now }
+{
+    codes.len() <= length || are_blanks(&codes[length..])
+}
+
+fn are_blanks(codes: &[u8]) -> bool
+    ensures { result ≡ list_all (λ c. c == 32) codes.now }
+{
+    codes.iter().all(|code| *code == b' ')
 }
 
 /// The values at which the parameters start: what is handed in, stored.

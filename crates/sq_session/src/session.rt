@@ -5,7 +5,7 @@ ghost use Rattle.sq_store.specs.Content.{table_at};
 ghost use Rattle.sq_module.specs.Refusal.{IsOfSomeModule};
 ghost use Rattle.sq_session.specs.Lent.{lent};
 ghost use Rattle.sq_catalog.specs.Catalog.{table_number};
-ghost use Rattle.sq_session.specs.Kind.{fault_at, kind_at, needs_memory};
+ghost use Rattle.sq_session.specs.Kind.{fault_at, fits_at, kind_at, needs_memory};
 ghost use Rattle.std.specs.Map.{keys_of};
 ghost use Rattle.sq_module.specs.Program.{declared_procedures};
 ghost use Rattle.sq_session.specs.Session.{names_of, procedure_number};
@@ -118,7 +118,9 @@ impl<S: Store> Session<S> {
     }
 
     /// Whether there are as many values as the procedure has named parameters, each null or one that its parameter can store.
-    pub fn fits(&self, procedure: usize, values: &[Value]) -> bool {
+    pub fn fits(&self, procedure: usize, values: &[Value]) -> bool
+        ensures { result ≡ fits_at self.now.procedures procedure values.now }
+    {
         match self.program.procedures.get_index(procedure) {
             Some((_, procedure)) => all_fit(self.alloc, procedure.parameters.as_slice(), values),
             None => false,

@@ -3,10 +3,12 @@
 //! Such a cursor means the same rows as a list of their numbers made at OPEN, as long as no UPDATE changes what its
 //! conditions read. So the rows that are left are listed before an UPDATE of a column that they read.
 
-ghost use Rattle.std.specs.Prelude.{◌≡◌, ◌≤◌, ◌<◌, length, None, Some, IfErr, IfOk, IfSome};
+ghost use Rattle.std.specs.Prelude.{◌≡◌, ◌≤◌, ◌<◌, length, Some, IfErr, IfOk, IfSome};
 ghost use Rattle.sq_store.specs.Content.{table_at};
 ghost use Rattle.sq_session.specs.State.{is_open, number_on};
 ghost use Rattle.sq_session.specs.Fetch.{Refusal, row_on};
+ghost use Rattle.sq_session.specs.Open.{walk_started};
+ghost use Rattle.sq_query.specs.Fault.{Meets};
 
 use crate::called::Called;
 use crate::cursor::{CursorState, NumbersCursor};
@@ -15,6 +17,7 @@ use sq_bound::{BoundUpdate, ChangeTarget, CursorBody, Target};
 use sq_catalog::Catalog;
 use sq_items::Items;
 use sq_lex::Name;
+use sq_module::DeclaredCursor;
 use sq_query::{Fault, Inputs, is_chosen};
 use sq_store::{Meter, Store};
 use sq_value::{Row, Value, copy_row};
@@ -35,31 +38,25 @@ pub struct WalkingCursor {
     pub on: Option<u64>,
 }
 
-/// A cursor before the first row of a base table.
+/// A walk before the first row of a base table.
+#[tactic(auto, using(crate::proofs::Opened::walk_there))]
 pub(crate) fn started_walk<S: Store>(
     called: &Called<'_>,
     table: usize,
     store: &S,
 ) -> Result<WalkingCursor, Fault>
-    ensures { IfOk result (λ c. (c.next ≡ 0) × (c.on ≡ None)) }
+    ensures { Meets result (walk_started (S.content_now store.now) table called.now.values.now) }
 {
-    let mark = next_number(called.catalog, store, table)?;
+    if table >= store.table_count() {
+        return Err(Fault::NOT_WELL_FORMED);
+    }
     Ok(WalkingCursor {
         table,
         values: copy_row(called.alloc, called.values)?,
         next: 0,
-        mark,
+        mark: store.next_number(table),
         on: None,
     })
-}
-
-/// The number that the next new row of a base table takes.
-fn next_number<S: Store>(catalog: &Catalog, store: &S, table: usize) -> Result<u64, Fault> {
-    if table >= store.table_count() {
-        return Err(Fault::NOT_WELL_FORMED);
-    }
-    let all = catalog.limits().row_numbers.saturating_add(1);
-    Ok(all.saturating_sub(store.numbers_left(table)))
 }
 
 /// A walk of a user's cursor, and what it walks over.
@@ -153,7 +150,7 @@ pub(crate) struct ListedCursor {
 /// its conditions read a column that is assigned to.
 pub(crate) fn listed_walk<S: Store>(
     called: &Called<'_>,
-    number: usize,
+    declared: &DeclaredCursor,
     statement: &BoundUpdate,
     store: &S,
     walk: &WalkingCursor,
@@ -161,9 +158,6 @@ pub(crate) fn listed_walk<S: Store>(
     if walk.table != base_of(&statement.target) {
         return Ok(None);
     }
-    let Some(declared) = called.cursors.get(number) else {
-        return Err(Fault::NOT_WELL_FORMED);
-    };
     match &declared.cursor.body {
         CursorBody::Updatable(query)
             if reads_assigned(

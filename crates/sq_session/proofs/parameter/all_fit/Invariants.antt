@@ -1,0 +1,5 @@
+use Rattle.sq_session.proofs.Fitting.{FitSoFar}
+use Rattle.sq_session.proofs.parameter.all_fit.Given as goal
+
+abbrev pub invariant-loop-place : goal.invariant-loop-place
+invariant-loop-place l = FitSoFar l.parameters l.values l.place

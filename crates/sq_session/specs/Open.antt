@@ -1,0 +1,52 @@
+-- OPEN (ISO/IEC 9075:1992, 13.2): a cursor before its first row, by what it goes over.
+use Rattle.std.specs.Prelude.{◌≡◌, ℕ, List, slice_get, None, Result, Ok}
+use Rattle.sq_value.specs.declared.value.Value.{Value}
+use Rattle.sq_store.specs.Content.{Content}
+use Rattle.sq_meaning.specs.Status.{Outcome, and_then, well_formed}
+use Rattle.sq_query.specs.Fault.{Meets}
+use Rattle.sq_query.specs.declared.fault.Fault.{Fault}
+use Rattle.sq_session.specs.Kind.{Over}
+use Rattle.sq_session.specs.declared.cursor.CursorState.{CursorState}
+use Rattle.sq_session.specs.declared.cursor.CursorState.TheVariants as cursor
+use Rattle.sq_session.specs.declared.walk.WalkingCursor.{WalkingCursor}
+
+-- ---- before the first row
+
+abbrev pub before_rows : List (List Value) → CursorState
+before_rows rows = cursor.Rows (record { rows = rows; place = 0 })
+
+abbrev pub before_numbers : ℕ → List ℕ → CursorState
+before_numbers table numbers = cursor.Numbers (record { table = table; numbers = numbers; passed = 0; on = None })
+
+-- a walk keeps the values of the parameters, and its mark is the number of the next new row
+abbrev pub walk_before : ℕ → List Value → ℕ → WalkingCursor
+walk_before table values mark = record { table = table; values = values; next = 0; mark = mark; on = None }
+
+-- ---- what is opened
+
+-- rows of a query, or its status
+abbrev pub rows_opened : Outcome (List (List Value)) → Outcome CursorState
+rows_opened found = and_then found (λ rows. Ok (before_rows rows))
+
+-- numbers of rows of a base table, or the status of choosing them
+abbrev pub numbers_opened : ℕ → Outcome (List ℕ) → Outcome CursorState
+numbers_opened table found = and_then found (λ numbers. Ok (before_numbers table numbers))
+
+-- a walk of a base table that is there
+abbrev pub walk_started : Content → ℕ → List Value → Outcome WalkingCursor
+walk_started tables table values = and_then (well_formed (slice_get tables table)) (λ t. Ok (walk_before table values t.next))
+
+abbrev pub walk_opened : Content → ℕ → List Value → Outcome CursorState
+walk_opened tables table values = and_then (walk_started tables table values) (λ walk. Ok (cursor.Walking walk))
+
+-- A cursor that goes over this is opened so. Which rows its query has, or which numbers are chosen, is not said here.
+abbrev pub IsOpenOver : Over → List Value → Content → Outcome CursorState → Type 0
+IsOpenOver Over.rows values tables opened = (found : Outcome (List (List Value))) × (opened ≡ rows_opened found)
+IsOpenOver (Over.numbers table) values tables opened = (found : Outcome (List ℕ)) × (opened ≡ numbers_opened table found)
+IsOpenOver (Over.walk table) values tables opened = opened ≡ walk_opened tables table values
+
+-- ---- while the statement runs
+
+-- want of memory is no outcome of a definition
+abbrev pub HasOpened : Over → List Value → Content → Result CursorState Fault → Type 0
+HasOpened over values tables answer = (opened : Outcome CursorState) × IsOpenOver over values tables opened × Meets answer opened
