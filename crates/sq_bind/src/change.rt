@@ -16,7 +16,7 @@ use sq_value::{Kind, Value};
 use std::alloc::Global;
 
 /// What is under a table that is to be changed.
-fn must_be_updatable(table: &TableDesc) -> Result<Under, BindFault> {
+fn must_be_updatable(table: &TableDesc) -> Result<Under<'_>, BindFault> {
     match under_table(table) {
         Some(under) => Ok(under),
         None => Err(BindFault::NotUpdatable),
@@ -143,16 +143,25 @@ pub(crate) fn bind_insert<N: Names>(
 ) -> Result<Found<BoundInsert>, BindFault> {
     let table = named_table(names, environment.user, insert.table)?;
     let under = must_be_updatable(table)?;
-    let (columns, source) = insert_parts(insert, names, environment, table)?;
+    let parts = insert_parts(insert, names, environment, table)?;
     let may = names.may(environment.user, Action::Insert, table.full_name(), None);
+    bound_insert(under, parts, missing_unless(may))
+}
+
+fn bound_insert(
+    under: Under<'_>,
+    parts: (Items<usize>, Found<InsertedRows>),
+    findings: Findings,
+) -> Result<Found<BoundInsert>, BindFault> {
+    let ((columns, source), leaf) = both(Ok(parts), under.leaf.share())?;
     Ok(Found {
         part: BoundInsert {
-            table: under.table,
-            base: under.base,
+            base: under.base(),
+            leaf,
             columns,
             source: source.part,
         },
-        findings: source.findings.and(missing_unless(may)),
+        findings: source.findings.and(findings),
     })
 }
 
@@ -260,7 +269,7 @@ fn change_target<N: Names, C: Cursors>(
     environment: &mut Environment,
     cursors: &C,
     table: &TableDesc,
-    under: Under,
+    under: Under<'_>,
 ) -> Result<Found<ChangeTarget>, BindFault> {
     match target {
         Some(Where::CurrentOf(name)) => positioned(*name, cursors, table, under),
@@ -284,7 +293,7 @@ fn positioned<C: Cursors>(
     name: Name,
     cursors: &C,
     table: &TableDesc,
-    under: Under,
+    under: Under<'_>,
 ) -> Result<Found<ChangeTarget>, BindFault> {
     let Some(known) = cursors.cursor(name) else {
         return Err(BindFault::UnknownCursor);
@@ -298,8 +307,8 @@ fn positioned<C: Cursors>(
     Ok(Found {
         part: ChangeTarget::Positioned(PositionedTarget {
             cursor: known.number,
-            table: under.table,
-            base: under.base,
+            base: under.base(),
+            leaf: under.leaf.share()?,
         }),
         findings: Findings::NONE,
     })

@@ -1,8 +1,10 @@
 //! Updatable queries and targets (ISO/IEC 9075:1992, 7.9, 13.6 to 13.10).
 
+ghost use Rattle.std.specs.Prelude.{◌≡◌};
+
 use sq_bound::{
-    BindFault, BoundCond, BoundConj, BoundExpr, BoundTest, Names, Predicate, ResultColumn,
-    TableBody, TableDesc, TablePlace, Target, UpdatableQuery,
+    BindFault, BoundCond, BoundConj, BoundExpr, BoundTest, Leaf, Names, Predicate, ResultColumn,
+    Shared, TableBody, TableDesc, TablePlace, Target, UpdatableQuery,
 };
 use sq_items::Items;
 use sq_lex::Name;
@@ -56,23 +58,28 @@ pub(crate) fn bind_updatable<N: Names>(
     Ok(updatable(table.full_name(), columns, target))
 }
 
-/// What is under a table that may be changed.
+/// A table that may be changed, and what is under it.
 #[derive(Clone, Copy)]
-pub(crate) struct Under {
+pub(crate) struct Under<'a> {
     pub table: TablePlace,
+    pub leaf: &'a Shared<Leaf>,
+}
+
+impl Under<'_> {
     /// The place of the base table.
-    pub base: usize,
-    /// Whether no view in between has a condition that may answer a status.
-    pub is_quiet: bool,
+    pub(crate) fn base(&self) -> usize
+        ensures { result ≡ self.now.leaf.now.table.place }
+    {
+        self.leaf.get().table.get().place
+    }
 }
 
 /// What is under a table, if it may be changed.
-pub(crate) fn under_table(table: &TableDesc) -> Option<Under> {
+pub(crate) fn under_table(table: &TableDesc) -> Option<Under<'_>> {
     match &table.leaf {
         Some(leaf) => Some(Under {
             table: table.place(),
-            base: leaf.base,
-            is_quiet: leaf.is_quiet,
+            leaf,
         }),
         None => None,
     }
@@ -160,10 +167,10 @@ pub(crate) fn bind_target<N: Names>(
     names: &N,
     environment: &mut Environment,
     table: &TableDesc,
-    under: Under,
+    under: Under<'_>,
 ) -> Result<Found<Target>, BindFault> {
     let Some(cond) = cond else {
-        return Ok(whole_target(None, Findings::NONE, None, under));
+        return whole_target(None, Findings::NONE, None, under);
     };
     let mut functions = SetFunctions::forbidden(environment.alloc);
     let condition = bind_cond(cond, names, environment, &mut functions);
@@ -174,25 +181,27 @@ pub(crate) fn bind_target<N: Names>(
     } else {
         key_of(&part, table)
     };
-    Ok(whole_target(Some(part), findings, key, under))
+    whole_target(Some(part), findings, key, under)
 }
 
 fn whole_target(
     condition: Option<BoundCond>,
     findings: Findings,
     key: Option<usize>,
-    under: Under,
-) -> Found<Target> {
-    Found {
+    under: Under<'_>,
+) -> Result<Found<Target>, BindFault> {
+    let (condition, leaf) = both(Ok(condition), under.leaf.share())?;
+    Ok(Found {
         part: Target {
             table: under.table,
-            base: under.base,
+            base: under.base(),
+            is_quiet: leaf.get().is_quiet && !findings.can_fail && !findings.has_subquery,
+            leaf,
             condition,
             key,
-            is_quiet: under.is_quiet && !findings.can_fail && !findings.has_subquery,
         },
         findings,
-    }
+    })
 }
 
 /// The first key of a base table that a condition compares: the condition is one term, and its first tests say
@@ -204,7 +213,8 @@ fn key_of(condition: &BoundCond, table: &TableDesc) -> Option<usize> {
     let [term] = condition.terms.as_slice() else {
         return None;
     };
-    base.keys
+    base.get()
+        .keys
         .as_slice()
         .iter()
         .position(|key| compares(term, key.as_slice()))

@@ -8,6 +8,7 @@ mod expression;
 mod fault;
 mod names;
 mod query;
+mod shared;
 mod statement;
 
 pub use condition::{
@@ -24,6 +25,7 @@ pub use names::{
 pub use query::{
     BoundCursor, BoundQuery, BoundTerm, BoundUnion, CursorBody, SortColumn, Target, UpdatableQuery,
 };
+pub use shared::Shared;
 pub use statement::{
     BoundAssignment, BoundFetch, BoundInsert, BoundSelect, BoundStatement, BoundUpdate,
     ChangeTarget, Distance, FetchOrientation, InsertedRows, Output, PositionedTarget,

@@ -6,6 +6,7 @@ ghost use Rattle.sq_bound.specs.Parameter.{IsDomain-prop};
 
 use crate::condition::{BoundCond, BoundSpecification, TablePlace};
 use crate::query::BoundCursor;
+use crate::shared::Shared;
 use sq_items::Items;
 use sq_lex::Name;
 use sq_value::{Domain, Kind, Value};
@@ -70,7 +71,7 @@ pub struct TableDesc {
     pub columns: Items<Column>,
     pub body: TableBody,
     /// For a base table and an updatable view, the rows under it.
-    pub leaf: Option<Leaf>,
+    pub leaf: Option<Shared<Leaf>>,
 }
 
 /// A column, as a query sees it.
@@ -85,7 +86,7 @@ pub struct Column {
 /// What a table is.
 #[derive(Drop)]
 pub enum TableBody {
-    Base(BaseTable),
+    Base(Shared<BaseTable>),
     View(View),
 }
 
@@ -109,6 +110,7 @@ pub struct BaseColumn {
     pub domain: Domain,
     pub not_null: bool,
     pub default: ColumnDefault,
+    ghost is_domain: { IsDomain domain } by { IsDomain-prop domain },
 }
 
 /// The value of a column that an insert statement leaves out (11.5).
@@ -139,27 +141,25 @@ pub struct View {
     pub query: BoundSpecification,
 }
 
-/// The base table under an updatable view, or a base table itself.
+/// What is under an updatable view, or under a base table: the rows of a base table that it shows.
 #[derive(Drop)]
 pub struct Leaf {
-    /// The place of the base table.
-    pub base: usize,
-    /// The view's own condition, on a row of the base table.
-    pub condition: Option<BoundCond>,
-    /// The places of the views between the base table and this table, from inside out, this one included.
-    pub views: Items<usize>,
-    /// How many of them, from inside out, demand their condition of new and changed rows.
+    pub table: Shared<BaseTable>,
+    /// The conditions of the views between the base table and this table, each on a row of the base table, from inside out.
+    /// The condition of this view is the last.
+    pub conditions: Items<Shared<BoundCond>>,
+    /// How many of them, from inside out, new and changed rows have to meet.
     pub demanded: usize,
-    /// Whether none of their conditions may answer a status.
+    /// Whether none of them may answer a status.
     pub is_quiet: bool,
-    ghost are_views: { demanded ≤ length views },
+    ghost are_conditions: { demanded ≤ length conditions },
 }
 
 impl TableDesc {
     /// Where the table stands.
     pub fn place(&self) -> TablePlace {
         match &self.body {
-            TableBody::Base(table) => TablePlace::Base(table.place),
+            TableBody::Base(table) => TablePlace::Base(table.get().place),
             TableBody::View(view) => TablePlace::View(view.place),
         }
     }

@@ -1,6 +1,10 @@
 //! Query expressions and cursors with their names as places.
 
+ghost use Rattle.std.specs.Prelude.{◌≡◌};
+
 use crate::condition::{BoundCond, BoundSpecification, ResultColumn, TablePlace};
+use crate::names::Leaf;
+use crate::shared::Shared;
 use sq_items::{Boxed, Items};
 use sq_lex::Name;
 
@@ -37,20 +41,22 @@ pub struct SortColumn {
     pub descending: bool,
 }
 
-/// The rows of a base table that a statement or cursor may change. The conditions of the views in between stand in the
-/// table's `Leaf`.
+/// The rows of a base table that a statement or cursor may change: those that meet the conditions of the views in between,
+/// and then its own.
 #[derive(Drop)]
 pub struct Target {
     /// The table or view that is named.
     pub table: TablePlace,
     /// The place of the base table under it.
     pub base: usize,
+    pub leaf: Shared<Leaf>,
     /// The condition on a row of the base table.
     pub condition: Option<BoundCond>,
     /// The key of the base table whose columns the condition's first tests compare, each with a literal or a parameter.
     pub key: Option<usize>,
     /// Whether no condition, those of the views included, may answer a status.
     pub is_quiet: bool,
+    ghost is_under: { base ≡ leaf.table.place },
 }
 
 /// What an updatable query is over, and the columns of the base table that its select list names.

@@ -1,8 +1,12 @@
 //! Statements with their names as places.
 
-use crate::condition::{BoundSpecification, TablePlace};
+ghost use Rattle.std.specs.Prelude.{◌≡◌};
+
+use crate::condition::BoundSpecification;
 use crate::expression::BoundExpr;
+use crate::names::Leaf;
 use crate::query::Target;
+use crate::shared::Shared;
 use sq_items::Items;
 
 /// A statement of a procedure.
@@ -64,12 +68,14 @@ pub struct BoundSelect {
 /// An insert statement (13.8).
 #[derive(Drop)]
 pub struct BoundInsert {
-    pub table: TablePlace,
     /// The place of the base table that gets the rows.
     pub base: usize,
+    /// What is under the table that is named.
+    pub leaf: Shared<Leaf>,
     /// The columns of the base table that get the values, in the order of the values.
     pub columns: Items<usize>,
     pub source: InsertedRows,
+    ghost is_under: { base ≡ leaf.table.place },
 }
 
 /// Where inserted values come from.
@@ -90,9 +96,11 @@ pub enum ChangeTarget {
 #[derive(Drop)]
 pub struct PositionedTarget {
     pub cursor: usize,
-    pub table: TablePlace,
     /// The place of the base table.
     pub base: usize,
+    /// What is under the table that is named.
+    pub leaf: Shared<Leaf>,
+    ghost is_under: { base ≡ leaf.table.place },
 }
 
 /// An update statement (13.9, 13.10).

@@ -160,12 +160,15 @@ fn target_of<'a>(
 
 fn base_target(table: &TableDesc) -> Result<Target<'_>, ElementFault> {
     match &table.body {
-        TableBody::Base(base) => Ok(Target {
-            place: base.place,
-            columns: table.columns.as_slice(),
-            keys: base.keys.as_slice(),
-            primary: base.primary_key,
-        }),
+        TableBody::Base(base) => {
+            let base = base.get();
+            Ok(Target {
+                place: base.place,
+                columns: table.columns.as_slice(),
+                keys: base.keys.as_slice(),
+                primary: base.primary_key,
+            })
+        }
         TableBody::View(_) => bad_reference(),
     }
 }
@@ -316,7 +319,7 @@ fn may_reference(catalog: &Catalog, user: Name, table: &TableDesc, bound: &Refer
     let TableBody::Base(base) = &table.body else {
         return false;
     };
-    match base.keys.as_slice().get(bound.key) {
+    match base.get().keys.as_slice().get(bound.key) {
         Some(key) => key.as_slice().iter().all(|column| {
             catalog.may(user, Action::References, table.full_name(), Some(*column))
         }),

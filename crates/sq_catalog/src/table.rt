@@ -15,14 +15,15 @@ use crate::written::{Written, distinct_names, parts_of, pushed};
 use indexmap::IndexSet;
 use sq_bind::bind_check;
 use sq_bound::{
-    BaseColumn, BaseTable, BoundCond, Column, ColumnDefault, Leaf, TableBody, TableDesc, domain_of,
+    BaseColumn, BaseTable, BoundCond, Column, ColumnDefault, Leaf, Shared, TableBody, TableDesc,
+    domain_of,
 };
 use sq_items::Items;
 use sq_lex::Name;
 use sq_scope::{both, kept, signed_value, text_value};
 use sq_tree::{ColumnDefinition, Cond, DefaultValue, TableDefinition};
 use sq_value::{Domain, StoreFault, Value, store};
-use std::alloc::Global;
+use std::alloc::{AllocError, Global};
 
 /// The greatest number of columns of a table (own rule).
 const MOST_COLUMNS: usize = 64;
@@ -349,20 +350,28 @@ fn columns_only(
     name: &FullName,
     columns: &[Column],
 ) -> Result<TableDesc, ElementFault> {
+    let (columns, base) = both(Items::from_slice(alloc, columns), empty_base(alloc))?;
     Ok(TableDesc {
         user: name.user,
         name: name.name,
-        columns: Items::from_slice(alloc, columns)?,
-        body: TableBody::Base(BaseTable {
+        columns,
+        body: TableBody::Base(base),
+        leaf: None,
+    })
+}
+
+fn empty_base(alloc: Global) -> Result<Shared<BaseTable>, AllocError> {
+    Shared::new(
+        alloc,
+        BaseTable {
             place: 0,
             columns: Items::new(alloc),
             keys: Items::new(alloc),
             primary_key: None,
             references: Items::new(alloc),
             checks: Items::new(alloc),
-        }),
-        leaf: None,
-    })
+        },
+    )
 }
 
 fn copied_keys(alloc: Global, keys: &[Items<usize>]) -> Result<Items<Items<usize>>, ElementFault> {
@@ -380,13 +389,7 @@ fn described(
     columns: Items<Column>,
     base: BaseTable,
 ) -> Result<TableDesc, ElementFault> {
-    let leaf = Leaf {
-        base: base.place,
-        condition: None,
-        views: Items::new(alloc),
-        demanded: 0,
-        is_quiet: true,
-    };
+    let (columns, (base, leaf)) = both(Ok(columns), base_and_leaf(alloc, base))?;
     Ok(TableDesc {
         user: name.user,
         name: name.name,
@@ -394,4 +397,27 @@ fn described(
         body: TableBody::Base(base),
         leaf: Some(leaf),
     })
+}
+
+fn base_and_leaf(
+    alloc: Global,
+    base: BaseTable,
+) -> Result<(Shared<BaseTable>, Shared<Leaf>), AllocError> {
+    let base = Shared::new(alloc, base)?;
+    let leaf = base_leaf(alloc, &base);
+    both(Ok(base), leaf)
+}
+
+/// What is under a base table: itself.
+fn base_leaf(alloc: Global, base: &Shared<BaseTable>) -> Result<Shared<Leaf>, AllocError> {
+    let table = base.share()?;
+    Shared::new(
+        alloc,
+        Leaf {
+            table,
+            conditions: Items::new(alloc),
+            demanded: 0,
+            is_quiet: true,
+        },
+    )
 }

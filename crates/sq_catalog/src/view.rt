@@ -9,14 +9,14 @@ use crate::written::{add_name, names_of};
 use indexmap::IndexSet;
 use sq_bind::{BoundView, bind_view};
 use sq_bound::{
-    Action, BindFault, BoundExpr, BoundSpecification, Column, Leaf, Names, ResultColumn, TableBody,
-    TableDesc, TablePlace, UpdatableQuery, View,
+    Action, BindFault, BoundCond, BoundExpr, BoundSpecification, Column, Leaf, Names, ResultColumn,
+    Shared, TableBody, TableDesc, TablePlace, Target, UpdatableQuery, View,
 };
 use sq_items::Items;
 use sq_lex::Name;
 use sq_scope::{both, kept};
 use sq_tree::ViewDefinition;
-use std::alloc::Global;
+use std::alloc::{AllocError, Global};
 
 /// An action that a view's owner holds.
 #[derive(Clone, Copy)]
@@ -199,7 +199,7 @@ impl Catalog {
             &updatable,
         );
         drop(names);
-        let leaf = self.view_leaf(check_option, updatable);
+        let leaf = view_leaf(self.alloc(), check_option, updatable);
         let (query, (columns, leaf)) = both(Ok(query), both(columns, leaf))?;
         Ok(TableDesc {
             user: name.user,
@@ -212,44 +212,87 @@ impl Catalog {
             leaf,
         })
     }
+}
 
-    /// The rows under an updatable view. With a check option it demands its own condition and all those below.
-    fn view_leaf(
-        &self,
-        check_option: bool,
-        updatable: Option<UpdatableQuery>,
-    ) -> Result<Option<Leaf>, ElementFault> {
-        let Some(UpdatableQuery { target, columns }) = updatable else {
-            return Ok(None);
-        };
-        drop(columns);
-        let views = self.views_to(target.table);
-        let (target, (views, demanded)) = both(Ok(target), views)?;
-        Ok(Some(Leaf {
-            base: target.base,
-            demanded: if check_option { views.len() } else { demanded },
-            views,
-            is_quiet: target.is_quiet,
-            condition: target.condition,
-        }))
-    }
+/// What is under an updatable view. With a check option it demands its own condition and all those below.
+fn view_leaf(
+    alloc: Global,
+    check_option: bool,
+    updatable: Option<UpdatableQuery>,
+) -> Result<Option<Shared<Leaf>>, ElementFault> {
+    let Some(UpdatableQuery { target, columns }) = updatable else {
+        return Ok(None);
+    };
+    drop(columns);
+    let Target {
+        leaf,
+        condition,
+        is_quiet,
+        ..
+    } = target;
+    let above = leaf_above(alloc, leaf.get(), check_option, is_quiet, condition);
+    drop(leaf);
+    Ok(Some(Shared::new(alloc, above?)?))
+}
 
-    /// The views from the base table to a new view over this table, the new one included, and how many of those below it
-    /// demand their condition.
-    fn views_to(&self, under: TablePlace) -> Result<(Items<usize>, usize), ElementFault>
-        ensures { IfOk result (λ found. found.1 ≤ length found.0) }
-    {
-        let mut views = Items::new(self.alloc());
-        let mut demanded = 0;
-        if let Some(table) = self.table_at(under) {
-            if let Some(leaf) = &table.leaf {
-                views = Items::from_slice(self.alloc(), leaf.views.as_slice())?;
-                demanded = leaf.demanded;
-            }
+/// What is under a view over a table that has this under it, and a condition where the view has one.
+fn leaf_above(
+    alloc: Global,
+    below: &Leaf,
+    check_option: bool,
+    is_quiet: bool,
+    condition: Option<BoundCond>,
+) -> Result<Leaf, ElementFault> {
+    let conditions = conditions_above(alloc, below.conditions.as_slice(), condition);
+    let (conditions, table) = both(conditions, below.table.share())?;
+    Ok(Leaf {
+        table,
+        demanded: if check_option {
+            conditions.len()
+        } else {
+            below.demanded
+        },
+        conditions,
+        is_quiet,
+    })
+}
+
+/// The conditions below a view, and its own.
+fn conditions_above(
+    alloc: Global,
+    below: &[Shared<BoundCond>],
+    condition: Option<BoundCond>,
+) -> Result<Items<Shared<BoundCond>>, AllocError>
+    ensures { IfOk result (λ conditions. length below.now ≤ length conditions) }
+{
+    let Some(condition) = condition else {
+        return shared_conditions(alloc, below);
+    };
+    let (mut conditions, condition) = both(
+        shared_conditions(alloc, below),
+        Shared::new(alloc, condition),
+    )?;
+    match conditions.push(condition) {
+        Ok(()) => Ok(conditions),
+        Err(error) => {
+            drop(conditions);
+            Err(error)
         }
-        views.push(self.next_view())?;
-        Ok((views, demanded))
     }
+}
+
+/// Further owners of the conditions.
+fn shared_conditions(
+    alloc: Global,
+    conditions: &[Shared<BoundCond>],
+) -> Result<Items<Shared<BoundCond>>, AllocError>
+    ensures { IfOk result (λ shared. length shared ≡ length conditions.now) }
+{
+    let mut shared = Items::new(alloc);
+    for condition in conditions {
+        shared.push(condition.share()?)?;
+    }
+    Ok(shared)
 }
 
 /// The names that a view's column list gives, none of them twice.

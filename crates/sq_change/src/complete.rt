@@ -7,7 +7,7 @@ ghost use Rattle.sq_store.specs.Content.{changed_by, table_at, with_table};
 use crate::constraint::{check_options_met, rows_satisfied};
 use crate::reference::{Referenced, referenced_by, references_satisfied};
 use crate::setting::{Base, Setting};
-use sq_bound::{BaseTable, Names, TablePlace};
+use sq_bound::Names;
 use sq_lex::Name;
 use sq_query::{Failure, Fault};
 use sq_store::{ApplyFault, Change, Store};
@@ -17,8 +17,6 @@ use std::alloc::Global;
 /// What a statement changes.
 #[derive(Drop)]
 pub(crate) struct Changed {
-    /// The table that the statement names.
-    pub(crate) named: TablePlace,
     pub(crate) changes: Vec<Change>,
     /// The keys whose values rows may lose by it.
     pub(crate) lost_keys: Vec<usize>,
@@ -43,7 +41,7 @@ pub(crate) fn complete<N: Names, S: Store>(
     ensures numbers { S.row_numbers store.new ≡ S.row_numbers store.old }
 {
     let setting = Setting::new(alloc, names, &*store, user, parameters);
-    let referenced = match rows_admitted(&setting, base.table, &changed) {
+    let referenced = match rows_admitted(&setting, base, &changed) {
         Ok(referenced) => referenced,
         Err(fault) => {
             drop(changed);
@@ -73,13 +71,13 @@ pub(crate) fn complete<N: Names, S: Store>(
 /// Whether the rows that are put in a table may be there, and the rows to which they refer.
 fn rows_admitted<N: Names, S: Store>(
     setting: &Setting<'_, N, S>,
-    table: &BaseTable,
+    base: Base<'_>,
     changed: &Changed,
 ) -> Result<Vec<Referenced>, Fault> {
     let changes = changed.changes.as_slice();
-    check_options_met(setting, changed.named, changes)?;
-    rows_satisfied(setting, table, changes)?;
-    referenced_by(setting.alloc, table, changes)
+    check_options_met(setting, base.leaf, changes)?;
+    rows_satisfied(setting, base.table(), changes)?;
+    referenced_by(setting.alloc, base.table(), changes)
 }
 
 /// Makes changes in the store, where no two rows have the same key afterwards.

@@ -1,8 +1,8 @@
 //! What new and changed rows have to meet: check options, NOT NULL and CHECK (ISO/IEC 9075:1992, 11.4, 11.9, 11.19).
 
 use crate::row::{is_null, row_put};
-use crate::setting::{Setting, leaf_of};
-use sq_bound::{BaseTable, BoundCond, Leaf, Names, TablePlace};
+use crate::setting::Setting;
+use sq_bound::{BaseTable, BoundCond, Leaf, Names, Shared};
 use sq_query::{Failure, Fault};
 use sq_store::{Change, Store};
 use sq_value::{Row, Truth, Value};
@@ -10,34 +10,31 @@ use sq_value::{Row, Truth, Value};
 /// Whether the rows that are put in a table meet the check options of the table that the statement names.
 pub(crate) fn check_options_met<N: Names, S: Store>(
     setting: &Setting<'_, N, S>,
-    named: TablePlace,
+    leaf: &Leaf,
     changes: &[Change],
 ) -> Result<(), Fault> {
-    let views = demanded_views(leaf_of(setting.names, named)?);
+    let conditions = demanded(leaf);
     for change in changes {
         if let Some(row) = row_put(change) {
-            meets_check_option(setting, views, row)?;
+            meets_check_option(setting, conditions, row)?;
         }
     }
     Ok(())
 }
 
-/// The views, from inside out, whose conditions are demanded.
-fn demanded_views(leaf: &Leaf) -> &[usize] {
-    &leaf.views.as_slice()[..leaf.demanded]
+/// The conditions, from inside out, that rows have to meet.
+fn demanded(leaf: &Leaf) -> &[Shared<BoundCond>] {
+    &leaf.conditions.as_slice()[..leaf.demanded]
 }
 
-/// Whether the conditions of the views are true, one after the other.
+/// Whether the conditions are true, one after the other.
 fn meets_check_option<N: Names, S: Store>(
     setting: &Setting<'_, N, S>,
-    views: &[usize],
+    conditions: &[Shared<BoundCond>],
     row: &Row,
 ) -> Result<(), Fault> {
-    for view in views {
-        let leaf = leaf_of(setting.names, TablePlace::View(*view))?;
-        if let Some(condition) = &leaf.condition {
-            is_or_violates(setting.truth(condition, row)?)?;
-        }
+    for condition in conditions {
+        is_or_violates(setting.truth(condition.get(), row)?)?;
     }
     Ok(())
 }

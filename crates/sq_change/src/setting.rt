@@ -1,6 +1,6 @@
 //! What a statement reads.
 
-ghost use Rattle.std.specs.Prelude.{◌≡◌, ◌<◌, length, IfOk};
+ghost use Rattle.std.specs.Prelude.{◌≡◌, ◌<◌, ◌≤◌, length, IfErr, IfOk};
 
 use sq_bound::{BaseTable, BoundCond, BoundExpr, Leaf, Names, TableBody, TablePlace};
 use sq_lex::Name;
@@ -64,27 +64,34 @@ impl<'a, N: Names, S: Store> Setting<'a, N, S> {
     }
 }
 
-/// A base table, and its place among the tables of the store.
+/// A base table, its place among the tables of the store, and what is demanded of its rows by the table that a statement
+/// names.
 #[derive(Clone, Copy)]
 pub(crate) struct Base<'a> {
     pub(crate) place: usize,
-    pub(crate) table: &'a BaseTable,
+    pub(crate) leaf: &'a Leaf,
+}
+
+impl<'a> Base<'a> {
+    pub(crate) fn table(&self) -> &'a BaseTable {
+        self.leaf.table.get()
+    }
 }
 
 /// The base table at a place, whose rows the store keeps.
-pub(crate) fn base_at<'a, N: Names, S: Store>(
-    names: &'a N,
+pub(crate) fn base_at<'a, S: Store>(
     store: &S,
     place: usize,
+    leaf: &'a Leaf,
 ) -> Result<Base<'a>, Fault>
     ensures place { IfOk result (λ base. base.place ≡ place) }
     ensures kept { IfOk result (λ base. base.place < length (S.content_now store.now)) }
+    ensures refused { IfErr result (λ f. (f ≡ Fault.NOT_WELL_FORMED) × (length (S.content_now store.now) ≤ place)) }
 {
     if place >= store.table_count() {
         return Err(Fault::NOT_WELL_FORMED);
     }
-    let table = base_table(names, place)?;
-    Ok(Base { place, table })
+    Ok(Base { place, leaf })
 }
 
 /// The base table at a place.
@@ -93,18 +100,7 @@ pub(crate) fn base_table<N: Names>(names: &N, place: usize) -> Result<&BaseTable
         return Err(Fault::NOT_WELL_FORMED);
     };
     match &table.body {
-        TableBody::Base(base) => Ok(base),
+        TableBody::Base(base) => Ok(base.get()),
         TableBody::View(_) => Err(Fault::NOT_WELL_FORMED),
-    }
-}
-
-/// What is under a table that may be changed.
-pub(crate) fn leaf_of<N: Names>(names: &N, place: TablePlace) -> Result<&Leaf, Fault> {
-    let Some(table) = names.at(place) else {
-        return Err(Fault::NOT_WELL_FORMED);
-    };
-    match &table.leaf {
-        Some(leaf) => Ok(leaf),
-        None => Err(Fault::NOT_WELL_FORMED),
     }
 }

@@ -11,7 +11,7 @@ use crate::complete::{Changed, complete};
 use crate::given::new_rows;
 use crate::setting::{Base, Setting, base_at};
 use crate::target::{all_keys, changed_table, keys_assigned, numbers_changed, removed, replaced};
-use sq_bound::{BaseTable, BoundInsert, BoundUpdate, ChangeTarget, Names, TablePlace};
+use sq_bound::{BaseTable, BoundInsert, BoundUpdate, ChangeTarget, Names};
 use sq_query::{Failure, Fault, Inputs};
 use sq_store::{Change, Meter, Store, can_apply};
 use std::alloc::Global;
@@ -33,7 +33,7 @@ pub fn insert<N: Names, S: Store>(
     ensures numbers { S.row_numbers store.new ≡ S.row_numbers store.old }
 {
     let Inputs { user, parameters } = inputs;
-    let base = base_at(names, &*store, insert.base)?;
+    let base = base_at(&*store, insert.base, insert.leaf.get())?;
     let setting = Setting::new(alloc, names, &*store, user, parameters);
     let changed = inserted(&setting, insert, base, meter)?;
     complete(alloc, names, base, changed, store, user, parameters)
@@ -51,7 +51,7 @@ fn inserted<N: Names, S: Store>(
     ensures insertions { IfOk result (λ changed. are_insertions changed.changes.items ≡ true) }
     ensures some { IfOk result (λ changed. 0 < vec_len changed.changes) }
 {
-    let changes = new_rows(setting, insert, base.table, meter)?;
+    let changes = new_rows(setting, insert, base.table(), meter)?;
     if changes.len() as u64 > setting.store.numbers_left(base.place) {
         drop(changes);
         return Err(Fault::Status(Failure::NoRowNumberLeft));
@@ -61,7 +61,6 @@ fn inserted<N: Names, S: Store>(
         return Err(Fault::NOT_WELL_FORMED);
     }
     Ok(Changed {
-        named: insert.table,
         changes,
         lost_keys: Vec::new(setting.alloc),
     })
@@ -86,17 +85,16 @@ pub fn update<N: Names, S: Store>(
     ensures numbers { S.row_numbers store.new ≡ S.row_numbers store.old }
 {
     let Inputs { user, parameters } = inputs;
-    let (named, place) = changed_table(&update.target);
-    let base = base_at(names, &*store, place)?;
+    let (place, leaf) = changed_table(&update.target);
+    let base = base_at(&*store, place, leaf)?;
     let setting = Setting::new(alloc, names, &*store, user, parameters);
-    let changed = updated(&setting, named, base, update, on, meter)?;
+    let changed = updated(&setting, base, update, on, meter)?;
     complete(alloc, names, base, changed, store, user, parameters)
 }
 
 /// The changed rows of an update statement.
 fn updated<N: Names, S: Store>(
     setting: &Setting<'_, N, S>,
-    named: TablePlace,
     base: Base<'_>,
     update: &BoundUpdate,
     on: Option<u64>,
@@ -111,24 +109,19 @@ fn updated<N: Names, S: Store>(
     let numbers = numbers_changed(setting, &update.target, on, meter)?;
     let changes = replaced(setting, base, assignments, numbers.as_slice());
     drop(numbers);
-    let lost_keys = keys_assigned(setting.alloc, base.table, assignments);
-    changed(named, changes, lost_keys)
+    let lost_keys = keys_assigned(setting.alloc, base.table(), assignments);
+    changed(changes, lost_keys)
 }
 
 /// Changes, and the keys whose values rows may lose by them.
 fn changed(
-    named: TablePlace,
     changes: Result<Vec<Change>, Fault>,
     lost_keys: Result<Vec<usize>, Fault>,
 ) -> Result<Changed, Fault>
     ensures { IfOk result (λ changed. changes ≡ Ok changed.changes) }
 {
     match (changes, lost_keys) {
-        (Ok(changes), Ok(lost_keys)) => Ok(Changed {
-            named,
-            changes,
-            lost_keys,
-        }),
+        (Ok(changes), Ok(lost_keys)) => Ok(Changed { changes, lost_keys }),
         (Ok(changes), Err(fault)) => {
             drop(changes);
             Err(fault)
@@ -159,17 +152,16 @@ pub fn delete<N: Names, S: Store>(
     ensures numbers { S.row_numbers store.new ≡ S.row_numbers store.old }
 {
     let Inputs { user, parameters } = inputs;
-    let (named, place) = changed_table(target);
-    let base = base_at(names, &*store, place)?;
+    let (place, leaf) = changed_table(target);
+    let base = base_at(&*store, place, leaf)?;
     let setting = Setting::new(alloc, names, &*store, user, parameters);
-    let changed = deleted(&setting, named, base.table, target, on, meter)?;
+    let changed = deleted(&setting, base.table(), target, on, meter)?;
     complete(alloc, names, base, changed, store, user, parameters)
 }
 
 /// The removed rows of a delete statement.
 fn deleted<N: Names, S: Store>(
     setting: &Setting<'_, N, S>,
-    named: TablePlace,
     table: &BaseTable,
     target: &ChangeTarget,
     on: Option<u64>,
@@ -181,5 +173,5 @@ fn deleted<N: Names, S: Store>(
     let numbers = numbers_changed(setting, target, on, meter)?;
     let changes = removed(setting.alloc, numbers.as_slice());
     drop(numbers);
-    changed(named, changes, all_keys(setting.alloc, table))
+    changed(changes, all_keys(setting.alloc, table))
 }

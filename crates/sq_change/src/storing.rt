@@ -1,6 +1,6 @@
 //! Values as the columns of a base table store them (ISO/IEC 9075:1992, 9.2).
 
-ghost use Rattle.std.specs.Prelude.{◌≡◌, ◌↔◌, IsTrue};
+ghost use Rattle.std.specs.Prelude.{◌≡◌, ◌↔◌, IsTrue, slice_get};
 ghost use Rattle.sq_meaning.specs.Assignment as spec;
 ghost use Rattle.sq_query.specs.Fault.{Meets};
 ghost use Rattle.sq_value.specs.Domain.{FitsKind, IsDomain, is_of_numbers};
@@ -30,19 +30,23 @@ pub(crate) fn assigned_to(
     table: &BaseTable,
     column: usize,
     value: &Value,
-) -> Result<Value, Fault> {
+) -> Result<Value, Fault>
+    ensures { slice_get table.now.columns column ≡ None → result ≡ Err Fault.NOT_WELL_FORMED }
+{
     match table.columns.as_slice().get(column) {
         Some(column) => assigned(alloc, column.domain, value),
         None => Err(Fault::NOT_WELL_FORMED),
     }
 }
 
-/// A value as a domain stores it.
+/// A value as a domain stores it, a number where the domain is one of numbers, or a text where it is one of texts.
 #[tactic(auto, using(crate::proofs::Stored::ok_meets, crate::proofs::Stored::err_meets))]
 pub fn assigned(alloc: Global, domain: Domain, value: &Value) -> Result<Value, Fault>
-    ensures { IsDomain domain → FitsKind domain value.now → Meets result (spec.assigned domain value.now) }
+    requires { IsDomain domain }
+    ensures fit { FitsKind domain value.now → Meets result (spec.assigned domain value.now) }
+    ensures unfit { ¬ FitsKind domain value.now → result ≡ Err Fault.NOT_WELL_FORMED }
 {
-    if !is_domain(domain) || !fits_kind(domain, value) {
+    if !fits_kind(domain, value) {
         return Err(Fault::NOT_WELL_FORMED);
     }
     match store(alloc, value, domain) {

@@ -9,20 +9,20 @@ ghost use Rattle.sq_change.specs.Statement.{Chosen, IsGiven, base_of};
 
 use crate::setting::{Base, Setting};
 use crate::storing::stored_value;
-use sq_bound::{BaseTable, BoundAssignment, ChangeTarget, Names, TablePlace};
+use sq_bound::{BaseTable, BoundAssignment, ChangeTarget, Leaf, Names};
 use sq_items::Items;
 use sq_query::{Failure, Fault, numbers_of};
 use sq_store::{Change, Meter, Store};
 use sq_value::{Row, Value, copy_row};
 use std::alloc::Global;
 
-/// The table that a statement names, and the place of the base table under it.
-pub(crate) fn changed_table(target: &ChangeTarget) -> (TablePlace, usize)
-    ensures { result.1 ≡ base_of target.now }
+/// The place of the base table that a statement changes, and what is under the table that it names.
+pub(crate) fn changed_table(target: &ChangeTarget) -> (usize, &Leaf)
+    ensures { result.0 ≡ base_of target.now }
 {
     match target {
-        ChangeTarget::Searched(target) => (target.table, target.base),
-        ChangeTarget::Positioned(target) => (target.table, target.base),
+        ChangeTarget::Searched(target) => (target.base, target.leaf.get()),
+        ChangeTarget::Positioned(target) => (target.base, target.leaf.get()),
     }
 }
 
@@ -83,7 +83,7 @@ pub(crate) fn replaced<N: Names, S: Store>(
     let mut meter = Meter::new();
     for number in numbers {
         if let Some(row) = setting.store.row(base.place, *number, &mut meter) {
-            let row = updated_row(setting, base.table, assignments, row)?;
+            let row = updated_row(setting, base.table(), assignments, row)?;
             changes.push(Change::Replace(*number, row))?;
         }
     }

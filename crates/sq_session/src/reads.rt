@@ -1,49 +1,26 @@
 //! Which columns of a base table's row the conditions of a target read.
 
 use sq_bound::{
-    BoundAssignment, BoundCond, BoundConj, BoundExpr, Leaf, Names, Operation, Predicate,
-    TablePlace, Target,
+    BoundAssignment, BoundCond, BoundConj, BoundExpr, Operation, Predicate, Shared, Target,
 };
-use sq_catalog::Catalog;
 
 /// Whether a condition of the target, those of the views in between included, reads a column that is assigned to.
-pub(crate) fn reads_assigned(
-    catalog: &Catalog,
-    target: &Target,
-    assignments: &[BoundAssignment],
-) -> bool {
+pub(crate) fn reads_assigned(target: &Target, assignments: &[BoundAssignment]) -> bool {
     let own = match &target.condition {
         Some(condition) => condition_reads(condition, assignments),
         None => false,
     };
-    own || views_read(catalog, target.table, assignments)
+    own || one_reads(target.leaf.get().conditions.as_slice(), assignments)
 }
 
-/// Whether a condition of the views between a base table and this table reads such a column.
-fn views_read(catalog: &Catalog, table: TablePlace, assignments: &[BoundAssignment]) -> bool {
-    let Some(leaf) = leaf_of(catalog, table) else {
-        return true;
-    };
-    for view in leaf.views.as_slice() {
-        if view_reads(catalog, *view, assignments) {
+/// Whether one of the conditions reads such a column.
+fn one_reads(conditions: &[Shared<BoundCond>], assignments: &[BoundAssignment]) -> bool {
+    for condition in conditions {
+        if condition_reads(condition.get(), assignments) {
             return true;
         }
     }
     false
-}
-
-fn view_reads(catalog: &Catalog, view: usize, assignments: &[BoundAssignment]) -> bool {
-    match leaf_of(catalog, TablePlace::View(view)) {
-        Some(leaf) => match &leaf.condition {
-            Some(condition) => condition_reads(condition, assignments),
-            None => false,
-        },
-        None => true,
-    }
-}
-
-fn leaf_of(catalog: &Catalog, table: TablePlace) -> Option<&Leaf> {
-    catalog.at(table)?.leaf.as_ref()
 }
 
 #[cycle(condition_reads)]

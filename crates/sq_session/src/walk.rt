@@ -160,11 +160,7 @@ pub(crate) fn listed_walk<S: Store>(
     }
     match &declared.cursor.body {
         CursorBody::Updatable(query)
-            if reads_assigned(
-                called.catalog,
-                &query.target,
-                statement.assignments.as_slice(),
-            ) => {
+            if reads_assigned(&query.target, statement.assignments.as_slice()) => {
             let numbers = rest_of_walk(called, declared.user, &query.target, store, walk)?;
             Ok(Some(numbers))
         }
