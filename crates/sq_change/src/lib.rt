@@ -16,4 +16,4 @@ mod storing;
 mod target;
 
 pub use statement::{delete, insert, update};
-pub use storing::{assigned, fits_kind, is_domain};
+pub use storing::{assigned, fits_kind};

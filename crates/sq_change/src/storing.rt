@@ -55,19 +55,6 @@ pub fn assigned(alloc: Global, domain: Domain, value: &Value) -> Result<Value, F
     }
 }
 
-/// Whether a precision, scale or length is in its range.
-pub fn is_domain(domain: Domain) -> bool
-    ensures { IsTrue result ↔ IsDomain domain }
-{
-    match domain {
-        Domain::Small | Domain::Int => true,
-        Domain::Numeric(precision, scale) => {
-            1 <= precision && precision <= 18 && scale <= precision
-        }
-        Domain::Char(length) | Domain::VarChar(length) => 1 <= length && length <= 240,
-    }
-}
-
 /// Whether the value is null, a number for a domain of numbers, or a text for one of texts.
 pub fn fits_kind(domain: Domain, value: &Value) -> bool
     ensures { IsTrue result ↔ FitsKind domain value.now }
