@@ -37,12 +37,16 @@ pub struct Session<S: Store> {
 
 impl<S: Store> Model for Session<S> {
     ghost use Rattle.std.specs.Coded.{codes};
+    ghost use Rattle.sq_bound.specs.contracts.condition.BoundCond as condition;
+    ghost use Rattle.sq_bound.specs.contracts.condition.Predicate as predicate;
+    ghost use Rattle.sq_bound.specs.contracts.expression.BoundExpr as expression;
+    ghost use Rattle.sq_bound.specs.contracts.names.BaseColumn as column;
     ghost use Rattle.sq_bound.specs.contracts.names.ParameterDesc as parameter;
     ghost use Rattle.sq_session.specs.Session.{Session, procedures_of};
 
     ghost Value = { Session };
 
-    ghost coded = { Prim.hlevel (codes, parameter.the_row.coded) };
+    ghost coded = { Prim.hlevel (codes, parameter.the_row.coded, column.the_row.coded, condition.the_row.coded, predicate.the_row.coded, expression.the_row.coded) };
 
     ghost view = { λ s. record { procedures = procedures_of s.program.cursors.items s.program.procedures.entries; tables = s.catalog.tables; state = s.machine } };
 }
