@@ -1,5 +1,5 @@
 -- The reading of a text: its bytes as a row of separators and tokens, each as long as it can be, or the first fault from the left.
-use Rattle.std.specs.Prelude.{◌≡◌, ℕ, zero, suc, ◌+◌, ◌-◌, List, [], ◌∷◌, ◌++◌, take, Result, Ok, Err}
+use Rattle.std.specs.Prelude.{◌≡◌, ℕ, zero, suc, ◌-◌, List, [], ◌∷◌, ◌++◌, take, Result, Ok, Err}
 use Rattle.sq_lex.specs.declared.fault.LexError.{LexError}
 use Rattle.sq_lex.specs.declared.fault.LexError.TheVariants.{NoMemory, Fault}
 use Rattle.sq_lex.specs.declared.fault.LexFault.{LexFault}

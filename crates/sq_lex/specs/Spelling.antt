@@ -1,8 +1,8 @@
 -- The spellings of lexemes (ISO/IEC 9075:1992, 5.2 and 5.3), each said of all its bytes at once.
-use Rattle.std.specs.Prelude.{ℕ, ◌≡◌, ◌+◌, ◌<◌, ◌≤◌, ◌⊎◌, ◌==◌, ◌||◌, true, List, [], ◌∷◌, ◌++◌, length, map, take, slice_index, codes, Some, None, if◌then◌else◌}
-use Rattle.std.specs.Char.{is_ascii_alphabetic, to_ascii_uppercase}
+use Rattle.std.specs.Prelude.{ℕ, ◌≡◌, ◌<◌, ◌≤◌, ◌⊎◌, ◌==◌, ◌||◌, true, List, [], ◌∷◌, ◌++◌, length, map, take, slice_index, codes, Some, None, if◌then◌else◌}
+use Rattle.std.specs.Char.{to_ascii_uppercase}
 use Rattle.std.specs.List.{list_all}
-use Rattle.sq_lex.specs.Characters.{line_feed, point, quote, has, is_printable, is_white}
+use Rattle.sq_lex.specs.Characters.{line_feed, quote, has, is_printable, is_white}
 use Rattle.sq_lex.specs.Name.{IsWordSpelling}
 use Rattle.sq_lex.specs.Number.{IsNumberSpelling}
 use Rattle.sq_lex.specs.Piece.{begins_comment}

@@ -1,5 +1,4 @@
-use Rattle.std.proofs.Common.{arith, rules, ◌∙◌, ap, sym, suc, ◌≡◌, ◌+◌, add-one, get_or}
-use Rattle.sq_lex.specs.Characters.{quote}
+use Rattle.std.proofs.Common.{arith, rules, ◌∙◌, ap, sym, suc, ◌+◌, add-one, get_or}
 use Rattle.sq_lex.proofs.LiteralLemmas.{step_plain, step_two, ends, past_end}
 use Rattle.sq_lex.proofs.literal.Literal.after_quote.Goals as goal
 use Rattle.sq_lex.proofs.literal.Literal.after_quote.Goals.{then-size-bytes-via-then-size-bytes, then-size-bytes-via-else-size-bytes+then-bytes-size-ne39, then-byte-eq39+else-size-bytes+else-bytes-size-ne39, else-byte-eq39+else-is_line_end+else-not-is_printable}
