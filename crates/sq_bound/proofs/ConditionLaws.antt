@@ -74,16 +74,16 @@ pub predicate_of-Bracketed : (functions : List PlacedExpr) (c : BoundCond) → p
 unfolding predicate_of cond_of
 predicate_of-Bracketed functions c = ap (predicate_of functions) (sym (bound.rolls-Bracketed c)) ∙ ap (at functions) (fold-roll-Predicate _ _ _ _ _ _ _ _ _ _ _ _ (layer.Bracketed c))
 
-pub groups_of-roll : (columns : List Place) (by_columns : Bool) (set_functions : List SetFunctionCall) (having : Option BoundCond)
-    → groups_of (roll-Grouping (record { columns = columns; by_columns = by_columns; set_functions = set_functions; having = having }))
+pub groups_of-roll : (columns : List Place) (set_functions : List SetFunctionCall) (having : Option BoundCond)
+    → groups_of (roll-Grouping (record { columns = columns; set_functions = set_functions; having = having }))
     ≡ groups_by columns (map call_of set_functions) (clause_of (map call_of set_functions) having)
 unfolding groups_of cond_of
-groups_of-roll columns by_columns set_functions None = fold-roll-Grouping _ _ _ _ _ _ _ _ _ _ _ _ _
-groups_of-roll columns by_columns set_functions (Some c) = fold-roll-Grouping _ _ _ _ _ _ _ _ _ _ _ _ _
+groups_of-roll columns set_functions None = fold-roll-Grouping _ _ _ _ _ _ _ _ _ _ _ _ _
+groups_of-roll columns set_functions (Some c) = fold-roll-Grouping _ _ _ _ _ _ _ _ _ _ _ _ _
 
 pub groups_of-out : (g : Grouping)
     → groups_of g ≡ groups_by (out-Grouping g).columns (map call_of (out-Grouping g).set_functions) (clause_of (map call_of (out-Grouping g).set_functions) (out-Grouping g).having)
-groups_of-out g = ap groups_of (sym (roll-out-Grouping g)) ∙ groups_of-roll (out-Grouping g).columns (out-Grouping g).by_columns (out-Grouping g).set_functions (out-Grouping g).having
+groups_of-out g = ap groups_of (sym (roll-out-Grouping g)) ∙ groups_of-roll (out-Grouping g).columns (out-Grouping g).set_functions (out-Grouping g).having
 
 pub select_of-roll : (d : Bool) (list : List BoundExpr) (from : List TablePlace) (condition : Option BoundCond) (grouping : Option Grouping) (columns : List ResultColumn) (can_fail : Bool) (number : Option ℕ)
     → select_of (roll-BoundSpecification (record { distinct = d; list = list; from = from; condition = condition; grouping = grouping; columns = columns; can_fail = can_fail; number = number }))

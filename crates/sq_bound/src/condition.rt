@@ -91,8 +91,6 @@ pub struct BoundSpecification {
 pub struct Grouping {
     /// The grouping columns, none without GROUP BY.
     pub columns: Items<Place>,
-    /// Whether GROUP BY is written. Without it there is one group, also of no rows.
-    pub by_columns: bool,
     /// Its set functions in the order of the text.
     pub set_functions: Items<SetFunctionCall>,
     pub having: Option<BoundCond>,

@@ -387,7 +387,7 @@ fn whole_specification(parts: Parts) -> SubqueryResult {
         is_distinct,
         tables,
         condition,
-        by_columns,
+        by_columns: _,
         groups,
         selected,
         having,
@@ -396,7 +396,6 @@ fn whole_specification(parts: Parts) -> SubqueryResult {
     } = parts;
     let grouping = Grouping {
         columns: groups,
-        by_columns,
         set_functions: functions.calls,
         having: having.part,
     };
