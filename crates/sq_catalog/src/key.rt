@@ -1,11 +1,9 @@
 //! Keys of a table definition (ISO/IEC 9075:1992, 11.7; that each column is NOT NULL, and the number of columns, are own rules).
 
 use crate::fault::{ElementFault, RefusalName, refused_if};
-use crate::written::{WrittenKey, has_twice, positions_of, pushed};
-use indexmap::IndexSet;
+use crate::written::{NamedColumns, WrittenKey, has_twice, pushed};
 use sq_items::Items;
 use sq_lex::Name;
-use sq_tree::{ColumnConstraint, ColumnDefinition};
 use std::alloc::Global;
 
 /// The greatest number of columns of a key or reference (own rule).
@@ -18,55 +16,69 @@ pub(crate) struct Keys {
     pub primary: Option<usize>,
     /// Whether there are two primary keys.
     pub has_two_primary: bool,
+    /// Whether a column of a key isn't declared NOT NULL.
+    pub has_nullable: bool,
 }
 
 /// The keys with their columns found among the names.
 pub(crate) fn keys_of(
     alloc: Global,
-    names: &IndexSet<Name>,
+    named: &NamedColumns,
     written: &[WrittenKey],
 ) -> Result<Keys, ElementFault> {
     let mut keys = Keys {
         columns: Items::new(alloc),
         primary: None,
         has_two_primary: false,
+        has_nullable: false,
     };
-    for key in written {
-        keys.add(alloc, names, key)?;
+    match keys.add_all(alloc, named, written) {
+        Ok(()) => Ok(keys),
+        Err(fault) => {
+            drop(keys);
+            Err(fault)
+        }
     }
-    Ok(keys)
 }
 
 impl Keys {
-    fn add(
+    fn add_all(
         &mut self,
         alloc: Global,
-        names: &IndexSet<Name>,
-        key: &WrittenKey,
+        named: &NamedColumns,
+        written: &[WrittenKey],
     ) -> Result<(), ElementFault> {
-        let positions = positions_of(alloc, names, key.columns.as_slice())?;
-        if key.is_primary {
-            self.has_two_primary = self.has_two_primary || self.primary.is_some();
-            self.primary = Some(self.columns.len());
-        }
-        self.columns.push(positions)?;
-        Ok(())
-    }
-
-    /// Each column of a key is declared NOT NULL.
-    pub(crate) fn check_not_null(&self, columns: &[&ColumnDefinition]) -> Result<(), ElementFault> {
-        for key in self.columns.as_slice() {
-            let is_nullable = key
-                .as_slice()
-                .iter()
-                .any(|position| !is_not_null_at(columns, *position));
-            refused_if(is_nullable, RefusalName::NullableKey)?;
+        for key in written {
+            let columns = self.found_columns(alloc, named, key.columns.as_slice())?;
+            if key.is_primary {
+                self.has_two_primary = self.has_two_primary || self.primary.is_some();
+                self.primary = Some(self.columns.len());
+            }
+            self.columns.push(columns)?;
         }
         Ok(())
     }
 
-    /// At most one primary key, and no list with a column twice or of more than 6.
-    pub(crate) fn check_lists(&self) -> Result<(), ElementFault> {
+    /// The positions of the columns of a key.
+    fn found_columns(
+        &mut self,
+        alloc: Global,
+        named: &NamedColumns,
+        names: &[Name],
+    ) -> Result<Items<usize>, ElementFault> {
+        let mut positions = Items::new(alloc);
+        for name in names {
+            let column = named.column(*name)?;
+            self.has_nullable = self.has_nullable || !column.is_not_null;
+            positions.push(column.position)?;
+        }
+        Ok(positions)
+    }
+
+    /// Each column of a key is declared NOT NULL, there is at most one primary key, and no list has a column twice or more
+    /// than 6.
+    pub(crate) fn check(&self) -> Result<(), ElementFault> {
+        refused_if(self.has_nullable, RefusalName::NullableKey)?;
         refused_if(self.has_two_primary, RefusalName::BadKey)?;
         for key in self.columns.as_slice() {
             refused_if(is_bad_list(key.as_slice()), RefusalName::BadKey)?;
@@ -88,20 +100,4 @@ impl Keys {
 /// Whether a list has a column twice or more than 6.
 pub(crate) fn is_bad_list(positions: &[usize]) -> bool {
     positions.len() > MOST_KEY_COLUMNS || has_twice(positions)
-}
-
-/// Whether the column is declared NOT NULL.
-fn is_not_null_at(columns: &[&ColumnDefinition], position: usize) -> bool {
-    match columns.get(position) {
-        Some(column) => is_not_null(column),
-        None => false,
-    }
-}
-
-/// Whether NOT NULL is written for a column.
-pub(crate) fn is_not_null(column: &ColumnDefinition) -> bool {
-    column.constraints.as_slice().iter().any(|constraint| matches!(
-        constraint,
-        ColumnConstraint::NotNull
-    ))
 }

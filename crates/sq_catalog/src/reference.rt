@@ -4,8 +4,7 @@ use crate::catalog::{Catalog, FullName, full_name};
 use crate::fault::{ElementFault, RefusalName, refused_if};
 use crate::grants::columns_of;
 use crate::key::{Keys, is_bad_list};
-use crate::written::{WrittenReference, names_of, positions_of, pushed};
-use indexmap::IndexSet;
+use crate::written::{NamedColumns, WrittenReference, names_of, pushed};
 use sq_bound::{Action, Column, Names, Reference, TableBody, TableDesc};
 use sq_items::Items;
 use sq_lex::Name;
@@ -28,7 +27,7 @@ pub(crate) struct FoundReference<'t> {
 pub(crate) struct OwnTable<'a> {
     pub user: Name,
     pub full_name: FullName,
-    pub names: &'a IndexSet<Name>,
+    pub columns: &'a NamedColumns,
 }
 
 /// The references with their columns found.
@@ -38,11 +37,26 @@ pub(crate) fn references_of<'t>(
     written: &[WrittenReference<'_>],
 ) -> Result<Vec<FoundReference<'t>>, ElementFault> {
     let mut references = Vec::new(catalog.alloc());
+    match add_found(catalog, own, written, &mut references) {
+        Ok(()) => Ok(references),
+        Err(fault) => {
+            drop(references);
+            Err(fault)
+        }
+    }
+}
+
+fn add_found<'t>(
+    catalog: &'t Catalog,
+    own: &OwnTable<'_>,
+    written: &[WrittenReference<'_>],
+    references: &mut Vec<FoundReference<'t>>,
+) -> Result<(), ElementFault> {
     for reference in written {
         let found = found_reference(catalog, own, reference)?;
         pushed(references.push(found).is_ok())?;
     }
-    Ok(references)
+    Ok(())
 }
 
 fn found_reference<'t>(
@@ -51,7 +65,9 @@ fn found_reference<'t>(
     reference: &WrittenReference<'_>,
 ) -> Result<FoundReference<'t>, ElementFault> {
     let earlier = earlier_table(catalog, own, full_name(own.user, reference.to.table))?;
-    let columns = positions_of(catalog.alloc(), own.names, reference.columns.as_slice());
+    let columns = own
+        .columns
+        .positions(catalog.alloc(), reference.columns.as_slice());
     let listed = listed_columns(catalog.alloc(), own, earlier, reference.to);
     let (columns, listed) = both(columns, listed)?;
     Ok(FoundReference {
@@ -100,7 +116,7 @@ fn positions_in(
     names: &[Name],
 ) -> Result<Items<usize>, ElementFault> {
     match earlier {
-        None => positions_of(alloc, own.names, names),
+        None => own.columns.positions(alloc, names),
         Some(table) => columns_of(alloc, table, names),
     }
 }
@@ -173,27 +189,85 @@ fn base_target(table: &TableDesc) -> Result<Target<'_>, ElementFault> {
     }
 }
 
-/// The references, each to a key of a base table and of its kinds.
+/// The references of a table, each to a key of a base table and of its kinds.
+#[derive(Drop)]
+pub(crate) struct BoundReferences {
+    pub references: Items<Reference>,
+    /// Whether the user holds REFERENCES on each column that is referenced of another table.
+    pub are_permitted: bool,
+}
+
+/// The references that a table definition of a user writes.
 pub(crate) fn bound_references<'a>(
-    alloc: Global,
+    catalog: &Catalog,
+    user: Name,
     own: OwnKeys<'a>,
     found: &'a [FoundReference<'a>],
-) -> Result<Items<Reference>, ElementFault> {
-    let mut references = Items::new(alloc);
-    for reference in found {
-        references.push(bound_reference(alloc, own, reference)?)?;
+) -> Result<BoundReferences, ElementFault> {
+    let mut bound = BoundReferences {
+        references: Items::new(catalog.alloc()),
+        are_permitted: true,
+    };
+    match bound.add_all(catalog, user, own, found) {
+        Ok(()) => Ok(bound),
+        Err(fault) => {
+            drop(bound);
+            Err(fault)
+        }
     }
-    Ok(references)
+}
+
+impl BoundReferences {
+    fn add_all<'a>(
+        &mut self,
+        catalog: &Catalog,
+        user: Name,
+        own: OwnKeys<'a>,
+        found: &'a [FoundReference<'a>],
+    ) -> Result<(), ElementFault> {
+        for reference in found {
+            self.add(catalog, user, own, reference)?;
+        }
+        Ok(())
+    }
+
+    fn add<'a>(
+        &mut self,
+        catalog: &Catalog,
+        user: Name,
+        own: OwnKeys<'a>,
+        reference: &'a FoundReference<'a>,
+    ) -> Result<(), ElementFault> {
+        let target = target_of(own, reference.earlier)?;
+        let key = referenced_key(target, &reference.listed)?;
+        let bound = bound_reference(catalog.alloc(), own, reference, target, key)?;
+        self.references.push(bound)?;
+        if let Some(table) = reference.earlier {
+            let may = may_reference(catalog, user, table, key.columns);
+            self.are_permitted = self.are_permitted && may;
+        }
+        Ok(())
+    }
+}
+
+/// Whether a user holds REFERENCES on columns of a table.
+fn may_reference(catalog: &Catalog, user: Name, table: &TableDesc, columns: &[usize]) -> bool {
+    columns.iter().all(|column| catalog.may(
+        user,
+        Action::References,
+        table.full_name(),
+        Some(*column),
+    ))
 }
 
 fn bound_reference<'a>(
     alloc: Global,
     own: OwnKeys<'a>,
     reference: &'a FoundReference<'a>,
+    target: Target<'a>,
+    key: ReferencedKey<'a>,
 ) -> Result<Reference, ElementFault> {
     let columns = reference.columns.as_slice();
-    let target = target_of(own, reference.earlier)?;
-    let key = referenced_key(target, &reference.listed)?;
     if columns.len() != key.listed.len()
         || !kinds_agree(own.columns, columns, target.columns, key.listed)
     {
@@ -244,18 +318,18 @@ fn listed_key<'a>(
     bad_reference()
 }
 
+/// The primary key, if the table has one.
 fn primary_key(target: Target<'_>) -> Result<ReferencedKey<'_>, ElementFault> {
-    let Some(place) = target.primary else {
-        return bad_reference();
-    };
-    match target.keys.get(place) {
-        Some(key) => Ok(ReferencedKey {
-            place,
-            columns: key.as_slice(),
-            listed: key.as_slice(),
-        }),
-        None => bad_reference(),
+    for (place, key) in target.keys.iter().enumerate() {
+        if target.primary == Some(place) {
+            return Ok(ReferencedKey {
+                place,
+                columns: key.as_slice(),
+                listed: key.as_slice(),
+            });
+        }
     }
+    bad_reference()
 }
 
 /// Whether two lists without repeats have the same columns, in any order.
@@ -297,32 +371,4 @@ fn in_key_order(
         }
     }
     Ok(ordered)
-}
-
-/// The user holds REFERENCES on each column that is referenced of another table.
-pub(crate) fn check_privileges(
-    catalog: &Catalog,
-    user: Name,
-    found: &[FoundReference<'_>],
-    bound: &[Reference],
-) -> Result<(), ElementFault> {
-    for (found, bound) in found.iter().zip(bound) {
-        if let Some(table) = found.earlier {
-            let may = may_reference(catalog, user, table, bound);
-            refused_if(!may, RefusalName::PrivilegeMissing)?;
-        }
-    }
-    Ok(())
-}
-
-fn may_reference(catalog: &Catalog, user: Name, table: &TableDesc, bound: &Reference) -> bool {
-    let TableBody::Base(base) = &table.body else {
-        return false;
-    };
-    match base.get().keys.as_slice().get(bound.key) {
-        Some(key) => key.as_slice().iter().all(|column| {
-            catalog.may(user, Action::References, table.full_name(), Some(*column))
-        }),
-        None => false,
-    }
 }

@@ -6,13 +6,12 @@ ghost use Rattle.sq_value.specs.Domain.{IsDomain, FitsKind};
 
 use crate::catalog::{Catalog, FullName, full_name};
 use crate::fault::{ElementFault, RefusalName, refused_as, refused_if};
-use crate::key::{Keys, is_not_null, keys_of};
+use crate::key::{Keys, keys_of};
 use crate::reference::{
-    FoundReference, OwnKeys, OwnTable, bound_references, check_lists, check_privileges,
+    BoundReferences, FoundReference, OwnKeys, OwnTable, bound_references, check_lists,
     references_of,
 };
-use crate::written::{Written, distinct_names, parts_of, pushed};
-use indexmap::IndexSet;
+use crate::written::{NamedColumns, Written, is_not_null, named_columns, parts_of, pushed};
 use sq_bind::bind_check;
 use sq_bound::{
     BaseColumn, BaseTable, BoundCond, Column, ColumnDefault, Leaf, Shared, TableBody, TableDesc,
@@ -82,12 +81,12 @@ impl Catalog {
         definition: &'t TableDefinition,
     ) -> Result<Draft<'t>, ElementFault> {
         let written = parts_of(self.alloc(), definition)?;
-        let names = distinct_names(self.alloc(), written.columns.as_slice());
-        let found = match &names {
-            Ok(names) => self.found_names(user, name, names, &written),
+        let named = named_columns(self.alloc(), written.columns.as_slice());
+        let found = match &named {
+            Ok(named) => self.found_names(user, name, named, &written),
             Err(fault) => Err(*fault),
         };
-        drop(names);
+        drop(named);
         let (written, (keys, references)) = both(Ok(written), found)?;
         Ok(Draft {
             written,
@@ -101,15 +100,15 @@ impl Catalog {
         &'t self,
         user: Name,
         full_name: &FullName,
-        names: &IndexSet<Name>,
+        columns: &NamedColumns,
         written: &Written<'_>,
     ) -> Result<(Keys, Vec<FoundReference<'t>>), ElementFault> {
         let own = OwnTable {
             user,
             full_name: *full_name,
-            names,
+            columns,
         };
-        let keys = keys_of(self.alloc(), names, written.keys.as_slice());
+        let keys = keys_of(self.alloc(), columns, written.keys.as_slice());
         let references = references_of(self, &own, written.references.as_slice());
         both(keys, references)
     }
@@ -125,9 +124,9 @@ impl Catalog {
     {
         let columns = columns_of(self.alloc(), draft.written.columns.as_slice())?;
         draft.check_keys()?;
-        let base = (&*self).base_of(name, columns.as_slice(), &*draft);
-        let (columns, base) = both(Ok(columns), base)?;
-        if let Err(fault) = self.check_rest(user, name, draft, &base) {
+        let base = (&*self).base_of(user, name, columns.as_slice(), &*draft);
+        let (columns, (base, may_reference)) = both(Ok(columns), base)?;
+        if let Err(fault) = self.check_rest(user, name, &base, may_reference) {
             drop(base);
             drop(columns);
             return Err(fault);
@@ -135,19 +134,23 @@ impl Catalog {
         described(self.alloc(), name, columns, base)
     }
 
-    /// What the rows of the table hold and obey.
+    /// What the rows of the table hold and obey, and whether the user may make its references.
     fn base_of<'x>(
         &'x self,
+        user: Name,
         name: &FullName,
         columns: &'x [Column],
         draft: &'x Draft<'_>,
-    ) -> Result<BaseTable, ElementFault> {
+    ) -> Result<(BaseTable, bool), ElementFault> {
         let own = OwnKeys {
             place: self.next_base(),
             columns,
             keys: &draft.keys,
         };
-        let references = bound_references(self.alloc(), own, draft.references.as_slice())?;
+        let BoundReferences {
+            references,
+            are_permitted,
+        } = bound_references(self, user, own, draft.references.as_slice())?;
         let checks = bound_checks(self.alloc(), name, columns, draft.written.checks.as_slice());
         let (references, checks) = both(Ok(references), checks)?;
         let held = base_columns(self.alloc(), draft.written.columns.as_slice());
@@ -156,14 +159,15 @@ impl Catalog {
             Ok((references, checks)),
             both(held, keys),
         )?;
-        Ok(BaseTable {
+        let base = BaseTable {
             place: self.next_base(),
             columns,
             keys,
             primary_key: draft.keys.primary,
             references,
             checks,
-        })
+        };
+        Ok((base, are_permitted))
     }
 
     /// The privileges, the number of columns, the place of the table, and how many there are.
@@ -171,17 +175,12 @@ impl Catalog {
         &self,
         user: Name,
         name: &FullName,
-        draft: &Draft<'_>,
         base: &BaseTable,
+        may_reference: bool,
     ) -> Result<(), ElementFault>
         ensures { OnOk result (name.now.user ≡ user) }
     {
-        check_privileges(
-            self,
-            user,
-            draft.references.as_slice(),
-            base.references.as_slice(),
-        )?;
+        refused_if(!may_reference, RefusalName::PrivilegeMissing)?;
         let is_wide = base.columns.len() > MOST_COLUMNS;
         refused_if(is_wide, RefusalName::TooManyColumns)?;
         self.check_place(user, name)
@@ -189,10 +188,9 @@ impl Catalog {
 }
 
 impl Draft<'_> {
-    /// Key columns are NOT NULL, and the lists of keys and references are in order.
+    /// The keys are in order, and the lists of the references.
     fn check_keys(&self) -> Result<(), ElementFault> {
-        self.keys.check_not_null(self.written.columns.as_slice())?;
-        self.keys.check_lists()?;
+        self.keys.check()?;
         check_lists(self.references.as_slice())
     }
 }

@@ -3,7 +3,7 @@
 ghost use Rattle.std.specs.Prelude.{◌≡◌, true, OnOk};
 
 use crate::fault::{ElementFault, RefusalName, refused_if};
-use indexmap::IndexSet;
+use indexmap::{IndexMap, IndexSet};
 use sq_items::Items;
 use sq_lex::Name;
 use sq_tree::{
@@ -159,16 +159,83 @@ pub(crate) fn pushed(found_room: bool) -> Result<(), ElementFault>
     }
 }
 
-/// Column names, none of them twice.
-pub(crate) fn distinct_names(
+/// The columns of a definition by their names, none of which stands twice.
+#[derive(Drop)]
+pub(crate) struct NamedColumns {
+    /// At the place of each column whether it is declared NOT NULL.
+    not_null: IndexMap<Name, bool>,
+}
+
+/// A column of a definition.
+#[derive(Clone, Copy)]
+pub(crate) struct NamedColumn {
+    pub position: usize,
+    pub is_not_null: bool,
+}
+
+/// The columns of a definition by their names.
+pub(crate) fn named_columns(
     alloc: Global,
     columns: &[&ColumnDefinition],
-) -> Result<IndexSet<Name>, ElementFault> {
-    let mut names = IndexSet::new(alloc);
-    for column in columns {
-        add_name(&mut names, column.name)?;
+) -> Result<NamedColumns, ElementFault> {
+    let mut named = NamedColumns {
+        not_null: IndexMap::new(alloc),
+    };
+    match named.add_all(columns) {
+        Ok(()) => Ok(named),
+        Err(fault) => {
+            drop(named);
+            Err(fault)
+        }
     }
-    Ok(names)
+}
+
+impl NamedColumns {
+    fn add_all(&mut self, columns: &[&ColumnDefinition]) -> Result<(), ElementFault> {
+        for column in columns {
+            self.add(column)?;
+        }
+        Ok(())
+    }
+
+    fn add(&mut self, column: &ColumnDefinition) -> Result<(), ElementFault> {
+        match self.not_null.insert(column.name, is_not_null(column)) {
+            Ok(before) => refused_if(before.is_some(), RefusalName::NameTwice),
+            Err(_) => Err(ElementFault::NoMemory),
+        }
+    }
+
+    /// The column of a name.
+    pub(crate) fn column(&self, name: Name) -> Result<NamedColumn, ElementFault> {
+        match self.not_null.get_full(&name) {
+            Some((position, _, is_not_null)) => Ok(NamedColumn {
+                position,
+                is_not_null: *is_not_null,
+            }),
+            None => Err(ElementFault::Refused(RefusalName::UnknownName)),
+        }
+    }
+
+    /// The positions of the columns of names.
+    pub(crate) fn positions(
+        &self,
+        alloc: Global,
+        wanted: &[Name],
+    ) -> Result<Items<usize>, ElementFault> {
+        let mut positions = Items::new(alloc);
+        for name in wanted {
+            positions.push(self.column(*name)?.position)?;
+        }
+        Ok(positions)
+    }
+}
+
+/// Whether NOT NULL is written for a column.
+pub(crate) fn is_not_null(column: &ColumnDefinition) -> bool {
+    column.constraints.as_slice().iter().any(|constraint| matches!(
+        constraint,
+        ColumnConstraint::NotNull
+    ))
 }
 
 /// Adds a name that is not there yet.
@@ -177,22 +244,6 @@ pub(crate) fn add_name(names: &mut IndexSet<Name>, name: Name) -> Result<(), Ele
         Ok((_, added)) => refused_if(!added, RefusalName::NameTwice),
         Err(_) => Err(ElementFault::NoMemory),
     }
-}
-
-/// The positions of names among column names.
-pub(crate) fn positions_of(
-    alloc: Global,
-    names: &IndexSet<Name>,
-    wanted: &[Name],
-) -> Result<Items<usize>, ElementFault> {
-    let mut positions = Items::new(alloc);
-    for name in wanted {
-        match names.get_index_of(name) {
-            Some(position) => positions.push(position)?,
-            None => return Err(ElementFault::Refused(RefusalName::UnknownName)),
-        }
-    }
-    Ok(positions)
 }
 
 /// Whether a list of positions has one twice.

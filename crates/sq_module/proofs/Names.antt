@@ -11,7 +11,10 @@ use Rattle.sq_lex.specs.declared.name.Name.{Name}
 use Rattle.sq_tree.specs.declared.module.ModuleItem.{ModuleItem}
 use Rattle.sq_tree.specs.declared.module.ModuleItem.TheVariants as item
 use Rattle.sq_tree.specs.declared.module.ModuleText.{ModuleText}
+use Rattle.sq_module.specs.declared.admission.AdmittedModule.{AdmittedModule}
+use Rattle.sq_module.specs.declared.admission.AdmittedProcedure.{AdmittedProcedure}
 use Rattle.sq_module.specs.declared.program.ProcedureName.{ProcedureName}
+use Rattle.sq_module.specs.Admitted.{admitted_procedures, module_keys, name_of, procedure_names}
 use Rattle.sq_module.specs.Program.{AreNew, HaveNames, declared_procedures, module_procedures, name_in, names_in, procedure_in, same_name, same_procedure, with_procedures}
 
 -- ---- keys of a map
@@ -74,6 +77,21 @@ modules_next modules i m keys new lt e is have none last own =
       rw more (have_last [] (take i modules) m have (rw (← is) none) own),
     )
 
+-- ---- what is admitted of the items of a module, and of modules, one after the other
+
+pub procedures_next : (items : List ModuleItem) (i : ℕ) (x : ModuleItem) (admitted new : List AdmittedProcedure) → i < length items → x ≡ get_or items i x
+    → procedure_names admitted ≡ names_in (take i items) → procedure_names new ≡ procedure_names admitted ++ name_in x → procedure_names new ≡ names_in (take (i + 1) items)
+procedures_next items i x admitted new lt e are one = one ∙ ap (λ l. l ++ name_in x) are ∙ sym (names_more items i x lt e)
+
+pub admitted_more : (admitted : List AdmittedModule) (one : AdmittedModule) (m : ModuleText) → module_keys one ≡ module_procedures m
+    → admitted_procedures (admitted ++ one ∷ []) ≡ admitted_procedures admitted ++ module_procedures m
+admitted_more admitted one m same =
+    flat_map-append module_keys admitted (one ∷ []) ∙ ap (λ l. admitted_procedures admitted ++ l) (append-nil (module_keys one) ∙ same)
+
+pub declared_next : (modules : List ModuleText) (i : ℕ) (m : ModuleText) (before now : List ProcedureName) → i < length modules → m ≡ get_or modules i m
+    → before ≡ declared_procedures (take i modules) → now ≡ before ++ module_procedures m → now ≡ declared_procedures (take (i + 1) modules)
+declared_next modules i m before now lt e are more = more ∙ ap (λ l. l ++ module_procedures m) are ∙ sym (flat_more module_procedures modules i m lt e)
+
 -- ---- where names differ, the procedures of a program are those of the modules
 
 abbrev key_of : Name → Name → ProcedureName
@@ -83,6 +101,13 @@ keys_of_names : (m : Name) (items : List ModuleItem) → flat_map (procedure_in 
 keys_of_names m [] = refl
 keys_of_names m (item.Cursor c ∷ items) = keys_of_names m items
 keys_of_names m (item.Procedure p ∷ items) = ap (λ ks. key_of m p.name ∷ ks) (keys_of_names m items)
+
+keys_of_admitted : (m : Name) (admitted : List AdmittedProcedure) → map (name_of m) admitted ≡ map (key_of m) (procedure_names admitted)
+keys_of_admitted m [] = refl
+keys_of_admitted m (p ∷ ps) = ap (λ ks. key_of m p.procedure.now.name ∷ ks) (keys_of_admitted m ps)
+
+pub admitted_of_module : (m : ModuleText) (admitted : List AdmittedProcedure) → procedure_names admitted ≡ names_in m.items → map (name_of m.name) admitted ≡ module_procedures m
+admitted_of_module m admitted are = keys_of_admitted m.name admitted ∙ ap (map (key_of m.name)) are ∙ sym (keys_of_names m.name m.items)
 
 -- no key of that module
 other_module : (m name : Name) (keys : List ProcedureName) → list_any (λ k. same_name m k.«module») keys ≡ false → list_any (same_procedure (key_of m name)) keys ≡ false
@@ -107,10 +132,10 @@ other_name m name (n ∷ names) none = by (same_name name n) refl (other_name m 
     by true h rest = absurd (true≢false (sym (ap (λ b. b || list_any (same_name name) names) h) ∙ none))
     by false h rest = rw h (rw (no (same_name m m)) (rest (sym (ap (λ b. b || list_any (same_name name) names) h) ∙ none)))
 
-module_keys : (m : Name) (before : List ProcedureName) (earlier names : List Name) → list_any (λ k. same_name m k.«module») before ≡ false → AreNew earlier names
+keys_of_module : (m : Name) (before : List ProcedureName) (earlier names : List Name) → list_any (λ k. same_name m k.«module») before ≡ false → AreNew earlier names
     → with_procedures (before ++ map (key_of m) earlier) (map (key_of m) names) ≡ (before ++ map (key_of m) earlier) ++ map (key_of m) names
-module_keys m before earlier [] none are = sym (append-nil (before ++ map (key_of m) earlier))
-module_keys m before earlier (n ∷ names) none are =
+keys_of_module m before earlier [] none are = sym (append-nil (before ++ map (key_of m) earlier))
+keys_of_module m before earlier (n ∷ names) none are =
     let now = before ++ map (key_of m) earlier in
     let fresh : list_any (same_procedure (key_of m n)) now ≡ false =
     list_any-append (same_procedure (key_of m n)) before (map (key_of m) earlier)
@@ -118,7 +143,7 @@ module_keys m before earlier (n ∷ names) none are =
     let more : before ++ map (key_of m) (earlier ++ n ∷ []) ≡ now ++ key_of m n ∷ [] =
     ap (λ l. before ++ l) (map-append (key_of m) earlier (n ∷ [])) ∙ sym (append_assoc before (map (key_of m) earlier) (key_of m n ∷ [])) in
     let rest : with_procedures (now ++ key_of m n ∷ []) (map (key_of m) names) ≡ (now ++ key_of m n ∷ []) ++ map (key_of m) names =
-    rw more at (module_keys m before (earlier ++ n ∷ []) names none are.1) in
+    rw more at (keys_of_module m before (earlier ++ n ∷ []) names none are.1) in
     ap (λ b. with_procedures (if b then now else now ++ key_of m n ∷ []) (map (key_of m) names)) fresh ∙ rest ∙ append_assoc now (key_of m n ∷ []) (map (key_of m) names)
 
 -- keys of these modules alone
@@ -146,7 +171,7 @@ all_keys names keys (m ∷ modules) of have =
     let own = names_in m.items in
     let same : module_procedures m ≡ map (key_of m.name) own = keys_of_names m.name m.items in
     let here : with_procedures keys (module_procedures m) ≡ keys ++ module_procedures m =
-    rw same (rw (append-nil keys) at (module_keys m.name keys [] own (of m.name have.0) have.1)) in
+    rw same (rw (append-nil keys) at (keys_of_module m.name keys [] own (of m.name have.0) have.1)) in
     let rest : with_procedures (keys ++ map (key_of m.name) own) (declared_procedures modules) ≡ (keys ++ map (key_of m.name) own) ++ declared_procedures modules =
     all_keys (names ++ m.name ∷ []) (keys ++ map (key_of m.name) own) modules (of_more names keys m.name own of) have.2 in
     fold_append (insert_key same_procedure) keys (module_procedures m) (declared_procedures modules)

@@ -1,2 +1,3 @@
+pub mod Admitted
 pub mod Program
 pub mod Refusal

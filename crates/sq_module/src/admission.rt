@@ -1,59 +1,145 @@
 //! Which modules are refused (ISO/IEC 9075:1992, 12.1 to 12.3 and 13.1; that exactly one procedure opens each cursor is an
 //! own rule).
 
-ghost use Rattle.std.specs.Prelude.{◌≡◌, [], ◌++◌, true, false, IfErr, IfOk, None, OnOk, length};
+ghost use Rattle.std.specs.Prelude.{◌≡◌, [], ◌∷◌, ◌++◌, true, false, IfErr, IfOk, None, OnOk, length};
 ghost use Rattle.std.specs.List.{AllByRecursion, list_any};
-ghost use Rattle.sq_module.specs.Program.{AreNew, HaveNames, name_in, names_in, same_name};
+ghost use Rattle.sq_module.specs.Admitted.{admitted_procedures, module_keys, procedure_names};
+ghost use Rattle.sq_module.specs.Program.{AreNew, HaveNames, declared_procedures, module_procedures, name_in, names_in, same_name};
 ghost use Rattle.sq_module.specs.Refusal.{IsOfModule, IsOfSomeModule};
 
-use crate::declared::{has_bad_parameter, has_bad_status, is_new, listed};
+use crate::declared::{has_bad_status, is_new, listed, parameters_of};
 use crate::opener::Openers;
 use crate::refusal::{ModuleRefusal, ModuleRefusalName, SessionFault};
-use indexmap::IndexSet;
+use indexmap::{IndexMap, IndexSet};
+use sq_bound::ParameterDesc;
+use sq_items::Items;
 use sq_lex::Name;
-use sq_tree::{ModuleItem, ModuleText};
+use sq_tree::{Cursor, ModuleItem, ModuleText, Procedure};
 use std::alloc::{AllocError, Global};
 
-/// The first refusal, module by module.
-pub fn admit(alloc: Global, modules: &[ModuleText]) -> Result<(), SessionFault>
-    ensures names { OnOk result (HaveNames [] modules.now) }
+/// A module that is not refused.
+#[derive(Drop)]
+pub struct AdmittedModule<'a> {
+    pub name: Name,
+    pub user: Name,
+    /// Each of its cursors, by its name.
+    pub cursors: IndexMap<Name, &'a Cursor>,
+    pub procedures: Vec<AdmittedProcedure<'a>>,
+}
+
+/// A procedure, and its named parameters with their domains.
+#[derive(Drop)]
+pub struct AdmittedProcedure<'a> {
+    pub procedure: &'a Procedure,
+    pub parameters: Items<ParameterDesc>,
+}
+
+/// The modules, or the first refusal, module by module.
+pub fn admit<'a>(
+    alloc: Global,
+    modules: &'a [ModuleText],
+) -> Result<Vec<AdmittedModule<'a>>, SessionFault>
+    ensures names { IfOk result (λ _. HaveNames [] modules.now) }
+    ensures declared { IfOk result (λ admitted. admitted_procedures admitted.items ≡ declared_procedures modules.now) }
     ensures refused { IfErr result (IsOfSomeModule (length modules.now)) }
 {
     let mut names = IndexSet::new(alloc);
+    let admitted = admit_all(alloc, &mut names, modules);
+    drop(names);
+    admitted
+}
+
+/// The modules, whose names are added to those of earlier ones.
+fn admit_all<'a>(
+    alloc: Global,
+    names: &mut IndexSet<Name>,
+    modules: &'a [ModuleText],
+) -> Result<Vec<AdmittedModule<'a>>, SessionFault>
+    requires { names.old.keys ≡ [] }
+    ensures names { IfOk result (λ _. HaveNames [] modules.now) }
+    ensures declared { IfOk result (λ admitted. admitted_procedures admitted.items ≡ declared_procedures modules.now) }
+    ensures refused { IfErr result (IsOfSomeModule (length modules.now)) }
+{
+    let mut admitted = Vec::new(alloc);
     for (text, module) in modules.iter().enumerate() {
-        if !is_new(&mut names, module.name)? {
-            return Err(SessionFault::Refused(ModuleRefusal {
-                name: ModuleRefusalName::TwoModules,
-                text,
-                item: None,
-            }));
+        if let Err(fault) = admit_next(alloc, names, &mut admitted, text, module) {
+            drop(admitted);
+            return Err(fault);
         }
-        admit_module(alloc, text, module.items.as_slice())?;
     }
+    Ok(admitted)
+}
+
+/// Admits a module behind others of these names.
+#[tactic(auto, using(crate::proofs::Names::admitted_more))]
+fn admit_next<'a>(
+    alloc: Global,
+    names: &mut IndexSet<Name>,
+    admitted: &mut Vec<AdmittedModule<'a>>,
+    text: usize,
+    module: &'a ModuleText,
+) -> Result<(), SessionFault>
+    ensures new { OnOk result (list_any (same_name «module».now.name) names.old.keys ≡ false) }
+    ensures last { OnOk result (names.new.keys ≡ names.old.keys ++ «module».now.name ∷ []) }
+    ensures names { OnOk result (AreNew [] (names_in «module».now.items)) }
+    ensures declared { OnOk result (admitted_procedures admitted.new.items ≡ admitted_procedures admitted.old.items ++ module_procedures «module».now) }
+    ensures refused { IfErr result (IsOfModule text) }
+{
+    if !is_new(names, module.name)? {
+        return Err(SessionFault::Refused(ModuleRefusal {
+            name: ModuleRefusalName::TwoModules,
+            text,
+            item: None,
+        }));
+    }
+    let one = admit_module(alloc, text, module)?;
+    admitted.push(one)?;
     Ok(())
 }
 
-/// The first refusal of a module: each one is looked for over the whole module before the next.
-fn admit_module(alloc: Global, text: usize, items: &[ModuleItem]) -> Result<(), SessionFault>
-    ensures names { OnOk result (AreNew [] (names_in items.now)) }
+/// A module, or its first refusal: each one is looked for over the whole module before the next.
+#[tactic(auto, using(crate::proofs::Names::admitted_of_module))]
+fn admit_module<'a>(
+    alloc: Global,
+    text: usize,
+    module: &'a ModuleText,
+) -> Result<AdmittedModule<'a>, SessionFault>
+    ensures names { IfOk result (λ _. AreNew [] (names_in «module».now.items)) }
+    ensures declared { IfOk result (λ admitted. module_keys admitted ≡ module_procedures «module».now) }
     ensures refused { IfErr result (IsOfModule text) }
 {
+    let items = module.items.as_slice();
     let place = second_procedure(alloc, items)?;
     refused_at(ModuleRefusalName::TwoProcedures, text, place)?;
-    let place = second_cursor(alloc, items)?;
-    refused_at(ModuleRefusalName::TwoCursors, text, place)?;
-    let place = without_one_opener(alloc, items)?;
-    refused_at(ModuleRefusalName::OpenCount, text, place)?;
-    admit_parameters(alloc, text, items)
+    let cursors = cursors_of(alloc, text, items)?;
+    match admit_procedures(alloc, text, items) {
+        Ok(procedures) => Ok(AdmittedModule {
+            name: module.name,
+            user: module.authorization,
+            cursors,
+            procedures,
+        }),
+        Err(fault) => {
+            drop(cursors);
+            Err(fault)
+        }
+    }
 }
 
-fn admit_parameters(alloc: Global, text: usize, items: &[ModuleItem]) -> Result<(), SessionFault>
+/// The procedures of a module, whose cursors each have one opener.
+fn admit_procedures<'a>(
+    alloc: Global,
+    text: usize,
+    items: &'a [ModuleItem],
+) -> Result<Vec<AdmittedProcedure<'a>>, SessionFault>
+    ensures declared { IfOk result (λ admitted. procedure_names admitted.items ≡ names_in items.now) }
     ensures refused { IfErr result (IsOfModule text) }
 {
+    let place = without_one_opener(alloc, items)?;
+    refused_at(ModuleRefusalName::OpenCount, text, place)?;
     let place = with_bad_status(alloc, items)?;
     refused_at(ModuleRefusalName::StatusParameter, text, place)?;
-    let place = with_bad_parameter(alloc, items)?;
-    refused_at(ModuleRefusalName::BadParameter, text, place)
+    procedures_of(alloc, text, items)
 }
 
 /// A refusal of the item at a place, if there is one.
@@ -67,12 +153,18 @@ fn refused_at(
 {
     match place {
         None => Ok(()),
-        Some(item) => Err(SessionFault::Refused(ModuleRefusal {
-            name,
-            text,
-            item: Some(item),
-        })),
+        Some(item) => Err(refusal_at(name, text, item)),
     }
+}
+
+fn refusal_at(name: ModuleRefusalName, text: usize, item: usize) -> SessionFault
+    ensures { IsOfModule text result }
+{
+    SessionFault::Refused(ModuleRefusal {
+        name,
+        text,
+        item: Some(item),
+    })
 }
 
 /// The first procedure that has the name of an earlier one.
@@ -99,30 +191,47 @@ fn is_new_procedure(names: &mut IndexSet<Name>, item: &ModuleItem) -> Result<boo
     }
 }
 
-/// The first cursor that has the name of an earlier one.
-fn second_cursor(alloc: Global, items: &[ModuleItem]) -> Result<Option<usize>, AllocError> {
-    let mut names = IndexSet::new(alloc);
+/// The cursors by their names, none of which has the name of an earlier one.
+fn cursors_of<'a>(
+    alloc: Global,
+    text: usize,
+    items: &'a [ModuleItem],
+) -> Result<IndexMap<Name, &'a Cursor>, SessionFault>
+    ensures refused { IfErr result (IsOfModule text) }
+{
+    let mut cursors = IndexMap::new(alloc);
     for (place, item) in items.iter().enumerate() {
         if let ModuleItem::Cursor(cursor) = item {
-            if !is_new(&mut names, cursor.name)? {
-                return Ok(Some(place));
+            if let Err(fault) = add_cursor(&mut cursors, text, place, cursor) {
+                drop(cursors);
+                return Err(fault);
             }
         }
     }
-    Ok(None)
+    Ok(cursors)
+}
+
+fn add_cursor<'a>(
+    cursors: &mut IndexMap<Name, &'a Cursor>,
+    text: usize,
+    place: usize,
+    cursor: &'a Cursor,
+) -> Result<(), SessionFault>
+    ensures refused { IfErr result (IsOfModule text) }
+{
+    match cursors.insert(cursor.name, cursor) {
+        Ok(None) => Ok(()),
+        Ok(Some(_)) => Err(refusal_at(ModuleRefusalName::TwoCursors, text, place)),
+        Err(_) => Err(SessionFault::NoMemory),
+    }
 }
 
 /// The first cursor that not exactly one procedure opens.
 fn without_one_opener(alloc: Global, items: &[ModuleItem]) -> Result<Option<usize>, AllocError> {
     let openers = Openers::of(alloc, items)?;
-    for (place, item) in items.iter().enumerate() {
-        if let ModuleItem::Cursor(cursor) = item {
-            if openers.only_one(cursor.name).is_none() {
-                return Ok(Some(place));
-            }
-        }
-    }
-    Ok(None)
+    let place = openers.first_without_one(items);
+    drop(openers);
+    Ok(place)
 }
 
 /// The first procedure without a status parameter, or with one twice.
@@ -138,15 +247,64 @@ fn with_bad_status(alloc: Global, items: &[ModuleItem]) -> Result<Option<usize>,
     Ok(None)
 }
 
-/// The first procedure with a parameter declared twice or of a bad type, or with too many.
-fn with_bad_parameter(alloc: Global, items: &[ModuleItem]) -> Result<Option<usize>, AllocError> {
+/// The procedures with their parameters, or the refusal of the first that has a parameter declared twice or of a bad type,
+/// or too many.
+fn procedures_of<'a>(
+    alloc: Global,
+    text: usize,
+    items: &'a [ModuleItem],
+) -> Result<Vec<AdmittedProcedure<'a>>, SessionFault>
+    ensures declared { IfOk result (λ admitted. procedure_names admitted.items ≡ names_in items.now) }
+    ensures refused { IfErr result (IsOfModule text) }
+{
+    let mut procedures = Vec::new(alloc);
     for (place, item) in items.iter().enumerate() {
-        if let ModuleItem::Procedure(procedure) = item {
-            let declarations = listed(alloc, &procedure.declarations)?;
-            if has_bad_parameter(alloc, declarations.as_slice())? {
-                return Ok(Some(place));
-            }
+        if let Err(fault) = add_procedure(alloc, &mut procedures, text, place, item) {
+            drop(procedures);
+            return Err(fault);
         }
     }
-    Ok(None)
+    Ok(procedures)
+}
+
+/// Adds an item, if it is a procedure.
+fn add_procedure<'a>(
+    alloc: Global,
+    procedures: &mut Vec<AdmittedProcedure<'a>>,
+    text: usize,
+    place: usize,
+    item: &'a ModuleItem,
+) -> Result<(), SessionFault>
+    ensures names { OnOk result (procedure_names procedures.new.items ≡ procedure_names procedures.old.items ++ name_in item.now) }
+    ensures refused { IfErr result (IsOfModule text) }
+{
+    match item {
+        ModuleItem::Procedure(procedure) => {
+            let one = admitted(alloc, text, place, procedure)?;
+            procedures.push(one)?;
+            Ok(())
+        }
+        ModuleItem::Cursor(_) => Ok(()),
+    }
+}
+
+fn admitted<'a>(
+    alloc: Global,
+    text: usize,
+    place: usize,
+    procedure: &'a Procedure,
+) -> Result<AdmittedProcedure<'a>, SessionFault>
+    ensures same { IfOk result (λ admitted. admitted.procedure.now ≡ procedure.now) }
+    ensures refused { IfErr result (IsOfModule text) }
+{
+    let declarations = listed(alloc, &procedure.declarations)?;
+    let parameters = parameters_of(alloc, declarations.as_slice());
+    drop(declarations);
+    match parameters? {
+        Some(parameters) => Ok(AdmittedProcedure {
+            procedure,
+            parameters,
+        }),
+        None => Err(refusal_at(ModuleRefusalName::BadParameter, text, place)),
+    }
 }

@@ -8,7 +8,7 @@ use indexmap::IndexSet;
 use sq_bound::{ParameterDesc, domain_of};
 use sq_items::Items;
 use sq_lex::Name;
-use sq_tree::{BareDeclaration, Declaration, Declarations};
+use sq_tree::{BareDeclaration, DataType, Declaration, Declarations};
 use std::alloc::{AllocError, Global};
 
 /// The greatest number of named parameters (own rule).
@@ -65,22 +65,6 @@ pub(crate) fn has_bad_status(declarations: &[Declaration]) -> bool {
     (codes == 0 && states == 0) || codes > 1 || states > 1
 }
 
-/// Whether a named parameter is declared twice or of a bad type, or there are more than 64.
-pub(crate) fn has_bad_parameter(
-    alloc: Global,
-    declarations: &[Declaration],
-) -> Result<bool, AllocError> {
-    let mut names = IndexSet::new(alloc);
-    for declaration in declarations {
-        if let Declaration::Parameter(name, data_type) = declaration {
-            if !is_new(&mut names, *name)? || domain_of(data_type).is_none() {
-                return Ok(true);
-            }
-        }
-    }
-    Ok(names.len() > MOST_PARAMETERS)
-}
-
 /// Adds a name; whether it was not there.
 pub(crate) fn is_new(names: &mut IndexSet<Name>, name: Name) -> Result<bool, AllocError>
     ensures new { IfOk result (λ is. is ≡ true → list_any (same_name name) names.old.keys ≡ false) }
@@ -92,21 +76,58 @@ pub(crate) fn is_new(names: &mut IndexSet<Name>, name: Name) -> Result<bool, All
     }
 }
 
-/// The named parameters with their domains.
+/// The named parameters with their domains; none where one is declared twice or of a bad type, or there are more than 64.
 pub(crate) fn parameters_of(
     alloc: Global,
     declarations: &[Declaration],
-) -> Result<Items<ParameterDesc>, AllocError> {
+) -> Result<Option<Items<ParameterDesc>>, AllocError> {
+    let mut names = IndexSet::new(alloc);
     let mut parameters = Items::new(alloc);
+    let added = are_added(&mut names, &mut parameters, declarations);
+    drop(names);
+    match added {
+        Ok(are_in_order) => {
+            if are_in_order && parameters.len() <= MOST_PARAMETERS {
+                return Ok(Some(parameters));
+            }
+            drop(parameters);
+            Ok(None)
+        }
+        Err(error) => {
+            drop(parameters);
+            Err(error)
+        }
+    }
+}
+
+/// Adds the named parameters, up to the first that is declared twice or of a bad type; whether there was none.
+fn are_added(
+    names: &mut IndexSet<Name>,
+    parameters: &mut Items<ParameterDesc>,
+    declarations: &[Declaration],
+) -> Result<bool, AllocError> {
     for declaration in declarations {
         if let Declaration::Parameter(name, data_type) = declaration {
-            if let Some(domain) = domain_of(data_type) {
-                parameters.push(ParameterDesc {
-                    name: *name,
-                    domain,
-                })?;
+            if !is_added(names, parameters, *name, data_type)? {
+                return Ok(false);
             }
         }
     }
-    Ok(parameters)
+    Ok(true)
+}
+
+fn is_added(
+    names: &mut IndexSet<Name>,
+    parameters: &mut Items<ParameterDesc>,
+    name: Name,
+    data_type: &DataType,
+) -> Result<bool, AllocError> {
+    if !is_new(names, name)? {
+        return Ok(false);
+    }
+    let Some(domain) = domain_of(data_type) else {
+        return Ok(false);
+    };
+    parameters.push(ParameterDesc { name, domain })?;
+    Ok(true)
 }

@@ -8,6 +8,6 @@ mod opener;
 mod program;
 mod refusal;
 
-pub use admission::admit;
+pub use admission::{AdmittedModule, AdmittedProcedure, admit};
 pub use program::{BoundProcedure, DeclaredCursor, ProcedureName, Program};
 pub use refusal::{ModuleRefusal, ModuleRefusalName, SessionFault};

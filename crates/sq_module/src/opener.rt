@@ -1,16 +1,16 @@
 //! The procedures that open cursors.
 
-use indexmap::{IndexMap, IndexSet};
+use crate::declared::is_new;
+use indexmap::IndexSet;
 use sq_lex::Name;
 use sq_tree::{ModuleItem, Statement};
 use std::alloc::{AllocError, Global};
 
-/// Which procedures of a module open which cursors.
+/// Which cursors the procedures of a module open.
 #[derive(Drop)]
 pub(crate) struct Openers {
-    /// For each cursor that is opened, the place of a procedure that does so.
-    places: IndexMap<Name, usize>,
-    /// The cursors that two procedures open.
+    opened: IndexSet<Name>,
+    /// Those that two procedures open.
     shared: IndexSet<Name>,
 }
 
@@ -18,38 +18,49 @@ impl Openers {
     /// The openers among the items of a module.
     pub(crate) fn of(alloc: Global, items: &[ModuleItem]) -> Result<Openers, AllocError> {
         let mut openers = Openers {
-            places: IndexMap::new(alloc),
+            opened: IndexSet::new(alloc),
             shared: IndexSet::new(alloc),
         };
-        for (place, item) in items.iter().enumerate() {
-            if let Some(cursor) = cursor_opened(item) {
-                openers.add(cursor, place)?;
+        match openers.add_all(items) {
+            Ok(()) => Ok(openers),
+            Err(error) => {
+                drop(openers);
+                Err(error)
             }
         }
-        Ok(openers)
     }
 
-    fn add(&mut self, cursor: Name, place: usize) -> Result<(), AllocError> {
-        match self.places.insert(cursor, place) {
-            Ok(None) => Ok(()),
-            Ok(Some(_)) => share(&mut self.shared, cursor),
-            Err(_) => Err(AllocError),
+    fn add_all(&mut self, items: &[ModuleItem]) -> Result<(), AllocError> {
+        for item in items {
+            if let Some(cursor) = cursor_opened(item) {
+                self.add(cursor)?;
+            }
         }
+        Ok(())
     }
 
-    /// The place of the one procedure that opens the cursor, if exactly one does.
-    pub(crate) fn only_one(&self, cursor: Name) -> Option<usize> {
-        if self.shared.contains(&cursor) {
-            return None;
+    fn add(&mut self, cursor: Name) -> Result<(), AllocError> {
+        if !is_new(&mut self.opened, cursor)? {
+            is_new(&mut self.shared, cursor)?;
         }
-        self.places.get(&cursor).copied()
+        Ok(())
     }
-}
 
-fn share(shared: &mut IndexSet<Name>, cursor: Name) -> Result<(), AllocError> {
-    match shared.insert_full(cursor) {
-        Ok(_) => Ok(()),
-        Err(_) => Err(AllocError),
+    /// The first cursor among these items that not exactly one procedure opens.
+    pub(crate) fn first_without_one(&self, items: &[ModuleItem]) -> Option<usize> {
+        for (place, item) in items.iter().enumerate() {
+            if let ModuleItem::Cursor(cursor) = item {
+                if !self.has_one(cursor.name) {
+                    return Some(place);
+                }
+            }
+        }
+        None
+    }
+
+    /// Whether exactly one procedure opens the cursor.
+    fn has_one(&self, cursor: Name) -> bool {
+        self.opened.contains(&cursor) && !self.shared.contains(&cursor)
     }
 }
 

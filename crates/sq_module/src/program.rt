@@ -3,17 +3,17 @@
 ghost use Rattle.std.specs.Prelude.{◌≡◌, [], ◌∷◌, IfOk, OnOk};
 ghost use Rattle.std.specs.Map.{keys_of};
 ghost use Rattle.indexmap.specs.IndexSet.{insert_key};
-ghost use Rattle.sq_module.specs.Program.{declared_procedures, module_procedures, same_procedure, with_procedures};
+ghost use Rattle.sq_module.specs.Admitted.{admitted_procedures, module_keys, name_of};
+ghost use Rattle.sq_module.specs.Program.{same_procedure, with_procedures};
 
-use crate::declared::{listed, parameters_of};
-use crate::opener::Openers;
+use crate::admission::{AdmittedModule, AdmittedProcedure};
 use indexmap::IndexMap;
 use sq_bind::{bind_cursor, bind_statement};
 use sq_bound::{BindFault, BoundCursor, BoundStatement, Cursors, KnownCursor, ParameterDesc};
 use sq_catalog::Catalog;
 use sq_items::Items;
 use sq_lex::Name;
-use sq_tree::{ModuleItem, ModuleText, Procedure};
+use sq_tree::Statement;
 use std::alloc::{AllocError, Global};
 
 /// A procedure of a module.
@@ -69,57 +69,108 @@ impl<'a> Cursors for ModuleCursors<'a> {
 }
 
 impl Program {
-    /// The modules, which are none that is refused, bound one after the other.
+    /// The modules, bound one after the other.
     pub fn bind(
         alloc: Global,
         catalog: &Catalog,
-        modules: &[ModuleText],
+        modules: &[AdmittedModule<'_>],
     ) -> Result<Program, AllocError>
-        ensures { IfOk result (λ program. keys_of program.procedures.entries ≡ with_procedures [] (declared_procedures modules.now)) }
+        ensures { IfOk result (λ program. keys_of program.procedures.entries ≡ with_procedures [] (admitted_procedures modules.now)) }
     {
         let mut program = Program {
             procedures: IndexMap::new(alloc),
             cursors: Vec::new(alloc),
         };
-        for module in modules {
-            program.add_module(alloc, catalog, module)?;
+        match program.add_modules(alloc, catalog, modules) {
+            Ok(()) => Ok(program),
+            Err(error) => {
+                drop(program);
+                Err(error)
+            }
         }
-        Ok(program)
+    }
+
+    fn add_modules(
+        &mut self,
+        alloc: Global,
+        catalog: &Catalog,
+        modules: &[AdmittedModule<'_>],
+    ) -> Result<(), AllocError>
+        ensures { OnOk result (keys_of self.new.procedures.entries ≡ with_procedures (keys_of self.old.procedures.entries) (admitted_procedures modules.now)) }
+    {
+        for module in modules {
+            self.add_module(alloc, catalog, module)?;
+        }
+        Ok(())
     }
 
     fn add_module(
         &mut self,
         alloc: Global,
         catalog: &Catalog,
-        module: &ModuleText,
+        module: &AdmittedModule<'_>,
     ) -> Result<(), AllocError>
-        ensures { OnOk result (keys_of self.new.procedures.entries ≡ with_procedures (keys_of self.old.procedures.entries) (module_procedures «module».now)) }
+        ensures { OnOk result (keys_of self.new.procedures.entries ≡ with_procedures (keys_of self.old.procedures.entries) (module_keys «module».now)) }
     {
-        let numbers = self.add_cursors(alloc, catalog, module)?;
-        self.add_procedures(alloc, catalog, module, &numbers)
+        let mut numbers = IndexMap::new(alloc);
+        let added = self.add_parts(alloc, catalog, module, &mut numbers);
+        drop(numbers);
+        added
     }
 
-    /// Adds the cursors of a module, and answers their numbers.
+    /// Adds the cursors of a module, each with its number among all cursors, and then its procedures.
+    fn add_parts(
+        &mut self,
+        alloc: Global,
+        catalog: &Catalog,
+        module: &AdmittedModule<'_>,
+        numbers: &mut IndexMap<Name, usize>,
+    ) -> Result<(), AllocError>
+        ensures { OnOk result (keys_of self.new.procedures.entries ≡ with_procedures (keys_of self.old.procedures.entries) (module_keys «module».now)) }
+    {
+        self.add_cursors(alloc, catalog, module, numbers)?;
+        self.add_procedures(alloc, catalog, module, numbers)
+    }
+
+    /// Adds the cursors of a module, each with the procedure that opens it.
     fn add_cursors(
         &mut self,
         alloc: Global,
         catalog: &Catalog,
-        module: &ModuleText,
-    ) -> Result<IndexMap<Name, usize>, AllocError>
+        module: &AdmittedModule<'_>,
+        numbers: &mut IndexMap<Name, usize>,
+    ) -> Result<(), AllocError>
         ensures { self.new.procedures ≡ self.old.procedures }
     {
-        let items = module.items.as_slice();
-        let openers = Openers::of(alloc, items)?;
-        let mut numbers = IndexMap::new(alloc);
-        for item in items {
-            if let ModuleItem::Cursor(cursor) = item {
-                let parameters = openers_parameters(alloc, &openers, items, cursor.name)?;
-                let user = module.authorization;
-                let bound = bind_cursor(alloc, catalog, user, parameters.as_slice(), cursor);
-                self.add_cursor(&mut numbers, user, cursor.name, bound)?;
-            }
+        for opener in module.procedures.as_slice() {
+            self.add_opened(alloc, catalog, module, opener, numbers)?;
         }
-        Ok(numbers)
+        Ok(())
+    }
+
+    /// Adds the cursor that a procedure opens, if it is one of the module. Its parameters are those of that procedure.
+    fn add_opened(
+        &mut self,
+        alloc: Global,
+        catalog: &Catalog,
+        module: &AdmittedModule<'_>,
+        opener: &AdmittedProcedure<'_>,
+        numbers: &mut IndexMap<Name, usize>,
+    ) -> Result<(), AllocError>
+        ensures { self.new.procedures ≡ self.old.procedures }
+    {
+        let Statement::Open(name) = &opener.procedure.statement else {
+            return Ok(());
+        };
+        match module.cursors.get(name) {
+            Some(cursor) => {
+                let user = module.user;
+                let parameters = opener.parameters.as_slice();
+                let bound = bind_cursor(alloc, catalog, user, parameters, cursor);
+                self.add_cursor(numbers, user, *name, bound)
+            }
+            None => Ok(()),
+        }
     }
 
     /// Adds a cursor, if it has no fault.
@@ -146,15 +197,13 @@ impl Program {
         &mut self,
         alloc: Global,
         catalog: &Catalog,
-        module: &ModuleText,
+        module: &AdmittedModule<'_>,
         numbers: &IndexMap<Name, usize>,
     ) -> Result<(), AllocError>
-        ensures { OnOk result (keys_of self.new.procedures.entries ≡ with_procedures (keys_of self.old.procedures.entries) (module_procedures «module».now)) }
+        ensures { OnOk result (keys_of self.new.procedures.entries ≡ with_procedures (keys_of self.old.procedures.entries) (module_keys «module».now)) }
     {
-        for item in module.items.as_slice() {
-            if let ModuleItem::Procedure(procedure) = item {
-                self.add_procedure(alloc, catalog, module, numbers, procedure)?;
-            }
+        for admitted in module.procedures.as_slice() {
+            self.add_procedure(alloc, catalog, module, numbers, admitted)?;
         }
         Ok(())
     }
@@ -163,43 +212,47 @@ impl Program {
         &mut self,
         alloc: Global,
         catalog: &Catalog,
-        module: &ModuleText,
+        module: &AdmittedModule<'_>,
         numbers: &IndexMap<Name, usize>,
-        procedure: &Procedure,
+        admitted: &AdmittedProcedure<'_>,
     ) -> Result<(), AllocError>
-        ensures { OnOk result (keys_of self.new.procedures.entries ≡ insert_key same_procedure (keys_of self.old.procedures.entries) (record { «module» = «module».now.name; name = procedure.now.name })) }
+        ensures { OnOk result (keys_of self.new.procedures.entries ≡ insert_key same_procedure (keys_of self.old.procedures.entries) (name_of «module».now.name admitted.now)) }
     {
-        let parameters = parameters_in(alloc, procedure)?;
-        let user = module.authorization;
         let cursors = ModuleCursors {
             numbers,
             cursors: self.cursors.as_slice(),
         };
-        let bound = bind_statement(
-            alloc,
-            catalog,
-            user,
-            parameters.as_slice(),
-            &cursors,
-            &procedure.statement,
-        );
-        let statement = match unless_no_memory(bound) {
-            Ok(statement) => statement,
-            Err(error) => {
-                drop(parameters);
-                return Err(error);
-            }
-        };
+        let bound = bound_procedure(alloc, catalog, module.user, &cursors, admitted)?;
         let name = ProcedureName {
             module: module.name,
-            name: procedure.name,
+            name: admitted.procedure.name,
         };
-        let procedure = BoundProcedure {
+        inserted(&mut self.procedures, name, bound)
+    }
+}
+
+/// A procedure of a module of this user with these cursors.
+fn bound_procedure(
+    alloc: Global,
+    catalog: &Catalog,
+    user: Name,
+    cursors: &ModuleCursors<'_>,
+    admitted: &AdmittedProcedure<'_>,
+) -> Result<BoundProcedure, AllocError> {
+    let parameters = admitted.parameters.as_slice();
+    let written = &admitted.procedure.statement;
+    let bound = bind_statement(alloc, catalog, user, parameters, cursors, written);
+    let statement = unless_no_memory(bound)?;
+    match Items::from_slice(alloc, parameters) {
+        Ok(parameters) => Ok(BoundProcedure {
             user,
             parameters,
             statement,
-        };
-        inserted(&mut self.procedures, name, procedure)
+        }),
+        Err(error) => {
+            drop(statement);
+            Err(error)
+        }
     }
 }
 
@@ -244,25 +297,4 @@ fn without_fault<T: Drop>(bound: Result<T, BindFault>) -> Result<Option<T>, Allo
         Err(BindFault::NoMemory) => Err(AllocError),
         Err(_) => Ok(None),
     }
-}
-
-/// The parameters of the procedure that opens a cursor.
-fn openers_parameters(
-    alloc: Global,
-    openers: &Openers,
-    items: &[ModuleItem],
-    cursor: Name,
-) -> Result<Items<ParameterDesc>, AllocError> {
-    let Some(place) = openers.only_one(cursor) else {
-        return Ok(Items::new(alloc));
-    };
-    match items.get(place) {
-        Some(ModuleItem::Procedure(procedure)) => parameters_in(alloc, procedure),
-        _ => Ok(Items::new(alloc)),
-    }
-}
-
-fn parameters_in(alloc: Global, procedure: &Procedure) -> Result<Items<ParameterDesc>, AllocError> {
-    let declarations = listed(alloc, &procedure.declarations)?;
-    parameters_of(alloc, declarations.as_slice())
 }

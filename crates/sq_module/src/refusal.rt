@@ -2,7 +2,7 @@
 
 ghost use Rattle.std.specs.Prelude.{◌≡◌};
 
-use std::alloc::AllocError;
+use std::alloc::{AllocError, AllocFailed};
 use thiserror::Error;
 
 /// What is wrong with a module, a cursor or a procedure (ISO/IEC 9075:1992, 12.1 to 12.3 and 13.1).
@@ -52,6 +52,16 @@ impl From<AllocError> for SessionFault {
     ghost from_gives = { λ _ fault. fault ≡ NoMemory };
 
     fn from(_error: AllocError) -> SessionFault {
+        SessionFault::NoMemory
+    }
+}
+
+impl<T: Drop> From<AllocFailed<T>> for SessionFault {
+    ghost use Rattle.sq_module.specs.declared.refusal.SessionFault.TheVariants.{NoMemory};
+
+    ghost from_gives = { λ _ fault. fault ≡ NoMemory };
+
+    fn from(_error: AllocFailed<T>) -> SessionFault {
         SessionFault::NoMemory
     }
 }

@@ -190,8 +190,10 @@ fn program_of(
     ensures procedures { IfOk result (λ program. keys_of program.procedures.entries ≡ declared_procedures modules.now) }
     ensures refused { IfErr result (IsOfSomeModule (length modules.now)) }
 {
-    admit(alloc, modules)?;
-    Ok(Program::bind(alloc, catalog, modules)?)
+    let admitted = admit(alloc, modules)?;
+    let program = Program::bind(alloc, catalog, admitted.as_slice());
+    drop(admitted);
+    Ok(program?)
 }
 
 /// A table's rows with their numbers.

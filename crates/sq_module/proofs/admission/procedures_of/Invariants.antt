@@ -1,0 +1,7 @@
+use Rattle.std.proofs.Common.{◌≡◌, take}
+use Rattle.sq_module.specs.Admitted.{procedure_names}
+use Rattle.sq_module.specs.Program.{names_in}
+use Rattle.sq_module.proofs.admission.procedures_of.Given as goal
+
+abbrev pub invariant-loop-place : goal.invariant-loop-place
+invariant-loop-place l = procedure_names l.procedures.items ≡ names_in (take l.place l.items)
