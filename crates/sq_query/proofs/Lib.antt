@@ -15,3 +15,5 @@ pub mod Groups
 pub mod Wholes
 pub mod Predicates
 pub mod Turns
+pub mod Depths
+pub mod Conditions

@@ -13,3 +13,6 @@ pub mod Select
 pub mod Whole
 pub mod Predicate
 pub mod Row
+pub mod Condition
+pub mod Depth
+pub mod Nests

@@ -27,6 +27,7 @@ mod predicate;
 mod row;
 mod select;
 mod set_function;
+mod specification;
 mod table;
 mod target;
 mod union;

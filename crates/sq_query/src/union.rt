@@ -34,7 +34,7 @@ fn term_rows<'a, 'm>(
     memo: &mut Memo<'m>,
 ) -> Result<Vec<Row>, Fault> {
     match term {
-        BoundTerm::Specification(query) => rows(query, None, context, memo),
+        BoundTerm::Specification(query) => rows(query, context, memo),
         BoundTerm::Bracketed(query) => query_rows(query.get(), context, memo),
     }
 }

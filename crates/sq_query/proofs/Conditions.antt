@@ -1,0 +1,126 @@
+-- The truth of a condition without a subquery, part by part.
+use Rattle.std.proofs.Common.{◌≡◌, ℕ, zero, suc, ◌<◌, Bool, true, false, ◌||◌, List, [], ◌∷◌, length, map, get_or, Result, arith, refl, sym, ◌∙◌, ap, subst}
+use Rattle.sq_value.specs.declared.truth.Truth.{Truth}
+use Rattle.sq_value.specs.declared.truth.Truth.TheVariants.{False, True}
+use Rattle.sq_tree.specs.declared.cond.Comparison.{Comparison}
+use Rattle.sq_meaning.specs.Status.{Outcome}
+use Rattle.sq_meaning.specs.Syntax.{conds, conjunction, disjunction}
+use Rattle.sq_meaning.specs.Query.{and_also, or_else, all_truth, any_truth}
+use Rattle.sq_bound.specs.Condition.{PlacedCond, PlacedSelect, cond_of, conj_of, test_of, predicate_of, not_if, compared_with}
+use Rattle.sq_bound.specs.Expression.{PlacedExpr}
+use Rattle.sq_bound.specs.declared.condition.Compared.{Compared}
+use Rattle.sq_bound.specs.declared.condition.Compared.TheVariants.{Scalar, All, Any}
+use Rattle.sq_bound.specs.declared.condition.BoundCond.{BoundCond, out-BoundCond}
+use Rattle.sq_bound.specs.declared.condition.BoundConj.{BoundConj, out-BoundConj}
+use Rattle.sq_bound.specs.declared.condition.BoundTest.{BoundTest}
+use Rattle.sq_bound.proofs.ConditionLaws.{cond_of-out, conj_of-out, test_of-out}
+use Rattle.sq_meaning.specs.Syntax.{literal}
+use Rattle.sq_meaning.specs.Target.{has_subquery, have_subquery}
+use Rattle.sq_query.specs.Condition.{HasTruth, cond_on, term_on, test_on}
+use Rattle.sq_query.specs.Fault.{Meets}
+use Rattle.sq_query.specs.Frame.{env_of, group_values, reading, truth_in}
+use Rattle.sq_query.specs.Predicate.{with_not}
+use Rattle.sq_query.specs.declared.context.Context.{Context}
+use Rattle.sq_query.specs.declared.fault.Fault.{Fault}
+use Rattle.sq_query.specs.declared.frame.Frame.{Frame}
+use Rattle.sq_query.proofs.Expressions.{meets_by}
+use Rattle.sq_query.proofs.Turns.{InTurn}
+
+Holds : Bool → Type 0
+Holds true = Unit {0}
+Holds false = ⊥
+
+pub not_both : {A : Type 0} → true ≡ false → A
+unfolding Holds
+not_both same = absurd (subst Holds same tt)
+
+pub neither_left : (a b : Bool) → (a || b) ≡ false → a ≡ false
+neither_left false b h = refl
+neither_left true b h = not_both h
+
+pub neither_right : (a b : Bool) → (a || b) ≡ false → b ≡ false
+neither_right false b h = h
+neither_right true b h = not_both h
+
+-- ---- trees of one truth
+
+pub same_plain : (c tree : PlacedCond) → c ≡ tree → has_subquery c ≡ false → has_subquery tree ≡ false
+same_plain c tree is plain = subst (λ (x : PlacedCond). has_subquery x ≡ false) is plain
+
+pub has_same : (r : Result Truth Fault) (frame : Frame) (context : Context) (c tree : PlacedCond)
+    → c ≡ tree → HasTruth r frame context tree → HasTruth r frame context c
+has_same r frame context c tree is has plain =
+    meets_by r (truth_in frame context c) (truth_in frame context tree) (ap (truth_in frame context) is) (has (same_plain c tree is plain))
+
+pub has_not : (r inner : Result Truth Fault) (frame : Frame) (context : Context) (written : Bool) (c tree : PlacedCond)
+    → c ≡ not_if written tree → ((o : Outcome Truth) → Meets inner o → Meets r (with_not written o)) → HasTruth inner frame context tree → HasTruth r frame context c
+has_not r inner frame context true c tree is negates has plain =
+    meets_by r (truth_in frame context c) (truth_in frame context (not_if true tree)) (ap (truth_in frame context) is)
+    (negates (truth_in frame context tree) (has (same_plain c (not_if true tree) is plain)))
+has_not r inner frame context false c tree is negates has plain =
+    meets_by r (truth_in frame context c) (truth_in frame context tree) (ap (truth_in frame context) is)
+    (negates (truth_in frame context tree) (has (same_plain c tree is plain)))
+
+pub under_not : (written : Bool) (tree : PlacedCond) → has_subquery (not_if written tree) ≡ false → has_subquery tree ≡ false
+under_not true tree plain = plain
+under_not false tree plain = plain
+
+-- a comparison with a subquery is not without one
+pub not_plain : {A : Type 0} (quantifier : Compared) (op : Comparison) (a : PlacedExpr) (q : PlacedSelect) → has_subquery (compared_with quantifier op a q) ≡ false → A
+not_plain Scalar op a q h = not_both h
+not_plain All op a q h = not_both h
+not_plain Any op a q h = not_both h
+
+-- ---- AND and OR
+
+plain_among : {X : Type 0} (tree : X → PlacedCond) (xs : List X) (i : ℕ) (x : X)
+    → i < length xs → x ≡ get_or xs i x → have_subquery (conds (map tree xs)) ≡ false → has_subquery (tree x) ≡ false
+plain_among tree [] i x within is plain = let none : i < 0 = within in let no : ⊥ = omega arith in absurd no
+plain_among {X} tree (y ∷ ys) zero x within is plain =
+    subst (λ (z : X). has_subquery (tree z) ≡ false) (sym is) (neither_left (has_subquery (tree y)) (have_subquery (conds (map tree ys))) plain)
+plain_among tree (y ∷ ys) (suc i) x within is plain =
+    plain_among tree ys i x (omega arith) is (neither_right (has_subquery (tree y)) (have_subquery (conds (map tree ys))) plain)
+
+pub plain_term : (functions : List PlacedExpr) (c : BoundCond) (terms : List BoundConj) (i : ℕ) (term : BoundConj)
+    → terms ≡ (out-BoundCond c).terms → i < length terms → term ≡ get_or terms i term → has_subquery (cond_of functions c) ≡ false → has_subquery (conj_of functions term) ≡ false
+plain_term functions c terms i term are within is plain =
+    plain_among (conj_of functions) terms i term within is
+    (same_plain (cond_of functions c) (disjunction (conds (map (conj_of functions) terms)))
+    (cond_of-out functions c ∙ ap (λ (ts : List BoundConj). disjunction (conds (map (conj_of functions) ts))) (sym are)) plain)
+
+pub plain_test : (functions : List PlacedExpr) (c : BoundConj) (tests : List BoundTest) (i : ℕ) (test : BoundTest)
+    → tests ≡ (out-BoundConj c).tests → i < length tests → test ≡ get_or tests i test → has_subquery (conj_of functions c) ≡ false → has_subquery (test_of functions test) ≡ false
+plain_test functions c tests i test are within is plain =
+    plain_among (test_of functions) tests i test within is
+    (same_plain (conj_of functions c) (conjunction (conds (map (test_of functions) tests)))
+    (conj_of-out functions c ∙ ap (λ (ts : List BoundTest). conjunction (conds (map (test_of functions) ts))) (sym are)) plain)
+
+pub plain_predicate : (functions : List PlacedExpr) (t : BoundTest) → has_subquery (test_of functions t) ≡ false → has_subquery (predicate_of functions t.predicate) ≡ false
+plain_predicate functions t plain = under_not t.negated (predicate_of functions t.predicate) (same_plain (test_of functions t) (not_if t.negated (predicate_of functions t.predicate)) (test_of-out functions t) plain)
+
+module _ (frame : Frame) (context : Context) where
+  abbrev pub truth_of_term : BoundConj → Outcome Truth
+  truth_of_term term = truth_in frame context (term_on frame term)
+
+  abbrev pub any_term : List BoundConj → Outcome Truth
+  any_term terms = any_truth (reading context) (conds (map (term_on frame) terms)) (env_of frame context)
+
+  pub terms_in_turn : InTurn or_else False truth_of_term any_term
+  terms_in_turn = record { none = refl; more = λ x xs. refl }
+
+  abbrev pub truth_of_test : BoundTest → Outcome Truth
+  truth_of_test test = truth_in frame context (test_on frame test)
+
+  abbrev pub all_tests : List BoundTest → Outcome Truth
+  all_tests tests = all_truth (reading context) (conds (map (test_on frame) tests)) (env_of frame context)
+
+  pub tests_in_turn : InTurn and_also True truth_of_test all_tests
+  tests_in_turn = record { none = refl; more = λ x xs. refl }
+
+  pub cond_truth : (c : BoundCond) (terms : List BoundConj) → terms ≡ (out-BoundCond c).terms → truth_in frame context (cond_on frame c) ≡ any_term terms
+  cond_truth c terms are =
+      ap (truth_in frame context) (cond_of-out (map literal (group_values frame)) c ∙ ap (λ (ts : List BoundConj). disjunction (conds (map (term_on frame) ts))) (sym are))
+
+  pub conj_truth : (c : BoundConj) (tests : List BoundTest) → tests ≡ (out-BoundConj c).tests → truth_in frame context (term_on frame c) ≡ all_tests tests
+  conj_truth c tests are =
+      ap (truth_in frame context) (conj_of-out (map literal (group_values frame)) c ∙ ap (λ (ts : List BoundTest). conjunction (conds (map (test_on frame) ts))) (sym are))
