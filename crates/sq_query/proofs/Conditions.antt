@@ -4,16 +4,20 @@ use Rattle.sq_value.specs.declared.truth.Truth.{Truth}
 use Rattle.sq_value.specs.declared.truth.Truth.TheVariants.{False, True}
 use Rattle.sq_tree.specs.declared.cond.Comparison.{Comparison}
 use Rattle.sq_meaning.specs.Status.{Outcome}
-use Rattle.sq_meaning.specs.Syntax.{conds, conjunction, disjunction}
+use Rattle.sq_meaning.specs.Syntax.{conds, conjunction, disjunction, in_subquery, exists}
 use Rattle.sq_meaning.specs.Query.{and_also, or_else, all_truth, any_truth}
-use Rattle.sq_bound.specs.Condition.{PlacedCond, PlacedSelect, cond_of, conj_of, test_of, predicate_of, not_if, compared_with}
-use Rattle.sq_bound.specs.Expression.{PlacedExpr}
+use Rattle.sq_bound.specs.Condition.{PlacedCond, PlacedSelect, cond_of, conj_of, test_of, predicate_of, select_of, not_if, compared_with}
+use Rattle.sq_bound.specs.Expression.{PlacedExpr, expr_of}
 use Rattle.sq_bound.specs.declared.condition.Compared.{Compared}
 use Rattle.sq_bound.specs.declared.condition.Compared.TheVariants.{Scalar, All, Any}
 use Rattle.sq_bound.specs.declared.condition.BoundCond.{BoundCond, out-BoundCond}
 use Rattle.sq_bound.specs.declared.condition.BoundConj.{BoundConj, out-BoundConj}
 use Rattle.sq_bound.specs.declared.condition.BoundTest.{BoundTest}
-use Rattle.sq_bound.proofs.ConditionLaws.{cond_of-out, conj_of-out, test_of-out}
+use Rattle.sq_bound.specs.declared.condition.BoundSpecification.{BoundSpecification}
+use Rattle.sq_bound.specs.declared.condition.Predicate.{Predicate}
+use Rattle.sq_bound.specs.declared.condition.Predicate.TheVariants as bound
+use Rattle.sq_bound.specs.declared.expression.BoundExpr.{BoundExpr}
+use Rattle.sq_bound.proofs.ConditionLaws.{cond_of-out, conj_of-out, test_of-out, predicate_of-CompareQuery, predicate_of-InQuery, predicate_of-Exists, predicate_of-Bracketed}
 use Rattle.sq_meaning.specs.Syntax.{literal}
 use Rattle.sq_meaning.specs.Target.{has_subquery, have_subquery}
 use Rattle.sq_query.specs.Condition.{HasTruth, cond_on, term_on, test_on}
@@ -97,6 +101,28 @@ plain_test functions c tests i test are within is plain =
 
 pub plain_predicate : (functions : List PlacedExpr) (t : BoundTest) → has_subquery (test_of functions t) ≡ false → has_subquery (predicate_of functions t.predicate) ≡ false
 plain_predicate functions t plain = under_not t.negated (predicate_of functions t.predicate) (same_plain (test_of functions t) (not_if t.negated (predicate_of functions t.predicate)) (test_of-out functions t) plain)
+
+-- the condition in brackets has none where the predicate has none
+pub plain_bracketed : (functions : List PlacedExpr) (p : Predicate) (c : BoundCond) → p ≡ bound.Bracketed c → has_subquery (predicate_of functions p) ≡ false → has_subquery (cond_of functions c) ≡ false
+plain_bracketed functions p c is plain = same_plain (predicate_of functions p) (cond_of functions c) (ap (predicate_of functions) is ∙ predicate_of-Bracketed functions c) plain
+
+-- other predicates with a query have a subquery
+pub with_compared : {A : Type 0} (functions : List PlacedExpr) (p : Predicate) (op : Comparison) (q : Compared) (a : BoundExpr) (s : BoundSpecification)
+    → p ≡ bound.CompareQuery op q a s → has_subquery (predicate_of functions p) ≡ false → A
+with_compared functions p op q a s is plain =
+    not_plain q op (expr_of functions a) (select_of s)
+    (same_plain (predicate_of functions p) (compared_with q op (expr_of functions a) (select_of s)) (ap (predicate_of functions) is ∙ predicate_of-CompareQuery functions op q a s) plain)
+
+pub with_in : {A : Type 0} (functions : List PlacedExpr) (p : Predicate) (n : Bool) (a : BoundExpr) (s : BoundSpecification)
+    → p ≡ bound.InQuery n a s → has_subquery (predicate_of functions p) ≡ false → A
+with_in functions p n a s is plain =
+    not_both (under_not n (in_subquery (expr_of functions a) (select_of s))
+    (same_plain (predicate_of functions p) (not_if n (in_subquery (expr_of functions a) (select_of s))) (ap (predicate_of functions) is ∙ predicate_of-InQuery functions n a s) plain))
+
+pub with_exists : {A : Type 0} (functions : List PlacedExpr) (p : Predicate) (s : BoundSpecification)
+    → p ≡ bound.Exists s → has_subquery (predicate_of functions p) ≡ false → A
+with_exists functions p s is plain =
+    not_both (same_plain (predicate_of functions p) (exists (select_of s)) (ap (predicate_of functions) is ∙ predicate_of-Exists functions s) plain)
 
 module _ (frame : Frame) (context : Context) where
   abbrev pub truth_of_term : BoundConj → Outcome Truth

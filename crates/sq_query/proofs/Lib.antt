@@ -17,3 +17,5 @@ pub mod Predicates
 pub mod Turns
 pub mod Depths
 pub mod Conditions
+pub mod AnyTables
+pub mod Rows

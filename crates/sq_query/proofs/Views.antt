@@ -2,7 +2,7 @@
 use Rattle.std.proofs.Common.{◌≡◌, sym, subst, Result, Ok, Err}
 use Rattle.std.specs.Result.{IsErrAnd}
 use Rattle.sq_meaning.specs.Status.{Outcome}
-use Rattle.sq_query.specs.Fault.{Meets, MeetsAs}
+use Rattle.sq_query.specs.Fault.{Meets, MeetsAs, IsAnswered}
 use Rattle.sq_query.specs.declared.fault.Fault.{Fault}
 use Rattle.sq_query.specs.declared.fault.Fault.TheVariants as fault
 
@@ -18,3 +18,8 @@ fails_as view (fault.Status s) o h = h
 pub handed_on_as : {A B : Type 0} (view : A → B) (r : Result A Fault) (f : Fault) (o : Outcome B) → IsErrAnd r (λ g. g ≡ f) → Meets {A = B} (Err f) o → MeetsAs view r o
 handed_on_as view (Ok v) f o is h = absurd is
 handed_on_as {A} {B} view (Err g) f o is h = subst (λ (x : Fault). MeetsAs {A = A} {B = B} view (Err x) o) (sym is) (fails_as {A = A} {B = B} view f o h)
+
+-- where memory alone may be refused, the fault is that
+pub answered_fails : {B : Type 0} (f : Fault) (o : Outcome B) → IsAnswered {A = Unit {0}} (Err f) → Meets {A = B} (Err f) o
+answered_fails fault.NoMemory o h = tt
+answered_fails (fault.Status s) o h = absurd h

@@ -62,6 +62,12 @@ MeetsAs view (Ok a) outcome = outcome ≡ Ok (view a)
 MeetsAs view (Err (fault.Status f)) outcome = outcome ≡ Err (status_of f)
 MeetsAs view (Err fault.NoMemory) outcome = ⊤
 
+-- an answer, or memory was refused
+abbrev pub IsAnswered : {A : Type 0} → Result A Fault → Type 0
+IsAnswered (Ok a) = ⊤
+IsAnswered (Err (fault.Status f)) = ⊥
+IsAnswered (Err fault.NoMemory) = ⊤
+
 abbrev pub rows_in : Vec (List Value) Global → List (List Value)
 rows_in rows = rows.items
 

@@ -16,3 +16,4 @@ pub mod Row
 pub mod Condition
 pub mod Depth
 pub mod Nests
+pub mod Needed

@@ -1,5 +1,10 @@
 //! Which tables a statement reads.
 
+ghost use Rattle.std.specs.Prelude.{◌≡◌, [], false, IfOk, OnOk};
+ghost use Rattle.sq_bound.specs.Condition.{cond_of, conj_of, predicate_of};
+ghost use Rattle.sq_meaning.specs.Target.{has_subquery};
+ghost use Rattle.sq_query.specs.Needed.{NeedsNone};
+
 use sq_bound::{
     BoundCond, BoundConj, BoundQuery, BoundSpecification, BoundTerm, Grouping, Names, Predicate,
     TableBody, TablePlace, View,
@@ -14,7 +19,9 @@ pub(crate) struct Needed {
 }
 
 impl Needed {
-    pub(crate) fn new(alloc: Global) -> Needed {
+    pub(crate) fn new(alloc: Global) -> Needed
+        ensures { NeedsNone result }
+    {
         Needed {
             bases: Vec::new(alloc),
             views: Vec::new(alloc),
@@ -39,14 +46,18 @@ impl Needed {
     }
 
     /// The tables in the FROM clauses of a condition's subqueries.
-    pub(crate) fn of_condition(alloc: Global, condition: &BoundCond) -> Result<Needed, AllocError> {
+    pub(crate) fn of_condition(alloc: Global, condition: &BoundCond) -> Result<Needed, AllocError>
+        ensures { has_subquery (cond_of [] condition.now) ≡ false → IfOk result NeedsNone }
+    {
         let mut needed = Needed::new(alloc);
         needed.add_of_condition(condition)?;
         Ok(needed)
     }
 
     /// A place above those of all views.
-    pub(crate) fn view_end(&self) -> usize {
+    pub(crate) fn view_end(&self) -> usize
+        ensures { self.now.views.items ≡ [] → result ≡ 0 }
+    {
         let mut end: usize = 0;
         for view in self.views.as_slice() {
             end = end.max(view.saturating_add(1));
@@ -55,7 +66,12 @@ impl Needed {
     }
 
     /// Adds what the needed views need in turn. A view names only earlier ones.
-    pub(crate) fn add_of_views<N: Names>(&mut self, names: &N) -> Result<(), AllocError> {
+    pub(crate) fn add_of_views<N: Names>(&mut self, names: &N) -> Result<(), AllocError>
+        ensures { NeedsNone self.old → OnOk result (NeedsNone self.new) }
+    {
+        if self.views.is_empty() {
+            return Ok(());
+        }
         for place in (0..self.view_end()).rev() {
             if is_among(place, self.views.as_slice()) {
                 if let Some(view) = view_at(names, place) {
@@ -117,7 +133,9 @@ impl Needed {
     }
 
     #[cycle(needed_of_cond)]
-    pub(crate) fn add_of_condition(&mut self, condition: &BoundCond) -> Result<(), AllocError> {
+    pub(crate) fn add_of_condition(&mut self, condition: &BoundCond) -> Result<(), AllocError>
+        ensures { has_subquery (cond_of [] condition.now) ≡ false → OnOk result (self.new ≡ self.old) }
+    {
         for term in condition.terms.as_slice() {
             self.add_of_tests(term)?;
         }
@@ -125,7 +143,9 @@ impl Needed {
     }
 
     #[cycle(needed_of_cond)]
-    fn add_of_tests(&mut self, term: &BoundConj) -> Result<(), AllocError> {
+    fn add_of_tests(&mut self, term: &BoundConj) -> Result<(), AllocError>
+        ensures { has_subquery (conj_of [] term.now) ≡ false → OnOk result (self.new ≡ self.old) }
+    {
         for test in term.tests.as_slice() {
             self.add_of_predicate(&test.predicate)?;
         }
@@ -133,11 +153,13 @@ impl Needed {
     }
 
     #[cycle(needed_of_cond)]
-    fn add_of_predicate(&mut self, predicate: &Predicate) -> Result<(), AllocError> {
+    fn add_of_predicate(&mut self, predicate: &Predicate) -> Result<(), AllocError>
+        ensures { has_subquery (predicate_of [] predicate.now) ≡ false → OnOk result (self.new ≡ self.old) }
+    {
         match predicate {
-            Predicate::CompareQuery(_, _, _, query)
-            | Predicate::InQuery(_, _, query)
-            | Predicate::Exists(query) => self.add_of_specification(query.get()),
+            Predicate::CompareQuery(_, _, _, query) => self.add_of_specification(query.get()),
+            Predicate::InQuery(_, _, query) => self.add_of_specification(query.get()),
+            Predicate::Exists(query) => self.add_of_specification(query.get()),
             Predicate::Bracketed(condition) => self.add_of_condition(condition.get()),
             _ => Ok(()),
         }

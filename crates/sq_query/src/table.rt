@@ -1,5 +1,8 @@
 //! The rows of the tables that a statement reads.
 
+ghost use Rattle.std.specs.Prelude.{◌≡◌, []};
+ghost use Rattle.sq_query.specs.Fault.{IsAnswered};
+
 use crate::context::Context;
 use crate::fault::{Failure, Fault};
 use sq_bound::TablePlace;
@@ -28,7 +31,9 @@ pub(crate) fn base_tables<'a, S: Store>(
     store: &'a S,
     places: &[usize],
     meter: &mut Meter,
-) -> Result<Vec<BaseRows<'a>>, Fault> {
+) -> Result<Vec<BaseRows<'a>>, Fault>
+    ensures { places.now ≡ [] → IsAnswered result }
+{
     let mut tables = Vec::new(alloc);
     for place in places {
         tables.push(BaseRows {

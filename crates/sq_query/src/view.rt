@@ -1,5 +1,9 @@
 //! The tables that a statement reads: its base tables, and its views, each evaluated once.
 
+ghost use Rattle.std.specs.Prelude.{◌≡◌, [], IfOk};
+ghost use Rattle.sq_query.specs.Fault.{IsAnswered};
+ghost use Rattle.sq_query.specs.Needed.{NeedsNone};
+
 use crate::condition::outermost_rows;
 use crate::context::Context;
 use crate::fault::Fault;
@@ -25,7 +29,9 @@ pub(crate) fn tables_of<'a, N: Names, S: Store>(
     store: &'a S,
     call: &Context<'_>,
     meter: &mut Meter,
-) -> Result<Tables<'a>, Fault> {
+) -> Result<Tables<'a>, Fault>
+    ensures { IfOk needed NeedsNone → IsAnswered result }
+{
     let mut needed = needed?;
     needed.add_of_views(names)?;
     tables_at(names, &needed, store, call, meter)
@@ -37,7 +43,9 @@ fn tables_at<'a, N: Names, S: Store>(
     store: &'a S,
     call: &Context<'_>,
     meter: &mut Meter,
-) -> Result<Tables<'a>, Fault> {
+) -> Result<Tables<'a>, Fault>
+    ensures { NeedsNone needed.now → IsAnswered result }
+{
     let bases = base_tables(call.alloc, store, needed.bases.as_slice(), meter)?;
     match view_tables(call.alloc, names, needed, bases.as_slice(), call.user) {
         Ok(views) => Ok(Tables { bases, views }),
@@ -56,7 +64,9 @@ fn view_tables<N: Names>(
     needed: &Needed,
     bases: &[BaseRows<'_>],
     user: Name,
-) -> Result<Vec<ViewRows>, Fault> {
+) -> Result<Vec<ViewRows>, Fault>
+    ensures { needed.now.views.items ≡ [] → IsAnswered result }
+{
     let mut views = Vec::new(alloc);
     for place in 0..needed.view_end() {
         if is_among(place, needed.views.as_slice()) {

@@ -1,0 +1,8 @@
+use Rattle.sq_query.specs.Frame.{lent}
+use Rattle.sq_query.proofs.Rows.{value_outside}
+use Rattle.sq_query.proofs.row.value_on.Goals as goal
+
+pub returns : goal.returns
+returns c =
+    value_outside c.line_frame.result c.args.context.now (lent c.args.line.now) c.line_frame.ensures.scopes c.line_frame.ensures.functions
+    c.args.expr.now c.owned_value.result c.owned_value.ensures
