@@ -1,6 +1,6 @@
 //! INSERT, UPDATE and DELETE (ISO/IEC 9075:1992, 13.6 to 13.10).
 
-use crate::updatable::{Under, bind_target, enter_table, under_table};
+use crate::updatable::{Under, bind_target, under_table};
 use sq_bound::{
     Action, BindFault, BoundAssignment, BoundExpr, BoundInsert, BoundUpdate, ChangeTarget, Cursors,
     InsertedRows, Names, PositionedTarget, ResultColumn, TableDesc, Target,
@@ -8,12 +8,14 @@ use sq_bound::{
 use sq_items::Items;
 use sq_lex::Name;
 use sq_scope::{
-    Environment, ExprResult, Findings, Found, SetFunctions, bind_expr, both, kept, must_agree,
+    Environment, ExprResult, Findings, Found, FromItem, SetFunctions, bind_expr, both, item_over,
+    kept, must_agree,
 };
-use sq_select::{SubqueryResult, bind_select, named_table};
+use sq_select::{SubqueryNumbers, SubqueryResult, bind_select, named_table};
 use sq_tree::{Assignment, CommaList, Delete, Insert, InsertSource, NewValue, Update, Where};
 use sq_value::{Kind, Value};
 use std::alloc::Global;
+use std::slice::from_ref;
 
 /// What is under a table that is to be changed.
 fn must_be_updatable(table: &TableDesc) -> Result<Under<'_>, BindFault> {
@@ -109,7 +111,7 @@ fn leaf_columns(alloc: Global, receivers: &[Receiver]) -> Result<Items<usize>, B
 fn new_value(
     value: &NewValue,
     kind: Kind,
-    environment: &Environment,
+    environment: &Environment<'_>,
 ) -> Result<Found<BoundExpr>, BindFault> {
     match value {
         NewValue::Null => Ok(Found {
@@ -139,11 +141,12 @@ fn of_kind(bound: ExprResult, kind: Kind) -> Result<Found<BoundExpr>, BindFault>
 pub(crate) fn bind_insert<N: Names>(
     insert: &Insert,
     names: &N,
-    environment: &mut Environment,
+    environment: &Environment<'_>,
+    numbers: &mut SubqueryNumbers,
 ) -> Result<Found<BoundInsert>, BindFault> {
     let table = named_table(names, environment.user, insert.table)?;
     let under = must_be_updatable(table)?;
-    let parts = insert_parts(insert, names, environment, table)?;
+    let parts = insert_parts(insert, names, environment, table, numbers)?;
     let may = names.may(environment.user, Action::Insert, table.full_name(), None);
     bound_insert(under, parts, missing_unless(may))
 }
@@ -169,12 +172,19 @@ fn bound_insert(
 fn insert_parts<N: Names>(
     insert: &Insert,
     names: &N,
-    environment: &mut Environment,
+    environment: &Environment<'_>,
     table: &TableDesc,
+    numbers: &mut SubqueryNumbers,
 ) -> Result<(Items<usize>, Found<InsertedRows>), BindFault> {
     let receivers = insert_receivers(environment.alloc, table, &insert.columns)?;
     let columns = leaf_columns(environment.alloc, receivers.as_slice());
-    let source = insert_source(&insert.source, names, environment, receivers.as_slice());
+    let source = insert_source(
+        &insert.source,
+        names,
+        environment,
+        receivers.as_slice(),
+        numbers,
+    );
     drop(receivers);
     both(columns, source)
 }
@@ -190,8 +200,9 @@ fn missing_unless(may: bool) -> Findings {
 fn insert_source<N: Names>(
     source: &InsertSource,
     names: &N,
-    environment: &mut Environment,
+    environment: &Environment<'_>,
     receivers: &[Receiver],
+    numbers: &mut SubqueryNumbers,
 ) -> Result<Found<InsertedRows>, BindFault> {
     match source {
         InsertSource::Values(list) => insert_values(list, environment, receivers),
@@ -202,6 +213,7 @@ fn insert_source<N: Names>(
                 &query.list,
                 names,
                 environment,
+                numbers,
             );
             inserted_query(query, receivers)
         }
@@ -234,7 +246,7 @@ fn check_columns(columns: &[ResultColumn], receivers: &[Receiver]) -> Result<(),
 
 fn insert_values(
     list: &CommaList<NewValue>,
-    environment: &Environment,
+    environment: &Environment<'_>,
     receivers: &[Receiver],
 ) -> Result<Found<InsertedRows>, BindFault> {
     let Some((first, others)) = receivers.split_first() else {
@@ -263,20 +275,28 @@ fn push_value(
 }
 
 /// The rows that an update or delete statement names, and what is found in its condition.
-fn change_target<N: Names, C: Cursors>(
+fn change_target<'s, N: Names, C: Cursors>(
     target: &Option<Where>,
     names: &N,
-    environment: &mut Environment,
+    item: &'s FromItem,
+    environment: &'s Environment<'s>,
     cursors: &C,
     table: &TableDesc,
     under: Under<'_>,
+    numbers: &mut SubqueryNumbers,
 ) -> Result<Found<ChangeTarget>, BindFault> {
     match target {
         Some(Where::CurrentOf(name)) => positioned(*name, cursors, table, under),
-        Some(Where::Condition(cond)) => {
-            searched(bind_target(Some(cond), names, environment, table, under))
-        }
-        None => searched(bind_target(None, names, environment, table, under)),
+        Some(Where::Condition(cond)) => searched(bind_target(
+            Some(cond),
+            names,
+            item,
+            environment,
+            table,
+            under,
+            numbers,
+        )),
+        None => searched(bind_target(None, names, item, environment, table, under, numbers)),
     }
 }
 
@@ -324,14 +344,24 @@ fn reading<N: Names>(names: &N, user: Name, table: &TableDesc, findings: Finding
 pub(crate) fn bind_delete<N: Names, C: Cursors>(
     delete: &Delete,
     names: &N,
-    environment: &mut Environment,
+    environment: &Environment<'_>,
     cursors: &C,
+    numbers: &mut SubqueryNumbers,
 ) -> Result<Found<ChangeTarget>, BindFault> {
     let table = named_table(names, environment.user, delete.table)?;
     let under = must_be_updatable(table)?;
-    enter_table(environment, table, None)?;
-    let target = change_target(&delete.target, names, environment, cursors, table, under);
-    environment.leave();
+    let item = item_over(environment.alloc, table, None, true)?;
+    let target = change_target(
+        &delete.target,
+        names,
+        &item,
+        &*environment,
+        cursors,
+        table,
+        under,
+        numbers,
+    );
+    drop(item);
     let Found { part, findings } = target?;
     let may = names.may(environment.user, Action::Delete, table.full_name(), None);
     let findings = reading(names, environment.user, table, findings).and(missing_unless(may));
@@ -350,15 +380,25 @@ struct Assignments {
 pub(crate) fn bind_update<N: Names, C: Cursors>(
     update: &Update,
     names: &N,
-    environment: &mut Environment,
+    environment: &Environment<'_>,
     cursors: &C,
+    numbers: &mut SubqueryNumbers,
 ) -> Result<Found<BoundUpdate>, BindFault> {
     let table = named_table(names, environment.user, update.table)?;
     let under = must_be_updatable(table)?;
-    enter_table(environment, table, None)?;
-    let assignments = assignments_of(&update.assignments, names, environment, table);
-    let target = change_target(&update.target, names, environment, cursors, table, under);
-    environment.leave();
+    let item = item_over(environment.alloc, table, None, true)?;
+    let assignments = assignments_of(&update.assignments, names, &item, &*environment, table);
+    let target = change_target(
+        &update.target,
+        names,
+        &item,
+        &*environment,
+        cursors,
+        table,
+        under,
+        numbers,
+    );
+    drop(item);
     let (assignments, target) = both(assignments, target)?;
     let findings = assignments.findings.and(target.findings);
     Ok(Found {
@@ -370,10 +410,21 @@ pub(crate) fn bind_update<N: Names, C: Cursors>(
     })
 }
 
-fn assignments_of<N: Names>(
+fn assignments_of<'s, N: Names>(
     list: &CommaList<Assignment>,
     names: &N,
-    environment: &Environment,
+    item: &'s FromItem,
+    environment: &'s Environment<'s>,
+    table: &TableDesc,
+) -> Result<Assignments, BindFault> {
+    let scope = environment.scope_over(from_ref(item), None);
+    assignments_within(list, names, &environment.within(scope), table)
+}
+
+fn assignments_within<N: Names>(
+    list: &CommaList<Assignment>,
+    names: &N,
+    environment: &Environment<'_>,
     table: &TableDesc,
 ) -> Result<Assignments, BindFault> {
     let mut assignments = Assignments {
@@ -393,7 +444,7 @@ impl Assignments {
         &mut self,
         assignment: &Assignment,
         names: &N,
-        environment: &Environment,
+        environment: &Environment<'_>,
         table: &TableDesc,
     ) -> Result<(), BindFault> {
         let receiver = receiver_of(table, assignment.column)?;

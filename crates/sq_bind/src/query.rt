@@ -8,7 +8,7 @@ use sq_bound::{
 use sq_items::{Boxed, Items};
 use sq_lex::{Name, Number};
 use sq_scope::{Environment, both, is_whole, kept, number_value, union_kind};
-use sq_select::{SubqueryResult, bind_select};
+use sq_select::{SubqueryNumbers, SubqueryResult, bind_select};
 use sq_tree::{
     CommaList, Cursor, Query, QuerySpecification, QueryTerm, SortDirection, SortKey,
     SortSpecification,
@@ -38,12 +38,13 @@ type TermResult = Result<Term, BindFault>;
 pub(crate) fn bind_query<N: Names>(
     query: &Query,
     names: &N,
-    environment: &mut Environment,
+    environment: &Environment<'_>,
+    numbers: &mut SubqueryNumbers,
 ) -> JoinedResult {
-    let first = bind_query_term(&query.first, names, environment);
+    let first = bind_query_term(&query.first, names, environment, numbers);
     let mut joined = started(environment.alloc, first);
     for union in query.rest.as_slice() {
-        let term = bind_query_term(&union.term, names, environment);
+        let term = bind_query_term(&union.term, names, environment, numbers);
         joined = with_union(environment.alloc, joined, union.all, term);
     }
     joined
@@ -53,7 +54,8 @@ pub(crate) fn bind_query<N: Names>(
 fn bind_query_term<N: Names>(
     term: &QueryTerm,
     names: &N,
-    environment: &mut Environment,
+    environment: &Environment<'_>,
+    numbers: &mut SubqueryNumbers,
 ) -> TermResult {
     match term {
         QueryTerm::Specification(query) => {
@@ -63,11 +65,12 @@ fn bind_query_term<N: Names>(
                 &query.list,
                 names,
                 environment,
+                numbers,
             );
             specification_term(environment.alloc, query)
         }
         QueryTerm::Bracketed(query) => {
-            let query = bind_query(query.get(), names, environment);
+            let query = bind_query(query.get(), names, environment, numbers);
             bracketed_term(environment.alloc, query)
         }
     }
@@ -291,13 +294,14 @@ fn sole_term(term: &QueryTerm) -> Option<&QuerySpecification> {
 fn updatable_cursor<N: Names>(
     cursor: &Cursor,
     names: &N,
-    environment: &mut Environment,
+    environment: &Environment<'_>,
+    numbers: &mut SubqueryNumbers,
 ) -> Result<Option<((Name, Name), UpdatableQuery)>, BindFault> {
     if cursor.insensitive || cursor.scroll || cursor.order_by.is_some() {
         return Ok(None);
     }
     match sole_specification(&cursor.query) {
-        Some(query) => bind_updatable(query, names, environment),
+        Some(query) => bind_updatable(query, names, environment, numbers),
         None => Ok(None),
     }
 }
@@ -306,12 +310,13 @@ fn updatable_cursor<N: Names>(
 pub(crate) fn cursor_of<N: Names>(
     cursor: &Cursor,
     names: &N,
-    environment: &mut Environment,
+    environment: &Environment<'_>,
+    numbers: &mut SubqueryNumbers,
 ) -> Result<BoundCursor, BindFault> {
     let Joined {
         query,
         lacks_privilege,
-    } = bind_query(&cursor.query, names, environment)?;
+    } = bind_query(&cursor.query, names, environment, numbers)?;
     let sorts = sort_columns(
         environment.alloc,
         query.columns.as_slice(),
@@ -322,7 +327,7 @@ pub(crate) fn cursor_of<N: Names>(
         drop(query);
         return Err(BindFault::PrivilegeMissing);
     }
-    let updatable = updatable_cursor(cursor, names, environment);
+    let updatable = updatable_cursor(cursor, names, environment, numbers);
     let columns = copied(environment.alloc, &query.columns);
     let ((query, columns), updatable) = both(both(Ok(query), columns), updatable)?;
     Ok(whole_cursor(cursor, query, sorts, columns, updatable))

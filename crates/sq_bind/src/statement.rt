@@ -3,7 +3,7 @@
 use crate::change::{bind_delete, bind_insert, bind_update};
 use crate::output::bind_outputs;
 use crate::query::cursor_of;
-use crate::updatable::{bind_updatable, enter_table};
+use crate::updatable::bind_updatable;
 use sq_bound::{
     Action, BindFault, BoundCond, BoundCursor, BoundFetch, BoundInsert, BoundSelect,
     BoundSpecification, BoundStatement, BoundUpdate, ChangeTarget, Cursors, Distance,
@@ -11,15 +11,16 @@ use sq_bound::{
 };
 use sq_lex::Name;
 use sq_scope::{
-    Environment, Found, SetFunctions, both, is_whole, kept, parameter_of, signed_value,
+    Environment, Found, SetFunctions, both, is_whole, item_over, kept, parameter_of, signed_value,
 };
-use sq_select::{bind_cond, bind_select};
+use sq_select::{SubqueryNumbers, bind_cond, bind_select};
 use sq_tree::{
     Cond, Cursor, Fetch, FetchFrom, Orientation, Position, QuerySpecification, Select,
     SignedNumber, Statement,
 };
 use sq_value::Kind;
 use std::alloc::Global;
+use std::slice::from_ref;
 
 /// A cursor's query with its names as places, for the parameters of the procedure that opens it.
 pub fn bind_cursor<N: Names>(
@@ -29,10 +30,8 @@ pub fn bind_cursor<N: Names>(
     parameters: &[ParameterDesc],
     cursor: &Cursor,
 ) -> Result<BoundCursor, BindFault> {
-    let mut environment = Environment::new(alloc, user, parameters)?;
-    let bound = cursor_of(cursor, names, &mut environment);
-    drop(environment);
-    bound
+    let environment = Environment::new(alloc, user, parameters);
+    cursor_of(cursor, names, &environment, &mut SubqueryNumbers::new())
 }
 
 /// A view's query with its names as places, and what it is over if it is updatable.
@@ -53,20 +52,18 @@ pub fn bind_view<N: Names>(
     user: Name,
     query: &QuerySpecification,
 ) -> Result<BoundView, BindFault> {
-    let mut environment = Environment::new(alloc, user, &[])?;
+    let environment = Environment::new(alloc, user, &[]);
+    let mut numbers = SubqueryNumbers::new();
     let bound = bind_select(
         &query.table,
         query.quantifier,
         &query.list,
         names,
-        &mut environment,
-    );
-    let bound = match bound {
-        Ok(bound) => both(Ok(bound), bind_updatable(query, names, &mut environment)),
-        Err(fault) => Err(fault),
-    };
-    drop(environment);
-    whole_view(bound?)
+        &environment,
+        &mut numbers,
+    )?;
+    let updatable = bind_updatable(query, names, &environment, &mut numbers);
+    whole_view(both(Ok(bound), updatable)?)
 }
 
 fn whole_view(
@@ -132,23 +129,21 @@ impl Names for NoNames {
 
 /// A CHECK condition on the rows of a table (11.9), without subqueries, USER and parameters.
 pub fn bind_check(alloc: Global, table: &TableDesc, cond: &Cond) -> Result<BoundCond, BindFault> {
-    let mut environment = Environment::new(alloc, table.user, &[])?;
-    let bound = check_in(&mut environment, table, cond);
-    drop(environment);
-    checked(bound)
-}
-
-/// The condition over the rows of the table.
-fn check_in(
-    environment: &mut Environment,
-    table: &TableDesc,
-    cond: &Cond,
-) -> Result<Found<BoundCond>, BindFault> {
-    enter_table(environment, table, None)?;
-    let mut functions = SetFunctions::forbidden(environment.alloc);
-    let bound = bind_cond(cond, &NoNames, environment, &mut functions);
+    let environment = Environment::new(alloc, table.user, &[]);
+    let item = item_over(alloc, table, None, true)?;
+    let scope = environment.scope_over(from_ref(&item), None);
+    let mut functions = SetFunctions::forbidden(alloc);
+    let mut numbers = SubqueryNumbers::new();
+    let bound = bind_cond(
+        cond,
+        &NoNames,
+        &environment.within(scope),
+        &mut functions,
+        &mut numbers,
+    );
     drop(functions);
-    bound
+    drop(item);
+    checked(bound)
 }
 
 fn checked(cond: Result<Found<BoundCond>, BindFault>) -> Result<BoundCond, BindFault> {
@@ -169,26 +164,38 @@ pub fn bind_statement<N: Names, C: Cursors>(
     cursors: &C,
     statement: &Statement,
 ) -> Result<BoundStatement, BindFault> {
-    let mut environment = Environment::new(alloc, user, parameters)?;
-    let bound = statement_of(statement, names, &mut environment, cursors);
-    drop(environment);
-    bound
+    let environment = Environment::new(alloc, user, parameters);
+    let mut numbers = SubqueryNumbers::new();
+    statement_of(statement, names, &environment, cursors, &mut numbers)
 }
 
 fn statement_of<N: Names, C: Cursors>(
     statement: &Statement,
     names: &N,
-    environment: &mut Environment,
+    environment: &Environment<'_>,
     cursors: &C,
+    numbers: &mut SubqueryNumbers,
 ) -> Result<BoundStatement, BindFault> {
     match statement {
         Statement::Open(name) => opening(known(cursors, *name)),
         Statement::Close(name) => closing(known(cursors, *name)),
         Statement::Fetch(fetch) => bind_fetch(fetch, environment, cursors),
-        Statement::Select(select) => bind_row(select, names, environment),
-        Statement::Insert(insert) => inserting(bind_insert(insert, names, environment)),
-        Statement::Update(update) => updating(bind_update(update, names, environment, cursors)),
-        Statement::Delete(delete) => deleting(bind_delete(delete, names, environment, cursors)),
+        Statement::Select(select) => bind_row(select, names, environment, numbers),
+        Statement::Insert(insert) => inserting(bind_insert(insert, names, environment, numbers)),
+        Statement::Update(update) => updating(bind_update(
+            update,
+            names,
+            environment,
+            cursors,
+            numbers,
+        )),
+        Statement::Delete(delete) => deleting(bind_delete(
+            delete,
+            names,
+            environment,
+            cursors,
+            numbers,
+        )),
         Statement::Commit(_) => Ok(BoundStatement::Commit),
         Statement::Rollback(_) => Ok(BoundStatement::Rollback),
     }
@@ -232,7 +239,8 @@ fn known<C: Cursors>(cursors: &C, name: Name) -> Result<KnownCursor<'_>, BindFau
 fn bind_row<N: Names>(
     select: &Select,
     names: &N,
-    environment: &mut Environment,
+    environment: &Environment<'_>,
+    numbers: &mut SubqueryNumbers,
 ) -> Result<BoundStatement, BindFault> {
     let query = bind_select(
         &select.table,
@@ -240,10 +248,11 @@ fn bind_row<N: Names>(
         &select.list,
         names,
         environment,
+        numbers,
     )?;
     let outputs = bind_outputs(
         environment.alloc,
-        environment.parameters.as_slice(),
+        environment.parameters,
         &select.targets,
         query.part.columns.as_slice(),
     );
@@ -255,11 +264,11 @@ fn bind_row<N: Names>(
 /// A fetch statement.
 fn bind_fetch<C: Cursors>(
     fetch: &Fetch,
-    environment: &Environment,
+    environment: &Environment<'_>,
     cursors: &C,
 ) -> Result<BoundStatement, BindFault> {
     let known = known(cursors, fetch.cursor)?;
-    let parameters = environment.parameters.as_slice();
+    let parameters = environment.parameters;
     let orientation = fetch_orientation(&fetch.from, parameters)?;
     if !known.cursor.scroll && !matches!(orientation, FetchOrientation::Next) {
         return Err(BindFault::BadOrientation);

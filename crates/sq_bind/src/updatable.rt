@@ -8,10 +8,11 @@ use sq_bound::{
 };
 use sq_items::Items;
 use sq_lex::Name;
-use sq_scope::{Environment, Findings, Found, SetFunctions, both, item_over};
-use sq_select::{bind_cond, correlation_of, named_table, select_list};
+use sq_scope::{Environment, Findings, Found, FromItem, SetFunctions, both, item_over};
+use sq_select::{SubqueryNumbers, bind_cond, correlation_of, named_table, select_list};
 use sq_tree::{Comparison, Cond, QuerySpecification, SelectList, SetQuantifier};
 use std::alloc::Global;
+use std::slice::from_ref;
 
 /// The table of the only FROM item of a query without DISTINCT, GROUP BY and HAVING, if the table has rows of a base table
 /// under it.
@@ -40,7 +41,8 @@ fn only_table<'a, N: Names>(
 pub(crate) fn bind_updatable<N: Names>(
     query: &QuerySpecification,
     names: &N,
-    environment: &mut Environment,
+    environment: &Environment<'_>,
+    numbers: &mut SubqueryNumbers,
 ) -> Result<Option<((Name, Name), UpdatableQuery)>, BindFault> {
     let Some(table) = only_table(query, names, environment.user)? else {
         return Ok(None);
@@ -49,11 +51,11 @@ pub(crate) fn bind_updatable<N: Names>(
         return Ok(None);
     };
     let correlation = correlation_of(&query.table.from.first);
-    enter_table(environment, table, correlation)?;
-    let columns = plain_columns(&query.list, environment);
+    let item = item_over(environment.alloc, table, correlation, true)?;
+    let columns = plain_columns(&query.list, &item, &*environment);
     let cond = query.table.where_clause.as_ref();
-    let target = bind_target(cond, names, environment, table, under);
-    environment.leave();
+    let target = bind_target(cond, names, &item, &*environment, table, under, numbers);
+    drop(item);
     let (columns, target) = both(columns, target)?;
     Ok(updatable(table.full_name(), columns, target))
 }
@@ -85,23 +87,6 @@ pub(crate) fn under_table(table: &TableDesc) -> Option<Under<'_>> {
     }
 }
 
-/// Goes into a query over one table, whose columns are placed as those of the base table under it.
-pub(crate) fn enter_table(
-    environment: &mut Environment,
-    table: &TableDesc,
-    correlation: Option<Name>,
-) -> Result<(), BindFault> {
-    let item = item_over(environment.alloc, table, correlation, true)?;
-    let mut items = Items::new(environment.alloc);
-    match items.push(item) {
-        Ok(()) => environment.enter(items),
-        Err(_) => {
-            drop(items);
-            Err(BindFault::NoMemory)
-        }
-    }
-}
-
 /// An updatable query has columns each named once, and no subquery in its condition.
 fn updatable(
     table: (Name, Name),
@@ -125,12 +110,13 @@ fn updatable(
 }
 
 /// The columns of a select list that is columns alone, each named once.
-fn plain_columns(
+fn plain_columns<'s>(
     list: &SelectList,
-    environment: &Environment,
+    item: &'s FromItem,
+    environment: &'s Environment<'s>,
 ) -> Result<Option<Items<usize>>, BindFault> {
     let mut functions = SetFunctions::allowed(environment.alloc);
-    let list = select_list(list, environment, &mut functions);
+    let list = select_list(list, from_ref(item), None, environment, &mut functions);
     drop(functions);
     let list = list?;
     let columns = if are_named(list.columns.as_slice()) {
@@ -161,19 +147,27 @@ fn distinct_columns(alloc: Global, exprs: &[BoundExpr]) -> Result<Option<Items<u
     Ok(Some(columns))
 }
 
-/// The rows under a table that may be changed, with a condition on the rows of the base table.
-pub(crate) fn bind_target<N: Names>(
+/// The rows under a table that may be changed, with a condition on the rows of the base table, which this item shows.
+pub(crate) fn bind_target<'s, N: Names>(
     cond: Option<&Cond>,
     names: &N,
-    environment: &mut Environment,
+    item: &'s FromItem,
+    environment: &'s Environment<'s>,
     table: &TableDesc,
     under: Under<'_>,
+    numbers: &mut SubqueryNumbers,
 ) -> Result<Found<Target>, BindFault> {
     let Some(cond) = cond else {
         return whole_target(None, Findings::NONE, None, under);
     };
     let mut functions = SetFunctions::forbidden(environment.alloc);
-    let condition = bind_cond(cond, names, environment, &mut functions);
+    let condition = bind_cond(
+        cond,
+        names,
+        &environment.within(environment.scope_over(from_ref(item), None)),
+        &mut functions,
+        numbers,
+    );
     drop(functions);
     let Found { part, findings } = condition?;
     let key = if findings.has_subquery {

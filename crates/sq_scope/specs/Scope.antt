@@ -9,6 +9,7 @@ use Rattle.sq_bound.specs.declared.fault.BindFault.TheVariants.{AmbiguousName}
 use Rattle.sq_bound.specs.declared.names.Column.{Column}
 use Rattle.sq_scope.specs.declared.scope.FromItem.{FromItem}
 use Rattle.sq_scope.specs.declared.scope.ItemColumn.{ItemColumn}
+use Rattle.sq_scope.specs.declared.scope.Scope.{Scope, out-Scope}
 
 -- ---- items
 
@@ -29,6 +30,10 @@ column_over at_leaf c = record { name = c.1.name; position = if at_leaf then c.1
 -- the columns of an item over a table
 abbrev pub columns_over : Bool → List Column → List ItemColumn
 columns_over at_leaf columns = map (column_over at_leaf) (enumerate_from 0 columns)
+
+-- the items of a scope
+abbrev pub items_in : Scope → List FromItem
+items_in scope = (out-Scope scope).items.now
 
 -- a column, by the numbers of its item and of it there
 abbrev pub column_numbered : List FromItem → ℕ × ℕ → Option (ℕ × ItemColumn)

@@ -75,7 +75,7 @@ impl SetFunctions {
 /// A value expression and what is found in it.
 pub fn bind_expr(
     expr: &Expr,
-    environment: &Environment,
+    environment: &Environment<'_>,
     functions: &mut SetFunctions,
 ) -> ExprResult {
     let mut findings = Findings::NONE;
@@ -87,7 +87,7 @@ pub fn bind_expr(
 #[cycle(bind_expr)]
 fn expr_value(
     expr: &Expr,
-    environment: &Environment,
+    environment: &Environment<'_>,
     functions: &mut SetFunctions,
     findings: &mut Findings,
 ) -> TypedResult {
@@ -107,7 +107,7 @@ fn expr_value(
 #[cycle(bind_expr)]
 fn term_value(
     term: &Term,
-    environment: &Environment,
+    environment: &Environment<'_>,
     functions: &mut SetFunctions,
     findings: &mut Findings,
 ) -> TypedResult {
@@ -127,7 +127,7 @@ fn term_value(
 #[cycle(bind_expr)]
 fn factor_value(
     factor: &Factor,
-    environment: &Environment,
+    environment: &Environment<'_>,
     functions: &mut SetFunctions,
     findings: &mut Findings,
 ) -> TypedResult {
@@ -141,17 +141,14 @@ fn factor_value(
 #[cycle(bind_expr)]
 fn primary_value(
     primary: &Primary,
-    environment: &Environment,
+    environment: &Environment<'_>,
     functions: &mut SetFunctions,
     findings: &mut Findings,
 ) -> TypedResult {
     match primary {
         Primary::Number(number) => number_literal(*number),
         Primary::Text(characters) => text_literal(environment.alloc, characters),
-        Primary::Parameter(parameter) => parameter_value(
-            environment.parameters.as_slice(),
-            *parameter,
-        ),
+        Primary::Parameter(parameter) => parameter_value(environment.parameters, *parameter),
         Primary::User => Ok(user_value(findings)),
         Primary::Column(reference) => column_value(environment, reference, findings),
         Primary::CountRows => count_rows(functions, findings),
@@ -241,7 +238,7 @@ fn parameter_value(parameters: &[ParameterDesc], parameter: Parameter) -> TypedR
 }
 
 fn column_value(
-    environment: &Environment,
+    environment: &Environment<'_>,
     reference: &ColumnReference,
     findings: &mut Findings,
 ) -> TypedResult {

@@ -2,7 +2,7 @@
 
 ghost use Rattle.std.specs.Prelude.{◌≡◌, IfOk, MatchResult, find};
 ghost use Rattle.sq_meaning.specs.Environment.{names_item, same_name};
-ghost use Rattle.sq_scope.specs.Scope.{FitsColumn, FitsMore, FitsOnly, column_over, columns_over, fits, item_meant, with_fit};
+ghost use Rattle.sq_scope.specs.Scope.{FitsColumn, FitsMore, FitsOnly, column_over, columns_over, fits, item_meant, items_in, with_fit};
 
 use sq_bound::{BindFault, Column, ParameterDesc, Place, TableDesc};
 use sq_items::Items;
@@ -29,23 +29,22 @@ pub struct FromItem {
     pub columns: Items<ItemColumn>,
 }
 
-/// The FROM items of a query.
-#[derive(Drop)]
-pub struct Scope {
-    pub items: Items<FromItem>,
+/// The FROM items of a query, and the scope of the query around it.
+#[derive(Clone, Copy)]
+pub struct Scope<'a> {
+    pub items: &'a [FromItem],
     /// Where other columns of this query may not stand outside set functions, its grouping columns.
-    pub grouping: Option<Items<Place>>,
+    pub grouping: Option<&'a [Place]>,
+    pub outer: Option<&'a Scope<'a>>,
 }
 
-/// Where a text stands: the user, the parameters, and the scopes around it, the nearest last.
-#[derive(Drop)]
-pub struct Environment {
+/// Where a text stands: the user, the parameters, and the scope of the nearest query around it.
+#[derive(Clone, Copy)]
+pub struct Environment<'a> {
     pub alloc: Global,
     pub user: Name,
-    pub parameters: Items<ParameterDesc>,
-    scopes: Vec<Scope>,
-    /// The number of the next subquery that gets one.
-    next_number: usize,
+    pub parameters: &'a [ParameterDesc],
+    pub scope: Option<Scope<'a>>,
 }
 
 /// A column that a reference means.
@@ -149,13 +148,13 @@ pub fn is_exposed(items: &[FromItem], item: &FromItem) -> bool {
     items.iter().any(|other| other.clashes(item))
 }
 
-impl Scope {
+impl Scope<'_> {
     /// The items and columns of this scope that a reference fits: none, one, or a fault for more.
     fn fitting(&self, reference: &ColumnReference) -> Result<Option<(usize, ItemColumn)>, BindFault>
-        ensures { let items = self.now.items in MatchResult result (FitsOnly items (fits reference.now items)) (FitsMore (fits reference.now items)) }
+        ensures { let items = items_in self.now in MatchResult result (FitsOnly items (fits reference.now items)) (FitsMore (fits reference.now items)) }
     {
         let mut found = None;
-        for (number, item) in self.items.as_slice().iter().enumerate() {
+        for (number, item) in self.items.iter().enumerate() {
             match with_fit(found, number, item.column(reference)) {
                 Ok(next) => found = next,
                 Err(fault) => return Err(fault),
@@ -166,12 +165,31 @@ impl Scope {
 
     /// Whether the column is among the grouping columns, where there are such.
     fn is_grouped(&self, item: usize, column: usize) -> bool {
-        match &self.grouping {
+        match self.grouping {
             None => true,
-            Some(places) => places
-                .as_slice()
-                .iter()
-                .any(|place| is_at(place, item, column)),
+            Some(places) => places.iter().any(|place| is_at(place, item, column)),
+        }
+    }
+
+    /// The column of the nearest scope in which an item fits the reference. This one is so many queries further out.
+    fn column(&self, depth: usize, reference: &ColumnReference) -> Result<FoundColumn, BindFault> {
+        match (self.fitting(reference)?, self.outer) {
+            (Some((item, column)), _) => Ok(self.found(depth, item, column)),
+            (None, Some(outer)) => outer.column(depth.saturating_add(1), reference),
+            (None, None) => Err(BindFault::UnknownColumn),
+        }
+    }
+
+    fn found(&self, depth: usize, item: usize, column: ItemColumn) -> FoundColumn {
+        FoundColumn {
+            place: Place {
+                depth,
+                item,
+                column: column.position,
+            },
+            kind: column.kind,
+            is_grouped: self.is_grouped(item, column.position),
+            is_outermost: self.outer.is_none(),
         }
     }
 }
@@ -196,84 +214,45 @@ fn is_at(place: &Place, item: usize, column: usize) -> bool {
     place.depth == 0 && place.item == item && place.column == column
 }
 
-impl Environment {
+impl<'a> Environment<'a> {
     /// Outside all queries.
-    pub fn new(
-        alloc: Global,
-        user: Name,
-        parameters: &[ParameterDesc],
-    ) -> Result<Environment, BindFault> {
-        Ok(Environment {
+    pub fn new(alloc: Global, user: Name, parameters: &'a [ParameterDesc]) -> Environment<'a> {
+        Environment {
             alloc,
             user,
-            parameters: Items::from_slice(alloc, parameters)?,
-            scopes: Vec::new(alloc),
-            next_number: 0,
-        })
+            parameters,
+            scope: None,
+        }
     }
 
-    /// Goes into a query over these items.
-    pub fn enter(&mut self, items: Items<FromItem>) -> Result<(), BindFault> {
-        let scope = Scope {
+    /// The scope of a query over these items, in the scopes that are here.
+    pub fn scope_over<'s>(
+        &'s self,
+        items: &'s [FromItem],
+        grouping: Option<&'s [Place]>,
+    ) -> Scope<'s> {
+        Scope {
             items,
-            grouping: None,
-        };
-        match self.scopes.push(scope) {
-            Ok(()) => Ok(()),
-            Err(_) => Err(BindFault::NoMemory),
+            grouping,
+            outer: self.scope.as_ref(),
         }
     }
 
-    /// From here on, columns of the nearest query other than these may not stand outside set functions.
-    pub fn group(&mut self, columns: Items<Place>) {
-        match self.scopes.last_mut() {
-            Some(scope) => scope.grouping = Some(columns),
-            None => drop(columns),
-        }
-    }
-
-    /// Leaves the nearest query.
-    pub fn leave(&mut self) {
-        drop(self.scopes.pop());
-    }
-
-    /// A number that was not given before, as long as there is one.
-    pub fn take_number(&mut self) -> Option<usize> {
-        let number = self.next_number;
-        self.next_number = number.checked_add(1)?;
-        Some(number)
-    }
-
-    /// The items of the nearest query.
-    pub fn nearest(&self) -> &[FromItem] {
-        match self.scopes.last() {
-            Some(scope) => scope.items.as_slice(),
-            None => &[],
+    /// In a query of this scope.
+    pub fn within<'s>(&'s self, scope: Scope<'s>) -> Environment<'s> {
+        Environment {
+            alloc: self.alloc,
+            user: self.user,
+            parameters: self.parameters,
+            scope: Some(scope),
         }
     }
 
     /// The column of the nearest scope in which an item fits the reference.
     pub fn column(&self, reference: &ColumnReference) -> Result<FoundColumn, BindFault> {
-        let mut depth: usize = 0;
-        for scope in self.scopes.iter().rev() {
-            if let Some((item, column)) = scope.fitting(reference)? {
-                return Ok(self.found(depth, scope, item, column));
-            }
-            depth = depth.saturating_add(1);
-        }
-        Err(BindFault::UnknownColumn)
-    }
-
-    fn found(&self, depth: usize, scope: &Scope, item: usize, column: ItemColumn) -> FoundColumn {
-        FoundColumn {
-            place: Place {
-                depth,
-                item,
-                column: column.position,
-            },
-            kind: column.kind,
-            is_grouped: scope.is_grouped(item, column.position),
-            is_outermost: depth.saturating_add(1) == self.scopes.len(),
+        match &self.scope {
+            Some(scope) => scope.column(0, reference),
+            None => Err(BindFault::UnknownColumn),
         }
     }
 }

@@ -1,13 +1,16 @@
 //! Search conditions and query specifications (ISO/IEC 9075:1992, 7.3 to 7.9, 7.11, 8.12).
 
+use crate::number::SubqueryNumbers;
 use crate::predicate::{
     PredicateResult, SubqueryResult, between, compared, compared_query, exists, in_list, in_query,
     like, null_test,
 };
-use crate::select::{FromClause, Selected, from_clause, group_by, make_specification, select_list};
-use sq_bound::{BindFault, BoundCond, BoundConj, BoundTest, Names, Predicate};
+use crate::select::{
+    FromClause, Selected, from_clause, group_by, grouping_of, make_specification, select_list,
+};
+use sq_bound::{BindFault, BoundCond, BoundConj, BoundTest, Names, Place, Predicate};
 use sq_items::{Boxed, Items};
-use sq_scope::{Environment, Findings, Found, SetFunctions, bind_expr};
+use sq_scope::{Environment, Findings, Found, FromItem, SetFunctions, bind_expr};
 use sq_tree::{
     Body, Cond, Conj, Expr, QuerySpecification, SelectList, SetQuantifier, TableExpression, Tail,
     Test,
@@ -65,13 +68,14 @@ fn none<T>(alloc: Global) -> Gathered<T> {
 pub fn bind_cond<N: Names>(
     cond: &Cond,
     names: &N,
-    environment: &mut Environment,
+    environment: &Environment<'_>,
     functions: &mut SetFunctions,
+    numbers: &mut SubqueryNumbers,
 ) -> CondResult {
-    let first = bind_conj(&cond.first, names, environment, functions);
+    let first = bind_conj(&cond.first, names, environment, functions, numbers);
     let mut terms = gathered(none(environment.alloc), first);
     for conj in cond.rest.as_slice() {
-        let term = bind_conj(conj, names, environment, functions);
+        let term = bind_conj(conj, names, environment, functions, numbers);
         terms = gathered(terms, term);
     }
     whole_cond(terms)
@@ -89,13 +93,14 @@ fn whole_cond(terms: Gathered<BoundConj>) -> CondResult {
 fn bind_conj<N: Names>(
     conj: &Conj,
     names: &N,
-    environment: &mut Environment,
+    environment: &Environment<'_>,
     functions: &mut SetFunctions,
+    numbers: &mut SubqueryNumbers,
 ) -> Result<Found<BoundConj>, BindFault> {
-    let first = bind_test(&conj.first, names, environment, functions);
+    let first = bind_test(&conj.first, names, environment, functions, numbers);
     let mut tests = gathered(none(environment.alloc), first);
     for test in conj.rest.as_slice() {
-        let factor = bind_test(test, names, environment, functions);
+        let factor = bind_test(test, names, environment, functions, numbers);
         tests = gathered(tests, factor);
     }
     whole_conj(tests)
@@ -113,10 +118,11 @@ fn whole_conj(tests: Gathered<BoundTest>) -> Result<Found<BoundConj>, BindFault>
 fn bind_test<N: Names>(
     test: &Test,
     names: &N,
-    environment: &mut Environment,
+    environment: &Environment<'_>,
     functions: &mut SetFunctions,
+    numbers: &mut SubqueryNumbers,
 ) -> Result<Found<BoundTest>, BindFault> {
-    let predicate = bind_body(&test.body, names, environment, functions);
+    let predicate = bind_body(&test.body, names, environment, functions, numbers);
     whole_test(test.negated, predicate)
 }
 
@@ -137,18 +143,26 @@ fn whole_test(negated: bool, predicate: PredicateResult) -> Result<Found<BoundTe
 fn bind_body<N: Names>(
     body: &Body,
     names: &N,
-    environment: &mut Environment,
+    environment: &Environment<'_>,
     functions: &mut SetFunctions,
+    numbers: &mut SubqueryNumbers,
 ) -> PredicateResult {
     match body {
-        Body::Predicate(left, tail) => bind_tail(tail, left, names, environment, functions),
+        Body::Predicate(left, tail) => bind_tail(
+            tail,
+            left,
+            names,
+            environment,
+            functions,
+            numbers,
+        ),
         Body::Exists(query) => exists(
             environment.alloc,
-            bind_subquery(query.get(), names, environment),
+            bind_subquery(query.get(), names, environment, numbers),
         ),
         Body::Bracketed(cond) => bracketed(
             environment.alloc,
-            bind_cond(cond.get(), names, environment, functions),
+            bind_cond(cond.get(), names, environment, functions, numbers),
         ),
     }
 }
@@ -166,8 +180,9 @@ fn bind_tail<N: Names>(
     tail: &Tail,
     left: &Expr,
     names: &N,
-    environment: &mut Environment,
+    environment: &Environment<'_>,
     functions: &mut SetFunctions,
+    numbers: &mut SubqueryNumbers,
 ) -> PredicateResult {
     let left = bind_expr(left, environment, functions);
     match tail {
@@ -176,14 +191,14 @@ fn bind_tail<N: Names>(
             compared(*comparison, left, right)
         }
         Tail::CompareQuery(comparison, quantifier, query) => {
-            let query = bind_subquery(query.get(), names, environment);
+            let query = bind_subquery(query.get(), names, environment, numbers);
             compared_query(environment.alloc, *comparison, *quantifier, left, query)
         }
         Tail::Between(negated, low, high) => {
             between(*negated, left, low, high.get(), environment, functions)
         }
         Tail::InQuery(negated, query) => {
-            let query = bind_subquery(query.get(), names, environment);
+            let query = bind_subquery(query.get(), names, environment, numbers);
             in_query(environment.alloc, *negated, left, query)
         }
         Tail::InList(negated, list) => in_list(*negated, left, list, environment, functions),
@@ -198,7 +213,8 @@ fn bind_tail<N: Names>(
 fn bind_subquery<N: Names>(
     query: &QuerySpecification,
     names: &N,
-    environment: &mut Environment,
+    environment: &Environment<'_>,
+    numbers: &mut SubqueryNumbers,
 ) -> SubqueryResult {
     let query = bind_select(
         &query.table,
@@ -206,15 +222,16 @@ fn bind_subquery<N: Names>(
         &query.list,
         names,
         environment,
+        numbers,
     );
-    numbered(query, environment)
+    numbered(query, numbers)
 }
 
 /// The subquery, with a number where it reads no column of a query around it.
-fn numbered(query: SubqueryResult, environment: &mut Environment) -> SubqueryResult {
+fn numbered(query: SubqueryResult, numbers: &mut SubqueryNumbers) -> SubqueryResult {
     let Found { mut part, findings } = query?;
     if findings.reach == 0 {
-        part.number = environment.take_number();
+        part.number = numbers.take();
     }
     Ok(Found { part, findings })
 }
@@ -226,22 +243,40 @@ pub fn bind_select<N: Names>(
     quantifier: Option<SetQuantifier>,
     list: &SelectList,
     names: &N,
-    environment: &mut Environment,
+    environment: &Environment<'_>,
+    numbers: &mut SubqueryNumbers,
 ) -> SubqueryResult {
     let FromClause {
         items,
         tables,
         findings,
     } = from_clause(names, environment, &table.from)?;
-    environment.enter(items)?;
-    let mut no_functions = SetFunctions::forbidden(environment.alloc);
-    let condition = bind_optional(&table.where_clause, names, environment, &mut no_functions);
-    drop(no_functions);
-    let groups = group_by(environment, &table.group_by);
+    let condition = bind_where(
+        &table.where_clause,
+        names,
+        items.as_slice(),
+        &*environment,
+        numbers,
+    );
+    let groups = group_by(items.as_slice(), &*environment, &table.group_by);
     let mut functions = SetFunctions::allowed(environment.alloc);
-    let selected = select_list(list, environment, &mut functions);
-    let having = bind_optional(&table.having, names, environment, &mut functions);
-    environment.leave();
+    let selected = select_list(
+        list,
+        items.as_slice(),
+        grouping_of(&groups),
+        &*environment,
+        &mut functions,
+    );
+    let having = bind_having(
+        &table.having,
+        names,
+        items.as_slice(),
+        grouping_of(&groups),
+        &*environment,
+        &mut functions,
+        numbers,
+    );
+    drop(items);
     make_specification(Selected {
         is_distinct: is_distinct(quantifier),
         tables,
@@ -255,6 +290,47 @@ pub fn bind_select<N: Names>(
     })
 }
 
+/// A WHERE clause over these items, in which no set function may stand.
+#[cycle(bind_cond)]
+fn bind_where<'s, N: Names>(
+    cond: &Option<Cond>,
+    names: &N,
+    items: &'s [FromItem],
+    environment: &'s Environment<'s>,
+    numbers: &mut SubqueryNumbers,
+) -> Result<Found<Option<BoundCond>>, BindFault> {
+    let mut functions = SetFunctions::forbidden(environment.alloc);
+    let condition = bind_optional(
+        cond,
+        names,
+        &environment.within(environment.scope_over(items, None)),
+        &mut functions,
+        numbers,
+    );
+    drop(functions);
+    condition
+}
+
+/// A HAVING clause over these items, with these grouping columns.
+#[cycle(bind_cond)]
+fn bind_having<'s, N: Names>(
+    cond: &Option<Cond>,
+    names: &N,
+    items: &'s [FromItem],
+    grouping: Option<&'s [Place]>,
+    environment: &'s Environment<'s>,
+    functions: &mut SetFunctions,
+    numbers: &mut SubqueryNumbers,
+) -> Result<Found<Option<BoundCond>>, BindFault> {
+    bind_optional(
+        cond,
+        names,
+        &environment.within(environment.scope_over(items, grouping)),
+        functions,
+        numbers,
+    )
+}
+
 /// Whether DISTINCT is written.
 fn is_distinct(quantifier: Option<SetQuantifier>) -> bool {
     matches!(quantifier, Some(SetQuantifier::Distinct))
@@ -264,15 +340,16 @@ fn is_distinct(quantifier: Option<SetQuantifier>) -> bool {
 fn bind_optional<N: Names>(
     cond: &Option<Cond>,
     names: &N,
-    environment: &mut Environment,
+    environment: &Environment<'_>,
     functions: &mut SetFunctions,
+    numbers: &mut SubqueryNumbers,
 ) -> Result<Found<Option<BoundCond>>, BindFault> {
     match cond {
         None => Ok(Found {
             part: None,
             findings: Findings::NONE,
         }),
-        Some(cond) => optional(bind_cond(cond, names, environment, functions)),
+        Some(cond) => optional(bind_cond(cond, names, environment, functions, numbers)),
     }
 }
 

@@ -3,9 +3,11 @@
 #![tactic(auto)]
 
 mod condition;
+mod number;
 mod predicate;
 mod select;
 
 pub use condition::{CondResult, bind_cond, bind_select};
+pub use number::SubqueryNumbers;
 pub use predicate::SubqueryResult;
 pub use select::{SelectedList, correlation_of, named_table, select_list};

@@ -133,7 +133,7 @@ pub fn between(
     left: ExprResult,
     low: &Expr,
     high: &Expr,
-    environment: &Environment,
+    environment: &Environment<'_>,
     functions: &mut SetFunctions,
 ) -> PredicateResult {
     let low = bind_expr(low, environment, functions);
@@ -182,7 +182,7 @@ fn with_item(
 fn list_exprs(
     kind: Kind,
     list: &CommaList<Expr>,
-    environment: &Environment,
+    environment: &Environment<'_>,
     functions: &mut SetFunctions,
 ) -> Result<Listed, BindFault> {
     let empty = Ok(Listed {
@@ -203,7 +203,7 @@ pub fn in_list(
     negated: bool,
     left: ExprResult,
     list: &CommaList<Expr>,
-    environment: &Environment,
+    environment: &Environment<'_>,
     functions: &mut SetFunctions,
 ) -> PredicateResult {
     let left = left?;
@@ -228,7 +228,7 @@ pub fn like(
     left: ExprResult,
     pattern: &Expr,
     escape: &Option<Boxed<Expr>>,
-    environment: &Environment,
+    environment: &Environment<'_>,
     functions: &mut SetFunctions,
 ) -> PredicateResult {
     let pattern = bind_expr(pattern, environment, functions);

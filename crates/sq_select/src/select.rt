@@ -76,10 +76,13 @@ fn table_findings<N: Names>(names: &N, user: Name, table: &TableDesc) -> Finding
     }
 }
 
+/// What binding a GROUP BY clause answers.
+pub type GroupsResult = Result<Found<Items<Place>>, BindFault>;
+
 /// The items of a FROM clause, each exposed by a name of its own.
 pub fn from_clause<N: Names>(
     names: &N,
-    environment: &Environment,
+    environment: &Environment<'_>,
     list: &CommaList<TableReference>,
 ) -> Result<FromClause, BindFault> {
     if list.rest.len() >= MOST_ITEMS {
@@ -101,7 +104,7 @@ impl FromClause {
     fn add<N: Names>(
         &mut self,
         names: &N,
-        environment: &Environment,
+        environment: &Environment<'_>,
         reference: &TableReference,
     ) -> Result<(), BindFault> {
         let table = named_table(names, environment.user, reference.table)?;
@@ -118,27 +121,22 @@ impl FromClause {
     }
 }
 
-/// The grouping columns, which may be those of a query further out. From here on only they may stand outside set functions.
-pub fn group_by(
-    environment: &mut Environment,
+/// The grouping columns, which may be those of a query further out.
+pub fn group_by<'s>(
+    items: &'s [FromItem],
+    environment: &'s Environment<'s>,
     list: &Option<CommaList<ColumnReference>>,
-) -> Result<Found<Items<Place>>, BindFault> {
-    let columns = grouping_columns(environment, list)?;
-    let copy = match Items::from_slice(environment.alloc, columns.part.as_slice()) {
-        Ok(copy) => copy,
-        Err(_) => {
-            drop(columns);
-            return Err(BindFault::NoMemory);
-        }
-    };
-    environment.group(copy);
-    Ok(columns)
+) -> GroupsResult {
+    grouping_columns(
+        &environment.within(environment.scope_over(items, None)),
+        list,
+    )
 }
 
 fn grouping_columns(
-    environment: &Environment,
+    environment: &Environment<'_>,
     list: &Option<CommaList<ColumnReference>>,
-) -> Result<Found<Items<Place>>, BindFault> {
+) -> GroupsResult {
     let mut columns = Items::new(environment.alloc);
     let mut findings = Findings::NONE;
     if let Some(list) = list {
@@ -153,10 +151,18 @@ fn grouping_columns(
     })
 }
 
+/// The columns that alone may stand outside set functions.
+pub fn grouping_of(groups: &GroupsResult) -> Option<&[Place]> {
+    match groups {
+        Ok(groups) => Some(groups.part.as_slice()),
+        Err(_) => None,
+    }
+}
+
 fn push_grouping(
     columns: &mut Items<Place>,
     reference: &ColumnReference,
-    environment: &Environment,
+    environment: &Environment<'_>,
     findings: Findings,
 ) -> Result<Findings, BindFault> {
     let found = environment.column(reference)?;
@@ -186,14 +192,20 @@ pub struct SelectedList {
 }
 
 /// A select list. `*` stands for all columns of all items.
-pub fn select_list(
+pub fn select_list<'s>(
     list: &SelectList,
-    environment: &Environment,
+    items: &'s [FromItem],
+    grouping: Option<&'s [Place]>,
+    environment: &'s Environment<'s>,
     functions: &mut SetFunctions,
 ) -> Result<SelectedList, BindFault> {
     match list {
-        SelectList::Star => all_columns(environment.alloc, environment.nearest()),
-        SelectList::Items(list) => listed_columns(list, environment, functions),
+        SelectList::Star => all_columns(environment.alloc, items),
+        SelectList::Items(list) => listed_columns(
+            list,
+            &environment.within(environment.scope_over(items, grouping)),
+            functions,
+        ),
     }
 }
 
@@ -208,7 +220,7 @@ fn no_columns(alloc: Global, is_star: bool) -> SelectedList {
 
 fn listed_columns(
     list: &CommaList<Expr>,
-    environment: &Environment,
+    environment: &Environment<'_>,
     functions: &mut SetFunctions,
 ) -> Result<SelectedList, BindFault> {
     let mut selected = Ok(no_columns(environment.alloc, false));
@@ -297,7 +309,7 @@ pub struct Selected {
     pub named: Findings,
     pub condition: Result<Found<Option<BoundCond>>, BindFault>,
     pub by_columns: bool,
-    pub groups: Result<Found<Items<Place>>, BindFault>,
+    pub groups: GroupsResult,
     pub selected: Result<SelectedList, BindFault>,
     pub having: Result<Found<Option<BoundCond>>, BindFault>,
     pub functions: SetFunctions,
