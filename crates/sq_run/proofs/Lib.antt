@@ -3,4 +3,5 @@ pub mod Opened
 pub mod Refused
 pub mod Spelled
 pub mod Steps
+pub mod Taken
 pub mod Wrote

@@ -13,8 +13,9 @@ use Rattle.sq_tree.specs.Schema.{schema_tokens, schema_depth}
 use Rattle.sq_tree.specs.Module.{module_tokens, module_depth}
 use Rattle.sq_tree.specs.Script.{script_tokens, script_depth}
 use Rattle.sq_model.specs.Report.{Bytes}
-use Rattle.sq_run.specs.Fault.{IsMisspelled, IsOfMeaning, IsOpeningFault, IsParseFault, IsRefusalIfAny, IsRefusedScript, IsRefusedText, IsScriptFault, IsUnread, SomeRefused, run_fault}
-use Rattle.sq_run.specs.Refused.{Matter, Tokens, Grammar, Depth, Meaning, IsRefused, OneRefused, matter}
+use Rattle.sq_session.specs.Session.{Session}
+use Rattle.sq_run.specs.Fault.{IsMisspelled, IsOfMeaning, IsOpeningFault, IsParseFault, IsRefusalIfAny, IsRefusedText, IsScriptFault, IsScriptRefusal, IsUnread, SomeRefused, run_fault}
+use Rattle.sq_run.specs.Refused.{Matter, Tokens, Grammar, Depth, Meaning, IsRefused, IsRefusedScript, OneRefused, matter}
 use Rattle.sq_run.specs.Run.{AllSpell, SomeTrees, Spells, texts}
 use Rattle.sq_run.specs.declared.refusal.Refusal.{Refusal}
 use Rattle.sq_run.specs.declared.refusal.RefusalName.{RefusalName}
@@ -116,20 +117,16 @@ named number what (Refused refusal) e is = (is.0, ap matter is.1 ∙ e)
 
 -- ---- the script
 
-misspelled_is_refused : {T : Type 0} (tokens_of : T → List Lexeme) (depth_of : T → ℕ) (text : Bytes) (refusal : Refusal) (m : Matter)
-    → IsMisspelled tokens_of depth_of text refusal m → IsRefused tokens_of depth_of text refusal m
-misspelled_is_refused tokens_of depth_of text refusal Tokens is = is
-misspelled_is_refused tokens_of depth_of text refusal Grammar is = is
-misspelled_is_refused tokens_of depth_of text refusal Depth is = is
-misspelled_is_refused tokens_of depth_of text refusal Meaning is = absurd is
+misspelled_is_refused : (s : Session) (script : Bytes) (refusal : Refusal) (m : Matter)
+    → IsMisspelled script_tokens script_depth script refusal m → IsRefusedScript s script refusal m
+misspelled_is_refused s script refusal Tokens is = is
+misspelled_is_refused s script refusal Grammar is = is
+misspelled_is_refused s script refusal Depth is = is
+misspelled_is_refused s script refusal Meaning is = absurd is
 
-pub script_without : (script : Bytes) (fault : TextFault) → IsRefusedText 0 script_tokens script_depth script fault → IsRefusedScript script fault
-script_without script NoMemory is = tt
-script_without script (Refused refusal) is = (is.0, misspelled_is_refused script_tokens script_depth script refusal (matter refusal.what) is.1)
-
-pub script_of_meaning : (script : Bytes) (fault : TextFault) → IsOfMeaning 0 fault → IsRefusedScript script fault
-script_of_meaning script NoMemory is = tt
-script_of_meaning script (Refused refusal) is = (is.0, subst (IsRefused script_tokens script_depth script refusal) (sym is.1) tt)
+pub script_without : (s : Session) (script : Bytes) (fault : TextFault) → IsRefusedText 0 script_tokens script_depth script fault → IsScriptRefusal s script fault
+script_without s script NoMemory is = tt
+script_without s script (Refused refusal) is = (is.0, misspelled_is_refused s script refusal (matter refusal.what) is.1)
 
 -- ---- what the fault of a text is for a run
 
@@ -142,6 +139,6 @@ pub of_modules : (schemas modules : List Bytes) (fault : TextFault) → SomeTree
 of_modules schemas modules NoMemory s is = refl
 of_modules schemas modules (Refused refusal) s is = (is, s)
 
-pub of_script : (script : Bytes) (fault : TextFault) → IsRefusedScript script fault → IsScriptFault script (run_fault run.ScriptRefused fault)
-of_script script NoMemory is = refl
-of_script script (Refused refusal) is = is
+pub of_script : (s : Session) (script : Bytes) (fault : TextFault) → IsScriptRefusal s script fault → IsScriptFault s script (run_fault run.ScriptRefused fault)
+of_script s script NoMemory is = refl
+of_script s script (Refused refusal) is = is

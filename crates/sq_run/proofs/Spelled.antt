@@ -57,7 +57,7 @@ spelled_all tokens_of all i trees le spelled =
 pub spelled_count : {T : Type 0} (tokens_of : T → List Lexeme) (all : List (Vec ℕ Global)) (trees : List T) → AllSpell tokens_of (texts all) trees → length all ≡ length trees
 spelled_count tokens_of all trees spelled = sym (length_texts all) ∙ spelled_length tokens_of (texts all) trees spelled
 
-read_of : (text : Bytes) (lexed : List Lexeme) → Spells text lexed → IsOk (reading text)
+pub read_of : (text : Bytes) (lexed : List Lexeme) → Spells text lexed → IsOk (reading text)
 read_of text lexed spells = subst (λ answer. IsOk answer) (sym spells.read) refl
 
 -- a text that spells a tree has a reading

@@ -20,12 +20,12 @@ use Rattle.sq_run.specs.declared.refusal.RunFault.TheVariants.{SchemaRefused, Mo
 -- ---- a script, as its items are performed
 
 pub performed_all : (script : Bytes) (start : Session) (actions : List Action) (old new : Option Bytes) (answer : Result (Unit {0}) RunFault)
-    → AreAsked script actions → OnOk answer (Reported actions start old new) → OnOk answer (Performed script start old new)
+    → AreAsked start script actions → OnOk answer (Reported actions start old new) → OnOk answer (Performed script start old new)
 performed_all script start actions old new (Ok u) asked done = record { actions = actions; asked = asked; reported = done }
 performed_all script start actions old new (Err e) asked done = done
 
 stop_of : (script : Bytes) (start : Session) (actions : List Action) (old new : Option Bytes) (fault : RunFault)
-    → AreAsked script actions → StoppedAt actions start old new fault → IsScriptStop script start old new fault
+    → AreAsked start script actions → StoppedAt actions start old new fault → IsScriptStop script start old new fault
 stop_of script start actions old new (SchemaRefused refusal) asked stop = absurd stop
 stop_of script start actions old new (ModuleRefused refusal) asked stop = absurd stop
 stop_of script start actions old new (ScriptRefused refusal) asked stop = absurd stop
@@ -34,12 +34,12 @@ stop_of script start actions old new (NoMemory zero) asked stop = stop
 stop_of script start actions old new (NoMemory (suc items)) asked stop = record { actions = actions; asked = asked; fewer = stop.0; reported = stop.1 }
 
 pub performed_some : (script : Bytes) (start : Session) (actions : List Action) (old new : Option Bytes) (answer : Result (Unit {0}) RunFault)
-    → AreAsked script actions → IfErr answer (StoppedAt actions start old new) → IfErr answer (IsScriptStop script start old new)
+    → AreAsked start script actions → IfErr answer (StoppedAt actions start old new) → IfErr answer (IsScriptStop script start old new)
 performed_some script start actions old new (Ok u) asked stop = stop
 performed_some script start actions old new (Err fault) asked stop = stop_of script start actions old new fault asked stop
 
 -- nothing is done of a script that is refused
-pub refused_stop : (script : Bytes) (start : Session) (taken : Option Bytes) (fault : RunFault) → IsScriptFault script fault → IsScriptStop script start taken taken fault
+pub refused_stop : (script : Bytes) (start : Session) (taken : Option Bytes) (fault : RunFault) → IsScriptFault start script fault → IsScriptStop script start taken taken fault
 refused_stop script start taken (SchemaRefused refusal) is = is
 refused_stop script start taken (ModuleRefused refusal) is = is
 refused_stop script start taken (ScriptRefused refusal) is = (refl, is.0, is.1)
@@ -47,17 +47,17 @@ refused_stop script start taken (Write bytes) is = absurd is
 refused_stop script start taken (NoMemory zero) is = refl
 refused_stop script start taken (NoMemory (suc items)) is = cc
 
-pub script_writes_none : (script : Bytes) (fault : RunFault) → IsScriptFault script fault → is_write fault ≡ false
-script_writes_none script (SchemaRefused refusal) is = refl
-script_writes_none script (ModuleRefused refusal) is = refl
-script_writes_none script (ScriptRefused refusal) is = refl
-script_writes_none script (Write bytes) is = absurd is
-script_writes_none script (NoMemory items) is = refl
+pub script_writes_none : (start : Session) (script : Bytes) (fault : RunFault) → IsScriptFault start script fault → is_write fault ≡ false
+script_writes_none start script (SchemaRefused refusal) is = refl
+script_writes_none start script (ModuleRefused refusal) is = refl
+script_writes_none start script (ScriptRefused refusal) is = refl
+script_writes_none start script (Write bytes) is = absurd is
+script_writes_none start script (NoMemory items) is = refl
 
 -- ---- a session of schemas and modules, as its script is performed
 
 abbrev pub run_of : {schemas modules : List Bytes} {script : Bytes} (start : Session) (actions : List Action) → Opened schemas modules start
-    → AreAsked script actions → Run schemas modules script
+    → AreAsked start script actions → Run schemas modules script
 run_of start actions opened asked = record {
   schema_trees = opened.schema_trees;
   module_trees = opened.module_trees;
@@ -67,6 +67,7 @@ run_of start actions opened asked = record {
   script_spells = asked.spells;
   start = start;
   is_opened = opened.is_opened;
+  taken = asked.taken;
   actions = actions;
   are_items = asked.are_items;
 }
@@ -93,17 +94,17 @@ wrote_some schemas modules script start old new (Ok u) opened stop = stop
 wrote_some schemas modules script start old new (Err fault) opened stop = wrote_by schemas modules script start old new fault opened stop
 
 refused_by : (schemas modules : List Bytes) (script : Bytes) (start : Session) (old new : Option Bytes) (fault : RunFault)
-    → IsScriptStop script start old new fault → RefusedText schemas modules script fault
-refused_by schemas modules script start old new (SchemaRefused refusal) stop = absurd stop
-refused_by schemas modules script start old new (ModuleRefused refusal) stop = absurd stop
-refused_by schemas modules script start old new (ScriptRefused refusal) stop = (stop.1, stop.2)
-refused_by schemas modules script start old new (Write bytes) stop = tt
-refused_by schemas modules script start old new (NoMemory items) stop = tt
+    → Opened schemas modules start → IsScriptStop script start old new fault → RefusedText schemas modules script fault
+refused_by schemas modules script start old new (SchemaRefused refusal) opened stop = absurd stop
+refused_by schemas modules script start old new (ModuleRefused refusal) opened stop = absurd stop
+refused_by schemas modules script start old new (ScriptRefused refusal) opened stop = record { start = start; opened = opened; text = stop.1; refused = stop.2 }
+refused_by schemas modules script start old new (Write bytes) opened stop = tt
+refused_by schemas modules script start old new (NoMemory items) opened stop = tt
 
 pub refused_some : (schemas modules : List Bytes) (script : Bytes) (start : Session) (old new : Option Bytes) (answer : Result (Unit {0}) RunFault)
-    → IfErr answer (IsScriptStop script start old new) → IfErr answer (RefusedText schemas modules script)
-refused_some schemas modules script start old new (Ok u) stop = stop
-refused_some schemas modules script start old new (Err fault) stop = refused_by schemas modules script start old new fault stop
+    → Opened schemas modules start → IfErr answer (IsScriptStop script start old new) → IfErr answer (RefusedText schemas modules script)
+refused_some schemas modules script start old new (Ok u) opened stop = stop
+refused_some schemas modules script start old new (Err fault) opened stop = refused_by schemas modules script start old new fault opened stop
 
 order_by : (schemas modules : List Bytes) (script : Bytes) (start : Session) (old new : Option Bytes) (fault : RunFault)
     → SomeTrees schema_tokens schemas → SomeTrees module_tokens modules → IsScriptStop script start old new fault → InOrder schemas modules fault

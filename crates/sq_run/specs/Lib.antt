@@ -2,6 +2,7 @@ pub mod Opened
 pub mod Action
 pub mod Asked
 pub mod Fault
+pub mod Items
 pub mod Performed
 pub mod Refused
 pub mod Run

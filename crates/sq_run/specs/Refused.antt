@@ -1,13 +1,22 @@
 -- What the refusal of a text says of the text.
-use Rattle.std.specs.Prelude.{◌≡◌, ℕ, ◌<◌, List, slice_get, take, Some, Err, ⊤}
+use Rattle.std.specs.Prelude.{◌≡◌, ℕ, ◌<◌, List, slice_get, take, Some, Ok, Err, ⊤}
+use Rattle.std.specs.List.{All}
 use Rattle.sq_grammar.specs.declared.brackets.TheConstants.{MAX_DEPTH}
 use Rattle.sq_lex.specs.declared.fault.LexFault.{LexFault}
+use Rattle.sq_lex.specs.Position.{position}
 use Rattle.sq_lex.specs.Reading.{reading}
 use Rattle.sq_lex.specs.declared.lexeme.Lexeme.{Lexeme}
+use Rattle.sq_lex.specs.declared.token.Token.{Token}
 use Rattle.sq_tree.specs.Schema.{schema_tokens, schema_depth}
 use Rattle.sq_tree.specs.Module.{module_tokens, module_depth}
 use Rattle.sq_tree.specs.Script.{script_tokens, script_depth}
+use Rattle.sq_tree.specs.Starts.{script_item_start}
+use Rattle.sq_tree.specs.declared.script.ScriptItem.{ScriptItem}
+use Rattle.sq_tree.specs.declared.script.ScriptText.{ScriptText}
 use Rattle.sq_model.specs.Report.{Bytes}
+use Rattle.sq_session.specs.Session.{Session}
+use Rattle.sq_run.specs.Items.{IsTaken, item_fault}
+use Rattle.sq_run.specs.Opened.{Opened}
 use Rattle.sq_run.specs.Run.{SomeTrees, Spells}
 use Rattle.sq_run.specs.declared.refusal.Refusal.{Refusal}
 use Rattle.sq_run.specs.declared.refusal.RefusalName.{RefusalName}
@@ -66,12 +75,52 @@ pub record OneRefused {T : Type 0} (tokens_of : T → List Lexeme) (depth_of : T
   pub refused : IsRefused tokens_of depth_of text refusal (matter refusal.what)
   pub before : SomeTrees tokens_of (read_before (matter refusal.what) refusal.text all)
 
+-- ---- the script
+
+-- the line and the column of the first byte of a token
+pub record StandsAt (text : Bytes) (token : Token) (refusal : Refusal) : Type 0 where
+  pub line : refusal.line ≡ (position text token.start).line
+  pub column : refusal.column ≡ (position text token.start).column
+
+-- the text's token of this number, from 0
+pub record IsTokenOf (text : Bytes) (number : ℕ) (token : Token) : Type 0 where
+  pub tokens : List Token
+  pub read : reading text ≡ Ok tokens
+  pub there : slice_get tokens number ≡ Some token
+
+-- the script's first item that the session does not take, with its fault, at its first token
+pub record IsFirstItem (start : Session) (script : Bytes) (refusal : Refusal) : Type 0 where
+  pub tree : ScriptText
+  pub spells : Spells script (script_tokens tree)
+  pub number : ℕ
+  pub item : ScriptItem
+  pub there : slice_get tree.items number ≡ Some item
+  pub fault : item_fault start item ≡ Some refusal.what
+  pub before : All (IsTaken start) (take number tree.items)
+  pub token : Token
+  pub first : IsTokenOf script (script_item_start tree number) token
+  pub stands : StandsAt script token refusal
+
+-- what a refusal says of the script: what trees it spells, or which item is refused for its fault
+abbrev pub IsRefusedScript : Session → Bytes → Refusal → Matter → Type 0
+IsRefusedScript start script refusal Meaning = IsFirstItem start script refusal
+IsRefusedScript start script refusal m = IsRefused script_tokens script_depth script refusal m
+
+-- the script is refused by a session that the schemas and modules open
+pub record ScriptIsRefused (schemas modules : List Bytes) (script : Bytes) (refusal : Refusal) : Type 0 where
+  pub start : Session
+  pub opened : Opened schemas modules start
+  pub text : refusal.text ≡ 0
+  pub refused : IsRefusedScript start script refusal (matter refusal.what)
+
+-- ---- the texts of a run
+
 -- A text is refused for its tokens only with the first fault of its reading, and for its grammar only where no tree within that depth spells it. It is
--- the first of its kind for which that holds.
+-- the first of its kind for which that holds. The script is refused for what it means only at its first item that has a fault, and for that.
 abbrev pub RefusedText : List Bytes → List Bytes → Bytes → RunFault → Type 0
 RefusedText schemas modules script (SchemaRefused refusal) = OneRefused schema_tokens schema_depth schemas refusal
 RefusedText schemas modules script (ModuleRefused refusal) = OneRefused module_tokens module_depth modules refusal
-RefusedText schemas modules script (ScriptRefused refusal) = (refusal.text ≡ 0) × IsRefused script_tokens script_depth script refusal (matter refusal.what)
+RefusedText schemas modules script (ScriptRefused refusal) = ScriptIsRefused schemas modules script refusal
 RefusedText schemas modules script (Write bytes) = ⊤
 RefusedText schemas modules script (NoMemory items) = ⊤
 

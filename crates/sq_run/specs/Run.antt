@@ -1,5 +1,6 @@
 -- What the texts of a run spell, and what a session does with them.
 use Rattle.std.specs.Prelude.{◌≡◌, ℕ, List, [], ◌∷◌, length, map, Ok, Vec, ⊤}
+use Rattle.std.specs.List.{All}
 use Rattle.std.specs.declared.alloc.Global.{Global}
 use Rattle.sq_lex.specs.declared.lexeme.Lexeme.{Lexeme}
 use Rattle.sq_lex.specs.declared.token.Token.{Token}
@@ -19,6 +20,7 @@ use Rattle.sq_module.specs.Program.{declared_procedures}
 use Rattle.sq_session.specs.Session.{Session, names_of}
 use Rattle.sq_session.specs.State.{AreClosed}
 use Rattle.sq_run.specs.Action.{item_of}
+use Rattle.sq_run.specs.Items.{IsTaken}
 use Rattle.sq_run.specs.declared.action.Action.{Action}
 
 -- the bytes of each text
@@ -53,7 +55,8 @@ pub record IsOpened (schemas : List SchemaText) (modules : List ModuleText) (s :
   pub procedures : names_of s.procedures ≡ declared_procedures modules
   pub start : IsStart s
 
--- trees that the texts spell, a session of them as it is before the first call, and what it is asked for: the items of the script, each with its number or place there
+-- Trees that the texts spell, a session of them as it is before the first call, which takes each item of the script, and what it is asked for: these
+-- items, each with its number or place there.
 pub record Run (schemas modules : List Bytes) (script : Bytes) : Type 0 where
   pub schema_trees : List SchemaText
   pub module_trees : List ModuleText
@@ -63,5 +66,6 @@ pub record Run (schemas modules : List Bytes) (script : Bytes) : Type 0 where
   pub script_spells : Spells script (script_tokens script_tree)
   pub start : Session
   pub is_opened : IsOpened schema_trees module_trees start
+  pub taken : All (IsTaken start) script_tree.items
   pub actions : List Action
   pub are_items : map item_of actions ≡ map item_of_script script_tree.items

@@ -6,6 +6,7 @@ ghost use Rattle.sq_model.specs.Script as model;
 ghost use Rattle.sq_model.specs.Run.{item_of_script};
 ghost use Rattle.sq_run.specs.Action.{item_of};
 ghost use Rattle.sq_run.specs.Fault.{IsItemFault};
+ghost use Rattle.sq_run.specs.Items.{IsTaken, item_fault};
 ghost use Rattle.sq_run.specs.Steps.{IsFound};
 
 use crate::action::{Action, CallAction, ShowAction};
@@ -45,7 +46,8 @@ pub(crate) fn action_of<S: Store>(
 ) -> Result<Action, ItemFault>
     ensures action { IfOk result (λ action. item_of action ≡ item_of_script item.now) }
     ensures found { IfOk result (IsFound session.now) }
-    ensures of_meaning { IfErr result IsItemFault }
+    ensures taken { IfOk result (λ _. IsTaken session.now item.now) }
+    ensures refused { IfErr result (IsItemFault (item_fault session.now item.now)) }
 {
     match item {
         ScriptItem::Call {
@@ -57,6 +59,7 @@ pub(crate) fn action_of<S: Store>(
     }
 }
 
+#[tactic(auto, using(crate::proofs::Taken::call_of_known))]
 fn called<S: Store>(
     alloc: Global,
     session: &Session<S>,
@@ -66,7 +69,8 @@ fn called<S: Store>(
 ) -> Result<Action, ItemFault>
     ensures action { IfOk result (λ action. item_of action ≡ item_of_script (script.Call «module» name arguments.now)) }
     ensures found { IfOk result (IsFound session.now) }
-    ensures of_meaning { IfErr result IsItemFault }
+    ensures taken { IfOk result (λ _. IsTaken session.now (script.Call «module» name arguments.now)) }
+    ensures refused { IfErr result (IsItemFault (item_fault session.now (script.Call «module» name arguments.now))) }
 {
     let Some(procedure) = session.procedure(module, name) else {
         return Err(ItemFault::Refused(RefusalName::UnknownProcedure));
@@ -86,7 +90,8 @@ fn called<S: Store>(
 fn shown<S: Store>(session: &Session<S>, user: Name, name: Name) -> Result<Action, ItemFault>
     ensures action { IfOk result (λ action. item_of action ≡ item_of_script (script.Table user name)) }
     ensures found { IfOk result (IsFound session.now) }
-    ensures of_meaning { IfErr result IsItemFault }
+    ensures taken { IfOk result (λ _. IsTaken session.now (script.Table user name)) }
+    ensures refused { IfErr result (IsItemFault (item_fault session.now (script.Table user name))) }
 {
     match session.table(user, name) {
         Some(table) => Ok(Action::Show(ShowAction { user, name, table })),
@@ -95,9 +100,8 @@ fn shown<S: Store>(session: &Session<S>, user: Name, name: Name) -> Result<Actio
 }
 
 /// The values that are handed in.
-fn values_of(alloc: Global, arguments: &Arguments) -> Result<Items<Value>, ItemFault>
-    ensures values { IfOk result (λ values. values ≡ model.argument_values arguments.now) }
-    ensures of_meaning { IfErr result IsItemFault }
+fn values_of(alloc: Global, arguments: &Arguments) -> Result<Items<Value>, AllocError>
+    ensures { IfOk result (λ values. values ≡ model.argument_values arguments.now) }
 {
     match arguments {
         Arguments::Unwritten | Arguments::Empty => Ok(Items::new(alloc)),
@@ -105,9 +109,8 @@ fn values_of(alloc: Global, arguments: &Arguments) -> Result<Items<Value>, ItemF
     }
 }
 
-fn listed_values(alloc: Global, arguments: &CommaList<Argument>) -> Result<Items<Value>, ItemFault>
-    ensures values { IfOk result (λ values. values ≡ map model.argument_value (listed arguments.now)) }
-    ensures of_meaning { IfErr result IsItemFault }
+fn listed_values(alloc: Global, arguments: &CommaList<Argument>) -> Result<Items<Value>, AllocError>
+    ensures { IfOk result (λ values. values ≡ map model.argument_value (listed arguments.now)) }
 {
     let mut values = Items::new(alloc);
     values.push(value_of(alloc, &arguments.first)?)?;
@@ -118,14 +121,13 @@ fn listed_values(alloc: Global, arguments: &CommaList<Argument>) -> Result<Items
     Ok(values)
 }
 
-fn value_of(alloc: Global, argument: &Argument) -> Result<Value, ItemFault>
-    ensures value { IfOk result (λ v. v ≡ model.argument_value argument.now) }
-    ensures of_meaning { IfErr result IsItemFault }
+fn value_of(alloc: Global, argument: &Argument) -> Result<Value, AllocError>
+    ensures { IfOk result (λ v. v ≡ model.argument_value argument.now) }
 {
     match argument {
         Argument::Null => Ok(Value::Null),
         Argument::Number(number) => Ok(Value::Num(number_of(number))),
-        Argument::Text(characters) => Ok(text_value(alloc, characters)?),
+        Argument::Text(characters) => text_value(alloc, characters),
     }
 }
 

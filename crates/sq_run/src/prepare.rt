@@ -1,15 +1,16 @@
 //! From texts to a session and what its script asks for.
-ghost use Rattle.std.specs.Prelude.{◌≡◌, ◌≤◌, ◌<◌, length, All, IfErr, IfOk, IsOk};
-ghost use Rattle.sq_lex.specs.Reading.{reading};
+ghost use Rattle.std.specs.Prelude.{◌≡◌, ◌≤◌, ◌<◌, length, All, IfErr, IfOk};
 ghost use Rattle.sq_tree.specs.Schema.{schema_tokens, schema_depth};
 ghost use Rattle.sq_tree.specs.Module.{module_tokens, module_depth};
+ghost use Rattle.sq_tree.specs.Script.{script_tokens};
 ghost use Rattle.sq_module.specs.Refusal.{IsOfSomeModule};
-ghost use Rattle.sq_run.specs.Fault.{IsItemFault, IsOfMeaning, IsOpeningFault, IsRefusedScript, IsScriptFault, SomeRefused, run_fault};
+ghost use Rattle.sq_run.specs.Fault.{IsOfItem, IsOpeningFault, IsScriptFault, IsScriptRefusal, IsUntaken, SomeRefused, run_fault};
 ghost use Rattle.sq_catalog.specs.Catalog.{declared_tables};
 ghost use Rattle.sq_module.specs.Program.{declared_procedures};
 ghost use Rattle.sq_session.specs.Session.{names_of};
 ghost use Rattle.sq_run.specs.Opened.{Defined, Holds, Opened};
-ghost use Rattle.sq_run.specs.Run.{AllSpell, IsStart, SomeTrees, texts};
+ghost use Rattle.sq_run.specs.Items.{IsTaken};
+ghost use Rattle.sq_run.specs.Run.{AllSpell, IsStart, SomeTrees, Spells, texts};
 ghost use Rattle.sq_run.specs.Asked.{AreActions, AreAsked};
 ghost use Rattle.sq_run.specs.Steps.{IsFound};
 
@@ -54,9 +55,9 @@ pub(crate) fn read_script<S: Store>(
     session: &Session<S>,
     script: &[u8],
 ) -> Result<Vec<Action>, RunFault>
-    ensures asked { IfOk result (λ actions. AreAsked script.now actions.items) }
+    ensures asked { IfOk result (λ actions. AreAsked session.now script.now actions.items) }
     ensures found { IfOk result (λ actions. All (IsFound session.now) actions.items) }
-    ensures refused { IfErr result (IsScriptFault script.now) }
+    ensures refused { IfErr result (IsScriptFault session.now script.now) }
 {
     match actions_of(alloc, session, script) {
         Ok(actions) => Ok(actions),
@@ -216,14 +217,15 @@ fn refused_module(
 }
 
 /// What the items of a script ask a session for.
+#[tactic(auto, using(crate::proofs::Taken::untaken_is_refused, crate::proofs::Refused::script_without))]
 fn actions_of<S: Store>(
     alloc: Global,
     session: &Session<S>,
     script: &[u8],
 ) -> Result<Vec<Action>, TextFault>
-    ensures asked { IfOk result (λ actions. AreAsked script.now actions.items) }
+    ensures asked { IfOk result (λ actions. AreAsked session.now script.now actions.items) }
     ensures found { IfOk result (λ actions. All (IsFound session.now) actions.items) }
-    ensures refused { IfErr result (IsRefusedScript script.now) }
+    ensures refused { IfErr result (IsScriptRefusal session.now script.now) }
 {
     let tree = read_text::<ScriptText>(alloc, 0, script)?;
     let answer = actions_in(alloc, session, script, &tree);
@@ -231,16 +233,19 @@ fn actions_of<S: Store>(
     answer
 }
 
+/// The same for the tree that the script spells: all of its items, or the first that the session does not take.
+#[tactic(auto, using(crate::proofs::Taken::taken_more))]
 fn actions_in<S: Store>(
     alloc: Global,
     session: &Session<S>,
     script: &[u8],
     tree: &ScriptText,
 ) -> Result<Vec<Action>, TextFault>
-    requires read { IsOk (reading script.now) }
+    requires { Spells script.now (script_tokens tree.now) }
     ensures actions { IfOk result (λ actions. AreActions tree.now.items actions.items) }
     ensures found { IfOk result (λ actions. All (IsFound session.now) actions.items) }
-    ensures of_meaning { IfErr result (IsOfMeaning 0) }
+    ensures taken { IfOk result (λ _. All (IsTaken session.now) tree.now.items) }
+    ensures refused { IfErr result (IsUntaken session.now script.now) }
 {
     let mut actions = Vec::new(alloc);
     let items = tree.items.as_slice();
@@ -264,9 +269,9 @@ fn refused_item(
     place: usize,
     fault: ItemFault,
 ) -> TextFault
-    requires read { IsOk (reading script.now) }
-    requires item { IsItemFault fault }
-    ensures { IsOfMeaning 0 result }
+    requires spelled { Spells script.now (script_tokens tree.now) }
+    requires there { place < length tree.now.items }
+    ensures { IsOfItem script.now tree.now place fault result }
 {
     match fault {
         ItemFault::NoMemory => TextFault::NoMemory,

@@ -6,7 +6,7 @@ ghost use Rattle.sq_parse.specs.Refusal.{HasNoTree};
 ghost use Rattle.sq_tree.specs.Schema.{schema_tokens, schema_depth};
 ghost use Rattle.sq_tree.specs.Module.{module_tokens, module_depth};
 ghost use Rattle.sq_tree.specs.Script.{script_tokens, script_depth};
-ghost use Rattle.sq_run.specs.Fault.{IsParseFault, IsRefusal, IsRefusalIfAny, IsRefusedText, IsUnread, SomeRefused};
+ghost use Rattle.sq_run.specs.Fault.{IsParseFault, IsPlacedIfAny, IsPlacedIn, IsRefusal, IsRefusalIfAny, IsRefusedText, IsUnread, SomeRefused};
 ghost use Rattle.sq_run.specs.Run.{AllSpell, Spells, texts};
 
 use crate::refusal::{Refusal, RefusalName};
@@ -166,7 +166,8 @@ fn refused_at(
     token: usize,
     what: RefusalName,
 ) -> TextFault
-    ensures { IsRefusal number what result }
+    ensures what { IsRefusal number what result }
+    ensures placed { IsPlacedIn text.now tokens.now token result }
 {
     let start = match tokens.get(token) {
         Some(token) => token.start,
@@ -182,6 +183,7 @@ fn refused_at(
 }
 
 /// A refusal for what a text says, at a token. No tokens are kept once a text has its tree, so they are read once more.
+#[tactic(auto, using(crate::proofs::Taken::placed_again))]
 pub(crate) fn refused_again(
     alloc: Global,
     text: &[u8],
@@ -190,7 +192,8 @@ pub(crate) fn refused_again(
     what: RefusalName,
 ) -> TextFault
     requires { IsOk (reading text.now) }
-    ensures { IsRefusalIfAny number what result }
+    ensures what { IsRefusalIfAny number what result }
+    ensures placed { IsPlacedIfAny text.now token result }
 {
     match lex(alloc, text) {
         Ok(tokens) => refused_at(text, tokens.as_slice(), number, token, what),

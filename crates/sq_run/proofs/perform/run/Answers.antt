@@ -18,7 +18,7 @@ returns-in-Ok-clause-stopped g c =
 pub returns-in-Ok-clause-refused : goal.returns-in-Ok-clause-refused
 returns-in-Ok-clause-refused g c =
     refused_some (texts c.args.schemas.now) (texts c.args.modules.now) c.args.script.now c.in-Ok.session (g.W.Out.taken c.args.out.now) (g.W.Out.taken c.run_script.new.out) c.run_script.result
-    c.run_script.ensures.stopped
+    c.in-Ok.ensures.opened c.run_script.ensures.stopped
 
 pub returns-in-Ok-clause-order : goal.returns-in-Ok-clause-order
 returns-in-Ok-clause-order g c =

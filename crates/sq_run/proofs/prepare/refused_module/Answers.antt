@@ -21,4 +21,4 @@ returns c =
     let count = spelled_count module_tokens c.args.modules.now c.args.trees.now c.requires.spelled in
     one_of_meaning module_tokens module_depth c.args.modules.now c.args.refusal.text c.index-modules-text.result c.refused_again.result c.args.trees.now
     (omega (arith, count, c.requires.there)) c.index-modules-text.is c.requires.spelled
-    (named c.args.refusal.text (name.Module c.args.refusal.name) c.refused_again.result refl c.refused_again.ensures)
+    (named c.args.refusal.text (name.Module c.args.refusal.name) c.refused_again.result refl c.refused_again.ensures.what)

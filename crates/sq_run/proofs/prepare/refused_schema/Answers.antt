@@ -21,4 +21,4 @@ returns c =
     let count = spelled_count schema_tokens c.args.schemas.now c.args.trees.now c.requires.spelled in
     one_of_meaning schema_tokens schema_depth c.args.schemas.now c.args.refusal.text c.index-schemas-text.result c.refused_again.result c.args.trees.now
     (omega (arith, count, c.requires.there)) c.index-schemas-text.is c.requires.spelled
-    (named c.args.refusal.text (name.Schema c.args.refusal.name) c.refused_again.result refl c.refused_again.ensures)
+    (named c.args.refusal.text (name.Schema c.args.refusal.name) c.refused_again.result refl c.refused_again.ensures.what)
