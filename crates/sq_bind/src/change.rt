@@ -2,8 +2,8 @@
 
 use crate::updatable::{Under, bind_target, under_table};
 use sq_bound::{
-    Action, BindFault, BoundAssignment, BoundExpr, BoundInsert, BoundUpdate, ChangeTarget, Cursors,
-    InsertedRows, Names, PositionedTarget, ResultColumn, TableDesc, Target,
+    Action, BindFault, BoundAssignment, BoundExpr, BoundInsert, BoundUpdate, ChangeTarget, Column,
+    Cursors, InsertedRows, Names, ObjectColumn, PositionedTarget, ResultColumn, TableDesc, Target,
 };
 use sq_items::Items;
 use sq_lex::Name;
@@ -25,27 +25,36 @@ fn must_be_updatable(table: &TableDesc) -> Result<Under<'_>, BindFault> {
     }
 }
 
-/// A column that gets values: its position in the base table, and its kind.
+/// A column that gets values: the column of the base table that it is, and its kind.
 #[derive(Clone, Copy)]
 struct Receiver {
     /// The position in the table that is named.
     position: usize,
-    leaf_column: usize,
+    object: ObjectColumn,
     kind: Kind,
 }
 
 /// The column of this name.
-fn receiver_of(table: &TableDesc, name: Name) -> Result<Receiver, BindFault> {
+fn receiver_of(table: &TableDesc, under: Under<'_>, name: Name) -> Result<Receiver, BindFault> {
     for (position, column) in table.columns.as_slice().iter().enumerate() {
         if column.name == name {
-            return Ok(Receiver {
-                position,
-                leaf_column: column.leaf_column,
-                kind: column.kind,
-            });
+            return receiver_at(under, position, column);
         }
     }
     Err(BindFault::UnknownColumn)
+}
+
+/// A column of a table that is named, as one that gets values.
+fn receiver_at(under: Under<'_>, position: usize, column: &Column) -> Result<Receiver, BindFault> {
+    let base = under.leaf.get().table.get();
+    match base.object_column(column.leaf_column) {
+        Some(object) => Ok(Receiver {
+            position,
+            object,
+            kind: column.kind,
+        }),
+        None => Err(BindFault::UnknownColumn),
+    }
 }
 
 /// Adds a column that is not among those before it.
@@ -65,44 +74,46 @@ fn push_receiver(receivers: &mut Items<Receiver>, receiver: Receiver) -> Result<
 fn insert_receivers(
     alloc: Global,
     table: &TableDesc,
+    under: Under<'_>,
     columns: &Option<CommaList<Name>>,
 ) -> Result<Items<Receiver>, BindFault> {
     match columns {
-        Some(list) => listed_receivers(alloc, table, list),
-        None => all_receivers(alloc, table),
+        Some(list) => listed_receivers(alloc, table, under, list),
+        None => all_receivers(alloc, table, under),
     }
 }
 
 fn listed_receivers(
     alloc: Global,
     table: &TableDesc,
+    under: Under<'_>,
     list: &CommaList<Name>,
 ) -> Result<Items<Receiver>, BindFault> {
     let mut receivers = Items::new(alloc);
-    push_receiver(&mut receivers, receiver_of(table, list.first)?)?;
+    push_receiver(&mut receivers, receiver_of(table, under, list.first)?)?;
     for name in list.rest.as_slice() {
-        push_receiver(&mut receivers, receiver_of(table, *name)?)?;
+        push_receiver(&mut receivers, receiver_of(table, under, *name)?)?;
     }
     Ok(receivers)
 }
 
-fn all_receivers(alloc: Global, table: &TableDesc) -> Result<Items<Receiver>, BindFault> {
+fn all_receivers(
+    alloc: Global,
+    table: &TableDesc,
+    under: Under<'_>,
+) -> Result<Items<Receiver>, BindFault> {
     let mut receivers = Items::new(alloc);
     for (position, column) in table.columns.as_slice().iter().enumerate() {
-        receivers.push(Receiver {
-            position,
-            leaf_column: column.leaf_column,
-            kind: column.kind,
-        })?;
+        receivers.push(receiver_at(under, position, column)?)?;
     }
     Ok(receivers)
 }
 
 /// The columns of the base table that get values.
-fn leaf_columns(alloc: Global, receivers: &[Receiver]) -> Result<Items<usize>, BindFault> {
+fn object_columns(alloc: Global, receivers: &[Receiver]) -> Result<Items<ObjectColumn>, BindFault> {
     let mut columns = Items::new(alloc);
     for receiver in receivers {
-        columns.push(receiver.leaf_column)?;
+        columns.push(receiver.object)?;
     }
     Ok(columns)
 }
@@ -146,14 +157,14 @@ pub(crate) fn bind_insert<N: Names>(
 ) -> Result<Found<BoundInsert>, BindFault> {
     let table = named_table(names, environment.user, insert.table)?;
     let under = must_be_updatable(table)?;
-    let parts = insert_parts(insert, names, environment, table, numbers)?;
+    let parts = insert_parts(insert, names, environment, table, under, numbers)?;
     let may = names.may(environment.user, Action::Insert, table.full_name(), None);
     bound_insert(under, parts, missing_unless(may))
 }
 
 fn bound_insert(
     under: Under<'_>,
-    parts: (Items<usize>, Found<InsertedRows>),
+    parts: (Items<ObjectColumn>, Found<InsertedRows>),
     findings: Findings,
 ) -> Result<Found<BoundInsert>, BindFault> {
     let ((columns, source), leaf) = both(Ok(parts), under.leaf.share())?;
@@ -174,10 +185,11 @@ fn insert_parts<N: Names>(
     names: &N,
     environment: &Environment<'_>,
     table: &TableDesc,
+    under: Under<'_>,
     numbers: &mut SubqueryNumbers,
-) -> Result<(Items<usize>, Found<InsertedRows>), BindFault> {
-    let receivers = insert_receivers(environment.alloc, table, &insert.columns)?;
-    let columns = leaf_columns(environment.alloc, receivers.as_slice());
+) -> Result<(Items<ObjectColumn>, Found<InsertedRows>), BindFault> {
+    let receivers = insert_receivers(environment.alloc, table, under, &insert.columns)?;
+    let columns = object_columns(environment.alloc, receivers.as_slice());
     let source = insert_source(
         &insert.source,
         names,
@@ -387,7 +399,7 @@ pub(crate) fn bind_update<N: Names, C: Cursors>(
     let table = named_table(names, environment.user, update.table)?;
     let under = must_be_updatable(table)?;
     let item = item_over(environment.alloc, table, None, true)?;
-    let assignments = assignments_of(&update.assignments, names, &item, &*environment, table);
+    let assignments = assignments_of(&update.assignments, names, &item, &*environment, table, under);
     let target = change_target(
         &update.target,
         names,
@@ -416,9 +428,10 @@ fn assignments_of<'s, N: Names>(
     item: &'s FromItem,
     environment: &'s Environment<'s>,
     table: &TableDesc,
+    under: Under<'_>,
 ) -> Result<Assignments, BindFault> {
     let scope = environment.scope_over(from_ref(item), None);
-    assignments_within(list, names, &environment.within(scope), table)
+    assignments_within(list, names, &environment.within(scope), table, under)
 }
 
 fn assignments_within<N: Names>(
@@ -426,15 +439,16 @@ fn assignments_within<N: Names>(
     names: &N,
     environment: &Environment<'_>,
     table: &TableDesc,
+    under: Under<'_>,
 ) -> Result<Assignments, BindFault> {
     let mut assignments = Assignments {
         receivers: Items::new(environment.alloc),
         bound: Items::new(environment.alloc),
         findings: Findings::NONE,
     };
-    assignments.add(&list.first, names, environment, table)?;
+    assignments.add(&list.first, names, environment, table, under)?;
     for assignment in list.rest.as_slice() {
-        assignments.add(assignment, names, environment, table)?;
+        assignments.add(assignment, names, environment, table, under)?;
     }
     Ok(assignments)
 }
@@ -446,8 +460,9 @@ impl Assignments {
         names: &N,
         environment: &Environment<'_>,
         table: &TableDesc,
+        under: Under<'_>,
     ) -> Result<(), BindFault> {
-        let receiver = receiver_of(table, assignment.column)?;
+        let receiver = receiver_of(table, under, assignment.column)?;
         push_receiver(&mut self.receivers, receiver)?;
         let position = Some(receiver.position);
         let may = names.may(
@@ -459,7 +474,7 @@ impl Assignments {
         let Found { part, findings } = new_value(&assignment.value, receiver.kind, environment)?;
         self.findings = self.findings.and(findings).and(missing_unless(may));
         self.bound.push(BoundAssignment {
-            column: receiver.leaf_column,
+            column: receiver.object,
             value: part,
         })?;
         Ok(())

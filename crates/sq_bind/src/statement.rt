@@ -1,13 +1,16 @@
 //! Statements of procedures, cursors, views and CHECK conditions.
 
+ghost use Rattle.std.specs.Prelude.{[]};
+
 use crate::change::{bind_delete, bind_insert, bind_update};
 use crate::output::bind_outputs;
 use crate::query::cursor_of;
 use crate::updatable::bind_updatable;
 use sq_bound::{
-    Action, BindFault, BoundCond, BoundCursor, BoundFetch, BoundInsert, BoundSelect,
+    Action, BaseTable, BindFault, BoundCond, BoundCursor, BoundFetch, BoundInsert, BoundSelect,
     BoundSpecification, BoundStatement, BoundUpdate, ChangeTarget, Cursors, Distance,
-    FetchOrientation, KnownCursor, Names, ParameterDesc, TableDesc, TablePlace, UpdatableQuery,
+    FetchOrientation, KnownCursor, Names, ParameterDesc, Shared, TableDesc, TablePlace,
+    UpdatableQuery,
 };
 use sq_lex::Name;
 use sq_scope::{
@@ -98,6 +101,12 @@ fn granted(lacks_privilege: bool) -> Result<(), BindFault> {
 struct NoNames;
 
 impl Names for NoNames {
+    ghost base_tables = { λ _. [] };
+
+    fn bases(&self) -> &[Shared<BaseTable>] {
+        &[]
+    }
+
     fn table(&self, _user: Name, _name: Name) -> Option<&TableDesc> {
         None
     }

@@ -20,7 +20,7 @@ pub use expression::{Aggregate, BoundExpr, Input, Operation, Operator, Place, Se
 pub use fault::BindFault;
 pub use names::{
     Action, BaseColumn, BaseTable, Column, ColumnDefault, Cursors, KnownCursor, Leaf, Names,
-    ParameterDesc, Reference, TableBody, TableDesc, View,
+    ObjectColumn, ParameterDesc, Reference, TableBody, TableDesc, View,
 };
 pub use query::{
     BoundCursor, BoundQuery, BoundTerm, BoundUnion, CursorBody, SortColumn, Target, UpdatableQuery,

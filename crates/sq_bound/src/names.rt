@@ -1,6 +1,6 @@
 //! What names mean: tables and views, privileges, cursors and parameters.
 
-ghost use Rattle.std.specs.Prelude.{◌≤◌, length};
+ghost use Rattle.std.specs.Prelude.{◌≡◌, ◌≤◌, ◌<◌, length, IfSome, List};
 ghost use Rattle.sq_value.specs.Domain.{IsDomain};
 ghost use Rattle.sq_bound.specs.Parameter.{IsDomain-prop};
 
@@ -23,6 +23,14 @@ pub enum Action {
 
 /// The tables, views and privileges that a user's texts may name.
 pub trait Names {
+    ghost use Rattle.sq_bound.specs.declared.names.BaseTable.{BaseTable};
+
+    ghost base_tables: { Self → List BaseTable };
+
+    /// The base tables, each at its place in the store.
+    fn bases(&self) -> &[Shared<BaseTable>]
+        ensures { result.now ≡ base_tables self.now };
+
     /// The base table or view of this owner and name.
     fn table(&self, user: Name, name: Name) -> Option<&TableDesc>;
 
@@ -113,6 +121,14 @@ pub struct BaseColumn {
     ghost is_domain: { IsDomain domain } by { IsDomain-prop domain },
 }
 
+/// An object column: one of a base table that gets a value (13.8, 13.9).
+#[derive(Clone, Copy)]
+pub struct ObjectColumn {
+    pub position: usize,
+    pub domain: Domain,
+    ghost is_domain: { IsDomain domain } by { IsDomain-prop domain },
+}
+
 /// The value of a column that an insert statement leaves out (11.5).
 #[derive(Drop)]
 pub enum ColumnDefault {
@@ -153,6 +169,19 @@ pub struct Leaf {
     /// Whether none of them may answer a status.
     pub is_quiet: bool,
     ghost are_conditions: { demanded ≤ length conditions },
+}
+
+impl BaseTable {
+    /// The column at a position, as one that gets a value.
+    pub fn object_column(&self, position: usize) -> Option<ObjectColumn>
+        ensures { IfSome result (λ column. (column.position ≡ position) × (position < length self.now.columns)) }
+    {
+        let column = self.columns.as_slice().get(position)?;
+        Some(ObjectColumn {
+            position,
+            domain: column.domain,
+        })
+    }
 }
 
 impl TableDesc {

@@ -4,7 +4,7 @@ ghost use Rattle.std.specs.Prelude.{◌≡◌};
 
 use crate::condition::BoundSpecification;
 use crate::expression::BoundExpr;
-use crate::names::Leaf;
+use crate::names::{Leaf, ObjectColumn};
 use crate::query::Target;
 use crate::shared::Shared;
 use sq_items::Items;
@@ -73,7 +73,7 @@ pub struct BoundInsert {
     /// What is under the table that is named.
     pub leaf: Shared<Leaf>,
     /// The columns of the base table that get the values, in the order of the values.
-    pub columns: Items<usize>,
+    pub columns: Items<ObjectColumn>,
     pub source: InsertedRows,
     ghost is_under: { base ≡ leaf.table.place },
 }
@@ -113,6 +113,6 @@ pub struct BoundUpdate {
 /// A set clause: a column of the base table, and its value.
 #[derive(Drop)]
 pub struct BoundAssignment {
-    pub column: usize,
+    pub column: ObjectColumn,
     pub value: BoundExpr,
 }

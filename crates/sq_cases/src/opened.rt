@@ -1,5 +1,6 @@
 //! The session that the texts of a run open.
-ghost use Rattle.std.specs.Prelude.{◌≤◌};
+ghost use Rattle.std.specs.Prelude.{◌≡◌, ◌≤◌, length, IfOk};
+ghost use Rattle.sq_store.specs.Content.{no_rows};
 
 use crate::run::Run;
 use sq_catalog::{Catalog, Limits};
@@ -8,7 +9,7 @@ use sq_parse::{parse_module, parse_schema, parse_script};
 use sq_session::Session;
 use sq_store::{MOST_ROW_NUMBERS, Store};
 use sq_tree::{ModuleText, SchemaText, ScriptText};
-use std::alloc::Global;
+use std::alloc::{AllocError, Global};
 
 /// A session, and the script to be run in it.
 #[derive(Drop)]
@@ -41,6 +42,7 @@ fn session_of<S: Store>(alloc: Global, run: &Run) -> Option<Session<S>> {
     session_over(alloc, catalog, modules.as_slice(), limits)
 }
 
+#[tactic(auto, using(sq_session::proofs::Counted::no_rows_count))]
 fn session_over<S: Store>(
     alloc: Global,
     catalog: Catalog,
@@ -49,13 +51,25 @@ fn session_over<S: Store>(
 ) -> Option<Session<S>>
     requires { limits.row_numbers ≤ MOST_ROW_NUMBERS }
 {
-    match S::new(alloc, catalog.keys(), limits.row_numbers) {
+    match store_of::<S>(alloc, &catalog, limits) {
         Ok(store) => Session::new(alloc, catalog, modules, store).ok(),
         Err(_) => {
             drop(catalog);
             None
         }
     }
+}
+
+/// A new store for the base tables of a catalog.
+fn store_of<S: Store>(alloc: Global, catalog: &Catalog, limits: Limits) -> Result<S, AllocError>
+    requires { limits.row_numbers ≤ MOST_ROW_NUMBERS }
+    ensures now { IfOk result (λ store. S.content_now store ≡ no_rows (length catalog.now.bases)) }
+    ensures committed { IfOk result (λ store. S.committed store ≡ no_rows (length catalog.now.bases)) }
+{
+    let keys = catalog.keys(alloc)?;
+    let store = S::new(alloc, keys.as_slice(), limits.row_numbers);
+    drop(keys);
+    store
 }
 
 fn catalog_of(alloc: Global, texts: &[Vec<u8>], limits: Limits) -> Option<Catalog> {

@@ -27,7 +27,7 @@ key_last eq m k v none =
 -- ---- tables that are added one after the other
 
 pub gains_none : (a : Catalog) → Gains a a []
-gains_none a = record { tables = sym (append-nil a.tables); stored = omega arith }
+gains_none a = record { tables = sym (append-nil a.tables); bases = omega arith }
 
 pub gains_first : (a b : Catalog) (names : List FullName) → Gains a b names → Gains a b (names ++ [])
 gains_first a b names h = rw (append-nil names) h
@@ -35,7 +35,7 @@ gains_first a b names h = rw (append-nil names) h
 pub gains_more : (a b c : Catalog) (xs ys : List FullName) → Gains a b xs → Gains b c ys → Gains a c (xs ++ ys)
 gains_more a b c xs ys p q = record {
   tables = q.tables ∙ ap (λ names. names ++ ys) p.tables ∙ append_assoc a.tables xs ys;
-  stored = let size : length (xs ++ ys) ≡ length xs + length ys = length-append xs ys in omega (arith, p.stored, q.stored, size);
+  bases = let size : length (xs ++ ys) ≡ length xs + length ys = length-append xs ys in omega (arith, p.bases, q.bases, size);
 }
 
 -- those of the parts before one, and its own

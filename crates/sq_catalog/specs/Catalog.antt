@@ -7,12 +7,13 @@ use Rattle.sq_tree.specs.declared.schema.SchemaDefinition.{SchemaDefinition}
 use Rattle.sq_tree.specs.declared.schema.SchemaElement.{SchemaElement}
 use Rattle.sq_tree.specs.declared.schema.SchemaElement.TheVariants as element
 use Rattle.sq_tree.specs.declared.schema.SchemaText.{SchemaText}
+use Rattle.sq_bound.specs.declared.names.BaseTable.{BaseTable}
 use Rattle.sq_catalog.specs.declared.catalog.FullName.{FullName}
 
--- the base tables' names, each at the place of its table, and the number of tables for which a store is given keys
+-- the base tables' names and the base tables, each at its place
 pub record Catalog : Type 0 where
   pub tables : List FullName
-  pub stored : ℕ
+  pub bases : List BaseTable
 
 abbrev pub is_table : Name → Name → FullName → Bool
 is_table user name t = pointwise nat_eq user t.user && pointwise nat_eq name t.name
@@ -44,7 +45,7 @@ declared_tables texts = flat_map text_tables texts
 
 -- ---- a catalog that grows
 
--- these base tables are added, each with its keys
+-- base tables of these names are added
 pub record Gains (old new : Catalog) (names : List FullName) : Type 0 where
   pub tables : new.tables ≡ old.tables ++ names
-  pub stored : new.stored ≡ old.stored + length names
+  pub bases : length new.bases ≡ length old.bases + length names

@@ -10,10 +10,11 @@ use crate::fault::{CatalogFault, ElementFault, RefusalName, SchemaRefusal, refus
 use crate::grants::{Held, Privilege};
 use crate::written::add_name;
 use indexmap::{IndexMap, IndexSet};
-use sq_bound::{Action, Names, TableDesc, TablePlace};
+use sq_bound::{Action, BaseTable, Names, Shared, TableDesc, TablePlace};
+use sq_items::Items;
 use sq_lex::Name;
 use sq_tree::{SchemaDefinition, SchemaElement, SchemaText, TableName};
-use std::alloc::Global;
+use std::alloc::{AllocError, Global};
 use std::marker::Model;
 
 /// The greatest number of tables and views (own rule).
@@ -41,18 +42,24 @@ pub struct Catalog {
     users: IndexSet<Name>,
     bases: IndexMap<FullName, TableDesc>,
     views: IndexMap<FullName, TableDesc>,
-    pub(crate) keys: Vec<Vec<Vec<usize>>>,
+    pub(crate) base_tables: Vec<Shared<BaseTable>>,
     pub(crate) held: Held,
 }
 
 impl Model for Catalog {
-    ghost use Rattle.std.specs.Prelude.{length};
+    ghost use Rattle.std.specs.Coded.{codes};
     ghost use Rattle.std.specs.Map.{keys_of};
+    ghost use Rattle.sq_bound.specs.contracts.condition.BoundCond as condition;
+    ghost use Rattle.sq_bound.specs.contracts.condition.Predicate as predicate;
+    ghost use Rattle.sq_bound.specs.contracts.expression.BoundExpr as expression;
+    ghost use Rattle.sq_bound.specs.contracts.names.BaseColumn as column;
     ghost use Rattle.sq_catalog.specs.Catalog.{Catalog};
 
     ghost Value = { Catalog };
 
-    ghost view = { λ c. record { tables = keys_of c.bases.entries; stored = length c.keys.items } };
+    ghost coded = { Prim.hlevel (codes, column.the_row.coded, condition.the_row.coded, predicate.the_row.coded, expression.the_row.coded) };
+
+    ghost view = { λ c. record { tables = keys_of c.bases.entries; bases = c.base_tables.items } };
 }
 
 impl Catalog {
@@ -64,7 +71,7 @@ impl Catalog {
         limits: Limits,
     ) -> Result<Catalog, CatalogFault>
         ensures tables { IfOk result (λ c. c.tables ≡ declared_tables texts.now) }
-        ensures stored { IfOk result (λ c. c.stored ≡ length c.tables) }
+        ensures bases { IfOk result (λ c. length c.bases ≡ length c.tables) }
         ensures refused { IfErr result (IsOfSomeText (length texts.now)) }
     {
         let mut catalog = Catalog {
@@ -73,7 +80,7 @@ impl Catalog {
             users: IndexSet::new(alloc),
             bases: IndexMap::new(alloc),
             views: IndexMap::new(alloc),
-            keys: Vec::new(alloc),
+            base_tables: Vec::new(alloc),
             held: Held::new(alloc),
         };
         for (number, text) in texts.iter().enumerate() {
@@ -87,11 +94,11 @@ impl Catalog {
         self.limits
     }
 
-    /// For each base table in the order of the texts, the column positions of each of its keys.
-    pub fn keys(&self) -> &[Vec<Vec<usize>>]
-        ensures { length result.now ≡ self.now.stored }
+    /// For each base table, the columns of each of its keys.
+    pub fn keys(&self, alloc: Global) -> Result<Vec<Vec<Vec<usize>>>, AllocError>
+        ensures { IfOk result (λ keys. length keys.items ≡ length self.now.bases) }
     {
-        self.keys.as_slice()
+        all_keys(alloc, self.base_tables.as_slice())
     }
 
     pub(crate) fn alloc(&self) -> Global {
@@ -175,7 +182,7 @@ impl Catalog {
     pub(crate) fn add_base(&mut self, name: FullName, table: TableDesc) -> Result<(), ElementFault>
         requires { table_number self.old.tables name.user name.name ≡ None }
         ensures tables { OnOk result (self.new.tables ≡ self.old.tables ++ name ∷ []) }
-        ensures stored { self.new.stored ≡ self.old.stored }
+        ensures bases { self.new.bases ≡ self.old.bases }
     {
         insert_table(&mut self.bases, name, table)
     }
@@ -284,7 +291,33 @@ pub(crate) fn full_name(user: Name, written: TableName) -> FullName
     }
 }
 
+/// For each base table, the columns of each of its keys.
+fn all_keys(alloc: Global, tables: &[Shared<BaseTable>]) -> Result<Vec<Vec<Vec<usize>>>, AllocError>
+    ensures { IfOk result (λ keys. length keys.items ≡ length tables.now) }
+{
+    let mut keys = Vec::new(alloc);
+    for table in tables {
+        keys.push(key_columns(alloc, table.get().keys.as_slice())?)?;
+    }
+    Ok(keys)
+}
+
+/// The columns of each key.
+fn key_columns(alloc: Global, keys: &[Items<usize>]) -> Result<Vec<Vec<usize>>, AllocError> {
+    let mut columns = Vec::new(alloc);
+    for key in keys {
+        columns.push(Vec::from_slice(alloc, key.as_slice())?)?;
+    }
+    Ok(columns)
+}
+
 impl Names for Catalog {
+    ghost base_tables = { λ c. c.bases };
+
+    fn bases(&self) -> &[Shared<BaseTable>] {
+        self.base_tables.as_slice()
+    }
+
     fn table(&self, user: Name, name: Name) -> Option<&TableDesc> {
         let place = self.place_of(&FullName { user, name })?;
         self.table_at(place)

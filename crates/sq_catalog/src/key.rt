@@ -1,7 +1,7 @@
 //! Keys of a table definition (ISO/IEC 9075:1992, 11.7; that each column is NOT NULL, and the number of columns, are own rules).
 
 use crate::fault::{ElementFault, RefusalName, refused_if};
-use crate::written::{NamedColumns, WrittenKey, has_twice, pushed};
+use crate::written::{NamedColumns, WrittenKey, has_twice};
 use sq_items::Items;
 use sq_lex::Name;
 use std::alloc::Global;
@@ -84,16 +84,6 @@ impl Keys {
             refused_if(is_bad_list(key.as_slice()), RefusalName::BadKey)?;
         }
         Ok(())
-    }
-
-    /// The keys as a store is given them.
-    pub(crate) fn for_store(&self, alloc: Global) -> Result<Vec<Vec<usize>>, ElementFault> {
-        let mut keys = Vec::new(alloc);
-        for key in self.columns.as_slice() {
-            let columns = Vec::from_slice(alloc, key.as_slice())?;
-            pushed(keys.push(columns).is_ok())?;
-        }
-        Ok(keys)
     }
 }
 

@@ -49,28 +49,27 @@ impl Catalog {
     {
         let name = full_name(user, definition.name);
         self.check_new_name(user, &name)?;
-        let (table, keys) = self.new_table(user, &name, definition)?;
+        let (table, base) = self.new_table(user, &name, definition)?;
         if let Err(fault) = self.add_base(name, table) {
-            drop(keys);
+            drop(base);
             return Err(fault);
         }
-        pushed(self.keys.push(keys).is_ok())
+        pushed(self.base_tables.push(base).is_ok())
     }
 
-    /// The table of a definition, and the columns of its keys as a store is given them.
+    /// The table of a definition, and the base table itself.
     fn new_table(
         &self,
         user: Name,
         name: &FullName,
         definition: &TableDefinition,
-    ) -> Result<(TableDesc, Vec<Vec<usize>>), ElementFault>
+    ) -> Result<(TableDesc, Shared<BaseTable>), ElementFault>
         ensures { OnOk result (name.now.user ≡ user) }
     {
         let draft = self.draft(user, name, definition)?;
         let table = self.table_of(user, name, &draft);
-        let keys = draft.keys.for_store(self.alloc());
         drop(draft);
-        both(table, keys)
+        table
     }
 
     /// What a definition writes, each name of a column or table in it found.
@@ -119,7 +118,7 @@ impl Catalog {
         user: Name,
         name: &FullName,
         draft: &Draft<'_>,
-    ) -> Result<TableDesc, ElementFault>
+    ) -> Result<(TableDesc, Shared<BaseTable>), ElementFault>
         ensures { OnOk result (name.now.user ≡ user) }
     {
         let columns = columns_of(self.alloc(), draft.written.columns.as_slice())?;
@@ -380,30 +379,24 @@ fn copied_keys(alloc: Global, keys: &[Items<usize>]) -> Result<Items<Items<usize
     Ok(copies)
 }
 
-/// The base table as names see it: its rows are those of its leaf.
+/// The base table as names see it, whose rows are those of its leaf, and the base table itself.
 fn described(
     alloc: Global,
     name: &FullName,
     columns: Items<Column>,
     base: BaseTable,
-) -> Result<TableDesc, ElementFault> {
-    let (columns, (base, leaf)) = both(Ok(columns), base_and_leaf(alloc, base))?;
-    Ok(TableDesc {
+) -> Result<(TableDesc, Shared<BaseTable>), ElementFault> {
+    let (columns, base) = both(Ok(columns), Shared::new(alloc, base))?;
+    let parts = both(base.share(), base_leaf(alloc, &base));
+    let ((columns, base), (shared, leaf)) = both(Ok((columns, base)), parts)?;
+    let table = TableDesc {
         user: name.user,
         name: name.name,
         columns,
-        body: TableBody::Base(base),
+        body: TableBody::Base(shared),
         leaf: Some(leaf),
-    })
-}
-
-fn base_and_leaf(
-    alloc: Global,
-    base: BaseTable,
-) -> Result<(Shared<BaseTable>, Shared<Leaf>), AllocError> {
-    let base = Shared::new(alloc, base)?;
-    let leaf = base_leaf(alloc, &base);
-    both(Ok(base), leaf)
+    };
+    Ok((table, base))
 }
 
 /// What is under a base table: itself.

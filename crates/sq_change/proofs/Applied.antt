@@ -1,18 +1,26 @@
 -- What a store asks of the changes of a statement.
-use Rattle.std.proofs.Common.{◌≡◌, ℕ, ◌<◌, Bool, true, false, List, [], ◌∷◌, ◌++◌, length, map, Option, Some, find, nat_eq, nat_lt, refl, sym, subst, arith}
+use Rattle.std.proofs.Common.{◌≡◌, ℕ, ◌<◌, Bool, true, false, List, [], ◌∷◌, ◌++◌, length, map, Option, Some, find, nat_eq, nat_lt, ◌∙◌, refl, sym, subst, arith}
 use Rattle.std.specs.List.{list_all}
 use Rattle.std.proofs.lemmas.Grind.{common_steps}
+use Rattle.std.proofs.lemmas.List.{length-set}
 use Rattle.sq_value.specs.declared.value.Value.{Value}
 use Rattle.sq_store.specs.declared.change.Change.{Change}
 use Rattle.sq_store.specs.declared.change.Change.TheVariants.{Insert, Replace, Remove}
 use Rattle.sq_store.specs.declared.table.Numbered.{Numbered}
+use Rattle.sq_store.specs.declared.table.Table.{Table}
 use Rattle.sq_store.specs.Change.{insert_count, rows_put}
-use Rattle.sq_store.specs.Content.{Content, row_at, table_at}
+use Rattle.sq_store.specs.Content.{Content, row_at, table_at, with_table}
 use Rattle.sq_store.specs.Keys.{Keys, are_keyed, has_keys, have_keys, keys_at}
 use Rattle.sq_store.specs.Rising.{all_rising}
 use Rattle.sq_store.proofs.Sound.{columns_at}
 use Rattle.sq_bound.specs.declared.statement.ChangeTarget.{ChangeTarget}
 use Rattle.sq_change.specs.Changed.{CanApply, Removals, Replacements, are_replacements}
+
+-- ---- all tables
+
+-- a change leaves as many as there were
+pub as_many : (n : ℕ) (before after : Content) (place : ℕ) (t : Table) → after ≡ with_table before place t → n ≡ length before → n ≡ length after
+as_many n before after place t made h = rw made (h ∙ sym (length-set before place t))
 
 -- ---- UPDATE
 

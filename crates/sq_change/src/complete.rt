@@ -1,6 +1,6 @@
 //! A change of a base table, where check options and constraints allow it.
 
-ghost use Rattle.std.specs.Prelude.{◌≡◌, OnErr, OnOk, Some};
+ghost use Rattle.std.specs.Prelude.{◌≡◌, length, OnErr, OnOk, Some};
 ghost use Rattle.sq_change.specs.Changed.{CanApply};
 ghost use Rattle.sq_store.specs.Content.{changed_by, table_at, with_table};
 
@@ -23,6 +23,7 @@ pub(crate) struct Changed {
 }
 
 /// Makes the changes of a base table. In this order: check options, constraints on one row, keys, references.
+#[tactic(auto, using(crate::proofs::Applied::as_many))]
 pub(crate) fn complete<N: Names, S: Store>(
     alloc: Global,
     names: &N,
@@ -32,7 +33,8 @@ pub(crate) fn complete<N: Names, S: Store>(
     user: Name,
     parameters: &[Value],
 ) -> Result<(), Fault>
-    requires { CanApply (S.row_numbers store.old) (S.key_columns store.old) (S.content_now store.old) base.place changed.changes.items }
+    requires applicable { CanApply (S.row_numbers store.old) (S.key_columns store.old) (S.content_now store.old) base.place changed.changes.items }
+    requires tables { length (N.base_tables names.now) ≡ length (S.content_now store.old) }
     ensures ok { OnOk result (S.content_now store.new
         ≡ with_table (S.content_now store.old) base.entry.place (changed_by (table_at (S.content_now store.old) base.entry.place) changed.changes.items)) }
     ensures err { OnErr result (S.content_now store.new ≡ S.content_now store.old) }

@@ -4,10 +4,10 @@ ghost use Rattle.std.specs.Prelude.{◌≡◌, ◌<◌, length, true, vec_len, I
 ghost use Rattle.sq_change.specs.Changed.{are_insertions};
 
 use crate::setting::Setting;
-use crate::storing::{assigned, assigned_to, stored_value};
+use crate::storing::{assigned, stored_value};
 use sq_bound::{
     BaseColumn, BaseTable, BoundExpr, BoundInsert, BoundSpecification, ColumnDefault, InsertedRows,
-    Names,
+    Names, ObjectColumn,
 };
 use sq_items::Items;
 use sq_query::{Failure, Fault, specification_rows};
@@ -25,7 +25,7 @@ pub(crate) fn new_rows<N: Names, S: Store>(
     ensures insertions { IfOk result (λ changes. are_insertions changes.items ≡ true) }
     ensures some { IfOk result (λ changes. 0 < vec_len changes) }
 {
-    let given = given_rows(setting, insert, table, meter)?;
+    let given = given_rows(setting, insert, meter)?;
     completed_rows(setting, table, insert.columns.as_slice(), given.as_slice())
 }
 
@@ -33,7 +33,6 @@ pub(crate) fn new_rows<N: Names, S: Store>(
 fn given_rows<N: Names, S: Store>(
     setting: &Setting<'_, N, S>,
     insert: &BoundInsert,
-    table: &BaseTable,
     meter: &mut Meter,
 ) -> Result<Vec<Row>, Fault>
     ensures { IfOk result (λ rows. 0 < vec_len rows) }
@@ -41,14 +40,14 @@ fn given_rows<N: Names, S: Store>(
     let columns = insert.columns.as_slice();
     match &insert.source {
         InsertedRows::Values(values) => {
-            let row = given_values(setting, table, columns, values.as_slice())?;
+            let row = given_values(setting, columns, values.as_slice())?;
             let mut rows = Vec::new(setting.alloc);
             rows.push(row)?;
             Ok(rows)
         }
         InsertedRows::Query(query) => {
             let rows = rows_found(setting, query, meter)?;
-            stored_rows(setting.alloc, table, columns, rows.as_slice())
+            stored_rows(setting.alloc, columns, rows.as_slice())
         }
     }
 }
@@ -56,13 +55,12 @@ fn given_rows<N: Names, S: Store>(
 /// The values of VALUES, each stored before the next is evaluated.
 fn given_values<N: Names, S: Store>(
     setting: &Setting<'_, N, S>,
-    table: &BaseTable,
-    columns: &[usize],
+    columns: &[ObjectColumn],
     values: &[BoundExpr],
 ) -> Result<Row, Fault> {
     let mut row = Items::new(setting.alloc);
     for (column, value) in columns.iter().zip(values) {
-        row.push(stored_value(setting, table, *column, value, None)?)?;
+        row.push(stored_value(setting, *column, value, None)?)?;
     }
     Ok(row)
 }
@@ -90,31 +88,21 @@ fn rows_found<N: Names, S: Store>(
 }
 
 /// Rows as the columns store them.
-fn stored_rows(
-    alloc: Global,
-    table: &BaseTable,
-    columns: &[usize],
-    rows: &[Row],
-) -> Result<Vec<Row>, Fault>
+fn stored_rows(alloc: Global, columns: &[ObjectColumn], rows: &[Row]) -> Result<Vec<Row>, Fault>
     ensures { IfOk result (λ stored. vec_len stored ≡ length rows.now) }
 {
     let mut stored = Vec::new(alloc);
     for row in rows {
-        stored.push(stored_row(alloc, table, columns, row.as_slice())?)?;
+        stored.push(stored_row(alloc, columns, row.as_slice())?)?;
     }
     Ok(stored)
 }
 
 /// A row as the columns store it.
-fn stored_row(
-    alloc: Global,
-    table: &BaseTable,
-    columns: &[usize],
-    row: &[Value],
-) -> Result<Row, Fault> {
+fn stored_row(alloc: Global, columns: &[ObjectColumn], row: &[Value]) -> Result<Row, Fault> {
     let mut stored = Items::new(alloc);
     for (column, value) in columns.iter().zip(row) {
-        stored.push(assigned_to(alloc, table, *column, value)?)?;
+        stored.push(assigned(alloc, column.domain, value)?)?;
     }
     Ok(stored)
 }
@@ -123,7 +111,7 @@ fn stored_row(
 fn completed_rows<N: Names, S: Store>(
     setting: &Setting<'_, N, S>,
     table: &BaseTable,
-    columns: &[usize],
+    columns: &[ObjectColumn],
     given: &[Row],
 ) -> Result<Vec<Change>, Fault>
     ensures insertions { IfOk result (λ changes. are_insertions changes.items ≡ true) }
@@ -141,7 +129,7 @@ fn completed_rows<N: Names, S: Store>(
 fn new_row<N: Names, S: Store>(
     setting: &Setting<'_, N, S>,
     table: &BaseTable,
-    columns: &[usize],
+    columns: &[ObjectColumn],
     given: &[Value],
 ) -> Result<Row, Fault> {
     let mut row = Items::new(setting.alloc);
@@ -153,8 +141,8 @@ fn new_row<N: Names, S: Store>(
 }
 
 /// The value that is given for the column at a place.
-fn given_at<'a>(columns: &[usize], given: &'a [Value], place: usize) -> Option<&'a Value> {
-    let position = columns.iter().position(|column| *column == place)?;
+fn given_at<'a>(columns: &[ObjectColumn], given: &'a [Value], place: usize) -> Option<&'a Value> {
+    let position = columns.iter().position(|column| column.position == place)?;
     given.get(position)
 }
 

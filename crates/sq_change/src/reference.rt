@@ -1,9 +1,8 @@
 //! References between tables after a change (ISO/IEC 9075:1992, 11.8).
 
-ghost use Rattle.std.specs.Prelude.{◌<◌, length};
+ghost use Rattle.std.specs.Prelude.{◌≡◌, ◌<◌, length};
 
 use crate::row::{has_columns, has_null, row_put};
-use crate::setting::base_table;
 use sq_bound::{BaseTable, Names, Reference};
 use sq_query::{Failure, Fault};
 use sq_store::{Change, Meter, Store};
@@ -76,13 +75,15 @@ pub(crate) fn references_satisfied<N: Names, S: Store>(
     referenced: &[Referenced],
     table: usize,
     lost_keys: &[usize],
-) -> Result<(), Fault> {
+) -> Result<(), Fault>
+    requires { length (N.base_tables names.now) ≡ length (S.content_now store.now) }
+{
     all_there(store, referenced)?;
     if lost_keys.is_empty() {
         return Ok(());
     }
-    for place in 0..store.table_count() {
-        let references = base_table(names, place)?.references.as_slice();
+    for (place, base) in names.bases().iter().enumerate() {
+        let references = base.get().references.as_slice();
         references_to(alloc, store, place, references, table, lost_keys)?;
     }
     Ok(())

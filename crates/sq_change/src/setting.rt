@@ -2,7 +2,7 @@
 
 ghost use Rattle.std.specs.Prelude.{◌≡◌, ◌<◌, ◌≤◌, length, IfErr, IfOk};
 
-use sq_bound::{BaseTable, BoundCond, BoundExpr, Leaf, Names, TableBody, TablePlace};
+use sq_bound::{BaseTable, BoundCond, BoundExpr, Leaf, Names};
 use sq_lex::Name;
 use sq_query::{Fault, Inputs, truth_of, value_of};
 use sq_store::Store;
@@ -92,15 +92,4 @@ pub(crate) fn base_at<'a, S: Store>(
         return Err(Fault::NOT_WELL_FORMED);
     }
     Ok(Base { place, leaf })
-}
-
-/// The base table at a place.
-pub(crate) fn base_table<N: Names>(names: &N, place: usize) -> Result<&BaseTable, Fault> {
-    let Some(table) = names.at(TablePlace::Base(place)) else {
-        return Err(Fault::NOT_WELL_FORMED);
-    };
-    match &table.body {
-        TableBody::Base(base) => Ok(base.get()),
-        TableBody::View(_) => Err(Fault::NOT_WELL_FORMED),
-    }
 }

@@ -26,6 +26,7 @@ pub fn insert<N: Names, S: Store>(
     inputs: Inputs<'_>,
     meter: &mut Meter,
 ) -> Result<(), Fault>
+    requires { length (N.base_tables names.now) ≡ length (S.content_now store.old) }
     ensures ok { OnOk result (Inserts insert.now.base (S.content_now store.old) (S.content_now store.new)) }
     ensures err { OnErr result (S.content_now store.new ≡ S.content_now store.old) }
     ensures committed { S.committed store.new ≡ S.committed store.old }
@@ -77,7 +78,8 @@ pub fn update<N: Names, S: Store>(
     inputs: Inputs<'_>,
     meter: &mut Meter,
 ) -> Result<(), Fault>
-    requires { IsGiven update.now.target on }
+    requires given { IsGiven update.now.target on }
+    requires tables { length (N.base_tables names.now) ≡ length (S.content_now store.old) }
     ensures ok { OnOk result (Updates update.now.target on (S.content_now store.old) (S.content_now store.new)) }
     ensures err { OnErr result (S.content_now store.new ≡ S.content_now store.old) }
     ensures committed { S.committed store.new ≡ S.committed store.old }
@@ -144,7 +146,8 @@ pub fn delete<N: Names, S: Store>(
     inputs: Inputs<'_>,
     meter: &mut Meter,
 ) -> Result<(), Fault>
-    requires { IsGiven target.now on }
+    requires given { IsGiven target.now on }
+    requires tables { length (N.base_tables names.now) ≡ length (S.content_now store.old) }
     ensures ok { OnOk result (Deletes target.now on (S.content_now store.old) (S.content_now store.new)) }
     ensures err { OnErr result (S.content_now store.new ≡ S.content_now store.old) }
     ensures committed { S.committed store.new ≡ S.committed store.old }

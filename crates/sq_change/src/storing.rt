@@ -1,12 +1,12 @@
 //! Values as the columns of a base table store them (ISO/IEC 9075:1992, 9.2).
 
-ghost use Rattle.std.specs.Prelude.{◌≡◌, ◌↔◌, IsTrue, slice_get};
+ghost use Rattle.std.specs.Prelude.{◌≡◌, ◌↔◌, IsTrue};
 ghost use Rattle.sq_meaning.specs.Assignment as spec;
 ghost use Rattle.sq_query.specs.Fault.{Meets};
 ghost use Rattle.sq_value.specs.Domain.{FitsKind, IsDomain, is_of_numbers};
 
 use crate::setting::Setting;
-use sq_bound::{BaseTable, BoundExpr, Names};
+use sq_bound::{BoundExpr, Names, ObjectColumn};
 use sq_query::Fault;
 use sq_store::Store;
 use sq_value::{Domain, Row, Value, store};
@@ -15,28 +15,12 @@ use std::alloc::Global;
 /// The value of an expression as a column stores it.
 pub(crate) fn stored_value<N: Names, S: Store>(
     setting: &Setting<'_, N, S>,
-    table: &BaseTable,
-    column: usize,
+    column: ObjectColumn,
     expr: &BoundExpr,
     row: Option<&Row>,
 ) -> Result<Value, Fault> {
     let value = setting.value(expr, row)?;
-    assigned_to(setting.alloc, table, column, &value)
-}
-
-/// A value as a column stores it.
-pub(crate) fn assigned_to(
-    alloc: Global,
-    table: &BaseTable,
-    column: usize,
-    value: &Value,
-) -> Result<Value, Fault>
-    ensures { slice_get table.now.columns column ≡ None → result ≡ Err Fault.NOT_WELL_FORMED }
-{
-    match table.columns.as_slice().get(column) {
-        Some(column) => assigned(alloc, column.domain, value),
-        None => Err(Fault::NOT_WELL_FORMED),
-    }
+    assigned(setting.alloc, column.domain, &value)
 }
 
 /// A value as a domain stores it, a number where the domain is one of numbers, or a text where it is one of texts.

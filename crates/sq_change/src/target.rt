@@ -83,7 +83,7 @@ pub(crate) fn replaced<N: Names, S: Store>(
     let mut meter = Meter::new();
     for number in numbers {
         if let Some(row) = setting.store.row(base.place, *number, &mut meter) {
-            let row = updated_row(setting, base.table(), assignments, row)?;
+            let row = updated_row(setting, assignments, row)?;
             changes.push(Change::Replace(*number, row))?;
         }
     }
@@ -93,7 +93,6 @@ pub(crate) fn replaced<N: Names, S: Store>(
 /// A row after the set clauses, which read the values before.
 fn updated_row<N: Names, S: Store>(
     setting: &Setting<'_, N, S>,
-    table: &BaseTable,
     assignments: &[BoundAssignment],
     row: &Row,
 ) -> Result<Row, Fault>
@@ -101,7 +100,7 @@ fn updated_row<N: Names, S: Store>(
 {
     let mut updated = copy_row(setting.alloc, row.as_slice())?.into_vec();
     for assignment in assignments {
-        assign(setting, table, assignment, row, updated.as_mut_slice())?;
+        assign(setting, assignment, row, updated.as_mut_slice())?;
     }
     Ok(Items::from_vec(updated))
 }
@@ -109,18 +108,17 @@ fn updated_row<N: Names, S: Store>(
 /// Performs a set clause on a copy of the row.
 fn assign<N: Names, S: Store>(
     setting: &Setting<'_, N, S>,
-    table: &BaseTable,
     assignment: &BoundAssignment,
     row: &Row,
     updated: &mut [Value],
 ) -> Result<(), Fault> {
     let column = assignment.column;
-    let value = stored_value(setting, table, column, &assignment.value, Some(row))?;
-    if column >= updated.len() {
+    let value = stored_value(setting, column, &assignment.value, Some(row))?;
+    if column.position >= updated.len() {
         drop(value);
         return Err(Fault::NOT_WELL_FORMED);
     }
-    updated[column] = value;
+    updated[column.position] = value;
     Ok(())
 }
 
@@ -155,7 +153,7 @@ pub(crate) fn keys_assigned(
 fn is_assigned(columns: &[usize], assignments: &[BoundAssignment]) -> bool {
     assignments
         .iter()
-        .any(|assignment| columns.contains(&assignment.column))
+        .any(|assignment| columns.contains(&assignment.column.position))
 }
 
 /// All keys of a table.

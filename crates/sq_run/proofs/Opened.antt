@@ -15,9 +15,9 @@ use Rattle.sq_run.specs.Run.{AllSpell, IsStart}
 use Rattle.sq_run.specs.declared.texts.TextFault.{TextFault}
 
 pub defined_if : (schemas : List Bytes) (trees : List SchemaText) (answer : Result Catalog TextFault) → AllSpell schema_tokens schemas trees
-    → IfOk answer (λ c. c.tables ≡ declared_tables trees) → IfOk answer (λ c. c.stored ≡ length c.tables) → IfOk answer (Defined schemas)
-defined_if schemas trees (Ok c) spelled tables stored = record { trees = trees; spelled = spelled; tables = tables; stored = stored }
-defined_if schemas trees (Err fault) spelled tables stored = tables
+    → IfOk answer (λ c. c.tables ≡ declared_tables trees) → IfOk answer (λ c. length c.bases ≡ length c.tables) → IfOk answer (Defined schemas)
+defined_if schemas trees (Ok c) spelled tables bases = record { trees = trees; spelled = spelled; tables = tables; bases = bases }
+defined_if schemas trees (Err fault) spelled tables bases = tables
 
 pub holds_if : (tables : List FullName) (modules : List Bytes) (trees : List ModuleText) (answer : Result Session TextFault) → AllSpell module_tokens modules trees
     → IfOk answer (λ s. s.tables ≡ tables) → IfOk answer (λ s. names_of s.procedures ≡ declared_procedures trees) → IfOk answer IsStart → IfOk answer (Holds tables modules)

@@ -16,7 +16,7 @@ pub record Defined (schemas : List Bytes) (c : Catalog) : Type 0 where
   pub trees : List SchemaText
   pub spelled : AllSpell schema_tokens schemas trees
   pub tables : c.tables ≡ declared_tables trees
-  pub stored : c.stored ≡ length c.tables
+  pub bases : length c.bases ≡ length c.tables
 
 -- a session over these tables, of trees that the modules spell
 pub record Holds (tables : List FullName) (modules : List Bytes) (s : Session) : Type 0 where

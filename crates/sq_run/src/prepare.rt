@@ -8,6 +8,7 @@ ghost use Rattle.sq_run.specs.Fault.{IsOfItem, IsOpeningFault, IsScriptFault, Is
 ghost use Rattle.sq_catalog.specs.Catalog.{declared_tables};
 ghost use Rattle.sq_module.specs.Program.{declared_procedures};
 ghost use Rattle.sq_session.specs.Session.{names_of};
+ghost use Rattle.sq_store.specs.Content.{no_rows};
 ghost use Rattle.sq_run.specs.Opened.{Defined, Holds, Opened};
 ghost use Rattle.sq_run.specs.Items.{IsTaken};
 ghost use Rattle.sq_run.specs.Run.{AllSpell, IsStart, SomeTrees, Spells, texts};
@@ -23,7 +24,7 @@ use sq_session::{ModuleRefusal, Session, SessionFault};
 use sq_spell::{module_item_start, schema_element_start, schema_start, script_item_start};
 use sq_store::{MOST_ROW_NUMBERS, Store};
 use sq_tree::{ModuleText, SchemaText, ScriptText};
-use std::alloc::Global;
+use std::alloc::{AllocError, Global};
 
 /// The session that the schema and module texts open. All schemas are read and defined before the first module is read.
 #[tactic(auto, using(crate::proofs::Opened::opened_by))]
@@ -70,7 +71,7 @@ pub(crate) fn read_script<S: Store>(
 fn catalog_of(alloc: Global, schemas: &[Vec<u8>], limits: Limits) -> Result<Catalog, TextFault>
     ensures spelled { IfOk result (λ _. SomeTrees schema_tokens (texts schemas.now)) }
     ensures defined { IfOk result (Defined (texts schemas.now)) }
-    ensures stored { IfOk result (λ c. c.stored ≡ length c.tables) }
+    ensures bases { IfOk result (λ c. length c.bases ≡ length c.tables) }
     ensures refused { IfErr result (SomeRefused schema_tokens schema_depth (texts schemas.now)) }
 {
     let trees = read_all::<SchemaText>(alloc, schemas)?;
@@ -88,7 +89,7 @@ fn built(
 ) -> Result<Catalog, TextFault>
     requires spelled { AllSpell schema_tokens (texts schemas.now) trees.now }
     ensures tables { IfOk result (λ c. c.tables ≡ declared_tables trees.now) }
-    ensures stored { IfOk result (λ c. c.stored ≡ length c.tables) }
+    ensures bases { IfOk result (λ c. length c.bases ≡ length c.tables) }
     ensures refused { IfErr result (SomeRefused schema_tokens schema_depth (texts schemas.now)) }
 {
     match Catalog::build(alloc, trees, limits) {
@@ -133,7 +134,7 @@ fn session_of<S: Store>(
     limits: Limits,
 ) -> Result<Session<S>, TextFault>
     requires numbers { limits.row_numbers ≤ MOST_ROW_NUMBERS }
-    requires stored { catalog.stored ≡ length catalog.tables }
+    requires bases { length catalog.bases ≡ length catalog.tables }
     ensures spelled { IfOk result (λ _. SomeTrees module_tokens (texts modules.now)) }
     ensures holds { IfOk result (Holds catalog.tables (texts modules.now)) }
     ensures refused { IfErr result (SomeRefused module_tokens module_depth (texts modules.now)) }
@@ -159,7 +160,7 @@ fn session_from<S: Store>(
     limits: Limits,
 ) -> Result<Session<S>, TextFault>
     requires numbers { limits.row_numbers ≤ MOST_ROW_NUMBERS }
-    requires stored { catalog.stored ≡ length catalog.tables }
+    requires bases { length catalog.bases ≡ length catalog.tables }
     requires spelled { AllSpell module_tokens (texts modules.now) trees.now }
     ensures tables { IfOk result (λ s. s.tables ≡ catalog.tables) }
     ensures procedures { IfOk result (λ s. names_of s.procedures ≡ declared_procedures trees.now) }
@@ -174,6 +175,7 @@ fn session_from<S: Store>(
 }
 
 /// A session of modules over a new store.
+#[tactic(auto, using(sq_session::proofs::Counted::no_rows_count))]
 fn session_over<S: Store>(
     alloc: Global,
     catalog: Catalog,
@@ -181,19 +183,31 @@ fn session_over<S: Store>(
     limits: Limits,
 ) -> Result<Session<S>, SessionFault>
     requires numbers { limits.row_numbers ≤ MOST_ROW_NUMBERS }
-    requires stored { catalog.stored ≡ length catalog.tables }
+    requires bases { length catalog.bases ≡ length catalog.tables }
     ensures tables { IfOk result (λ s. s.tables ≡ catalog.tables) }
     ensures procedures { IfOk result (λ s. names_of s.procedures ≡ declared_procedures modules.now) }
     ensures start { IfOk result IsStart }
     ensures refused { IfErr result (IsOfSomeModule (length modules.now)) }
 {
-    match S::new(alloc, catalog.keys(), limits.row_numbers) {
+    match store_of::<S>(alloc, &catalog, limits) {
         Ok(store) => Session::new(alloc, catalog, modules, store),
         Err(_) => {
             drop(catalog);
             Err(SessionFault::NoMemory)
         }
     }
+}
+
+/// A new store for the base tables of a catalog.
+fn store_of<S: Store>(alloc: Global, catalog: &Catalog, limits: Limits) -> Result<S, AllocError>
+    requires numbers { limits.row_numbers ≤ MOST_ROW_NUMBERS }
+    ensures now { IfOk result (λ store. S.content_now store ≡ no_rows (length catalog.now.bases)) }
+    ensures committed { IfOk result (λ store. S.committed store ≡ no_rows (length catalog.now.bases)) }
+{
+    let keys = catalog.keys(alloc)?;
+    let store = S::new(alloc, keys.as_slice(), limits.row_numbers);
+    drop(keys);
+    store
 }
 
 /// A refusal of a module at its first token, or of one of its cursors or procedures at that one's.

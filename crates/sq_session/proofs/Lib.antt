@@ -1,11 +1,15 @@
-pub mod Besides
+pub mod After
 pub mod Closed
+pub mod Counted
 pub mod Fetched
 pub mod Fitting
+pub mod GoOn
 pub mod Kept
 pub mod Named
 pub mod NextNumber
 pub mod Opened
+pub mod Over
+pub mod Put
 pub mod Reached
 pub mod Read
 pub mod Selected

@@ -1,3 +1,4 @@
+pub mod Cursors
 pub mod Fetch
 pub mod Kind
 pub mod Lent

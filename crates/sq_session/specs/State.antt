@@ -27,10 +27,6 @@ cursor_at s number = slice_index_or s.cursors number cursor.Closed
 abbrev pub with_cursor : State → ℕ → CursorState → State
 with_cursor s number c = record s { cursors = slice_set s.cursors number c }
 
--- the cursors but for one
-abbrev pub besides : ℕ → List CursorState → List CursorState
-besides number cursors = slice_set cursors number cursor.Closed
-
 abbrev pub closed : CursorState → CursorState
 closed c = cursor.Closed
 
@@ -47,6 +43,13 @@ number_on cursor.Closed = None
 number_on (cursor.Numbers c) = c.on
 number_on (cursor.Walking c) = c.on
 number_on (cursor.Rows c) = None
+
+-- off that row
+abbrev pub off_row : CursorState → CursorState
+off_row cursor.Closed = cursor.Closed
+off_row (cursor.Numbers c) = cursor.Numbers (record c { on = None })
+off_row (cursor.Walking c) = cursor.Walking (record c { on = None })
+off_row (cursor.Rows c) = cursor.Rows c
 
 -- ---- the rows of cursors
 

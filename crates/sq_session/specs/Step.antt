@@ -2,7 +2,7 @@
 -- FETCH, CLOSE, COMMIT, ROLLBACK and every statement on a cursor that is not in the state that it needs are said whole, but
 -- for the row that a cursor comes to that walks; of SELECT INTO and OPEN, what the rows of their queries do; of the others,
 -- what they leave as it was.
-use Rattle.std.specs.Prelude.{◌≡◌, ℕ, Bool, true, false, List, [], map, is_some, slice_get, option_and_then, Option, Some, None, Result, Ok, Err}
+use Rattle.std.specs.Prelude.{◌≡◌, ℕ, Bool, true, false, List, [], length, is_some, slice_get, option_and_then, Option, Some, None, Result, Ok, Err}
 use Rattle.sq_value.specs.declared.value.Value.{Value}
 use Rattle.sq_store.specs.Content.{row_at, table_at}
 use Rattle.sq_bound.specs.declared.statement.ChangeTarget.{ChangeTarget}
@@ -15,11 +15,12 @@ use Rattle.sq_query.specs.Fault.{status_of}
 use Rattle.sq_query.specs.declared.fault.Fault.{Fault}
 use Rattle.sq_query.specs.declared.fault.Fault.TheVariants as fault
 use Rattle.sq_model.specs.Machine.{single_row}
+use Rattle.sq_session.specs.Cursors.{GoOn}
 use Rattle.sq_session.specs.Fetch.{ComesOn, come_to_number, come_to_row, over_numbers, over_rows}
 use Rattle.sq_session.specs.Kind.{Fetching, Kind, Opening, Over, Selecting, read_parameters}
 use Rattle.sq_session.specs.Open.{IsOpenOver}
 use Rattle.sq_session.specs.Parameter.{started_values}
-use Rattle.sq_session.specs.State.{State, besides, committed_state, cursor_at, is_open, number_on, rolled_back, with_cursor}
+use Rattle.sq_session.specs.State.{State, committed_state, cursor_at, is_open, number_on, off_row, rolled_back, with_cursor}
 use Rattle.sq_session.specs.Target.{ended, is_refused, row_reply}
 use Rattle.sq_session.specs.declared.cursor.CursorState.{CursorState}
 use Rattle.sq_session.specs.declared.cursor.CursorState.TheVariants as cursor
@@ -109,17 +110,20 @@ pub record Selects (s : Selecting) (d : Done) : Type 0 where
 
 -- ---- INSERT, UPDATE and DELETE (13.6 to 13.10)
 
--- the tables now change with success alone
+-- the tables now change with success alone, and are as many as before
+abbrev pub ChangesTo : State → State → Type 0
+ChangesTo wanted after = (after ≡ record wanted { tables = after.tables }) × (length after.tables ≡ length wanted.tables)
+
 abbrev pub ChangesIf : Bool → State → State → Type 0
-ChangesIf true before after = after ≡ record before { tables = after.tables }
+ChangesIf true before after = ChangesTo before after
 ChangesIf false before after = after ≡ before
 
 abbrev pub MayChange : State → Done → State → Type 0
 MayChange before d after = (d.outputs ≡ []) × ChangesIf (is_success d.status) before after
 
--- an UPDATE may also change how an updatable cursor keeps what is left to it
+-- an UPDATE may also let cursors that walk go on over numbers
 abbrev pub UpdatesIf : Bool → State → State → Type 0
-UpdatesIf true before after = (after.committed ≡ before.committed) × (map is_open after.cursors ≡ map is_open before.cursors) × (map number_on after.cursors ≡ map number_on before.cursors)
+UpdatesIf true before after = (after.committed ≡ before.committed) × (length after.tables ≡ length before.tables) × GoOn before.cursors after.cursors
 UpdatesIf false before after = after ≡ before
 
 abbrev pub MayUpdate : State → Done → State → Type 0
@@ -140,7 +144,7 @@ MayUpdateAt false before d after = Refuses status.InvalidCursorState before d af
 
 -- a positioned DELETE takes its cursor off the row
 abbrev pub DeletesIf : Bool → ℕ → State → State → Type 0
-DeletesIf true number before after = (after.committed ≡ before.committed) × (besides number after.cursors ≡ besides number before.cursors) × (number_on (cursor_at after number) ≡ None)
+DeletesIf true number before after = ChangesTo (with_cursor before number (off_row (cursor_at before number))) after
 DeletesIf false number before after = after ≡ before
 
 abbrev pub MayDeleteAt : Bool → ℕ → State → Done → State → Type 0

@@ -2,6 +2,7 @@
 
 ghost use Rattle.std.specs.Prelude.{◌≡◌, false, IfOk, IfSome, IsSome, None, OnErr, Some, true};
 ghost use Rattle.sq_query.specs.declared.fault.Fault.TheVariants as fault;
+ghost use Rattle.sq_session.specs.Cursors.{IsWhole};
 ghost use Rattle.sq_session.specs.Kind.{kind_at, kind_of, needs_memory, takes_memory};
 ghost use Rattle.sq_session.specs.Parameter.{started_values};
 ghost use Rattle.sq_session.specs.Session.{procedures_of};
@@ -29,8 +30,10 @@ pub(crate) fn call<S: Store>(
     machine: &mut Machine<S>,
     meter: &mut Meter,
 ) -> Result<Done, Fault>
+    requires { IsWhole catalog.now.bases program.now.cursors.items machine.old }
     ensures step { IfSome (ending result) (λ d.
         MayCall (kind_at (procedures_of program.now.cursors.items program.now.procedures.entries) procedure) values.now machine.old d machine.new) }
+    ensures whole { IsWhole catalog.now.bases program.now.cursors.items machine.new }
     ensures err { OnErr result (machine.new ≡ machine.old) }
     ensures memory { needs_memory (kind_at (procedures_of program.now.cursors.items program.now.procedures.entries) procedure) ≡ false → IsSome (ending result) }
 {
@@ -56,6 +59,7 @@ fn performed<S: Store>(
     machine: &mut Machine<S>,
     meter: &mut Meter,
 ) -> Result<Done, Fault>
+    requires { IsWhole catalog.now.bases program.now.cursors.items machine.old }
     ensures step { IfSome (ending result) (λ d. MayStep (kind_of program.now.cursors.items procedure.now.parameters statement.now)
         (started_values procedure.now.parameters values.now) machine.old d machine.new) }
     ensures err { OnErr result (machine.new ≡ machine.old) }
@@ -82,7 +86,8 @@ fn with_values<S: Store>(
     machine: &mut Machine<S>,
     meter: &mut Meter,
 ) -> Result<Done, Fault>
-    requires { takes_memory (kind_of program.now.cursors.items procedure.now.parameters statement.now) ≡ true }
+    requires whole { IsWhole catalog.now.bases program.now.cursors.items machine.old }
+    requires memory { takes_memory (kind_of program.now.cursors.items procedure.now.parameters statement.now) ≡ true }
     ensures step { IfSome (ending result) (λ d. MayStep (kind_of program.now.cursors.items procedure.now.parameters statement.now)
         (started_values procedure.now.parameters values.now) machine.old d machine.new) }
     ensures err { OnErr result (machine.new ≡ machine.old) }
@@ -107,7 +112,8 @@ fn performed_with<S: Store>(
     machine: &mut Machine<S>,
     meter: &mut Meter,
 ) -> Result<Done, Fault>
-    requires { takes_memory (kind_of called.now.cursors.now called.now.procedure.now.parameters statement.now) ≡ true }
+    requires whole { IsWhole called.now.catalog.now.bases called.now.cursors.now machine.old }
+    requires memory { takes_memory (kind_of called.now.cursors.now called.now.procedure.now.parameters statement.now) ≡ true }
     ensures step { IfSome (ending result) (λ d. MayStep (kind_of called.now.cursors.now called.now.procedure.now.parameters statement.now)
         called.now.values.now machine.old d machine.new) }
     ensures err { OnErr result (machine.new ≡ machine.old) }

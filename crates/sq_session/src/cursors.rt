@@ -1,7 +1,8 @@
 //! The cursors of a session, by their numbers.
 
-ghost use Rattle.std.specs.Prelude.{◌≡◌, map, None, replicate, slice_index_or, IfOk};
-ghost use Rattle.sq_session.specs.State.{all_closed, besides, is_open, number_on};
+ghost use Rattle.std.specs.Prelude.{◌≡◌, replicate, slice_index_or, slice_set, IfOk};
+ghost use Rattle.sq_session.specs.Cursors.{GoOn};
+ghost use Rattle.sq_session.specs.State.{all_closed, off_row};
 
 use crate::cursor::CursorState;
 use crate::walk::{ListedCursor, list_walk};
@@ -29,10 +30,9 @@ pub(crate) fn close_all(cursors: &mut [CursorState])
 }
 
 /// Takes a cursor off its row.
-#[tactic(auto, using(crate::proofs::Besides::besides_put, crate::proofs::Besides::cursor_put))]
+#[tactic(auto, using(crate::proofs::Put::put_past))]
 pub(crate) fn leave_row(cursors: &mut [CursorState], number: usize)
-    ensures besides { besides number cursors.new ≡ besides number cursors.old }
-    ensures left { number_on (slice_index_or cursors.new number CursorState.Closed) ≡ None }
+    ensures { cursors.new ≡ slice_set cursors.old number (off_row (slice_index_or cursors.old number CursorState.Closed)) }
 {
     if number < cursors.len() {
         off_row(&mut cursors[number]);
@@ -40,7 +40,7 @@ pub(crate) fn leave_row(cursors: &mut [CursorState], number: usize)
 }
 
 fn off_row(cursor: &mut CursorState)
-    ensures { number_on cursor.new ≡ None }
+    ensures { cursor.new ≡ off_row cursor.old }
 {
     match cursor {
         CursorState::Numbers(numbers) => numbers.on = None,
@@ -50,19 +50,18 @@ fn off_row(cursor: &mut CursorState)
 }
 
 /// Lets cursors go on over lists.
+#[tactic(auto, using(crate::proofs::GoOn::go_on_none, crate::proofs::GoOn::go_on_then))]
 pub(crate) fn put_lists(cursors: &mut [CursorState], listed: Vec<ListedCursor>)
-    ensures open { map is_open cursors.new ≡ map is_open cursors.old }
-    ensures on { map number_on cursors.new ≡ map number_on cursors.old }
+    ensures { GoOn cursors.old cursors.new }
 {
     for one in listed {
         put_list(cursors, one);
     }
 }
 
-#[tactic(auto, using(crate::proofs::Besides::open_put, crate::proofs::Besides::on_put))]
+#[tactic(auto, using(crate::proofs::GoOn::go_on_none, crate::proofs::GoOn::go_on_put))]
 fn put_list(cursors: &mut [CursorState], listed: ListedCursor)
-    ensures open { map is_open cursors.new ≡ map is_open cursors.old }
-    ensures on { map number_on cursors.new ≡ map number_on cursors.old }
+    ensures { GoOn cursors.old cursors.new }
 {
     let ListedCursor { number, numbers } = listed;
     if number < cursors.len() {

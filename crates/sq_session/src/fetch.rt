@@ -1,9 +1,10 @@
 //! FETCH (ISO/IEC 9075:1992, 13.3).
 
-ghost use Rattle.std.specs.Prelude.{◌≡◌, ◌<◌, length, slice_get, IfErr, IfOk, IfSome, OnErr};
+ghost use Rattle.std.specs.Prelude.{◌≡◌, ◌<◌, length, true, slice_get, IfSome, OnErr, Some};
+ghost use Rattle.sq_session.specs.Cursors.{are_over, is_over_at, is_updatable};
 ghost use Rattle.sq_query.specs.Fault.{Meets};
 ghost use Rattle.sq_session.specs.Fetch.{HasCome, HasFetched, HasWalked, Refusal, come_to_number, come_to_row, shown, shown_fetched};
-ghost use Rattle.sq_session.specs.Kind.{columns_at, fetching};
+ghost use Rattle.sq_session.specs.Kind.{columns_at, fetching, over_at};
 ghost use Rattle.sq_session.specs.Step.{MayFetch, ending};
 
 use crate::called::Called;
@@ -20,7 +21,7 @@ use sq_value::{Row, Value};
 use std::alloc::Global;
 
 /// FETCH of the cursor of a number. A status of retrieving leaves it where it came.
-#[tactic(auto, using(crate::proofs::Besides::put_same))]
+#[tactic(auto, using(crate::proofs::Put::put_same, crate::proofs::Over::over_there))]
 pub(crate) fn fetch_at<S: Store>(
     called: &Called<'_>,
     fetch: &BoundFetch,
@@ -28,7 +29,8 @@ pub(crate) fn fetch_at<S: Store>(
     store: &S,
     meter: &mut Meter,
 ) -> Result<Done, Fault>
-    requires { fetch.now.cursor < length cursors.old }
+    requires there { fetch.now.cursor < length cursors.old }
+    requires cursors { are_over (length (S.content_now store.now)) called.now.cursors.now cursors.old ≡ true }
     ensures step { IfSome (ending result) (λ d. MayFetch (slice_get cursors.old fetch.now.cursor) (fetching called.now.cursors.now called.now.procedure.now.parameters fetch.now)
         called.now.values.now (record { tables = S.content_now store.now; committed = S.committed store.now; cursors = cursors.old }) d
         (record { tables = S.content_now store.now; committed = S.committed store.now; cursors = cursors.new })) }
@@ -45,6 +47,7 @@ fn fetch_cursor<S: Store>(
     store: &S,
     meter: &mut Meter,
 ) -> Result<Done, Fault>
+    requires { is_over_at (length (S.content_now store.now)) (over_at called.now.cursors.now fetch.now.cursor) cursor.old ≡ true }
     ensures fetched { HasFetched (fetching called.now.cursors.now called.now.procedure.now.parameters fetch.now) called.now.values.now (S.content_now store.now)
         cursor.old result cursor.new }
     ensures err { OnErr result (cursor.new ≡ cursor.old) }
@@ -77,6 +80,7 @@ fn fetch_row(
 }
 
 /// FETCH of an updatable cursor: the next number under which there is a row now, and that row as it is now.
+#[tactic(auto, using(crate::proofs::Over::numbers_updatable))]
 fn fetch_number<S: Store>(
     called: &Called<'_>,
     fetch: &BoundFetch,
@@ -84,10 +88,11 @@ fn fetch_number<S: Store>(
     store: &S,
     meter: &mut Meter,
 ) -> Result<Done, Fault>
+    requires { is_over_at (length (S.content_now store.now)) (over_at called.now.cursors.now fetch.now.cursor) (CursorState.Numbers cursor.old) ≡ true }
     ensures comes { HasCome result cursor.new (come_to_number (fetching called.now.cursors.now called.now.procedure.now.parameters fetch.now) (S.content_now store.now) cursor.old) }
     ensures err { OnErr result (cursor.new ≡ cursor.old) }
 {
-    let query = updatable_query(called, fetch.cursor)?;
+    let query = updatable_query(called, fetch.cursor);
     if cursor.table >= store.table_count() {
         return Err(Fault::NOT_WELL_FORMED);
     }
@@ -107,6 +112,7 @@ fn fetch_number<S: Store>(
 }
 
 /// FETCH of a cursor that walks.
+#[tactic(auto, using(crate::proofs::Over::walk_updatable, crate::proofs::Over::walk_at))]
 fn fetch_walk<S: Store>(
     called: &Called<'_>,
     fetch: &BoundFetch,
@@ -114,10 +120,11 @@ fn fetch_walk<S: Store>(
     store: &S,
     meter: &mut Meter,
 ) -> Result<Done, Fault>
+    requires { is_over_at (length (S.content_now store.now)) (over_at called.now.cursors.now fetch.now.cursor) (CursorState.Walking walk.old) ≡ true }
     ensures walked { HasWalked (fetching called.now.cursors.now called.now.procedure.now.parameters fetch.now) (S.content_now store.now) walk.old result walk.new }
     ensures err { OnErr result (walk.new ≡ walk.old) }
 {
-    let query = updatable_query(called, fetch.cursor)?;
+    let query = updatable_query(called, fetch.cursor);
     let Some((number, row)) = next_of_walk(called, &query.target, store, walk, meter)? else {
         walk.next = walk.mark;
         walk.on = None;
@@ -134,16 +141,16 @@ fn fetch_walk<S: Store>(
 }
 
 /// The query of an updatable cursor.
-fn updatable_query<'a>(called: &Called<'a>, cursor: usize) -> Result<&'a UpdatableQuery, Fault>
-    ensures query { IfOk result (λ query. columns_at called.now.cursors.now cursor ≡ Some query.now.columns) }
-    ensures refused { IfErr result (λ f. (columns_at called.now.cursors.now cursor ≡ None) × (f ≡ Fault.NOT_WELL_FORMED)) }
+fn updatable_query<'a>(called: &Called<'a>, cursor: usize) -> &'a UpdatableQuery
+    requires { is_updatable (over_at called.now.cursors.now cursor) ≡ true }
+    ensures { columns_at called.now.cursors.now cursor ≡ Some result.now.columns }
 {
     match called.cursors.get(cursor) {
         Some(declared) => match &declared.cursor.body {
-            CursorBody::Updatable(query) => Ok(query),
-            CursorBody::Rows(..) => Err(Fault::NOT_WELL_FORMED),
+            CursorBody::Updatable(query) => query,
+            CursorBody::Rows(..) => unreachable!(),
         },
-        None => Err(Fault::NOT_WELL_FORMED),
+        None => unreachable!(),
     }
 }
 

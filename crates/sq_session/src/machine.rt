@@ -5,6 +5,7 @@ ghost use Rattle.sq_change.specs.Statement.{IsGiven};
 ghost use Rattle.sq_meaning.specs.declared.status.Status.TheVariants as status;
 ghost use Rattle.sq_query.specs.declared.fault.Failure.TheVariants as failure;
 ghost use Rattle.sq_query.specs.declared.fault.Fault.TheVariants as fault;
+ghost use Rattle.sq_session.specs.Cursors.{IsWhole};
 ghost use Rattle.sq_session.specs.Kind.{delete_kind, fetching, opening, over_at, selecting, update_kind};
 ghost use Rattle.sq_session.specs.State.{committed_state, rolled_back};
 ghost use Rattle.sq_session.specs.Step.{MayChange, MayClose, MayFetch, MayOpen, MayOpenOver, MayStep, Selects, ending, is_on_row, is_ready};
@@ -17,7 +18,7 @@ use crate::fetch::fetch_at;
 use crate::open::open_closed;
 use crate::reply::Done;
 use crate::target::only_row_retrieved;
-use crate::walk::{ListedCursor, listed_walk};
+use crate::walk::listed_walks;
 use sq_bound::{BoundFetch, BoundInsert, BoundSelect, BoundUpdate, ChangeTarget, PositionedTarget};
 use sq_change::{delete, insert, update};
 use sq_query::{Failure, Fault, specification_rows};
@@ -62,6 +63,7 @@ impl<S: Store> Machine<S> {
         number: usize,
         meter: &mut Meter,
     ) -> Result<Done, Fault>
+        requires { IsWhole called.now.catalog.now.bases called.now.cursors.now self.old }
         ensures step { IfSome (ending result) (λ d. MayOpen (slice_get self.old.cursors number)
             (opening called.now.cursors.now called.now.procedure.now.parameters number) called.now.values.now self.old d self.new) }
         ensures err { OnErr result (self.new ≡ self.old) }
@@ -80,7 +82,8 @@ impl<S: Store> Machine<S> {
         number: usize,
         meter: &mut Meter,
     ) -> Result<Done, Fault>
-        requires { number < length self.old.cursors }
+        requires there { number < length self.old.cursors }
+        requires whole { IsWhole called.now.catalog.now.bases called.now.cursors.now self.old }
         ensures step { IfSome (ending result) (λ d. MayOpenOver (over_at called.now.cursors.now number) number called.now.values.now self.old d self.new) }
         ensures err { OnErr result (self.new ≡ self.old) }
     {
@@ -100,6 +103,7 @@ impl<S: Store> Machine<S> {
         fetch: &BoundFetch,
         meter: &mut Meter,
     ) -> Result<Done, Fault>
+        requires { IsWhole called.now.catalog.now.bases called.now.cursors.now self.old }
         ensures step { IfSome (ending result) (λ d. MayFetch (slice_get self.old.cursors fetch.now.cursor)
             (fetching called.now.cursors.now called.now.procedure.now.parameters fetch.now) called.now.values.now self.old d self.new) }
         ensures err { OnErr result (self.new ≡ self.old) }
@@ -161,12 +165,14 @@ impl<S: Store> Machine<S> {
     }
 
     /// INSERT (13.8).
+    #[tactic(auto, using(crate::proofs::Counted::inserts_count))]
     pub(crate) fn insert(
         &mut self,
         called: &Called<'_>,
         statement: &BoundInsert,
         meter: &mut Meter,
     ) -> Result<Done, Fault>
+        requires { IsWhole called.now.catalog.now.bases called.now.cursors.now self.old }
         ensures step { IfSome (ending result) (λ d. MayChange self.old d self.new) }
         ensures err { OnErr result (self.new ≡ self.old) }
     {
@@ -182,17 +188,19 @@ impl<S: Store> Machine<S> {
     }
 
     /// UPDATE (13.9, 13.10).
+    #[tactic(auto, using(crate::proofs::Counted::updates_count))]
     pub(crate) fn update(
         &mut self,
         called: &Called<'_>,
         statement: &BoundUpdate,
         meter: &mut Meter,
     ) -> Result<Done, Fault>
+        requires { IsWhole called.now.catalog.now.bases called.now.cursors.now self.old }
         ensures step { IfSome (ending result) (λ d. MayStep (update_kind statement.now.target) called.now.values.now self.old d self.new) }
         ensures err { OnErr result (self.new ≡ self.old) }
     {
         let on = self.current(&statement.target)?;
-        let listed = self.listed(called, statement)?;
+        let listed = listed_walks(called, statement, self.cursors.as_slice(), &self.store)?;
         let updated = update(
             called.alloc,
             called.catalog,
@@ -215,12 +223,14 @@ impl<S: Store> Machine<S> {
     }
 
     /// DELETE (13.6, 13.7). After a positioned one the cursor is before the next row.
+    #[tactic(auto, using(crate::proofs::Counted::deletes_count))]
     pub(crate) fn delete(
         &mut self,
         called: &Called<'_>,
         target: &ChangeTarget,
         meter: &mut Meter,
     ) -> Result<Done, Fault>
+        requires { IsWhole called.now.catalog.now.bases called.now.cursors.now self.old }
         ensures step { IfSome (ending result) (λ d. MayStep (delete_kind target.now) called.now.values.now self.old d self.new) }
         ensures err { OnErr result (self.new ≡ self.old) }
     {
@@ -287,29 +297,5 @@ impl<S: Store> Machine<S> {
             Some(_) => Some(number),
             None => None,
         }
-    }
-
-    /// For each cursor that walks, and whose conditions read what an UPDATE changes, the numbers of the rows that are left
-    /// to it.
-    fn listed(
-        &self,
-        called: &Called<'_>,
-        statement: &BoundUpdate,
-    ) -> Result<Vec<ListedCursor>, Fault> {
-        let mut listed = Vec::new(called.alloc);
-        for (number, (cursor, declared)) in self.cursors.iter().zip(called.cursors).enumerate() {
-            if let CursorState::Walking(walk) = cursor {
-                if let Some(numbers) = listed_walk(
-                    called,
-                    declared,
-                    statement,
-                    &self.store,
-                    walk,
-                )? {
-                    listed.push(ListedCursor { number, numbers })?;
-                }
-            }
-        }
-        Ok(listed)
     }
 }

@@ -1,6 +1,7 @@
 //! OPEN (ISO/IEC 9075:1992, 13.2).
 
-ghost use Rattle.std.specs.Prelude.{◌≡◌, ◌<◌, length, IfSome, OnErr};
+ghost use Rattle.std.specs.Prelude.{◌≡◌, ◌<◌, length, true, IfSome, OnErr};
+ghost use Rattle.sq_session.specs.Cursors.{are_over};
 ghost use Rattle.sq_session.specs.Kind.{Over, over_at, over_of, over_target};
 ghost use Rattle.sq_session.specs.Open.{HasOpened};
 ghost use Rattle.sq_session.specs.Step.{MayOpenOver, ending};
@@ -15,6 +16,7 @@ use sq_query::{Fault, numbers_of, ordered_rows};
 use sq_store::{Meter, Store};
 
 /// OPEN of the cursor of a number, which is closed.
+#[tactic(auto, using(crate::proofs::Over::as_many))]
 pub(crate) fn open_closed<S: Store>(
     called: &Called<'_>,
     number: usize,
@@ -22,15 +24,14 @@ pub(crate) fn open_closed<S: Store>(
     store: &S,
     meter: &mut Meter,
 ) -> Result<Done, Fault>
-    requires { number < length cursors.old }
+    requires there { number < length cursors.old }
+    requires cursors { are_over (length (S.content_now store.now)) called.now.cursors.now cursors.old ≡ true }
     ensures step { IfSome (ending result) (λ d. MayOpenOver (over_at called.now.cursors.now number) number called.now.values.now
         (record { tables = S.content_now store.now; committed = S.committed store.now; cursors = cursors.old }) d
         (record { tables = S.content_now store.now; committed = S.committed store.now; cursors = cursors.new })) }
     ensures err { OnErr result (cursors.new ≡ cursors.old) }
 {
-    let Some(declared) = called.cursors.get(number) else {
-        return Err(Fault::NOT_WELL_FORMED);
-    };
+    let declared = &called.cursors[number];
     match opened(called, &declared.cursor.body, store, meter) {
         Ok(cursor) => {
             cursors[number] = cursor;

@@ -110,7 +110,7 @@ fn operands_read(operations: &[Operation], assignments: &[BoundAssignment]) -> b
 
 fn is_assigned(column: usize, assignments: &[BoundAssignment]) -> bool {
     for assignment in assignments {
-        if assignment.column == column {
+        if assignment.column.position == column {
             return true;
         }
     }

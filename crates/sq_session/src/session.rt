@@ -42,6 +42,7 @@ impl<S: Store> Model for Session<S> {
     ghost use Rattle.sq_bound.specs.contracts.expression.BoundExpr as expression;
     ghost use Rattle.sq_bound.specs.contracts.names.BaseColumn as column;
     ghost use Rattle.sq_bound.specs.contracts.names.ParameterDesc as parameter;
+    ghost use Rattle.sq_session.specs.Cursors.{IsWhole};
     ghost use Rattle.sq_session.specs.Session.{Session, procedures_of};
 
     ghost Value = { Session };
@@ -49,6 +50,8 @@ impl<S: Store> Model for Session<S> {
     ghost coded = { Prim.hlevel (codes, parameter.the_row.coded, column.the_row.coded, condition.the_row.coded, predicate.the_row.coded, expression.the_row.coded) };
 
     ghost view = { λ s. record { procedures = procedures_of s.program.cursors.items s.program.procedures.entries; tables = s.catalog.tables; state = s.machine } };
+
+    ghost invariant = { λ s. IsWhole s.catalog.bases s.program.cursors.items s.machine };
 }
 
 impl<S: Store> Session<S> {
@@ -60,6 +63,8 @@ impl<S: Store> Session<S> {
         modules: &[ModuleText],
         store: S,
     ) -> Result<Session<S>, SessionFault>
+        requires tables { length catalog.bases ≡ length (S.content_now store) }
+        requires committed { length catalog.bases ≡ length (S.committed store) }
         ensures start { IfOk result (λ s. (s.state.tables ≡ S.content_now store) × (s.state.committed ≡ S.committed store) × AreClosed s.state.cursors) }
         ensures procedures { IfOk result (λ s. names_of s.procedures ≡ declared_procedures modules.now) }
         ensures tables { IfOk result (λ s. s.tables ≡ catalog.tables) }
@@ -76,13 +81,15 @@ impl<S: Store> Session<S> {
     }
 
     /// A session of bound modules.
-    #[tactic(auto, using(crate::proofs::Closed::replicated_closed, crate::proofs::Named::names_are))]
+    #[tactic(auto, using(crate::proofs::Closed::replicated_closed, crate::proofs::Named::names_are, crate::proofs::Over::start_over))]
     fn with_program(
         alloc: Global,
         catalog: Catalog,
         program: Program,
         store: S,
     ) -> Result<Session<S>, AllocError>
+        requires tables { length catalog.bases ≡ length (S.content_now store) }
+        requires committed { length catalog.bases ≡ length (S.committed store) }
         ensures start { IfOk result (λ s. (s.state.tables ≡ S.content_now store) × (s.state.committed ≡ S.committed store) × AreClosed s.state.cursors) }
         ensures procedures { IfOk result (λ s. names_of s.procedures ≡ keys_of program.procedures.entries) }
         ensures tables { IfOk result (λ s. s.tables ≡ catalog.tables) }

@@ -3,9 +3,10 @@
 //! Such a cursor means the same rows as a list of their numbers made at OPEN, as long as no UPDATE changes what its
 //! conditions read. So the rows that are left are listed before an UPDATE of a column that they read.
 
-ghost use Rattle.std.specs.Prelude.{◌≡◌, ◌≤◌, ◌<◌, length, Some, IfErr, IfOk, IfSome};
+ghost use Rattle.std.specs.Prelude.{◌≡◌, ◌≤◌, ◌<◌, length, true, Some, IfErr, IfOk, IfSome};
+ghost use Rattle.sq_session.specs.Kind.{over_of};
 ghost use Rattle.sq_store.specs.Content.{table_at};
-ghost use Rattle.sq_session.specs.State.{is_open, number_on};
+ghost use Rattle.sq_session.specs.Cursors.{GoesOn, are_over, is_over};
 ghost use Rattle.sq_session.specs.Fetch.{Refusal, row_on};
 ghost use Rattle.sq_session.specs.Open.{walk_started};
 ghost use Rattle.sq_query.specs.Fault.{Meets};
@@ -121,13 +122,11 @@ pub(crate) fn next_of_walk<'s, S: Store>(
     cursor: &WalkingCursor,
     meter: &mut Meter,
 ) -> Result<Option<(u64, &'s Row)>, Fault>
+    requires { cursor.now.table < length (S.content_now store.now) }
     ensures found { IfOk result (λ found. IfSome found (λ r. (cursor.now.next ≤ r.0) × (r.0 < cursor.now.mark))) }
     ensures there { IfOk result (λ found. IfSome found (λ r. row_on (table_at (S.content_now store.now) cursor.now.table) (Some r.0) ≡ Some r.1.now)) }
     ensures refused { IfErr result Refusal }
 {
-    if cursor.table >= store.table_count() {
-        return Err(Fault::NOT_WELL_FORMED);
-    }
     let walk = Walk {
         alloc: called.alloc,
         catalog: called.catalog,
@@ -146,26 +145,52 @@ pub(crate) struct ListedCursor {
     pub(crate) numbers: Items<u64>,
 }
 
-/// The numbers of the rows that are left to the walk of a cursor, if it is over the base table that an UPDATE changes and
-/// its conditions read a column that is assigned to.
-pub(crate) fn listed_walk<S: Store>(
+/// For each cursor that walks, and whose conditions read what an UPDATE changes, the numbers of the rows that are left to
+/// it.
+#[tactic(auto, using(crate::proofs::Over::as_many))]
+pub(crate) fn listed_walks<S: Store>(
+    called: &Called<'_>,
+    statement: &BoundUpdate,
+    cursors: &[CursorState],
+    store: &S,
+) -> Result<Vec<ListedCursor>, Fault>
+    requires { are_over (length (S.content_now store.now)) called.now.cursors.now cursors.now ≡ true }
+{
+    let mut listed = Vec::new(called.alloc);
+    for (number, cursor) in cursors.iter().enumerate() {
+        if let CursorState::Walking(walk) = cursor {
+            let declared = &called.cursors[number];
+            if let Some(numbers) = listed_walk(called, declared, statement, store, walk)? {
+                listed.push(ListedCursor { number, numbers })?;
+            }
+        }
+    }
+    Ok(listed)
+}
+
+/// The numbers of the rows that are left to the walk of a cursor, if it is over the base table that an UPDATE changes
+/// and its conditions read a column that is assigned to.
+#[tactic(auto, using(crate::proofs::Over::walk_is))]
+fn listed_walk<S: Store>(
     called: &Called<'_>,
     declared: &DeclaredCursor,
     statement: &BoundUpdate,
     store: &S,
     walk: &WalkingCursor,
-) -> Result<Option<Items<u64>>, Fault> {
-    if walk.table != base_of(&statement.target) {
+) -> Result<Option<Items<u64>>, Fault>
+    requires { is_over (length (S.content_now store.now)) (over_of declared.now.cursor.body) (CursorState.Walking walk.now) ≡ true }
+{
+    let query = match &declared.cursor.body {
+        CursorBody::Updatable(query) => query,
+        CursorBody::Rows(..) => unreachable!(),
+    };
+    let is_read = walk.table == base_of(&statement.target)
+        && reads_assigned(&query.target, statement.assignments.as_slice());
+    if !is_read {
         return Ok(None);
     }
-    match &declared.cursor.body {
-        CursorBody::Updatable(query)
-            if reads_assigned(&query.target, statement.assignments.as_slice()) => {
-            let numbers = rest_of_walk(called, declared.user, &query.target, store, walk)?;
-            Ok(Some(numbers))
-        }
-        _ => Ok(None),
-    }
+    let numbers = rest_of_walk(called, declared.user, &query.target, store, walk)?;
+    Ok(Some(numbers))
 }
 
 /// The place of the base table that a statement changes.
@@ -183,10 +208,9 @@ fn rest_of_walk<S: Store>(
     target: &Target,
     store: &S,
     cursor: &WalkingCursor,
-) -> Result<Items<u64>, Fault> {
-    if cursor.table >= store.table_count() {
-        return Err(Fault::NOT_WELL_FORMED);
-    }
+) -> Result<Items<u64>, Fault>
+    requires { cursor.now.table < length (S.content_now store.now) }
+{
     let walk = Walk {
         alloc: called.alloc,
         catalog: called.catalog,
@@ -218,9 +242,9 @@ fn numbers_from<S: Store>(
 }
 
 /// Lets a cursor that walks go on over a list.
+#[tactic(auto, using(crate::proofs::GoOn::goes_on_same))]
 pub(crate) fn list_walk(cursor: &mut CursorState, numbers: Items<u64>)
-    ensures open { is_open cursor.new ≡ is_open cursor.old }
-    ensures on { number_on cursor.new ≡ number_on cursor.old }
+    ensures { GoesOn cursor.old cursor.new }
 {
     if let CursorState::Walking(walk) = cursor {
         *cursor = CursorState::Numbers(NumbersCursor {

@@ -2,6 +2,7 @@ use Rattle.std.proofs.Common.{sym}
 use Rattle.sq_module.specs.declared.program.BoundProcedure.{BoundProcedure}
 use Rattle.sq_module.specs.declared.program.ProcedureName.{ProcedureName}
 use Rattle.sq_session.specs.Step.{ending}
+use Rattle.sq_session.proofs.After.{after}
 use Rattle.sq_session.proofs.Named.{kind_is}
 use Rattle.sq_session.proofs.Read.{as_read}
 use Rattle.sq_session.proofs.call.call.Goals as goal
@@ -13,4 +14,5 @@ returns-in-Ok g c =
     let cursors = c.args.program.now.cursors.items in
     let kind = kind_is cursors entries c.args.procedure entry c.in-Ok.statement (sym c.in-Some.ensures.entry) c.in-Ok.is in
     let read = as_read cursors entry.1.parameters c.in-Ok.statement c.args.values.now c.args.machine.now (ending c.performed.result) _ c.performed.ensures.step in
-    record { step = rw kind read; err = c.performed.ensures.err; memory = rw kind c.performed.ensures.memory }
+    let kept = after c.args.catalog.now.bases cursors entry.1.parameters c.in-Ok.statement _ c.args.machine.now c.performed.result c.performed.new.machine c.requires c.performed.ensures.step c.performed.ensures.err in
+    record { step = rw kind read; whole = kept; err = c.performed.ensures.err; memory = rw kind c.performed.ensures.memory }

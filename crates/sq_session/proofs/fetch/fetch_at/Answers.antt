@@ -10,4 +10,4 @@ returns-clause-step g c =
     let number = c.args.fetch.now.cursor in
     let old = get_or cursors number c.index-cursors-fetch.result in
     may_fetch (fetching called.cursors.now called.procedure.now.parameters c.args.fetch.now) called.values.now (g.S.Store.content_now c.args.store.now) (g.S.Store.committed c.args.store.now) cursors
-    old c.fetch_cursor.new.cursor c.fetch_cursor.result c.requires (ap (λ d. get_or cursors number d) c.index-cursors-fetch.is) c.fetch_cursor.ensures.fetched c.fetch_cursor.ensures.err
+    old c.fetch_cursor.new.cursor c.fetch_cursor.result c.requires.there (ap (λ d. get_or cursors number d) c.index-cursors-fetch.is) c.fetch_cursor.ensures.fetched c.fetch_cursor.ensures.err

@@ -1,0 +1,86 @@
+-- The cursors of a session: one for each that a module declares, closed or over what that one goes over (ISO/IEC 9075:1992,
+-- 4.21).
+use Rattle.std.specs.Prelude.{◌≡◌, ⊤, ℕ, Bool, true, false, ◌&&◌, nat_eq, nat_lt, List, [], ◌∷◌, length, Option, None, Some}
+use Rattle.sq_bound.specs.declared.names.BaseTable.{BaseTable}
+use Rattle.sq_module.specs.declared.program.DeclaredCursor.{DeclaredCursor}
+use Rattle.sq_session.specs.Kind.{Over, over_of}
+use Rattle.sq_session.specs.State.{State}
+use Rattle.sq_session.specs.declared.cursor.CursorState.{CursorState}
+use Rattle.sq_session.specs.declared.cursor.CursorState.TheVariants as cursor
+use Rattle.sq_session.specs.declared.walk.WalkingCursor.{WalkingCursor}
+
+-- ---- what an open cursor goes over
+
+abbrev pub is_over_rows : Over → Bool
+is_over_rows Over.rows = true
+is_over_rows (Over.numbers table) = false
+is_over_rows (Over.walk table) = false
+
+-- numbers of rows of this table; a walk may go on over them
+abbrev pub is_over_numbers : Over → ℕ → Bool
+is_over_numbers Over.rows table = false
+is_over_numbers (Over.numbers base) table = nat_eq base table
+is_over_numbers (Over.walk base) table = nat_eq base table
+
+abbrev pub is_over_table : Over → ℕ → Bool
+is_over_table Over.rows table = false
+is_over_table (Over.numbers base) table = false
+is_over_table (Over.walk base) table = nat_eq base table
+
+-- a walk is over one of so many tables
+abbrev pub is_over : ℕ → Over → CursorState → Bool
+is_over tables over cursor.Closed = true
+is_over tables over (cursor.Rows c) = is_over_rows over
+is_over tables over (cursor.Numbers c) = is_over_numbers over c.table
+is_over tables over (cursor.Walking c) = is_over_table over c.table && nat_lt c.table tables
+
+-- ---- all cursors
+
+-- there are as many as are declared, each over what the declared one goes over
+abbrev pub are_over : ℕ → List DeclaredCursor → List CursorState → Bool
+are_over tables [] [] = true
+are_over tables [] (c ∷ cs) = false
+are_over tables (d ∷ ds) [] = false
+are_over tables (d ∷ ds) (c ∷ cs) = is_over tables (over_of d.cursor.body) c && are_over tables ds cs
+
+abbrev pub has_cursors : List DeclaredCursor → State → Bool
+has_cursors declared s = are_over (length s.tables) declared s.cursors
+
+-- ---- a session: a table for each base table, as it is now and as it was committed, and its cursors
+
+abbrev pub IsWhole : List BaseTable → List DeclaredCursor → State → Type 0
+IsWhole bases declared s = (length bases ≡ length s.tables) × (length bases ≡ length s.committed) × (has_cursors declared s ≡ true)
+
+-- ---- one cursor
+
+abbrev pub is_over_at : ℕ → Option Over → CursorState → Bool
+is_over_at tables None c = false
+is_over_at tables (Some over) c = is_over tables over c
+
+-- whether it is updatable
+abbrev pub is_updatable : Option Over → Bool
+is_updatable None = false
+is_updatable (Some Over.rows) = false
+is_updatable (Some (Over.numbers table)) = true
+is_updatable (Some (Over.walk table)) = true
+
+-- ---- an UPDATE
+
+-- a cursor that walks may go on over numbers, and is on the row that it was on; any other stays as it is
+abbrev pub WalksOn : WalkingCursor → CursorState → Type 0
+WalksOn c cursor.Closed = ⊥
+WalksOn c (cursor.Rows d) = ⊥
+WalksOn c (cursor.Numbers d) = (d.table ≡ c.table) × (d.on ≡ c.on)
+WalksOn c (cursor.Walking d) = d ≡ c
+
+abbrev pub GoesOn : CursorState → CursorState → Type 0
+GoesOn cursor.Closed after = after ≡ cursor.Closed
+GoesOn (cursor.Rows c) after = after ≡ cursor.Rows c
+GoesOn (cursor.Numbers c) after = after ≡ cursor.Numbers c
+GoesOn (cursor.Walking c) after = WalksOn c after
+
+abbrev pub GoOn : List CursorState → List CursorState → Type 0
+GoOn [] [] = ⊤
+GoOn [] (a ∷ after) = ⊥
+GoOn (b ∷ before) [] = ⊥
+GoOn (b ∷ before) (a ∷ after) = GoesOn b a × GoOn before after
