@@ -399,7 +399,14 @@ pub(crate) fn bind_update<N: Names, C: Cursors>(
     let table = named_table(names, environment.user, update.table)?;
     let under = must_be_updatable(table)?;
     let item = item_over(environment.alloc, table, None, true)?;
-    let assignments = assignments_of(&update.assignments, names, &item, &*environment, table, under);
+    let assignments = assignments_of(
+        &update.assignments,
+        names,
+        &item,
+        &*environment,
+        table,
+        under,
+    );
     let target = change_target(
         &update.target,
         names,
