@@ -3,12 +3,10 @@ use Rattle.std.proofs.Common.{◌≡◌, false, List, Option, Some, None, refl, 
 use Rattle.sq_value.specs.Pattern.{liked}
 use Rattle.sq_value.specs.SetFunctions.{is_null as is_null_value}
 use Rattle.sq_value.specs.Truth.{negation, known}
-use Rattle.sq_value.specs.declared.truth.Truth.{Truth}
-use Rattle.sq_value.specs.declared.value.Value.{Value}
 use Rattle.sq_tree.specs.declared.cond.Comparison.{Comparison}
 use Rattle.sq_tree.specs.declared.cond.Comparison.TheVariants.{Equal, LessOrEqual, GreaterOrEqual}
 use Rattle.sq_meaning.specs.Status.{Outcome, and_then, with_status, like_status}
-use Rattle.sq_meaning.specs.Syntax.{Cond, Conds, literal, parameter, user, column, count_rows, set_function, signed, added, scaled, bracketed, compare, compare_subquery, compare_quantified, between, in_subquery, in_list, like, is_null, exists, negated, conjunction, disjunction, no_cond, a_cond}
+use Rattle.sq_meaning.specs.Syntax.{Conds, literal, parameter, user, column, count_rows, set_function, signed, added, scaled, bracketed, compare, compare_subquery, compare_quantified, between, in_subquery, in_list, like, is_null, exists, negated, conjunction, disjunction, no_cond, a_cond}
 use Rattle.sq_meaning.specs.Environment.{Row, Env}
 use Rattle.sq_meaning.specs.Expression.{value, over_group, with_sign, sum_of, product_of, function_value, distinct_values}
 use Rattle.sq_meaning.specs.Placed.{Placed, by_place}

@@ -1,12 +1,11 @@
 -- The classes of elements that are the same, as one element more comes.
-use Rattle.std.proofs.Common.{◌≡◌, ℕ, zero, suc, ◌+◌, ◌<◌, ◌≤◌, Bool, true, false, not, ◌&&◌, ◌||◌, List, [], ◌∷◌, ◌++◌, map, cond, length, get_or, set, refl, sym, ap, ◌∙◌, true≢false, arith, one-add}
+use Rattle.std.proofs.Common.{◌≡◌, ℕ, ◌+◌, Bool, true, false, not, ◌&&◌, ◌||◌, List, [], ◌∷◌, ◌++◌, map, cond, get_or, set, refl, sym, ap, ◌∙◌, true≢false, one-add}
 use Rattle.std.specs.Prelude.{filter, if◌then◌else◌}
 use Rattle.std.specs.Cmp.{IsEquivalence}
 use Rattle.std.specs.List.{list_any, list_all, position_or_len}
 use Rattle.std.proofs.lemmas.List.{map_push}
 use Rattle.std.proofs.lemmas.List.Elements.{filter-append}
 use Rattle.std.proofs.lemmas.Map.Views.{any-filter_same}
-use Rattle.indexmap.specs.IndexSet.{insert_key}
 use Rattle.sq_meaning.specs.Rows.{firsts, classes}
 use Rattle.sq_meaning.proofs.RowLaws.{are_apart, firsts_are_apart}
 use Rattle.sq_query.proofs.Firsts.{firsts_more}

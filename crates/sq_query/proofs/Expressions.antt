@@ -21,7 +21,7 @@ use Rattle.sq_bound.specs.declared.expression.Operator.TheVariants.{Plus, Minus,
 use Rattle.sq_bound.specs.declared.expression.Operation.{Operation}
 use Rattle.sq_bound.proofs.ExpressionLaws.{expr_of-Literal, expr_of-Parameter, expr_of-User, expr_of-Column, expr_of-SetFunction, expr_of-Negated, expr_of-Operations, operation_of-out}
 use Rattle.sq_query.specs.Arithmetic.{operation}
-use Rattle.sq_query.specs.Fault.{Meets, status_of}
+use Rattle.sq_query.specs.Fault.{Meets}
 use Rattle.sq_query.specs.declared.fault.Fault.{Fault}
 use Rattle.sq_query.specs.declared.fault.Fault.TheVariants as fault
 

@@ -1,5 +1,5 @@
 -- Groups, part by part.
-use Rattle.std.proofs.Common.{◌≡◌, true, false, arith, List, ◌∷◌, [], map, refl, ap, sym, subst, Result, Ok, Err}
+use Rattle.std.proofs.Common.{◌≡◌, true, false, arith, List, ◌∷◌, [], map, refl, ap, sym, subst, Result, Err}
 use Rattle.sq_bound.specs.Expression.{PlacedExpr, place_meant}
 use Rattle.sq_bound.specs.declared.expression.Place.{Place}
 use Rattle.std.proofs.lemmas.Bool.{eqb-true, eqb-false}

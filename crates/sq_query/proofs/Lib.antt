@@ -19,3 +19,4 @@ pub mod Depths
 pub mod Conditions
 pub mod AnyTables
 pub mod Rows
+pub mod Levels

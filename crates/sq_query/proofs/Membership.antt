@@ -1,5 +1,5 @@
 -- Whether a value is among those of a column is what its comparisons with all rows say.
-use Rattle.std.proofs.Common.{◌≡◌, Bool, true, false, ◌&&◌, ◌||◌, List, [], ◌∷◌, ◌++◌, map, cond, refl, sym, ap, ◌∙◌}
+use Rattle.std.proofs.Common.{◌≡◌, Bool, true, false, ◌&&◌, ◌||◌, List, [], ◌∷◌, ◌++◌, map, refl, sym, ap, ◌∙◌}
 use Rattle.std.specs.Prelude.{if◌then◌else◌, fold}
 use Rattle.std.specs.Cmp.{IsEquivalence}
 use Rattle.std.specs.Cmp.Lexicographic.{lists_equiv}
@@ -11,7 +11,7 @@ use Rattle.sq_value.specs.Arithmetic.{compared}
 use Rattle.sq_value.specs.Comparison.{texts_compared}
 use Rattle.sq_value.specs.Truth.{either, known}
 use Rattle.sq_value.specs.declared.truth.Truth.{Truth}
-use Rattle.sq_value.specs.declared.truth.Truth.TheVariants.{False, Unknown, True}
+use Rattle.sq_value.specs.declared.truth.Truth.TheVariants.{False, Unknown}
 use Rattle.sq_value.specs.declared.value.Value.{Value}
 use Rattle.sq_value.specs.declared.value.Value.TheVariants.{Null, Num, Chars}
 use Rattle.sq_value.specs.laws.ValueOrder.{same_equiv}

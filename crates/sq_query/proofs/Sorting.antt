@@ -1,9 +1,6 @@
 -- The order of rows by columns.
 use Rattle.std.proofs.Common.{◌≡◌, Bool, true, false, List, ◌∷◌, refl}
-use Rattle.std.specs.Prelude.{if◌then◌else◌}
 use Rattle.std.specs.Ordering.{ordering_then}
-use Rattle.std.specs.declared.cmp.Ordering.{Ordering}
-use Rattle.sq_value.specs.Comparison.{ordered}
 use Rattle.sq_value.specs.declared.value.Value.{Value}
 use Rattle.sq_bound.specs.declared.query.SortColumn.{SortColumn}
 use Rattle.sq_meaning.specs.Rows.{by_column, by_columns, in_column}

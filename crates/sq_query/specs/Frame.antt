@@ -20,7 +20,6 @@ use Rattle.sq_query.specs.Fault.{status_of}
 use Rattle.sq_query.specs.declared.fault.Failure.{Failure}
 use Rattle.sq_query.specs.declared.frame.Frame.{Frame, Frame', Held-Frame-outer, None', Some', out-Frame}
 use Rattle.sq_query.specs.declared.context.Context.{Context}
-use Rattle.sq_query.specs.declared.table.ViewRows.{ViewRows}
 
 -- rows that are lent
 abbrev pub lent : List (Bor Row) → List Row

@@ -17,3 +17,4 @@ pub mod Condition
 pub mod Depth
 pub mod Nests
 pub mod Needed
+pub mod Target

@@ -1,4 +1,4 @@
-use Rattle.std.proofs.Common.{◌≡◌, List, [], ◌∷◌, ◌++◌, map, refl, ap, ◌∙◌, Ok}
+use Rattle.std.proofs.Common.{List, [], ◌∷◌, ◌++◌, map, refl, ap, ◌∙◌, Ok}
 use Rattle.std.proofs.lemmas.List.{map_push}
 use Rattle.sq_meaning.specs.Environment.{Row, Line}
 use Rattle.sq_meaning.specs.Status.{Outcome, each, and_then}

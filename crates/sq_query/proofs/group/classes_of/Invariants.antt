@@ -1,5 +1,4 @@
 use Rattle.std.proofs.Common.{◌≡◌, List, drop, map}
-use Rattle.std.specs.Borrow.{Bor}
 use Rattle.sq_meaning.specs.Environment.{Row}
 use Rattle.sq_meaning.specs.Status.{each}
 use Rattle.sq_query.specs.ByKey.{IsOf}

@@ -1,4 +1,4 @@
-use Rattle.std.proofs.Common.{◌≡◌, List, [], drop, map}
+use Rattle.std.proofs.Common.{◌≡◌, [], drop, map}
 use Rattle.sq_meaning.specs.Environment.{Line}
 use Rattle.sq_meaning.specs.Status.{each}
 use Rattle.sq_meaning.specs.Expression.{value}
