@@ -13,7 +13,6 @@ after the other in one transaction, as the program reads its script. That is giv
 fetched by such a text.
 """
 import argparse
-import os
 import sqlite3
 import subprocess
 import sys
@@ -221,6 +220,16 @@ WORKLOADS = {
 }
 
 
+# Runs a command and prints its processor seconds, kilobytes and exit status. It is a process of its own, since the greatest
+# memory of a command counts that of the process that started it.
+MEASURE = """
+import os, subprocess, sys
+process = subprocess.Popen(sys.argv[1:], stdout=subprocess.DEVNULL)
+_, status, usage = os.wait4(process.pid, 0)
+print(usage.ru_utime + usage.ru_stime, usage.ru_maxrss, os.waitstatus_to_exitcode(status))
+"""
+
+
 def timed(program, schema, modules, script):
     """Processor seconds and megabytes of a run."""
     with tempfile.TemporaryDirectory() as folder:
@@ -229,9 +238,10 @@ def timed(program, schema, modules, script):
             file = Path(folder, f"{kind}{number}")
             file.write_text(text)
             words += [f"--{kind}", str(file)]
-        process = subprocess.Popen([program, "run", *words, "--rows", "1000000000"], stdout=subprocess.DEVNULL)
-        _, status, usage = os.wait4(process.pid, 0)
-        return usage.ru_utime + usage.ru_stime, usage.ru_maxrss / 1024, os.waitstatus_to_exitcode(status)
+        run = [program, "run", *words, "--rows", "1000000000"]
+        measured = subprocess.run([sys.executable, "-S", "-c", MEASURE, *run], capture_output=True, text=True, check=True)
+        seconds, kilobytes, status = measured.stdout.split()
+        return float(seconds), int(kilobytes) / 1024, int(status)
 
 
 def timed_lite(schema, work):
