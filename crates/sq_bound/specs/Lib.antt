@@ -1,5 +1,6 @@
 pub mod Condition
 pub mod Expression
+pub mod Fits
 pub mod Parameter
 pub mod Query
 pub mod SetFunction
