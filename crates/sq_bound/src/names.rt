@@ -228,7 +228,9 @@ impl TableDesc {
     }
 
     /// The position of the column of this name.
-    pub fn column(&self, name: Name) -> Option<usize> {
+    pub fn column(&self, name: Name) -> Option<usize>
+        ensures { IfSome result (λ position. position < length self.now.columns) }
+    {
         self.columns
             .as_slice()
             .iter()
