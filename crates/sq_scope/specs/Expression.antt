@@ -1,6 +1,5 @@
 -- What bound expressions stand for: trees by place, and their kinds (ISO/IEC 9075:1992, 6.11 to 6.13).
 use Rattle.std.specs.Prelude.{◌≡◌, List, Ok}
-use Rattle.sq_value.specs.declared.domain.Kind.{Kind}
 use Rattle.sq_tree.specs.declared.expr.Sign.{Sign}
 use Rattle.sq_tree.specs.declared.expr.Sign.TheVariants.{Plus, Minus}
 use Rattle.sq_meaning.specs.Kind.{signed_kind}

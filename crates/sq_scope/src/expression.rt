@@ -1,8 +1,9 @@
 //! Value expressions: columns and parameters become places, and kinds are checked (ISO/IEC 9075:1992, 6.2 to 6.5, 6.11 to 6.13).
 
-ghost use Rattle.std.specs.Prelude.{◌≡◌, ◌∷◌, ◌++◌, [], IfOk, Ok, length};
+ghost use Rattle.std.specs.Prelude.{◌≡◌, ◌∷◌, ◌++◌, [], IfOk, Ok, length, nat_lt, true};
 ghost use Rattle.sq_meaning.specs.Syntax.{literal, signed};
 ghost use Rattle.sq_bound.specs.Expression.{expr_of};
+ghost use Rattle.sq_bound.specs.Names.{option_all};
 ghost use Rattle.sq_tree.specs.declared.expr.Sign.TheVariants.{Minus};
 ghost use Rattle.sq_value.specs.Spelling.{read};
 ghost use Rattle.sq_value.specs.declared.value.Value.TheVariants as value;
@@ -196,10 +197,9 @@ fn user_value(findings: &mut Findings) -> Typed {
 }
 
 /// The position of a parameter among those of the procedure.
-pub fn parameter_of(
-    parameters: &[ParameterDesc],
-    name: Name,
-) -> Result<(usize, Domain), BindFault> {
+pub fn parameter_of(parameters: &[ParameterDesc], name: Name) -> Result<(usize, Domain), BindFault>
+    ensures { IfOk result (λ found. nat_lt found.0 (length parameters.now) ≡ true) }
+{
     for (position, parameter) in parameters.iter().enumerate() {
         if parameter.name == name {
             return Ok((position, parameter.domain));
@@ -212,7 +212,9 @@ pub fn parameter_of(
 pub fn indicator_of(
     parameters: &[ParameterDesc],
     indicator: Option<Indicator>,
-) -> Result<Option<usize>, BindFault> {
+) -> Result<Option<usize>, BindFault>
+    ensures { IfOk result (λ found. option_all (λ p. nat_lt p (length parameters.now)) found ≡ true) }
+{
     let Some(indicator) = indicator else {
         return Ok(None);
     };

@@ -121,7 +121,7 @@ impl FromItem {
     }
 
     /// The column that the reference fits.
-    fn column(&self, reference: &ColumnReference) -> Option<ItemColumn>
+    pub fn column(&self, reference: &ColumnReference) -> Option<ItemColumn>
         ensures { FitsColumn reference.now self.now result }
     {
         if self.fits(reference.qualifier) {
@@ -216,7 +216,9 @@ fn is_at(place: &Place, item: usize, column: usize) -> bool {
 
 impl<'a> Environment<'a> {
     /// Outside all queries.
-    pub fn new(alloc: Global, user: Name, parameters: &'a [ParameterDesc]) -> Environment<'a> {
+    pub fn new(alloc: Global, user: Name, parameters: &'a [ParameterDesc]) -> Environment<'a>
+        ensures { result.parameters.now ≡ parameters.now }
+    {
         Environment {
             alloc,
             user,
