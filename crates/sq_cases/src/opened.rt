@@ -1,6 +1,7 @@
 //! The session that the texts of a run open.
 ghost use Rattle.std.specs.Prelude.{◌≡◌, ◌≤◌, length, IfOk};
 ghost use Rattle.sq_store.specs.Content.{no_rows};
+ghost use Rattle.sq_bound.specs.Fits.{keys_of_bases};
 
 use crate::run::Run;
 use sq_catalog::{Catalog, Limits};
@@ -42,7 +43,7 @@ fn session_of<S: Store>(alloc: Global, run: &Run) -> Option<Session<S>> {
     session_over(alloc, catalog, modules.as_slice(), limits)
 }
 
-#[tactic(auto, using(sq_session::proofs::Counted::no_rows_count))]
+#[tactic(auto, using(sq_session::proofs::Holding::no_rows_hold))]
 fn session_over<S: Store>(
     alloc: Global,
     catalog: Catalog,
@@ -60,11 +61,13 @@ fn session_over<S: Store>(
     }
 }
 
-/// A new store for the base tables of a catalog.
+/// A new store for the base tables of a catalog and their keys.
+#[tactic(auto, using(sq_session::proofs::Holding::keys_count))]
 fn store_of<S: Store>(alloc: Global, catalog: &Catalog, limits: Limits) -> Result<S, AllocError>
     requires { limits.row_numbers ≤ MOST_ROW_NUMBERS }
     ensures now { IfOk result (λ store. S.content_now store ≡ no_rows (length catalog.now.bases)) }
     ensures committed { IfOk result (λ store. S.committed store ≡ no_rows (length catalog.now.bases)) }
+    ensures keys { IfOk result (λ store. S.key_columns store ≡ keys_of_bases catalog.now.bases) }
 {
     let keys = catalog.keys(alloc)?;
     let store = S::new(alloc, keys.as_slice(), limits.row_numbers);

@@ -3,6 +3,7 @@ ghost use Rattle.std.specs.Prelude.{◌≡◌, ◌≤◌, ◌<◌, length, All, 
 ghost use Rattle.sq_tree.specs.Schema.{schema_tokens, schema_depth};
 ghost use Rattle.sq_tree.specs.Module.{module_tokens, module_depth};
 ghost use Rattle.sq_tree.specs.Script.{script_tokens};
+ghost use Rattle.sq_bound.specs.Fits.{keys_of_bases};
 ghost use Rattle.sq_module.specs.Refusal.{IsOfSomeModule};
 ghost use Rattle.sq_run.specs.Fault.{IsOfItem, IsOpeningFault, IsScriptFault, IsScriptRefusal, IsUntaken, SomeRefused, run_fault};
 ghost use Rattle.sq_catalog.specs.Catalog.{declared_tables};
@@ -175,7 +176,7 @@ fn session_from<S: Store>(
 }
 
 /// A session of modules over a new store.
-#[tactic(auto, using(sq_session::proofs::Counted::no_rows_count))]
+#[tactic(auto, using(sq_session::proofs::Holding::no_rows_hold))]
 fn session_over<S: Store>(
     alloc: Global,
     catalog: Catalog,
@@ -198,11 +199,13 @@ fn session_over<S: Store>(
     }
 }
 
-/// A new store for the base tables of a catalog.
+/// A new store for the base tables of a catalog and their keys.
+#[tactic(auto, using(sq_session::proofs::Holding::keys_count))]
 fn store_of<S: Store>(alloc: Global, catalog: &Catalog, limits: Limits) -> Result<S, AllocError>
     requires numbers { limits.row_numbers ≤ MOST_ROW_NUMBERS }
     ensures now { IfOk result (λ store. S.content_now store ≡ no_rows (length catalog.now.bases)) }
     ensures committed { IfOk result (λ store. S.committed store ≡ no_rows (length catalog.now.bases)) }
+    ensures keys { IfOk result (λ store. S.key_columns store ≡ keys_of_bases catalog.now.bases) }
 {
     let keys = catalog.keys(alloc)?;
     let store = S::new(alloc, keys.as_slice(), limits.row_numbers);

@@ -1,12 +1,9 @@
 -- How many tables there are: as many as at first, since INSERT, UPDATE and DELETE add none.
-use Rattle.std.proofs.Common.{◌≡◌, ℕ, Option, length, sym, ◌∙◌, ap}
-use Rattle.std.proofs.lemmas.List.{length-replicate, length-set}
-use Rattle.sq_store.specs.Content.{Content, empty, no_rows}
+use Rattle.std.proofs.Common.{◌≡◌, ℕ, Option, length}
+use Rattle.std.proofs.lemmas.List.{length-set}
+use Rattle.sq_store.specs.Content.{Content}
 use Rattle.sq_bound.specs.declared.statement.ChangeTarget.{ChangeTarget}
 use Rattle.sq_change.specs.Statement.{Deletes, Inserts, Updates}
-
-pub no_rows_count : (n : ℕ) (content : Content) → content ≡ no_rows n → n ≡ length content
-no_rows_count n content h = rw h (sym (length-replicate n empty))
 
 pub inserts_count : (base : ℕ) (b a : Content) → Inserts base b a → length a ≡ length b
 inserts_count base b a h = rw h.done (length-set b base _)

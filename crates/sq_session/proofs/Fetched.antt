@@ -1,20 +1,17 @@
 -- What FETCH may do to the state, from what it does to its cursor.
-use Rattle.std.proofs.Common.{◌≡◌, ◌<◌, ℕ, true, false, List, length, get_or, slice_get, slice_set, Option, Some, None, Result, Ok, Err, refl, sym, ap, ◌∙◌, OnErr, IfSome, subst}
-use Rattle.std.proofs.lemmas.List.{set-get_or}
-use Rattle.std.proofs.lemmas.Option.{slice_get-get_or}
+use Rattle.std.proofs.Common.{◌≡◌, ◌<◌, ℕ, List, length, get_or, slice_set, Result, Ok, Err, refl, ap, ◌∙◌, OnErr, IfSome, subst}
+use Rattle.std.proofs.lemmas.List.{get_or_default, set-get_or}
 use Rattle.sq_value.specs.declared.value.Value.{Value}
 use Rattle.sq_meaning.specs.Status.{Outcome}
 use Rattle.sq_store.specs.Content.{Content}
-use Rattle.sq_query.specs.Fault.{status_of}
-use Rattle.sq_query.specs.declared.fault.Failure.{Failure}
-use Rattle.sq_query.specs.declared.fault.Failure.TheVariants as failure
+use Rattle.sq_store.specs.Keys.{Keys}
 use Rattle.sq_query.specs.declared.fault.Fault.{Fault}
 use Rattle.sq_query.specs.declared.fault.Fault.TheVariants as fault
 use Rattle.sq_session.specs.Fetch.{HasCome, HasFetched, HasWalked}
 use Rattle.sq_session.specs.Kind.{Fetching}
-use Rattle.sq_session.specs.State.{State, with_cursor}
+use Rattle.sq_session.specs.State.{State, cursor_at, with_cursor}
 use Rattle.sq_session.specs.Step.{Comes, MayFetch, MayFetchFrom, WalksIf, ending}
-use Rattle.sq_session.specs.Target.{ended, is_refused}
+use Rattle.sq_session.specs.Target.{is_refused}
 use Rattle.sq_session.specs.declared.cursor.CursorState.{CursorState}
 use Rattle.sq_session.specs.declared.cursor.CursorState.TheVariants as cursor
 use Rattle.sq_session.specs.declared.reply.Done.{Done}
@@ -43,17 +40,18 @@ may_fetch_from (cursor.Walking c) (cursor.Rows e) f values r b a h same put = ab
 may_fetch_from (cursor.Walking c) (cursor.Numbers e) f values r b a h same put = absurd h
 
 -- where the cursors are those before with one put in its stead
-pub may_fetch : (f : Fetching) (values : List Value) (tables committed : Content) (cs : List CursorState) (old now : CursorState) (r : Result Done Fault)
+pub may_fetch : (f : Fetching) (values : List Value) (tables committed : Content) (keys : List Keys) (cs : List CursorState) (old now : CursorState) (r : Result Done Fault)
     → f.cursor < length cs → old ≡ get_or cs f.cursor old → HasFetched f values tables old r now → OnErr r (now ≡ old)
-    → IfSome (ending r) (λ d. MayFetch (slice_get cs f.cursor) f values (record { tables = tables; committed = committed; cursors = cs }) d
-    (record { tables = tables; committed = committed; cursors = slice_set cs f.cursor now }))
-may_fetch f values tables committed cs old now r lt at h same =
-    let b : State = record { tables = tables; committed = committed; cursors = cs } in
-    let a : State = record { tables = tables; committed = committed; cursors = slice_set cs f.cursor now } in
-    let there : slice_get cs f.cursor ≡ Some old = slice_get-get_or cs f.cursor old lt ∙ ap Some (sym at) in
-    let P : Option CursorState → Type 0 = λ o. IfSome (ending r) (λ d. MayFetch o f values b d a) in
-    subst P (sym there) (may_fetch_from old now f values r b a h (kept r same) refl)
+    → IfSome (ending r) (λ d. MayFetch f values (record { tables = tables; committed = committed; keys = keys; cursors = cs }) d
+    (record { tables = tables; committed = committed; keys = keys; cursors = slice_set cs f.cursor now }))
+may_fetch f values tables committed keys cs old now r lt at h same =
+    let b : State = record { tables = tables; committed = committed; keys = keys; cursors = cs } in
+    let a : State = record { tables = tables; committed = committed; keys = keys; cursors = slice_set cs f.cursor now } in
+    let there : old ≡ cursor_at b f.cursor = at ∙ get_or_default cs f.cursor old cursor.Closed lt in
+    let P : CursorState → Type 0 = λ c. IfSome (ending r) (λ d. MayFetchFrom c f values b d a) in
+    subst P there (may_fetch_from old now f values r b a h (kept r same) refl)
   where
-    kept : (x : Result Done Fault) → OnErr x (now ≡ old) → OnErr x (◌≡◌ {A = State} (record { tables = tables; committed = committed; cursors = slice_set cs f.cursor now }) (record { tables = tables; committed = committed; cursors = cs }))
+    kept : (x : Result Done Fault) → OnErr x (now ≡ old)
+        → OnErr x (◌≡◌ {A = State} (record { tables = tables; committed = committed; keys = keys; cursors = slice_set cs f.cursor now }) (record { tables = tables; committed = committed; keys = keys; cursors = cs }))
     kept (Ok d) e = tt
-    kept (Err x) e = ap (λ l. record { tables = tables; committed = committed; cursors = l }) (ap (λ c. slice_set cs f.cursor c) (e ∙ at) ∙ set-get_or cs f.cursor old)
+    kept (Err x) e = ap (λ l. record { tables = tables; committed = committed; keys = keys; cursors = l }) (ap (λ c. slice_set cs f.cursor c) (e ∙ at) ∙ set-get_or cs f.cursor old)

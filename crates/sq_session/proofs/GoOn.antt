@@ -1,5 +1,5 @@
 -- Cursors that go on over numbers, one after the other.
-use Rattle.std.proofs.Common.{◌≡◌, ◌∙◌, ◌<◌, ℕ, zero, suc, List, [], ◌∷◌, length, slice_set, slice_index_or, refl, arith}
+use Rattle.std.proofs.Common.{◌<◌, ℕ, zero, suc, List, [], ◌∷◌, length, slice_set, slice_index_or, refl, arith}
 use Rattle.sq_session.specs.Cursors.{GoOn, GoesOn, WalksOn}
 use Rattle.sq_session.specs.declared.cursor.CursorState.{CursorState}
 use Rattle.sq_session.specs.declared.cursor.CursorState.TheVariants as cursor

@@ -1,12 +1,12 @@
 -- A call that ends with another status than success leaves the tables as they were.
-use Rattle.std.proofs.Common.{◌≡◌, ℕ, Bool, true, false, List, Option, Some, None, Ok, Err, slice_get, ap, subst}
+use Rattle.std.proofs.Common.{◌≡◌, ℕ, Bool, true, false, List, Option, Some, None, Ok, Err, ap, subst}
 use Rattle.sq_value.specs.declared.value.Value.{Value}
 use Rattle.sq_meaning.specs.Status.{Outcome}
 use Rattle.sq_session.specs.Fetch.{come_to_number, come_to_row, over_numbers, over_rows}
-use Rattle.sq_session.specs.Kind.{Fetching, Kind, Opening, Over, read_parameters}
+use Rattle.sq_session.specs.Kind.{Fetching, Kind, Opening, read_parameters}
 use Rattle.sq_session.specs.Parameter.{started_values}
-use Rattle.sq_session.specs.State.{State, committed_state, is_open, rolled_back}
-use Rattle.sq_session.specs.Step.{ChangesIf, Comes, DeletesIf, Ends, MayCall, MayClose, MayCloseIf, MayDeleteAt, MayFetch, MayFetchFrom, MayOpen, MayOpenIf, MayOpenOver, MayStep, MayUpdateAt, OpensAs, UpdatesIf, WalksIf, is_on_row, is_success}
+use Rattle.sq_session.specs.State.{State, committed_state, cursor_at, is_open, rolled_back}
+use Rattle.sq_session.specs.Step.{ChangesIf, Comes, DeletesIf, Ends, MayCall, MayCloseIf, MayDeleteAt, MayFetchFrom, MayOpenIf, MayStep, MayUpdateAt, OpensAs, UpdatesIf, WalksIf, is_on_row, is_success}
 use Rattle.sq_session.specs.Target.{is_refused}
 use Rattle.sq_session.specs.declared.cursor.CursorState.{CursorState}
 use Rattle.sq_session.specs.declared.cursor.CursorState.TheVariants as cursor
@@ -25,17 +25,9 @@ opens_as : (o : Outcome CursorState) (n : ℕ) (b : State) (d : Done) (a : State
 opens_as (Ok c) n b d a h = ap (λ s. s.tables) h.1
 opens_as (Err st) n b d a h = same b a h.1
 
-open_over : (v : Option Over) (n : ℕ) (vs : List Value) (b : State) (d : Done) (a : State) → MayOpenOver v n vs b d a → Kept b a
-open_over None n vs b d a h = same b a h.1
-open_over (Some v) n vs b d a h = opens_as h.0 n b d a h.2
-
 open_if : (is : Bool) (o : Opening) (vs : List Value) (b : State) (d : Done) (a : State) → MayOpenIf is o vs b d a → Kept b a
 open_if true o vs b d a h = same b a h.1
-open_if false o vs b d a h = open_over o.over o.cursor vs b d a h
-
-may_open : (c : Option CursorState) (o : Opening) (vs : List Value) (b : State) (d : Done) (a : State) → MayOpen c o vs b d a → Kept b a
-may_open None o vs b d a h = same b a h.1
-may_open (Some c) o vs b d a h = open_if (is_open c) o vs b d a h
+open_if false o vs b d a h = opens_as h.0 o.cursor b d a h.2
 
 comes : (o : Outcome (CursorState × Done)) (n : ℕ) (b : State) (d : Done) (a : State) → Comes o n b d a → Kept b a
 comes (Ok come) n b d a h = ap (λ s. s.tables) h.1
@@ -51,17 +43,9 @@ fetch_from (cursor.Rows c) f vs b d a h = comes (over_rows (come_to_row f vs c))
 fetch_from (cursor.Numbers c) f vs b d a h = comes (over_numbers (come_to_number f b.tables c)) f.cursor b d a h
 fetch_from (cursor.Walking c) f vs b d a h = walks_if (is_refused d.status) f c b d a h
 
-may_fetch : (o : Option CursorState) (f : Fetching) (vs : List Value) (b : State) (d : Done) (a : State) → MayFetch o f vs b d a → Kept b a
-may_fetch None f vs b d a h = same b a h.1
-may_fetch (Some c) f vs b d a h = fetch_from c f vs b d a h
-
 close_if : (o : Bool) (n : ℕ) (b : State) (d : Done) (a : State) → MayCloseIf o n b d a → Kept b a
 close_if true n b d a h = ap (λ s. s.tables) h.1
 close_if false n b d a h = same b a h.1
-
-may_close : (o : Option CursorState) (n : ℕ) (b : State) (d : Done) (a : State) → MayClose o n b d a → Kept b a
-may_close None n b d a h = same b a h.1
-may_close (Some c) n b d a h = close_if (is_open c) n b d a h
 
 -- ---- changes
 
@@ -91,9 +75,9 @@ ends : (w b : State) (d : Done) (a : State) → Ends w d a → is_success d.stat
 ends w b d a h e = let k : true ≡ false = subst (λ x. is_success x.status ≡ false) h.0 e in cc
 
 step : (k : Kind) (vs : List Value) (b : State) (d : Done) (a : State) → MayStep k vs b d a → is_success d.status ≡ false → Kept b a
-step (Kind.opens o) vs b d a h e = may_open (slice_get b.cursors o.cursor) o vs b d a h
-step (Kind.fetches f) vs b d a h e = may_fetch (slice_get b.cursors f.cursor) f vs b d a h
-step (Kind.closes n) vs b d a h e = may_close (slice_get b.cursors n) n b d a h
+step (Kind.opens o) vs b d a h e = open_if (is_open (cursor_at b o.cursor)) o vs b d a h
+step (Kind.fetches f) vs b d a h e = fetch_from (cursor_at b f.cursor) f vs b d a h
+step (Kind.closes n) vs b d a h e = close_if (is_open (cursor_at b n)) n b d a h
 step (Kind.selects s) vs b d a h e = same b a h.0
 step Kind.changes vs b d a h e = changes_if (is_success d.status) b a h.1 e
 step Kind.updates vs b d a h e = updates_if (is_success d.status) b a h.1 e

@@ -4,6 +4,7 @@ pub mod Counted
 pub mod Fetched
 pub mod Fitting
 pub mod GoOn
+pub mod Holding
 pub mod Kept
 pub mod Named
 pub mod NextNumber

@@ -1,15 +1,13 @@
 -- OPEN, from the rows, the numbers or the walk that a cursor gets.
-use Rattle.std.proofs.Common.{◌≡◌, ◌<◌, ◌∙◌, ℕ, List, length, Option, Some, Ok, Err, refl, sym, ap, ap₂, IfSome, subst}
-use Rattle.std.proofs.lemmas.Option.{slice_get-get_or}
+use Rattle.std.proofs.Common.{◌≡◌, ℕ, List, Ok, Err, refl, sym, ap, IfSome, subst}
 use Rattle.sq_value.specs.declared.value.Value.{Value}
-use Rattle.sq_store.specs.Content.{Content, empty, table_at}
-use Rattle.sq_meaning.specs.Status.{Outcome, and_then, well_formed}
+use Rattle.sq_store.specs.Content.{Content}
 use Rattle.sq_meaning.specs.declared.status.Status.TheVariants as status
-use Rattle.sq_query.specs.Fault.{Meets, status_of}
+use Rattle.sq_query.specs.Fault.{status_of}
 use Rattle.sq_query.specs.declared.fault.Fault.{Fault}
 use Rattle.sq_query.specs.declared.fault.Fault.TheVariants as fault
 use Rattle.sq_session.specs.Kind.{Over}
-use Rattle.sq_session.specs.Open.{HasOpened, before_numbers, before_rows, walk_before, walk_opened, walk_started}
+use Rattle.sq_session.specs.Open.{HasOpened, before_numbers, before_rows, walk_before}
 use Rattle.sq_session.specs.State.{State, with_cursor}
 use Rattle.sq_session.specs.Step.{MayOpenOver, OpensAs, ending}
 use Rattle.sq_session.specs.Target.{ended}
@@ -34,30 +32,21 @@ pub over_no_numbers : (values : List Value) (tables : Content) (table : ℕ) (f 
 over_no_numbers values tables table (fault.Status f) = (Err (status_of f), (Err (status_of f), refl), refl)
 over_no_numbers values tables table fault.NoMemory = (Err status.NoData, (Err status.NoData, refl), tt)
 
-pub over_walk : (values : List Value) (tables : Content) (table : ℕ) (walk : WalkingCursor) → walk_started tables table values ≡ Ok walk
-    → HasOpened (Over.walk table) values tables (Ok (cursor.Walking walk))
-over_walk values tables table walk h = (walk_opened tables table values, refl, ap (λ o. and_then o (λ w. Ok (cursor.Walking w))) h)
+pub over_walk : (values : List Value) (tables : Content) (table : ℕ) (walk : WalkingCursor) → walk ≡ walk_before tables table values → HasOpened (Over.walk table) values tables (Ok (cursor.Walking walk))
+over_walk values tables table walk h = (Ok (cursor.Walking (walk_before tables table values)), refl, ap (λ w. Ok (cursor.Walking w)) (sym h))
 
-pub over_no_walk : (values : List Value) (tables : Content) (table : ℕ) (f : Fault) → Meets {A = WalkingCursor} (Err f) (walk_started tables table values) → HasOpened (Over.walk table) values tables (Err f)
-over_no_walk values tables table (fault.Status f) h = (walk_opened tables table values, refl, ap (λ o. and_then o (λ w. Ok (cursor.Walking w))) h)
-over_no_walk values tables table fault.NoMemory h = (walk_opened tables table values, refl, tt)
-
--- a base table that is there is walked
-pub walk_there : (tables : Content) (table : ℕ) (values kept : List Value) (mark : ℕ) → table < length tables → kept ≡ values → mark ≡ (table_at tables table).next
-    → walk_started tables table values ≡ Ok (walk_before table kept mark)
-walk_there tables table values kept mark lt same next =
-    ap (λ o. and_then (well_formed o) (λ t. Ok (walk_before table values t.next))) (slice_get-get_or tables table empty lt)
-    ∙ ap₂ (λ vs n. Ok (walk_before table vs n)) (sym same) (sym next)
+pub over_no_walk : (values : List Value) (tables : Content) (table : ℕ) → HasOpened (Over.walk table) values tables (Err fault.NoMemory)
+over_no_walk values tables table = (Ok (cursor.Walking (walk_before tables table values)), refl, tt)
 
 -- ---- what OPEN may do
 
 -- the cursor is opened
-pub opens : (at : Option Over) (over : Over) (n : ℕ) (values : List Value) (b a : State) (c : CursorState) (d : Done) → at ≡ Some over → HasOpened over values b.tables (Ok c)
+pub opens : (at over : Over) (n : ℕ) (values : List Value) (b a : State) (c : CursorState) (d : Done) → at ≡ over → HasOpened over values b.tables (Ok c)
     → d ≡ ended status.SuccessfulCompletion → a ≡ with_cursor b n c → MayOpenOver at n values b d a
 opens at over n values b a c d is h done put = rw is (h.0, h.1, subst (λ o. OpensAs o n b d a) (sym h.2) (done, put))
 
 -- it stays closed
-pub opens_not : (at : Option Over) (over : Over) (n : ℕ) (values : List Value) (b : State) (f : Fault) → at ≡ Some over → HasOpened over values b.tables (Err f)
+pub opens_not : (at over : Over) (n : ℕ) (values : List Value) (b : State) (f : Fault) → at ≡ over → HasOpened over values b.tables (Err f)
     → IfSome (ending (Err f)) (λ d. MayOpenOver at n values b d b)
 opens_not at over n values b (fault.Status f) is h = rw is (h.0, h.1, subst (λ o. OpensAs o n b (ended (status_of f)) b) (sym h.2) (refl, refl))
 opens_not at over n values b fault.NoMemory is h = tt

@@ -1,176 +1,190 @@
 -- Each cursor goes over what the declared one does.
-use Rattle.std.proofs.Common.{◌≡◌, ◌<◌, ℕ, zero, suc, Bool, true, false, ◌&&◌, nat_eq, nat_lt, List, [], ◌∷◌, length, get_or, map, replicate, slice_get, slice_index_or, slice_set, Option, Some, None, refl, ap, sym, subst, true≢false, arith}
-use Rattle.std.proofs.lemmas.Bool.{ltb-true}
+use Rattle.std.proofs.Common.{if◌then◌else◌, ◌≡◌, ◌<◌, ℕ, zero, suc, Bool, true, false, nat_eq, List, [], ◌∷◌, length, get_or, replicate, slice_index_or, slice_set, refl, ap, sym, subst, arith}
+use Rattle.std.proofs.lemmas.Bool.{eqb-true}
+use Rattle.sq_store.specs.Content.{Content}
+use Rattle.sq_bound.specs.Fits.{FitsBody, holds}
+use Rattle.sq_bound.specs.declared.names.BaseTable.{BaseTable}
+use Rattle.sq_bound.specs.declared.query.CursorBody.{CursorBody}
+use Rattle.sq_bound.specs.declared.query.CursorBody.TheVariants as body
+use Rattle.sq_module.specs.Program.{CursorsFit}
 use Rattle.sq_module.specs.declared.program.DeclaredCursor.{DeclaredCursor}
-use Rattle.sq_session.specs.Cursors.{GoOn, GoesOn, WalksOn, are_over, is_over, is_over_at, is_over_numbers, is_over_rows, is_over_table, is_updatable}
-use Rattle.sq_session.specs.Kind.{Over, over_at, over_of}
+use Rattle.sq_session.specs.Cursors.{GoOn, GoesOn, WalksOn, are_over, is_over, is_over_numbers, is_over_table, is_updatable}
+use Rattle.sq_session.specs.Kind.{Over, columns_at, columns_of, over_at, over_of}
 use Rattle.sq_session.specs.State.{all_closed, off_row}
 use Rattle.sq_session.specs.declared.cursor.CursorState.{CursorState}
 use Rattle.sq_session.specs.declared.cursor.CursorState.TheVariants as cursor
 use Rattle.sq_session.specs.declared.cursor.NumbersCursor.{NumbersCursor}
 use Rattle.sq_session.specs.declared.walk.WalkingCursor.{WalkingCursor}
-
--- ---- both of two tests
-
-none : {A : Type 0} → false ≡ true → A
-none h = absurd (true≢false (sym h))
-
-both : (a b : Bool) → (a && b) ≡ true → (a ≡ true) × (b ≡ true)
-both true true h = (refl, refl)
-both true false h = none h
-both false b h = none h
-
-pub joined : (a b : Bool) → a ≡ true → b ≡ true → (a && b) ≡ true
-joined a b h k = rw h k
+use Rattle.sq_session.proofs.Holding.{HasColumns, both, none, query_over, table_there}
 
 -- ---- one cursor
 
-pub walk_is : (n : ℕ) (o : Over) (w : WalkingCursor) → is_over n o (cursor.Walking w) ≡ true → w.table < n
-walk_is n o w h = ltb-true w.table n (both (is_over_table o w.table) (nat_lt w.table n) h).1
+-- a declared cursor that is open over numbers, or walked, is updatable
+pub numbers_updatable : (o : Over) (c : NumbersCursor) → is_over o (cursor.Numbers c) ≡ true → is_updatable o ≡ true
+numbers_updatable Over.rows c h = none h
+numbers_updatable (Over.numbers t) c h = refl
+numbers_updatable (Over.walk t) c h = refl
 
--- a declared cursor that is walked is updatable
-is_walked : (n : ℕ) (o : Over) (w : WalkingCursor) → is_over n o (cursor.Walking w) ≡ true → is_updatable (Some o) ≡ true
-is_walked n Over.rows w h = none (both false (nat_lt w.table n) h).0
-is_walked n (Over.numbers t) w h = none (both false (nat_lt w.table n) h).0
-is_walked n (Over.walk t) w h = refl
+pub walk_updatable : (o : Over) (w : WalkingCursor) → is_over o (cursor.Walking w) ≡ true → is_updatable o ≡ true
+walk_updatable Over.rows w h = none h
+walk_updatable (Over.numbers t) w h = none h
+walk_updatable (Over.walk t) w h = refl
 
-pub walk_updatable : (n : ℕ) (o : Option Over) (w : WalkingCursor) → is_over_at n o (cursor.Walking w) ≡ true → is_updatable o ≡ true
-walk_updatable n None w h = none h
-walk_updatable n (Some o) w h = is_walked n o w h
-
-pub walk_at : (n : ℕ) (o : Option Over) (w : WalkingCursor) → is_over_at n o (cursor.Walking w) ≡ true → w.table < n
-walk_at n None w h = none h
-walk_at n (Some o) w h = walk_is n o w h
-
-pub numbers_updatable : (n : ℕ) (o : Option Over) (c : NumbersCursor) → is_over_at n o (cursor.Numbers c) ≡ true → is_updatable o ≡ true
-numbers_updatable n None c h = none h
-numbers_updatable n (Some Over.rows) c h = none h
-numbers_updatable n (Some (Over.numbers t)) c h = refl
-numbers_updatable n (Some (Over.walk t)) c h = refl
+-- what is walked may be gone over by numbers
+as_numbers : (o : Over) (table : ℕ) → is_over_table o table ≡ true → is_over_numbers o table ≡ true
+as_numbers Over.rows table h = none h
+as_numbers (Over.numbers t) table h = none h
+as_numbers (Over.walk t) table h = h
 
 -- ---- all cursors
 
-none_over : (n : ℕ) (d : DeclaredCursor) (ds : List DeclaredCursor) {A : Type 0} → are_over n (d ∷ ds) [] ≡ true → A
-none_over n d ds h = none h
+none_over : (d : DeclaredCursor) (ds : List DeclaredCursor) {A : Type 0} → are_over (d ∷ ds) [] ≡ true → A
+none_over d ds h = none h
 
-some_over : (n : ℕ) (c : CursorState) (cs : List CursorState) {A : Type 0} → are_over n [] (c ∷ cs) ≡ true → A
-some_over n c cs h = none h
+some_over : (c : CursorState) (cs : List CursorState) {A : Type 0} → are_over [] (c ∷ cs) ≡ true → A
+some_over c cs h = none h
 
-first_over : (n : ℕ) (d : DeclaredCursor) (ds : List DeclaredCursor) (c : CursorState) (cs : List CursorState) → are_over n (d ∷ ds) (c ∷ cs) ≡ true
-    → (is_over n (over_of d.cursor.body) c ≡ true) × (are_over n ds cs ≡ true)
-first_over n d ds c cs h = both (is_over n (over_of d.cursor.body) c) (are_over n ds cs) h
+first_over : (d : DeclaredCursor) (ds : List DeclaredCursor) (c : CursorState) (cs : List CursorState) → are_over (d ∷ ds) (c ∷ cs) ≡ true
+    → (is_over (over_of d.cursor.body) c ≡ true) × (are_over ds cs ≡ true)
+first_over d ds c cs h = both (is_over (over_of d.cursor.body) c) (are_over ds cs) h
 
-next_over : (n : ℕ) (d : DeclaredCursor) (ds : List DeclaredCursor) (c : CursorState) (cs : List CursorState) → is_over n (over_of d.cursor.body) c ≡ true → are_over n ds cs ≡ true
-    → are_over n (d ∷ ds) (c ∷ cs) ≡ true
-next_over n d ds c cs h k = joined (is_over n (over_of d.cursor.body) c) (are_over n ds cs) h k
+next_over : (d : DeclaredCursor) (ds : List DeclaredCursor) (c : CursorState) (cs : List CursorState) → is_over (over_of d.cursor.body) c ≡ true → are_over ds cs ≡ true
+    → are_over (d ∷ ds) (c ∷ cs) ≡ true
+next_over d ds c cs h k = rw h k
 
-pub as_many : (n : ℕ) (ds : List DeclaredCursor) (cs : List CursorState) → are_over n ds cs ≡ true → length ds ≡ length cs
-as_many n [] [] h = refl
-as_many n [] (c ∷ cs) h = some_over n c cs h
-as_many n (d ∷ ds) [] h = none_over n d ds h
-as_many n (d ∷ ds) (c ∷ cs) h = ap suc (as_many n ds cs (first_over n d ds c cs h).1)
+pub as_many : (ds : List DeclaredCursor) (cs : List CursorState) → are_over ds cs ≡ true → length ds ≡ length cs
+as_many [] [] h = refl
+as_many [] (c ∷ cs) h = some_over c cs h
+as_many (d ∷ ds) [] h = none_over d ds h
+as_many (d ∷ ds) (c ∷ cs) h = ap suc (as_many ds cs (first_over d ds c cs h).1)
 
-pub over_there : (n : ℕ) (ds : List DeclaredCursor) (cs : List CursorState) (i : ℕ) (c : CursorState) → are_over n ds cs ≡ true → i < length cs → is_over_at n (over_at ds i) (get_or cs i c) ≡ true
-over_there n [] [] i c h lt = absurd (omega (arith, lt))
-over_there n [] (x ∷ xs) i c h lt = some_over n x xs h
-over_there n (d ∷ ds) [] i c h lt = none_over n d ds h
-over_there n (d ∷ ds) (x ∷ xs) zero c h lt = (first_over n d ds x xs h).0
-over_there n (d ∷ ds) (x ∷ xs) (suc i) c h lt = over_there n ds xs i c (first_over n d ds x xs h).1 (omega (arith, lt))
+pub over_there : (ds : List DeclaredCursor) (cs : List CursorState) (i : ℕ) (c : CursorState) → are_over ds cs ≡ true → i < length cs → is_over (over_at ds i) (get_or cs i c) ≡ true
+over_there [] [] i c h lt = absurd (omega (arith, lt))
+over_there [] (x ∷ xs) i c h lt = some_over x xs h
+over_there (d ∷ ds) [] i c h lt = none_over d ds h
+over_there (d ∷ ds) (x ∷ xs) zero c h lt = (first_over d ds x xs h).0
+over_there (d ∷ ds) (x ∷ xs) (suc i) c h lt = over_there ds xs i c (first_over d ds x xs h).1 (omega (arith, lt))
 
-pub over_here : (n : ℕ) (ds : List DeclaredCursor) (cs : List CursorState) (i : ℕ) (d : DeclaredCursor) (c : CursorState) → are_over n ds cs ≡ true → i < length cs
-    → is_over n (over_of (get_or ds i d).cursor.body) (get_or cs i c) ≡ true
-over_here n [] [] i d c h lt = absurd (omega (arith, lt))
-over_here n [] (x ∷ xs) i d c h lt = some_over n x xs h
-over_here n (y ∷ ds) [] i d c h lt = none_over n y ds h
-over_here n (y ∷ ds) (x ∷ xs) zero d c h lt = (first_over n y ds x xs h).0
-over_here n (y ∷ ds) (x ∷ xs) (suc i) d c h lt = over_here n ds xs i d c (first_over n y ds x xs h).1 (omega (arith, lt))
+pub over_here : (ds : List DeclaredCursor) (cs : List CursorState) (i : ℕ) (d : DeclaredCursor) (c : CursorState) → are_over ds cs ≡ true → i < length cs
+    → is_over (over_of (get_or ds i d).cursor.body) (get_or cs i c) ≡ true
+over_here [] [] i d c h lt = absurd (omega (arith, lt))
+over_here [] (x ∷ xs) i d c h lt = some_over x xs h
+over_here (y ∷ ds) [] i d c h lt = none_over y ds h
+over_here (y ∷ ds) (x ∷ xs) zero d c h lt = (first_over y ds x xs h).0
+over_here (y ∷ ds) (x ∷ xs) (suc i) d c h lt = over_here ds xs i d c (first_over y ds x xs h).1 (omega (arith, lt))
 
 -- ---- a cursor that is put in the stead of another
 
 -- over what the other was
-pub put_like : (n : ℕ) (ds : List DeclaredCursor) (cs : List CursorState) (i : ℕ) (c e : CursorState) → are_over n ds cs ≡ true → slice_get cs i ≡ Some c
-    → ((o : Over) → is_over n o c ≡ true → is_over n o e ≡ true) → are_over n ds (slice_set cs i e) ≡ true
-put_like n [] [] i c e h at like = h
-put_like n [] (x ∷ xs) i c e h at like = some_over n x xs h
-put_like n (d ∷ ds) [] i c e h at like = h
-put_like n (d ∷ ds) (x ∷ xs) zero c e h at like =
-    let first : Some x ≡ Some c = at in
-    let same : x ≡ c = cc in
-    let k = first_over n d ds x xs h in
-    next_over n d ds e xs (like (over_of d.cursor.body) (rw same at k.0)) k.1
-put_like n (d ∷ ds) (x ∷ xs) (suc i) c e h at like =
-    let k = first_over n d ds x xs h in
-    next_over n d ds x (slice_set xs i e) k.0 (put_like n ds xs i c e k.1 at like)
+pub put_like : (ds : List DeclaredCursor) (cs : List CursorState) (i : ℕ) (c e : CursorState) → are_over ds cs ≡ true → slice_index_or cs i cursor.Closed ≡ c
+    → ((o : Over) → is_over o c ≡ true → is_over o e ≡ true) → are_over ds (slice_set cs i e) ≡ true
+put_like [] [] i c e h at like = h
+put_like [] (x ∷ xs) i c e h at like = some_over x xs h
+put_like (d ∷ ds) [] i c e h at like = h
+put_like (d ∷ ds) (x ∷ xs) zero c e h at like =
+    let k = first_over d ds x xs h in
+    next_over d ds e xs (like (over_of d.cursor.body) (subst (λ (y : CursorState). is_over (over_of d.cursor.body) y ≡ true) at k.0)) k.1
+put_like (d ∷ ds) (x ∷ xs) (suc i) c e h at like =
+    let k = first_over d ds x xs h in
+    next_over d ds x (slice_set xs i e) k.0 (put_like ds xs i c e k.1 at like)
 
 -- over what is declared
-pub put_over : (n : ℕ) (ds : List DeclaredCursor) (cs : List CursorState) (i : ℕ) (o : Over) (e : CursorState) → are_over n ds cs ≡ true → over_at ds i ≡ Some o
-    → is_over n o e ≡ true → are_over n ds (slice_set cs i e) ≡ true
-put_over n [] [] i o e h at is = h
-put_over n [] (x ∷ xs) i o e h at is = some_over n x xs h
-put_over n (d ∷ ds) [] i o e h at is = h
-put_over n (d ∷ ds) (x ∷ xs) zero o e h at is =
-    let first : Some (over_of d.cursor.body) ≡ Some o = at in
-    let same : over_of d.cursor.body ≡ o = cc in
-    next_over n d ds e xs (rw same is) (first_over n d ds x xs h).1
-put_over n (d ∷ ds) (x ∷ xs) (suc i) o e h at is =
-    let k = first_over n d ds x xs h in
-    next_over n d ds x (slice_set xs i e) k.0 (put_over n ds xs i o e k.1 at is)
+pub put_over : (ds : List DeclaredCursor) (cs : List CursorState) (i : ℕ) (e : CursorState) → are_over ds cs ≡ true → is_over (over_at ds i) e ≡ true → are_over ds (slice_set cs i e) ≡ true
+put_over [] [] i e h is = h
+put_over [] (x ∷ xs) i e h is = some_over x xs h
+put_over (d ∷ ds) [] i e h is = h
+put_over (d ∷ ds) (x ∷ xs) zero e h is = next_over d ds e xs is (first_over d ds x xs h).1
+put_over (d ∷ ds) (x ∷ xs) (suc i) e h is =
+    let k = first_over d ds x xs h in
+    next_over d ds x (slice_set xs i e) k.0 (put_over ds xs i e k.1 is)
 
-pub put_closed : (n : ℕ) (ds : List DeclaredCursor) (cs : List CursorState) (i : ℕ) → are_over n ds cs ≡ true → are_over n ds (slice_set cs i cursor.Closed) ≡ true
-put_closed n [] [] i h = h
-put_closed n [] (x ∷ xs) i h = some_over n x xs h
-put_closed n (d ∷ ds) [] i h = h
-put_closed n (d ∷ ds) (x ∷ xs) zero h = next_over n d ds cursor.Closed xs refl (first_over n d ds x xs h).1
-put_closed n (d ∷ ds) (x ∷ xs) (suc i) h =
-    let k = first_over n d ds x xs h in
-    next_over n d ds x (slice_set xs i cursor.Closed) k.0 (put_closed n ds xs i k.1)
+pub put_closed : (ds : List DeclaredCursor) (cs : List CursorState) (i : ℕ) → are_over ds cs ≡ true → are_over ds (slice_set cs i cursor.Closed) ≡ true
+put_closed [] [] i h = h
+put_closed [] (x ∷ xs) i h = some_over x xs h
+put_closed (d ∷ ds) [] i h = h
+put_closed (d ∷ ds) (x ∷ xs) zero h = next_over d ds cursor.Closed xs refl (first_over d ds x xs h).1
+put_closed (d ∷ ds) (x ∷ xs) (suc i) h =
+    let k = first_over d ds x xs h in
+    next_over d ds x (slice_set xs i cursor.Closed) k.0 (put_closed ds xs i k.1)
 
-off_over : (n : ℕ) (o : Over) (c : CursorState) → is_over n o c ≡ true → is_over n o (off_row c) ≡ true
-off_over n o cursor.Closed h = h
-off_over n o (cursor.Rows c) h = h
-off_over n o (cursor.Numbers c) h = h
-off_over n o (cursor.Walking c) h = h
+off_over : (o : Over) (c : CursorState) → is_over o c ≡ true → is_over o (off_row c) ≡ true
+off_over o cursor.Closed h = h
+off_over o (cursor.Rows c) h = h
+off_over o (cursor.Numbers c) h = h
+off_over o (cursor.Walking c) h = h
 
-pub put_off : (n : ℕ) (ds : List DeclaredCursor) (cs : List CursorState) (i : ℕ) → are_over n ds cs ≡ true → are_over n ds (slice_set cs i (off_row (slice_index_or cs i cursor.Closed))) ≡ true
-put_off n [] [] i h = h
-put_off n [] (x ∷ xs) i h = some_over n x xs h
-put_off n (d ∷ ds) [] i h = h
-put_off n (d ∷ ds) (x ∷ xs) zero h = let k = first_over n d ds x xs h in next_over n d ds (off_row x) xs (off_over n (over_of d.cursor.body) x k.0) k.1
-put_off n (d ∷ ds) (x ∷ xs) (suc i) h =
-    let k = first_over n d ds x xs h in
-    next_over n d ds x (slice_set xs i (off_row (slice_index_or xs i cursor.Closed))) k.0 (put_off n ds xs i k.1)
+pub put_off : (ds : List DeclaredCursor) (cs : List CursorState) (i : ℕ) → are_over ds cs ≡ true → are_over ds (slice_set cs i (off_row (slice_index_or cs i cursor.Closed))) ≡ true
+put_off [] [] i h = h
+put_off [] (x ∷ xs) i h = some_over x xs h
+put_off (d ∷ ds) [] i h = h
+put_off (d ∷ ds) (x ∷ xs) zero h = let k = first_over d ds x xs h in next_over d ds (off_row x) xs (off_over (over_of d.cursor.body) x k.0) k.1
+put_off (d ∷ ds) (x ∷ xs) (suc i) h =
+    let k = first_over d ds x xs h in
+    next_over d ds x (slice_set xs i (off_row (slice_index_or xs i cursor.Closed))) k.0 (put_off ds xs i k.1)
 
 -- ---- all of them
 
-pub closed_over : (m n : ℕ) (ds : List DeclaredCursor) (cs : List CursorState) → are_over m ds cs ≡ true → are_over n ds (all_closed cs) ≡ true
-closed_over m n [] [] h = refl
-closed_over m n [] (x ∷ xs) h = some_over m x xs h
-closed_over m n (d ∷ ds) [] h = none_over m d ds h
-closed_over m n (d ∷ ds) (x ∷ xs) h = next_over n d ds cursor.Closed (all_closed xs) refl (closed_over m n ds xs (first_over m d ds x xs h).1)
+pub closed_over : (ds : List DeclaredCursor) (cs : List CursorState) → are_over ds cs ≡ true → are_over ds (all_closed cs) ≡ true
+closed_over [] [] h = refl
+closed_over [] (x ∷ xs) h = some_over x xs h
+closed_over (d ∷ ds) [] h = none_over d ds h
+closed_over (d ∷ ds) (x ∷ xs) h = next_over d ds cursor.Closed (all_closed xs) refl (closed_over ds xs (first_over d ds x xs h).1)
 
-pub start_over : (n : ℕ) (ds : List DeclaredCursor) → are_over n ds (replicate (length ds) cursor.Closed) ≡ true
-start_over n [] = refl
-start_over n (d ∷ ds) = next_over n d ds cursor.Closed (replicate (length ds) cursor.Closed) refl (start_over n ds)
+pub start_over : (ds : List DeclaredCursor) → are_over ds (replicate (length ds) cursor.Closed) ≡ true
+start_over [] = refl
+start_over (d ∷ ds) = next_over d ds cursor.Closed (replicate (length ds) cursor.Closed) refl (start_over ds)
 
-walks_on_over : (n : ℕ) (o : Over) (w : WalkingCursor) (a : CursorState) → WalksOn w a → is_over n o (cursor.Walking w) ≡ true → is_over n o a ≡ true
-walks_on_over n o w cursor.Closed g h = absurd g
-walks_on_over n o w (cursor.Rows c) g h = absurd g
-walks_on_over n Over.rows w (cursor.Numbers c) g h = none (both false (nat_lt w.table n) h).0
-walks_on_over n (Over.numbers t) w (cursor.Numbers c) g h = none (both false (nat_lt w.table n) h).0
-walks_on_over n (Over.walk t) w (cursor.Numbers c) g h = subst (λ (x : ℕ). nat_eq t x ≡ true) (sym g.0) (both (nat_eq t w.table) (nat_lt w.table n) h).0
-walks_on_over n o w (cursor.Walking c) g h = rw g h
+walks_on_over : (o : Over) (w : WalkingCursor) (a : CursorState) → WalksOn w a → is_over o (cursor.Walking w) ≡ true → is_over o a ≡ true
+walks_on_over o w cursor.Closed g h = absurd g
+walks_on_over o w (cursor.Rows c) g h = absurd g
+walks_on_over Over.rows w (cursor.Numbers c) g h = none h
+walks_on_over (Over.numbers t) w (cursor.Numbers c) g h = none h
+walks_on_over (Over.walk t) w (cursor.Numbers c) g h = subst (λ (x : ℕ). nat_eq t x ≡ true) (sym g.0) h
+walks_on_over o w (cursor.Walking c) g h = rw g h
 
-goes_on_over : (n : ℕ) (o : Over) (b a : CursorState) → GoesOn b a → is_over n o b ≡ true → is_over n o a ≡ true
-goes_on_over n o cursor.Closed a g h = rw g h
-goes_on_over n o (cursor.Rows c) a g h = rw g h
-goes_on_over n o (cursor.Numbers c) a g h = rw g h
-goes_on_over n o (cursor.Walking c) a g h = walks_on_over n o c a g h
+goes_on_over : (o : Over) (b a : CursorState) → GoesOn b a → is_over o b ≡ true → is_over o a ≡ true
+goes_on_over o cursor.Closed a g h = rw g h
+goes_on_over o (cursor.Rows c) a g h = rw g h
+goes_on_over o (cursor.Numbers c) a g h = rw g h
+goes_on_over o (cursor.Walking c) a g h = walks_on_over o c a g h
 
-pub go_on_over : (n : ℕ) (ds : List DeclaredCursor) (xs ys : List CursorState) → GoOn xs ys → are_over n ds xs ≡ true → are_over n ds ys ≡ true
-go_on_over n ds [] [] g h = h
-go_on_over n ds [] (y ∷ ys) g h = absurd g
-go_on_over n ds (x ∷ xs) [] g h = absurd g
-go_on_over n [] (x ∷ xs) (y ∷ ys) g h = some_over n x xs h
-go_on_over n (d ∷ ds) (x ∷ xs) (y ∷ ys) g h =
-    let k = first_over n d ds x xs h in
-    next_over n d ds y ys (goes_on_over n (over_of d.cursor.body) x y g.0 k.0) (go_on_over n ds xs ys g.1 k.1)
+pub go_on_over : (ds : List DeclaredCursor) (xs ys : List CursorState) → GoOn xs ys → are_over ds xs ≡ true → are_over ds ys ≡ true
+go_on_over ds [] [] g h = h
+go_on_over ds [] (y ∷ ys) g h = absurd g
+go_on_over ds (x ∷ xs) [] g h = absurd g
+go_on_over [] (x ∷ xs) (y ∷ ys) g h = some_over x xs h
+go_on_over (d ∷ ds) (x ∷ xs) (y ∷ ys) g h =
+    let k = first_over d ds x xs h in
+    next_over d ds y ys (goes_on_over (over_of d.cursor.body) x y g.0 k.0) (go_on_over ds xs ys g.1 k.1)
+
+-- ---- the base table under an open cursor
+
+over_quiet : (quiet : Bool) (base table : ℕ) → is_over_numbers (if quiet then Over.walk base else Over.numbers base) table ≡ true → base ≡ table
+over_quiet true base table h = eqb-true base table h
+over_quiet false base table h = eqb-true base table h
+
+body_over : (bases : List BaseTable) (b : CursorBody) (table : ℕ) → FitsBody bases b → is_over_numbers (over_of b) table ≡ true → HasColumns bases table (columns_of b)
+body_over bases (body.Rows q order) table fits h = none h
+body_over bases (body.Updatable q) table fits h =
+    subst (λ (p : ℕ). HasColumns bases p q.columns) (over_quiet q.target.is_quiet q.target.base table h) (query_over bases q fits)
+
+-- it has the columns that the cursor shows
+table_over : (bases : List BaseTable) (ds : List DeclaredCursor) (i table : ℕ) → CursorsFit bases ds → is_over_numbers (over_at ds i) table ≡ true → HasColumns bases table (columns_at ds i)
+table_over bases [] i table fit h = none h
+table_over bases (d ∷ ds) zero table fit h = body_over bases d.cursor.body table fit.0 h
+table_over bases (d ∷ ds) (suc i) table fit h = table_over bases ds i table fit.1 h
+
+pub numbers_over : (bases : List BaseTable) (ds : List DeclaredCursor) (i : ℕ) (c : NumbersCursor) → CursorsFit bases ds → is_over (over_at ds i) (cursor.Numbers c) ≡ true → HasColumns bases c.table (columns_at ds i)
+numbers_over bases ds i c fit h = table_over bases ds i c.table fit h
+
+pub walk_over : (bases : List BaseTable) (ds : List DeclaredCursor) (i : ℕ) (w : WalkingCursor) → CursorsFit bases ds → is_over (over_at ds i) (cursor.Walking w) ≡ true → HasColumns bases w.table (columns_at ds i)
+walk_over bases ds i w fit h = table_over bases ds i w.table fit (as_numbers (over_at ds i) w.table h)
+
+-- it is in a store that has rows for the base tables
+pub numbers_there : (bases : List BaseTable) (tables : Content) (ds : List DeclaredCursor) (i : ℕ) (c : NumbersCursor) → holds bases tables ≡ true → CursorsFit bases ds
+    → is_over (over_at ds i) (cursor.Numbers c) ≡ true → c.table < length tables
+numbers_there bases tables ds i c held fit h = let t = numbers_over bases ds i c fit h in table_there bases tables c.table t.0 held t.1
+
+pub walk_there : (bases : List BaseTable) (tables : Content) (ds : List DeclaredCursor) (i : ℕ) (w : WalkingCursor) → holds bases tables ≡ true → CursorsFit bases ds
+    → is_over (over_at ds i) (cursor.Walking w) ≡ true → w.table < length tables
+walk_there bases tables ds i w held fit h = let t = walk_over bases ds i w fit h in table_there bases tables w.table t.0 held t.1

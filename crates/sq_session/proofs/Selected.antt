@@ -1,7 +1,7 @@
 -- A select statement of one row, from the rows of its query.
-use Rattle.std.proofs.Common.{◌≡◌, List, Result, Ok, Err, refl, sym, ap, ◌∙◌, IfSome}
+use Rattle.std.proofs.Common.{List, Result, Ok, Err, refl, sym, ap, IfSome}
 use Rattle.sq_value.specs.declared.value.Value.{Value}
-use Rattle.sq_meaning.specs.Status.{Outcome, and_then}
+use Rattle.sq_meaning.specs.Status.{and_then}
 use Rattle.sq_model.specs.Machine.{single_row}
 use Rattle.sq_query.specs.Fault.{Meets, status_of}
 use Rattle.sq_query.specs.declared.fault.Fault.{Fault}

@@ -1,53 +1,31 @@
--- The columns of a row, one after the other.
-use Rattle.std.proofs.Common.{◌≡◌, ◌++◌, ◌+◌, ◌<◌, ◌≤◌, ℕ, zero, suc, List, [], ◌∷◌, length, drop, get_or, slice_get, Option, Some, None, Ok, Err, refl, ap, sym, ◌∙◌, append_assoc, arith}
-use Rattle.std.proofs.lemmas.List.{drop_more}
+-- The columns of a row that an updatable query shows.
+use Rattle.std.proofs.Common.{◌≡◌, ◌<◌, ℕ, zero, suc, true, List, [], ◌∷◌, length, get_or, nat_lt, Some, None, Option, refl, subst, sym, arith}
+use Rattle.std.proofs.lemmas.Bool.{ltb-true}
+use Rattle.std.specs.Option.{option_map}
 use Rattle.sq_value.specs.declared.value.Value.{Value}
-use Rattle.sq_meaning.specs.Status.{Outcome, and_then, not_well_formed, well_formed}
-use Rattle.sq_session.specs.Fetch.{shown}
+use Rattle.sq_store.specs.Content.{Content, row_at, table_at}
+use Rattle.sq_store.specs.declared.table.Numbered.{Numbered}
+use Rattle.sq_bound.specs.Fits.{holds}
+use Rattle.sq_bound.specs.Names.{are_positions}
+use Rattle.sq_bound.specs.declared.names.BaseTable.{BaseTable}
+use Rattle.sq_session.specs.Fetch.{row_on}
+use Rattle.sq_session.proofs.Holding.{HasColumns, both, row_wide}
 
-abbrev behind : List Value → Outcome (List Value) → Outcome (List Value)
-behind vs others = and_then others (λ ws. Ok (vs ++ ws))
+-- each of them is there
+pub column_there : (n : ℕ) (columns : List ℕ) (i d : ℕ) → are_positions n columns ≡ true → i < length columns → get_or columns i d < n
+column_there n [] i d h lt = absurd (omega (arith, lt))
+column_there n (c ∷ columns) zero d h lt = ltb-true c n (both (nat_lt c n) (are_positions n columns) h).0
+column_there n (c ∷ columns) (suc i) d h lt = column_there n columns i d (both (nat_lt c n) (are_positions n columns) h).1 (omega (arith, lt))
 
--- the columns from one on, behind those that are shown
-abbrev pub IsShown : List ℕ → List Value → ℕ → List Value → Type 0
-IsShown cs row i vs = shown cs row ≡ behind vs (shown (drop i cs) row)
-
-append_nil : (xs : List Value) → xs ++ [] ≡ xs
-append_nil [] = refl
-append_nil (x ∷ xs) = ap (λ ys. x ∷ ys) (append_nil xs)
-
-pub shown_first : (cs : List ℕ) (row : List Value) → IsShown cs row 0 []
-shown_first cs row = same (shown cs row)
+-- a row of the base table has them
+pub columns_there : (bases : List BaseTable) (tables : Content) (p n : ℕ) (columns : List ℕ) (row : List Value) → holds bases tables ≡ true → HasColumns bases p columns
+    → row_on (table_at tables p) (Some n) ≡ Some row → are_positions (length row) columns ≡ true
+columns_there bases tables p n columns row held has found = by (row_at (table_at tables p) n) refl found
   where
-    same : (o : Outcome (List Value)) → o ≡ behind [] o
-    same (Ok vs) = refl
-    same (Err s) = refl
-
-behind_one : (vs : List Value) (v : Value) (o : Outcome (List Value)) → behind vs (and_then o (λ ws. Ok (v ∷ ws))) ≡ behind (vs ++ v ∷ []) o
-behind_one vs v (Ok ws) = ap Ok (sym (append_assoc vs (v ∷ []) ws))
-behind_one vs v (Err s) = refl
-
-more : (cs : List ℕ) (row : List Value) (i d : ℕ) → i < length cs
-    → shown (drop i cs) row ≡ and_then (well_formed (slice_get row (get_or cs i d))) (λ v. and_then (shown (drop (i + 1) cs) row) (λ ws. Ok (v ∷ ws)))
-more cs row i d lt = ap (λ l. shown l row) (drop_more cs i d lt)
-
-pub shown_next : (cs : List ℕ) (row : List Value) (i d : ℕ) (v : Value) (vs : List Value) → i < length cs → slice_get row (get_or cs i d) ≡ Some v
-    → IsShown cs row i vs → IsShown cs row (i + 1) (vs ++ v ∷ [])
-shown_next cs row i d v vs lt h so =
-    let others = shown (drop (i + 1) cs) row in
-    so ∙ ap (behind vs) (more cs row i d lt ∙ ap (λ o. and_then (well_formed o) (λ w. and_then others (λ ws. Ok (w ∷ ws)))) h) ∙ behind_one vs v others
-
-pub shown_none : (cs : List ℕ) (row : List Value) (i d : ℕ) (vs : List Value) → i < length cs → slice_get row (get_or cs i d) ≡ None
-    → IsShown cs row i vs → shown cs row ≡ not_well_formed
-shown_none cs row i d vs lt h so =
-    let others = shown (drop (i + 1) cs) row in
-    so ∙ ap (behind vs) (more cs row i d lt ∙ ap (λ o. and_then (well_formed o) (λ w. and_then others (λ ws. Ok (w ∷ ws)))) h)
-
-past : (cs : List ℕ) (i : ℕ) → length cs ≤ i → drop i cs ≡ []
-past [] zero h = refl
-past [] (suc i) h = refl
-past (c ∷ cs) zero h = absurd (omega (arith, h))
-past (c ∷ cs) (suc i) h = past cs i (omega (arith, h))
-
-pub shown_all : (cs : List ℕ) (row : List Value) (i : ℕ) (vs : List Value) → length cs ≤ i → IsShown cs row i vs → shown cs row ≡ Ok vs
-shown_all cs row i vs le so = so ∙ ap (λ l. behind vs (shown l row)) (past cs i le) ∙ ap Ok (append_nil vs)
+    by : (o : Option Numbered) → row_at (table_at tables p) n ≡ o → option_map (λ r. r.row) o ≡ Some row → are_positions (length row) columns ≡ true
+    by None e k = cc
+    by (Some r) e k =
+        let same : r.row ≡ row = cc in
+        let wide : length r.row ≡ length has.0.columns = row_wide bases tables p n has.0 r held has.1 e in
+        let long : length has.0.columns ≡ length row = sym (subst (λ (x : List Value). length x ≡ length has.0.columns) same wide) in
+        subst (λ (w : ℕ). are_positions w columns ≡ true) long has.2

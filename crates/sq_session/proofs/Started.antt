@@ -1,6 +1,5 @@
 -- The value at which a parameter starts.
-use Rattle.std.proofs.Common.{rules, ◌≡◌, ◌≤◌, drop, slice_get, Option, Some, None, add-one, append_assoc, ◌++◌, ◌+◌, ◌<◌, ℕ, zero, suc, List, [], ◌∷◌, get_or, length, map, take, Result, Ok, Err, refl, sym, ap, ◌∙◌, subst, arith}
-use Rattle.std.specs.List.{zip}
+use Rattle.std.proofs.Common.{rules, ◌≡◌, ◌≤◌, drop, slice_get, Some, None, add-one, append_assoc, ◌++◌, ◌+◌, ◌<◌, ℕ, zero, suc, List, [], ◌∷◌, get_or, length, Result, Ok, Err, refl, sym, ap, ◌∙◌, subst, arith}
 use Rattle.std.proofs.lemmas.List.{drop_more}
 use Rattle.sq_bound.specs.declared.names.ParameterDesc.{ParameterDesc}
 use Rattle.sq_session.specs.Parameter.{started_values}
@@ -9,7 +8,7 @@ use Rattle.sq_value.specs.Storing.{IsStored, stored}
 use Rattle.sq_value.specs.declared.domain.Domain.{Domain}
 use Rattle.sq_value.specs.declared.domain.Domain.TheVariants.{Small, Int, Numeric, Char, VarChar}
 use Rattle.sq_value.specs.declared.fault.StoreFault.{StoreFault}
-use Rattle.sq_value.specs.declared.fault.StoreFault.TheVariants.{Range, TooLong, NoMemory}
+use Rattle.sq_value.specs.declared.fault.StoreFault.TheVariants.{Range, TooLong}
 use Rattle.sq_value.specs.declared.value.Value.{Value}
 use Rattle.sq_value.specs.declared.value.Value.TheVariants.{Null, Num, Chars}
 use Rattle.sq_meaning.specs.Assignment.{IsStoreOutcome, assigned}

@@ -1,6 +1,7 @@
 -- The cursors of a session: one for each that a module declares, closed or over what that one goes over (ISO/IEC 9075:1992,
 -- 4.21).
-use Rattle.std.specs.Prelude.{◌≡◌, ⊤, ℕ, Bool, true, false, ◌&&◌, nat_eq, nat_lt, List, [], ◌∷◌, length, Option, None, Some}
+use Rattle.std.specs.Prelude.{◌≡◌, ⊤, ℕ, Bool, true, false, ◌&&◌, nat_eq, List, [], ◌∷◌}
+use Rattle.sq_bound.specs.Fits.{holds, keys_of_bases}
 use Rattle.sq_bound.specs.declared.names.BaseTable.{BaseTable}
 use Rattle.sq_module.specs.declared.program.DeclaredCursor.{DeclaredCursor}
 use Rattle.sq_session.specs.Kind.{Over, over_of}
@@ -27,42 +28,33 @@ is_over_table Over.rows table = false
 is_over_table (Over.numbers base) table = false
 is_over_table (Over.walk base) table = nat_eq base table
 
--- a walk is over one of so many tables
-abbrev pub is_over : ℕ → Over → CursorState → Bool
-is_over tables over cursor.Closed = true
-is_over tables over (cursor.Rows c) = is_over_rows over
-is_over tables over (cursor.Numbers c) = is_over_numbers over c.table
-is_over tables over (cursor.Walking c) = is_over_table over c.table && nat_lt c.table tables
+abbrev pub is_over : Over → CursorState → Bool
+is_over over cursor.Closed = true
+is_over over (cursor.Rows c) = is_over_rows over
+is_over over (cursor.Numbers c) = is_over_numbers over c.table
+is_over over (cursor.Walking c) = is_over_table over c.table
+
+-- whether it is updatable
+abbrev pub is_updatable : Over → Bool
+is_updatable Over.rows = false
+is_updatable (Over.numbers table) = true
+is_updatable (Over.walk table) = true
 
 -- ---- all cursors
 
 -- there are as many as are declared, each over what the declared one goes over
-abbrev pub are_over : ℕ → List DeclaredCursor → List CursorState → Bool
-are_over tables [] [] = true
-are_over tables [] (c ∷ cs) = false
-are_over tables (d ∷ ds) [] = false
-are_over tables (d ∷ ds) (c ∷ cs) = is_over tables (over_of d.cursor.body) c && are_over tables ds cs
+abbrev pub are_over : List DeclaredCursor → List CursorState → Bool
+are_over [] [] = true
+are_over [] (c ∷ cs) = false
+are_over (d ∷ ds) [] = false
+are_over (d ∷ ds) (c ∷ cs) = is_over (over_of d.cursor.body) c && are_over ds cs
 
-abbrev pub has_cursors : List DeclaredCursor → State → Bool
-has_cursors declared s = are_over (length s.tables) declared s.cursors
+-- ---- a session
 
--- ---- a session: a table for each base table, as it is now and as it was committed, and its cursors
-
+-- the tables as they are now and as they were committed are those of the base tables, with their keys, and each cursor is over what is declared
 abbrev pub IsWhole : List BaseTable → List DeclaredCursor → State → Type 0
-IsWhole bases declared s = (length bases ≡ length s.tables) × (length bases ≡ length s.committed) × (has_cursors declared s ≡ true)
-
--- ---- one cursor
-
-abbrev pub is_over_at : ℕ → Option Over → CursorState → Bool
-is_over_at tables None c = false
-is_over_at tables (Some over) c = is_over tables over c
-
--- whether it is updatable
-abbrev pub is_updatable : Option Over → Bool
-is_updatable None = false
-is_updatable (Some Over.rows) = false
-is_updatable (Some (Over.numbers table)) = true
-is_updatable (Some (Over.walk table)) = true
+IsWhole bases declared s =
+    (holds bases s.tables ≡ true) × (holds bases s.committed ≡ true) × (s.keys ≡ keys_of_bases bases) × (are_over declared s.cursors ≡ true)
 
 -- ---- an UPDATE
 

@@ -2,6 +2,7 @@
 -- broken it ends with 42000, and the cursor stays where it is.
 use Rattle.std.specs.Prelude.{◌≡◌, ◌≤◌, ◌<◌, ◌+◌, ⊤, ℕ, ℤ, true, false, List, length, slice_get, Option, None, Some, Result, Ok, Err}
 use Rattle.std.specs.Option.{option_and_then, option_map}
+use Rattle.sq_value.specs.Key.{in_columns}
 use Rattle.sq_value.specs.declared.value.Value.{Value}
 use Rattle.sq_value.specs.declared.value.Value.TheVariants as value
 use Rattle.sq_store.specs.Content.{Content, row_at, table_at}
@@ -10,7 +11,7 @@ use Rattle.sq_bound.specs.declared.statement.Distance.{Distance}
 use Rattle.sq_bound.specs.declared.statement.Distance.TheVariants as distance
 use Rattle.sq_bound.specs.declared.statement.FetchOrientation.{FetchOrientation}
 use Rattle.sq_bound.specs.declared.statement.FetchOrientation.TheVariants as orientation
-use Rattle.sq_meaning.specs.Status.{Outcome, and_then, each, not_well_formed, well_formed}
+use Rattle.sq_meaning.specs.Status.{Outcome, and_then, not_well_formed, well_formed}
 use Rattle.sq_meaning.specs.declared.status.Status.TheVariants as status
 use Rattle.sq_model.specs.Cursor.{Move, bounded, wanted, row_at as row_of}
 use Rattle.sq_query.specs.Fault.{status_of}
@@ -62,13 +63,9 @@ abbrev pub row_fetched : Fetching → Option (List Value) → Outcome Done
 row_fetched f None = Ok (ended status.NoData)
 row_fetched f (Some row) = row_reply f.parameters f.targets row
 
--- the columns of a row of the base table that an updatable cursor's query shows
-abbrev pub shown : List ℕ → List Value → Outcome (List Value)
-shown columns row = each (λ c. well_formed (slice_get row c)) columns
-
-abbrev pub shown_fetched : Fetching → List ℕ → Option (List Value) → Outcome Done
-shown_fetched f columns None = Ok (ended status.NoData)
-shown_fetched f columns (Some row) = and_then (shown columns row) (row_reply f.parameters f.targets)
+-- an updatable cursor's query shows some columns of a row of the base table
+abbrev pub shown_fetched : Fetching → Option (List Value) → Outcome Done
+shown_fetched f row = row_fetched f (option_map (λ r. in_columns r f.columns) row)
 
 -- the row under the number that a cursor is on, as it is now
 abbrev pub row_on : Table → Option ℕ → Option (List Value)
@@ -84,11 +81,11 @@ abbrev pub come_to_row : Fetching → List Value → RowsCursor → Outcome (Row
 come_to_row f values c = and_then (place_reached values f.orientation (length c.rows) c.place) (row_come_to f c)
 
 -- one over numbers comes to the next under which there is a row now
-abbrev pub number_come_to : Fetching → List ℕ → Table → NumbersCursor → Outcome (NumbersCursor × Done)
-number_come_to f columns t c = and_then (shown_fetched f columns (row_on t c.on)) (λ d. Ok (c, d))
+abbrev pub number_come_to : Fetching → Table → NumbersCursor → Outcome (NumbersCursor × Done)
+number_come_to f t c = and_then (shown_fetched f (row_on t c.on)) (λ d. Ok (c, d))
 
 abbrev pub come_to_number : Fetching → Content → NumbersCursor → Outcome (NumbersCursor × Done)
-come_to_number f tables c = and_then (well_formed f.columns) (λ columns. and_then (well_formed (slice_get tables c.table)) (λ t. number_come_to f columns t (next_number t c)))
+come_to_number f tables c = number_come_to f (table_at tables c.table) (next_number (table_at tables c.table) c)
 
 -- one that walks goes on to a row that is there, from where it stood on and before its mark, or to its end
 abbrev pub WalksTo : Table → WalkingCursor → Option ℕ → ℕ → Type 0
@@ -98,7 +95,7 @@ WalksTo t c (Some n) next = (is_there t n ≡ true) × (c.next ≤ n) × (n < c.
 abbrev pub ComesOn : Fetching → Content → WalkingCursor → Done → WalkingCursor → Type 0
 ComesOn f tables c d e =
     (e ≡ record c { next = e.next; on = e.on }) × WalksTo (table_at tables c.table) c e.on e.next
-    × (and_then (well_formed f.columns) (λ columns. shown_fetched f columns (row_on (table_at tables c.table) e.on)) ≡ Ok d)
+    × (shown_fetched f (row_on (table_at tables c.table) e.on) ≡ Ok d)
 
 -- ---- of any cursor
 

@@ -1,7 +1,7 @@
 -- What a statement is to the tables, the cursors and the parameters: which cursor it works on, whether it may change rows,
 -- and which parameters it sets.
 use Rattle.std.specs.Prelude.{ℕ, Bool, true, false, if◌then◌else◌, List, [], slice_get, option_and_then, Option, None, Some, Result}
-use Rattle.std.specs.Option.{option_map, option_map_or}
+use Rattle.std.specs.Option.{option_map_or}
 use Rattle.std.specs.Result.{result_err, result_ok}
 use Rattle.sq_lex.specs.declared.name.Name.{Name}
 use Rattle.sq_value.specs.declared.value.Value.{Value}
@@ -26,12 +26,12 @@ use Rattle.sq_module.specs.declared.program.DeclaredCursor.{DeclaredCursor}
 -- ---- cursors (13.1)
 
 -- the columns of the base table that an updatable query shows
-abbrev pub columns_of : CursorBody → Option (List ℕ)
-columns_of (body.Rows query order) = None
-columns_of (body.Updatable u) = Some u.columns
+abbrev pub columns_of : CursorBody → List ℕ
+columns_of (body.Rows query order) = []
+columns_of (body.Updatable u) = u.columns
 
-abbrev pub columns_at : List DeclaredCursor → ℕ → Option (List ℕ)
-columns_at cursors number = option_and_then (λ c. columns_of c.cursor.body) (slice_get cursors number)
+abbrev pub columns_at : List DeclaredCursor → ℕ → List ℕ
+columns_at cursors number = option_map_or (λ c. columns_of c.cursor.body) (slice_get cursors number) []
 
 -- what an open cursor goes over: the rows of its query, numbers of rows of a base table, or, where no condition may answer
 -- a status, the base table itself
@@ -47,15 +47,15 @@ abbrev pub over_of : CursorBody → Over
 over_of (body.Rows query order) = Over.rows
 over_of (body.Updatable u) = over_target u.target
 
-abbrev pub over_at : List DeclaredCursor → ℕ → Option Over
-over_at cursors number = option_map (λ c. over_of c.cursor.body) (slice_get cursors number)
+abbrev pub over_at : List DeclaredCursor → ℕ → Over
+over_at cursors number = option_map_or (λ c. over_of c.cursor.body) (slice_get cursors number) Over.rows
 
 -- ---- statements with parameters
 
 -- OPEN (13.2)
 pub record Opening : Type 0 where
   pub cursor : ℕ
-  pub over : Option Over
+  pub over : Over
   pub parameters : List ParameterDesc
 
 abbrev pub opening : List DeclaredCursor → List ParameterDesc → ℕ → Opening
@@ -65,7 +65,7 @@ opening cursors parameters number = record { cursor = number; over = over_at cur
 pub record Fetching : Type 0 where
   pub cursor : ℕ
   pub orientation : FetchOrientation
-  pub columns : Option (List ℕ)
+  pub columns : List ℕ
   pub parameters : List ParameterDesc
   pub targets : List Output
 

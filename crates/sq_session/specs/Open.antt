@@ -1,8 +1,8 @@
 -- OPEN (ISO/IEC 9075:1992, 13.2): a cursor before its first row, by what it goes over.
-use Rattle.std.specs.Prelude.{◌≡◌, ℕ, List, slice_get, None, Result, Ok}
+use Rattle.std.specs.Prelude.{◌≡◌, ℕ, List, None, Result, Ok}
 use Rattle.sq_value.specs.declared.value.Value.{Value}
-use Rattle.sq_store.specs.Content.{Content}
-use Rattle.sq_meaning.specs.Status.{Outcome, and_then, well_formed}
+use Rattle.sq_store.specs.Content.{Content, table_at}
+use Rattle.sq_meaning.specs.Status.{Outcome, and_then}
 use Rattle.sq_query.specs.Fault.{Meets}
 use Rattle.sq_query.specs.declared.fault.Fault.{Fault}
 use Rattle.sq_session.specs.Kind.{Over}
@@ -19,8 +19,8 @@ abbrev pub before_numbers : ℕ → List ℕ → CursorState
 before_numbers table numbers = cursor.Numbers (record { table = table; numbers = numbers; passed = 0; on = None })
 
 -- a walk keeps the values of the parameters, and its mark is the number of the next new row
-abbrev pub walk_before : ℕ → List Value → ℕ → WalkingCursor
-walk_before table values mark = record { table = table; values = values; next = 0; mark = mark; on = None }
+abbrev pub walk_before : Content → ℕ → List Value → WalkingCursor
+walk_before tables table values = record { table = table; values = values; next = 0; mark = (table_at tables table).next; on = None }
 
 -- ---- what is opened
 
@@ -32,18 +32,11 @@ rows_opened found = and_then found (λ rows. Ok (before_rows rows))
 abbrev pub numbers_opened : ℕ → Outcome (List ℕ) → Outcome CursorState
 numbers_opened table found = and_then found (λ numbers. Ok (before_numbers table numbers))
 
--- a walk of a base table that is there
-abbrev pub walk_started : Content → ℕ → List Value → Outcome WalkingCursor
-walk_started tables table values = and_then (well_formed (slice_get tables table)) (λ t. Ok (walk_before table values t.next))
-
-abbrev pub walk_opened : Content → ℕ → List Value → Outcome CursorState
-walk_opened tables table values = and_then (walk_started tables table values) (λ walk. Ok (cursor.Walking walk))
-
 -- A cursor that goes over this is opened so. Which rows its query has, or which numbers are chosen, is not said here.
 abbrev pub IsOpenOver : Over → List Value → Content → Outcome CursorState → Type 0
 IsOpenOver Over.rows values tables opened = (found : Outcome (List (List Value))) × (opened ≡ rows_opened found)
 IsOpenOver (Over.numbers table) values tables opened = (found : Outcome (List ℕ)) × (opened ≡ numbers_opened table found)
-IsOpenOver (Over.walk table) values tables opened = opened ≡ walk_opened tables table values
+IsOpenOver (Over.walk table) values tables opened = opened ≡ Ok (cursor.Walking (walk_before tables table values))
 
 -- ---- while the statement runs
 

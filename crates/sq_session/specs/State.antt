@@ -3,14 +3,16 @@ use Rattle.std.specs.Prelude.{◌≡◌, ℕ, ◌+◌, min, Bool, true, false, L
 use Rattle.std.specs.List.{position_or_len}
 use Rattle.sq_store.specs.declared.table.Table.{Table}
 use Rattle.sq_store.specs.Content.{Content, row_at}
+use Rattle.sq_store.specs.Keys.{Keys}
 use Rattle.sq_session.specs.declared.cursor.CursorState.{CursorState}
 use Rattle.sq_session.specs.declared.cursor.CursorState.TheVariants as cursor
 use Rattle.sq_session.specs.declared.cursor.NumbersCursor.{NumbersCursor}
 
--- the tables now, the tables at the last COMMIT, and a cursor for each that a module declares
+-- the tables now, the tables at the last COMMIT, the columns of each key of each table, and a cursor for each that a module declares
 pub record State : Type 0 where
   pub tables : Content
   pub committed : Content
+  pub keys : List Keys
   pub cursors : List CursorState
 
 -- ---- cursors
@@ -72,7 +74,7 @@ next_number t c = record c { passed = min (length c.numbers) (c.passed + gone t 
 -- ---- COMMIT and ROLLBACK (14.3, 14.4) close all cursors
 
 abbrev pub committed_state : State → State
-committed_state s = record { tables = s.tables; committed = s.tables; cursors = all_closed s.cursors }
+committed_state s = record s { committed = s.tables; cursors = all_closed s.cursors }
 
 abbrev pub rolled_back : State → State
-rolled_back s = record { tables = s.committed; committed = s.committed; cursors = all_closed s.cursors }
+rolled_back s = record s { tables = s.committed; cursors = all_closed s.cursors }

@@ -2,7 +2,7 @@
 -- FETCH, CLOSE, COMMIT, ROLLBACK and every statement on a cursor that is not in the state that it needs are said whole, but
 -- for the row that a cursor comes to that walks; of SELECT INTO and OPEN, what the rows of their queries do; of the others,
 -- what they leave as it was.
-use Rattle.std.specs.Prelude.{◌≡◌, ℕ, Bool, true, false, List, [], length, is_some, slice_get, option_and_then, Option, Some, None, Result, Ok, Err}
+use Rattle.std.specs.Prelude.{◌≡◌, ℕ, Bool, true, false, List, [], length, is_some, option_and_then, Option, Some, None, Result, Ok, Err}
 use Rattle.sq_value.specs.declared.value.Value.{Value}
 use Rattle.sq_store.specs.Content.{row_at, table_at}
 use Rattle.sq_bound.specs.declared.statement.ChangeTarget.{ChangeTarget}
@@ -54,20 +54,16 @@ abbrev pub OpensAs : Outcome CursorState → ℕ → State → Done → State �
 OpensAs (Ok c) number before d after = (d ≡ ended status.SuccessfulCompletion) × (after ≡ with_cursor before number c)
 OpensAs (Err st) number before d after = Refuses st before d after
 
--- there is such a cursor only where a module declares one without a fault
-abbrev pub MayOpenOver : Option Over → ℕ → List Value → State → Done → State → Type 0
-MayOpenOver None number values before d after = Refuses status.SyntaxErrorOrAccessRuleViolation before d after
-MayOpenOver (Some over) number values before d after =
-    (opened : Outcome CursorState) × IsOpenOver over values before.tables opened × OpensAs opened number before d after
+abbrev pub MayOpenOver : Over → ℕ → List Value → State → Done → State → Type 0
+MayOpenOver over number values before d after = (opened : Outcome CursorState) × IsOpenOver over values before.tables opened × OpensAs opened number before d after
 
 -- a cursor that is open already is left alone
 abbrev pub MayOpenIf : Bool → Opening → List Value → State → Done → State → Type 0
 MayOpenIf true o values before d after = Refuses status.InvalidCursorState before d after
 MayOpenIf false o values before d after = MayOpenOver o.over o.cursor values before d after
 
-abbrev pub MayOpen : Option CursorState → Opening → List Value → State → Done → State → Type 0
-MayOpen None o values before d after = Refuses status.SyntaxErrorOrAccessRuleViolation before d after
-MayOpen (Some c) o values before d after = MayOpenIf (is_open c) o values before d after
+abbrev pub MayOpen : Opening → List Value → State → Done → State → Type 0
+MayOpen o values before d after = MayOpenIf (is_open (cursor_at before o.cursor)) o values before d after
 
 -- ---- FETCH (13.3)
 
@@ -87,9 +83,8 @@ MayFetchFrom (cursor.Rows c) f values before d after = Comes (over_rows (come_to
 MayFetchFrom (cursor.Numbers c) f values before d after = Comes (over_numbers (come_to_number f before.tables c)) f.cursor before d after
 MayFetchFrom (cursor.Walking c) f values before d after = WalksIf (is_refused d.status) f c before d after
 
-abbrev pub MayFetch : Option CursorState → Fetching → List Value → State → Done → State → Type 0
-MayFetch None f values before d after = Refuses status.SyntaxErrorOrAccessRuleViolation before d after
-MayFetch (Some c) f values before d after = MayFetchFrom c f values before d after
+abbrev pub MayFetch : Fetching → List Value → State → Done → State → Type 0
+MayFetch f values before d after = MayFetchFrom (cursor_at before f.cursor) f values before d after
 
 -- ---- CLOSE (13.4)
 
@@ -97,9 +92,8 @@ abbrev pub MayCloseIf : Bool → ℕ → State → Done → State → Type 0
 MayCloseIf true number before d after = (d ≡ ended status.SuccessfulCompletion) × (after ≡ with_cursor before number cursor.Closed)
 MayCloseIf false number before d after = Refuses status.InvalidCursorState before d after
 
-abbrev pub MayClose : Option CursorState → ℕ → State → Done → State → Type 0
-MayClose None number before d after = Refuses status.SyntaxErrorOrAccessRuleViolation before d after
-MayClose (Some c) number before d after = MayCloseIf (is_open c) number before d after
+abbrev pub MayClose : ℕ → State → Done → State → Type 0
+MayClose number before d after = MayCloseIf (is_open (cursor_at before number)) number before d after
 
 -- ---- SELECT INTO (13.5)
 
@@ -123,7 +117,7 @@ MayChange before d after = (d.outputs ≡ []) × ChangesIf (is_success d.status)
 
 -- an UPDATE may also let cursors that walk go on over numbers
 abbrev pub UpdatesIf : Bool → State → State → Type 0
-UpdatesIf true before after = (after.committed ≡ before.committed) × (length after.tables ≡ length before.tables) × GoOn before.cursors after.cursors
+UpdatesIf true before after = (after ≡ record before { tables = after.tables; cursors = after.cursors }) × (length after.tables ≡ length before.tables) × GoOn before.cursors after.cursors
 UpdatesIf false before after = after ≡ before
 
 abbrev pub MayUpdate : State → Done → State → Type 0
@@ -158,9 +152,9 @@ Ends wanted d after = (d ≡ ended status.SuccessfulCompletion) × (after ≡ wa
 
 -- a statement of a procedure whose parameters start at these values
 abbrev pub MayStep : Kind → List Value → State → Done → State → Type 0
-MayStep (Kind.opens o) values before d after = MayOpen (slice_get before.cursors o.cursor) o values before d after
-MayStep (Kind.fetches f) values before d after = MayFetch (slice_get before.cursors f.cursor) f values before d after
-MayStep (Kind.closes number) values before d after = MayClose (slice_get before.cursors number) number before d after
+MayStep (Kind.opens o) values before d after = MayOpen o values before d after
+MayStep (Kind.fetches f) values before d after = MayFetch f values before d after
+MayStep (Kind.closes number) values before d after = MayClose number before d after
 MayStep (Kind.selects s) values before d after = (after ≡ before) × Selects s d
 MayStep Kind.changes values before d after = MayChange before d after
 MayStep Kind.updates values before d after = MayUpdate before d after

@@ -1,13 +1,15 @@
 -- Targets: the parameters that get the values of a row (ISO/IEC 9075:1992, 9.1, 13.3 and 13.5).
 use Rattle.std.specs.Prelude.{◌≡◌, ⊤, Result, ℕ, suc, ℤ, negsuc, Bool, true, false, not, ◌||◌, ◌++◌, List, [], ◌∷◌, find, is_some, length, nat_eq, slice_get, if◌then◌else◌, Option, None, Some, Ok, Err}
+use Rattle.std.specs.Option.{option_map_or}
 use Rattle.sq_value.specs.Domain.{is_of_numbers}
 use Rattle.sq_value.specs.declared.domain.Domain.{Domain}
+use Rattle.sq_value.specs.declared.domain.Domain.TheVariants as domain
 use Rattle.sq_value.specs.declared.retrieving.Retrieved.{Retrieved}
 use Rattle.sq_value.specs.declared.value.Value.{Value}
 use Rattle.sq_value.specs.declared.value.Value.TheVariants as value
 use Rattle.sq_lex.specs.declared.name.Name.{Name}
 use Rattle.sq_meaning.specs.Assignment.{retrieved_into}
-use Rattle.sq_meaning.specs.Status.{Outcome, and_then, not_well_formed, or_status, well_formed, well_formed_if}
+use Rattle.sq_meaning.specs.Status.{Outcome, and_then, not_well_formed, or_status, well_formed_if}
 use Rattle.sq_meaning.specs.declared.status.Status.{Status}
 use Rattle.sq_meaning.specs.declared.status.Status.TheVariants as status
 use Rattle.sq_model.specs.Parameter.{length_before_cut, whole}
@@ -52,8 +54,12 @@ target_set_in d t value.Null = null_set t
 target_set_in d t (value.Num n) = set_in d t (value.Num n)
 target_set_in d t (value.Chars c) = set_in d t (value.Chars c)
 
+-- the domain of a parameter; a target is one of the procedure's
+abbrev pub domain_at : List ParameterDesc → ℕ → Domain
+domain_at parameters place = option_map_or (λ p. p.domain) (slice_get parameters place) domain.Int
+
 abbrev pub target_set : List ParameterDesc → Target → Value → Outcome Assignments
-target_set parameters t v = and_then (well_formed (slice_get parameters t.parameter)) (λ p. target_set_in p.domain t v)
+target_set parameters t v = target_set_in (domain_at parameters t.parameter) t v
 
 -- ---- a row into as many targets, from left to right
 

@@ -1,6 +1,8 @@
 //! A call: a procedure's statement with the values that are handed in (ISO/IEC 9075:1992, 12.3).
 
-ghost use Rattle.std.specs.Prelude.{◌≡◌, false, IfOk, IfSome, IsSome, None, OnErr, Some, true};
+ghost use Rattle.std.specs.Prelude.{◌≡◌, false, length, IfOk, IfSome, IsSome, None, OnErr, Some, true};
+ghost use Rattle.sq_bound.specs.Fits.{FitsStatement, holds};
+ghost use Rattle.sq_module.specs.Program.{CursorsFit, FitsProgram};
 ghost use Rattle.sq_query.specs.declared.fault.Fault.TheVariants as fault;
 ghost use Rattle.sq_session.specs.Cursors.{IsWhole};
 ghost use Rattle.sq_session.specs.Kind.{kind_at, kind_of, needs_memory, takes_memory};
@@ -30,7 +32,8 @@ pub(crate) fn call<S: Store>(
     machine: &mut Machine<S>,
     meter: &mut Meter,
 ) -> Result<Done, Fault>
-    requires { IsWhole catalog.now.bases program.now.cursors.items machine.old }
+    requires fits { FitsProgram catalog.now.bases program.now }
+    requires whole { IsWhole catalog.now.bases program.now.cursors.items machine.old }
     ensures step { IfSome (ending result) (λ d.
         MayCall (kind_at (procedures_of program.now.cursors.items program.now.procedures.entries) procedure) values.now machine.old d machine.new) }
     ensures whole { IsWhole catalog.now.bases program.now.cursors.items machine.new }
@@ -59,7 +62,10 @@ fn performed<S: Store>(
     machine: &mut Machine<S>,
     meter: &mut Meter,
 ) -> Result<Done, Fault>
-    requires { IsWhole catalog.now.bases program.now.cursors.items machine.old }
+    requires fits { FitsStatement catalog.now.bases (length program.now.cursors.items) (length procedure.now.parameters) statement.now }
+    requires fit { CursorsFit catalog.now.bases program.now.cursors.items }
+    requires whole { IsWhole catalog.now.bases program.now.cursors.items machine.old }
+    ensures rows { holds catalog.now.bases machine.new.tables ≡ true }
     ensures step { IfSome (ending result) (λ d. MayStep (kind_of program.now.cursors.items procedure.now.parameters statement.now)
         (started_values procedure.now.parameters values.now) machine.old d machine.new) }
     ensures err { OnErr result (machine.new ≡ machine.old) }
@@ -86,8 +92,11 @@ fn with_values<S: Store>(
     machine: &mut Machine<S>,
     meter: &mut Meter,
 ) -> Result<Done, Fault>
+    requires fits { FitsStatement catalog.now.bases (length program.now.cursors.items) (length procedure.now.parameters) statement.now }
+    requires fit { CursorsFit catalog.now.bases program.now.cursors.items }
     requires whole { IsWhole catalog.now.bases program.now.cursors.items machine.old }
     requires memory { takes_memory (kind_of program.now.cursors.items procedure.now.parameters statement.now) ≡ true }
+    ensures rows { holds catalog.now.bases machine.new.tables ≡ true }
     ensures step { IfSome (ending result) (λ d. MayStep (kind_of program.now.cursors.items procedure.now.parameters statement.now)
         (started_values procedure.now.parameters values.now) machine.old d machine.new) }
     ensures err { OnErr result (machine.new ≡ machine.old) }
@@ -112,8 +121,11 @@ fn performed_with<S: Store>(
     machine: &mut Machine<S>,
     meter: &mut Meter,
 ) -> Result<Done, Fault>
+    requires fits { FitsStatement called.now.catalog.now.bases (length called.now.cursors.now) (length called.now.procedure.now.parameters) statement.now }
+    requires fit { CursorsFit called.now.catalog.now.bases called.now.cursors.now }
     requires whole { IsWhole called.now.catalog.now.bases called.now.cursors.now machine.old }
     requires memory { takes_memory (kind_of called.now.cursors.now called.now.procedure.now.parameters statement.now) ≡ true }
+    ensures rows { holds called.now.catalog.now.bases machine.new.tables ≡ true }
     ensures step { IfSome (ending result) (λ d. MayStep (kind_of called.now.cursors.now called.now.procedure.now.parameters statement.now)
         called.now.values.now machine.old d machine.new) }
     ensures err { OnErr result (machine.new ≡ machine.old) }

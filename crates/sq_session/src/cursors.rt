@@ -1,6 +1,6 @@
 //! The cursors of a session, by their numbers.
 
-ghost use Rattle.std.specs.Prelude.{◌≡◌, replicate, slice_index_or, slice_set, IfOk};
+ghost use Rattle.std.specs.Prelude.{◌≡◌, ◌<◌, length, replicate, slice_index_or, slice_set, IfOk};
 ghost use Rattle.sq_session.specs.Cursors.{GoOn};
 ghost use Rattle.sq_session.specs.State.{all_closed, off_row};
 
@@ -30,13 +30,11 @@ pub(crate) fn close_all(cursors: &mut [CursorState])
 }
 
 /// Takes a cursor off its row.
-#[tactic(auto, using(crate::proofs::Put::put_past))]
 pub(crate) fn leave_row(cursors: &mut [CursorState], number: usize)
+    requires { number < length cursors.old }
     ensures { cursors.new ≡ slice_set cursors.old number (off_row (slice_index_or cursors.old number CursorState.Closed)) }
 {
-    if number < cursors.len() {
-        off_row(&mut cursors[number]);
-    }
+    off_row(&mut cursors[number]);
 }
 
 fn off_row(cursor: &mut CursorState)

@@ -1,11 +1,16 @@
 //! FETCH (ISO/IEC 9075:1992, 13.3).
 
-ghost use Rattle.std.specs.Prelude.{◌≡◌, ◌<◌, length, true, slice_get, IfSome, OnErr, Some};
-ghost use Rattle.sq_session.specs.Cursors.{are_over, is_over_at, is_updatable};
+ghost use Rattle.std.specs.Prelude.{◌≡◌, ◌<◌, length, true, IfOk, IfSome, OnErr};
+ghost use Rattle.sq_value.specs.Key.{in_columns};
+ghost use Rattle.sq_bound.specs.Fits.{are_parameters, holds};
+ghost use Rattle.sq_bound.specs.Names.{are_positions};
+ghost use Rattle.sq_module.specs.Program.{CursorsFit};
 ghost use Rattle.sq_query.specs.Fault.{Meets};
-ghost use Rattle.sq_session.specs.Fetch.{HasCome, HasFetched, HasWalked, Refusal, come_to_number, come_to_row, shown, shown_fetched};
+ghost use Rattle.sq_session.specs.Cursors.{are_over, is_over, is_updatable};
+ghost use Rattle.sq_session.specs.Fetch.{HasCome, HasFetched, HasWalked, come_to_number, come_to_row};
 ghost use Rattle.sq_session.specs.Kind.{columns_at, fetching, over_at};
 ghost use Rattle.sq_session.specs.Step.{MayFetch, ending};
+ghost use Rattle.sq_session.specs.Target.{row_reply};
 
 use crate::called::Called;
 use crate::cursor::{CursorState, NumbersCursor, RowsCursor, next_there, place_reached, row_at};
@@ -18,10 +23,10 @@ use sq_meaning::Status;
 use sq_query::{Failure, Fault};
 use sq_store::{Meter, Store};
 use sq_value::{Row, Value};
-use std::alloc::Global;
+use std::alloc::{AllocError, Global};
 
 /// FETCH of the cursor of a number. A status of retrieving leaves it where it came.
-#[tactic(auto, using(crate::proofs::Put::put_same, crate::proofs::Over::over_there))]
+#[tactic(auto, using(crate::proofs::Put::put_same, crate::proofs::Over::as_many, crate::proofs::Over::over_there))]
 pub(crate) fn fetch_at<S: Store>(
     called: &Called<'_>,
     fetch: &BoundFetch,
@@ -29,11 +34,14 @@ pub(crate) fn fetch_at<S: Store>(
     store: &S,
     meter: &mut Meter,
 ) -> Result<Done, Fault>
-    requires there { fetch.now.cursor < length cursors.old }
-    requires cursors { are_over (length (S.content_now store.now)) called.now.cursors.now cursors.old ≡ true }
-    ensures step { IfSome (ending result) (λ d. MayFetch (slice_get cursors.old fetch.now.cursor) (fetching called.now.cursors.now called.now.procedure.now.parameters fetch.now)
-        called.now.values.now (record { tables = S.content_now store.now; committed = S.committed store.now; cursors = cursors.old }) d
-        (record { tables = S.content_now store.now; committed = S.committed store.now; cursors = cursors.new })) }
+    requires there { fetch.now.cursor < length called.now.cursors.now }
+    requires targets { are_parameters (length called.now.procedure.now.parameters) fetch.now.outputs ≡ true }
+    requires fit { CursorsFit called.now.catalog.now.bases called.now.cursors.now }
+    requires cursors { are_over called.now.cursors.now cursors.old ≡ true }
+    requires rows { holds called.now.catalog.now.bases (S.content_now store.now) ≡ true }
+    ensures step { IfSome (ending result) (λ d. MayFetch (fetching called.now.cursors.now called.now.procedure.now.parameters fetch.now) called.now.values.now
+        (record { tables = S.content_now store.now; committed = S.committed store.now; keys = S.key_columns store.now; cursors = cursors.old }) d
+        (record { tables = S.content_now store.now; committed = S.committed store.now; keys = S.key_columns store.now; cursors = cursors.new })) }
     ensures err { OnErr result (cursors.new ≡ cursors.old) }
 {
     fetch_cursor(called, fetch, &mut cursors[fetch.cursor], store, meter)
@@ -47,7 +55,10 @@ fn fetch_cursor<S: Store>(
     store: &S,
     meter: &mut Meter,
 ) -> Result<Done, Fault>
-    requires { is_over_at (length (S.content_now store.now)) (over_at called.now.cursors.now fetch.now.cursor) cursor.old ≡ true }
+    requires over { is_over (over_at called.now.cursors.now fetch.now.cursor) cursor.old ≡ true }
+    requires targets { are_parameters (length called.now.procedure.now.parameters) fetch.now.outputs ≡ true }
+    requires fit { CursorsFit called.now.catalog.now.bases called.now.cursors.now }
+    requires rows { holds called.now.catalog.now.bases (S.content_now store.now) ≡ true }
     ensures fetched { HasFetched (fetching called.now.cursors.now called.now.procedure.now.parameters fetch.now) called.now.values.now (S.content_now store.now)
         cursor.old result cursor.new }
     ensures err { OnErr result (cursor.new ≡ cursor.old) }
@@ -66,6 +77,7 @@ fn fetch_row(
     fetch: &BoundFetch,
     cursor: &mut RowsCursor,
 ) -> Result<Done, Fault>
+    requires targets { are_parameters (length called.now.procedure.now.parameters) fetch.now.outputs ≡ true }
     ensures comes { HasCome result cursor.new (come_to_row (fetching called.now.cursors.now called.now.procedure.now.parameters fetch.now) called.now.values.now cursor.old) }
     ensures err { OnErr result (cursor.new ≡ cursor.old) }
 {
@@ -80,7 +92,7 @@ fn fetch_row(
 }
 
 /// FETCH of an updatable cursor: the next number under which there is a row now, and that row as it is now.
-#[tactic(auto, using(crate::proofs::Over::numbers_updatable))]
+#[tactic(auto, using(crate::proofs::Over::numbers_updatable, crate::proofs::Over::numbers_there))]
 fn fetch_number<S: Store>(
     called: &Called<'_>,
     fetch: &BoundFetch,
@@ -88,14 +100,14 @@ fn fetch_number<S: Store>(
     store: &S,
     meter: &mut Meter,
 ) -> Result<Done, Fault>
-    requires { is_over_at (length (S.content_now store.now)) (over_at called.now.cursors.now fetch.now.cursor) (CursorState.Numbers cursor.old) ≡ true }
+    requires over { is_over (over_at called.now.cursors.now fetch.now.cursor) (CursorState.Numbers cursor.old) ≡ true }
+    requires targets { are_parameters (length called.now.procedure.now.parameters) fetch.now.outputs ≡ true }
+    requires fit { CursorsFit called.now.catalog.now.bases called.now.cursors.now }
+    requires rows { holds called.now.catalog.now.bases (S.content_now store.now) ≡ true }
     ensures comes { HasCome result cursor.new (come_to_number (fetching called.now.cursors.now called.now.procedure.now.parameters fetch.now) (S.content_now store.now) cursor.old) }
     ensures err { OnErr result (cursor.new ≡ cursor.old) }
 {
     let query = updatable_query(called, fetch.cursor);
-    if cursor.table >= store.table_count() {
-        return Err(Fault::NOT_WELL_FORMED);
-    }
     let Some(reached) = next_there(store, cursor, meter) else {
         cursor.passed = cursor.numbers.len();
         cursor.on = None;
@@ -112,7 +124,7 @@ fn fetch_number<S: Store>(
 }
 
 /// FETCH of a cursor that walks.
-#[tactic(auto, using(crate::proofs::Over::walk_updatable, crate::proofs::Over::walk_at))]
+#[tactic(auto, using(crate::proofs::Over::walk_updatable, crate::proofs::Over::walk_there))]
 fn fetch_walk<S: Store>(
     called: &Called<'_>,
     fetch: &BoundFetch,
@@ -120,7 +132,10 @@ fn fetch_walk<S: Store>(
     store: &S,
     meter: &mut Meter,
 ) -> Result<Done, Fault>
-    requires { is_over_at (length (S.content_now store.now)) (over_at called.now.cursors.now fetch.now.cursor) (CursorState.Walking walk.old) ≡ true }
+    requires over { is_over (over_at called.now.cursors.now fetch.now.cursor) (CursorState.Walking walk.old) ≡ true }
+    requires targets { are_parameters (length called.now.procedure.now.parameters) fetch.now.outputs ≡ true }
+    requires fit { CursorsFit called.now.catalog.now.bases called.now.cursors.now }
+    requires rows { holds called.now.catalog.now.bases (S.content_now store.now) ≡ true }
     ensures walked { HasWalked (fetching called.now.cursors.now called.now.procedure.now.parameters fetch.now) (S.content_now store.now) walk.old result walk.new }
     ensures err { OnErr result (walk.new ≡ walk.old) }
 {
@@ -143,7 +158,7 @@ fn fetch_walk<S: Store>(
 /// The query of an updatable cursor.
 fn updatable_query<'a>(called: &Called<'a>, cursor: usize) -> &'a UpdatableQuery
     requires { is_updatable (over_at called.now.cursors.now cursor) ≡ true }
-    ensures { columns_at called.now.cursors.now cursor ≡ Some result.now.columns }
+    ensures { columns_at called.now.cursors.now cursor ≡ result.now.columns }
 {
     match called.cursors.get(cursor) {
         Some(declared) => match &declared.cursor.body {
@@ -161,7 +176,9 @@ fn shown_row_retrieved(
     query: &UpdatableQuery,
     row: &Row,
 ) -> Result<Done, Fault>
-    ensures { Meets result (shown_fetched (fetching called.now.cursors.now called.now.procedure.now.parameters fetch.now) query.now.columns (Some row.now)) }
+    requires targets { are_parameters (length called.now.procedure.now.parameters) fetch.now.outputs ≡ true }
+    requires columns { are_positions (length row.now) query.now.columns ≡ true }
+    ensures { Meets result (row_reply called.now.procedure.now.parameters fetch.now.outputs (in_columns row.now query.now.columns)) }
 {
     match shown(called.alloc, row.as_slice(), query.columns.as_slice()) {
         Ok(row) => {
@@ -169,23 +186,19 @@ fn shown_row_retrieved(
             drop(row);
             done
         }
-        Err(fault) => Err(fault),
+        Err(_) => Err(Fault::NoMemory),
     }
 }
 
-/// The columns of a row that a query names.
-fn shown(alloc: Global, row: &[Value], columns: &[usize]) -> Result<Row, Fault>
-    ensures { Meets result (shown columns.now row.now) }
+/// The values of a row in some columns.
+#[tactic(auto, using(crate::proofs::Shown::column_there))]
+fn shown(alloc: Global, row: &[Value], columns: &[usize]) -> Result<Row, AllocError>
+    requires { are_positions (length row.now) columns.now ≡ true }
+    ensures { IfOk result (λ shown. shown ≡ in_columns row.now columns.now) }
 {
     let mut values = Items::new(alloc);
     for column in columns {
-        match row.get(*column) {
-            Some(value) => values.push(value.copy(alloc)?)?,
-            None => {
-                drop(values);
-                return Err(Fault::NOT_WELL_FORMED);
-            }
-        }
+        values.push(row[*column].copy(alloc)?)?;
     }
     Ok(values)
 }

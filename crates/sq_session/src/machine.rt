@@ -1,8 +1,10 @@
 //! The tables and cursors of a session, and the statements that work on them.
 
-ghost use Rattle.std.specs.Prelude.{◌≡◌, IfErr, IfOk, IfSome, IsSome, OnErr, OnOk, ◌<◌, length, is_ok, is_some, replicate, slice_get};
+ghost use Rattle.std.specs.Prelude.{◌≡◌, ◌<◌, true, length, replicate, is_ok, is_some, IfErr, IfOk, IfSome, IsSome, OnErr};
+ghost use Rattle.sq_bound.specs.Fits.{FitsTarget, IsBase, are_columns, are_parameters, holds, under};
 ghost use Rattle.sq_change.specs.Statement.{IsGiven};
 ghost use Rattle.sq_meaning.specs.declared.status.Status.TheVariants as status;
+ghost use Rattle.sq_module.specs.Program.{CursorsFit};
 ghost use Rattle.sq_query.specs.declared.fault.Failure.TheVariants as failure;
 ghost use Rattle.sq_query.specs.declared.fault.Fault.TheVariants as fault;
 ghost use Rattle.sq_session.specs.Cursors.{IsWhole};
@@ -38,14 +40,14 @@ impl<S: Store> Model for Machine<S> {
 
     ghost Value = { State };
 
-    ghost view = { λ m. record { tables = S.content_now m.store; committed = S.committed m.store; cursors = m.cursors.items } };
+    ghost view = { λ m. record { tables = S.content_now m.store; committed = S.committed m.store; keys = S.key_columns m.store; cursors = m.cursors.items } };
 }
 
 impl<S: Store> Machine<S> {
     /// The tables of a store, and so many closed cursors.
     pub(crate) fn new(alloc: Global, store: S, cursors: usize) -> Result<Machine<S>, AllocError>
         ensures { IfOk result (λ m. m
-            ≡ record { tables = S.content_now store; committed = S.committed store; cursors = replicate cursors CursorState.Closed }) }
+            ≡ record { tables = S.content_now store; committed = S.committed store; keys = S.key_columns store; cursors = replicate cursors CursorState.Closed }) }
     {
         match closed_cursors(alloc, cursors) {
             Ok(cursors) => Ok(Machine { store, cursors }),
@@ -57,21 +59,24 @@ impl<S: Store> Machine<S> {
     }
 
     /// OPEN (13.2).
+    #[tactic(auto, using(crate::proofs::Over::as_many))]
     pub(crate) fn open(
         &mut self,
         called: &Called<'_>,
         number: usize,
         meter: &mut Meter,
     ) -> Result<Done, Fault>
-        requires { IsWhole called.now.catalog.now.bases called.now.cursors.now self.old }
-        ensures step { IfSome (ending result) (λ d. MayOpen (slice_get self.old.cursors number)
-            (opening called.now.cursors.now called.now.procedure.now.parameters number) called.now.values.now self.old d self.new) }
+        requires there { number < length called.now.cursors.now }
+        requires fit { CursorsFit called.now.catalog.now.bases called.now.cursors.now }
+        requires whole { IsWhole called.now.catalog.now.bases called.now.cursors.now self.old }
+        ensures step { IfSome (ending result) (λ d. MayOpen (opening called.now.cursors.now called.now.procedure.now.parameters number)
+            called.now.values.now self.old d self.new) }
+        ensures tables { self.new.tables ≡ self.old.tables }
         ensures err { OnErr result (self.new ≡ self.old) }
     {
-        match self.cursors.get(number) {
-            None => Err(Fault::NOT_WELL_FORMED),
-            Some(CursorState::Closed) => self.open_closed(called, number, meter),
-            Some(_) => Err(Fault::Status(Failure::InvalidCursorState)),
+        match &self.cursors[number] {
+            CursorState::Closed => self.open_closed(called, number, meter),
+            _ => Err(Fault::Status(Failure::InvalidCursorState)),
         }
     }
 
@@ -82,9 +87,11 @@ impl<S: Store> Machine<S> {
         number: usize,
         meter: &mut Meter,
     ) -> Result<Done, Fault>
-        requires there { number < length self.old.cursors }
+        requires there { number < length called.now.cursors.now }
+        requires fit { CursorsFit called.now.catalog.now.bases called.now.cursors.now }
         requires whole { IsWhole called.now.catalog.now.bases called.now.cursors.now self.old }
         ensures step { IfSome (ending result) (λ d. MayOpenOver (over_at called.now.cursors.now number) number called.now.values.now self.old d self.new) }
+        ensures tables { self.new.tables ≡ self.old.tables }
         ensures err { OnErr result (self.new ≡ self.old) }
     {
         open_closed(
@@ -103,14 +110,15 @@ impl<S: Store> Machine<S> {
         fetch: &BoundFetch,
         meter: &mut Meter,
     ) -> Result<Done, Fault>
-        requires { IsWhole called.now.catalog.now.bases called.now.cursors.now self.old }
-        ensures step { IfSome (ending result) (λ d. MayFetch (slice_get self.old.cursors fetch.now.cursor)
-            (fetching called.now.cursors.now called.now.procedure.now.parameters fetch.now) called.now.values.now self.old d self.new) }
+        requires there { fetch.now.cursor < length called.now.cursors.now }
+        requires targets { are_parameters (length called.now.procedure.now.parameters) fetch.now.outputs ≡ true }
+        requires fit { CursorsFit called.now.catalog.now.bases called.now.cursors.now }
+        requires whole { IsWhole called.now.catalog.now.bases called.now.cursors.now self.old }
+        ensures step { IfSome (ending result) (λ d. MayFetch (fetching called.now.cursors.now called.now.procedure.now.parameters fetch.now)
+            called.now.values.now self.old d self.new) }
+        ensures tables { self.new.tables ≡ self.old.tables }
         ensures err { OnErr result (self.new ≡ self.old) }
     {
-        if fetch.cursor >= self.cursors.len() {
-            return Err(Fault::NOT_WELL_FORMED);
-        }
         fetch_at(
             called,
             fetch,
@@ -122,14 +130,15 @@ impl<S: Store> Machine<S> {
 
     /// CLOSE (13.4).
     pub(crate) fn close(&mut self, alloc: Global, number: usize) -> Result<Done, Fault>
-        ensures step { IfSome (ending result) (λ d. MayClose (slice_get self.old.cursors number) number self.old d self.new) }
+        requires { number < length self.old.cursors }
+        ensures step { IfSome (ending result) (λ d. MayClose number self.old d self.new) }
+        ensures tables { self.new.tables ≡ self.old.tables }
         ensures err { OnErr result (self.new ≡ self.old) }
         ensures memory { IsSome (ending result) }
     {
-        match self.cursors.get(number) {
-            None => Err(Fault::NOT_WELL_FORMED),
-            Some(CursorState::Closed) => Err(Fault::Status(Failure::InvalidCursorState)),
-            Some(_) => {
+        match &self.cursors[number] {
+            CursorState::Closed => Err(Fault::Status(Failure::InvalidCursorState)),
+            _ => {
                 self.cursors[number] = CursorState::Closed;
                 Ok(Done::successful(alloc))
             }
@@ -144,6 +153,7 @@ impl<S: Store> Machine<S> {
         select: &BoundSelect,
         meter: &mut Meter,
     ) -> Result<Done, Fault>
+        requires { are_parameters (length called.now.procedure.now.parameters) select.now.outputs ≡ true }
         ensures { IfSome (ending result) (Selects (selecting called.now.procedure.now.parameters select.now)) }
     {
         let found = specification_rows(
@@ -172,8 +182,10 @@ impl<S: Store> Machine<S> {
         statement: &BoundInsert,
         meter: &mut Meter,
     ) -> Result<Done, Fault>
-        requires { IsWhole called.now.catalog.now.bases called.now.cursors.now self.old }
+        requires fits { IsBase called.now.catalog.now.bases statement.now.leaf.table }
+        requires whole { IsWhole called.now.catalog.now.bases called.now.cursors.now self.old }
         ensures step { IfSome (ending result) (λ d. MayChange self.old d self.new) }
+        ensures rows { holds called.now.catalog.now.bases self.new.tables ≡ true }
         ensures err { OnErr result (self.new ≡ self.old) }
     {
         insert(
@@ -195,11 +207,15 @@ impl<S: Store> Machine<S> {
         statement: &BoundUpdate,
         meter: &mut Meter,
     ) -> Result<Done, Fault>
-        requires { IsWhole called.now.catalog.now.bases called.now.cursors.now self.old }
+        requires target { FitsTarget called.now.catalog.now.bases (length called.now.cursors.now) statement.now.target }
+        requires columns { are_columns (length (under statement.now.target).table.columns) statement.now.assignments ≡ true }
+        requires fit { CursorsFit called.now.catalog.now.bases called.now.cursors.now }
+        requires whole { IsWhole called.now.catalog.now.bases called.now.cursors.now self.old }
+        ensures rows { holds called.now.catalog.now.bases self.new.tables ≡ true }
         ensures step { IfSome (ending result) (λ d. MayStep (update_kind statement.now.target) called.now.values.now self.old d self.new) }
         ensures err { OnErr result (self.new ≡ self.old) }
     {
-        let on = self.current(&statement.target)?;
+        let on = self.current(called, &statement.target)?;
         let listed = listed_walks(called, statement, self.cursors.as_slice(), &self.store)?;
         let updated = update(
             called.alloc,
@@ -230,11 +246,13 @@ impl<S: Store> Machine<S> {
         target: &ChangeTarget,
         meter: &mut Meter,
     ) -> Result<Done, Fault>
-        requires { IsWhole called.now.catalog.now.bases called.now.cursors.now self.old }
+        requires target { FitsTarget called.now.catalog.now.bases (length called.now.cursors.now) target.now }
+        requires whole { IsWhole called.now.catalog.now.bases called.now.cursors.now self.old }
+        ensures rows { holds called.now.catalog.now.bases self.new.tables ≡ true }
         ensures step { IfSome (ending result) (λ d. MayStep (delete_kind target.now) called.now.values.now self.old d self.new) }
         ensures err { OnErr result (self.new ≡ self.old) }
     {
-        let on = self.current(target)?;
+        let on = self.current(called, target)?;
         delete(
             called.alloc,
             called.catalog,
@@ -271,7 +289,9 @@ impl<S: Store> Machine<S> {
     }
 
     /// The number that a positioned statement changes; none for a searched one.
-    fn current(&self, target: &ChangeTarget) -> Result<Option<u64>, Fault>
+    fn current(&self, called: &Called<'_>, target: &ChangeTarget) -> Result<Option<u64>, Fault>
+        requires target { FitsTarget called.now.catalog.now.bases (length called.now.cursors.now) target.now }
+        requires whole { IsWhole called.now.catalog.now.bases called.now.cursors.now self.now }
         ensures ready { is_ok result ≡ is_ready self.now target.now }
         ensures given { IfOk result (IsGiven target.now) }
         ensures refused { IfErr result (λ f. f ≡ fault.Status failure.InvalidCursorState) }
@@ -287,12 +307,11 @@ impl<S: Store> Machine<S> {
 
     /// The number that a cursor is on, if its row is there.
     fn number_there(&self, positioned: &PositionedTarget) -> Option<u64>
+        requires cursor { positioned.now.cursor < length self.now.cursors }
+        requires table { positioned.now.base < length self.now.tables }
         ensures { is_some result ≡ is_on_row self.now positioned.now }
     {
-        let number = number_on(self.cursors.get(positioned.cursor)?)?;
-        if positioned.base >= self.store.table_count() {
-            return None;
-        }
+        let number = number_on(&self.cursors[positioned.cursor])?;
         match self.store.row(positioned.base, number, &mut Meter::new()) {
             Some(_) => Some(number),
             None => None,

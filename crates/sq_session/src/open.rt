@@ -1,6 +1,8 @@
 //! OPEN (ISO/IEC 9075:1992, 13.2).
 
 ghost use Rattle.std.specs.Prelude.{◌≡◌, ◌<◌, length, true, IfSome, OnErr};
+ghost use Rattle.sq_bound.specs.Fits.{FitsBody, holds};
+ghost use Rattle.sq_module.specs.Program.{CursorsFit};
 ghost use Rattle.sq_session.specs.Cursors.{are_over};
 ghost use Rattle.sq_session.specs.Kind.{Over, over_at, over_of, over_target};
 ghost use Rattle.sq_session.specs.Open.{HasOpened};
@@ -24,11 +26,13 @@ pub(crate) fn open_closed<S: Store>(
     store: &S,
     meter: &mut Meter,
 ) -> Result<Done, Fault>
-    requires there { number < length cursors.old }
-    requires cursors { are_over (length (S.content_now store.now)) called.now.cursors.now cursors.old ≡ true }
+    requires there { number < length called.now.cursors.now }
+    requires fit { CursorsFit called.now.catalog.now.bases called.now.cursors.now }
+    requires cursors { are_over called.now.cursors.now cursors.old ≡ true }
+    requires rows { holds called.now.catalog.now.bases (S.content_now store.now) ≡ true }
     ensures step { IfSome (ending result) (λ d. MayOpenOver (over_at called.now.cursors.now number) number called.now.values.now
-        (record { tables = S.content_now store.now; committed = S.committed store.now; cursors = cursors.old }) d
-        (record { tables = S.content_now store.now; committed = S.committed store.now; cursors = cursors.new })) }
+        (record { tables = S.content_now store.now; committed = S.committed store.now; keys = S.key_columns store.now; cursors = cursors.old }) d
+        (record { tables = S.content_now store.now; committed = S.committed store.now; keys = S.key_columns store.now; cursors = cursors.new })) }
     ensures err { OnErr result (cursors.new ≡ cursors.old) }
 {
     let declared = &called.cursors[number];
@@ -48,6 +52,8 @@ fn opened<S: Store>(
     store: &S,
     meter: &mut Meter,
 ) -> Result<CursorState, Fault>
+    requires fits { FitsBody called.now.catalog.now.bases body.now }
+    requires rows { holds called.now.catalog.now.bases (S.content_now store.now) ≡ true }
     ensures { HasOpened (over_of body.now) called.now.values.now (S.content_now store.now) result }
 {
     match body {
@@ -93,6 +99,7 @@ fn opened_over<S: Store>(
     store: &S,
     meter: &mut Meter,
 ) -> Result<CursorState, Fault>
+    requires { target.now.base < length (S.content_now store.now) }
     ensures { HasOpened (over_target target.now) called.now.values.now (S.content_now store.now) result }
 {
     if target.is_quiet {
@@ -105,11 +112,12 @@ fn opened_over<S: Store>(
 /// A walk of a base table.
 #[tactic(auto, using(crate::proofs::Opened::over_walk, crate::proofs::Opened::over_no_walk))]
 fn opened_walk<S: Store>(called: &Called<'_>, table: usize, store: &S) -> Result<CursorState, Fault>
+    requires { table < length (S.content_now store.now) }
     ensures { HasOpened (Over.walk table) called.now.values.now (S.content_now store.now) result }
 {
     match started_walk(called, table, store) {
         Ok(walk) => Ok(CursorState::Walking(walk)),
-        Err(fault) => Err(fault),
+        Err(_) => Err(Fault::NoMemory),
     }
 }
 

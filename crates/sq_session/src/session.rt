@@ -1,13 +1,14 @@
 //! A session: the modules, the tables, and the cursors.
 
-ghost use Rattle.std.specs.Prelude.{◌≡◌, ◌<◌, false, length, map, IfErr, IfOk, IsOk, OnErr, OnOk};
+ghost use Rattle.std.specs.Prelude.{◌≡◌, ◌<◌, false, true, length, map, IfErr, IfOk, IsOk, OnErr, OnOk};
 ghost use Rattle.sq_store.specs.Content.{table_at};
 ghost use Rattle.sq_module.specs.Refusal.{IsOfSomeModule};
 ghost use Rattle.sq_session.specs.Lent.{lent};
 ghost use Rattle.sq_catalog.specs.Catalog.{table_number};
 ghost use Rattle.sq_session.specs.Kind.{fault_at, fits_at, kind_at, needs_memory};
 ghost use Rattle.std.specs.Map.{keys_of};
-ghost use Rattle.sq_module.specs.Program.{declared_procedures};
+ghost use Rattle.sq_bound.specs.Fits.{holds, keys_of_bases};
+ghost use Rattle.sq_module.specs.Program.{FitsProgram, declared_procedures};
 ghost use Rattle.sq_session.specs.Session.{names_of, procedure_number};
 ghost use Rattle.sq_session.specs.State.{AreClosed};
 ghost use Rattle.sq_session.specs.Step.{MayCall, is_success};
@@ -42,6 +43,7 @@ impl<S: Store> Model for Session<S> {
     ghost use Rattle.sq_bound.specs.contracts.expression.BoundExpr as expression;
     ghost use Rattle.sq_bound.specs.contracts.names.BaseColumn as column;
     ghost use Rattle.sq_bound.specs.contracts.names.ParameterDesc as parameter;
+    ghost use Rattle.sq_module.specs.Program.{FitsProgram};
     ghost use Rattle.sq_session.specs.Cursors.{IsWhole};
     ghost use Rattle.sq_session.specs.Session.{Session, procedures_of};
 
@@ -51,20 +53,21 @@ impl<S: Store> Model for Session<S> {
 
     ghost view = { λ s. record { procedures = procedures_of s.program.cursors.items s.program.procedures.entries; tables = s.catalog.tables; state = s.machine } };
 
-    ghost invariant = { λ s. IsWhole s.catalog.bases s.program.cursors.items s.machine };
+    ghost invariant = { λ s. FitsProgram s.catalog.bases s.program × IsWhole s.catalog.bases s.program.cursors.items s.machine };
 }
 
 impl<S: Store> Session<S> {
-    /// A session of these modules over a store of the catalog's tables, with all cursors closed; or the first refusal, module
-    /// by module.
+    /// A session of these modules over a store of the catalog's tables and keys, with all cursors closed; or the first refusal,
+    /// module by module.
     pub fn new(
         alloc: Global,
         catalog: Catalog,
         modules: &[ModuleText],
         store: S,
     ) -> Result<Session<S>, SessionFault>
-        requires tables { length catalog.bases ≡ length (S.content_now store) }
-        requires committed { length catalog.bases ≡ length (S.committed store) }
+        requires tables { holds catalog.bases (S.content_now store) ≡ true }
+        requires committed { holds catalog.bases (S.committed store) ≡ true }
+        requires keys { S.key_columns store ≡ keys_of_bases catalog.bases }
         ensures start { IfOk result (λ s. (s.state.tables ≡ S.content_now store) × (s.state.committed ≡ S.committed store) × AreClosed s.state.cursors) }
         ensures procedures { IfOk result (λ s. names_of s.procedures ≡ declared_procedures modules.now) }
         ensures tables { IfOk result (λ s. s.tables ≡ catalog.tables) }
@@ -88,8 +91,10 @@ impl<S: Store> Session<S> {
         program: Program,
         store: S,
     ) -> Result<Session<S>, AllocError>
-        requires tables { length catalog.bases ≡ length (S.content_now store) }
-        requires committed { length catalog.bases ≡ length (S.committed store) }
+        requires fits { FitsProgram catalog.bases program }
+        requires tables { holds catalog.bases (S.content_now store) ≡ true }
+        requires committed { holds catalog.bases (S.committed store) ≡ true }
+        requires keys { S.key_columns store ≡ keys_of_bases catalog.bases }
         ensures start { IfOk result (λ s. (s.state.tables ≡ S.content_now store) × (s.state.committed ≡ S.committed store) × AreClosed s.state.cursors) }
         ensures procedures { IfOk result (λ s. names_of s.procedures ≡ keys_of program.procedures.entries) }
         ensures tables { IfOk result (λ s. s.tables ≡ catalog.tables) }
@@ -195,6 +200,7 @@ fn program_of(
     modules: &[ModuleText],
 ) -> Result<Program, SessionFault>
     ensures procedures { IfOk result (λ program. keys_of program.procedures.entries ≡ declared_procedures modules.now) }
+    ensures fits { IfOk result (λ program. FitsProgram catalog.now.bases program) }
     ensures refused { IfErr result (IsOfSomeModule (length modules.now)) }
 {
     let admitted = admit(alloc, modules)?;

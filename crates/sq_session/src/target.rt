@@ -1,6 +1,7 @@
 //! Targets: the parameters that get the values of a row (ISO/IEC 9075:1992, 9.1).
 
-ghost use Rattle.std.specs.Prelude.{◌≡◌, ◌<◌, ◌^◌, ◌++◌, ◌∷◌, [], find, nat_eq, option_copied, unsigned_abs, IfOk, OnOk};
+ghost use Rattle.std.specs.Prelude.{◌≡◌, ◌<◌, ◌^◌, ◌++◌, ◌∷◌, [], true, find, length, nat_eq, option_copied, unsigned_abs, IfOk, OnOk};
+ghost use Rattle.sq_bound.specs.Fits.{are_parameters};
 ghost use Rattle.sq_meaning.specs.Status.{and_then};
 ghost use Rattle.sq_model.specs.Machine.{single_row};
 ghost use Rattle.sq_model.specs.Parameter.{whole};
@@ -37,6 +38,7 @@ pub(crate) fn row_retrieved(
     targets: &[sq_bound::Output],
     row: &[Value],
 ) -> Result<Done, Fault>
+    requires { are_parameters (length called.now.procedure.now.parameters) targets.now ≡ true }
     ensures { Meets result (row_reply called.now.procedure.now.parameters targets.now row.now) }
 {
     match assignments_of(called, targets, row) {
@@ -54,6 +56,7 @@ pub(crate) fn only_row_retrieved(
     select: &BoundSelect,
     rows: &[Row],
 ) -> Result<Done, Fault>
+    requires { are_parameters (length called.now.procedure.now.parameters) select.now.outputs ≡ true }
     ensures { Meets result (and_then (single_row rows.now) (row_reply called.now.procedure.now.parameters select.now.outputs)) }
 {
     match rows {
@@ -107,11 +110,13 @@ fn assigned_to(assignments: &[Assignment], place: usize) -> Option<&Assignment>
         .find(|assignment| assignment.parameter == place)
 }
 
+#[tactic(auto, using(crate::proofs::Targets::target_there))]
 fn assignments_of(
     called: &Called<'_>,
     targets: &[sq_bound::Output],
     row: &[Value],
 ) -> Result<Assignments, Fault>
+    requires { are_parameters (length called.now.procedure.now.parameters) targets.now ≡ true }
     ensures { Meets result (row_set called.now.procedure.now.parameters targets.now row.now) }
 {
     if targets.len() != row.len() {
@@ -136,6 +141,7 @@ fn assignments_of(
 
 impl Assignments {
     /// Sets a target and its indicator.
+    #[tactic(auto, using(crate::proofs::Targets::domain_is))]
     fn set(
         &mut self,
         alloc: Global,
@@ -143,11 +149,10 @@ impl Assignments {
         target: sq_bound::Output,
         value: &Value,
     ) -> Result<(), Fault>
+        requires { target.parameter < length parameters.now }
         ensures { IsSet result (set_behind self.old (target_set parameters.now target value.now)) self.new }
     {
-        let Some(parameter) = parameters.get(target.parameter) else {
-            return Err(Fault::NOT_WELL_FORMED);
-        };
+        let parameter = parameters[target.parameter];
         if let Value::Null = value {
             return self.set_null(target);
         }

@@ -4,12 +4,13 @@
 //! conditions read. So the rows that are left are listed before an UPDATE of a column that they read.
 
 ghost use Rattle.std.specs.Prelude.{◌≡◌, ◌≤◌, ◌<◌, length, true, Some, IfErr, IfOk, IfSome};
+ghost use Rattle.sq_bound.specs.Fits.{holds};
+ghost use Rattle.sq_module.specs.Program.{CursorsFit};
 ghost use Rattle.sq_session.specs.Kind.{over_of};
 ghost use Rattle.sq_store.specs.Content.{table_at};
 ghost use Rattle.sq_session.specs.Cursors.{GoesOn, are_over, is_over};
 ghost use Rattle.sq_session.specs.Fetch.{Refusal, row_on};
-ghost use Rattle.sq_session.specs.Open.{walk_started};
-ghost use Rattle.sq_query.specs.Fault.{Meets};
+ghost use Rattle.sq_session.specs.Open.{walk_before};
 
 use crate::called::Called;
 use crate::cursor::{CursorState, NumbersCursor};
@@ -22,7 +23,7 @@ use sq_module::DeclaredCursor;
 use sq_query::{Fault, Inputs, is_chosen};
 use sq_store::{Meter, Store};
 use sq_value::{Row, Value, copy_row};
-use std::alloc::Global;
+use std::alloc::{AllocError, Global};
 
 /// A cursor that walks over the rows of a base table.
 #[derive(Drop)]
@@ -40,17 +41,14 @@ pub struct WalkingCursor {
 }
 
 /// A walk before the first row of a base table.
-#[tactic(auto, using(crate::proofs::Opened::walk_there))]
 pub(crate) fn started_walk<S: Store>(
     called: &Called<'_>,
     table: usize,
     store: &S,
-) -> Result<WalkingCursor, Fault>
-    ensures { Meets result (walk_started (S.content_now store.now) table called.now.values.now) }
+) -> Result<WalkingCursor, AllocError>
+    requires { table < length (S.content_now store.now) }
+    ensures { IfOk result (λ walk. walk ≡ walk_before (S.content_now store.now) table called.now.values.now) }
 {
-    if table >= store.table_count() {
-        return Err(Fault::NOT_WELL_FORMED);
-    }
     Ok(WalkingCursor {
         table,
         values: copy_row(called.alloc, called.values)?,
@@ -154,7 +152,9 @@ pub(crate) fn listed_walks<S: Store>(
     cursors: &[CursorState],
     store: &S,
 ) -> Result<Vec<ListedCursor>, Fault>
-    requires { are_over (length (S.content_now store.now)) called.now.cursors.now cursors.now ≡ true }
+    requires fit { CursorsFit called.now.catalog.now.bases called.now.cursors.now }
+    requires cursors { are_over called.now.cursors.now cursors.now ≡ true }
+    requires rows { holds called.now.catalog.now.bases (S.content_now store.now) ≡ true }
 {
     let mut listed = Vec::new(called.alloc);
     for (number, cursor) in cursors.iter().enumerate() {
@@ -170,7 +170,6 @@ pub(crate) fn listed_walks<S: Store>(
 
 /// The numbers of the rows that are left to the walk of a cursor, if it is over the base table that an UPDATE changes
 /// and its conditions read a column that is assigned to.
-#[tactic(auto, using(crate::proofs::Over::walk_is))]
 fn listed_walk<S: Store>(
     called: &Called<'_>,
     declared: &DeclaredCursor,
@@ -178,7 +177,8 @@ fn listed_walk<S: Store>(
     store: &S,
     walk: &WalkingCursor,
 ) -> Result<Option<Items<u64>>, Fault>
-    requires { is_over (length (S.content_now store.now)) (over_of declared.now.cursor.body) (CursorState.Walking walk.now) ≡ true }
+    requires over { is_over (over_of declared.now.cursor.body) (CursorState.Walking walk.now) ≡ true }
+    requires there { walk.now.table < length (S.content_now store.now) }
 {
     let query = match &declared.cursor.body {
         CursorBody::Updatable(query) => query,

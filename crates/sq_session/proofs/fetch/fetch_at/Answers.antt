@@ -1,6 +1,7 @@
-use Rattle.std.proofs.Common.{ap, get_or}
+use Rattle.std.proofs.Common.{◌<◌, ap, arith, get_or, length}
 use Rattle.sq_session.specs.Kind.{fetching}
 use Rattle.sq_session.proofs.Fetched.{may_fetch}
+use Rattle.sq_session.proofs.Over.{as_many}
 use Rattle.sq_session.proofs.fetch.fetch_at.Goals as goal
 
 pub returns-clause-step : goal.returns-clause-step
@@ -8,6 +9,7 @@ returns-clause-step g c =
     let called = c.args.called.now in
     let cursors = c.args.cursors.now in
     let number = c.args.fetch.now.cursor in
+    let there : number < length cursors = omega (arith, as_many called.cursors.now cursors c.requires.cursors, c.requires.there) in
     let old = get_or cursors number c.index-cursors-fetch.result in
-    may_fetch (fetching called.cursors.now called.procedure.now.parameters c.args.fetch.now) called.values.now (g.S.Store.content_now c.args.store.now) (g.S.Store.committed c.args.store.now) cursors
-    old c.fetch_cursor.new.cursor c.fetch_cursor.result c.requires.there (ap (λ d. get_or cursors number d) c.index-cursors-fetch.is) c.fetch_cursor.ensures.fetched c.fetch_cursor.ensures.err
+    may_fetch (fetching called.cursors.now called.procedure.now.parameters c.args.fetch.now) called.values.now (g.S.Store.content_now c.args.store.now) (g.S.Store.committed c.args.store.now) (g.S.Store.key_columns c.args.store.now) cursors
+    old c.fetch_cursor.new.cursor c.fetch_cursor.result there (ap (λ d. get_or cursors number d) c.index-cursors-fetch.is) c.fetch_cursor.ensures.fetched c.fetch_cursor.ensures.err

@@ -1,20 +1,28 @@
-use Rattle.std.proofs.Common.{◌≡◌, ◌∙◌, true, length, slice_index_or, subst, sym}
+use Rattle.std.proofs.Common.{◌≡◌, ◌∙◌, true, slice_index_or, subst, sym}
 use Rattle.sq_session.specs.Cursors.{is_over}
 use Rattle.sq_session.specs.Kind.{over_of}
 use Rattle.sq_session.specs.declared.cursor.CursorState.{CursorState}
 use Rattle.sq_session.specs.declared.cursor.CursorState.TheVariants as cursor
-use Rattle.sq_session.proofs.Over.{over_here}
+use Rattle.sq_session.proofs.Over.{over_here, over_there, walk_there}
 use Rattle.sq_session.proofs.walk.listed_walks.Goals as goal
 
-pub listed_walk-requires : goal.listed_walk-requires
-listed_walk-requires g c =
-    let tables = length (g.S.Store.content_now c.args.store.now) in
+pub listed_walk-requires-clause-over : goal.listed_walk-requires-clause-over
+listed_walk-requires-clause-over g c =
     let declared = c.args.called.now.cursors.now in
     let cursors = c.args.cursors.now in
     let number = c.loop-number.number in
     let over = over_of (slice_index_or declared number c.index-called-number.result).cursor.body in
-    let here : is_over tables over (slice_index_or cursors number c.index-cursors-number.result) ≡ true =
-    over_here tables declared cursors number c.index-called-number.result c.index-cursors-number.result c.requires c.loop-number-test.true in
+    let here : is_over over (slice_index_or cursors number c.index-cursors-number.result) ≡ true =
+    over_here declared cursors number c.index-called-number.result c.index-cursors-number.result c.requires.cursors c.loop-number-test.true in
     let walks : slice_index_or cursors number c.index-cursors-number.result ≡ cursor.Walking c.in-Walking.walk = sym c.index-cursors-number.is ∙ c.in-Walking.is in
-    let P : CursorState → Type 0 = λ x. is_over tables over x ≡ true in
+    let P : CursorState → Type 0 = λ x. is_over over x ≡ true in
     subst P walks here
+
+pub listed_walk-requires-clause-there : goal.listed_walk-requires-clause-there
+listed_walk-requires-clause-there g c =
+    let called = c.args.called.now in
+    let cursors = c.args.cursors.now in
+    let number = c.loop-number.number in
+    let here = over_there called.cursors.now cursors number c.index-cursors-number.result c.requires.cursors c.loop-number-test.true in
+    let walks : slice_index_or cursors number c.index-cursors-number.result ≡ cursor.Walking c.in-Walking.walk = sym c.index-cursors-number.is ∙ c.in-Walking.is in
+    walk_there called.catalog.now.bases (g.S.Store.content_now c.args.store.now) called.cursors.now number c.in-Walking.walk c.requires.rows c.requires.fit (rw walks at here)
