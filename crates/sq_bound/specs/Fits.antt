@@ -1,12 +1,12 @@
 -- What a bound tree names is there: the tree fits the base tables, the cursors and the parameters that it was bound for.
 -- (Own notion: names are places in bound trees, ISO/IEC 9075:1992 knows none.)
-use Rattle.std.specs.Prelude.{⊤, ◌≡◌, ◌<◌, ℕ, nat_eq, nat_lt, Bool, true, false, ◌&&◌, List, [], ◌∷◌, length, map, Option, None, Some, IfSome, option_all, slice_get}
+use Rattle.std.specs.Prelude.{⊤, ◌≡◌, ◌<◌, ℕ, nat_eq, nat_lt, Bool, true, false, ◌&&◌, List, [], ◌∷◌, length, map, Some, IfSome, slice_get}
 use Rattle.std.specs.List.{list_all}
 use Rattle.sq_store.specs.declared.table.Numbered.{Numbered}
 use Rattle.sq_store.specs.Content.{Content}
 use Rattle.sq_store.specs.Keys.{Keys, keys_at}
+use Rattle.sq_bound.specs.Names.{are_positions, option_all}
 use Rattle.sq_bound.specs.declared.names.BaseTable.{BaseTable}
-use Rattle.sq_bound.specs.declared.names.Column.{Column}
 use Rattle.sq_bound.specs.declared.names.Leaf.{Leaf}
 use Rattle.sq_bound.specs.declared.names.Reference.{Reference}
 use Rattle.sq_bound.specs.declared.names.TableDesc.{TableDesc}
@@ -30,10 +30,6 @@ IsBase bases b = slice_get bases b.place ≡ Some b
 -- so does the one under a base table or an updatable view
 abbrev pub IsOver : List BaseTable → TableDesc → Type 0
 IsOver bases t = IfSome t.leaf (λ l. IsBase bases l.table)
-
--- positions of so many columns
-abbrev pub are_positions : ℕ → List ℕ → Bool
-are_positions columns places = list_all (λ p. nat_lt p columns) places
 
 -- the keys of each base table
 abbrev pub keys_of_bases : List BaseTable → List Keys
@@ -73,13 +69,9 @@ FitsCursor bases c = FitsBody bases c.body
 
 -- ---- statements
 
-abbrev pub is_place : ℕ → Option ℕ → Bool
-is_place count None = true
-is_place count (Some p) = nat_lt p count
-
 -- targets are parameters of the procedure
 abbrev pub are_parameters : ℕ → List Output → Bool
-are_parameters count outputs = list_all (λ o. nat_lt o.parameter count && is_place count o.indicator) outputs
+are_parameters count outputs = list_all (λ o. nat_lt o.parameter count && option_all (λ p. nat_lt p count) o.indicator) outputs
 
 abbrev pub under : ChangeTarget → Leaf
 under (target.Searched t) = t.leaf

@@ -3,6 +3,7 @@
 ghost use Rattle.std.specs.Prelude.{◌≡◌, ◌≤◌, ◌<◌, nat_lt, length, true, IfSome, List};
 ghost use Rattle.std.specs.List.{list_all};
 ghost use Rattle.sq_value.specs.Domain.{IsDomain};
+ghost use Rattle.sq_bound.specs.Names.{are_positions, option_all};
 ghost use Rattle.sq_bound.specs.Parameter.{IsDomain-prop};
 
 use crate::condition::{BoundCond, BoundSpecification, TablePlace};
@@ -92,7 +93,7 @@ pub struct TableDesc {
     pub body: TableBody,
     /// For a base table and an updatable view, the rows under it.
     pub leaf: Option<Shared<Leaf>>,
-    ghost leaf_columns: { IfSome leaf (λ l. list_all (λ c. nat_lt c.leaf_column (length l.table.columns)) columns ≡ true) },
+    ghost leaf_columns: { option_all (λ l. list_all (λ c. nat_lt c.leaf_column (length l.table.columns)) columns) leaf ≡ true },
 }
 
 /// A column, as a query sees it.
@@ -123,8 +124,8 @@ pub struct BaseTable {
     pub primary_key: Option<usize>,
     pub references: Items<Reference>,
     pub checks: Items<BoundCond>,
-    ghost key_columns: { list_all (list_all (λ c. nat_lt c (length columns))) keys ≡ true },
-    ghost referencing: { list_all (λ r. list_all (λ c. nat_lt c (length columns)) r.by_key) references ≡ true },
+    ghost key_columns: { list_all (are_positions (length columns)) keys ≡ true },
+    ghost referencing: { list_all (λ r. are_positions (length columns) r.by_key) references ≡ true },
 }
 
 /// What a column of a base table holds.
@@ -188,14 +189,14 @@ pub struct Leaf {
 
 impl BaseTable {
     /// The column at a position, as one that gets a value.
-    pub fn object_column(&self, position: usize) -> Option<ObjectColumn>
-        ensures { IfSome result (λ column. (column.position ≡ position) × (position < length self.now.columns)) }
+    pub fn object_column(&self, position: usize) -> ObjectColumn
+        requires { position < length self.now.columns }
+        ensures { result.position ≡ position }
     {
-        let column = self.columns.as_slice().get(position)?;
-        Some(ObjectColumn {
+        ObjectColumn {
             position,
-            domain: column.domain,
-        })
+            domain: self.columns.as_slice()[position].domain,
+        }
     }
 }
 
