@@ -1,13 +1,18 @@
--- The procedures that modules declare, and that their names differ (ISO/IEC 9075:1992, 12.1 and 12.3).
-use Rattle.std.specs.Prelude.{◌≡◌, Bool, false, ◌&&◌, List, [], ◌∷◌, ◌++◌, flat_map, fold, nat_eq, ⊤}
-use Rattle.std.specs.List.{list_any}
+-- The procedures that modules declare, that their names differ (ISO/IEC 9075:1992, 12.1 and 12.3), and that what they name is there.
+use Rattle.std.specs.Prelude.{◌≡◌, ℕ, Bool, false, ◌&&◌, List, [], ◌∷◌, ◌++◌, IfOk, flat_map, fold, length, nat_eq, ⊤}
+use Rattle.std.specs.List.{AllByRecursion, list_any}
 use Rattle.std.specs.Cmp.Lexicographic.{pointwise}
 use Rattle.indexmap.specs.IndexSet.{insert_key}
 use Rattle.sq_lex.specs.declared.name.Name.{Name}
+use Rattle.sq_bound.specs.declared.names.BaseTable.{BaseTable}
+use Rattle.sq_bound.specs.Fits.{FitsCursor, FitsStatement}
 use Rattle.sq_tree.specs.declared.module.ModuleItem.{ModuleItem}
 use Rattle.sq_tree.specs.declared.module.ModuleItem.TheVariants as item
 use Rattle.sq_tree.specs.declared.module.ModuleText.{ModuleText}
+use Rattle.sq_module.specs.declared.program.BoundProcedure.{BoundProcedure}
+use Rattle.sq_module.specs.declared.program.DeclaredCursor.{DeclaredCursor}
 use Rattle.sq_module.specs.declared.program.ProcedureName.{ProcedureName}
+use Rattle.sq_module.specs.declared.program.Program.{Program}
 
 abbrev pub same_name : Name → Name → Bool
 same_name = pointwise nat_eq
@@ -51,3 +56,20 @@ AreNew before (name ∷ names) = (list_any (same_name name) before ≡ false) ×
 abbrev pub HaveNames : List Name → List ModuleText → Type 0
 HaveNames before [] = ⊤
 HaveNames before (m ∷ modules) = (list_any (same_name m.name) before ≡ false) × AreNew [] (names_in m.items) × HaveNames (before ++ m.name ∷ []) modules
+
+-- ---- what statements and cursors name is there (own notion, of bound trees)
+
+-- each cursor fits the base tables
+abbrev pub CursorsFit : List BaseTable → List DeclaredCursor → Type 0
+CursorsFit bases cursors = AllByRecursion (λ c. FitsCursor bases c.cursor) cursors
+
+-- a statement without a fault fits the base tables, so many cursors, and the parameters of its procedure
+abbrev pub FitsProcedure : List BaseTable → ℕ → BoundProcedure → Type 0
+FitsProcedure bases cursors p = IfOk p.statement (λ s. FitsStatement bases cursors (length p.parameters) s)
+
+abbrev pub ProceduresFit : List BaseTable → ℕ → List (ProcedureName × BoundProcedure) → Type 0
+ProceduresFit bases cursors procedures = AllByRecursion (λ e. FitsProcedure bases cursors e.1) procedures
+
+-- the cursors of a program fit the base tables, and its procedures those and the cursors
+abbrev pub FitsProgram : List BaseTable → Program → Type 0
+FitsProgram bases p = CursorsFit bases p.cursors.items × ProceduresFit bases (length p.cursors.items) p.procedures.entries

@@ -1,10 +1,13 @@
 //! The procedures and cursors of all modules, with their names as places.
 
-ghost use Rattle.std.specs.Prelude.{◌≡◌, [], ◌∷◌, IfOk, OnOk};
+ghost use Rattle.std.specs.Prelude.{◌≡◌, [], IfOk, IfSome, List, Ok, OnOk, length};
 ghost use Rattle.std.specs.Map.{keys_of};
+ghost use Rattle.indexmap.specs.IndexMap.{insert_entry};
 ghost use Rattle.indexmap.specs.IndexSet.{insert_key};
+ghost use Rattle.sq_bound.specs.Fits.{FitsCursor};
+ghost use Rattle.sq_bound.specs.declared.names.BaseTable.{BaseTable};
 ghost use Rattle.sq_module.specs.Admitted.{admitted_procedures, module_keys, name_of};
-ghost use Rattle.sq_module.specs.Program.{same_procedure, with_procedures};
+ghost use Rattle.sq_module.specs.Program.{FitsProcedure, FitsProgram, same_procedure, with_procedures};
 
 use crate::admission::{AdmittedModule, AdmittedProcedure};
 use indexmap::IndexMap;
@@ -56,6 +59,8 @@ struct ModuleCursors<'a> {
 }
 
 impl<'a> Cursors for ModuleCursors<'a> {
+    ghost cursor_count = { λ c. length c.cursors.now };
+
     fn cursor(&self, name: Name) -> Option<KnownCursor<'_>> {
         let number = self.numbers.get(&name).copied()?;
         match self.cursors.get(number) {
@@ -75,7 +80,8 @@ impl Program {
         catalog: &Catalog,
         modules: &[AdmittedModule<'_>],
     ) -> Result<Program, AllocError>
-        ensures { IfOk result (λ program. keys_of program.procedures.entries ≡ with_procedures [] (admitted_procedures modules.now)) }
+        ensures procedures { IfOk result (λ program. keys_of program.procedures.entries ≡ with_procedures [] (admitted_procedures modules.now)) }
+        ensures fits { IfOk result (FitsProgram catalog.now.bases) }
     {
         let mut program = Program {
             procedures: IndexMap::new(alloc),
@@ -96,7 +102,9 @@ impl Program {
         catalog: &Catalog,
         modules: &[AdmittedModule<'_>],
     ) -> Result<(), AllocError>
-        ensures { OnOk result (keys_of self.new.procedures.entries ≡ with_procedures (keys_of self.old.procedures.entries) (admitted_procedures modules.now)) }
+        requires { FitsProgram catalog.now.bases self.old }
+        ensures procedures { OnOk result (keys_of self.new.procedures.entries ≡ with_procedures (keys_of self.old.procedures.entries) (admitted_procedures modules.now)) }
+        ensures fits { OnOk result (FitsProgram catalog.now.bases self.new) }
     {
         for module in modules {
             self.add_module(alloc, catalog, module)?;
@@ -110,7 +118,9 @@ impl Program {
         catalog: &Catalog,
         module: &AdmittedModule<'_>,
     ) -> Result<(), AllocError>
-        ensures { OnOk result (keys_of self.new.procedures.entries ≡ with_procedures (keys_of self.old.procedures.entries) (module_keys «module».now)) }
+        requires { FitsProgram catalog.now.bases self.old }
+        ensures procedures { OnOk result (keys_of self.new.procedures.entries ≡ with_procedures (keys_of self.old.procedures.entries) (module_keys «module».now)) }
+        ensures fits { OnOk result (FitsProgram catalog.now.bases self.new) }
     {
         let mut numbers = IndexMap::new(alloc);
         let added = self.add_parts(alloc, catalog, module, &mut numbers);
@@ -126,7 +136,9 @@ impl Program {
         module: &AdmittedModule<'_>,
         numbers: &mut IndexMap<Name, usize>,
     ) -> Result<(), AllocError>
-        ensures { OnOk result (keys_of self.new.procedures.entries ≡ with_procedures (keys_of self.old.procedures.entries) (module_keys «module».now)) }
+        requires { FitsProgram catalog.now.bases self.old }
+        ensures procedures { OnOk result (keys_of self.new.procedures.entries ≡ with_procedures (keys_of self.old.procedures.entries) (module_keys «module».now)) }
+        ensures fits { OnOk result (FitsProgram catalog.now.bases self.new) }
     {
         self.add_cursors(alloc, catalog, module, numbers)?;
         self.add_procedures(alloc, catalog, module, numbers)
@@ -140,7 +152,9 @@ impl Program {
         module: &AdmittedModule<'_>,
         numbers: &mut IndexMap<Name, usize>,
     ) -> Result<(), AllocError>
-        ensures { self.new.procedures ≡ self.old.procedures }
+        requires { FitsProgram catalog.now.bases self.old }
+        ensures procedures { self.new.procedures ≡ self.old.procedures }
+        ensures fits { OnOk result (FitsProgram catalog.now.bases self.new) }
     {
         for opener in module.procedures.as_slice() {
             self.add_opened(alloc, catalog, module, opener, numbers)?;
@@ -157,7 +171,9 @@ impl Program {
         opener: &AdmittedProcedure<'_>,
         numbers: &mut IndexMap<Name, usize>,
     ) -> Result<(), AllocError>
-        ensures { self.new.procedures ≡ self.old.procedures }
+        requires { FitsProgram catalog.now.bases self.old }
+        ensures procedures { self.new.procedures ≡ self.old.procedures }
+        ensures fits { OnOk result (FitsProgram catalog.now.bases self.new) }
     {
         let Statement::Open(name) = &opener.procedure.statement else {
             return Ok(());
@@ -181,7 +197,8 @@ impl Program {
         name: Name,
         bound: Result<BoundCursor, BindFault>,
     ) -> Result<(), AllocError>
-        ensures { self.new.procedures ≡ self.old.procedures }
+        ensures procedures { self.new.procedures ≡ self.old.procedures }
+        ensures fits { (bases : List BaseTable) → FitsProgram bases self.old → IfOk bound (FitsCursor bases) → OnOk result (FitsProgram bases self.new) }
     {
         match without_fault(bound)? {
             Some(cursor) => {
@@ -200,7 +217,9 @@ impl Program {
         module: &AdmittedModule<'_>,
         numbers: &IndexMap<Name, usize>,
     ) -> Result<(), AllocError>
-        ensures { OnOk result (keys_of self.new.procedures.entries ≡ with_procedures (keys_of self.old.procedures.entries) (module_keys «module».now)) }
+        requires { FitsProgram catalog.now.bases self.old }
+        ensures procedures { OnOk result (keys_of self.new.procedures.entries ≡ with_procedures (keys_of self.old.procedures.entries) (module_keys «module».now)) }
+        ensures fits { OnOk result (FitsProgram catalog.now.bases self.new) }
     {
         for admitted in module.procedures.as_slice() {
             self.add_procedure(alloc, catalog, module, numbers, admitted)?;
@@ -216,7 +235,9 @@ impl Program {
         numbers: &IndexMap<Name, usize>,
         admitted: &AdmittedProcedure<'_>,
     ) -> Result<(), AllocError>
-        ensures { OnOk result (keys_of self.new.procedures.entries ≡ insert_key same_procedure (keys_of self.old.procedures.entries) (name_of «module».now.name admitted.now)) }
+        requires { FitsProgram catalog.now.bases self.old }
+        ensures procedures { OnOk result (keys_of self.new.procedures.entries ≡ insert_key same_procedure (keys_of self.old.procedures.entries) (name_of «module».now.name admitted.now)) }
+        ensures fits { OnOk result (FitsProgram catalog.now.bases self.new) }
     {
         let cursors = ModuleCursors {
             numbers,
@@ -238,7 +259,9 @@ fn bound_procedure(
     user: Name,
     cursors: &ModuleCursors<'_>,
     admitted: &AdmittedProcedure<'_>,
-) -> Result<BoundProcedure, AllocError> {
+) -> Result<BoundProcedure, AllocError>
+    ensures { IfOk result (FitsProcedure catalog.now.bases (length cursors.now.cursors.now)) }
+{
     let parameters = admitted.parameters.as_slice();
     let written = &admitted.procedure.statement;
     let bound = bind_statement(alloc, catalog, user, parameters, cursors, written);
@@ -262,7 +285,8 @@ fn inserted<T: Drop>(
     name: ProcedureName,
     value: T,
 ) -> Result<(), AllocError>
-    ensures { OnOk result (keys_of named.new.entries ≡ insert_key same_procedure (keys_of named.old.entries) name) }
+    ensures keys { OnOk result (keys_of named.new.entries ≡ insert_key same_procedure (keys_of named.old.entries) name) }
+    ensures entries { OnOk result (named.new.entries ≡ insert_entry same_procedure named.old.entries name value) }
 {
     match named.insert(name, value) {
         Ok(before) => {
@@ -279,7 +303,9 @@ fn inserted<T: Drop>(
 /// What is bound, or its fault; running out of memory is none.
 fn unless_no_memory<T: Drop>(
     bound: Result<T, BindFault>,
-) -> Result<Result<T, BindFault>, AllocError> {
+) -> Result<Result<T, BindFault>, AllocError>
+    ensures { IfOk result (λ kept. kept ≡ bound) }
+{
     match bound {
         Err(BindFault::NoMemory) => Err(AllocError),
         bound => Ok(bound),
@@ -291,7 +317,9 @@ fn named(is_kept: bool) -> Result<(), AllocError> {
 }
 
 /// What is bound, none where it has a fault.
-fn without_fault<T: Drop>(bound: Result<T, BindFault>) -> Result<Option<T>, AllocError> {
+fn without_fault<T: Drop>(bound: Result<T, BindFault>) -> Result<Option<T>, AllocError>
+    ensures { IfOk result (λ part. IfSome part (λ x. bound ≡ Ok x)) }
+{
     match bound {
         Ok(part) => Ok(Some(part)),
         Err(BindFault::NoMemory) => Err(AllocError),

@@ -3,5 +3,5 @@ use Rattle.std.specs.Map.{keys_of}
 use Rattle.sq_module.proofs.Names.{keys_insert}
 use Rattle.sq_module.proofs.program.inserted.Goals as goal
 
-pub returns-in-Ok : goal.returns-in-Ok
-returns-in-Ok g c = ap keys_of c.in-Ok.ensures.entries ∙ keys_insert _ c.args.named.now.entries c.args.name c.args.value
+pub returns-in-Ok-clause-keys : goal.returns-in-Ok-clause-keys
+returns-in-Ok-clause-keys g c = ap keys_of c.in-Ok.ensures.entries ∙ keys_insert _ c.args.named.now.entries c.args.name c.args.value

@@ -1,5 +1,9 @@
 use Rattle.std.proofs.Common.{◌≡◌}
+use Rattle.sq_module.specs.Program.{FitsProgram}
 use Rattle.sq_module.proofs.program.Program.add_cursors.Given as goal
 
 abbrev pub invariant-loop-opener : goal.invariant-loop-opener
-invariant-loop-opener l = l.self.procedures ≡ l.fn.self.procedures
+invariant-loop-opener l = record {
+  procedures : l.self.procedures ≡ l.fn.self.procedures;
+  fits : FitsProgram l.catalog.bases l.self;
+}
