@@ -1,1 +1,3 @@
 pub mod Gains
+pub mod Listed
+pub mod Stored

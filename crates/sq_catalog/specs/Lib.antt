@@ -1,2 +1,5 @@
 pub mod Catalog
 pub mod Fault
+pub mod Reference
+pub mod Stored
+pub mod Written

@@ -1,10 +1,13 @@
 //! The catalog, built element by element (ISO/IEC 9075:1992, 11.1).
 
-ghost use Rattle.std.specs.Prelude.{◌≡◌, [], ◌∷◌, ◌++◌, true, IfErr, IfOk, IsNone, None, OnOk, is_none, length};
+ghost use Rattle.std.specs.Prelude.{◌≡◌, List, [], ◌∷◌, ◌++◌, true, IfErr, IfOk, IfSome, None, OnOk, is_none, length, map};
 ghost use Rattle.std.specs.Map.{keys_of};
-ghost use Rattle.sq_lex.specs.declared.name.Name.{Name as Named};
+ghost use Rattle.sq_store.specs.Keys.{keys_of as keys_given};
+ghost use Rattle.sq_bound.specs.Fits.{all_refer, keys_of_bases};
+ghost use Rattle.sq_bound.specs.declared.names.BaseTable.{BaseTable as Base};
 ghost use Rattle.sq_catalog.specs.Catalog.{Gains, declared_tables, named_by, schema_tables, table_in, table_number, text_tables};
 ghost use Rattle.sq_catalog.specs.Fault.{IsOfSomeText, IsOfText};
+ghost use Rattle.sq_catalog.specs.Stored.{AreStored, IsNext, IsStored};
 
 use crate::fault::{CatalogFault, ElementFault, RefusalName, SchemaRefusal, refused_if};
 use crate::grants::{Held, Privilege};
@@ -42,8 +45,9 @@ pub struct Catalog {
     users: IndexSet<Name>,
     bases: IndexMap<FullName, TableDesc>,
     views: IndexMap<FullName, TableDesc>,
-    pub(crate) base_tables: Vec<Shared<BaseTable>>,
+    base_tables: Vec<Shared<BaseTable>>,
     pub(crate) held: Held,
+    ghost refer: { all_refer base_tables.items ≡ true },
 }
 
 impl Model for Catalog {
@@ -53,13 +57,17 @@ impl Model for Catalog {
     ghost use Rattle.sq_bound.specs.contracts.condition.Predicate as predicate;
     ghost use Rattle.sq_bound.specs.contracts.expression.BoundExpr as expression;
     ghost use Rattle.sq_bound.specs.contracts.names.BaseColumn as column;
+    ghost use Rattle.sq_bound.specs.contracts.names.BaseTable as base;
     ghost use Rattle.sq_catalog.specs.Catalog.{Catalog};
+    ghost use Rattle.sq_catalog.specs.Stored.{AreStored};
 
     ghost Value = { Catalog };
 
-    ghost coded = { Prim.hlevel (codes, column.the_row.coded, condition.the_row.coded, predicate.the_row.coded, expression.the_row.coded) };
+    ghost coded = { Prim.hlevel (codes, base.the_row.coded, column.the_row.coded, condition.the_row.coded, predicate.the_row.coded, expression.the_row.coded) };
 
-    ghost view = { λ c. record { tables = keys_of c.bases.entries; bases = c.base_tables.items } };
+    ghost view = { λ c. record { tables = keys_of c.bases.entries; bases = c.base_tables.items; refer = c.refer } };
+
+    ghost invariant = { λ c. AreStored c.base_tables.items c.bases.entries × AreStored c.base_tables.items c.views.entries };
 }
 
 impl Catalog {
@@ -96,7 +104,7 @@ impl Catalog {
 
     /// For each base table, the columns of each of its keys.
     pub fn keys(&self, alloc: Global) -> Result<Vec<Vec<Vec<usize>>>, AllocError>
-        ensures { IfOk result (λ keys. length keys.items ≡ length self.now.bases) }
+        ensures { IfOk result (λ keys. keys_given keys.items ≡ keys_of_bases self.now.bases) }
     {
         all_keys(alloc, self.base_tables.as_slice())
     }
@@ -155,7 +163,7 @@ impl Catalog {
     ) -> Result<(), ElementFault>
         ensures { OnOk result (full_name.now.user ≡ user → table_number self.now.tables full_name.now.user full_name.now.name ≡ None) }
     {
-        let is_used = full_name.user == user && self.place_of(full_name).is_some();
+        let is_used = full_name.user == user && self.entry(full_name).is_some();
         refused_if(is_used, RefusalName::NameTwice)
     }
 
@@ -168,28 +176,36 @@ impl Catalog {
         refused_if(tables >= MOST_TABLES, RefusalName::TooManyTables)
     }
 
-    /// The place of the next base table.
-    pub(crate) fn next_base(&self) -> usize {
-        self.bases.len()
-    }
-
     /// The place of the next view.
     pub(crate) fn next_view(&self) -> usize {
         self.views.len()
     }
 
-    /// Adds a base table of a new name.
-    pub(crate) fn add_base(&mut self, name: FullName, table: TableDesc) -> Result<(), ElementFault>
-        requires { table_number self.old.tables name.user name.name ≡ None }
-        ensures tables { OnOk result (self.new.tables ≡ self.old.tables ++ name ∷ []) }
-        ensures bases { self.new.bases ≡ self.old.bases }
+    /// Adds a base table of a new name behind the others, and the table as names see it.
+    pub(crate) fn add_base(
+        &mut self,
+        name: FullName,
+        table: TableDesc,
+        base: Shared<BaseTable>,
+    ) -> Result<(), ElementFault>
+        requires new { table_number self.old.tables name.user name.name ≡ None }
+        requires next { IsNext self.old.bases table base }
+        ensures { OnOk result (Gains self.old self.new (name ∷ [])) }
     {
-        insert_table(&mut self.bases, name, table)
+        match self.base_tables.push(base) {
+            Ok(()) => insert_table(&mut self.bases, name, table),
+            Err(error) => {
+                drop(error);
+                drop(table);
+                Err(ElementFault::NoMemory)
+            }
+        }
     }
 
-    /// Adds a view of a new name.
+    /// Adds a view.
     pub(crate) fn add_view(&mut self, name: FullName, table: TableDesc) -> Result<(), ElementFault>
-        ensures { self.new ≡ self.old }
+        requires { IsStored self.old.bases table }
+        ensures { Gains self.old self.new [] }
     {
         insert_table(&mut self.views, name, table)
     }
@@ -201,23 +217,28 @@ impl Catalog {
         self.bases.get_index_of(&FullName { user, name })
     }
 
-    /// Where the table or view of this name stands.
-    pub(crate) fn place_of(&self, full_name: &FullName) -> Option<TablePlace>
-        ensures { is_none result ≡ true → table_number self.now.tables full_name.now.user full_name.now.name ≡ None }
+    /// The table or view of this name, and where it stands.
+    pub(crate) fn entry(&self, full_name: &FullName) -> Option<(TablePlace, &TableDesc)>
+        ensures absent { is_none result ≡ true → table_number self.now.tables full_name.now.user full_name.now.name ≡ None }
+        ensures stored { IfSome result (λ entry. IsStored self.now.bases entry.1.now) }
     {
-        match self.bases.get_index_of(full_name) {
-            Some(place) => Some(TablePlace::Base(place)),
-            None => Some(TablePlace::View(self.views.get_index_of(full_name)?)),
+        match self.bases.get_full(full_name) {
+            Some((place, _, table)) => Some((TablePlace::Base(place), table)),
+            None => match self.views.get_full(full_name) {
+                Some((place, _, table)) => Some((TablePlace::View(place), table)),
+                None => None,
+            },
         }
     }
 
     /// The table or view at a place.
-    pub(crate) fn table_at(&self, place: TablePlace) -> Option<&TableDesc> {
-        let (_, table) = match place {
-            TablePlace::Base(place) => self.bases.get_index(place)?,
-            TablePlace::View(place) => self.views.get_index(place)?,
-        };
-        Some(table)
+    fn table_at(&self, place: TablePlace) -> Option<&TableDesc>
+        ensures { IfSome result (λ table. IsStored self.now.bases table.now) }
+    {
+        match place {
+            TablePlace::Base(place) => value_at(&self.bases, place),
+            TablePlace::View(place) => value_at(&self.views, place),
+        }
     }
 
     fn holds(
@@ -232,7 +253,7 @@ impl Catalog {
             user: table.0,
             name: table.1,
         };
-        let Some(place) = self.place_of(&full_name) else {
+        let Some((place, _)) = self.entry(&full_name) else {
             return false;
         };
         if matches!(place, TablePlace::Base(_)) && full_name.user == user {
@@ -249,7 +270,8 @@ fn insert_table(
     name: FullName,
     table: TableDesc,
 ) -> Result<(), ElementFault>
-    ensures { OnOk result (table_number (keys_of tables.old.entries) name.user name.name ≡ None → keys_of tables.new.entries ≡ keys_of tables.old.entries ++ name ∷ []) }
+    ensures names { OnOk result (table_number (keys_of tables.old.entries) name.user name.name ≡ None → keys_of tables.new.entries ≡ keys_of tables.old.entries ++ name ∷ []) }
+    ensures stored { (bases : List Base) → AreStored bases tables.old.entries → IsStored bases table → AreStored bases tables.new.entries }
 {
     match tables.insert(name, table) {
         Ok(before) => {
@@ -261,6 +283,14 @@ fn insert_table(
             Err(ElementFault::NoMemory)
         }
     }
+}
+
+/// The table or view at a place among those of its kind.
+fn value_at(tables: &IndexMap<FullName, TableDesc>, place: usize) -> Option<&TableDesc>
+    ensures { IfSome result (λ table. (bases : List Base) → AreStored bases tables.now.entries → IsStored bases table.now) }
+{
+    let (_, table) = tables.get_index(place)?;
+    Some(table)
 }
 
 /// A fault of an element with the element's place.
@@ -293,7 +323,7 @@ pub(crate) fn full_name(user: Name, written: TableName) -> FullName
 
 /// For each base table, the columns of each of its keys.
 fn all_keys(alloc: Global, tables: &[Shared<BaseTable>]) -> Result<Vec<Vec<Vec<usize>>>, AllocError>
-    ensures { IfOk result (λ keys. length keys.items ≡ length tables.now) }
+    ensures { IfOk result (λ keys. keys_given keys.items ≡ keys_of_bases tables.now) }
 {
     let mut keys = Vec::new(alloc);
     for table in tables {
@@ -303,7 +333,9 @@ fn all_keys(alloc: Global, tables: &[Shared<BaseTable>]) -> Result<Vec<Vec<Vec<u
 }
 
 /// The columns of each key.
-fn key_columns(alloc: Global, keys: &[Items<usize>]) -> Result<Vec<Vec<usize>>, AllocError> {
+fn key_columns(alloc: Global, keys: &[Items<usize>]) -> Result<Vec<Vec<usize>>, AllocError>
+    ensures { IfOk result (λ columns. map (λ key. key.items) columns.items ≡ keys.now) }
+{
     let mut columns = Vec::new(alloc);
     for key in keys {
         columns.push(Vec::from_slice(alloc, key.as_slice())?)?;
@@ -314,13 +346,15 @@ fn key_columns(alloc: Global, keys: &[Items<usize>]) -> Result<Vec<Vec<usize>>, 
 impl Names for Catalog {
     ghost base_tables = { λ c. c.bases };
 
+    ghost references = { λ c. c.refer };
+
     fn bases(&self) -> &[Shared<BaseTable>] {
         self.base_tables.as_slice()
     }
 
     fn table(&self, user: Name, name: Name) -> Option<&TableDesc> {
-        let place = self.place_of(&FullName { user, name })?;
-        self.table_at(place)
+        let (_, table) = self.entry(&FullName { user, name })?;
+        Some(table)
     }
 
     fn at(&self, place: TablePlace) -> Option<&TableDesc> {

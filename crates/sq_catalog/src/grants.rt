@@ -1,6 +1,8 @@
 //! Privileges: what users and PUBLIC hold, with or without the grant option, and GRANT (ISO/IEC 9075:1992, 10.3, 11.36).
 
-ghost use Rattle.std.specs.Prelude.{◌≡◌, OnOk};
+ghost use Rattle.std.specs.Prelude.{◌≡◌, [], true, IfOk, OnOk, length};
+ghost use Rattle.sq_bound.specs.Names.{are_positions};
+ghost use Rattle.sq_catalog.specs.Catalog.{Gains};
 
 use crate::catalog::{Catalog, FullName, full_name};
 use crate::fault::{ElementFault, RefusalName, refused_if};
@@ -86,6 +88,52 @@ impl Held {
     }
 }
 
+impl Held {
+    /// Adds the privileges that a grant names, and with the grant option that.
+    fn add_named(
+        &mut self,
+        table: TablePlace,
+        named: &Named,
+        statement: &GrantStatement,
+    ) -> Result<(), ElementFault> {
+        refused_if(named.has_twice, RefusalName::OtherSchema)?;
+        let privileges = named.privileges.as_slice();
+        self.add_grantees(table, privileges, &statement.grantees, false)?;
+        if statement.grant_option {
+            self.add_grantees(table, privileges, &statement.grantees, true)?;
+        }
+        Ok(())
+    }
+
+    /// Adds privileges, or their grant options, for each grantee.
+    fn add_grantees(
+        &mut self,
+        table: TablePlace,
+        privileges: &[Privilege],
+        grantees: &CommaList<Grantee>,
+        to_grant: bool,
+    ) -> Result<(), ElementFault> {
+        self.add_grantee(table, privileges, &grantees.first, to_grant)?;
+        for grantee in grantees.rest.as_slice() {
+            self.add_grantee(table, privileges, grantee, to_grant)?;
+        }
+        Ok(())
+    }
+
+    fn add_grantee(
+        &mut self,
+        table: TablePlace,
+        privileges: &[Privilege],
+        grantee: &Grantee,
+        to_grant: bool,
+    ) -> Result<(), ElementFault> {
+        for privilege in privileges {
+            self.add(user_of(grantee), table, *privilege, to_grant)?;
+        }
+        Ok(())
+    }
+}
+
 /// An action, on one column where it is one on columns.
 #[derive(Clone, Copy)]
 pub(crate) struct Privilege {
@@ -108,53 +156,16 @@ impl Catalog {
         user: Name,
         statement: &GrantStatement,
     ) -> Result<(), ElementFault>
-        ensures { OnOk result (self.new ≡ self.old) }
+        ensures { OnOk result (Gains self.old self.new []) }
     {
         let name = full_name(user, statement.table);
-        let Some(place) = self.place_of(&name) else {
+        let Some((place, table)) = self.entry(&name) else {
             return Err(ElementFault::Refused(RefusalName::UnknownName));
         };
-        let named = self.granted(user, &name, place, &statement.privileges)?;
-        refused_if(named.has_twice, RefusalName::OtherSchema)?;
-        let privileges = named.privileges.as_slice();
-        self.add_grantees(place, privileges, &statement.grantees, false)?;
-        if statement.grant_option {
-            self.add_grantees(place, privileges, &statement.grantees, true)?;
-        }
-        Ok(())
-    }
-
-    /// Adds privileges, or their grant options, for each grantee.
-    fn add_grantees(
-        &mut self,
-        table: TablePlace,
-        privileges: &[Privilege],
-        grantees: &CommaList<Grantee>,
-        to_grant: bool,
-    ) -> Result<(), ElementFault>
-        ensures { OnOk result (self.new ≡ self.old) }
-    {
-        self.add_grantee(table, privileges, &grantees.first, to_grant)?;
-        for grantee in grantees.rest.as_slice() {
-            self.add_grantee(table, privileges, grantee, to_grant)?;
-        }
-        Ok(())
-    }
-
-    fn add_grantee(
-        &mut self,
-        table: TablePlace,
-        privileges: &[Privilege],
-        grantee: &Grantee,
-        to_grant: bool,
-    ) -> Result<(), ElementFault>
-        ensures { OnOk result (self.new ≡ self.old) }
-    {
-        for privilege in privileges {
-            let user = user_of(grantee);
-            self.held.add(user, table, *privilege, to_grant)?;
-        }
-        Ok(())
+        let named = self.granted(user, &name, table, &statement.privileges)?;
+        let added = self.held.add_named(place, &named, statement);
+        drop(named);
+        added
     }
 
     /// The privileges of a grant, each held with the grant option.
@@ -162,12 +173,9 @@ impl Catalog {
         &self,
         user: Name,
         name: &FullName,
-        place: TablePlace,
+        table: &TableDesc,
         privileges: &Privileges,
     ) -> Result<Named, ElementFault> {
-        let Some(table) = self.table_at(place) else {
-            return Err(ElementFault::Refused(RefusalName::UnknownName));
-        };
         match privileges {
             Privileges::All => self.all_grantable(user, name, table),
             Privileges::Actions(actions) => {
@@ -337,7 +345,9 @@ pub(crate) fn columns_of(
     alloc: Global,
     table: &TableDesc,
     names: &[Name],
-) -> Result<Items<usize>, ElementFault> {
+) -> Result<Items<usize>, ElementFault>
+    ensures { IfOk result (λ positions. are_positions (length table.now.columns) positions ≡ true) }
+{
     let mut positions = Items::new(alloc);
     for name in names {
         match table.column(*name) {

@@ -1,5 +1,10 @@
 //! Keys of a table definition (ISO/IEC 9075:1992, 11.7; that each column is NOT NULL, and the number of columns, are own rules).
 
+ghost use Rattle.std.specs.Prelude.{◌≡◌, true, IfOk, OnOk};
+ghost use Rattle.std.specs.List.{list_all};
+ghost use Rattle.sq_bound.specs.Names.{are_positions};
+ghost use Rattle.sq_catalog.specs.Written.{column_count};
+
 use crate::fault::{ElementFault, RefusalName, refused_if};
 use crate::written::{NamedColumns, WrittenKey, has_twice};
 use sq_items::Items;
@@ -25,7 +30,9 @@ pub(crate) fn keys_of(
     alloc: Global,
     named: &NamedColumns,
     written: &[WrittenKey],
-) -> Result<Keys, ElementFault> {
+) -> Result<Keys, ElementFault>
+    ensures { IfOk result (λ keys. list_all (are_positions (column_count named.now)) keys.columns ≡ true) }
+{
     let mut keys = Keys {
         columns: Items::new(alloc),
         primary: None,
@@ -47,7 +54,10 @@ impl Keys {
         alloc: Global,
         named: &NamedColumns,
         written: &[WrittenKey],
-    ) -> Result<(), ElementFault> {
+    ) -> Result<(), ElementFault>
+        requires { list_all (are_positions (column_count named.now)) self.old.columns ≡ true }
+        ensures { OnOk result (list_all (are_positions (column_count named.now)) self.new.columns ≡ true) }
+    {
         for key in written {
             let columns = self.found_columns(alloc, named, key.columns.as_slice())?;
             if key.is_primary {
@@ -65,7 +75,10 @@ impl Keys {
         alloc: Global,
         named: &NamedColumns,
         names: &[Name],
-    ) -> Result<Items<usize>, ElementFault> {
+    ) -> Result<Items<usize>, ElementFault>
+        ensures columns { self.new.columns ≡ self.old.columns }
+        ensures positions { IfOk result (λ positions. are_positions (column_count named.now) positions ≡ true) }
+    {
         let mut positions = Items::new(alloc);
         for name in names {
             let column = named.column(*name)?;

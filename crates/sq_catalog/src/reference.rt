@@ -1,16 +1,26 @@
 //! References of a table definition (ISO/IEC 9075:1992, 11.8).
 
+ghost use Rattle.std.specs.Prelude.{◌≡◌, ◌<◌, ℕ, true, length, IfOk, IfSome, OnOk};
+ghost use Rattle.std.specs.List.{All, list_all};
+ghost use Rattle.sq_store.specs.Keys.{keys_at};
+ghost use Rattle.sq_bound.specs.Names.{are_positions, option_all};
+ghost use Rattle.sq_catalog.specs.Reference.{IsFound, is_to, keys_with, target_width};
+ghost use Rattle.sq_catalog.specs.Stored.{IsStored};
+ghost use Rattle.sq_catalog.specs.Written.{column_count};
+
 use crate::catalog::{Catalog, FullName, full_name};
 use crate::fault::{ElementFault, RefusalName, refused_if};
 use crate::grants::columns_of;
 use crate::key::{Keys, is_bad_list};
 use crate::written::{NamedColumns, WrittenReference, names_of, pushed};
-use sq_bound::{Action, Column, Names, Reference, TableBody, TableDesc};
+use sq_bound::{Action, BaseTable, Column, Names, Reference, Shared, TableBody, TableDesc};
 use sq_items::Items;
 use sq_lex::Name;
 use sq_scope::both;
 use sq_tree::References;
 use std::alloc::Global;
+
+const BAD_REFERENCE: ElementFault = ElementFault::Refused(RefusalName::BadReference);
 
 /// A reference whose table and columns are found.
 #[derive(Drop)]
@@ -35,7 +45,9 @@ pub(crate) fn references_of<'t>(
     catalog: &'t Catalog,
     own: &OwnTable<'_>,
     written: &[WrittenReference<'_>],
-) -> Result<Vec<FoundReference<'t>>, ElementFault> {
+) -> Result<Vec<FoundReference<'t>>, ElementFault>
+    ensures { IfOk result (λ found. All (IsFound catalog.now.bases (column_count own.now.columns.now)) found.items) }
+{
     let mut references = Vec::new(catalog.alloc());
     match add_found(catalog, own, written, &mut references) {
         Ok(()) => Ok(references),
@@ -51,7 +63,10 @@ fn add_found<'t>(
     own: &OwnTable<'_>,
     written: &[WrittenReference<'_>],
     references: &mut Vec<FoundReference<'t>>,
-) -> Result<(), ElementFault> {
+) -> Result<(), ElementFault>
+    requires { All (IsFound catalog.now.bases (column_count own.now.columns.now)) references.old.items }
+    ensures { OnOk result (All (IsFound catalog.now.bases (column_count own.now.columns.now)) references.new.items) }
+{
     for reference in written {
         let found = found_reference(catalog, own, reference)?;
         pushed(references.push(found).is_ok())?;
@@ -63,7 +78,9 @@ fn found_reference<'t>(
     catalog: &'t Catalog,
     own: &OwnTable<'_>,
     reference: &WrittenReference<'_>,
-) -> Result<FoundReference<'t>, ElementFault> {
+) -> Result<FoundReference<'t>, ElementFault>
+    ensures { IfOk result (IsFound catalog.now.bases (column_count own.now.columns.now)) }
+{
     let earlier = earlier_table(catalog, own, full_name(own.user, reference.to.table))?;
     let columns = own
         .columns
@@ -82,12 +99,14 @@ fn earlier_table<'t>(
     catalog: &'t Catalog,
     own: &OwnTable<'_>,
     name: FullName,
-) -> Result<Option<&'t TableDesc>, ElementFault> {
+) -> Result<Option<&'t TableDesc>, ElementFault>
+    ensures { IfOk result (λ earlier. IfSome earlier (λ table. IsStored catalog.now.bases table.now)) }
+{
     if name == own.full_name {
         return Ok(None);
     }
-    match catalog.table(name.user, name.name) {
-        Some(table) => Ok(Some(table)),
+    match catalog.entry(&name) {
+        Some((_, table)) => Ok(Some(table)),
         None => Err(ElementFault::Refused(RefusalName::UnknownName)),
     }
 }
@@ -98,7 +117,9 @@ fn listed_columns(
     own: &OwnTable<'_>,
     earlier: Option<&TableDesc>,
     to: &References,
-) -> Result<Option<Items<usize>>, ElementFault> {
+) -> Result<Option<Items<usize>>, ElementFault>
+    ensures { IfOk result (λ listed. option_all (are_positions (target_width (column_count own.now.columns.now) earlier.entry)) listed ≡ true) }
+{
     match &to.columns {
         Some(list) => {
             let names = names_of(alloc, list)?;
@@ -114,7 +135,9 @@ fn positions_in(
     own: &OwnTable<'_>,
     earlier: Option<&TableDesc>,
     names: &[Name],
-) -> Result<Items<usize>, ElementFault> {
+) -> Result<Items<usize>, ElementFault>
+    ensures { IfOk result (λ positions. are_positions (target_width (column_count own.now.columns.now) earlier.entry) positions ≡ true) }
+{
     match earlier {
         None => own.columns.positions(alloc, names),
         Some(table) => columns_of(alloc, table, names),
@@ -145,36 +168,42 @@ struct Target<'a> {
     columns: &'a [Column],
     keys: &'a [Items<usize>],
     primary: Option<usize>,
+    ghost keyed: { list_all (are_positions (length columns.now)) keys.now ≡ true },
 }
 
-/// The table that is being defined, when its columns and keys are known.
+/// The table that is being defined behind others, when its columns and keys are known.
 #[derive(Clone, Copy)]
 pub(crate) struct OwnKeys<'a> {
-    pub place: usize,
+    pub before: &'a [Shared<BaseTable>],
     pub columns: &'a [Column],
     pub keys: &'a Keys,
-}
-
-fn bad_reference<T>() -> Result<T, ElementFault> {
-    Err(ElementFault::Refused(RefusalName::BadReference))
+    ghost keyed: { list_all (are_positions (length columns.now)) keys.now.columns ≡ true },
 }
 
 fn target_of<'a>(
     own: OwnKeys<'a>,
     earlier: Option<&'a TableDesc>,
-) -> Result<Target<'a>, ElementFault> {
+) -> Result<Target<'a>, ElementFault>
+    requires { IfSome earlier (λ table. IsStored own.before.now table.now) }
+    ensures keys { IfOk result (λ target. keys_at (keys_with own.entry.before.now own.entry.keys.now.columns) target.place ≡ target.keys.now) }
+    ensures columns { IfOk result (λ target. length target.columns.now ≡ target_width (length own.entry.columns.now) earlier.entry) }
+{
     match earlier {
         None => Ok(Target {
-            place: own.place,
+            place: own.before.len(),
             columns: own.columns,
             keys: own.keys.columns.as_slice(),
             primary: own.keys.primary,
         }),
-        Some(table) => base_target(table),
+        Some(table) => base_target(own, table),
     }
 }
 
-fn base_target(table: &TableDesc) -> Result<Target<'_>, ElementFault> {
+fn base_target<'a>(own: OwnKeys<'a>, table: &'a TableDesc) -> Result<Target<'a>, ElementFault>
+    requires { IsStored own.before.now table.now }
+    ensures keys { IfOk result (λ target. keys_at (keys_with own.entry.before.now own.entry.keys.now.columns) target.place ≡ target.keys.now) }
+    ensures columns { IfOk result (λ target. length target.columns.now ≡ length table.now.columns) }
+{
     match &table.body {
         TableBody::Base(base) => {
             let base = base.get();
@@ -185,7 +214,7 @@ fn base_target(table: &TableDesc) -> Result<Target<'_>, ElementFault> {
                 primary: base.primary_key,
             })
         }
-        TableBody::View(_) => bad_reference(),
+        TableBody::View(_) => Err(BAD_REFERENCE),
     }
 }
 
@@ -203,7 +232,10 @@ pub(crate) fn bound_references<'a>(
     user: Name,
     own: OwnKeys<'a>,
     found: &'a [FoundReference<'a>],
-) -> Result<BoundReferences, ElementFault> {
+) -> Result<BoundReferences, ElementFault>
+    requires { All (IsFound own.before.now (length own.columns.now)) found.now }
+    ensures { IfOk result (λ bound. list_all (is_to (keys_with own.entry.before.now own.entry.keys.now.columns) (length own.entry.columns.now)) bound.references ≡ true) }
+{
     let mut bound = BoundReferences {
         references: Items::new(catalog.alloc()),
         are_permitted: true,
@@ -224,7 +256,11 @@ impl BoundReferences {
         user: Name,
         own: OwnKeys<'a>,
         found: &'a [FoundReference<'a>],
-    ) -> Result<(), ElementFault> {
+    ) -> Result<(), ElementFault>
+        requires found { All (IsFound own.before.now (length own.columns.now)) found.now }
+        requires bound { list_all (is_to (keys_with own.before.now own.keys.now.columns) (length own.columns.now)) self.old.references ≡ true }
+        ensures { OnOk result (list_all (is_to (keys_with own.entry.before.now own.entry.keys.now.columns) (length own.entry.columns.now)) self.new.references ≡ true) }
+    {
         for reference in found {
             self.add(catalog, user, own, reference)?;
         }
@@ -237,21 +273,37 @@ impl BoundReferences {
         user: Name,
         own: OwnKeys<'a>,
         reference: &'a FoundReference<'a>,
-    ) -> Result<(), ElementFault> {
+    ) -> Result<(), ElementFault>
+        requires found { IsFound own.before.now (length own.columns.now) reference.now }
+        requires bound { list_all (is_to (keys_with own.before.now own.keys.now.columns) (length own.columns.now)) self.old.references ≡ true }
+        ensures { OnOk result (list_all (is_to (keys_with own.entry.before.now own.entry.keys.now.columns) (length own.entry.columns.now)) self.new.references ≡ true) }
+    {
         let target = target_of(own, reference.earlier)?;
         let key = referenced_key(target, &reference.listed)?;
+        if !may_reference(catalog, user, reference.earlier, key.columns) {
+            self.are_permitted = false;
+        }
         let bound = bound_reference(catalog.alloc(), own, reference, target, key)?;
         self.references.push(bound)?;
-        if let Some(table) = reference.earlier {
-            let may = may_reference(catalog, user, table, key.columns);
-            self.are_permitted = self.are_permitted && may;
-        }
         Ok(())
     }
 }
 
+/// Whether a user may reference columns of an earlier table, or of the one that is being defined.
+fn may_reference(
+    catalog: &Catalog,
+    user: Name,
+    earlier: Option<&TableDesc>,
+    columns: &[usize],
+) -> bool {
+    match earlier {
+        Some(table) => holds_references(catalog, user, table, columns),
+        None => true,
+    }
+}
+
 /// Whether a user holds REFERENCES on columns of a table.
-fn may_reference(catalog: &Catalog, user: Name, table: &TableDesc, columns: &[usize]) -> bool {
+fn holds_references(catalog: &Catalog, user: Name, table: &TableDesc, columns: &[usize]) -> bool {
     columns.iter().all(|column| catalog.may(
         user,
         Action::References,
@@ -266,12 +318,17 @@ fn bound_reference<'a>(
     reference: &'a FoundReference<'a>,
     target: Target<'a>,
     key: ReferencedKey<'a>,
-) -> Result<Reference, ElementFault> {
+) -> Result<Reference, ElementFault>
+    requires own { are_positions (length own.columns.now) reference.now.columns ≡ true }
+    requires listed { are_positions (length target.columns.now) key.listed.now ≡ true }
+    ensures place { IfOk result (λ bound. (bound.table ≡ target.entry.place) × (bound.key ≡ key.entry.place)) }
+    ensures by_key { IfOk result (λ bound. are_positions (length own.entry.columns.now) bound.by_key ≡ true) }
+{
     let columns = reference.columns.as_slice();
     if columns.len() != key.listed.len()
         || !kinds_agree(own.columns, columns, target.columns, key.listed)
     {
-        return bad_reference();
+        return Err(BAD_REFERENCE);
     }
     Ok(Reference {
         columns: Items::from_slice(alloc, columns)?,
@@ -293,7 +350,11 @@ struct ReferencedKey<'a> {
 fn referenced_key<'a>(
     target: Target<'a>,
     listed: &'a Option<Items<usize>>,
-) -> Result<ReferencedKey<'a>, ElementFault> {
+) -> Result<ReferencedKey<'a>, ElementFault>
+    requires { option_all (are_positions (length target.columns.now)) listed.now ≡ true }
+    ensures place { IfOk result (λ key. key.place < length target.entry.keys.now) }
+    ensures listed { IfOk result (λ key. are_positions (length target.entry.columns.now) key.listed.now ≡ true) }
+{
     match listed {
         Some(listed) => listed_key(target, listed.as_slice()),
         None => primary_key(target),
@@ -304,7 +365,10 @@ fn referenced_key<'a>(
 fn listed_key<'a>(
     target: Target<'a>,
     listed: &'a [usize],
-) -> Result<ReferencedKey<'a>, ElementFault> {
+) -> Result<ReferencedKey<'a>, ElementFault>
+    ensures place { IfOk result (λ key. key.place < length target.entry.keys.now) }
+    ensures listed { IfOk result (λ key. key.listed.now ≡ listed.now) }
+{
     for (place, key) in target.keys.iter().enumerate() {
         let columns = key.as_slice();
         if are_the_same(columns, listed) {
@@ -315,11 +379,14 @@ fn listed_key<'a>(
             });
         }
     }
-    bad_reference()
+    Err(BAD_REFERENCE)
 }
 
 /// The primary key, if the table has one.
-fn primary_key(target: Target<'_>) -> Result<ReferencedKey<'_>, ElementFault> {
+fn primary_key(target: Target<'_>) -> Result<ReferencedKey<'_>, ElementFault>
+    ensures place { IfOk result (λ key. key.place < length target.entry.keys.now) }
+    ensures listed { IfOk result (λ key. are_positions (length target.entry.columns.now) key.listed.now ≡ true) }
+{
     for (place, key) in target.keys.iter().enumerate() {
         if target.primary == Some(place) {
             return Ok(ReferencedKey {
@@ -329,7 +396,7 @@ fn primary_key(target: Target<'_>) -> Result<ReferencedKey<'_>, ElementFault> {
             });
         }
     }
-    bad_reference()
+    Err(BAD_REFERENCE)
 }
 
 /// Whether two lists without repeats have the same columns, in any order.
@@ -338,21 +405,22 @@ fn are_the_same(key: &[usize], listed: &[usize]) -> bool {
 }
 
 /// Whether each two paired columns are both numbers or both texts.
-fn kinds_agree(own: &[Column], columns: &[usize], target: &[Column], listed: &[usize]) -> bool {
-    columns
-        .iter()
-        .zip(listed)
-        .all(|(column, other)| agree_at(own, *column, target, *other))
+fn kinds_agree(own: &[Column], columns: &[usize], target: &[Column], listed: &[usize]) -> bool
+    requires pairs { length columns.now ≡ length listed.now }
+    requires own { are_positions (length own.now) columns.now ≡ true }
+    requires listed { are_positions (length target.now) listed.now ≡ true }
+{
+    for (pair, column) in columns.iter().enumerate() {
+        let other = listed[pair];
+        if is_number(&own[*column]) != is_number(&target[other]) {
+            return false;
+        }
+    }
+    true
 }
 
-fn agree_at(own: &[Column], column: usize, target: &[Column], other: usize) -> bool {
-    match (own.get(column), target.get(other)) {
-        (Some(column), Some(other)) => {
-            matches!(column.kind, sq_value::Kind::Num(_))
-                == matches!(other.kind, sq_value::Kind::Num(_))
-        }
-        _ => false,
-    }
+fn is_number(column: &Column) -> bool {
+    matches!(column.kind, sq_value::Kind::Num(_))
 }
 
 /// For each column of the key, the column that is paired with it.
@@ -361,14 +429,31 @@ fn in_key_order(
     key: &[usize],
     listed: &[usize],
     columns: &[usize],
-) -> Result<Items<usize>, ElementFault> {
+) -> Result<Items<usize>, ElementFault>
+    requires { length listed.now ≡ length columns.now }
+    ensures { IfOk result (λ ordered. (width : ℕ) → are_positions width columns.now ≡ true → are_positions width ordered ≡ true) }
+{
     let mut ordered = Items::new(alloc);
     for key_column in key {
-        for (other, column) in listed.iter().zip(columns) {
-            if other == key_column {
-                ordered.push(*column)?;
-            }
-        }
+        push_paired(&mut ordered, *key_column, listed, columns)?;
     }
     Ok(ordered)
+}
+
+/// Adds the column that is paired with a column of the key.
+fn push_paired(
+    ordered: &mut Items<usize>,
+    key_column: usize,
+    listed: &[usize],
+    columns: &[usize],
+) -> Result<(), ElementFault>
+    requires { length listed.now ≡ length columns.now }
+    ensures { OnOk result ((width : ℕ) → are_positions width columns.now ≡ true → are_positions width ordered.old ≡ true → are_positions width ordered.new ≡ true) }
+{
+    for (pair, other) in listed.iter().enumerate() {
+        if *other == key_column {
+            ordered.push(columns[pair])?;
+        }
+    }
+    Ok(())
 }

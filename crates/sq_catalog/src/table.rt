@@ -1,8 +1,13 @@
 //! CREATE TABLE (ISO/IEC 9075:1992, 11.3 to 11.9).
 
-ghost use Rattle.std.specs.Prelude.{◌≡◌, ◌∷◌, [], IsTrue, OnOk};
-ghost use Rattle.sq_catalog.specs.Catalog.{Gains, named_by};
+ghost use Rattle.std.specs.Prelude.{◌≡◌, ◌∷◌, [], nat_lt, true, length, vec_len, IfOk, IsTrue, OnOk};
+ghost use Rattle.std.specs.List.{All, list_all};
 ghost use Rattle.sq_value.specs.Domain.{IsDomain, FitsKind};
+ghost use Rattle.sq_bound.specs.Names.{are_positions};
+ghost use Rattle.sq_catalog.specs.Catalog.{Gains, named_by};
+ghost use Rattle.sq_catalog.specs.Reference.{IsFound, is_to, keys_with};
+ghost use Rattle.sq_catalog.specs.Stored.{IsDescribed, IsNext};
+ghost use Rattle.sq_catalog.specs.Written.{column_count};
 
 use crate::catalog::{Catalog, FullName, full_name};
 use crate::fault::{ElementFault, RefusalName, refused_as, refused_if};
@@ -11,11 +16,11 @@ use crate::reference::{
     BoundReferences, FoundReference, OwnKeys, OwnTable, bound_references, check_lists,
     references_of,
 };
-use crate::written::{NamedColumns, Written, is_not_null, named_columns, parts_of, pushed};
+use crate::written::{NamedColumns, Written, is_not_null, named_columns, parts_of};
 use sq_bind::bind_check;
 use sq_bound::{
-    BaseColumn, BaseTable, BoundCond, Column, ColumnDefault, Leaf, Shared, TableBody, TableDesc,
-    domain_of,
+    BaseColumn, BaseTable, BoundCond, Column, ColumnDefault, Leaf, Names, Shared, TableBody,
+    TableDesc, domain_of,
 };
 use sq_items::Items;
 use sq_lex::Name;
@@ -36,6 +41,7 @@ struct Draft<'t> {
     written: Written<'t>,
     keys: Keys,
     references: Vec<FoundReference<'t>>,
+    ghost keyed: { list_all (are_positions (vec_len written.columns)) keys.columns ≡ true },
 }
 
 impl Catalog {
@@ -50,11 +56,7 @@ impl Catalog {
         let name = full_name(user, definition.name);
         self.check_new_name(user, &name)?;
         let (table, base) = self.new_table(user, &name, definition)?;
-        if let Err(fault) = self.add_base(name, table) {
-            drop(base);
-            return Err(fault);
-        }
-        pushed(self.base_tables.push(base).is_ok())
+        self.add_base(name, table, base)
     }
 
     /// The table of a definition, and the base table itself.
@@ -64,7 +66,8 @@ impl Catalog {
         name: &FullName,
         definition: &TableDefinition,
     ) -> Result<(TableDesc, Shared<BaseTable>), ElementFault>
-        ensures { OnOk result (name.now.user ≡ user) }
+        ensures own { OnOk result (name.now.user ≡ user) }
+        ensures next { IfOk result (λ new. IsNext self.now.bases new.0 new.1) }
     {
         let draft = self.draft(user, name, definition)?;
         let table = self.table_of(user, name, &draft);
@@ -78,7 +81,9 @@ impl Catalog {
         user: Name,
         name: &FullName,
         definition: &'t TableDefinition,
-    ) -> Result<Draft<'t>, ElementFault> {
+    ) -> Result<Draft<'t>, ElementFault>
+        ensures { IfOk result (λ draft. All (IsFound self.now.bases (vec_len draft.written.columns)) draft.references.items) }
+    {
         let written = parts_of(self.alloc(), definition)?;
         let named = named_columns(self.alloc(), written.columns.as_slice());
         let found = match &named {
@@ -101,7 +106,10 @@ impl Catalog {
         full_name: &FullName,
         columns: &NamedColumns,
         written: &Written<'_>,
-    ) -> Result<(Keys, Vec<FoundReference<'t>>), ElementFault> {
+    ) -> Result<(Keys, Vec<FoundReference<'t>>), ElementFault>
+        ensures keys { IfOk result (λ found. list_all (are_positions (column_count columns.now)) found.0.columns ≡ true) }
+        ensures references { IfOk result (λ found. All (IsFound self.now.bases (column_count columns.now)) found.1.items) }
+    {
         let own = OwnTable {
             user,
             full_name: *full_name,
@@ -119,18 +127,44 @@ impl Catalog {
         name: &FullName,
         draft: &Draft<'_>,
     ) -> Result<(TableDesc, Shared<BaseTable>), ElementFault>
-        ensures { OnOk result (name.now.user ≡ user) }
+        requires { All (IsFound self.now.bases (vec_len draft.now.written.columns)) draft.now.references.items }
+        ensures own { OnOk result (name.now.user ≡ user) }
+        ensures next { IfOk result (λ new. IsNext self.now.bases new.0 new.1) }
     {
         let columns = columns_of(self.alloc(), draft.written.columns.as_slice())?;
-        draft.check_keys()?;
-        let base = (&*self).base_of(user, name, columns.as_slice(), &*draft);
-        let (columns, (base, may_reference)) = both(Ok(columns), base)?;
-        if let Err(fault) = self.check_rest(user, name, &base, may_reference) {
-            drop(base);
-            drop(columns);
-            return Err(fault);
+        match (&*self).checked_base(user, name, columns.as_slice(), &*draft) {
+            Ok(base) => described(self.alloc(), name, columns, base),
+            Err(fault) => {
+                drop(columns);
+                Err(fault)
+            }
         }
-        described(self.alloc(), name, columns, base)
+    }
+
+    /// What the rows of a table that may be created hold and obey.
+    fn checked_base<'x>(
+        &'x self,
+        user: Name,
+        name: &FullName,
+        columns: &'x [Column],
+        draft: &'x Draft<'_>,
+    ) -> Result<BaseTable, ElementFault>
+        requires width { length columns.now ≡ vec_len draft.now.written.columns }
+        requires found { All (IsFound self.now.bases (vec_len draft.now.written.columns)) draft.now.references.items }
+        ensures own { OnOk result (name.now.user ≡ user) }
+        ensures columns { IfOk result (λ base. length base.columns ≡ length columns.now) }
+        ensures place { IfOk result (λ base. base.place ≡ length self.now.bases) }
+        ensures refer { IfOk result (λ base. list_all (is_to (keys_with self.now.bases base.keys) (length columns.now)) base.references ≡ true) }
+    {
+        draft.check_keys()?;
+        let (base, may_reference) = self.base_of(user, name, columns, draft)?;
+        match self.check_rest(user, name, &base, may_reference) {
+            Ok(()) => Ok(base),
+            Err(fault) => {
+                drop(base);
+                Err(fault)
+            }
+        }
     }
 
     /// What the rows of the table hold and obey, and whether the user may make its references.
@@ -140,33 +174,22 @@ impl Catalog {
         name: &FullName,
         columns: &'x [Column],
         draft: &'x Draft<'_>,
-    ) -> Result<(BaseTable, bool), ElementFault> {
+    ) -> Result<(BaseTable, bool), ElementFault>
+        requires width { length columns.now ≡ vec_len draft.now.written.columns }
+        requires found { All (IsFound self.now.bases (vec_len draft.now.written.columns)) draft.now.references.items }
+        ensures columns { IfOk result (λ made. length made.0.columns ≡ length columns.now) }
+        ensures place { IfOk result (λ made. made.0.place ≡ length self.now.bases) }
+        ensures refer { IfOk result (λ made. list_all (is_to (keys_with self.now.bases made.0.keys) (length columns.now)) made.0.references ≡ true) }
+    {
         let own = OwnKeys {
-            place: self.next_base(),
+            before: self.bases(),
             columns,
             keys: &draft.keys,
         };
-        let BoundReferences {
-            references,
-            are_permitted,
-        } = bound_references(self, user, own, draft.references.as_slice())?;
-        let checks = bound_checks(self.alloc(), name, columns, draft.written.checks.as_slice());
-        let (references, checks) = both(Ok(references), checks)?;
-        let held = base_columns(self.alloc(), draft.written.columns.as_slice());
-        let keys = copied_keys(self.alloc(), draft.keys.columns.as_slice());
-        let ((references, checks), (columns, keys)) = both(
-            Ok((references, checks)),
-            both(held, keys),
-        )?;
-        let base = BaseTable {
-            place: self.next_base(),
-            columns,
-            keys,
-            primary_key: draft.keys.primary,
-            references,
-            checks,
-        };
-        Ok((base, are_permitted))
+        let bound = bound_references(self, user, own, draft.references.as_slice());
+        let parts = base_parts(self.alloc(), name, columns, draft);
+        let (bound, parts) = both(bound, parts)?;
+        Ok(assembled(own.before.len(), draft.keys.primary, bound, parts))
     }
 
     /// The privileges, the number of columns, the place of the table, and how many there are.
@@ -186,6 +209,70 @@ impl Catalog {
     }
 }
 
+/// What the rows of a table hold and obey, but for its references.
+#[derive(Drop)]
+struct BaseParts {
+    columns: Items<BaseColumn>,
+    keys: Items<Items<usize>>,
+    checks: Items<BoundCond>,
+}
+
+/// What the rows of the table of a draft hold and obey, but for its references.
+fn base_parts(
+    alloc: Global,
+    name: &FullName,
+    columns: &[Column],
+    draft: &Draft<'_>,
+) -> Result<BaseParts, ElementFault>
+    ensures columns { IfOk result (λ parts. length parts.columns ≡ vec_len draft.now.written.columns) }
+    ensures keys { IfOk result (λ parts. parts.keys ≡ draft.now.keys.columns) }
+{
+    let checks = bound_checks(alloc, name, columns, draft.written.checks.as_slice());
+    let held = base_columns(alloc, draft.written.columns.as_slice());
+    let (checks, columns) = both(checks, held)?;
+    let keys = copied_keys(alloc, draft.keys.columns.as_slice());
+    let ((checks, columns), keys) = both(Ok((checks, columns)), keys)?;
+    Ok(BaseParts {
+        columns,
+        keys,
+        checks,
+    })
+}
+
+/// A base table, and whether the user may make its references.
+fn assembled(
+    place: usize,
+    primary_key: Option<usize>,
+    bound: BoundReferences,
+    parts: BaseParts,
+) -> (BaseTable, bool)
+    requires keys { list_all (are_positions (length parts.columns)) parts.keys ≡ true }
+    requires references { list_all (λ r. are_positions (length parts.columns) r.by_key) bound.references ≡ true }
+    ensures place { result.0.place ≡ place }
+    ensures columns { result.0.columns ≡ parts.columns }
+    ensures keys { result.0.keys ≡ parts.keys }
+    ensures references { result.0.references ≡ bound.references }
+{
+    let BoundReferences {
+        references,
+        are_permitted,
+    } = bound;
+    let BaseParts {
+        columns,
+        keys,
+        checks,
+    } = parts;
+    let base = BaseTable {
+        place,
+        columns,
+        keys,
+        primary_key,
+        references,
+        checks,
+    };
+    (base, are_permitted)
+}
+
 impl Draft<'_> {
     /// The keys are in order, and the lists of the references.
     fn check_keys(&self) -> Result<(), ElementFault> {
@@ -198,7 +285,10 @@ impl Draft<'_> {
 fn columns_of(
     alloc: Global,
     definitions: &[&ColumnDefinition],
-) -> Result<Items<Column>, ElementFault> {
+) -> Result<Items<Column>, ElementFault>
+    ensures count { IfOk result (λ columns. length columns ≡ length definitions.now) }
+    ensures leaf_columns { IfOk result (λ columns. list_all (λ c. nat_lt c.leaf_column (length definitions.now)) columns ≡ true) }
+{
     let mut columns = Items::new(alloc);
     for (position, definition) in definitions.iter().enumerate() {
         let Some(domain) = domain_of(&definition.data_type) else {
@@ -217,7 +307,9 @@ fn columns_of(
 fn base_columns(
     alloc: Global,
     definitions: &[&ColumnDefinition],
-) -> Result<Items<BaseColumn>, ElementFault> {
+) -> Result<Items<BaseColumn>, ElementFault>
+    ensures { IfOk result (λ columns. length columns ≡ length definitions.now) }
+{
     let mut columns = Items::new(alloc);
     for definition in definitions {
         columns.push(base_column(alloc, definition)?)?;
@@ -371,7 +463,9 @@ fn empty_base(alloc: Global) -> Result<Shared<BaseTable>, AllocError> {
     )
 }
 
-fn copied_keys(alloc: Global, keys: &[Items<usize>]) -> Result<Items<Items<usize>>, ElementFault> {
+fn copied_keys(alloc: Global, keys: &[Items<usize>]) -> Result<Items<Items<usize>>, ElementFault>
+    ensures { IfOk result (λ copies. copies ≡ keys.now) }
+{
     let mut copies = Items::new(alloc);
     for key in keys {
         copies.push(Items::from_slice(alloc, key.as_slice())?)?;
@@ -385,22 +479,69 @@ fn described(
     name: &FullName,
     columns: Items<Column>,
     base: BaseTable,
-) -> Result<(TableDesc, Shared<BaseTable>), ElementFault> {
+) -> Result<(TableDesc, Shared<BaseTable>), ElementFault>
+    requires { list_all (λ c. nat_lt c.leaf_column (length base.columns)) columns ≡ true }
+    ensures base { IfOk result (λ new. new.1 ≡ base) }
+    ensures table { IfOk result (λ new. IsDescribed base columns new.0) }
+{
     let (columns, base) = both(Ok(columns), Shared::new(alloc, base))?;
-    let parts = both(base.share(), base_leaf(alloc, &base));
-    let ((columns, base), (shared, leaf)) = both(Ok((columns, base)), parts)?;
-    let table = TableDesc {
-        user: name.user,
-        name: name.name,
-        columns,
-        body: TableBody::Base(shared),
-        leaf: Some(leaf),
-    };
+    let table = table_over(alloc, name, columns, &base);
+    let (base, table) = both(Ok(base), table)?;
     Ok((table, base))
 }
 
+/// A base table as names see it.
+fn table_over(
+    alloc: Global,
+    name: &FullName,
+    columns: Items<Column>,
+    base: &Shared<BaseTable>,
+) -> Result<TableDesc, ElementFault>
+    requires { list_all (λ c. nat_lt c.leaf_column (length base.now.columns)) columns ≡ true }
+    ensures { IfOk result (IsDescribed base.now columns) }
+{
+    match owners(alloc, base) {
+        Ok((base, leaf)) => Ok(base_table(name, columns, base, leaf)),
+        Err(error) => {
+            drop(columns);
+            Err(ElementFault::from(error))
+        }
+    }
+}
+
+fn base_table(
+    name: &FullName,
+    columns: Items<Column>,
+    base: Shared<BaseTable>,
+    leaf: Shared<Leaf>,
+) -> TableDesc
+    requires leaf { leaf.table ≡ base }
+    requires columns { list_all (λ c. nat_lt c.leaf_column (length leaf.table.columns)) columns ≡ true }
+    ensures { IsDescribed base columns result }
+{
+    TableDesc {
+        user: name.user,
+        name: name.name,
+        columns,
+        body: TableBody::Base(base),
+        leaf: Some(leaf),
+    }
+}
+
+/// A further owner of a base table, and what is under it.
+fn owners(
+    alloc: Global,
+    base: &Shared<BaseTable>,
+) -> Result<(Shared<BaseTable>, Shared<Leaf>), AllocError>
+    ensures { IfOk result (λ owners. (owners.0 ≡ base.now) × (owners.1.table ≡ base.now)) }
+{
+    both(base.share(), base_leaf(alloc, base))
+}
+
 /// What is under a base table: itself.
-fn base_leaf(alloc: Global, base: &Shared<BaseTable>) -> Result<Shared<Leaf>, AllocError> {
+fn base_leaf(alloc: Global, base: &Shared<BaseTable>) -> Result<Shared<Leaf>, AllocError>
+    ensures { IfOk result (λ leaf. leaf.table ≡ base.now) }
+{
     let table = base.share()?;
     Shared::new(
         alloc,

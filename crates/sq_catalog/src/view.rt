@@ -1,10 +1,15 @@
 //! CREATE VIEW (ISO/IEC 9075:1992, 11.19).
 
-ghost use Rattle.std.specs.Prelude.{◌≡◌, ◌≤◌, length, IfOk, OnOk};
+ghost use Rattle.std.specs.Prelude.{◌≡◌, ◌≤◌, ℕ, [], true, length, IfOk, IfSome, OnOk, nat_lt};
+ghost use Rattle.std.specs.List.{list_all};
+ghost use Rattle.sq_bound.specs.Fits.{FitsQuery, IsBase};
+ghost use Rattle.sq_bound.specs.Names.{are_positions};
+ghost use Rattle.sq_catalog.specs.Catalog.{Gains};
+ghost use Rattle.sq_catalog.specs.Stored.{IsStored};
 
 use crate::catalog::{Catalog, FullName, full_name};
 use crate::fault::{ElementFault, RefusalName, refused_as, refused_if};
-use crate::grants::Privilege;
+use crate::grants::{Held, Privilege};
 use crate::written::{add_name, names_of};
 use indexmap::IndexSet;
 use sq_bind::{BoundView, bind_view};
@@ -39,7 +44,7 @@ impl Catalog {
         user: Name,
         definition: &ViewDefinition,
     ) -> Result<(), ElementFault>
-        ensures { OnOk result (self.new ≡ self.old) }
+        ensures { OnOk result (Gains self.old self.new []) }
     {
         let name = full_name(user, definition.name);
         self.check_new_name(user, &name)?;
@@ -47,7 +52,7 @@ impl Catalog {
         let place = TablePlace::View(self.next_view());
         let added = self.add_view(name, table);
         let grants = kept(grants, added)?;
-        self.add_owner_grants(name.user, place, grants.as_slice())
+        self.held.add_owned(name.user, place, grants.as_slice())
     }
 
     /// The view of a definition.
@@ -56,27 +61,12 @@ impl Catalog {
         user: Name,
         name: &FullName,
         definition: &ViewDefinition,
-    ) -> Result<NewView, ElementFault> {
+    ) -> Result<NewView, ElementFault>
+        ensures { IfOk result (λ view. IsStored self.now.bases view.table) }
+    {
         let listed = listed_names(self.alloc(), definition)?;
         let bound = bind_view(self.alloc(), self, user, &definition.query);
         self.new_view(user, name, definition, listed, bound)
-    }
-
-    fn add_owner_grants(
-        &mut self,
-        owner: Name,
-        table: TablePlace,
-        grants: &[OwnerGrant],
-    ) -> Result<(), ElementFault>
-        ensures { OnOk result (self.new ≡ self.old) }
-    {
-        for held in grants {
-            self.held.add(Some(owner), table, held.privilege, false)?;
-            if held.can_grant {
-                self.held.add(Some(owner), table, held.privilege, true)?;
-            }
-        }
-        Ok(())
     }
 
     /// The view of a definition whose query was bound.
@@ -87,7 +77,10 @@ impl Catalog {
         definition: &ViewDefinition,
         listed: Option<Items<Name>>,
         bound: Result<BoundView, BindFault>,
-    ) -> Result<NewView, ElementFault> {
+    ) -> Result<NewView, ElementFault>
+        requires { IfOk bound (λ view. IfSome view.updatable (λ over. FitsQuery self.now.bases over.1)) }
+        ensures { IfOk result (λ view. IsStored self.now.bases view.table) }
+    {
         let bound = match bound {
             Ok(bound) => bound,
             Err(fault) => {
@@ -97,13 +90,23 @@ impl Catalog {
         };
         let names = column_names(self.alloc(), listed, bound.query.columns.as_slice());
         let (bound, names) = both(Ok(bound), names)?;
-        let test = self.check_view(user, name, definition, &bound);
-        let (bound, names) = kept((bound, names), test)?;
-        let grants = self.owner_grants(user, &bound);
+        let grants = self.checked_grants(user, name, definition, &bound);
         let ((bound, names), grants) = both(Ok((bound, names)), grants)?;
         let table = self.described_view(name, definition.check_option, names, bound);
         let (grants, table) = both(Ok(grants), table)?;
         Ok(NewView { table, grants })
+    }
+
+    /// What the owner holds on a view that may be created.
+    fn checked_grants(
+        &self,
+        user: Name,
+        name: &FullName,
+        definition: &ViewDefinition,
+        bound: &BoundView,
+    ) -> Result<Items<OwnerGrant>, ElementFault> {
+        self.check_view(user, name, definition, bound)?;
+        self.owner_grants(user, bound)
     }
 
     /// The check option, SELECT on what the query names, the place of the view, and how many there are.
@@ -134,10 +137,12 @@ impl Catalog {
             },
             can_grant: bound.may_grant_select,
         })?;
-        if let Some(updatable) = &bound.updatable {
-            if let Some(under) = self.table_at(updatable.target.table) {
-                self.push_followed(&mut grants, user, under, &bound.query)?;
-            }
+        if let Some((under, _)) = &bound.updatable {
+            let under = FullName {
+                user: under.0,
+                name: under.1,
+            };
+            self.push_followed(&mut grants, user, &under, &bound.query)?;
         }
         Ok(grants)
     }
@@ -147,7 +152,7 @@ impl Catalog {
         &self,
         grants: &mut Items<OwnerGrant>,
         user: Name,
-        under: &TableDesc,
+        under: &FullName,
         query: &BoundSpecification,
     ) -> Result<(), ElementFault> {
         self.push_if_held(grants, user, under, Action::Insert, None, None)?;
@@ -165,15 +170,15 @@ impl Catalog {
         &self,
         grants: &mut Items<OwnerGrant>,
         user: Name,
-        under: &TableDesc,
+        under: &FullName,
         action: Action,
         below: Option<usize>,
         column: Option<usize>,
     ) -> Result<(), ElementFault> {
-        if self.may(user, action, under.full_name(), below) {
+        if self.may(user, action, (under.user, under.name), below) {
             grants.push(OwnerGrant {
                 privilege: Privilege { action, column },
-                can_grant: self.may_grant(user, action, under.full_name(), below),
+                can_grant: self.may_grant(user, action, (under.user, under.name), below),
             })?;
         }
         Ok(())
@@ -186,21 +191,36 @@ impl Catalog {
         check_option: bool,
         names: Items<Name>,
         bound: BoundView,
-    ) -> Result<TableDesc, ElementFault> {
+    ) -> Result<TableDesc, ElementFault>
+        requires { IfSome bound.updatable (λ over. FitsQuery self.now.bases over.1) }
+        ensures { IfOk result (IsStored self.now.bases) }
+    {
         let BoundView {
             query,
             updatable,
             ..
         } = bound;
-        let columns = view_columns(
-            self.alloc(),
-            names.as_slice(),
-            query.columns.as_slice(),
-            &updatable,
-        );
+        let described = match updatable {
+            None => self.plain_view(name, names.as_slice(), query),
+            Some((_, over)) => {
+                self.updatable_view(name, check_option, names.as_slice(), query, over)
+            }
+        };
         drop(names);
-        let leaf = view_leaf(self.alloc(), check_option, updatable);
-        let (query, (columns, leaf)) = both(Ok(query), both(columns, leaf))?;
+        described
+    }
+
+    /// A view that is not updatable.
+    fn plain_view(
+        &self,
+        name: &FullName,
+        names: &[Name],
+        query: BoundSpecification,
+    ) -> Result<TableDesc, ElementFault>
+        ensures { IfOk result (IsStored self.now.bases) }
+    {
+        let columns = view_columns(self.alloc(), names, query.columns.as_slice());
+        let (query, columns) = both(Ok(query), columns)?;
         Ok(TableDesc {
             user: name.user,
             name: name.name,
@@ -209,8 +229,93 @@ impl Catalog {
                 place: self.next_view(),
                 query,
             }),
-            leaf,
+            leaf: None,
         })
+    }
+
+    /// A view over rows of a base table.
+    fn updatable_view(
+        &self,
+        name: &FullName,
+        check_option: bool,
+        names: &[Name],
+        query: BoundSpecification,
+        over: UpdatableQuery,
+    ) -> Result<TableDesc, ElementFault>
+        requires { FitsQuery self.now.bases over }
+        ensures { IfOk result (IsStored self.now.bases) }
+    {
+        let columns = view_columns(self.alloc(), names, query.columns.as_slice());
+        let parts = view_parts(self.alloc(), check_option, columns, over);
+        match parts {
+            Ok((columns, leaf)) => Ok(self.view_over(name, query, columns, leaf)),
+            Err(fault) => {
+                drop(query);
+                Err(fault)
+            }
+        }
+    }
+
+    /// A view with these columns over rows of a base table.
+    fn view_over(
+        &self,
+        name: &FullName,
+        query: BoundSpecification,
+        columns: Items<Column>,
+        leaf: Shared<Leaf>,
+    ) -> TableDesc
+        requires base { IsBase self.now.bases leaf.table }
+        requires columns { list_all (λ c. nat_lt c.leaf_column (length leaf.table.columns)) columns ≡ true }
+        ensures { IsStored self.now.bases result }
+    {
+        TableDesc {
+            user: name.user,
+            name: name.name,
+            columns,
+            body: TableBody::View(View {
+                place: self.next_view(),
+                query,
+            }),
+            leaf: Some(leaf),
+        }
+    }
+}
+
+/// The columns of an updatable view, and what is under it.
+fn view_parts(
+    alloc: Global,
+    check_option: bool,
+    columns: Result<Items<Column>, ElementFault>,
+    over: UpdatableQuery,
+) -> Result<(Items<Column>, Shared<Leaf>), ElementFault>
+    requires { are_positions (length over.target.leaf.table.columns) over.columns ≡ true }
+    ensures leaf { IfOk result (λ parts. parts.1.table ≡ over.target.leaf.table) }
+    ensures columns { IfOk result (λ parts. list_all (λ c. nat_lt c.leaf_column (length over.target.leaf.table.columns)) parts.0 ≡ true) }
+{
+    let UpdatableQuery {
+        target,
+        columns: below,
+    } = over;
+    let columns = columns_over(alloc, columns, below.as_slice());
+    drop(below);
+    both(columns, view_leaf(alloc, check_option, target))
+}
+
+impl Held {
+    /// Adds what the owner of a view holds on it.
+    fn add_owned(
+        &mut self,
+        owner: Name,
+        table: TablePlace,
+        grants: &[OwnerGrant],
+    ) -> Result<(), ElementFault> {
+        for owned in grants {
+            self.add(Some(owner), table, owned.privilege, false)?;
+            if owned.can_grant {
+                self.add(Some(owner), table, owned.privilege, true)?;
+            }
+        }
+        Ok(())
     }
 }
 
@@ -218,12 +323,10 @@ impl Catalog {
 fn view_leaf(
     alloc: Global,
     check_option: bool,
-    updatable: Option<UpdatableQuery>,
-) -> Result<Option<Shared<Leaf>>, ElementFault> {
-    let Some(UpdatableQuery { target, columns }) = updatable else {
-        return Ok(None);
-    };
-    drop(columns);
+    target: Target,
+) -> Result<Shared<Leaf>, ElementFault>
+    ensures { IfOk result (λ leaf. leaf.table ≡ target.leaf.table) }
+{
     let Target {
         leaf,
         condition,
@@ -232,7 +335,7 @@ fn view_leaf(
     } = target;
     let above = leaf_above(alloc, leaf.get(), check_option, is_quiet, condition);
     drop(leaf);
-    Ok(Some(Shared::new(alloc, above?)?))
+    Ok(Shared::new(alloc, above?)?)
 }
 
 /// What is under a view over a table that has this under it, and a condition where the view has one.
@@ -242,7 +345,9 @@ fn leaf_above(
     check_option: bool,
     is_quiet: bool,
     condition: Option<BoundCond>,
-) -> Result<Leaf, ElementFault> {
+) -> Result<Leaf, ElementFault>
+    ensures { IfOk result (λ leaf. leaf.table ≡ below.now.table) }
+{
     let conditions = conditions_above(alloc, below.conditions.as_slice(), condition);
     let (conditions, table) = both(conditions, below.table.share())?;
     Ok(Leaf {
@@ -357,30 +462,46 @@ fn view_columns(
     alloc: Global,
     names: &[Name],
     columns: &[ResultColumn],
-    updatable: &Option<UpdatableQuery>,
 ) -> Result<Items<Column>, ElementFault> {
-    let leaf_columns = match updatable {
-        Some(updatable) => Some(updatable.columns.as_slice()),
-        None => None,
-    };
     let mut described = Items::new(alloc);
     for (position, (name, column)) in names.iter().zip(columns).enumerate() {
         described.push(Column {
             name: *name,
             kind: column.kind,
-            leaf_column: leaf_column(leaf_columns, position),
+            leaf_column: position,
         })?;
     }
     Ok(described)
 }
 
-/// The column of the base table at a position of an updatable view, and else the position itself.
-fn leaf_column(leaf_columns: Option<&[usize]>, position: usize) -> usize {
-    match leaf_columns {
-        Some(columns) => match columns.get(position) {
-            Some(column) => *column,
-            None => position,
-        },
-        None => position,
+/// The columns of a view over these columns of a base table.
+fn columns_over(
+    alloc: Global,
+    columns: Result<Items<Column>, ElementFault>,
+    below: &[usize],
+) -> Result<Items<Column>, ElementFault>
+    ensures { IfOk result (λ placed. (width : ℕ) → are_positions width below.now ≡ true → list_all (λ c. nat_lt c.leaf_column width) placed ≡ true) }
+{
+    let columns = columns?;
+    let placed = placed_columns(alloc, columns.as_slice(), below);
+    drop(columns);
+    placed
+}
+
+fn placed_columns(
+    alloc: Global,
+    columns: &[Column],
+    below: &[usize],
+) -> Result<Items<Column>, ElementFault>
+    ensures { IfOk result (λ placed. (width : ℕ) → are_positions width below.now ≡ true → list_all (λ c. nat_lt c.leaf_column width) placed ≡ true) }
+{
+    let mut placed = Items::new(alloc);
+    for (column, leaf_column) in columns.iter().zip(below) {
+        placed.push(Column {
+            name: column.name,
+            kind: column.kind,
+            leaf_column: *leaf_column,
+        })?;
     }
+    Ok(placed)
 }

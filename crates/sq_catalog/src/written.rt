@@ -1,6 +1,8 @@
 //! What a table definition writes, by kinds of its elements (ISO/IEC 9075:1992, 11.3, 11.4, 11.6).
 
-ghost use Rattle.std.specs.Prelude.{◌≡◌, true, OnOk};
+ghost use Rattle.std.specs.Prelude.{◌≡◌, ◌<◌, ◌+◌, true, length, IfOk, OnOk};
+ghost use Rattle.sq_bound.specs.Names.{are_positions};
+ghost use Rattle.sq_catalog.specs.Written.{column_count};
 
 use crate::fault::{ElementFault, RefusalName, refused_if};
 use indexmap::{IndexMap, IndexSet};
@@ -177,7 +179,9 @@ pub(crate) struct NamedColumn {
 pub(crate) fn named_columns(
     alloc: Global,
     columns: &[&ColumnDefinition],
-) -> Result<NamedColumns, ElementFault> {
+) -> Result<NamedColumns, ElementFault>
+    ensures { IfOk result (λ named. column_count named ≡ length columns.now) }
+{
     let mut named = NamedColumns {
         not_null: IndexMap::new(alloc),
     };
@@ -191,14 +195,18 @@ pub(crate) fn named_columns(
 }
 
 impl NamedColumns {
-    fn add_all(&mut self, columns: &[&ColumnDefinition]) -> Result<(), ElementFault> {
+    fn add_all(&mut self, columns: &[&ColumnDefinition]) -> Result<(), ElementFault>
+        ensures { OnOk result (column_count self.new ≡ column_count self.old + length columns.now) }
+    {
         for column in columns {
             self.add(column)?;
         }
         Ok(())
     }
 
-    fn add(&mut self, column: &ColumnDefinition) -> Result<(), ElementFault> {
+    fn add(&mut self, column: &ColumnDefinition) -> Result<(), ElementFault>
+        ensures { OnOk result (column_count self.new ≡ column_count self.old + 1) }
+    {
         match self.not_null.insert(column.name, is_not_null(column)) {
             Ok(before) => refused_if(before.is_some(), RefusalName::NameTwice),
             Err(_) => Err(ElementFault::NoMemory),
@@ -206,7 +214,9 @@ impl NamedColumns {
     }
 
     /// The column of a name.
-    pub(crate) fn column(&self, name: Name) -> Result<NamedColumn, ElementFault> {
+    pub(crate) fn column(&self, name: Name) -> Result<NamedColumn, ElementFault>
+        ensures { IfOk result (λ column. column.position < column_count self.now) }
+    {
         match self.not_null.get_full(&name) {
             Some((position, _, is_not_null)) => Ok(NamedColumn {
                 position,
@@ -221,7 +231,9 @@ impl NamedColumns {
         &self,
         alloc: Global,
         wanted: &[Name],
-    ) -> Result<Items<usize>, ElementFault> {
+    ) -> Result<Items<usize>, ElementFault>
+        ensures { IfOk result (λ positions. are_positions (column_count self.now) positions ≡ true) }
+    {
         let mut positions = Items::new(alloc);
         for name in wanted {
             positions.push(self.column(*name)?.position)?;

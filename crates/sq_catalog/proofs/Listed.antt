@@ -1,0 +1,52 @@
+-- Lists whose items all pass a test, and lists that are copied item by item.
+use Rattle.std.proofs.Common.{◌≡◌, ℕ, zero, suc, ◌+◌, ◌<◌, Bool, true, ◌&&◌, List, [], ◌∷◌, ◌++◌, length, get_or, take, map, nat_lt, refl, ap, sym, ◌∙◌, arith}
+use Rattle.std.specs.List.{list_all}
+use Rattle.std.proofs.lemmas.Bool.{and_from, and_parts}
+use Rattle.std.proofs.lemmas.Bool.Decides.{nat_tests}
+use Rattle.std.proofs.lemmas.List.{map-append, take_more}
+use Rattle.std.proofs.lemmas.List.Folds.{list_all-append}
+use Rattle.sq_bound.specs.Names.{are_positions}
+
+-- one item more
+pub all_push : {X : Type 0} (p : X → Bool) (xs : List X) (x : X) → list_all p xs ≡ true → p x ≡ true → list_all p (xs ++ x ∷ []) ≡ true
+all_push p xs x h px = list_all-append p xs (x ∷ []) ∙ and_from (list_all p xs) (p x && true) h (and_from (p x) true px refl)
+
+-- an item that is read
+pub all_read : {X : Type 0} (p : X → Bool) (xs : List X) (i : ℕ) (x : X) → i < length xs → x ≡ get_or xs i x → list_all p xs ≡ true → p x ≡ true
+all_read p [] i x lt e h = absurd (omega arith)
+all_read p (y ∷ ys) zero x lt e h = ap p e ∙ (and_parts (p y) (list_all p ys) h).0
+all_read p (y ∷ ys) (suc i) x lt e h = all_read p ys i x (omega arith) e (and_parts (p y) (list_all p ys) h).1
+
+-- a test that passes more
+pub all_weaker : {X : Type 0} (p q : X → Bool) → ((x : X) → p x ≡ true → q x ≡ true) → (xs : List X) → list_all p xs ≡ true → list_all q xs ≡ true
+all_weaker p q more [] h = refl
+all_weaker p q more (x ∷ xs) h =
+    let parts = and_parts (p x) (list_all p xs) h in
+    and_from (q x) (list_all q xs) (more x parts.0) (all_weaker p q more xs parts.1)
+
+-- a number that is below another passes the test
+pub below : (i n : ℕ) → i < n → nat_lt i n ≡ true
+below i n lt = grind (arith, nat_tests)
+
+pub is_below : (i n : ℕ) → nat_lt i n ≡ true → i < n
+is_below i n h = grind (arith, nat_tests)
+
+-- a position that is read
+pub position_read : (n : ℕ) (ps : List ℕ) (i p : ℕ) → are_positions n ps ≡ true → i < length ps → p ≡ get_or ps i p → p < n
+position_read n ps i p h lt e = is_below p n (all_read (λ q. nat_lt q n) ps i p lt e h)
+
+-- positions of so many columns and of as many
+pub positions_of : (n m : ℕ) (ps : List ℕ) → n ≡ m → are_positions n ps ≡ true → are_positions m ps ≡ true
+positions_of n m ps e h = ap (λ k. are_positions k ps) (sym e) ∙ h
+
+-- ---- copies
+
+pub copied_next : {A B C : Type 0} (f : A → B) (g : C → B) (xs : List A) (x : A) (ys : List C) (i : ℕ) (y : C) → i < length ys → y ≡ get_or ys i y → map f xs ≡ map g (take i ys) → f x ≡ g y
+    → map f (xs ++ x ∷ []) ≡ map g (take (i + 1) ys)
+copied_next f g xs x ys i y lt e h same =
+    map-append f xs (x ∷ []) ∙ ap (λ l. l ++ f x ∷ []) h ∙ ap (λ b. map g (take i ys) ++ b ∷ []) (same ∙ ap g e)
+    ∙ sym (ap (map g) (take_more ys i y lt) ∙ map-append g (take i ys) (get_or ys i y ∷ []))
+
+pub items_next : {A C : Type 0} (f : A → C) (xs : List A) (x : A) (ys : List C) (i : ℕ) (y : C) → i < length ys → y ≡ get_or ys i y → map f xs ≡ take i ys → f x ≡ y → map f (xs ++ x ∷ []) ≡ take (i + 1) ys
+items_next f xs x ys i y lt e h same =
+    map-append f xs (x ∷ []) ∙ ap (λ l. l ++ f x ∷ []) h ∙ ap (λ b. take i ys ++ b ∷ []) (same ∙ e) ∙ sym (take_more ys i y lt)

@@ -1,0 +1,165 @@
+-- Tables and views that stand over base tables, and references to their keys, as base tables are added.
+use Rattle.std.proofs.Common.{◌≡◌, ℕ, zero, suc, ◌+◌, ◌<◌, Bool, true, false, ◌&&◌, nat_lt, List, [], ◌∷◌, ◌++◌, length, get_or, map, Option, Some, None, Result, Ok, Err, IfOk, if◌then◌else◌, refl, ap, sym, subst, ◌∙◌, arith, length-append}
+use Rattle.std.specs.List.{All, list_all, slice_get}
+use Rattle.std.specs.Option.{IfSome}
+use Rattle.std.proofs.lemmas.Bool.{and_parts}
+use Rattle.std.proofs.lemmas.List.{map-append, get_or_append_left}
+use Rattle.std.proofs.lemmas.List.Elements.{All-nil, All-cons, All-head, All-tail, All-get_or, All-weaker}
+use Rattle.std.proofs.lemmas.Option.{IfSome_then, slice_get_within, get_or_from_slice_get, slice_get-get_or}
+use Rattle.indexmap.specs.IndexMap.{insert_entry}
+use Rattle.sq_store.specs.Keys.{Keys, keys_at}
+use Rattle.sq_bound.specs.Fits.{IsBase, IsOver, all_refer, keys_of_bases, refers}
+use Rattle.sq_bound.specs.Names.{are_positions}
+use Rattle.sq_bound.specs.declared.names.BaseTable.{BaseTable}
+use Rattle.sq_bound.specs.declared.names.Column.{Column}
+use Rattle.sq_bound.specs.declared.names.Leaf.{Leaf}
+use Rattle.sq_bound.specs.declared.names.Reference.{Reference}
+use Rattle.sq_bound.specs.declared.names.TableBody.{TableBody}
+use Rattle.sq_bound.specs.declared.names.TableBody.TheVariants as body
+use Rattle.sq_bound.specs.declared.names.TableDesc.{TableDesc}
+use Rattle.sq_catalog.specs.Reference.{is_to, keys_with}
+use Rattle.sq_catalog.specs.Stored.{AreStored, IsBody, IsDescribed, IsNext, IsStored, IsTableOf}
+use Rattle.sq_catalog.specs.declared.catalog.FullName.{FullName}
+use Rattle.sq_catalog.proofs.Listed.{all_push, all_weaker, is_below}
+
+-- ---- a base table behind the others
+
+base_more : (bases : List BaseTable) (b x : BaseTable) (place : ℕ) → slice_get bases place ≡ Some x → slice_get (bases ++ b ∷ []) place ≡ Some x
+base_more bases b x place h =
+    let within : place < length bases = slice_get_within bases place x h in
+    let more : length (bases ++ b ∷ []) ≡ length bases + 1 = length-append bases (b ∷ []) in
+    slice_get-get_or (bases ++ b ∷ []) place x (omega arith) ∙ ap Some (get_or_append_left bases (b ∷ []) x place within ∙ get_or_from_slice_get bases place x x h)
+
+get_behind : (bases : List BaseTable) (b : BaseTable) → get_or (bases ++ b ∷ []) (length bases) b ≡ b
+get_behind [] b = refl
+get_behind (x ∷ xs) b = get_behind xs b
+
+-- the last stands at its place
+pub base_behind : (bases : List BaseTable) (b : BaseTable) → b.place ≡ length bases → IsBase (bases ++ b ∷ []) b
+base_behind bases b place =
+    let more : length (bases ++ b ∷ []) ≡ length bases + 1 = length-append bases (b ∷ []) in
+    slice_get-get_or (bases ++ b ∷ []) b.place b (omega arith) ∙ ap Some (ap (λ i. get_or (bases ++ b ∷ []) i b) place ∙ get_behind bases b)
+
+-- ---- tables and views
+
+body_more : (bases : List BaseTable) (b : BaseTable) (columns : ℕ) (t : TableBody) → IsBody bases columns t → IsBody (bases ++ b ∷ []) columns t
+body_more bases b columns (body.Base x) h = (base_more bases b x x.place h.0, h.1)
+body_more bases b columns (body.View v) h = tt
+
+pub stored_more : (bases : List BaseTable) (b : BaseTable) (t : TableDesc) → IsStored bases t → IsStored (bases ++ b ∷ []) t
+stored_more bases b t h = record {
+  over = IfSome_then t.leaf {P = λ (l : Leaf). IsBase bases l.table} {Q = λ (l : Leaf). IsBase (bases ++ b ∷ []) l.table} h.over (λ l there. base_more bases b l.table l.table.place there);
+  body = body_more bases b (length t.columns) t.body h.body;
+}
+
+pub all_stored_more : (bases : List BaseTable) (b : BaseTable) (es : List (FullName × TableDesc)) → AreStored bases es → AreStored (bases ++ b ∷ []) es
+all_stored_more bases b es h = All-weaker (λ e. IsStored bases e.1) (λ e. IsStored (bases ++ b ∷ []) e.1) (λ e there. stored_more bases b e.1 there) es h
+
+put_first : (bases : List BaseTable) (e : FullName × TableDesc) (es : List (FullName × TableDesc)) (name : FullName) (t : TableDesc) (others : List (FullName × TableDesc))
+    → AreStored bases (e ∷ es) → IsStored bases t → AreStored bases others → (same : Bool) → AreStored bases (if same then (e.0, t) ∷ es else e ∷ others)
+put_first bases e es name t others h new rest true = All-cons (λ (x : FullName × TableDesc). IsStored bases x.1) (e.0, t) es new (All-tail (λ (x : FullName × TableDesc). IsStored bases x.1) e es h)
+put_first bases e es name t others h new rest false = All-cons (λ (x : FullName × TableDesc). IsStored bases x.1) e others (All-head (λ (x : FullName × TableDesc). IsStored bases x.1) e es h) rest
+
+-- under a new name or one that is used
+pub all_stored_with : (eq : FullName → FullName → Bool) (bases : List BaseTable) (es : List (FullName × TableDesc)) (name : FullName) (t : TableDesc)
+    → AreStored bases es → IsStored bases t → AreStored bases (insert_entry eq es name t)
+all_stored_with eq bases [] name t h new = All-cons (λ (e : FullName × TableDesc). IsStored bases e.1) (name, t) [] new (All-nil (λ (e : FullName × TableDesc). IsStored bases e.1))
+all_stored_with eq bases (e ∷ es) name t h new =
+    put_first bases e es name t (insert_entry eq es name t) h new (all_stored_with eq bases es name t (All-tail (λ (x : FullName × TableDesc). IsStored bases x.1) e es h) new) (eq name e.0)
+
+-- the one at a place
+pub stored_at : (bases : List BaseTable) (es : List (FullName × TableDesc)) (place : ℕ) (name : FullName) (t : TableDesc) → AreStored bases es → slice_get es place ≡ Some (name, t) → IsStored bases t
+stored_at bases es place name t h there =
+    let within : place < length es = slice_get_within es place (name, t) there in
+    subst (λ (e : FullName × TableDesc). IsStored bases e.1) (get_or_from_slice_get es place (name, t) (name, t) there) (All-get_or (λ (e : FullName × TableDesc). IsStored bases e.1) es place (name, t) within h)
+
+-- ---- references to keys
+
+key_more : (keys : List Keys) (own : Keys) (table key : ℕ) → nat_lt key (length (keys_at keys table)) ≡ true → nat_lt key (length (keys_at (keys ++ own ∷ []) table)) ≡ true
+key_more [] own table key h = absurd (none key (is_below key 0 h))
+  where
+    none : (n : ℕ) → n < 0 → ⊥
+    none n lt = omega arith
+key_more (k ∷ ks) own zero key h = h
+key_more (k ∷ ks) own (suc table) key h = key_more ks own table key h
+
+keys_behind : (bases : List BaseTable) (b : BaseTable) → keys_of_bases (bases ++ b ∷ []) ≡ keys_with bases b.keys
+keys_behind bases b = map-append (λ (x : BaseTable). x.keys) bases (b ∷ [])
+
+refers_more : (bases : List BaseTable) (b : BaseTable) (r : Reference) → refers bases r ≡ true → refers (bases ++ b ∷ []) r ≡ true
+refers_more bases b r h = ap (λ keys. nat_lt r.key (length (keys_at keys r.table))) (keys_behind bases b) ∙ key_more (keys_of_bases bases) b.keys r.table r.key h
+
+pub refer_more : (bases : List BaseTable) (b : BaseTable) → all_refer bases ≡ true → list_all (refers (bases ++ b ∷ [])) b.references ≡ true → all_refer (bases ++ b ∷ []) ≡ true
+refer_more bases b h own =
+    all_push (λ (x : BaseTable). list_all (refers (bases ++ b ∷ [])) x.references) bases b
+    (all_weaker (λ (x : BaseTable). list_all (refers bases) x.references) (λ (x : BaseTable). list_all (refers (bases ++ b ∷ [])) x.references)
+    (λ x there. all_weaker (refers bases) (refers (bases ++ b ∷ [])) (refers_more bases b) x.references there) bases h)
+    own
+
+-- the keys of the table that is being defined, and of an earlier one
+pub own_keys : (bases : List BaseTable) (own : Keys) → keys_at (keys_with bases own) (length bases) ≡ own
+own_keys [] own = refl
+own_keys (b ∷ bs) own = own_keys bs own
+
+keys_read : (bases : List BaseTable) (own : Keys) (b : BaseTable) (place : ℕ) → place < length bases → get_or bases place b ≡ b → keys_at (keys_with bases own) place ≡ b.keys
+keys_read [] own b place lt e = absurd (omega arith)
+keys_read (x ∷ xs) own b zero lt e = ap (λ (y : BaseTable). y.keys) e
+keys_read (x ∷ xs) own b (suc place) lt e = keys_read xs own b place (omega arith) e
+
+pub earlier_keys : (bases : List BaseTable) (own : Keys) (b : BaseTable) → IsBase bases b → keys_at (keys_with bases own) b.place ≡ b.keys
+earlier_keys bases own b h = keys_read bases own b b.place (slice_get_within bases b.place b h) (get_or_from_slice_get bases b.place b b h)
+
+-- ---- a base table that is made
+
+pub by_keys : (keys : List Keys) (columns : ℕ) (rs : List Reference) → list_all (is_to keys columns) rs ≡ true → list_all (λ (r : Reference). are_positions columns r.by_key) rs ≡ true
+by_keys keys columns rs h =
+    all_weaker (is_to keys columns) (λ (r : Reference). are_positions columns r.by_key) (λ r there. (and_parts (nat_lt r.key (length (keys_at keys r.table))) (are_positions columns r.by_key) there).1) rs h
+
+refer_made : (bases : List BaseTable) (b : BaseTable) (columns : ℕ) (rs : List Reference) → list_all (is_to (keys_with bases b.keys) columns) rs ≡ true → list_all (refers (bases ++ b ∷ [])) rs ≡ true
+refer_made bases b columns rs h =
+    all_weaker (is_to (keys_with bases b.keys) columns) (refers (bases ++ b ∷ []))
+    (λ r there. ap (λ keys. nat_lt r.key (length (keys_at keys r.table))) (keys_behind bases b)
+    ∙ (and_parts (nat_lt r.key (length (keys_at (keys_with bases b.keys) r.table))) (are_positions columns r.by_key) there).0)
+    rs h
+
+body_made : (bases : List BaseTable) (b : BaseTable) (columns : ℕ) (t : TableBody) → IsBase bases b → columns ≡ length b.columns → IsTableOf b t → IsBody bases columns t
+body_made bases b columns (body.Base x) there count h = (subst (λ (y : BaseTable). IsBase bases y) (sym h) there, count ∙ ap (λ (y : BaseTable). length y.columns) (sym h))
+body_made bases b columns (body.View v) there count h = absurd h
+
+pub next_made : (bases : List BaseTable) (b : BaseTable) (columns : List Column) (width : ℕ) (t : TableDesc) → IsDescribed b columns t → b.place ≡ length bases → length columns ≡ length b.columns
+    → list_all (is_to (keys_with bases b.keys) width) b.references ≡ true → IsNext bases t b
+next_made bases b columns width t h place count refer = record {
+  stored = record {
+    over = IfSome_then t.leaf {P = λ (l : Leaf). l.table ≡ b} {Q = λ (l : Leaf). IsBase (bases ++ b ∷ []) l.table} h.leaf
+        (λ l same. subst (λ (y : BaseTable). IsBase (bases ++ b ∷ []) y) (sym same) (base_behind bases b place));
+    body = body_made (bases ++ b ∷ []) b (length t.columns) t.body (base_behind bases b place) (ap length h.columns ∙ count) h.body;
+  };
+  refer = refer_made bases b width b.references refer;
+}
+
+-- ---- base tables that were there, and one more
+
+pub refer_added : (old was new : List BaseTable) (b : BaseTable) → old ≡ was → new ≡ old ++ b ∷ [] → all_refer old ≡ true → list_all (refers (was ++ b ∷ [])) b.references ≡ true → all_refer new ≡ true
+refer_added old was new b same grown h own =
+    let here : list_all (refers (old ++ b ∷ [])) b.references ≡ true = subst (λ (bs : List BaseTable). list_all (refers (bs ++ b ∷ [])) b.references ≡ true) (sym same) own in
+    subst (λ (bs : List BaseTable). all_refer bs ≡ true) (sym grown) (refer_more old b h here)
+
+pub all_stored_added : (old new : List BaseTable) (b : BaseTable) (es : List (FullName × TableDesc)) → new ≡ old ++ b ∷ [] → AreStored old es → AreStored new es
+all_stored_added old new b es grown h = subst (λ (bs : List BaseTable). AreStored bs es) (sym grown) (all_stored_more old b es h)
+
+pub stored_added : (old was new : List BaseTable) (b : BaseTable) (t : TableDesc) → old ≡ was → new ≡ old ++ b ∷ [] → IsStored (was ++ b ∷ []) t → IsStored new t
+stored_added old was new b t same grown h = subst (λ (bs : List BaseTable). IsStored bs t) (sym (grown ∙ ap (λ bs. bs ++ b ∷ []) same)) h
+
+-- the references of a table of as many columns
+pub by_keys_at : (keys : List Keys) (n m : ℕ) (rs : List Reference) → n ≡ m → list_all (is_to keys m) rs ≡ true → list_all (λ (r : Reference). are_positions n r.by_key) rs ≡ true
+by_keys_at keys n m rs e h = by_keys keys n rs (ap (λ k. list_all (is_to keys k) rs) e ∙ h)
+
+-- a base table that is made with the table as names see it
+pub next_of : {E : Type 0} (bases : List BaseTable) (columns : List Column) (width : ℕ) (b : BaseTable) (r : Result (TableDesc × BaseTable) E) → IfOk r (λ new. new.1 ≡ b) → IfOk r (λ new. IsDescribed b columns new.0)
+    → b.place ≡ length bases → length columns ≡ length b.columns → list_all (is_to (keys_with bases b.keys) width) b.references ≡ true → IfOk r (λ new. IsNext bases new.0 new.1)
+next_of bases columns width b (Ok new) e h place count refer = subst (λ (x : BaseTable). IsNext bases new.0 x) (sym e) (next_made bases b columns width new.0 h place count refer)
+next_of bases columns width b (Err x) e h place count refer = tt
+
+-- columns over a base table of as many
+pub leaf_columns_of : (n m : ℕ) (columns : List Column) → list_all (λ c. nat_lt c.leaf_column n) columns ≡ true → n ≡ m → list_all (λ c. nat_lt c.leaf_column m) columns ≡ true
+leaf_columns_of n m columns h e = ap (λ k. list_all (λ (c : Column). nat_lt c.leaf_column k) columns) (sym e) ∙ h
