@@ -1,53 +1,25 @@
--- What a store asks of the changes of a statement.
-use Rattle.std.proofs.Common.{◌≡◌, ℕ, ◌<◌, Bool, true, false, List, [], ◌∷◌, ◌++◌, length, map, Option, Some, find, nat_eq, nat_lt, ◌∙◌, refl, sym, subst, arith}
+-- What some changes put into a table.
+use Rattle.std.proofs.Common.{◌≡◌, ℕ, zero, suc, ◌<◌, ◌≤◌, Bool, true, ◌&&◌, List, [], ◌∷◌, ◌++◌, length, map, nat_eq, get_or, Option, ◌∙◌, refl, sym, ap, arith}
 use Rattle.std.specs.List.{list_all}
 use Rattle.std.proofs.lemmas.Grind.{common_steps}
-use Rattle.std.proofs.lemmas.List.{length-set}
+use Rattle.std.proofs.lemmas.List.Folds.{list_all-append}
 use Rattle.sq_value.specs.declared.value.Value.{Value}
 use Rattle.sq_store.specs.declared.change.Change.{Change}
 use Rattle.sq_store.specs.declared.change.Change.TheVariants.{Insert, Replace, Remove}
-use Rattle.sq_store.specs.declared.table.Numbered.{Numbered}
-use Rattle.sq_store.specs.declared.table.Table.{Table}
 use Rattle.sq_store.specs.Change.{insert_count, rows_put}
-use Rattle.sq_store.specs.Content.{Content, row_at, table_at, with_table}
-use Rattle.sq_store.specs.Keys.{Keys, are_keyed, has_keys, have_keys, keys_at}
-use Rattle.sq_store.specs.Rising.{all_rising}
-use Rattle.sq_store.proofs.Sound.{columns_at}
+use Rattle.sq_bound.specs.Fits.{under}
 use Rattle.sq_bound.specs.declared.statement.ChangeTarget.{ChangeTarget}
-use Rattle.sq_change.specs.Changed.{CanApply, Removals, Replacements, are_replacements}
+use Rattle.sq_bound.specs.declared.statement.ChangeTarget.TheVariants as target
+use Rattle.sq_change.specs.Changed.{Removals, Replacements, are_replacements, are_wide}
+use Rattle.sq_change.specs.Statement.{base_of}
 
--- ---- all tables
+-- ---- new rows
 
--- a change leaves as many as there were
-pub as_many : (n : ℕ) (before after : Content) (place : ℕ) (t : Table) → after ≡ with_table before place t → n ≡ length before → n ≡ length after
-as_many n before after place t made h = rw made (h ∙ sym (length-set before place t))
-
--- ---- UPDATE
-
-row_has_keys : (keys : Keys) (number : ℕ) (rs : List Numbered) (f : Numbered) → have_keys keys rs ≡ true → find (λ r. nat_eq r.number number) rs ≡ Some f → has_keys keys f.row ≡ true
-row_has_keys keys number [] f h e = cc
-row_has_keys keys number (r ∷ rs) f h e = by_test (nat_eq r.number number) refl (row_has_keys keys number rs f (grind (arith, common_steps)))
-  where
-    by_test : (b : Bool) → nat_eq r.number number ≡ b → (find (λ r. nat_eq r.number number) rs ≡ Some f → has_keys keys f.row ≡ true) → has_keys keys f.row ≡ true
-    by_test true t later = let k : Some r ≡ Some f = rw t at e in let q : r ≡ f = cc in rw (← q) (grind (arith, common_steps))
-    by_test false t later = later (rw t at e)
-
-same_columns : (keys : Keys) (row other : List Value) → length other ≡ length row → has_keys keys row ≡ true → has_keys keys other ≡ true
-same_columns keys row other e h = subst (λ (n : ℕ). list_all (λ columns. list_all (λ c. nat_lt c n) columns) keys ≡ true) (sym e) h
-
--- a row that is as long as one of the table has the columns of its keys
-pub changed_has_keys : (row_numbers : ℕ) (keys : List Keys) (content : Content) (table number : ℕ) (row other : List Value) → all_rising row_numbers content ≡ true → are_keyed keys content ≡ true → table < length content
-    → row_at (table_at content table) number ≡ Some (record { number = number; row = row }) → length other ≡ length row → has_keys (keys_at keys table) other ≡ true
-changed_has_keys row_numbers keys content table number row other rises keyed lt found e =
-    same_columns (keys_at keys table) row other e
-    (row_has_keys (keys_at keys table) number (table_at content table).rows (record { number = number; row = row }) (columns_at row_numbers keys content table (rw rises keyed) lt) found)
-
--- one more row that is put in
-pub put_more : (keys : Keys) (changes : List Change) (number : ℕ) (row : List Value) → list_all (has_keys keys) (rows_put changes) ≡ true → has_keys keys row ≡ true → list_all (has_keys keys) (rows_put (changes ++ Replace number row ∷ [])) ≡ true
-put_more keys [] number row h k = grind (arith, common_steps)
-put_more keys (Insert other ∷ changes) number row h k = grind (arith, common_steps, put_more keys changes number row)
-put_more keys (Replace place other ∷ changes) number row h k = grind (arith, common_steps, put_more keys changes number row)
-put_more keys (Remove place ∷ changes) number row h k = put_more keys changes number row h k
+pub fewer_inserted : (changes : List Change) → insert_count changes ≤ length changes
+fewer_inserted [] = omega arith
+fewer_inserted (Insert row ∷ changes) = omega (arith, fewer_inserted changes)
+fewer_inserted (Replace number row ∷ changes) = omega (arith, fewer_inserted changes)
+fewer_inserted (Remove number ∷ changes) = omega (arith, fewer_inserted changes)
 
 none_inserted : (numbers : List ℕ) (changes : List Change) → are_replacements numbers changes ≡ true → insert_count changes ≡ 0
 none_inserted numbers [] h = refl
@@ -55,28 +27,60 @@ none_inserted numbers (Insert row ∷ changes) h = cc
 none_inserted numbers (Replace number row ∷ changes) h = none_inserted numbers changes (grind (arith, common_steps))
 none_inserted numbers (Remove number ∷ changes) h = cc
 
-pub can_replace : (t : ChangeTarget) (on : Option ℕ) (row_numbers : ℕ) (keys : List Keys) (content : Content) (place : ℕ) (changes : List Change) → place < length content → Replacements t on changes
-    → list_all (has_keys (keys_at keys place)) (rows_put changes) ≡ true → CanApply row_numbers keys content place changes
-can_replace t on row_numbers keys content place changes lt h columns = record {
-  known = lt;
-  columns = columns;
-  fits = let none : insert_count changes ≡ 0 = none_inserted h.numbers changes h.all in omega arith;
-}
-
--- ---- DELETE
-
 removed_none : (numbers : List ℕ) → insert_count (map Remove numbers) ≡ 0
 removed_none [] = refl
 removed_none (number ∷ numbers) = removed_none numbers
 
-removed_put : (keys : Keys) (numbers : List ℕ) → list_all (has_keys keys) (rows_put (map Remove numbers)) ≡ true
-removed_put keys [] = refl
-removed_put keys (number ∷ numbers) = removed_put keys numbers
+-- UPDATE and DELETE put no new row in
+pub replaced_few : (t : ChangeTarget) (on : Option ℕ) (changes : List Change) (n : ℕ) → Replacements t on changes → insert_count changes ≤ n
+replaced_few t on changes n h = omega (arith, none_inserted h.numbers changes h.all)
 
-pub can_remove : (t : ChangeTarget) (on : Option ℕ) (row_numbers : ℕ) (keys : List Keys) (content : Content) (place : ℕ) (changes : List Change) → place < length content → Removals t on changes
-    → CanApply row_numbers keys content place changes
-can_remove t on row_numbers keys content place changes lt h = record {
-  known = lt;
-  columns = rw h.all (removed_put (keys_at keys place) h.numbers);
-  fits = let none : insert_count changes ≡ 0 = rw h.all (removed_none h.numbers) in omega arith;
-}
+pub removed_few : (t : ChangeTarget) (on : Option ℕ) (changes : List Change) (n : ℕ) → Removals t on changes → insert_count changes ≤ n
+removed_few t on changes n h = let none : insert_count changes ≡ 0 = rw h.all (removed_none h.numbers) in omega arith
+
+-- ---- how wide rows are
+
+removed_wide : (n : ℕ) (numbers : List ℕ) → are_wide n (rows_put (map Remove numbers)) ≡ true
+removed_wide n [] = refl
+removed_wide n (number ∷ numbers) = removed_wide n numbers
+
+-- DELETE puts no row in
+pub removals_wide : (t : ChangeTarget) (on : Option ℕ) (changes : List Change) (n : ℕ) → Removals t on changes → are_wide n (rows_put changes) ≡ true
+removals_wide t on changes n h = rw h.all (removed_wide n h.numbers)
+
+put_more : (change : Change) (changes : List Change) → rows_put (change ∷ changes) ≡ rows_put (change ∷ []) ++ rows_put changes
+put_more (Insert row) changes = refl
+put_more (Replace number row) changes = refl
+put_more (Remove number) changes = refl
+
+-- a row that one of the changes puts in is as wide as all
+pub row_wide : (n : ℕ) (changes : List Change) (i : ℕ) (change : Change) (row : List Value) → are_wide n (rows_put changes) ≡ true → i < length changes → change ≡ get_or changes i change → rows_put (change ∷ []) ≡ row ∷ []
+    → length row ≡ n
+row_wide n [] i change row h lt e put = absurd (omega arith)
+row_wide n (c ∷ changes) zero change row h lt e put =
+    let q : rows_put (c ∷ changes) ≡ row ∷ rows_put changes = put_more c changes ∙ ap (λ (rows : List (List Value)). rows ++ rows_put changes) (ap (λ (d : Change). rows_put (d ∷ [])) (sym e) ∙ put) in
+    let k : are_wide n (row ∷ rows_put changes) ≡ true = sym (ap (are_wide n) q) ∙ h in
+    grind (arith, common_steps)
+row_wide n (c ∷ changes) (suc i) change row h lt e put =
+    let k : (list_all (λ r. nat_eq (length r) n) (rows_put (c ∷ [])) && are_wide n (rows_put changes)) ≡ true
+    = sym (list_all-append (λ r. nat_eq (length r) n) (rows_put (c ∷ [])) (rows_put changes)) ∙ sym (ap (are_wide n) (put_more c changes)) ∙ h in
+    row_wide n changes i change row (grind (arith, common_steps)) (omega arith) e put
+
+-- one more row that is put in
+pub wide_inserted : (n : ℕ) (changes : List Change) (row : List Value) → are_wide n (rows_put changes) ≡ true → length row ≡ n → are_wide n (rows_put (changes ++ Insert row ∷ [])) ≡ true
+wide_inserted n [] row h e = grind (arith, common_steps)
+wide_inserted n (Insert other ∷ changes) row h e = grind (arith, common_steps, wide_inserted n changes row)
+wide_inserted n (Replace number other ∷ changes) row h e = grind (arith, common_steps, wide_inserted n changes row)
+wide_inserted n (Remove number ∷ changes) row h e = wide_inserted n changes row h e
+
+pub wide_replaced : (n : ℕ) (changes : List Change) (number : ℕ) (row : List Value) → are_wide n (rows_put changes) ≡ true → length row ≡ n → are_wide n (rows_put (changes ++ Replace number row ∷ [])) ≡ true
+wide_replaced n [] number row h e = grind (arith, common_steps)
+wide_replaced n (Insert other ∷ changes) number row h e = grind (arith, common_steps, wide_replaced n changes number row)
+wide_replaced n (Replace place other ∷ changes) number row h e = grind (arith, common_steps, wide_replaced n changes number row)
+wide_replaced n (Remove place ∷ changes) number row h e = wide_replaced n changes number row h e
+
+-- ---- the base table
+
+pub base_under : (t : ChangeTarget) → base_of t ≡ (under t).table.place
+base_under (target.Searched t) = t.is_under
+base_under (target.Positioned p) = p.is_under

@@ -1,3 +1,4 @@
 pub mod Applied
+pub mod Held
 pub mod Made
 pub mod Stored

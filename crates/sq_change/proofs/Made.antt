@@ -7,9 +7,11 @@ use Rattle.sq_store.specs.declared.table.Numbered.{Numbered}
 use Rattle.sq_store.specs.declared.table.Table.{Table}
 use Rattle.sq_store.specs.Change.{rows_put}
 use Rattle.sq_store.specs.Content.{Content, changed_by, inserted, removed, replaced, table_at, with_table}
+use Rattle.sq_bound.specs.Fits.{under}
 use Rattle.sq_bound.specs.declared.statement.ChangeTarget.{ChangeTarget}
 use Rattle.sq_change.specs.Changed.{Removals, Replacements, are_insertions, are_replacements}
-use Rattle.sq_change.specs.Statement.{Deletes, Inserts, Updates, are_numbered, base_of, with_replaced, with_rows, without}
+use Rattle.sq_change.specs.Statement.{Deletes, Inserts, Updates, are_numbered, with_replaced, with_rows, without}
+use Rattle.sq_change.proofs.Applied.{base_under}
 
 -- ---- INSERT
 
@@ -54,14 +56,14 @@ replaced_numbered numbers (Insert row ∷ changes) h = cc
 replaced_numbered numbers (Replace number row ∷ changes) h = let k = replaced_numbered numbers changes (grind (arith, common_steps)) in grind (arith, common_steps)
 replaced_numbered numbers (Remove number ∷ changes) h = cc
 
-pub updates : (t : ChangeTarget) (on : Option ℕ) (place : ℕ) (before after : Content) (changes : List Change) → place ≡ base_of t → Replacements t on changes
-    → after ≡ with_table before place (changed_by (table_at before place) changes) → Updates t on before after
-updates t on place before after changes p h made = record {
+pub updates : (t : ChangeTarget) (on : Option ℕ) (before after : Content) (changes : List Change) → Replacements t on changes
+    → after ≡ with_table before (under t).table.place (changed_by (table_at before (under t).table.place) changes) → Updates t on before after
+updates t on before after changes h made = record {
   numbers = h.numbers;
   chosen = h.chosen;
   rows = rows_replaced changes;
   numbered = replaced_numbered h.numbers changes h.all;
-  done = rw (← p) (rw (← (all_replaced h.numbers (table_at before place) changes h.all)) made);
+  done = rw (base_under t) (rw (← (all_replaced h.numbers (table_at before (under t).table.place) changes h.all)) made);
 }
 
 -- ---- DELETE
@@ -70,10 +72,10 @@ all_removed : (t : Table) (numbers : List ℕ) → changed_by t (map Remove numb
 all_removed t [] = refl
 all_removed t (number ∷ numbers) = all_removed (removed t number) numbers
 
-pub deletes : (t : ChangeTarget) (on : Option ℕ) (place : ℕ) (before after : Content) (changes : List Change) → place ≡ base_of t → Removals t on changes
-    → after ≡ with_table before place (changed_by (table_at before place) changes) → Deletes t on before after
-deletes t on place before after changes p h made = record {
+pub deletes : (t : ChangeTarget) (on : Option ℕ) (before after : Content) (changes : List Change) → Removals t on changes
+    → after ≡ with_table before (under t).table.place (changed_by (table_at before (under t).table.place) changes) → Deletes t on before after
+deletes t on before after changes h made = record {
   numbers = h.numbers;
   chosen = h.chosen;
-  done = rw (← p) (rw (← (all_removed (table_at before place) h.numbers)) (rw h.all at made));
+  done = rw (base_under t) (rw (← (all_removed (table_at before (under t).table.place) h.numbers)) (rw h.all at made));
 }

@@ -1,20 +1,15 @@
 -- What a statement is going to change, by its kind.
-use Rattle.std.specs.Prelude.{◌≡◌, ◌<◌, ◌≤◌, ◌+◌, ◌-◌, ℕ, Bool, true, false, List, length, map, nat_eq, Option}
+use Rattle.std.specs.Prelude.{◌≡◌, ℕ, Bool, true, false, List, length, map, nat_eq, Option}
 use Rattle.std.specs.List.{list_all, list_any}
+use Rattle.sq_value.specs.declared.value.Value.{Value}
 use Rattle.sq_store.specs.declared.change.Change.{Change}
 use Rattle.sq_store.specs.declared.change.Change.TheVariants.{Insert, Replace, Remove}
-use Rattle.sq_store.specs.Change.{insert_count, rows_put}
-use Rattle.sq_store.specs.Content.{Content, table_at}
-use Rattle.sq_store.specs.Keys.{Keys, has_keys, keys_at}
 use Rattle.sq_bound.specs.declared.statement.ChangeTarget.{ChangeTarget}
 use Rattle.sq_change.specs.Statement.{Chosen}
 
--- what a store asks of the changes of a table: it is there, the rows that are put in it have the columns of its keys, and the new rows fit in the numbers
--- that are left
-pub record CanApply (row_numbers : ℕ) (keys : List Keys) (content : Content) (place : ℕ) (changes : List Change) : Type 0 where
-  pub known : place < length content
-  pub columns : list_all (has_keys (keys_at keys place)) (rows_put changes) ≡ true
-  pub fits : insert_count changes ≤ row_numbers + 1 - (table_at content place).next
+-- the rows have a value for each of so many columns
+abbrev pub are_wide : ℕ → List (List Value) → Bool
+are_wide columns rows = list_all (λ row. nat_eq (length row) columns) rows
 
 -- only new rows
 abbrev pub is_insertion : Change → Bool

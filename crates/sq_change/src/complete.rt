@@ -1,13 +1,18 @@
 //! A change of a base table, where check options and constraints allow it.
 
-ghost use Rattle.std.specs.Prelude.{◌≡◌, length, OnErr, OnOk, Some};
-ghost use Rattle.sq_change.specs.Changed.{CanApply};
+ghost use Rattle.std.specs.Prelude.{◌≡◌, ◌<◌, ◌≤◌, ◌+◌, ◌-◌, true, length, IfOk, OnErr, OnOk, Some};
+ghost use Rattle.std.specs.List.{list_all};
+ghost use Rattle.sq_store.specs.Change.{insert_count, rows_put};
 ghost use Rattle.sq_store.specs.Content.{changed_by, table_at, with_table};
+ghost use Rattle.sq_store.specs.Keys.{has_keys, keys_at};
+ghost use Rattle.sq_bound.specs.Fits.{IsBase, holds, keys_of_bases};
+ghost use Rattle.sq_change.specs.Changed.{are_wide};
+ghost use Rattle.sq_change.specs.Reference.{are_of_keys};
 
 use crate::constraint::{check_options_met, rows_satisfied};
 use crate::reference::{Referenced, referenced_by, references_satisfied};
-use crate::setting::{Base, Setting};
-use sq_bound::Names;
+use crate::setting::Setting;
+use sq_bound::{Leaf, Names};
 use sq_lex::Name;
 use sq_query::{Failure, Fault};
 use sq_store::{ApplyFault, Change, Store};
@@ -23,27 +28,32 @@ pub(crate) struct Changed {
 }
 
 /// Makes the changes of a base table. In this order: check options, constraints on one row, keys, references.
-#[tactic(auto, using(crate::proofs::Applied::as_many))]
+#[tactic(auto, using(crate::proofs::Held::still_held))]
 pub(crate) fn complete<N: Names, S: Store>(
     alloc: Global,
     names: &N,
-    base: Base<'_>,
+    leaf: &Leaf,
     changed: Changed,
     store: &mut S,
     user: Name,
     parameters: &[Value],
 ) -> Result<(), Fault>
-    requires applicable { CanApply (S.row_numbers store.old) (S.key_columns store.old) (S.content_now store.old) base.place changed.changes.items }
-    requires tables { length (N.base_tables names.now) ≡ length (S.content_now store.old) }
+    requires tables { holds (N.base_tables names.now) (S.content_now store.old) ≡ true }
+    requires keys { S.key_columns store.old ≡ keys_of_bases (N.base_tables names.now) }
+    requires base { IsBase (N.base_tables names.now) leaf.now.table }
+    requires wide { are_wide (length leaf.now.table.columns) (rows_put changed.changes.items) ≡ true }
+    requires numbers { insert_count changed.changes.items ≤ S.row_numbers store.old + 1 - (table_at (S.content_now store.old) leaf.now.table.place).next }
     ensures ok { OnOk result (S.content_now store.new
-        ≡ with_table (S.content_now store.old) base.entry.place (changed_by (table_at (S.content_now store.old) base.entry.place) changed.changes.items)) }
+        ≡ with_table (S.content_now store.old) leaf.now.table.place (changed_by (table_at (S.content_now store.old) leaf.now.table.place) changed.changes.items)) }
     ensures err { OnErr result (S.content_now store.new ≡ S.content_now store.old) }
+    ensures tables { holds (N.base_tables names.now) (S.content_now store.new) ≡ true }
     ensures committed { S.committed store.new ≡ S.committed store.old }
     ensures keys { S.key_columns store.new ≡ S.key_columns store.old }
     ensures numbers { S.row_numbers store.new ≡ S.row_numbers store.old }
 {
+    let table = leaf.table.get();
     let setting = Setting::new(alloc, names, &*store, user, parameters);
-    let referenced = match rows_admitted(&setting, base, &changed) {
+    let referenced = match rows_admitted(&setting, leaf, &changed) {
         Ok(referenced) => referenced,
         Err(fault) => {
             drop(changed);
@@ -55,15 +65,10 @@ pub(crate) fn complete<N: Names, S: Store>(
         lost_keys,
         ..
     } = changed;
-    apply(alloc, store, base.place, changes)?;
-    let satisfied = references_satisfied(
-        alloc,
-        names,
-        store,
-        referenced.as_slice(),
-        base.place,
-        lost_keys.as_slice(),
-    );
+    apply(alloc, store, table.place, changes)?;
+    let referenced = referenced.as_slice();
+    let lost_keys = lost_keys.as_slice();
+    let satisfied = references_satisfied(alloc, names, store, referenced, table.place, lost_keys);
     if satisfied.is_err() {
         store.take_back();
     }
@@ -73,13 +78,19 @@ pub(crate) fn complete<N: Names, S: Store>(
 /// Whether the rows that are put in a table may be there, and the rows to which they refer.
 fn rows_admitted<N: Names, S: Store>(
     setting: &Setting<'_, N, S>,
-    base: Base<'_>,
+    leaf: &Leaf,
     changed: &Changed,
-) -> Result<Vec<Referenced>, Fault> {
+) -> Result<Vec<Referenced>, Fault>
+    requires keys { S.key_columns setting.now.store.now ≡ keys_of_bases (N.base_tables setting.now.names.now) }
+    requires base { IsBase (N.base_tables setting.now.names.now) leaf.now.table }
+    requires wide { are_wide (length leaf.now.table.columns) (rows_put changed.now.changes.items) ≡ true }
+    ensures { IfOk result (λ referenced. are_of_keys (S.key_columns setting.now.store.now) referenced.items ≡ true) }
+{
     let changes = changed.changes.as_slice();
-    check_options_met(setting, base.leaf, changes)?;
-    rows_satisfied(setting, base.table(), changes)?;
-    referenced_by(setting.alloc, base.table(), changes)
+    let table = leaf.table.get();
+    check_options_met(setting, leaf, changes)?;
+    rows_satisfied(setting, table, changes)?;
+    referenced_by(setting, table, changes)
 }
 
 /// Makes changes in the store, where no two rows have the same key afterwards.
@@ -89,7 +100,9 @@ fn apply<S: Store>(
     place: usize,
     changes: Vec<Change>,
 ) -> Result<(), Fault>
-    requires { CanApply (S.row_numbers store.old) (S.key_columns store.old) (S.content_now store.old) place changes.items }
+    requires known { place < length (S.content_now store.old) }
+    requires columns { list_all (has_keys (keys_at (S.key_columns store.old) place)) (rows_put changes.items) ≡ true }
+    requires fits { insert_count changes.items ≤ S.row_numbers store.old + 1 - (table_at (S.content_now store.old) place).next }
     ensures ok { OnOk result (S.content_now store.new
         ≡ with_table (S.content_now store.old) place (changed_by (table_at (S.content_now store.old) place) changes.items)) }
     ensures before { OnOk result (S.before store.new ≡ Some (S.content_now store.old)) }

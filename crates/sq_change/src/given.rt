@@ -1,7 +1,8 @@
 //! The rows that an insert statement makes (ISO/IEC 9075:1992, 13.8).
 
 ghost use Rattle.std.specs.Prelude.{◌≡◌, ◌<◌, length, true, vec_len, IfOk};
-ghost use Rattle.sq_change.specs.Changed.{are_insertions};
+ghost use Rattle.sq_store.specs.Change.{rows_put};
+ghost use Rattle.sq_change.specs.Changed.{are_insertions, are_wide};
 
 use crate::setting::Setting;
 use crate::storing::{assigned, stored_value};
@@ -23,6 +24,7 @@ pub(crate) fn new_rows<N: Names, S: Store>(
     meter: &mut Meter,
 ) -> Result<Vec<Change>, Fault>
     ensures insertions { IfOk result (λ changes. are_insertions changes.items ≡ true) }
+    ensures wide { IfOk result (λ changes. are_wide (length table.now.columns) (rows_put changes.items) ≡ true) }
     ensures some { IfOk result (λ changes. 0 < vec_len changes) }
 {
     let given = given_rows(setting, insert, meter)?;
@@ -115,6 +117,7 @@ fn completed_rows<N: Names, S: Store>(
     given: &[Row],
 ) -> Result<Vec<Change>, Fault>
     ensures insertions { IfOk result (λ changes. are_insertions changes.items ≡ true) }
+    ensures wide { IfOk result (λ changes. are_wide (length table.now.columns) (rows_put changes.items) ≡ true) }
     ensures length { IfOk result (λ changes. vec_len changes ≡ length given.now) }
 {
     let mut changes = Vec::new(setting.alloc);
@@ -131,7 +134,9 @@ fn new_row<N: Names, S: Store>(
     table: &BaseTable,
     columns: &[ObjectColumn],
     given: &[Value],
-) -> Result<Row, Fault> {
+) -> Result<Row, Fault>
+    ensures { IfOk result (λ row. length row ≡ length table.now.columns) }
+{
     let mut row = Items::new(setting.alloc);
     for (place, column) in table.columns.as_slice().iter().enumerate() {
         let given = given_at(columns, given, place);

@@ -1,8 +1,9 @@
 //! INSERT, UPDATE and DELETE, over whatever store keeps the tables (ISO/IEC 9075:1992, 13.6 to 13.10).
 //!
-//! A bound statement holds what is under the table that it names. It could, as far as its type says, be over a table that
-//! the store doesn't keep or one with other keys there, name a column that the table lacks, or store a number where a text
-//! must stand. Such a statement ends with 42000. Binding should make none, which isn't proved.
+//! A bound statement holds what is under the table that it names. It is asked for that the store keeps the tables of the
+//! names and their keys, that the statement is over one of these tables, and that set clauses are for columns of it. A
+//! statement could, as far as its type says, store a number where a text must stand. Such a statement ends with 42000.
+//! Binding should make none, which isn't proved.
 #![tactic(auto)]
 
 mod complete;

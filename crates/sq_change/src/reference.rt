@@ -1,8 +1,16 @@
 //! References between tables after a change (ISO/IEC 9075:1992, 11.8).
 
-ghost use Rattle.std.specs.Prelude.{◌≡◌, ◌<◌, length};
+ghost use Rattle.std.specs.Prelude.{◌≡◌, ◌<◌, true, length, IfOk, OnOk};
+ghost use Rattle.std.specs.List.{list_all};
+ghost use Rattle.sq_store.specs.Change.{rows_put};
+ghost use Rattle.sq_store.specs.Content.{table_at};
+ghost use Rattle.sq_store.specs.Keys.{has_columns};
+ghost use Rattle.sq_bound.specs.Fits.{have_width, holds, keys_of_bases};
+ghost use Rattle.sq_change.specs.Changed.{are_wide};
+ghost use Rattle.sq_change.specs.Reference.{are_of_keys, is_of_key, refer_to_keys, refers_to_key};
 
-use crate::row::{has_columns, has_null, row_put};
+use crate::row::{has_null, row_put};
+use crate::setting::Setting;
 use sq_bound::{BaseTable, Names, Reference};
 use sq_query::{Failure, Fault};
 use sq_store::{Change, Meter, Store};
@@ -18,29 +26,38 @@ pub(crate) struct Referenced {
 }
 
 /// The rows to which those refer that are put in a table.
-pub(crate) fn referenced_by(
-    alloc: Global,
+pub(crate) fn referenced_by<N: Names, S: Store>(
+    setting: &Setting<'_, N, S>,
     table: &BaseTable,
     changes: &[Change],
-) -> Result<Vec<Referenced>, Fault> {
-    let mut referenced = Vec::new(alloc);
+) -> Result<Vec<Referenced>, Fault>
+    requires keys { refer_to_keys (S.key_columns setting.now.store.now) table.now.references ≡ true }
+    requires wide { are_wide (length table.now.columns) (rows_put changes.now) ≡ true }
+    ensures { IfOk result (λ referenced. are_of_keys (S.key_columns setting.now.store.now) referenced.items ≡ true) }
+{
+    let mut referenced = Vec::new(setting.alloc);
     for change in changes {
         if let Some(row) = row_put(change) {
-            push_referenced(alloc, &mut referenced, table.references.as_slice(), row)?;
+            push_referenced(setting, &mut referenced, table, row)?;
         }
     }
     Ok(referenced)
 }
 
-/// Adds the rows to which a row refers.
-fn push_referenced(
-    alloc: Global,
+/// Adds the rows to which a row of a table refers.
+fn push_referenced<N: Names, S: Store>(
+    setting: &Setting<'_, N, S>,
     referenced: &mut Vec<Referenced>,
-    references: &[Reference],
+    table: &BaseTable,
     row: &Row,
-) -> Result<(), Fault> {
-    for reference in references {
-        if let Some(values) = values_referred(alloc, reference, row)? {
+) -> Result<(), Fault>
+    requires keys { refer_to_keys (S.key_columns setting.now.store.now) table.now.references ≡ true }
+    requires wide { length row.now ≡ length table.now.columns }
+    requires known { are_of_keys (S.key_columns setting.now.store.now) referenced.old.items ≡ true }
+    ensures { OnOk result (are_of_keys (S.key_columns setting.now.store.now) referenced.new.items ≡ true) }
+{
+    for reference in table.references.as_slice() {
+        if let Some(values) = values_referred(setting.alloc, reference, row)? {
             referenced.push(Referenced {
                 table: reference.table,
                 key: reference.key,
@@ -54,12 +71,11 @@ fn push_referenced(
 /// The values of a row's referencing columns, in the order of the referenced key. Where one is null, the row refers to no
 /// row.
 #[tactic(auto, using(sq_store::proofs::Sound::HasColumns_test))]
-fn values_referred(alloc: Global, reference: &Reference, row: &Row) -> Result<Option<Key>, Fault> {
+fn values_referred(alloc: Global, reference: &Reference, row: &Row) -> Result<Option<Key>, Fault>
+    requires { has_columns reference.now.by_key row.now ≡ true }
+{
     let row = row.as_slice();
     let columns = reference.by_key.as_slice();
-    if !has_columns(row, columns) {
-        return Err(Fault::NOT_WELL_FORMED);
-    }
     if has_null(row, columns) {
         return Ok(None);
     }
@@ -76,21 +92,24 @@ pub(crate) fn references_satisfied<N: Names, S: Store>(
     table: usize,
     lost_keys: &[usize],
 ) -> Result<(), Fault>
-    requires { length (N.base_tables names.now) ≡ length (S.content_now store.now) }
+    requires tables { holds (N.base_tables names.now) (S.content_now store.now) ≡ true }
+    requires keys { S.key_columns store.now ≡ keys_of_bases (N.base_tables names.now) }
+    requires known { are_of_keys (S.key_columns store.now) referenced.now ≡ true }
 {
     all_there(store, referenced)?;
     if lost_keys.is_empty() {
         return Ok(());
     }
     for (place, base) in names.bases().iter().enumerate() {
-        let references = base.get().references.as_slice();
-        references_to(alloc, store, place, references, table, lost_keys)?;
+        references_to(alloc, store, place, base.get(), table, lost_keys)?;
     }
     Ok(())
 }
 
 /// Whether there are all these rows.
-fn all_there<S: Store>(store: &S, referenced: &[Referenced]) -> Result<(), Fault> {
+fn all_there<S: Store>(store: &S, referenced: &[Referenced]) -> Result<(), Fault>
+    requires { are_of_keys (S.key_columns store.now) referenced.now ≡ true }
+{
     for row in referenced {
         is_there(store, row)?;
     }
@@ -98,29 +117,30 @@ fn all_there<S: Store>(store: &S, referenced: &[Referenced]) -> Result<(), Fault
 }
 
 /// Whether there is such a row.
-fn is_there<S: Store>(store: &S, referenced: &Referenced) -> Result<(), Fault> {
+fn is_there<S: Store>(store: &S, referenced: &Referenced) -> Result<(), Fault>
+    requires { is_of_key (S.key_columns store.now) referenced.now ≡ true }
+{
     let Referenced { table, key, values } = referenced;
-    if *table >= store.table_count() || *key >= store.keys(*table).len() {
-        return Err(Fault::NOT_WELL_FORMED);
-    }
     match store.find_key(*table, *key, values, &mut Meter::new()) {
         Some(_) => Ok(()),
         None => Err(Fault::Status(Failure::IntegrityConstraintViolation)),
     }
 }
 
-/// Whether those references of a table hold that are to one of the keys of another.
+/// Whether those references of the base table at a place hold that are to one of the keys of another.
 fn references_to<S: Store>(
     alloc: Global,
     store: &S,
     place: usize,
-    references: &[Reference],
+    base: &BaseTable,
     table: usize,
     keys: &[usize],
 ) -> Result<(), Fault>
-    requires { place < length (S.content_now store.now) }
+    requires kept { place < length (S.content_now store.now) }
+    requires wide { have_width (length base.now.columns) (table_at (S.content_now store.now) place).rows ≡ true }
+    requires keys { refer_to_keys (S.key_columns store.now) base.now.references ≡ true }
 {
-    for reference in references {
+    for reference in base.references.as_slice() {
         if reference.table == table && keys.contains(&reference.key) {
             reference_satisfied(alloc, store, place, reference)?;
         }
@@ -135,7 +155,9 @@ fn reference_satisfied<S: Store>(
     place: usize,
     reference: &Reference,
 ) -> Result<(), Fault>
-    requires { place < length (S.content_now store.now) }
+    requires kept { place < length (S.content_now store.now) }
+    requires columns { list_all (λ r. has_columns reference.now.by_key r.row) (table_at (S.content_now store.now) place).rows ≡ true }
+    requires key { refers_to_key (S.key_columns store.now) reference.now ≡ true }
 {
     let mut meter = Meter::new();
     let mut number = 0;
@@ -152,7 +174,10 @@ fn is_satisfied<S: Store>(
     store: &S,
     reference: &Reference,
     row: &Row,
-) -> Result<(), Fault> {
+) -> Result<(), Fault>
+    requires columns { has_columns reference.now.by_key row.now ≡ true }
+    requires key { refers_to_key (S.key_columns store.now) reference.now ≡ true }
+{
     match values_referred(alloc, reference, row)? {
         Some(values) => is_there(
             store,

@@ -1,13 +1,16 @@
 //! Rows, and their columns.
 
-ghost use Rattle.std.specs.Prelude.{◌≡◌};
+ghost use Rattle.std.specs.Prelude.{◌≡◌, ◌∷◌, [], true, IfSome};
+ghost use Rattle.sq_store.specs.Change.{rows_put};
 ghost use Rattle.sq_store.specs.Keys.{has_columns};
 
 use sq_store::Change;
 use sq_value::{Row, Value};
 
 /// The row that a change puts in its table.
-pub(crate) fn row_put(change: &Change) -> Option<&Row> {
+pub(crate) fn row_put(change: &Change) -> Option<&Row>
+    ensures { IfSome result (λ row. rows_put (change.now ∷ []) ≡ row.now ∷ []) }
+{
     match change {
         Change::Insert(row) => Some(row),
         Change::Replace(_, row) => Some(row),
@@ -15,19 +18,16 @@ pub(crate) fn row_put(change: &Change) -> Option<&Row> {
     }
 }
 
-/// Whether a row has the columns.
-pub(crate) fn has_columns(row: &[Value], columns: &[usize]) -> bool
-    ensures { result ≡ has_columns columns.now row.now }
-{
-    columns.iter().all(|column| *column < row.len())
-}
-
 /// Whether one of the columns is null.
-pub(crate) fn has_null(row: &[Value], columns: &[usize]) -> bool {
-    columns.iter().any(|column| match row.get(*column) {
-        Some(value) => is_null(value),
-        None => false,
-    })
+pub(crate) fn has_null(row: &[Value], columns: &[usize]) -> bool
+    requires { has_columns columns.now row.now ≡ true }
+{
+    for column in columns {
+        if is_null(&row[*column]) {
+            return true;
+        }
+    }
+    false
 }
 
 pub(crate) fn is_null(value: &Value) -> bool {

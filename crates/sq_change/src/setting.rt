@@ -1,8 +1,8 @@
 //! What a statement reads.
 
-ghost use Rattle.std.specs.Prelude.{◌≡◌, ◌<◌, ◌≤◌, length, IfErr, IfOk};
+ghost use Rattle.std.specs.Prelude.{◌≡◌};
 
-use sq_bound::{BaseTable, BoundCond, BoundExpr, Leaf, Names};
+use sq_bound::{BoundCond, BoundExpr, Names};
 use sq_lex::Name;
 use sq_query::{Fault, Inputs, truth_of, value_of};
 use sq_store::Store;
@@ -27,7 +27,8 @@ impl<'a, N: Names, S: Store> Setting<'a, N, S> {
         user: Name,
         parameters: &'a [Value],
     ) -> Setting<'a, N, S>
-        ensures { result.store.now ≡ store.now }
+        ensures names { result.names.now ≡ names.now }
+        ensures store { result.store.now ≡ store.now }
     {
         Setting {
             alloc,
@@ -62,34 +63,4 @@ impl<'a, N: Names, S: Store> Setting<'a, N, S> {
             self.inputs(),
         )
     }
-}
-
-/// A base table, its place among the tables of the store, and what is demanded of its rows by the table that a statement
-/// names.
-#[derive(Clone, Copy)]
-pub(crate) struct Base<'a> {
-    pub(crate) place: usize,
-    pub(crate) leaf: &'a Leaf,
-}
-
-impl<'a> Base<'a> {
-    pub(crate) fn table(&self) -> &'a BaseTable {
-        self.leaf.table.get()
-    }
-}
-
-/// The base table at a place, whose rows the store keeps.
-pub(crate) fn base_at<'a, S: Store>(
-    store: &S,
-    place: usize,
-    leaf: &'a Leaf,
-) -> Result<Base<'a>, Fault>
-    ensures place { IfOk result (λ base. base.place ≡ place) }
-    ensures kept { IfOk result (λ base. base.place < length (S.content_now store.now)) }
-    ensures refused { IfErr result (λ f. (f ≡ Fault.NOT_WELL_FORMED) × (length (S.content_now store.now) ≤ place)) }
-{
-    if place >= store.table_count() {
-        return Err(Fault::NOT_WELL_FORMED);
-    }
-    Ok(Base { place, leaf })
 }

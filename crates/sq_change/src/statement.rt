@@ -1,22 +1,23 @@
 //! The three statements that change a table.
 
-ghost use Rattle.std.specs.Prelude.{◌≡◌, ◌<◌, true, length, vec_len, IfOk, Ok, OnErr, OnOk};
-ghost use Rattle.std.specs.List.{list_all};
-ghost use Rattle.sq_store.specs.Change.{rows_put};
-ghost use Rattle.sq_store.specs.Keys.{has_keys, keys_at};
-ghost use Rattle.sq_change.specs.Changed.{CanApply, Removals, Replacements, are_insertions};
+ghost use Rattle.std.specs.Prelude.{◌≡◌, ◌<◌, ◌≤◌, ◌+◌, ◌-◌, true, length, vec_len, IfOk, Ok, OnErr, OnOk};
+ghost use Rattle.sq_store.specs.Change.{insert_count, rows_put};
+ghost use Rattle.sq_store.specs.Content.{table_at};
+ghost use Rattle.sq_bound.specs.Fits.{IsBase, are_columns, holds, keys_of_bases, under};
+ghost use Rattle.sq_change.specs.Changed.{Removals, Replacements, are_insertions, are_wide};
 ghost use Rattle.sq_change.specs.Statement.{Deletes, Inserts, IsGiven, Updates};
 
 use crate::complete::{Changed, complete};
 use crate::given::new_rows;
-use crate::setting::{Base, Setting, base_at};
-use crate::target::{all_keys, changed_table, keys_assigned, numbers_changed, removed, replaced};
-use sq_bound::{BaseTable, BoundInsert, BoundUpdate, ChangeTarget, Names};
+use crate::setting::Setting;
+use crate::target::{all_keys, keys_assigned, leaf_under, numbers_changed, removed, replaced};
+use sq_bound::{BoundInsert, BoundUpdate, ChangeTarget, Names};
 use sq_query::{Failure, Fault, Inputs};
-use sq_store::{Change, Meter, Store, can_apply};
+use sq_store::{Change, Meter, Store};
 use std::alloc::Global;
 
-/// Performs an insert statement (ISO/IEC 9075:1992, 13.8).
+/// Performs an insert statement (ISO/IEC 9075:1992, 13.8). The store keeps the tables of the names and their keys, and the
+/// statement is over one of these tables.
 #[tactic(auto, using(crate::proofs::Made::inserts))]
 pub fn insert<N: Names, S: Store>(
     alloc: Global,
@@ -26,40 +27,42 @@ pub fn insert<N: Names, S: Store>(
     inputs: Inputs<'_>,
     meter: &mut Meter,
 ) -> Result<(), Fault>
-    requires { length (N.base_tables names.now) ≡ length (S.content_now store.old) }
+    requires tables { holds (N.base_tables names.now) (S.content_now store.old) ≡ true }
+    requires keys { S.key_columns store.old ≡ keys_of_bases (N.base_tables names.now) }
+    requires base { IsBase (N.base_tables names.now) insert.now.leaf.table }
     ensures ok { OnOk result (Inserts insert.now.base (S.content_now store.old) (S.content_now store.new)) }
     ensures err { OnErr result (S.content_now store.new ≡ S.content_now store.old) }
+    ensures tables { holds (N.base_tables names.now) (S.content_now store.new) ≡ true }
     ensures committed { S.committed store.new ≡ S.committed store.old }
     ensures keys { S.key_columns store.new ≡ S.key_columns store.old }
     ensures numbers { S.row_numbers store.new ≡ S.row_numbers store.old }
 {
     let Inputs { user, parameters } = inputs;
-    let base = base_at(&*store, insert.base, insert.leaf.get())?;
     let setting = Setting::new(alloc, names, &*store, user, parameters);
-    let changed = inserted(&setting, insert, base, meter)?;
-    complete(alloc, names, base, changed, store, user, parameters)
+    let changed = inserted(&setting, insert, meter)?;
+    let leaf = insert.leaf.get();
+    complete(alloc, names, leaf, changed, store, user, parameters)
 }
 
 /// The new rows of an insert statement, which need as many row numbers (own rule).
+#[tactic(auto, using(crate::proofs::Applied::fewer_inserted))]
 fn inserted<N: Names, S: Store>(
     setting: &Setting<'_, N, S>,
     insert: &BoundInsert,
-    base: Base<'_>,
     meter: &mut Meter,
 ) -> Result<Changed, Fault>
-    requires { base.place < length (S.content_now setting.now.store.now) }
-    ensures applicable { IfOk result (λ changed. CanApply (S.row_numbers setting.now.store.now) (S.key_columns setting.now.store.now) (S.content_now setting.now.store.now) base.entry.place changed.changes.items) }
+    requires { insert.now.leaf.table.place < length (S.content_now setting.now.store.now) }
     ensures insertions { IfOk result (λ changed. are_insertions changed.changes.items ≡ true) }
     ensures some { IfOk result (λ changed. 0 < vec_len changed.changes) }
+    ensures wide { IfOk result (λ changed. are_wide (length insert.now.leaf.table.columns) (rows_put changed.changes.items) ≡ true) }
+    ensures numbers { IfOk result (λ changed. insert_count changed.changes.items
+        ≤ S.row_numbers setting.now.store.now + 1 - (table_at (S.content_now setting.now.store.now) insert.now.leaf.table.place).next) }
 {
-    let changes = new_rows(setting, insert, base.table(), meter)?;
-    if changes.len() as u64 > setting.store.numbers_left(base.place) {
+    let table = insert.leaf.get().table.get();
+    let changes = new_rows(setting, insert, table, meter)?;
+    if changes.len() as u64 > setting.store.numbers_left(table.place) {
         drop(changes);
         return Err(Fault::Status(Failure::NoRowNumberLeft));
-    }
-    if !can_apply(setting.store, base.place, changes.as_slice()) {
-        drop(changes);
-        return Err(Fault::NOT_WELL_FORMED);
     }
     Ok(Changed {
         changes,
@@ -68,6 +71,8 @@ fn inserted<N: Names, S: Store>(
 }
 
 /// Performs an update statement (13.9, 13.10). `on` is the number of the row that the cursor is on, for a positioned one.
+/// The store keeps the tables of the names and their keys, the statement is over one of these tables, and its set clauses
+/// are for columns of it.
 #[tactic(auto, using(crate::proofs::Made::updates))]
 pub fn update<N: Names, S: Store>(
     alloc: Global,
@@ -79,40 +84,44 @@ pub fn update<N: Names, S: Store>(
     meter: &mut Meter,
 ) -> Result<(), Fault>
     requires given { IsGiven update.now.target on }
-    requires tables { length (N.base_tables names.now) ≡ length (S.content_now store.old) }
+    requires tables { holds (N.base_tables names.now) (S.content_now store.old) ≡ true }
+    requires keys { S.key_columns store.old ≡ keys_of_bases (N.base_tables names.now) }
+    requires base { IsBase (N.base_tables names.now) (under update.now.target).table }
+    requires columns { are_columns (length (under update.now.target).table.columns) update.now.assignments ≡ true }
     ensures ok { OnOk result (Updates update.now.target on (S.content_now store.old) (S.content_now store.new)) }
     ensures err { OnErr result (S.content_now store.new ≡ S.content_now store.old) }
+    ensures tables { holds (N.base_tables names.now) (S.content_now store.new) ≡ true }
     ensures committed { S.committed store.new ≡ S.committed store.old }
     ensures keys { S.key_columns store.new ≡ S.key_columns store.old }
     ensures numbers { S.row_numbers store.new ≡ S.row_numbers store.old }
 {
     let Inputs { user, parameters } = inputs;
-    let (place, leaf) = changed_table(&update.target);
-    let base = base_at(&*store, place, leaf)?;
     let setting = Setting::new(alloc, names, &*store, user, parameters);
-    let changed = updated(&setting, base, update, on, meter)?;
-    complete(alloc, names, base, changed, store, user, parameters)
+    let changed = updated(&setting, update, on, meter)?;
+    let leaf = leaf_under(&update.target);
+    complete(alloc, names, leaf, changed, store, user, parameters)
 }
 
 /// The changed rows of an update statement.
 fn updated<N: Names, S: Store>(
     setting: &Setting<'_, N, S>,
-    base: Base<'_>,
     update: &BoundUpdate,
     on: Option<u64>,
     meter: &mut Meter,
 ) -> Result<Changed, Fault>
     requires given { IsGiven update.now.target on }
-    requires kept { base.place < length (S.content_now setting.now.store.now) }
+    requires tables { holds (N.base_tables setting.now.names.now) (S.content_now setting.now.store.now) ≡ true }
+    requires base { IsBase (N.base_tables setting.now.names.now) (under update.now.target).table }
+    requires columns { are_columns (length (under update.now.target).table.columns) update.now.assignments ≡ true }
     ensures replacements { IfOk result (λ changed. Replacements update.now.target on changed.changes.items) }
-    ensures columns { IfOk result (λ changed. list_all (has_keys (keys_at (S.key_columns setting.now.store.now) base.entry.place)) (rows_put changed.changes.items) ≡ true) }
+    ensures wide { IfOk result (λ changed. are_wide (length (under update.now.target).table.columns) (rows_put changed.changes.items) ≡ true) }
 {
+    let table = leaf_under(&update.target).table.get();
     let assignments = update.assignments.as_slice();
     let numbers = numbers_changed(setting, &update.target, on, meter)?;
-    let changes = replaced(setting, base, assignments, numbers.as_slice());
+    let changes = replaced(setting, table, assignments, numbers.as_slice());
     drop(numbers);
-    let lost_keys = keys_assigned(setting.alloc, base.table(), assignments);
-    changed(changes, lost_keys)
+    changed(changes, keys_assigned(setting.alloc, table, assignments))
 }
 
 /// Changes, and the keys whose values rows may lose by them.
@@ -135,8 +144,9 @@ fn changed(
     }
 }
 
-/// Performs a delete statement (13.6, 13.7). `on` is the number of the row that the cursor is on, for a positioned one.
-#[tactic(auto, using(crate::proofs::Made::deletes))]
+/// Performs a delete statement (13.6, 13.7). `on` is the number of the row that the cursor is on, for a positioned one. The
+/// store keeps the tables of the names and their keys, and the statement is over one of these tables.
+#[tactic(auto, using(crate::proofs::Made::deletes, crate::proofs::Applied::removals_wide))]
 pub fn delete<N: Names, S: Store>(
     alloc: Global,
     names: &N,
@@ -147,25 +157,26 @@ pub fn delete<N: Names, S: Store>(
     meter: &mut Meter,
 ) -> Result<(), Fault>
     requires given { IsGiven target.now on }
-    requires tables { length (N.base_tables names.now) ≡ length (S.content_now store.old) }
+    requires tables { holds (N.base_tables names.now) (S.content_now store.old) ≡ true }
+    requires keys { S.key_columns store.old ≡ keys_of_bases (N.base_tables names.now) }
+    requires base { IsBase (N.base_tables names.now) (under target.now).table }
     ensures ok { OnOk result (Deletes target.now on (S.content_now store.old) (S.content_now store.new)) }
     ensures err { OnErr result (S.content_now store.new ≡ S.content_now store.old) }
+    ensures tables { holds (N.base_tables names.now) (S.content_now store.new) ≡ true }
     ensures committed { S.committed store.new ≡ S.committed store.old }
     ensures keys { S.key_columns store.new ≡ S.key_columns store.old }
     ensures numbers { S.row_numbers store.new ≡ S.row_numbers store.old }
 {
     let Inputs { user, parameters } = inputs;
-    let (place, leaf) = changed_table(target);
-    let base = base_at(&*store, place, leaf)?;
     let setting = Setting::new(alloc, names, &*store, user, parameters);
-    let changed = deleted(&setting, base.table(), target, on, meter)?;
-    complete(alloc, names, base, changed, store, user, parameters)
+    let changed = deleted(&setting, target, on, meter)?;
+    let leaf = leaf_under(target);
+    complete(alloc, names, leaf, changed, store, user, parameters)
 }
 
 /// The removed rows of a delete statement.
 fn deleted<N: Names, S: Store>(
     setting: &Setting<'_, N, S>,
-    table: &BaseTable,
     target: &ChangeTarget,
     on: Option<u64>,
     meter: &mut Meter,
@@ -176,5 +187,6 @@ fn deleted<N: Names, S: Store>(
     let numbers = numbers_changed(setting, target, on, meter)?;
     let changes = removed(setting.alloc, numbers.as_slice());
     drop(numbers);
+    let table = leaf_under(target).table.get();
     changed(changes, all_keys(setting.alloc, table))
 }

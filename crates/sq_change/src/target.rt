@@ -1,13 +1,12 @@
 //! The rows that UPDATE and DELETE change (ISO/IEC 9075:1992, 13.6, 13.7, 13.9 and 13.10).
 
 ghost use Rattle.std.specs.Prelude.{◌≡◌, ◌<◌, ◌∷◌, [], length, map, true, IfOk};
-ghost use Rattle.std.specs.List.{list_all};
 ghost use Rattle.sq_store.specs.Change.{rows_put};
-ghost use Rattle.sq_store.specs.Keys.{has_keys, keys_at};
-ghost use Rattle.sq_change.specs.Changed.{are_replacements};
-ghost use Rattle.sq_change.specs.Statement.{Chosen, IsGiven, base_of};
+ghost use Rattle.sq_bound.specs.Fits.{IsBase, are_columns, holds, under};
+ghost use Rattle.sq_change.specs.Changed.{are_replacements, are_wide};
+ghost use Rattle.sq_change.specs.Statement.{Chosen, IsGiven};
 
-use crate::setting::{Base, Setting};
+use crate::setting::Setting;
 use crate::storing::stored_value;
 use sq_bound::{BaseTable, BoundAssignment, ChangeTarget, Leaf, Names};
 use sq_items::Items;
@@ -16,13 +15,13 @@ use sq_store::{Change, Meter, Store};
 use sq_value::{Row, Value, copy_row};
 use std::alloc::Global;
 
-/// The place of the base table that a statement changes, and what is under the table that it names.
-pub(crate) fn changed_table(target: &ChangeTarget) -> (usize, &Leaf)
-    ensures { result.0 ≡ base_of target.now }
+/// What is under the table that a statement changes.
+pub(crate) fn leaf_under(target: &ChangeTarget) -> &Leaf
+    ensures { result.now ≡ under target.now }
 {
     match target {
-        ChangeTarget::Searched(target) => (target.base, target.leaf.get()),
-        ChangeTarget::Positioned(target) => (target.base, target.leaf.get()),
+        ChangeTarget::Searched(target) => target.leaf.get(),
+        ChangeTarget::Positioned(target) => target.leaf.get(),
     }
 }
 
@@ -71,18 +70,20 @@ fn only(alloc: Global, number: u64) -> Result<Vec<u64>, Fault>
 /// The rows under these numbers after the set clauses.
 pub(crate) fn replaced<N: Names, S: Store>(
     setting: &Setting<'_, N, S>,
-    base: Base<'_>,
+    table: &BaseTable,
     assignments: &[BoundAssignment],
     numbers: &[u64],
 ) -> Result<Vec<Change>, Fault>
-    requires { base.place < length (S.content_now setting.now.store.now) }
+    requires tables { holds (N.base_tables setting.now.names.now) (S.content_now setting.now.store.now) ≡ true }
+    requires base { IsBase (N.base_tables setting.now.names.now) table.now }
+    requires columns { are_columns (length table.now.columns) assignments.now ≡ true }
     ensures replacements { IfOk result (λ changes. are_replacements numbers.now changes.items ≡ true) }
-    ensures columns { IfOk result (λ changes. list_all (has_keys (keys_at (S.key_columns setting.now.store.now) base.entry.place)) (rows_put changes.items) ≡ true) }
+    ensures wide { IfOk result (λ changes. are_wide (length table.now.columns) (rows_put changes.items) ≡ true) }
 {
     let mut changes = Vec::new(setting.alloc);
     let mut meter = Meter::new();
     for number in numbers {
-        if let Some(row) = setting.store.row(base.place, *number, &mut meter) {
+        if let Some(row) = setting.store.row(table.place, *number, &mut meter) {
             let row = updated_row(setting, assignments, row)?;
             changes.push(Change::Replace(*number, row))?;
         }
@@ -96,6 +97,7 @@ fn updated_row<N: Names, S: Store>(
     assignments: &[BoundAssignment],
     row: &Row,
 ) -> Result<Row, Fault>
+    requires { are_columns (length row.now) assignments.now ≡ true }
     ensures { IfOk result (λ updated. length updated ≡ length row.now) }
 {
     let mut updated = copy_row(setting.alloc, row.as_slice())?.into_vec();
@@ -111,13 +113,11 @@ fn assign<N: Names, S: Store>(
     assignment: &BoundAssignment,
     row: &Row,
     updated: &mut [Value],
-) -> Result<(), Fault> {
+) -> Result<(), Fault>
+    requires { assignment.now.column.position < length updated.old }
+{
     let column = assignment.column;
     let value = stored_value(setting, column, &assignment.value, Some(row))?;
-    if column.position >= updated.len() {
-        drop(value);
-        return Err(Fault::NOT_WELL_FORMED);
-    }
     updated[column.position] = value;
     Ok(())
 }

@@ -1,7 +1,16 @@
-use Rattle.std.proofs.Common.{arith}
+use Rattle.std.proofs.Common.{nat_le, arith}
 use Rattle.sq_store.specs.declared.table.Numbered.{Numbered}
+use Rattle.sq_store.specs.Content.{table_at}
+use Rattle.sq_store.specs.Keys.{has_columns}
 use Rattle.sq_store.proofs.Walk.{found_behind, walked_below}
+use Rattle.sq_change.proofs.Held.{found_is}
 use Rattle.sq_change.proofs.reference.reference_satisfied.Goals as goal
+
+pub is_satisfied-requires-clause-columns : goal.is_satisfied-requires-clause-columns
+is_satisfied-requires-clause-columns g c =
+    let rows = (table_at (g.S.Store.content_now c.args.store.now) c.args.place).rows in
+    let f : Numbered = record { number = c.in-Some.found; row = c.in-Some.row.now } in
+    found_is (λ r. has_columns c.args.reference.now.by_key r.row) (λ r. nat_le c.loop-found.number r.number) rows f c.requires.columns c.in-Some.ensures.row
 
 pub overflow_add-number : goal.overflow_add-number
 overflow_add-number g c =

@@ -1,22 +1,35 @@
-use Rattle.std.proofs.Common.{◌≡◌, true, arith}
+use Rattle.std.proofs.Common.{◌≡◌, length, ◌∙◌, arith}
 use Rattle.std.proofs.lemmas.Grind.{common_steps}
-use Rattle.sq_store.specs.Keys.{has_keys, keys_at}
-use Rattle.sq_change.proofs.Applied.{changed_has_keys, put_more}
+use Rattle.sq_change.proofs.Applied.{wide_replaced}
+use Rattle.sq_change.proofs.Held.{is_there, row_at_wide}
 use Rattle.sq_change.proofs.target.replaced.Goals.{in-Some+in_ok-row+in_ok-push, in_default}
 use Rattle.sq_change.proofs.target.replaced.Goals as goal
 
+pub row-requires : goal.row-requires
+row-requires g c =
+    let setting = c.args.setting.now in
+    let table = c.args.table.now in
+    is_there (g.N.Names.base_tables setting.names.now) (g.S.Store.content_now setting.store.now) table.place table c.requires.tables c.requires.base
+
+pub updated_row-requires : goal.updated_row-requires
+updated_row-requires g c =
+    let setting = c.args.setting.now in
+    let table = c.args.table.now in
+    let wide : length c.in-Some.row.now ≡ length table.columns
+    = row_at_wide (g.N.Names.base_tables setting.names.now) (g.S.Store.content_now setting.store.now) table _ c.in-Some.row.now c.requires.tables c.requires.base c.in-Some.ensures.row in
+    rw wide c.requires.columns
+
 pub loop-number-preserved : goal.loop-number-preserved
 loop-number-preserved g c =
-    let store = c.args.setting.now.store.now in
-    let keys = keys_at (g.S.Store.key_columns store) c.args.base.place in
+    let setting = c.args.setting.now in
+    let table = c.args.table.now in
     elim c.match-row.branch [
       | in-Some+in_ok-row+in_ok-push w ↦
-          let has : has_keys keys w.in_ok-row.row ≡ true =
-          changed_has_keys (g.S.Store.row_numbers store) (g.S.Store.key_columns store) (g.S.Store.content_now store) c.args.base.place _ w.in-Some.row.now w.in_ok-row.row
-          (g.met.S.Store.rises store) (g.met.S.Store.keyed store) c.requires w.in-Some.ensures.row w.in_ok-row.ensures in
+          let wide : length w.in-Some.row.now ≡ length table.columns
+          = row_at_wide (g.N.Names.base_tables setting.names.now) (g.S.Store.content_now setting.store.now) table _ w.in-Some.row.now c.requires.tables c.requires.base w.in-Some.ensures.row in
           record {
             replacements = grind (arith, common_steps);
-            columns = rw w.changes-is (rw w.in_ok-push.ensures.items (put_more keys c.loop-number.changes.items _ w.in_ok-row.row c.loop-number.invariant.columns has));
+            wide = rw w.changes-is (rw w.in_ok-push.ensures.items (wide_replaced (length table.columns) c.loop-number.changes.items _ w.in_ok-row.row c.loop-number.invariant.wide (w.in_ok-row.ensures ∙ wide)));
           }
       | in_default w ↦ rw w.changes-is c.loop-number.invariant
     ]
