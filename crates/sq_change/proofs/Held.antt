@@ -1,5 +1,5 @@
 -- A store has the tables that names speak of: a row has a value for each column of its table.
-use Rattle.std.proofs.Common.{◌≡◌, ℕ, zero, suc, ◌<◌, Bool, true, false, nat_eq, nat_lt, not, List, [], ◌∷◌, ◌++◌, length, map, filter, find, Option, Some, get_or, slice_get, refl, sym, subst, ap, ◌∙◌, arith}
+use Rattle.std.proofs.Common.{◌≡◌, ℕ, zero, suc, ◌<◌, Bool, true, false, nat_eq, nat_lt, not, List, [], ◌∷◌, ◌++◌, length, map, filter, find, Some, get_or, slice_get, refl, sym, subst, ap, ◌∙◌, arith}
 use Rattle.std.specs.List.{list_all}
 use Rattle.std.proofs.lemmas.Grind.{common_steps}
 use Rattle.std.proofs.lemmas.Option.{slice_get_within}
