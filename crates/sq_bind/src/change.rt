@@ -1,9 +1,13 @@
 //! INSERT, UPDATE and DELETE (ISO/IEC 9075:1992, 13.6 to 13.10).
 
+ghost use Rattle.std.specs.Prelude.{◌≡◌, ◌<◌, length, true, IfOk, OnOk};
+ghost use Rattle.sq_bound.specs.declared.statement.ChangeTarget.TheVariants.{Searched};
+ghost use Rattle.sq_bound.specs.Fits.{FitsTarget, IsBase, are_columns, is_cursor, under as leaf_of};
+
 use crate::updatable::{Under, bind_target, under_table};
 use sq_bound::{
-    Action, BindFault, BoundAssignment, BoundExpr, BoundInsert, BoundUpdate, ChangeTarget, Column,
-    Cursors, InsertedRows, Names, ObjectColumn, PositionedTarget, ResultColumn, TableDesc, Target,
+    Action, BindFault, BoundAssignment, BoundExpr, BoundInsert, BoundUpdate, ChangeTarget, Cursors,
+    InsertedRows, Names, ObjectColumn, PositionedTarget, ResultColumn, Target,
 };
 use sq_items::Items;
 use sq_lex::Name;
@@ -12,13 +16,22 @@ use sq_scope::{
     kept, must_agree,
 };
 use sq_select::{SubqueryNumbers, SubqueryResult, bind_select, named_table};
-use sq_tree::{Assignment, CommaList, Delete, Insert, InsertSource, NewValue, Update, Where};
+use sq_tree::{
+    Assignment, CommaList, Delete, Insert, InsertSource, NewValue, TableName, Update, Where,
+};
 use sq_value::{Kind, Value};
 use std::alloc::Global;
 use std::slice::from_ref;
 
-/// What is under a table that is to be changed.
-fn must_be_updatable(table: &TableDesc) -> Result<Under<'_>, BindFault> {
+/// The table that is to be changed, and what is under it.
+fn changed_table<N: Names>(
+    names: &N,
+    user: Name,
+    written: TableName,
+) -> Result<Under<'_>, BindFault>
+    ensures { IfOk result (λ under. IsBase (N.base_tables names.now) under.leaf.now.table) }
+{
+    let table = named_table(names, user, written)?;
     match under_table(table) {
         Some(under) => Ok(under),
         None => Err(BindFault::NotUpdatable),
@@ -35,25 +48,26 @@ struct Receiver {
 }
 
 /// The column of this name.
-fn receiver_of(table: &TableDesc, under: Under<'_>, name: Name) -> Result<Receiver, BindFault> {
-    for (position, column) in table.columns.as_slice().iter().enumerate() {
-        if column.name == name {
-            return receiver_at(under, position, column);
-        }
+fn receiver_of(under: Under<'_>, name: Name) -> Result<Receiver, BindFault>
+    ensures { IfOk result (λ receiver. receiver.object.position < length under.entry.leaf.now.table.columns) }
+{
+    match under.table.column(name) {
+        Some(position) => Ok(receiver_at(under, position)),
+        None => Err(BindFault::UnknownColumn),
     }
-    Err(BindFault::UnknownColumn)
 }
 
 /// A column of a table that is named, as one that gets values.
-fn receiver_at(under: Under<'_>, position: usize, column: &Column) -> Result<Receiver, BindFault> {
+fn receiver_at(under: Under<'_>, position: usize) -> Receiver
+    requires { position < length under.table.now.columns }
+    ensures { result.object.position < length under.entry.leaf.now.table.columns }
+{
+    let column = under.table.columns.as_slice()[position];
     let base = under.leaf.get().table.get();
-    match base.object_column(column.leaf_column) {
-        Some(object) => Ok(Receiver {
-            position,
-            object,
-            kind: column.kind,
-        }),
-        None => Err(BindFault::UnknownColumn),
+    Receiver {
+        position,
+        object: base.object_column(column.leaf_column),
+        kind: column.kind,
     }
 }
 
@@ -73,38 +87,32 @@ fn push_receiver(receivers: &mut Items<Receiver>, receiver: Receiver) -> Result<
 /// The columns of an insert statement: those that it lists, or all.
 fn insert_receivers(
     alloc: Global,
-    table: &TableDesc,
     under: Under<'_>,
     columns: &Option<CommaList<Name>>,
 ) -> Result<Items<Receiver>, BindFault> {
     match columns {
-        Some(list) => listed_receivers(alloc, table, under, list),
-        None => all_receivers(alloc, table, under),
+        Some(list) => listed_receivers(alloc, under, list),
+        None => all_receivers(alloc, under),
     }
 }
 
 fn listed_receivers(
     alloc: Global,
-    table: &TableDesc,
     under: Under<'_>,
     list: &CommaList<Name>,
 ) -> Result<Items<Receiver>, BindFault> {
     let mut receivers = Items::new(alloc);
-    push_receiver(&mut receivers, receiver_of(table, under, list.first)?)?;
+    push_receiver(&mut receivers, receiver_of(under, list.first)?)?;
     for name in list.rest.as_slice() {
-        push_receiver(&mut receivers, receiver_of(table, under, *name)?)?;
+        push_receiver(&mut receivers, receiver_of(under, *name)?)?;
     }
     Ok(receivers)
 }
 
-fn all_receivers(
-    alloc: Global,
-    table: &TableDesc,
-    under: Under<'_>,
-) -> Result<Items<Receiver>, BindFault> {
+fn all_receivers(alloc: Global, under: Under<'_>) -> Result<Items<Receiver>, BindFault> {
     let mut receivers = Items::new(alloc);
-    for (position, column) in table.columns.as_slice().iter().enumerate() {
-        receivers.push(receiver_at(under, position, column)?)?;
+    for position in 0..under.table.columns.len() {
+        receivers.push(receiver_at(under, position))?;
     }
     Ok(receivers)
 }
@@ -154,11 +162,17 @@ pub(crate) fn bind_insert<N: Names>(
     names: &N,
     environment: &Environment<'_>,
     numbers: &mut SubqueryNumbers,
-) -> Result<Found<BoundInsert>, BindFault> {
-    let table = named_table(names, environment.user, insert.table)?;
-    let under = must_be_updatable(table)?;
-    let parts = insert_parts(insert, names, environment, table, under, numbers)?;
-    let may = names.may(environment.user, Action::Insert, table.full_name(), None);
+) -> Result<Found<BoundInsert>, BindFault>
+    ensures { IfOk result (λ found. IsBase (N.base_tables names.now) found.part.leaf.table) }
+{
+    let under = changed_table(names, environment.user, insert.table)?;
+    let parts = insert_parts(insert, names, environment, under, numbers)?;
+    let may = names.may(
+        environment.user,
+        Action::Insert,
+        under.table.full_name(),
+        None,
+    );
     bound_insert(under, parts, missing_unless(may))
 }
 
@@ -166,7 +180,9 @@ fn bound_insert(
     under: Under<'_>,
     parts: (Items<ObjectColumn>, Found<InsertedRows>),
     findings: Findings,
-) -> Result<Found<BoundInsert>, BindFault> {
+) -> Result<Found<BoundInsert>, BindFault>
+    ensures { IfOk result (λ found. found.part.leaf ≡ under.entry.leaf.now) }
+{
     let ((columns, source), leaf) = both(Ok(parts), under.leaf.share())?;
     Ok(Found {
         part: BoundInsert {
@@ -184,11 +200,10 @@ fn insert_parts<N: Names>(
     insert: &Insert,
     names: &N,
     environment: &Environment<'_>,
-    table: &TableDesc,
     under: Under<'_>,
     numbers: &mut SubqueryNumbers,
 ) -> Result<(Items<ObjectColumn>, Found<InsertedRows>), BindFault> {
-    let receivers = insert_receivers(environment.alloc, table, under, &insert.columns)?;
+    let receivers = insert_receivers(environment.alloc, under, &insert.columns)?;
     let columns = object_columns(environment.alloc, receivers.as_slice());
     let source = insert_source(
         &insert.source,
@@ -293,47 +308,51 @@ fn change_target<'s, N: Names, C: Cursors>(
     item: &'s FromItem,
     environment: &'s Environment<'s>,
     cursors: &C,
-    table: &TableDesc,
     under: Under<'_>,
     numbers: &mut SubqueryNumbers,
-) -> Result<Found<ChangeTarget>, BindFault> {
+) -> Result<Found<ChangeTarget>, BindFault>
+    ensures leaf { IfOk result (λ found. leaf_of found.part ≡ under.entry.leaf.now) }
+    ensures cursor { IfOk result (λ found. is_cursor (C.cursor_count cursors.now) found.part ≡ true) }
+{
     match target {
-        Some(Where::CurrentOf(name)) => positioned(*name, cursors, table, under),
-        Some(Where::Condition(cond)) => searched(bind_target(
+        Some(Where::CurrentOf(name)) => positioned(*name, cursors, under),
+        Some(Where::Condition(cond)) => Ok(searched(bind_target(
             Some(cond),
             names,
             item,
             environment,
-            table,
             under,
             numbers,
-        )),
-        None => searched(bind_target(None, names, item, environment, table, under, numbers)),
+        )?)),
+        None => Ok(searched(bind_target(None, names, item, environment, under, numbers)?)),
     }
 }
 
-fn searched(target: Result<Found<Target>, BindFault>) -> Result<Found<ChangeTarget>, BindFault> {
-    let Found { part, findings } = target?;
-    Ok(Found {
-        part: ChangeTarget::Searched(part),
-        findings,
-    })
+fn searched(target: Found<Target>) -> Found<ChangeTarget>
+    ensures { result.part ≡ Searched target.part }
+{
+    Found {
+        part: ChangeTarget::Searched(target.part),
+        findings: target.findings,
+    }
 }
 
 /// The row of an updatable cursor over the very table that is named.
 fn positioned<C: Cursors>(
     name: Name,
     cursors: &C,
-    table: &TableDesc,
     under: Under<'_>,
-) -> Result<Found<ChangeTarget>, BindFault> {
+) -> Result<Found<ChangeTarget>, BindFault>
+    ensures leaf { IfOk result (λ found. leaf_of found.part ≡ under.entry.leaf.now) }
+    ensures cursor { IfOk result (λ found. is_cursor (C.cursor_count cursors.now) found.part ≡ true) }
+{
     let Some(known) = cursors.cursor(name) else {
         return Err(BindFault::UnknownCursor);
     };
     let Some((user, name)) = known.cursor.table else {
         return Err(BindFault::NotUpdatable);
     };
-    if !table.is(user, name) {
+    if !under.table.is(user, name) {
         return Err(BindFault::NotUpdatable);
     }
     Ok(Found {
@@ -347,8 +366,9 @@ fn positioned<C: Cursors>(
 }
 
 /// Whether the user may read the columns of the table that is changed, where the statement reads one.
-fn reading<N: Names>(names: &N, user: Name, table: &TableDesc, findings: Findings) -> Findings {
-    let may = !findings.reads_outermost || names.may(user, Action::Select, table.full_name(), None);
+fn reading<N: Names>(names: &N, user: Name, under: Under<'_>, findings: Findings) -> Findings {
+    let may = !findings.reads_outermost
+        || names.may(user, Action::Select, under.table.full_name(), None);
     findings.and(missing_unless(may))
 }
 
@@ -359,24 +379,29 @@ pub(crate) fn bind_delete<N: Names, C: Cursors>(
     environment: &Environment<'_>,
     cursors: &C,
     numbers: &mut SubqueryNumbers,
-) -> Result<Found<ChangeTarget>, BindFault> {
-    let table = named_table(names, environment.user, delete.table)?;
-    let under = must_be_updatable(table)?;
-    let item = item_over(environment.alloc, table, None, true)?;
+) -> Result<Found<ChangeTarget>, BindFault>
+    ensures { IfOk result (λ found. FitsTarget (N.base_tables names.now) (C.cursor_count cursors.now) found.part) }
+{
+    let under = changed_table(names, environment.user, delete.table)?;
+    let item = item_over(environment.alloc, under.table, None, true)?;
     let target = change_target(
         &delete.target,
         names,
         &item,
         &*environment,
         cursors,
-        table,
         under,
         numbers,
     );
     drop(item);
     let Found { part, findings } = target?;
-    let may = names.may(environment.user, Action::Delete, table.full_name(), None);
-    let findings = reading(names, environment.user, table, findings).and(missing_unless(may));
+    let may = names.may(
+        environment.user,
+        Action::Delete,
+        under.table.full_name(),
+        None,
+    );
+    let findings = reading(names, environment.user, under, findings).and(missing_unless(may));
     Ok(Found { part, findings })
 }
 
@@ -395,25 +420,19 @@ pub(crate) fn bind_update<N: Names, C: Cursors>(
     environment: &Environment<'_>,
     cursors: &C,
     numbers: &mut SubqueryNumbers,
-) -> Result<Found<BoundUpdate>, BindFault> {
-    let table = named_table(names, environment.user, update.table)?;
-    let under = must_be_updatable(table)?;
-    let item = item_over(environment.alloc, table, None, true)?;
-    let assignments = assignments_of(
-        &update.assignments,
-        names,
-        &item,
-        &*environment,
-        table,
-        under,
-    );
+) -> Result<Found<BoundUpdate>, BindFault>
+    ensures target { IfOk result (λ found. FitsTarget (N.base_tables names.now) (C.cursor_count cursors.now) found.part.target) }
+    ensures columns { IfOk result (λ found. are_columns (length (leaf_of found.part.target).table.columns) found.part.assignments ≡ true) }
+{
+    let under = changed_table(names, environment.user, update.table)?;
+    let item = item_over(environment.alloc, under.table, None, true)?;
+    let assignments = assignments_of(&update.assignments, names, &item, &*environment, under);
     let target = change_target(
         &update.target,
         names,
         &item,
         &*environment,
         cursors,
-        table,
         under,
         numbers,
     );
@@ -425,7 +444,7 @@ pub(crate) fn bind_update<N: Names, C: Cursors>(
             target: target.part,
             assignments: assignments.bound,
         },
-        findings: reading(names, environment.user, table, findings),
+        findings: reading(names, environment.user, under, findings),
     })
 }
 
@@ -434,28 +453,30 @@ fn assignments_of<'s, N: Names>(
     names: &N,
     item: &'s FromItem,
     environment: &'s Environment<'s>,
-    table: &TableDesc,
     under: Under<'_>,
-) -> Result<Assignments, BindFault> {
+) -> Result<Assignments, BindFault>
+    ensures { IfOk result (λ assignments. are_columns (length under.entry.leaf.now.table.columns) assignments.bound ≡ true) }
+{
     let scope = environment.scope_over(from_ref(item), None);
-    assignments_within(list, names, &environment.within(scope), table, under)
+    assignments_within(list, names, &environment.within(scope), under)
 }
 
 fn assignments_within<N: Names>(
     list: &CommaList<Assignment>,
     names: &N,
     environment: &Environment<'_>,
-    table: &TableDesc,
     under: Under<'_>,
-) -> Result<Assignments, BindFault> {
+) -> Result<Assignments, BindFault>
+    ensures { IfOk result (λ assignments. are_columns (length under.entry.leaf.now.table.columns) assignments.bound ≡ true) }
+{
     let mut assignments = Assignments {
         receivers: Items::new(environment.alloc),
         bound: Items::new(environment.alloc),
         findings: Findings::NONE,
     };
-    assignments.add(&list.first, names, environment, table, under)?;
+    assignments.add(&list.first, names, environment, under)?;
     for assignment in list.rest.as_slice() {
-        assignments.add(assignment, names, environment, table, under)?;
+        assignments.add(assignment, names, environment, under)?;
     }
     Ok(assignments)
 }
@@ -466,16 +487,18 @@ impl Assignments {
         assignment: &Assignment,
         names: &N,
         environment: &Environment<'_>,
-        table: &TableDesc,
         under: Under<'_>,
-    ) -> Result<(), BindFault> {
-        let receiver = receiver_of(table, under, assignment.column)?;
+    ) -> Result<(), BindFault>
+        requires { are_columns (length under.leaf.now.table.columns) self.old.bound ≡ true }
+        ensures { OnOk result (are_columns (length under.entry.leaf.now.table.columns) self.new.bound ≡ true) }
+    {
+        let receiver = receiver_of(under, assignment.column)?;
         push_receiver(&mut self.receivers, receiver)?;
         let position = Some(receiver.position);
         let may = names.may(
             environment.user,
             Action::Update,
-            table.full_name(),
+            under.table.full_name(),
             position,
         );
         let Found { part, findings } = new_value(&assignment.value, receiver.kind, environment)?;

@@ -1,5 +1,9 @@
 //! Targets: the parameters that get the values of a row (ISO/IEC 9075:1992, 13.3, 13.5).
 
+ghost use Rattle.std.specs.Prelude.{◌≡◌, length, true, IfOk, OnOk};
+ghost use Rattle.sq_bind.specs.Output.{is_output};
+ghost use Rattle.sq_bound.specs.Fits.{are_parameters};
+
 use sq_bound::{BindFault, Output, ParameterDesc, ResultColumn};
 use sq_items::Items;
 use sq_scope::{indicator_of, must_agree, parameter_of};
@@ -12,7 +16,9 @@ pub(crate) fn bind_outputs(
     parameters: &[ParameterDesc],
     targets: &CommaList<Parameter>,
     columns: &[ResultColumn],
-) -> Result<Items<Output>, BindFault> {
+) -> Result<Items<Output>, BindFault>
+    ensures { IfOk result (λ outputs. are_parameters (length parameters.now) outputs ≡ true) }
+{
     let outputs = listed_outputs(alloc, parameters, targets, columns)?;
     check_distinct(outputs.as_slice())?;
     Ok(outputs)
@@ -23,7 +29,9 @@ fn listed_outputs(
     parameters: &[ParameterDesc],
     targets: &CommaList<Parameter>,
     columns: &[ResultColumn],
-) -> Result<Items<Output>, BindFault> {
+) -> Result<Items<Output>, BindFault>
+    ensures { IfOk result (λ outputs. are_parameters (length parameters.now) outputs ≡ true) }
+{
     let Some((first, others)) = columns.split_first() else {
         return Err(BindFault::CountMismatch);
     };
@@ -43,7 +51,10 @@ fn push_output(
     parameters: &[ParameterDesc],
     target: &Parameter,
     column: &ResultColumn,
-) -> Result<(), BindFault> {
+) -> Result<(), BindFault>
+    requires { are_parameters (length parameters.now) outputs.old ≡ true }
+    ensures { OnOk result (are_parameters (length parameters.now) outputs.new ≡ true) }
+{
     outputs.push(output_of(parameters, target, column)?)?;
     Ok(())
 }
@@ -52,7 +63,9 @@ fn output_of(
     parameters: &[ParameterDesc],
     target: &Parameter,
     column: &ResultColumn,
-) -> Result<Output, BindFault> {
+) -> Result<Output, BindFault>
+    ensures { IfOk result (λ output. is_output (length parameters.now) output ≡ true) }
+{
     let (parameter, domain) = parameter_of(parameters, target.name)?;
     let indicator = indicator_of(parameters, target.indicator)?;
     must_agree(domain.kind(), column.kind)?;

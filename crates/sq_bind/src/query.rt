@@ -1,5 +1,9 @@
 //! Query expressions and cursors (ISO/IEC 9075:1992, 7.10, 13.1).
 
+ghost use Rattle.std.specs.Prelude.{◌≡◌, IfOk, IfSome, MatchOption};
+ghost use Rattle.sq_bound.specs.Fits.{FitsCursor, FitsQuery};
+ghost use Rattle.sq_bound.specs.declared.query.CursorBody.TheVariants.{Rows, Updatable};
+
 use crate::updatable::bind_updatable;
 use sq_bound::{
     BindFault, BoundCursor, BoundQuery, BoundTerm, BoundUnion, CursorBody, Names, ResultColumn,
@@ -296,7 +300,9 @@ fn updatable_cursor<N: Names>(
     names: &N,
     environment: &Environment<'_>,
     numbers: &mut SubqueryNumbers,
-) -> Result<Option<((Name, Name), UpdatableQuery)>, BindFault> {
+) -> Result<Option<((Name, Name), UpdatableQuery)>, BindFault>
+    ensures { IfOk result (λ found. IfSome found (λ query. FitsQuery (N.base_tables names.now) query.1)) }
+{
     if cursor.insensitive || cursor.scroll || cursor.order_by.is_some() {
         return Ok(None);
     }
@@ -312,7 +318,9 @@ pub(crate) fn cursor_of<N: Names>(
     names: &N,
     environment: &Environment<'_>,
     numbers: &mut SubqueryNumbers,
-) -> Result<BoundCursor, BindFault> {
+) -> Result<BoundCursor, BindFault>
+    ensures { IfOk result (FitsCursor (N.base_tables names.now)) }
+{
     let Joined {
         query,
         lacks_privilege,
@@ -339,7 +347,9 @@ fn whole_cursor(
     sorts: Items<SortColumn>,
     columns: Items<ResultColumn>,
     updatable: Option<((Name, Name), UpdatableQuery)>,
-) -> BoundCursor {
+) -> BoundCursor
+    ensures { MatchOption updatable (result.body ≡ Rows query sorts) (λ over. result.body ≡ Updatable over.1) }
+{
     let (table, body) = match updatable {
         None => (None, CursorBody::Rows(query, sorts)),
         Some((table, updatable)) => {

@@ -1,6 +1,8 @@
 //! Statements of procedures, cursors, views and CHECK conditions.
 
-ghost use Rattle.std.specs.Prelude.{[]};
+ghost use Rattle.std.specs.Prelude.{◌≡◌, ◌<◌, [], length, refl, true, IfOk, IfSome};
+ghost use Rattle.sq_bound.specs.Fits.{FitsCursor, FitsQuery, FitsStatement, are_parameters};
+ghost use Rattle.sq_bound.specs.declared.statement.BoundStatement.TheVariants.{Delete, Insert, Update};
 
 use crate::change::{bind_delete, bind_insert, bind_update};
 use crate::output::bind_outputs;
@@ -32,16 +34,19 @@ pub fn bind_cursor<N: Names>(
     user: Name,
     parameters: &[ParameterDesc],
     cursor: &Cursor,
-) -> Result<BoundCursor, BindFault> {
+) -> Result<BoundCursor, BindFault>
+    ensures fits { IfOk result (FitsCursor (N.base_tables names.now)) }
+{
     let environment = Environment::new(alloc, user, parameters);
     cursor_of(cursor, names, &environment, &mut SubqueryNumbers::new())
 }
 
-/// A view's query with its names as places, and what it is over if it is updatable.
+/// A view's query with its names as places. Where it is updatable, the owner and the name of the table that it is over, and
+/// the query over the base table.
 #[derive(Drop)]
 pub struct BoundView {
     pub query: BoundSpecification,
-    pub updatable: Option<UpdatableQuery>,
+    pub updatable: Option<((Name, Name), UpdatableQuery)>,
     /// Whether the user may select from all tables that the query names.
     pub may_select: bool,
     /// Whether the user may grant SELECT on all of them.
@@ -54,7 +59,9 @@ pub fn bind_view<N: Names>(
     names: &N,
     user: Name,
     query: &QuerySpecification,
-) -> Result<BoundView, BindFault> {
+) -> Result<BoundView, BindFault>
+    ensures fits { IfOk result (λ view. IfSome view.updatable (λ over. FitsQuery (N.base_tables names.now) over.1)) }
+{
     let environment = Environment::new(alloc, user, &[]);
     let mut numbers = SubqueryNumbers::new();
     let bound = bind_select(
@@ -66,24 +73,12 @@ pub fn bind_view<N: Names>(
         &mut numbers,
     )?;
     let updatable = bind_updatable(query, names, &environment, &mut numbers);
-    whole_view(both(Ok(bound), updatable)?)
-}
-
-fn whole_view(
-    bound: (
-        Found<BoundSpecification>,
-        Option<((Name, Name), UpdatableQuery)>,
-    ),
-) -> Result<BoundView, BindFault> {
-    let (Found { part, findings }, updatable) = bound;
+    let (Found { part, findings }, updatable) = both(Ok(bound), updatable)?;
     Ok(BoundView {
         query: part,
+        updatable,
         may_select: !findings.lacks_privilege,
         may_grant_select: !findings.lacks_grant_option,
-        updatable: match updatable {
-            Some((_, updatable)) => Some(updatable),
-            None => None,
-        },
     })
 }
 
@@ -102,6 +97,8 @@ struct NoNames;
 
 impl Names for NoNames {
     ghost base_tables = { λ _. [] };
+
+    ghost references = { λ _. refl };
 
     fn bases(&self) -> &[Shared<BaseTable>] {
         &[]
@@ -172,7 +169,9 @@ pub fn bind_statement<N: Names, C: Cursors>(
     parameters: &[ParameterDesc],
     cursors: &C,
     statement: &Statement,
-) -> Result<BoundStatement, BindFault> {
+) -> Result<BoundStatement, BindFault>
+    ensures fits { IfOk result (FitsStatement (N.base_tables names.now) (C.cursor_count cursors.now) (length parameters.now)) }
+{
     let environment = Environment::new(alloc, user, parameters);
     let mut numbers = SubqueryNumbers::new();
     statement_of(statement, names, &environment, cursors, &mut numbers)
@@ -184,60 +183,67 @@ fn statement_of<N: Names, C: Cursors>(
     environment: &Environment<'_>,
     cursors: &C,
     numbers: &mut SubqueryNumbers,
-) -> Result<BoundStatement, BindFault> {
+) -> Result<BoundStatement, BindFault>
+    ensures { IfOk result (FitsStatement (N.base_tables names.now) (C.cursor_count cursors.now) (length environment.now.parameters.now)) }
+{
     match statement {
-        Statement::Open(name) => opening(known(cursors, *name)),
-        Statement::Close(name) => closing(known(cursors, *name)),
-        Statement::Fetch(fetch) => bind_fetch(fetch, environment, cursors),
-        Statement::Select(select) => bind_row(select, names, environment, numbers),
-        Statement::Insert(insert) => inserting(bind_insert(insert, names, environment, numbers)),
-        Statement::Update(update) => updating(bind_update(
-            update,
-            names,
+        Statement::Open(name) => Ok(BoundStatement::Open(known(cursors, *name)?.number)),
+        Statement::Close(name) => Ok(BoundStatement::Close(known(cursors, *name)?.number)),
+        Statement::Fetch(fetch) => Ok(BoundStatement::Fetch(bind_fetch(
+            fetch,
             environment,
             cursors,
-            numbers,
-        )),
-        Statement::Delete(delete) => deleting(bind_delete(
-            delete,
+        )?)),
+        Statement::Select(select) => Ok(BoundStatement::Select(bind_row(
+            select,
             names,
             environment,
-            cursors,
             numbers,
-        )),
+        )?)),
+        Statement::Insert(insert) => {
+            inserting(bind_insert(insert, names, environment, numbers)?)
+        }
+        Statement::Update(update) => {
+            updating(bind_update(update, names, environment, cursors, numbers)?)
+        }
+        Statement::Delete(delete) => {
+            deleting(bind_delete(delete, names, environment, cursors, numbers)?)
+        }
         Statement::Commit(_) => Ok(BoundStatement::Commit),
         Statement::Rollback(_) => Ok(BoundStatement::Rollback),
     }
 }
 
-fn opening(cursor: Result<KnownCursor<'_>, BindFault>) -> Result<BoundStatement, BindFault> {
-    Ok(BoundStatement::Open(cursor?.number))
-}
-
-fn closing(cursor: Result<KnownCursor<'_>, BindFault>) -> Result<BoundStatement, BindFault> {
-    Ok(BoundStatement::Close(cursor?.number))
-}
-
 /// The part, if no privilege is missing.
-fn permitted<T: Drop>(found: Result<Found<T>, BindFault>) -> Result<T, BindFault> {
-    let Found { part, findings } = found?;
+fn permitted<T: Drop>(found: Found<T>) -> Result<T, BindFault>
+    ensures { IfOk result (λ part. part ≡ found.part) }
+{
+    let Found { part, findings } = found;
     kept(part, granted(findings.lacks_privilege))
 }
 
-fn inserting(insert: Result<Found<BoundInsert>, BindFault>) -> Result<BoundStatement, BindFault> {
+fn inserting(insert: Found<BoundInsert>) -> Result<BoundStatement, BindFault>
+    ensures { IfOk result (λ statement. statement ≡ Insert insert.part) }
+{
     Ok(BoundStatement::Insert(permitted(insert)?))
 }
 
-fn updating(update: Result<Found<BoundUpdate>, BindFault>) -> Result<BoundStatement, BindFault> {
+fn updating(update: Found<BoundUpdate>) -> Result<BoundStatement, BindFault>
+    ensures { IfOk result (λ statement. statement ≡ Update update.part) }
+{
     Ok(BoundStatement::Update(permitted(update)?))
 }
 
-fn deleting(delete: Result<Found<ChangeTarget>, BindFault>) -> Result<BoundStatement, BindFault> {
+fn deleting(delete: Found<ChangeTarget>) -> Result<BoundStatement, BindFault>
+    ensures { IfOk result (λ statement. statement ≡ Delete delete.part) }
+{
     Ok(BoundStatement::Delete(permitted(delete)?))
 }
 
 /// The cursor of this name.
-fn known<C: Cursors>(cursors: &C, name: Name) -> Result<KnownCursor<'_>, BindFault> {
+fn known<C: Cursors>(cursors: &C, name: Name) -> Result<KnownCursor<'_>, BindFault>
+    ensures { IfOk result (λ known. known.number < C.cursor_count cursors.now) }
+{
     match cursors.cursor(name) {
         Some(known) => Ok(known),
         None => Err(BindFault::UnknownCursor),
@@ -250,7 +256,9 @@ fn bind_row<N: Names>(
     names: &N,
     environment: &Environment<'_>,
     numbers: &mut SubqueryNumbers,
-) -> Result<BoundStatement, BindFault> {
+) -> Result<BoundSelect, BindFault>
+    ensures { IfOk result (λ row. are_parameters (length environment.now.parameters.now) row.outputs ≡ true) }
+{
     let query = bind_select(
         &select.table,
         select.quantifier,
@@ -266,8 +274,8 @@ fn bind_row<N: Names>(
         query.part.columns.as_slice(),
     );
     let (query, outputs) = both(Ok(query), outputs)?;
-    let (query, outputs) = both(permitted(Ok(query)), Ok(outputs))?;
-    Ok(BoundStatement::Select(BoundSelect { query, outputs }))
+    let (query, outputs) = both(permitted(query), Ok(outputs))?;
+    Ok(BoundSelect { query, outputs })
 }
 
 /// A fetch statement.
@@ -275,7 +283,10 @@ fn bind_fetch<C: Cursors>(
     fetch: &Fetch,
     environment: &Environment<'_>,
     cursors: &C,
-) -> Result<BoundStatement, BindFault> {
+) -> Result<BoundFetch, BindFault>
+    ensures cursor { IfOk result (λ bound. bound.cursor < C.cursor_count cursors.now) }
+    ensures outputs { IfOk result (λ bound. are_parameters (length environment.now.parameters.now) bound.outputs ≡ true) }
+{
     let known = known(cursors, fetch.cursor)?;
     let parameters = environment.parameters;
     let orientation = fetch_orientation(&fetch.from, parameters)?;
@@ -284,11 +295,11 @@ fn bind_fetch<C: Cursors>(
     }
     let columns = known.cursor.columns.as_slice();
     let outputs = bind_outputs(environment.alloc, parameters, &fetch.targets, columns)?;
-    Ok(BoundStatement::Fetch(BoundFetch {
+    Ok(BoundFetch {
         cursor: known.number,
         orientation,
         outputs,
-    }))
+    })
 }
 
 fn fetch_orientation(

@@ -1,16 +1,20 @@
 //! Updatable queries and targets (ISO/IEC 9075:1992, 7.9, 13.6 to 13.10).
 
-ghost use Rattle.std.specs.Prelude.{◌≡◌};
+ghost use Rattle.std.specs.Prelude.{◌≡◌, ◌<◌, nat_lt, length, true, Some, IfOk, IfSome};
+ghost use Rattle.std.specs.List.{list_all};
+ghost use Rattle.sq_bound.specs.Fits.{FitsQuery, IsBase};
+ghost use Rattle.sq_bound.specs.Names.{option_all};
+ghost use Rattle.sq_bind.specs.Updatable.{AreOf, IsPositionOf};
 
 use sq_bound::{
-    BindFault, BoundCond, BoundConj, BoundExpr, BoundTest, Leaf, Names, Predicate, ResultColumn,
-    Shared, TableBody, TableDesc, TablePlace, Target, UpdatableQuery,
+    BindFault, BoundCond, BoundConj, BoundExpr, BoundTest, Leaf, Names, Predicate, Shared,
+    TableBody, TableDesc, Target, UpdatableQuery,
 };
 use sq_items::Items;
 use sq_lex::Name;
 use sq_scope::{Environment, Findings, Found, FromItem, SetFunctions, both, item_over};
-use sq_select::{SubqueryNumbers, bind_cond, correlation_of, named_table, select_list};
-use sq_tree::{Comparison, Cond, QuerySpecification, SelectList, SetQuantifier};
+use sq_select::{SubqueryNumbers, bind_cond, correlation_of, named_table, reference_of};
+use sq_tree::{CommaList, Comparison, Cond, Expr, QuerySpecification, SelectList, SetQuantifier};
 use std::alloc::Global;
 use std::slice::from_ref;
 
@@ -20,7 +24,9 @@ fn only_table<'a, N: Names>(
     query: &QuerySpecification,
     names: &'a N,
     user: Name,
-) -> Result<Option<&'a TableDesc>, BindFault> {
+) -> Result<Option<Under<'a>>, BindFault>
+    ensures { IfOk result (λ found. IfSome found (λ under. IsBase (N.base_tables names.now) under.leaf.now.table)) }
+{
     let is_plain = !matches!(query.quantifier, Some(SetQuantifier::Distinct))
         && query.table.group_by.is_none()
         && query.table.having.is_none()
@@ -29,11 +35,7 @@ fn only_table<'a, N: Names>(
         return Ok(None);
     }
     let table = named_table(names, user, query.table.from.first.table)?;
-    if table.leaf.is_some() {
-        Ok(Some(table))
-    } else {
-        Ok(None)
-    }
+    Ok(under_table(table))
 }
 
 /// What an updatable query is over, its table's owner and name, and the columns that it selects, if the query is updatable
@@ -43,28 +45,41 @@ pub(crate) fn bind_updatable<N: Names>(
     names: &N,
     environment: &Environment<'_>,
     numbers: &mut SubqueryNumbers,
-) -> Result<Option<((Name, Name), UpdatableQuery)>, BindFault> {
-    let Some(table) = only_table(query, names, environment.user)? else {
-        return Ok(None);
-    };
-    let Some(under) = under_table(table) else {
-        return Ok(None);
-    };
+) -> Result<Option<((Name, Name), UpdatableQuery)>, BindFault>
+    ensures { IfOk result (λ found. IfSome found (λ query. FitsQuery (N.base_tables names.now) query.1)) }
+{
+    match only_table(query, names, environment.user)? {
+        Some(under) => updatable_over(under, query, names, environment, numbers),
+        None => Ok(None),
+    }
+}
+
+fn updatable_over<N: Names>(
+    under: Under<'_>,
+    query: &QuerySpecification,
+    names: &N,
+    environment: &Environment<'_>,
+    numbers: &mut SubqueryNumbers,
+) -> Result<Option<((Name, Name), UpdatableQuery)>, BindFault>
+    requires { IsBase (N.base_tables names.now) under.leaf.now.table }
+    ensures { IfOk result (λ found. IfSome found (λ query. FitsQuery (N.base_tables names.now) query.1)) }
+{
     let correlation = correlation_of(&query.table.from.first);
-    let item = item_over(environment.alloc, table, correlation, true)?;
-    let columns = plain_columns(&query.list, &item, &*environment);
+    let item = item_over(environment.alloc, under.table, correlation, true)?;
+    let columns = plain_columns(environment.alloc, &query.list, &item);
     let cond = query.table.where_clause.as_ref();
-    let target = bind_target(cond, names, &item, &*environment, table, under, numbers);
+    let target = bind_target(cond, names, &item, &*environment, under, numbers);
     drop(item);
     let (columns, target) = both(columns, target)?;
-    Ok(updatable(table.full_name(), columns, target))
+    Ok(updatable(under.table.full_name(), columns, target))
 }
 
 /// A table that may be changed, and what is under it.
 #[derive(Clone, Copy)]
 pub(crate) struct Under<'a> {
-    pub table: TablePlace,
+    pub table: &'a TableDesc,
     pub leaf: &'a Shared<Leaf>,
+    ghost placed: { list_all (λ c. nat_lt c.leaf_column (length leaf.now.table.columns)) table.now.columns ≡ true },
 }
 
 impl Under<'_> {
@@ -77,12 +92,11 @@ impl Under<'_> {
 }
 
 /// What is under a table, if it may be changed.
-pub(crate) fn under_table(table: &TableDesc) -> Option<Under<'_>> {
+pub(crate) fn under_table<'a>(table: &'a TableDesc) -> Option<Under<'a>>
+    ensures { IfSome result (λ under. table.now.leaf ≡ Some under.leaf.now) }
+{
     match &table.leaf {
-        Some(leaf) => Some(Under {
-            table: table.place(),
-            leaf,
-        }),
+        Some(leaf) => Some(Under { table, leaf }),
         None => None,
     }
 }
@@ -92,7 +106,9 @@ fn updatable(
     table: (Name, Name),
     columns: Option<Items<usize>>,
     target: Found<Target>,
-) -> Option<((Name, Name), UpdatableQuery)> {
+) -> Option<((Name, Name), UpdatableQuery)>
+    ensures { IfSome result (λ found. (columns ≡ Some found.1.columns) × (target.part ≡ found.1.target)) }
+{
     match (columns, target.findings.has_subquery) {
         (Some(columns), false) => Some((
             table,
@@ -109,42 +125,92 @@ fn updatable(
     }
 }
 
-/// The columns of a select list that is columns alone, each named once.
-fn plain_columns<'s>(
+/// The columns of the base table that a select list names, if it is columns of the item alone, each named once.
+fn plain_columns(
+    alloc: Global,
     list: &SelectList,
-    item: &'s FromItem,
-    environment: &'s Environment<'s>,
-) -> Result<Option<Items<usize>>, BindFault> {
-    let mut functions = SetFunctions::allowed(environment.alloc);
-    let list = select_list(list, from_ref(item), None, environment, &mut functions);
-    drop(functions);
-    let list = list?;
-    let columns = if are_named(list.columns.as_slice()) {
-        distinct_columns(environment.alloc, list.exprs.as_slice())
-    } else {
-        Ok(None)
+    item: &FromItem,
+) -> Result<Option<Items<usize>>, BindFault>
+    ensures { IfOk result (λ found. IfSome found (AreOf item.now)) }
+{
+    let columns = match list {
+        SelectList::Star => all_positions(alloc, item),
+        SelectList::Items(list) => named_positions(alloc, list, item),
     };
-    drop(list);
-    columns
+    Ok(distinct(columns?))
 }
 
-/// Whether each result column has a name.
-fn are_named(columns: &[ResultColumn]) -> bool {
-    columns.iter().all(|column| column.name.is_some())
-}
-
-fn distinct_columns(alloc: Global, exprs: &[BoundExpr]) -> Result<Option<Items<usize>>, BindFault> {
+/// The positions of all columns of an item.
+fn all_positions(alloc: Global, item: &FromItem) -> Result<Option<Items<usize>>, BindFault>
+    ensures { IfOk result (λ found. IfSome found (AreOf item.now)) }
+{
     let mut columns = Items::new(alloc);
-    for expr in exprs {
-        let BoundExpr::Column(place) = expr else {
-            return Ok(None);
-        };
-        if columns.as_slice().contains(&place.column) {
-            return Ok(None);
-        }
-        columns.push(place.column)?;
+    for column in item.columns.as_slice() {
+        columns.push(column.position)?;
     }
     Ok(Some(columns))
+}
+
+/// The positions of the columns of an item that a list names, if it names columns of it alone.
+fn named_positions(
+    alloc: Global,
+    list: &CommaList<Expr>,
+    item: &FromItem,
+) -> Result<Option<Items<usize>>, BindFault>
+    ensures { IfOk result (λ found. IfSome found (AreOf item.now)) }
+{
+    let mut columns = Items::new(alloc);
+    let mut is_plain = push_position(&mut columns, &list.first, item)?;
+    for expr in list.rest.as_slice() {
+        is_plain = push_position(&mut columns, expr, item)? && is_plain;
+    }
+    Ok(if is_plain { Some(columns) } else { None })
+}
+
+/// Adds the position of the column of an item that an expression is, if it is one.
+fn push_position(
+    columns: &mut Items<usize>,
+    expr: &Expr,
+    item: &FromItem,
+) -> Result<bool, BindFault>
+    requires { AreOf item.now columns.old }
+    ensures { AreOf item.now columns.new }
+{
+    match position_of(expr, item) {
+        Some(position) => {
+            columns.push(position)?;
+            Ok(true)
+        }
+        None => Ok(false),
+    }
+}
+
+/// The position of the column of an item that an expression is, if it is one.
+fn position_of(expr: &Expr, item: &FromItem) -> Option<usize>
+    ensures { IfSome result (IsPositionOf item.now) }
+{
+    let reference = reference_of(expr)?;
+    let column = item.column(reference)?;
+    Some(column.position)
+}
+
+/// The columns, if none of them is there twice.
+fn distinct(columns: Option<Items<usize>>) -> Option<Items<usize>>
+    ensures { IfSome result (λ kept. columns ≡ Some kept) }
+{
+    let columns = columns?;
+    if are_distinct(columns.as_slice()) {
+        Some(columns)
+    } else {
+        None
+    }
+}
+
+fn are_distinct(columns: &[usize]) -> bool {
+    columns
+        .iter()
+        .enumerate()
+        .all(|(number, column)| !columns[..number].contains(column))
 }
 
 /// The rows under a table that may be changed, with a condition on the rows of the base table, which this item shows.
@@ -153,10 +219,11 @@ pub(crate) fn bind_target<'s, N: Names>(
     names: &N,
     item: &'s FromItem,
     environment: &'s Environment<'s>,
-    table: &TableDesc,
     under: Under<'_>,
     numbers: &mut SubqueryNumbers,
-) -> Result<Found<Target>, BindFault> {
+) -> Result<Found<Target>, BindFault>
+    ensures { IfOk result (λ found. found.part.leaf ≡ under.entry.leaf.now) }
+{
     let Some(cond) = cond else {
         return whole_target(None, Findings::NONE, None, under);
     };
@@ -173,7 +240,7 @@ pub(crate) fn bind_target<'s, N: Names>(
     let key = if findings.has_subquery {
         None
     } else {
-        key_of(&part, table)
+        key_of(&part, under)
     };
     whole_target(Some(part), findings, key, under)
 }
@@ -183,11 +250,14 @@ fn whole_target(
     findings: Findings,
     key: Option<usize>,
     under: Under<'_>,
-) -> Result<Found<Target>, BindFault> {
+) -> Result<Found<Target>, BindFault>
+    requires { option_all (λ k. nat_lt k (length under.leaf.now.table.keys)) key ≡ true }
+    ensures { IfOk result (λ found. found.part.leaf ≡ under.entry.leaf.now) }
+{
     let (condition, leaf) = both(Ok(condition), under.leaf.share())?;
     Ok(Found {
         part: Target {
-            table: under.table,
+            table: under.table.place(),
             base: under.base(),
             is_quiet: leaf.get().is_quiet && !findings.can_fail && !findings.has_subquery,
             leaf,
@@ -200,15 +270,14 @@ fn whole_target(
 
 /// The first key of a base table that a condition compares: the condition is one term, and its first tests say
 /// `column = x` for each column of the key, where x is a literal or a parameter.
-fn key_of(condition: &BoundCond, table: &TableDesc) -> Option<usize> {
-    let TableBody::Base(base) = &table.body else {
+fn key_of(condition: &BoundCond, under: Under<'_>) -> Option<usize>
+    ensures { option_all (λ k. nat_lt k (length under.entry.leaf.now.table.keys)) result ≡ true }
+{
+    let (TableBody::Base(_), [term]) = (&under.table.body, condition.terms.as_slice()) else {
         return None;
     };
-    let [term] = condition.terms.as_slice() else {
-        return None;
-    };
-    base.get()
-        .keys
+    let base = under.leaf.get().table.get();
+    base.keys
         .as_slice()
         .iter()
         .position(|key| compares(term, key.as_slice()))
