@@ -9,7 +9,7 @@ use Rattle.sq_query.specs.declared.fault.Fault.{Fault}
 use Rattle.sq_query.specs.declared.fault.Fault.TheVariants as fault
 
 -- what is there already, and then the others
-pub after : {A : Type 0} → List A → Outcome (List A) → Outcome (List A)
+unfoldable pub after : {A : Type 0} → List A → Outcome (List A) → Outcome (List A)
 after done rest = and_then rest (λ ys. Ok (done ++ ys))
 
 after_none : {A : Type 0} (rest : Outcome (List A)) → rest ≡ after [] rest

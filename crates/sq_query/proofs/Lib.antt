@@ -20,3 +20,13 @@ pub mod Conditions
 pub mod AnyTables
 pub mod Rows
 pub mod Levels
+pub mod Kept
+pub mod Alike
+pub mod NoFunctions
+pub mod AlikeConds
+pub mod Lone
+pub mod Phases
+pub mod Wanted
+pub mod Grouped
+pub mod QueryRows
+pub mod Tables

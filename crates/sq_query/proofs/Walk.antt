@@ -1,6 +1,13 @@
 -- A walk over a table by rising numbers.
-use Rattle.std.proofs.Common.{◌≡◌, ℕ, ◌+◌, ◌<◌, ◌≤◌, Bool, true, false, nat_le, List, [], ◌∷◌, arith, refl, Some, find, filter, subst}
+use Rattle.std.proofs.Common.{◌≡◌, ℕ, ◌+◌, ◌<◌, ◌≤◌, Bool, true, false, nat_le, List, [], ◌∷◌, ◌++◌, map, arith, refl, sym, ◌∙◌, ap, append_assoc, append-nil, length, Ok, Some, None, find, filter, subst, Bor}
 use Rattle.std.proofs.lemmas.Grind.{common_steps}
+use Rattle.std.proofs.lemmas.List.{map_push}
+use Rattle.std.proofs.lemmas.Bool.{lt-ltb}
+use Rattle.sq_meaning.specs.Environment.{Row}
+use Rattle.std.specs.Prelude.{if◌then◌else◌}
+use Rattle.sq_meaning.specs.Status.{Outcome, not_well_formed}
+use Rattle.sq_store.specs.declared.table.Table.{Table}
+use Rattle.sq_query.specs.Table.{numbered_row, table_there}
 use Rattle.sq_store.specs.declared.table.Numbered.{Numbered}
 use Rattle.sq_store.specs.Content.{Content, first_from, table_at}
 use Rattle.sq_store.specs.Rising.{rising_between, all_rising}
@@ -67,3 +74,32 @@ walked_below row_numbers content table number f h e =
     let t = table_at content table in
     let below : f.number < t.next = found_below 1 number t.rows t.next f (rows_rise_at row_numbers content table h) e in
     omega (arith, below, next_at row_numbers content table h)
+
+-- all numbers are above zero
+pub all_from_zero : (row_numbers : ℕ) (content : Content) (table : ℕ) → all_rising row_numbers content ≡ true → rows_from 0 (table_at content table).rows ≡ (table_at content table).rows
+all_from_zero row_numbers content table h = let t = table_at content table in rows_from_low 1 0 t.rows t.next (rows_rise_at row_numbers content table h) (omega arith)
+
+pub none_from : (number : ℕ) (rs : List Numbered) → find (λ r. nat_le number r.number) rs ≡ None → rows_from number rs ≡ []
+none_from number [] e = refl
+none_from number (r ∷ rs) e = by_test (nat_le number r.number) refl (λ h. none_from number rs h)
+  where
+    by_test : (b : Bool) → nat_le number r.number ≡ b → (find (λ x. nat_le number x.number) rs ≡ None → rows_from number rs ≡ []) → rows_from number (r ∷ rs) ≡ []
+    by_test true t rest = let k : Some r ≡ None = rw t at e in cc
+    by_test false t rest = let k : find (λ x. nat_le number x.number) rs ≡ None = rw t at e in rw t (rest k)
+
+-- behind the last row all are walked over
+pub walked_all : (done : List (ℕ × Bor Row)) (number : ℕ) (rs : List Numbered) → find (λ r. nat_le number r.number) rs ≡ None → map numbered_row done ++ rows_from number rs ≡ rs → rs ≡ map numbered_row done
+walked_all done number rs none so_far = sym so_far ∙ ap (λ (l : List Numbered). map numbered_row done ++ l) (none_from number rs none) ∙ append-nil (map numbered_row done)
+
+pub there_within : (content : Content) (table : ℕ) → table < length content → table_there content table ≡ Ok (table_at content table)
+there_within content table h = ap (λ (b : Bool). if b then Ok (table_at content table) else not_well_formed) (lt-ltb table (length content) h)
+
+-- a row more was walked over
+pub walked_on : (done next : List (ℕ × Bor Row)) (x : ℕ × Bor Row) (n m : ℕ) (rs : List Numbered) → next ≡ done ++ x ∷ [] → map numbered_row done ++ rows_from n rs ≡ rs
+    → rows_from n rs ≡ numbered_row x ∷ rows_from m rs → map numbered_row next ++ rows_from m rs ≡ rs
+walked_on done next x n m rs grown so_far step =
+    ap (λ (l : List (ℕ × Bor Row)). map numbered_row l ++ rows_from m rs) grown
+    ∙ ap (λ (l : List Numbered). l ++ rows_from m rs) (map_push numbered_row done x)
+    ∙ append_assoc (map numbered_row done) (numbered_row x ∷ []) (rows_from m rs)
+    ∙ sym (ap (λ (l : List Numbered). map numbered_row done ++ l) step)
+    ∙ so_far

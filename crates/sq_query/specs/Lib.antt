@@ -18,3 +18,5 @@ pub mod Depth
 pub mod Nests
 pub mod Needed
 pub mod Target
+pub mod Table
+pub mod Specification

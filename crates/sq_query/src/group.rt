@@ -1,9 +1,9 @@
 //! Groups of lines (ISO/IEC 9075:1992, 7.7).
 
-ghost use Rattle.std.specs.Prelude.{◌≡◌, ◌∷◌, [], map};
+ghost use Rattle.std.specs.Prelude.{◌≡◌, ◌∷◌, ◌++◌, [], Bool, map, if◌then◌else◌};
 ghost use Rattle.sq_bound.specs.Expression.{place_meant};
 ghost use Rattle.sq_bound.specs.SetFunction.{call_of};
-ghost use Rattle.sq_meaning.specs.Status.{and_then, each};
+ghost use Rattle.sq_meaning.specs.Status.{Outcome, and_then, each};
 ghost use Rattle.sq_meaning.specs.Query as meaning;
 ghost use Rattle.sq_query.specs.Fault.{Meets, MeetsAs, HasValues};
 ghost use Rattle.sq_query.specs.Frame.{lent, column_meant};
@@ -16,7 +16,7 @@ use crate::fault::Fault;
 use crate::frame::{Frame, Group, Lines, column_value, line_frame};
 use crate::set_function::function_values;
 use sq_bound::{Place, SetFunctionCall};
-use sq_value::{Key, Row, Truth, Value};
+use sq_value::{Key, Row, Value};
 use std::alloc::Global;
 
 /// The groups of a grouped query by its grouping columns, each with its first line and the values of its set functions.
@@ -174,18 +174,20 @@ fn value_at(column: Place, frame: &Frame<'_>, alloc: Global) -> Result<Value, Fa
     Ok(column_value(column, frame)?.into_value(alloc)?)
 }
 
-/// Adds a group of which HAVING is true.
+/// Adds a group that is kept.
 pub(crate) fn add_group_if<'a>(
-    truth: Result<Truth, Fault>,
+    is_kept: Result<bool, Fault>,
     group: Group<'a>,
     groups: &mut Vec<Group<'a>>,
-) -> Result<(), Fault> {
-    match truth {
-        Ok(Truth::True) => {
+) -> Result<(), Fault>
+    ensures { (o : Outcome Bool) → Meets is_kept o → MeetsAs (λ done. map group_seen groups.new.items) result (and_then o (λ kept. Ok (map group_seen groups.old.items ++ (if kept then group_seen group.entry ∷ [] else [])))) }
+{
+    match is_kept {
+        Ok(true) => {
             groups.push(group)?;
             Ok(())
         }
-        Ok(_) => {
+        Ok(false) => {
             drop(group);
             Ok(())
         }

@@ -5,6 +5,7 @@ ghost use Rattle.std.specs.Option.{option_map, option_copied};
 ghost use Rattle.sq_value.specs.Pattern.{liked};
 ghost use Rattle.sq_meaning.specs.Status.{Outcome, with_status, like_status};
 ghost use Rattle.sq_meaning.specs.Syntax.{literal, compare, between, in_list, like, is_null};
+ghost use Rattle.sq_meaning.specs.Query as meaning;
 ghost use Rattle.sq_query.specs.Fault.{Meets};
 ghost use Rattle.sq_query.specs.Frame.{on_line, truth_in};
 ghost use Rattle.sq_query.specs.Predicate.{with_not};
@@ -26,6 +27,13 @@ pub(crate) fn negated_if(is_negated: bool, truth: Result<Truth, Fault>) -> Resul
         Ok(truth) if is_negated => Ok(truth.not()),
         _ => truth,
     }
+}
+
+/// Whether it is true, or the status in its stead.
+pub(crate) fn is_true(truth: Result<Truth, Fault>) -> Result<bool, Fault>
+    ensures { (outcome : Outcome Truth) → Meets truth outcome → Meets result (meaning.is_true outcome) }
+{
+    Ok(truth? == Truth::True)
 }
 
 /// `left op right`.

@@ -1,7 +1,12 @@
 //! The rows of the tables that a statement reads.
 
 ghost use Rattle.std.specs.Prelude.{◌≡◌, []};
-ghost use Rattle.sq_query.specs.Fault.{IsAnswered};
+ghost use Rattle.sq_meaning.specs.Status.{and_then};
+ghost use Rattle.sq_query.specs.Fault.{IsAnswered, MeetsAs};
+ghost use Rattle.sq_query.specs.Frame.{lent, table_rows};
+ghost use Rattle.sq_query.specs.Group.{rows_of_line};
+ghost use Rattle.sq_query.specs.Table.{base_there, view_there, table_there, numbered_in};
+ghost use Rattle.sq_meaning.specs.Tables.{rows_in};
 
 use crate::context::Context;
 use crate::fault::{Failure, Fault};
@@ -50,11 +55,13 @@ fn base_rows<'a, S: Store>(
     store: &'a S,
     table: usize,
     meter: &mut Meter,
-) -> Result<Vec<&'a Row>, Fault> {
+) -> Result<Vec<&'a Row>, Fault>
+    ensures { MeetsAs rows_of_line result (and_then (table_there (S.content_now store.now) table) (λ found. Ok (rows_in found))) }
+{
     let numbered = numbered_rows(alloc, store, table, meter)?;
     let mut rows = Vec::new(alloc);
-    for (_, row) in numbered.as_slice() {
-        rows.push(*row)?;
+    for found in numbered.as_slice() {
+        rows.push(found.1)?;
     }
     Ok(rows)
 }
@@ -65,7 +72,9 @@ pub(crate) fn numbered_rows<'a, S: Store>(
     store: &'a S,
     table: usize,
     meter: &mut Meter,
-) -> Result<Vec<(u64, &'a Row)>, Fault> {
+) -> Result<Vec<(u64, &'a Row)>, Fault>
+    ensures { MeetsAs numbered_in result (and_then (table_there (S.content_now store.now) table) (λ found. Ok found.rows)) }
+{
     if table >= store.table_count() {
         return Err(Fault::NOT_WELL_FORMED);
     }
@@ -79,14 +88,26 @@ pub(crate) fn numbered_rows<'a, S: Store>(
 }
 
 /// The rows of a table or view.
-pub(crate) fn rows_at<'a>(place: TablePlace, context: &Context<'a>) -> Result<Vec<&'a Row>, Fault> {
+pub(crate) fn rows_at<'a>(place: TablePlace, context: &Context<'a>) -> Result<Vec<&'a Row>, Fault>
+    ensures { MeetsAs rows_of_line result (table_rows context.now place) }
+{
     match place {
-        TablePlace::Base(place) => Ok(Vec::from_slice(
-            context.alloc,
-            base_at(place, context)?.rows.as_slice(),
-        )?),
-        TablePlace::View(place) => view_at(place, context)?.lend(context.alloc),
+        TablePlace::Base(place) => base_rows_at(place, context),
+        TablePlace::View(place) => view_rows_at(place, context),
     }
+}
+
+fn base_rows_at<'a>(place: usize, context: &Context<'a>) -> Result<Vec<&'a Row>, Fault>
+    ensures { MeetsAs rows_of_line result (and_then (base_there context.now place) (λ base. Ok (lent base.rows.items))) }
+{
+    let base = base_at(place, context)?;
+    Ok(Vec::from_slice(context.alloc, base.rows.as_slice())?)
+}
+
+fn view_rows_at<'a>(place: usize, context: &Context<'a>) -> Result<Vec<&'a Row>, Fault>
+    ensures { MeetsAs rows_of_line result (and_then (view_there context.now place) (λ view. Ok view.rows.items)) }
+{
+    view_at(place, context)?.lend(context.alloc)
 }
 
 /// No rows of a table or view, but the status that the view's query ended with.
@@ -105,7 +126,9 @@ pub(crate) fn no_rows_at<'a>(
     Ok(Vec::new(context.alloc))
 }
 
-fn base_at<'a>(place: usize, context: &Context<'a>) -> Result<&'a BaseRows<'a>, Fault> {
+fn base_at<'a>(place: usize, context: &Context<'a>) -> Result<&'a BaseRows<'a>, Fault>
+    ensures { MeetsAs (λ base. base.now) result (base_there context.now place) }
+{
     match context.bases.iter().find(|base| base.place == place) {
         Some(base) => Ok(base),
         None => Err(Fault::NOT_WELL_FORMED),
@@ -113,7 +136,9 @@ fn base_at<'a>(place: usize, context: &Context<'a>) -> Result<&'a BaseRows<'a>, 
 }
 
 /// The rows of a view, or the status that its query ended with.
-fn view_at<'a>(place: usize, context: &Context<'a>) -> Result<&'a ViewRows, Fault> {
+fn view_at<'a>(place: usize, context: &Context<'a>) -> Result<&'a ViewRows, Fault>
+    ensures { MeetsAs (λ view. view.now) result (view_there context.now place) }
+{
     match context.views.iter().find(|view| view.place == place) {
         Some(view) => match view.failure {
             None => Ok(view),
@@ -124,7 +149,9 @@ fn view_at<'a>(place: usize, context: &Context<'a>) -> Result<&'a ViewRows, Faul
 }
 
 impl ViewRows {
-    fn lend(&self, alloc: Global) -> Result<Vec<&Row>, Fault> {
+    fn lend(&self, alloc: Global) -> Result<Vec<&Row>, Fault>
+        ensures { MeetsAs rows_of_line result (Ok self.now.rows.items) }
+    {
         let mut rows = Vec::new(alloc);
         for row in self.rows.as_slice() {
             rows.push(row)?;

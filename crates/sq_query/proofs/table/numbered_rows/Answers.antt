@@ -1,5 +1,10 @@
-use Rattle.std.proofs.Common.{length, arith, ap}
-use Rattle.sq_query.proofs.Walk.{walked, walked_below}
+use Rattle.std.proofs.Common.{◌≡◌, ◌+◌, ◌++◌, ◌<◌, ℕ, List, map, length, None, Ok, arith, rules, ap, ◌∙◌, Bor}
+use Rattle.sq_store.specs.Content.{table_at, first_from}
+use Rattle.sq_store.specs.declared.table.Table.{Table}
+use Rattle.sq_meaning.specs.Status.{Outcome, and_then}
+use Rattle.sq_meaning.specs.Environment.{Row}
+use Rattle.sq_query.specs.Table.{numbered_row}
+use Rattle.sq_query.proofs.Walk.{rows_from, walked, walked_below, walked_on, all_from_zero, walked_all, there_within}
 use Rattle.sq_query.proofs.table.numbered_rows.Goals as goal
 
 pub overflow_add-number : goal.overflow_add-number
@@ -13,3 +18,26 @@ loop-found-smaller g c =
     let next = walked (g.S.Store.row_numbers store) (g.S.Store.content_now store) c.args.table c.loop-found.number (record { number = c.in-Some.found; row = c.in-Some.row.now }) (g.met.S.Store.rises store) c.in-Some.ensures.row in
     let size = ap length next in
     omega (arith, size)
+
+pub loop-found-init : goal.loop-found-init
+loop-found-init g c =
+    let store = c.args.store.now in
+    let t = table_at (g.S.Store.content_now store) c.args.table in
+    ap (λ (l : List (ℕ × Bor Row)). map numbered_row l ++ rows_from 0 t.rows) c.new-rows.ensures.items
+    ∙ all_from_zero (g.S.Store.row_numbers store) (g.S.Store.content_now store) c.args.table (g.met.S.Store.rises store)
+
+pub loop-found-preserved : goal.loop-found-preserved
+loop-found-preserved g c =
+    let store = c.args.store.now in
+    let t = table_at (g.S.Store.content_now store) c.args.table in
+    walked_on c.loop-found.rows.items c.push.new.self.items (c.in-Some.found, c.in-Some.row) c.loop-found.number (c.in-Some.found + 1) t.rows c.in_ok-push.ensures.items c.loop-found.invariant
+    (walked (g.S.Store.row_numbers store) (g.S.Store.content_now store) c.args.table c.loop-found.number (record { number = c.in-Some.found; row = c.in-Some.row.now }) (g.met.S.Store.rises store) c.in-Some.ensures.row)
+
+pub returns : goal.returns
+returns g c =
+    let content = g.S.Store.content_now c.args.store.now in
+    let t = table_at content c.args.table in
+    let within : c.args.table < length content = omega (arith, c.table_count.ensures) in
+    let none : first_from t c.loop-found.number ≡ None = search rules in
+    ap (λ (o : Outcome Table). and_then o (λ found. Ok found.rows)) (there_within content c.args.table within)
+    ∙ ap Ok (walked_all c.loop-found.rows.items c.loop-found.number t.rows none c.loop-found.invariant)
