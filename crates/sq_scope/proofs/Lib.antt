@@ -1,3 +1,4 @@
 pub mod Literals
+pub mod Meanings
 pub mod Operations
 pub mod Scopes
