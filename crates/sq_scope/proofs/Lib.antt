@@ -1,3 +1,4 @@
+pub mod Bindings
 pub mod Literals
 pub mod Meanings
 pub mod Operations
