@@ -1,6 +1,6 @@
 -- Parameters of procedures (ISO/IEC 9075:1992, 12.3).
 use Rattle.std.specs.Coded.{×_prop, Unit-prop, le_prop}
-use Rattle.std.proofs.Common.{◌≤◌, ℕ, ap, ap₂}
+use Rattle.std.proofs.Common.{◌≤◌, ℕ, ap₂}
 use Rattle.sq_value.specs.Domain.{IsDomain}
 use Rattle.sq_value.specs.declared.domain.Domain.{Domain}
 use Rattle.sq_value.specs.declared.domain.Domain.TheVariants.{Small, Int, Numeric, Char, VarChar}

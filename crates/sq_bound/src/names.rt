@@ -1,7 +1,9 @@
 //! What names mean: tables and views, privileges, cursors and parameters.
 
-ghost use Rattle.std.specs.Prelude.{◌≡◌, ◌≤◌, ◌<◌, length, IfSome, List};
+ghost use Rattle.std.specs.Prelude.{◌≡◌, ◌≤◌, ◌<◌, nat_lt, length, true, IfSome, List};
+ghost use Rattle.std.specs.List.{list_all};
 ghost use Rattle.sq_value.specs.Domain.{IsDomain};
+ghost use Rattle.sq_bound.specs.Names.{are_positions, option_all};
 ghost use Rattle.sq_bound.specs.Parameter.{IsDomain-prop};
 
 use crate::condition::{BoundCond, BoundSpecification, TablePlace};
@@ -24,6 +26,7 @@ pub enum Action {
 /// The tables, views and privileges that a user's texts may name.
 pub trait Names {
     ghost use Rattle.sq_bound.specs.declared.names.BaseTable.{BaseTable};
+    ghost use Rattle.sq_bound.specs.Fits.{IsOver, all_refer};
 
     ghost base_tables: { Self → List BaseTable };
 
@@ -32,10 +35,12 @@ pub trait Names {
         ensures { result.now ≡ base_tables self.now };
 
     /// The base table or view of this owner and name.
-    fn table(&self, user: Name, name: Name) -> Option<&TableDesc>;
+    fn table(&self, user: Name, name: Name) -> Option<&TableDesc>
+        ensures { IfSome result (λ t. IsOver (base_tables self.now) t.now) };
 
     /// The base table or view at this place.
-    fn at(&self, place: TablePlace) -> Option<&TableDesc>;
+    fn at(&self, place: TablePlace) -> Option<&TableDesc>
+        ensures { IfSome result (λ t. IsOver (base_tables self.now) t.now) };
 
     /// Whether the user holds the action on the table of this owner and name, or on the column at a position of it.
     fn may(&self, user: Name, action: Action, table: (Name, Name), column: Option<usize>) -> bool;
@@ -48,12 +53,20 @@ pub trait Names {
         table: (Name, Name),
         column: Option<usize>,
     ) -> bool;
+
+    ghost references: { (names : Self) → all_refer (base_tables names) ≡ true };
 }
 
 /// The cursors of a module.
 pub trait Cursors {
+    ghost use Rattle.std.specs.Prelude.{ℕ};
+
+    /// How many cursors all modules have.
+    ghost cursor_count: { Self → ℕ };
+
     /// The cursor of this name, where there is one and its query has no fault.
-    fn cursor(&self, name: Name) -> Option<KnownCursor<'_>>;
+    fn cursor(&self, name: Name) -> Option<KnownCursor<'_>>
+        ensures { IfSome result (λ known. known.number < cursor_count self.now) };
 }
 
 /// A cursor's number in its module, and the cursor.
@@ -80,6 +93,7 @@ pub struct TableDesc {
     pub body: TableBody,
     /// For a base table and an updatable view, the rows under it.
     pub leaf: Option<Shared<Leaf>>,
+    ghost leaf_columns: { option_all (λ l. list_all (λ c. nat_lt c.leaf_column (length l.table.columns)) columns) leaf ≡ true },
 }
 
 /// A column, as a query sees it.
@@ -110,6 +124,8 @@ pub struct BaseTable {
     pub primary_key: Option<usize>,
     pub references: Items<Reference>,
     pub checks: Items<BoundCond>,
+    ghost key_columns: { list_all (are_positions (length columns)) keys ≡ true },
+    ghost referencing: { list_all (λ r. are_positions (length columns) r.by_key) references ≡ true },
 }
 
 /// What a column of a base table holds.
@@ -173,14 +189,14 @@ pub struct Leaf {
 
 impl BaseTable {
     /// The column at a position, as one that gets a value.
-    pub fn object_column(&self, position: usize) -> Option<ObjectColumn>
-        ensures { IfSome result (λ column. (column.position ≡ position) × (position < length self.now.columns)) }
+    pub fn object_column(&self, position: usize) -> ObjectColumn
+        requires { position < length self.now.columns }
+        ensures { result.position ≡ position }
     {
-        let column = self.columns.as_slice().get(position)?;
-        Some(ObjectColumn {
+        ObjectColumn {
             position,
-            domain: column.domain,
-        })
+            domain: self.columns.as_slice()[position].domain,
+        }
     }
 }
 
@@ -212,7 +228,9 @@ impl TableDesc {
     }
 
     /// The position of the column of this name.
-    pub fn column(&self, name: Name) -> Option<usize> {
+    pub fn column(&self, name: Name) -> Option<usize>
+        ensures { IfSome result (λ position. position < length self.now.columns) }
+    {
         self.columns
             .as_slice()
             .iter()

@@ -1,6 +1,7 @@
 //! Query expressions and cursors with their names as places.
 
-ghost use Rattle.std.specs.Prelude.{◌≡◌};
+ghost use Rattle.std.specs.Prelude.{◌≡◌, nat_lt, length, true};
+ghost use Rattle.sq_bound.specs.Names.{option_all};
 
 use crate::condition::{BoundCond, BoundSpecification, ResultColumn, TablePlace};
 use crate::names::Leaf;
@@ -57,6 +58,7 @@ pub struct Target {
     /// Whether no condition, those of the views included, may answer a status.
     pub is_quiet: bool,
     ghost is_under: { base ≡ leaf.table.place },
+    ghost keyed: { option_all (λ k. nat_lt k (length leaf.table.keys)) key ≡ true },
 }
 
 /// What an updatable query is over, and the columns of the base table that its select list names.

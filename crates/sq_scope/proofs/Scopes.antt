@@ -10,7 +10,7 @@ use Rattle.std.specs.Prelude.{nat_lt, find, slice_get, option_and_then, option_m
 use Rattle.std.specs.List.{enumerate_from, filter_map, position_or_len}
 use Rattle.sq_lex.specs.declared.name.Name.{Name}
 use Rattle.sq_tree.specs.declared.names.ColumnReference.{ColumnReference}
-use Rattle.sq_meaning.specs.Environment.{Item, column_in, column_named, fitting, names_item, same_name}
+use Rattle.sq_meaning.specs.Environment.{Item, column_in, column_named, names_item, same_name}
 use Rattle.sq_bound.specs.declared.names.Column.{Column}
 use Rattle.sq_bound.specs.declared.fault.BindFault.{BindFault}
 use Rattle.sq_bound.specs.declared.fault.BindFault.TheVariants.{AmbiguousName}

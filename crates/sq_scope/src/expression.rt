@@ -1,7 +1,7 @@
 //! Value expressions: columns and parameters become places, and kinds are checked (ISO/IEC 9075:1992, 6.2 to 6.5, 6.11 to 6.13).
 
 ghost use Rattle.std.specs.Prelude.{◌≡◌, ◌<◌, ◌∷◌, ◌++◌, [], false, nat_lt, true, IfOk, IfSome, Ok, length};
-ghost use Rattle.std.specs.Option.{option_all};
+ghost use Rattle.sq_bound.specs.Names.{option_all};
 ghost use Rattle.std.specs.List.{position};
 ghost use Rattle.sq_meaning.specs.Environment.{Place as MeantPlace, same_name};
 ghost use Rattle.sq_meaning.specs.Kind.{function_kind};

@@ -121,7 +121,7 @@ impl FromItem {
     }
 
     /// The column that the reference fits.
-    fn column(&self, reference: &ColumnReference) -> Option<ItemColumn>
+    pub fn column(&self, reference: &ColumnReference) -> Option<ItemColumn>
         ensures { FitsColumn reference.now self.now result }
     {
         if self.fits(reference.qualifier) {

@@ -10,4 +10,4 @@ mod select;
 pub use condition::{CondResult, bind_cond, bind_select};
 pub use number::SubqueryNumbers;
 pub use predicate::SubqueryResult;
-pub use select::{SelectedList, correlation_of, named_table, select_list};
+pub use select::{correlation_of, named_table, reference_of};

@@ -1,5 +1,8 @@
 //! The parts of a query specification: FROM items, grouping columns, select lists (ISO/IEC 9075:1992, 7.4, 7.7, 7.9).
 
+ghost use Rattle.std.specs.Prelude.{IfOk};
+ghost use Rattle.sq_bound.specs.Fits.{IsOver};
+
 use crate::predicate::SubqueryResult;
 use sq_bound::{
     Action, BindFault, BoundCond, BoundExpr, BoundSpecification, Grouping, Names, Place,
@@ -35,7 +38,9 @@ pub fn named_table<N: Names>(
     names: &N,
     user: Name,
     written: TableName,
-) -> Result<&TableDesc, BindFault> {
+) -> Result<&TableDesc, BindFault>
+    ensures { IfOk result (λ table. IsOver (N.base_tables names.now) table.now) }
+{
     let owner = match written.schema {
         Some(owner) => owner,
         None => user,
