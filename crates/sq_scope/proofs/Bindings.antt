@@ -3,7 +3,7 @@ use Rattle.std.proofs.Common.{◌≡◌, ℕ, suc, ◌<◌, ◌≤◌, get_or, t
 use Rattle.std.proofs.lemmas.List.{map-append, take_more}
 use Rattle.std.specs.Prelude.{IfOk, Result, fold, slice_index_or}
 use Rattle.std.specs.Option.{option_map}
-use Rattle.std.specs.Result.{result_unwrap_or}
+use Rattle.std.specs.Result.{result_ok, result_unwrap_or}
 use Rattle.sq_value.specs.Domain.{kind_of}
 use Rattle.sq_value.specs.Number.{Number}
 use Rattle.sq_value.specs.Spelling.{read}
@@ -19,6 +19,8 @@ use Rattle.sq_tree.specs.declared.expr.Sign.TheVariants.{Plus, Minus}
 use Rattle.sq_tree.specs.declared.expr.TimesSign.{TimesSign}
 use Rattle.sq_tree.specs.declared.expr.TimesSign.TheVariants.{Times, Over}
 use Rattle.sq_tree.specs.declared.expr.SetFunction.{SetFunction}
+use Rattle.sq_tree.specs.declared.expr.SetQuantifier.{SetQuantifier}
+use Rattle.sq_tree.specs.declared.expr.Primary.{Primary}
 use Rattle.sq_tree.specs.declared.expr.Expr.{Expr as SpelledExpr, out-Expr, roll-out-Expr}
 use Rattle.sq_tree.specs.declared.expr.Term.{Term, out-Term, roll-out-Term}
 use Rattle.sq_tree.specs.declared.expr.Added.{Added, out-Added, roll-out-Added}
@@ -26,7 +28,7 @@ use Rattle.sq_tree.specs.declared.expr.Scaled.{Scaled}
 use Rattle.sq_meaning.specs.Environment.{Place, place_of}
 use Rattle.sq_meaning.specs.Kind.{function_kind, kind, product_kind, signed_kind, sum_kind}
 use Rattle.sq_meaning.specs.Placed.{PlacedParameter}
-use Rattle.sq_meaning.specs.Spelled.{Named, added_of, expr_of as spelled_expr, factor_of, number_of, scaled_of, term_of, zero_number}
+use Rattle.sq_meaning.specs.Spelled.{Named, added_of, expr_of as spelled_expr, factor_of, is_distinct_word, number_of, primary_of, scaled_of, term_of, zero_number}
 use Rattle.sq_meaning.proofs.SpelledLevels.{added_of-roll, expr_of-roll, scaled_of-out, term_of-roll}
 use Rattle.sq_meaning.specs.Status.{Outcome, and_then, well_formed}
 use Rattle.sq_meaning.specs.Syntax.{Expr, literal, parameter, user, column, count_rows, set_function, signed, added, scaled, bracketed}
@@ -108,6 +110,18 @@ among_newest calls after call n e f later =
     ∙ expr_of-SetFunction (map call_of ((calls ++ call ∷ []) ++ later)) n
     ∙ ap (λ k. slice_index_or (map call_of ((calls ++ call ∷ []) ++ later)) k missing) f
     ∙ newest calls call later
+
+pub of_ok : (o : Outcome Kind) (k : Kind) → Some k ≡ result_ok o → o ≡ Ok k
+of_ok (Ok l) k e = cc
+of_ok (Err status) k e = cc
+
+-- a set function over an operand
+pub function_if : (calls : List SetFunctionCall) (f : SetFunction) (quantifier : Option SetQuantifier) (operand : Result Typed BindFault) (x : Typed) (call : SetFunctionCall) (k : Kind) (result : Result Typed BindFault)
+    → operand ≡ Ok x → call_of call ≡ set_function f (is_distinct_word quantifier) (expr_of [] x.expr) → function_kind f x.kind ≡ Ok k
+    → IfOk result (λ typed. IsTreeAmong calls (call_of call) typed.expr) → IfOk result (λ typed. typed.kind ≡ k)
+    → IfOk result (λ typed. (e : Typed) × (operand ≡ Ok e) × IsTreeAmong calls (set_function f (is_distinct_word quantifier) (expr_of [] e.expr)) typed.expr × (function_kind f e.kind ≡ Ok typed.kind))
+function_if calls f quantifier operand x call k (Err fault) is tree kind t e = t
+function_if calls f quantifier operand x call k (Ok typed) is tree kind t e = (x, is, (λ later. t later ∙ tree), kind ∙ ap (λ k. Ok k) (sym e))
 
 -- ---- expressions
 
@@ -236,6 +250,45 @@ module _ (scopes : List (List FromItem)) (parameters : List ParameterDesc) where
       → IfOk result (Bound calls (signed sign e))
   signed_if calls sign e operand (Err fault) b s = s
   signed_if calls sign e operand (Ok typed) b (x, is, s) = bound_signed calls sign e x typed (subst (λ y. IfOk y (Bound calls e)) is b) s
+
+  -- ---- primaries
+
+  pub at_primary : (calls : List SetFunctionCall) (primary spelled : Primary) (e : Expr Named) (o : Result Typed BindFault) → primary ≡ spelled → primary_of spelled ≡ e → IfOk o (Bound calls e) → IfOk o (Bound calls (primary_of primary))
+  at_primary calls primary spelled e o is seen b = subst (λ x. IfOk o (Bound calls x)) (sym (ap primary_of is ∙ seen)) b
+
+  pub number_if : (calls : List SetFunctionCall) (spelling : List ℕ) (o : Result Typed BindFault)
+      → IfOk o (λ typed. (n : Number) × (read spelling ≡ Ok n) × IsTree (λ functions. literal (value.Num n)) typed.expr × (typed.kind ≡ kinds.Num n.scale))
+      → IfOk o (Bound calls (literal (value.Num (number_of spelling))))
+  number_if calls spelling (Ok typed) (n, e, t, k) = bound_number calls spelling typed n e t k
+  number_if calls spelling (Err fault) h = h
+
+  pub text_if : (calls : List SetFunctionCall) (characters : List ℕ) (o : Result Typed BindFault)
+      → IfOk o (λ typed. IsTree (λ functions. literal (value.Chars characters)) typed.expr × (typed.kind ≡ kinds.Chars (length characters)))
+      → IfOk o (Bound calls (literal (value.Chars characters)))
+  text_if calls characters (Ok typed) (t, k) = bound_text calls characters typed t k
+  text_if calls characters (Err fault) h = h
+
+  pub parameter_if : (calls : List SetFunctionCall) (p : Parameter) (o : Result Typed BindFault)
+      → IfOk o (λ typed. (q : PlacedParameter) × (placed_parameter parameters p ≡ Ok q) × IsTree (λ functions. parameter q) typed.expr × (parameter_kind parameters p ≡ Ok typed.kind))
+      → IfOk o (Bound calls (parameter p))
+  parameter_if calls p (Ok typed) (q, e, t, k) = bound_parameter calls p typed q e t k
+  parameter_if calls p (Err fault) h = h
+
+  pub column_if : (calls : List SetFunctionCall) (r : ColumnReference) (o : Result Typed BindFault)
+      → IfOk o (λ typed. (q : Place) × (placed_column scopes r ≡ Ok q) × IsTree (λ functions. column q) typed.expr × (column_kind scopes r ≡ Ok typed.kind))
+      → IfOk o (Bound calls (column r))
+  column_if calls r (Ok typed) (q, e, t, k) = bound_column calls r typed q e t k
+  column_if calls r (Err fault) h = h
+
+  pub count_if : (calls : List SetFunctionCall) (o : Result Typed BindFault) → IfOk o (λ typed. IsTreeAmong calls count_rows typed.expr) → IfOk o (λ typed. typed.kind ≡ kinds.Num 0) → IfOk o (Bound calls count_rows)
+  count_if calls (Ok typed) t k = bound_count calls typed t k
+  count_if calls (Err fault) t k = t
+
+  pub set_function_if : (calls inner : List SetFunctionCall) (f : SetFunction) (distinct : Bool) (e : Expr Named) (operand o : Result Typed BindFault) → inner ≡ [] → IfOk operand (Bound inner e)
+      → IfOk o (λ typed. (x : Typed) × (operand ≡ Ok x) × IsTreeAmong calls (set_function f distinct (expr_of [] x.expr)) typed.expr × (function_kind f x.kind ≡ Ok typed.kind))
+      → IfOk o (Bound calls (set_function f distinct e))
+  set_function_if calls inner f distinct e operand (Ok typed) none b (x, is, t, k) = bound_function calls inner f distinct e x typed none (subst (λ y. IfOk y (Bound inner e)) is b) t k
+  set_function_if calls inner f distinct e operand (Err fault) none b h = h
 
 -- ---- spelled sums and products
 
