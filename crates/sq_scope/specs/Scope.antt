@@ -1,15 +1,18 @@
 -- What column references fit in the items of a scope (ISO/IEC 9075:1992, 6.3 and 6.4), by the definitions' items.
-use Rattle.std.specs.Prelude.{◌≡◌, ℕ, Bool, List, [], ◌∷◌, map, slice_get, Option, Some, None, Result, Ok, Err, if◌then◌else◌}
+use Rattle.std.specs.Prelude.{◌≡◌, ℕ, ◌+◌, ◌-◌, ◌^◌, min, Bool, List, [], ◌∷◌, map, slice_get, Option, Some, None, Result, Ok, Err, if◌then◌else◌}
+use Rattle.std.specs.Borrow.{Bor}
 use Rattle.std.specs.List.{enumerate_from}
 use Rattle.std.specs.Option.{option_map, option_and_then}
 use Rattle.sq_tree.specs.declared.names.ColumnReference.{ColumnReference}
-use Rattle.sq_meaning.specs.Environment.{Item, column_in, fitting}
+use Rattle.sq_meaning.specs.Environment.{Item, Place, column_in, fitting, place_of}
 use Rattle.sq_bound.specs.declared.fault.BindFault.{BindFault}
 use Rattle.sq_bound.specs.declared.fault.BindFault.TheVariants.{AmbiguousName}
 use Rattle.sq_bound.specs.declared.names.Column.{Column}
 use Rattle.sq_scope.specs.declared.scope.FromItem.{FromItem}
 use Rattle.sq_scope.specs.declared.scope.ItemColumn.{ItemColumn}
-use Rattle.sq_scope.specs.declared.scope.Scope.{Scope, out-Scope}
+use Rattle.sq_scope.specs.declared.scope.Scope.{Scope, Scope', Held-Scope-outer, None', Some', out-Scope}
+use Rattle.sq_scope.specs.declared.scope.Environment.{Environment}
+use Rattle.sq_scope.specs.declared.scope.FoundColumn.{FoundColumn}
 
 -- ---- items
 
@@ -64,3 +67,41 @@ with_fit (Some earlier) n (Some column) = Err AmbiguousName
 -- more than one, which is a fault
 abbrev pub FitsMore : List (ℕ × ℕ) → BindFault → Type 0
 FitsMore fits fault = (fault ≡ AmbiguousName) × (a : ℕ × ℕ) × (b : ℕ × ℕ) × (others : List (ℕ × ℕ)) × (fits ≡ a ∷ b ∷ others)
+
+-- ---- what a reference means
+
+-- the items of the scopes, the nearest first
+abbrev mutual
+  pub scopes_of : Scope → List (List FromItem)
+  scopes_of (Scope' items grouping outer) = items.now ∷ scopes_around outer
+
+  pub scopes_around : Held-Scope-outer → List (List FromItem)
+  scopes_around None' = []
+  scopes_around (Some' p scope) = scopes_of scope
+
+abbrev pub scopes_at : Option Scope → List (List FromItem)
+scopes_at None = []
+scopes_at (Some scope) = scopes_of scope
+
+-- the scopes in which a text stands
+abbrev pub scopes_in : Environment → List (List FromItem)
+scopes_in environment = scopes_at environment.scope
+
+abbrev pub heads_of : List (List FromItem) → List (List Item)
+heads_of scopes = map items_meant scopes
+
+-- the column at a place
+abbrev pub column_at : List (List FromItem) → Place → Option ItemColumn
+column_at scopes at = option_and_then (λ items. option_and_then (λ item. slice_get item.columns at.column) (slice_get items at.item)) (slice_get scopes at.depth)
+
+-- A column that a reference means, counted from so many queries further in: that at the place which the definitions give
+-- it. Its position is that in the rows that are read. The depth is counted up to the greatest number.
+pub record Means (r : ColumnReference) (scopes : List (List FromItem)) (depth : ℕ) (found : FoundColumn) : Type 0 where
+  pub at : Place
+  pub column : ItemColumn
+  pub placed : place_of r (heads_of scopes) ≡ Ok at
+  pub there : column_at scopes at ≡ Some column
+  pub depth_is : found.place.depth ≡ min (depth + at.depth) (2 ^ 64 - 1)
+  pub item_is : found.place.item ≡ at.item
+  pub column_is : found.place.column ≡ column.position
+  pub kind_is : found.kind ≡ column.kind

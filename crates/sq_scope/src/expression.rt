@@ -1,14 +1,21 @@
 //! Value expressions: columns and parameters become places, and kinds are checked (ISO/IEC 9075:1992, 6.2 to 6.5, 6.11 to 6.13).
 
-ghost use Rattle.std.specs.Prelude.{◌≡◌, ◌∷◌, ◌++◌, [], IfOk, Ok, length, nat_lt, true};
-ghost use Rattle.sq_meaning.specs.Syntax.{literal, signed};
-ghost use Rattle.sq_bound.specs.Expression.{expr_of};
+ghost use Rattle.std.specs.Prelude.{◌≡◌, ◌<◌, ◌∷◌, ◌++◌, [], false, nat_lt, true, IfOk, IfSome, Ok, length};
 ghost use Rattle.sq_bound.specs.Names.{option_all};
+ghost use Rattle.std.specs.List.{position};
+ghost use Rattle.sq_meaning.specs.Environment.{Place as MeantPlace, same_name};
+ghost use Rattle.sq_meaning.specs.Kind.{function_kind};
+ghost use Rattle.sq_meaning.specs.Placed.{PlacedParameter};
+ghost use Rattle.sq_meaning.specs.Spelled.{expr_of as spelled_expr, factor_of, is_distinct_word, primary_of, term_of};
+ghost use Rattle.sq_meaning.specs.Syntax.{column as column_tree, count_rows as count_rows_tree, literal, parameter as parameter_tree, set_function as set_function_tree, signed, user as user_tree};
+ghost use Rattle.sq_bound.specs.Expression.{expr_of};
+ghost use Rattle.sq_bound.specs.SetFunction.{call_of};
 ghost use Rattle.sq_tree.specs.declared.expr.Sign.TheVariants.{Minus};
 ghost use Rattle.sq_value.specs.Spelling.{read};
 ghost use Rattle.sq_value.specs.declared.value.Value.TheVariants as value;
 ghost use Rattle.sq_value.specs.declared.domain.Kind.TheVariants as kind;
-ghost use Rattle.sq_scope.specs.Expression.{IsOperation, IsSigned, IsTree, IsTypedOperation, with_sign};
+ghost use Rattle.sq_scope.specs.Expression.{Adds, Grows, IsBound, IsOperation, IsSigned, IsTree, IsTreeAmong, IsTypedOperation, column_kind, indicator_named, parameter_kind, parameter_named, placed_column, placed_parameter, product_operator, sum_operator, with_sign};
+ghost use Rattle.sq_scope.specs.Scope.{scopes_in};
 ghost use Rattle.sq_scope.specs.declared.expression.Typed.{Typed as TypedExpr};
 ghost use Rattle.sq_value.specs.Number.{Number as Read};
 
@@ -55,7 +62,10 @@ pub struct SetFunctions {
 
 impl SetFunctions {
     /// Where no set function may stand.
-    pub fn forbidden(alloc: Global) -> SetFunctions {
+    pub fn forbidden(alloc: Global) -> SetFunctions
+        ensures allowed { result.allowed ≡ false }
+        ensures calls { result.calls ≡ [] }
+    {
         SetFunctions {
             allowed: false,
             can_fail: false,
@@ -64,7 +74,9 @@ impl SetFunctions {
     }
 
     /// Where set functions may stand, none so far.
-    pub fn allowed(alloc: Global) -> SetFunctions {
+    pub fn allowed(alloc: Global) -> SetFunctions
+        ensures { result.calls ≡ [] }
+    {
         SetFunctions {
             allowed: true,
             can_fail: false,
@@ -78,7 +90,10 @@ pub fn bind_expr(
     expr: &Expr,
     environment: &Environment<'_>,
     functions: &mut SetFunctions,
-) -> ExprResult {
+) -> ExprResult
+    ensures bound { IfOk result (λ found. IsBound (scopes_in environment.now) environment.now.parameters.now functions.new.calls (spelled_expr expr.now) found.part) }
+    ensures grows { Grows functions.old functions.new }
+{
     let mut findings = Findings::NONE;
     let part = expr_value(expr, environment, functions, &mut findings)?;
     Ok(Found { part, findings })
@@ -91,15 +106,14 @@ fn expr_value(
     environment: &Environment<'_>,
     functions: &mut SetFunctions,
     findings: &mut Findings,
-) -> TypedResult {
+) -> TypedResult
+    ensures bound { IfOk result (IsBound (scopes_in environment.now) environment.now.parameters.now functions.new.calls (spelled_expr expr.now)) }
+    ensures grows { Grows functions.old functions.new }
+{
     let mut bound = term_value(&expr.first, environment, functions, findings);
     for added in expr.rest.as_slice() {
-        let operator = match added.sign {
-            Sign::Plus => Operator::Plus,
-            Sign::Minus => Operator::Minus,
-        };
         let term = term_value(&added.term, environment, functions, findings);
-        bound = operation(environment.alloc, bound, operator, term);
+        bound = operation(environment.alloc, bound, sum_operator(added.sign), term);
         findings.can_fail = true;
     }
     bound
@@ -111,15 +125,19 @@ fn term_value(
     environment: &Environment<'_>,
     functions: &mut SetFunctions,
     findings: &mut Findings,
-) -> TypedResult {
+) -> TypedResult
+    ensures bound { IfOk result (IsBound (scopes_in environment.now) environment.now.parameters.now functions.new.calls (term_of term.now)) }
+    ensures grows { Grows functions.old functions.new }
+{
     let mut bound = factor_value(&term.first, environment, functions, findings);
     for scaled in term.rest.as_slice() {
-        let operator = match scaled.sign {
-            TimesSign::Times => Operator::Times,
-            TimesSign::Over => Operator::Over,
-        };
         let factor = factor_value(&scaled.factor, environment, functions, findings);
-        bound = operation(environment.alloc, bound, operator, factor);
+        bound = operation(
+            environment.alloc,
+            bound,
+            product_operator(scaled.sign),
+            factor,
+        );
         findings.can_fail = true;
     }
     bound
@@ -131,7 +149,10 @@ fn factor_value(
     environment: &Environment<'_>,
     functions: &mut SetFunctions,
     findings: &mut Findings,
-) -> TypedResult {
+) -> TypedResult
+    ensures bound { IfOk result (IsBound (scopes_in environment.now) environment.now.parameters.now functions.new.calls (factor_of factor.now)) }
+    ensures grows { Grows functions.old functions.new }
+{
     let bound = primary_value(&factor.primary, environment, functions, findings);
     match factor.sign {
         None => bound,
@@ -145,7 +166,10 @@ fn primary_value(
     environment: &Environment<'_>,
     functions: &mut SetFunctions,
     findings: &mut Findings,
-) -> TypedResult {
+) -> TypedResult
+    ensures bound { IfOk result (IsBound (scopes_in environment.now) environment.now.parameters.now functions.new.calls (primary_of primary.now)) }
+    ensures grows { Grows functions.old functions.new }
+{
     match primary {
         Primary::Number(number) => number_literal(*number),
         Primary::Text(characters) => text_literal(environment.alloc, characters),
@@ -187,8 +211,29 @@ fn text_literal(alloc: Global, characters: &Characters) -> TypedResult
     })
 }
 
+fn sum_operator(sign: Sign) -> Operator
+    ensures { result ≡ sum_operator sign }
+{
+    match sign {
+        Sign::Plus => Operator::Plus,
+        Sign::Minus => Operator::Minus,
+    }
+}
+
+fn product_operator(sign: TimesSign) -> Operator
+    ensures { result ≡ product_operator sign }
+{
+    match sign {
+        TimesSign::Times => Operator::Times,
+        TimesSign::Over => Operator::Over,
+    }
+}
+
 /// USER, a text of 18 characters (6.2; the length is an own rule).
-fn user_value(findings: &mut Findings) -> Typed {
+fn user_value(findings: &mut Findings) -> Typed
+    ensures tree { IsTree (λ functions. user_tree) result.expr }
+    ensures kind { result.kind ≡ kind.Chars 18 }
+{
     findings.has_user = true;
     Typed {
         expr: BoundExpr::User,
@@ -196,16 +241,25 @@ fn user_value(findings: &mut Findings) -> Typed {
     }
 }
 
-/// The position of a parameter among those of the procedure.
-pub fn parameter_of(parameters: &[ParameterDesc], name: Name) -> Result<(usize, Domain), BindFault>
-    ensures { IfOk result (λ found. nat_lt found.0 (length parameters.now) ≡ true) }
+/// The position of the parameter of a name.
+fn position_of(parameters: &[ParameterDesc], name: Name) -> Option<usize>
+    ensures place { result ≡ position (λ p. same_name p.name name) parameters.now }
+    ensures within { IfSome result (λ at. at < length parameters.now) }
 {
-    for (position, parameter) in parameters.iter().enumerate() {
-        if parameter.name == name {
-            return Ok((position, parameter.domain));
-        }
+    parameters
+        .iter()
+        .position(|parameter| parameter.name == name)
+}
+
+/// The position of a parameter among those of the procedure, and its domain.
+pub fn parameter_of(parameters: &[ParameterDesc], name: Name) -> Result<(usize, Domain), BindFault>
+    ensures named { IfOk result (λ p. parameter_named parameters.now name ≡ Ok p) }
+    ensures within { IfOk result (λ p. nat_lt p.0 (length parameters.now) ≡ true) }
+{
+    match position_of(parameters, name) {
+        Some(position) => Ok((position, parameters[position].domain)),
+        None => Err(BindFault::UnknownParameter),
     }
-    Err(BindFault::UnknownParameter)
 }
 
 /// The position of an indicator parameter, if one is written.
@@ -213,7 +267,8 @@ pub fn indicator_of(
     parameters: &[ParameterDesc],
     indicator: Option<Indicator>,
 ) -> Result<Option<usize>, BindFault>
-    ensures { IfOk result (λ found. option_all (λ p. nat_lt p (length parameters.now)) found ≡ true) }
+    ensures named { IfOk result (λ at. indicator_named parameters.now indicator ≡ Ok at) }
+    ensures within { IfOk result (λ at. option_all (λ p. nat_lt p (length parameters.now)) at ≡ true) }
 {
     let Some(indicator) = indicator else {
         return Ok(None);
@@ -226,7 +281,9 @@ pub fn indicator_of(
     }
 }
 
-fn parameter_value(parameters: &[ParameterDesc], parameter: Parameter) -> TypedResult {
+fn parameter_value(parameters: &[ParameterDesc], parameter: Parameter) -> TypedResult
+    ensures { IfOk result (λ typed. (q : PlacedParameter) × (placed_parameter parameters.now parameter ≡ Ok q) × IsTree (λ functions. parameter_tree q) typed.expr × (parameter_kind parameters.now parameter ≡ Ok typed.kind)) }
+{
     let (position, domain) = parameter_of(parameters, parameter.name)?;
     let indicator = indicator_of(parameters, parameter.indicator)?;
     let input = Input {
@@ -243,7 +300,9 @@ fn column_value(
     environment: &Environment<'_>,
     reference: &ColumnReference,
     findings: &mut Findings,
-) -> TypedResult {
+) -> TypedResult
+    ensures { IfOk result (λ typed. (q : MeantPlace) × (placed_column (scopes_in environment.now) reference.now ≡ Ok q) × IsTree (λ functions. column_tree q) typed.expr × (column_kind (scopes_in environment.now) reference.now ≡ Ok typed.kind)) }
+{
     let found = environment.column(reference)?;
     let place = found.place;
     if place.depth > 0 && !found.is_grouped {
@@ -368,22 +427,38 @@ fn begun(alloc: Global, first: BoundExpr, operation: Operation) -> Result<BoundE
     }
 }
 
-/// What a set function of a query is known by.
-fn numbered(number: usize, kind: Kind) -> Typed {
-    Typed {
+/// A further set function of a query, which is known by its number.
+fn numbered(functions: &mut SetFunctions, call: SetFunctionCall, kind: Kind) -> TypedResult
+    ensures tree { IfOk result (λ typed. IsTreeAmong functions.new.calls (call_of call) typed.expr) }
+    ensures kind { IfOk result (λ typed. typed.kind ≡ kind) }
+    ensures adds { Adds functions.old.calls functions.new.calls }
+    ensures allowed { functions.new.allowed ≡ functions.old.allowed }
+{
+    let number = functions.calls.len();
+    functions.calls.push(call)?;
+    Ok(Typed {
         expr: BoundExpr::SetFunction(number),
         kind,
-    }
+    })
 }
 
-fn count_rows(functions: &mut SetFunctions, findings: &mut Findings) -> TypedResult {
+fn count_rows(functions: &mut SetFunctions, findings: &mut Findings) -> TypedResult
+    ensures tree { IfOk result (λ typed. IsTreeAmong functions.new.calls count_rows_tree typed.expr) }
+    ensures kind { IfOk result (λ typed. typed.kind ≡ kind.Num 0) }
+    ensures grows { Grows functions.old functions.new }
+{
     findings.has_set_function = true;
     if !functions.allowed {
         return Err(BindFault::MisplacedSetFunction);
     }
-    let number = functions.calls.len();
-    functions.calls.push(SetFunctionCall::CountRows)?;
-    Ok(numbered(number, Kind::Num(0)))
+    numbered(functions, SetFunctionCall::CountRows, Kind::Num(0))
+}
+
+/// Whether DISTINCT is written.
+fn is_distinct(quantifier: Option<SetQuantifier>) -> bool
+    ensures { result ≡ is_distinct_word quantifier }
+{
+    matches!(quantifier, Some(SetQuantifier::Distinct))
 }
 
 /// A set function over an expression that reads columns of its own query alone (6.5).
@@ -393,7 +468,10 @@ fn set_function(
     operand: TypedResult,
     findings: Findings,
     functions: &mut SetFunctions,
-) -> TypedResult {
+) -> TypedResult
+    ensures value { IfOk result (λ typed. (e : TypedExpr) × (operand ≡ Ok e) × IsTreeAmong functions.new.calls (set_function_tree function (is_distinct_word quantifier) (expr_of [] e.expr)) typed.expr × (function_kind function e.kind ≡ Ok typed.kind)) }
+    ensures grows { Grows functions.old functions.new }
+{
     let Typed { expr, kind } = operand?;
     if !functions.allowed || findings.reach > 0 {
         drop(expr);
@@ -406,14 +484,13 @@ fn set_function(
             return Err(fault);
         }
     };
-    let number = functions.calls.len();
     if findings.can_fail || matches!(function, SetFunction::Sum | SetFunction::Avg) {
         functions.can_fail = true;
     }
-    functions.calls.push(SetFunctionCall::Over(Aggregate {
+    let call = SetFunctionCall::Over(Aggregate {
         function,
-        distinct: matches!(quantifier, Some(SetQuantifier::Distinct)),
+        distinct: is_distinct(quantifier),
         operand: expr,
-    }))?;
-    Ok(numbered(number, kind))
+    });
+    numbered(functions, call, kind)
 }

@@ -1,8 +1,8 @@
 //! What column references mean: FROM items in scopes, the nearest first (ISO/IEC 9075:1992, 6.3, 6.4).
 
-ghost use Rattle.std.specs.Prelude.{◌≡◌, IfOk, MatchResult, find};
+ghost use Rattle.std.specs.Prelude.{◌≡◌, [], ◌∷◌, IfOk, MatchResult, find};
 ghost use Rattle.sq_meaning.specs.Environment.{names_item, same_name};
-ghost use Rattle.sq_scope.specs.Scope.{FitsColumn, FitsMore, FitsOnly, column_over, columns_over, fits, item_meant, items_in, with_fit};
+ghost use Rattle.sq_scope.specs.Scope.{FitsColumn, FitsMore, FitsOnly, Means, column_over, columns_over, fits, item_meant, items_in, scopes_at, scopes_in, scopes_of, with_fit};
 
 use sq_bound::{BindFault, Column, ParameterDesc, Place, TableDesc};
 use sq_items::Items;
@@ -172,7 +172,9 @@ impl Scope<'_> {
     }
 
     /// The column of the nearest scope in which an item fits the reference. This one is so many queries further out.
-    fn column(&self, depth: usize, reference: &ColumnReference) -> Result<FoundColumn, BindFault> {
+    fn column(&self, depth: usize, reference: &ColumnReference) -> Result<FoundColumn, BindFault>
+        ensures { IfOk result (Means reference.now (scopes_of self.now) depth) }
+    {
         match (self.fitting(reference)?, self.outer) {
             (Some((item, column)), _) => Ok(self.found(depth, item, column)),
             (None, Some(outer)) => outer.column(depth.saturating_add(1), reference),
@@ -180,7 +182,12 @@ impl Scope<'_> {
         }
     }
 
-    fn found(&self, depth: usize, item: usize, column: ItemColumn) -> FoundColumn {
+    fn found(&self, depth: usize, item: usize, column: ItemColumn) -> FoundColumn
+        ensures depth { result.place.depth ≡ depth }
+        ensures item { result.place.item ≡ item }
+        ensures column { result.place.column ≡ column.position }
+        ensures kind { result.kind ≡ column.kind }
+    {
         FoundColumn {
             place: Place {
                 depth,
@@ -217,7 +224,9 @@ fn is_at(place: &Place, item: usize, column: usize) -> bool {
 impl<'a> Environment<'a> {
     /// Outside all queries.
     pub fn new(alloc: Global, user: Name, parameters: &'a [ParameterDesc]) -> Environment<'a>
-        ensures { result.parameters.now ≡ parameters.now }
+        ensures scopes { scopes_in result ≡ [] }
+        ensures parameters { result.parameters.now ≡ parameters.now }
+        ensures user { result.user ≡ user }
     {
         Environment {
             alloc,
@@ -232,7 +241,9 @@ impl<'a> Environment<'a> {
         &'s self,
         items: &'s [FromItem],
         grouping: Option<&'s [Place]>,
-    ) -> Scope<'s> {
+    ) -> Scope<'s>
+        ensures { scopes_of result ≡ items.now ∷ scopes_in self.now }
+    {
         Scope {
             items,
             grouping,
@@ -241,7 +252,11 @@ impl<'a> Environment<'a> {
     }
 
     /// In a query of this scope.
-    pub fn within<'s>(&'s self, scope: Scope<'s>) -> Environment<'s> {
+    pub fn within<'s>(&'s self, scope: Scope<'s>) -> Environment<'s>
+        ensures scopes { scopes_in result ≡ scopes_of scope }
+        ensures parameters { result.parameters.now ≡ self.now.parameters.now }
+        ensures user { result.user ≡ self.now.user }
+    {
         Environment {
             alloc: self.alloc,
             user: self.user,
@@ -251,7 +266,9 @@ impl<'a> Environment<'a> {
     }
 
     /// The column of the nearest scope in which an item fits the reference.
-    pub fn column(&self, reference: &ColumnReference) -> Result<FoundColumn, BindFault> {
+    pub fn column(&self, reference: &ColumnReference) -> Result<FoundColumn, BindFault>
+        ensures { IfOk result (Means reference.now (scopes_in self.now) 0) }
+    {
         match &self.scope {
             Some(scope) => scope.column(0, reference),
             None => Err(BindFault::UnknownColumn),

@@ -1,0 +1,164 @@
+use Rattle.std.proofs.Common.{◌≡◌, ◌+◌, [], Some, None, Ok, Err, take, sym, subst, ◌∙◌}
+use Rattle.std.specs.Prelude.{IfOk}
+use Rattle.sq_tree.specs.declared.expr.Added.{out-Added}
+use Rattle.sq_tree.specs.declared.expr.Expr.{out-Expr}
+use Rattle.sq_tree.specs.declared.expr.Term.{out-Term}
+use Rattle.sq_meaning.proofs.SpelledLevels.{factor_of-out, primary_of-Bracketed, primary_of-Column, primary_of-CountRows, primary_of-Number, primary_of-Parameter, primary_of-SetFunction, primary_of-Text, primary_of-User}
+use Rattle.sq_meaning.specs.Spelled.{expr_of, factor_of, is_distinct_word, number_of, primary_of, term_of, with_sign_if}
+use Rattle.sq_meaning.specs.Syntax.{bracketed, column, count_rows, literal, parameter, set_function, user}
+use Rattle.sq_tree.specs.declared.expr.Primary.TheVariants as spelled
+use Rattle.sq_value.specs.declared.value.Value.TheVariants as value
+use Rattle.sq_scope.specs.Expression.{IsBound}
+use Rattle.sq_scope.specs.Scope.{scopes_in}
+use Rattle.sq_scope.proofs.Bindings as bindings
+use Rattle.sq_scope.proofs.Bindings.{grows_further, product_first, product_next, product_so_far, product_whole, sum_first, sum_next, sum_so_far, sum_whole}
+use Rattle.sq_scope.proofs.expression.+bind_expr.Goals as goal
+
+pub expr_value-loop-added-init : goal.expr_value-loop-added-init
+expr_value-loop-added-init t c = (
+  subst (λ e. IfOk c.term_value-bound.result (IsBound (scopes_in c.args.environment.now) c.args.environment.now.parameters.now c.term_value-bound.new.functions.calls e))
+      (sym (sum_first c.args.expr.now c.as_slice-added-items.result.now)) c.term_value-bound.ensures.bound,
+  c.term_value-bound.ensures.grows,
+)
+
+pub expr_value-loop-added-preserved : goal.expr_value-loop-added-preserved
+expr_value-loop-added-preserved t c =
+    let scopes = scopes_in c.args.environment.now in
+    let parameters = c.args.environment.now.parameters.now in
+    let items = c.as_slice-added-items.result.now in
+    let item = c.added-item.result in (
+      subst (λ e. IfOk c.operation-bound.result (IsBound scopes parameters c.term_value-term.new.functions.calls e))
+          (sym (sum_next c.args.expr.now items c.loop-added.added-index item c.loop-added-test.true (sym c.added-item.is)))
+          (bindings.added_if scopes parameters c.loop-added.functions.calls c.term_value-term.new.functions.calls (out-Added item).sign c.sum_operator.result
+          (sum_so_far c.args.expr.now (take c.loop-added.added-index items)) (term_of (out-Added item).term) c.loop-added.bound c.term_value-term.result c.operation-bound.result
+          c.term_value-term.ensures.grows.0 c.sum_operator.ensures c.loop-added.invariant.0 c.term_value-term.ensures.bound c.operation-bound.ensures),
+      grows_further c.args.functions.now c.loop-added.functions c.term_value-term.new.functions c.loop-added.invariant.1 c.term_value-term.ensures.grows,
+    )
+
+pub expr_value-returns-clause-bound : goal.expr_value-returns-clause-bound
+expr_value-returns-clause-bound t c =
+    subst (λ e. IfOk c.loop-added.bound (IsBound (scopes_in c.args.environment.now) c.args.environment.now.parameters.now c.loop-added.functions.calls e))
+    (sum_whole c.args.expr.now c.as_slice-added-items.result.now c.loop-added.added-index c.as_slice-added-items.ensures c.loop-added-test.false) c.loop-added.invariant.0
+
+pub expr_value-returns-clause-grows : goal.expr_value-returns-clause-grows
+expr_value-returns-clause-grows t c = c.loop-added.invariant.1
+
+pub term_value-loop-scaled-init : goal.term_value-loop-scaled-init
+term_value-loop-scaled-init t c = (
+  subst (λ e. IfOk c.factor_value-bound.result (IsBound (scopes_in c.args.environment.now) c.args.environment.now.parameters.now c.factor_value-bound.new.functions.calls e))
+      (sym (product_first c.args.term.now c.as_slice-scaled-items.result.now)) c.factor_value-bound.ensures.bound,
+  c.factor_value-bound.ensures.grows,
+)
+
+pub term_value-loop-scaled-preserved : goal.term_value-loop-scaled-preserved
+term_value-loop-scaled-preserved t c =
+    let scopes = scopes_in c.args.environment.now in
+    let parameters = c.args.environment.now.parameters.now in
+    let items = c.as_slice-scaled-items.result.now in
+    let item = c.scaled-item.result in (
+      subst (λ e. IfOk c.operation-bound.result (IsBound scopes parameters c.factor_value-factor.new.functions.calls e))
+          (sym (product_next c.args.term.now items c.loop-scaled.scaled-index item c.loop-scaled-test.true (sym c.scaled-item.is)))
+          (bindings.scaled_if scopes parameters c.loop-scaled.functions.calls c.factor_value-factor.new.functions.calls item.sign c.product_operator.result
+          (product_so_far c.args.term.now (take c.loop-scaled.scaled-index items)) (factor_of item.factor) c.loop-scaled.bound c.factor_value-factor.result c.operation-bound.result
+          c.factor_value-factor.ensures.grows.0 c.product_operator.ensures c.loop-scaled.invariant.0 c.factor_value-factor.ensures.bound c.operation-bound.ensures),
+      grows_further c.args.functions.now c.loop-scaled.functions c.factor_value-factor.new.functions c.loop-scaled.invariant.1 c.factor_value-factor.ensures.grows,
+    )
+
+pub term_value-returns-clause-bound : goal.term_value-returns-clause-bound
+term_value-returns-clause-bound t c =
+    subst (λ e. IfOk c.loop-scaled.bound (IsBound (scopes_in c.args.environment.now) c.args.environment.now.parameters.now c.loop-scaled.functions.calls e))
+    (product_whole c.args.term.now c.as_slice-scaled-items.result.now c.loop-scaled.scaled-index c.as_slice-scaled-items.ensures c.loop-scaled-test.false) c.loop-scaled.invariant.0
+
+pub term_value-returns-clause-grows : goal.term_value-returns-clause-grows
+term_value-returns-clause-grows t c = c.loop-scaled.invariant.1
+
+pub factor_value-returns-in-None-clause-bound : goal.factor_value-returns-in-None-clause-bound
+factor_value-returns-in-None-clause-bound t c =
+    subst (λ e. IfOk c.primary_value-bound.result (IsBound (scopes_in c.args.environment.now) c.args.environment.now.parameters.now c.primary_value-bound.new.functions.calls e))
+    (sym (factor_of-out c.args.factor.now ∙ (λ i. with_sign_if (c.in-None.is i) (primary_of c.args.factor.now.primary)))) c.primary_value-bound.ensures.bound
+
+pub factor_value-returns-in-Some-clause-bound : goal.factor_value-returns-in-Some-clause-bound
+factor_value-returns-in-Some-clause-bound t c =
+    let scopes = scopes_in c.args.environment.now in
+    let parameters = c.args.environment.now.parameters.now in
+    subst (λ e. IfOk c.signed.result (IsBound scopes parameters c.primary_value-bound.new.functions.calls e))
+    (sym (factor_of-out c.args.factor.now ∙ (λ i. with_sign_if (c.in-Some.is i) (primary_of c.args.factor.now.primary))))
+    (bindings.signed_if scopes parameters c.primary_value-bound.new.functions.calls c.in-Some.sign (primary_of c.args.factor.now.primary) c.primary_value-bound.result c.signed.result
+    c.primary_value-bound.ensures.bound c.signed.ensures)
+
+pub primary_value-returns-in-Number-clause-bound : goal.primary_value-returns-in-Number-clause-bound
+primary_value-returns-in-Number-clause-bound t c =
+    let scopes = scopes_in c.args.environment.now in
+    let parameters = c.args.environment.now.parameters.now in
+    let calls = c.args.functions.now.calls in
+    let primary = c.args.primary.now in
+    bindings.at_primary scopes parameters calls primary (spelled.Number c.in-Number.number) (literal (value.Num (number_of c.in-Number.number))) c.number_literal.result c.in-Number.is (primary_of-Number c.in-Number.number)
+    (bindings.number_if scopes parameters calls c.in-Number.number c.number_literal.result c.number_literal.ensures)
+
+pub primary_value-returns-in-Text-clause-bound : goal.primary_value-returns-in-Text-clause-bound
+primary_value-returns-in-Text-clause-bound t c =
+    let scopes = scopes_in c.args.environment.now in
+    let parameters = c.args.environment.now.parameters.now in
+    let calls = c.args.functions.now.calls in
+    let primary = c.args.primary.now in
+    bindings.at_primary scopes parameters calls primary (spelled.Text c.in-Text.characters) (literal (value.Chars c.in-Text.characters)) c.text_literal.result c.in-Text.is (primary_of-Text c.in-Text.characters)
+    (bindings.text_if scopes parameters calls c.in-Text.characters c.text_literal.result c.text_literal.ensures)
+
+pub primary_value-returns-in-Parameter-clause-bound : goal.primary_value-returns-in-Parameter-clause-bound
+primary_value-returns-in-Parameter-clause-bound t c =
+    let scopes = scopes_in c.args.environment.now in
+    let parameters = c.args.environment.now.parameters.now in
+    let calls = c.args.functions.now.calls in
+    let primary = c.args.primary.now in
+    bindings.at_primary scopes parameters calls primary (spelled.Parameter c.in-Parameter.parameter) (parameter c.in-Parameter.parameter) c.parameter_value.result c.in-Parameter.is (primary_of-Parameter c.in-Parameter.parameter)
+    (bindings.parameter_if scopes parameters calls c.in-Parameter.parameter c.parameter_value.result c.parameter_value.ensures)
+
+pub primary_value-returns-in-User-clause-bound : goal.primary_value-returns-in-User-clause-bound
+primary_value-returns-in-User-clause-bound t c =
+    let scopes = scopes_in c.args.environment.now in
+    let parameters = c.args.environment.now.parameters.now in
+    let calls = c.args.functions.now.calls in
+    let primary = c.args.primary.now in
+    bindings.at_primary scopes parameters calls primary spelled.User user (Ok c.user_value.result) c.in-User.is primary_of-User
+    (bindings.bound_user scopes parameters calls c.user_value.result c.user_value.ensures.tree c.user_value.ensures.kind)
+
+pub primary_value-returns-in-Column-clause-bound : goal.primary_value-returns-in-Column-clause-bound
+primary_value-returns-in-Column-clause-bound t c =
+    let scopes = scopes_in c.args.environment.now in
+    let parameters = c.args.environment.now.parameters.now in
+    let calls = c.args.functions.now.calls in
+    let primary = c.args.primary.now in
+    bindings.at_primary scopes parameters calls primary (spelled.Column c.in-Column.reference) (column c.in-Column.reference) c.column_value.result c.in-Column.is (primary_of-Column c.in-Column.reference)
+    (bindings.column_if scopes parameters calls c.in-Column.reference c.column_value.result c.column_value.ensures)
+
+pub primary_value-returns-in-CountRows-clause-bound : goal.primary_value-returns-in-CountRows-clause-bound
+primary_value-returns-in-CountRows-clause-bound t c =
+    let scopes = scopes_in c.args.environment.now in
+    let parameters = c.args.environment.now.parameters.now in
+    let primary = c.args.primary.now in
+    bindings.at_primary scopes parameters c.count_rows.new.functions.calls primary spelled.CountRows count_rows c.count_rows.result c.in-CountRows.is primary_of-CountRows
+    (bindings.count_if scopes parameters c.count_rows.new.functions.calls c.count_rows.result c.count_rows.ensures.tree c.count_rows.ensures.kind)
+
+pub primary_value-returns-in-SetFunction-clause-bound : goal.primary_value-returns-in-SetFunction-clause-bound
+primary_value-returns-in-SetFunction-clause-bound t c =
+    let scopes = scopes_in c.args.environment.now in
+    let parameters = c.args.environment.now.parameters.now in
+    let primary = c.args.primary.now in
+    let after = c.set_function.new.functions.calls in
+    let inner = c.expr_value-operand.new.functions.calls in
+    let none : inner ≡ [] = c.expr_value-operand.ensures.grows.2 c.forbidden-inner.ensures.allowed ∙ c.forbidden-inner.ensures.calls in
+    bindings.at_primary scopes parameters after primary (spelled.SetFunction c.in-SetFunction.function c.in-SetFunction.quantifier c.in-SetFunction.expr)
+    (set_function c.in-SetFunction.function (is_distinct_word c.in-SetFunction.quantifier) (expr_of c.in-SetFunction.expr)) c.set_function.result c.in-SetFunction.is
+    (primary_of-SetFunction c.in-SetFunction.function c.in-SetFunction.quantifier c.in-SetFunction.expr)
+    (bindings.set_function_if scopes parameters after inner c.in-SetFunction.function (is_distinct_word c.in-SetFunction.quantifier) (expr_of c.in-SetFunction.expr) c.expr_value-operand.result c.set_function.result
+    none (subst (λ e. IfOk c.expr_value-operand.result (IsBound scopes parameters inner (expr_of e))) c.get.ensures c.expr_value-operand.ensures.bound) c.set_function.ensures.value)
+
+pub primary_value-returns-in-Bracketed-clause-bound : goal.primary_value-returns-in-Bracketed-clause-bound
+primary_value-returns-in-Bracketed-clause-bound t c =
+    let scopes = scopes_in c.args.environment.now in
+    let parameters = c.args.environment.now.parameters.now in
+    let primary = c.args.primary.now in
+    let after = c.expr_value.new.functions.calls in
+    bindings.at_primary scopes parameters after primary (spelled.Bracketed c.in-Bracketed.expr) (bracketed (expr_of c.in-Bracketed.expr)) c.expr_value.result c.in-Bracketed.is (primary_of-Bracketed c.in-Bracketed.expr)
+    (bindings.bound_bracketed scopes parameters after (expr_of c.in-Bracketed.expr) c.expr_value.result
+    (subst (λ e. IfOk c.expr_value.result (IsBound scopes parameters after (expr_of e))) c.get-in-Bracketed.ensures c.expr_value.ensures.bound))
