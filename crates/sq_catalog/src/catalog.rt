@@ -91,10 +91,13 @@ impl Catalog {
             base_tables: Vec::new(alloc),
             held: Held::new(alloc),
         };
-        for (number, text) in texts.iter().enumerate() {
-            catalog.add_text(number, text)?;
+        match catalog.add_texts(texts) {
+            Ok(()) => Ok(catalog),
+            Err(fault) => {
+                drop(catalog);
+                Err(fault)
+            }
         }
-        Ok(catalog)
     }
 
     /// The limits that it was built with.
@@ -111,6 +114,16 @@ impl Catalog {
 
     pub(crate) fn alloc(&self) -> Global {
         self.alloc
+    }
+
+    fn add_texts(&mut self, texts: &[SchemaText]) -> Result<(), CatalogFault>
+        ensures tables { OnOk result (Gains self.old self.new (declared_tables texts.now)) }
+        ensures refused { IfErr result (IsOfSomeText (length texts.now)) }
+    {
+        for (number, text) in texts.iter().enumerate() {
+            self.add_text(number, text)?;
+        }
+        Ok(())
     }
 
     fn add_text(&mut self, text: usize, tree: &SchemaText) -> Result<(), CatalogFault>

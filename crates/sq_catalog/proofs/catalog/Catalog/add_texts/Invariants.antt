@@ -1,0 +1,6 @@
+use Rattle.std.proofs.Common.{take}
+use Rattle.sq_catalog.specs.Catalog.{Gains, declared_tables}
+use Rattle.sq_catalog.proofs.catalog.Catalog.add_texts.Given as goal
+
+abbrev pub invariant-loop-number : goal.invariant-loop-number
+invariant-loop-number l = Gains l.fn.self l.self (declared_tables (take l.number l.texts))
