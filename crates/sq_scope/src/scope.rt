@@ -253,7 +253,7 @@ impl<'a> Environment<'a> {
 
     /// In a query of this scope.
     pub fn within<'s>(&'s self, scope: Scope<'s>) -> Environment<'s>
-        ensures scopes { scopes_in result ≡ scopes_of scope }
+        ensures scopes { scopes_in result ≡ scopes_of scope.entry }
         ensures parameters { result.parameters.now ≡ self.now.parameters.now }
         ensures user { result.user ≡ self.now.user }
     {
