@@ -2,10 +2,10 @@
 //! 13.1 to 13.5, 14.3 and 14.4). What a call may do to the tables and cursors, and what it answers, stands in
 //! `specs/Step.antt`, with the rules of FETCH in `specs/Fetch.antt` and those of targets in `specs/Target.antt`.
 //!
-//! Cursors, parameters, tables and columns that a bound statement names are there: the procedures of a session fit its catalog,
-//! and its tables have rows for the base tables. A statement could, as far as its type says, still set a parameter of texts
-//! from a number, or other than as many targets as a row has values. Such a statement ends with 42000. That binding makes
-//! none is not proved.
+//! Cursors, targets, base tables and columns of them that a bound statement names are there: the procedures of a session fit
+//! its catalog, and its tables have rows for the base tables. A statement could still set a parameter of texts from a number, or
+//! other than as many targets as a row has values, or go by a parameter that is no number. Such a statement ends with 42000.
+//! That binding makes none is not proved.
 #![tactic(auto)]
 
 mod call;
