@@ -5,3 +5,4 @@ pub mod Names
 pub mod Parameter
 pub mod Query
 pub mod SetFunction
+pub mod WellFormed

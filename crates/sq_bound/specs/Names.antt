@@ -1,6 +1,8 @@
--- Positions of columns.
-use Rattle.std.specs.Prelude.{ℕ, nat_lt, Bool, true, List, Option, None, Some}
+-- Positions and kinds of columns.
+use Rattle.std.specs.Prelude.{ℕ, zero, suc, nat_eq, nat_lt, Bool, true, false, List, [], ◌∷◌, Option, None, Some}
 use Rattle.std.specs.List.{list_all}
+use Rattle.sq_value.specs.declared.domain.Kind.{Kind}
+use Rattle.sq_value.specs.declared.domain.Kind.TheVariants.{Num, Chars, Vary}
 
 -- positions of so many columns
 abbrev pub are_positions : ℕ → List ℕ → Bool
@@ -10,3 +12,15 @@ are_positions columns places = list_all (λ p. nat_lt p columns) places
 abbrev pub option_all : {A : Type 0} → (A → Bool) → Option A → Bool
 option_all test None = true
 option_all test (Some x) = test x
+
+abbrev pub same_kind : Kind → Kind → Bool
+same_kind (Num s) (Num t) = nat_eq s t
+same_kind (Chars m) (Chars n) = nat_eq m n
+same_kind (Vary m) (Vary n) = nat_eq m n
+same_kind _ _ = false
+
+-- the kind stands at this position
+abbrev pub is_kind_at : List Kind → ℕ → Kind → Bool
+is_kind_at [] position k = false
+is_kind_at (l ∷ kinds) zero k = same_kind l k
+is_kind_at (l ∷ kinds) (suc position) k = is_kind_at kinds position k

@@ -1,9 +1,9 @@
 //! What names mean: tables and views, privileges, cursors and parameters.
 
-ghost use Rattle.std.specs.Prelude.{◌≡◌, ◌≤◌, ◌<◌, nat_lt, length, true, IfSome, List};
+ghost use Rattle.std.specs.Prelude.{◌≡◌, ◌≤◌, ◌<◌, nat_lt, length, map, true, IfSome, List};
 ghost use Rattle.std.specs.List.{list_all};
-ghost use Rattle.sq_value.specs.Domain.{IsDomain};
-ghost use Rattle.sq_bound.specs.Names.{are_positions, option_all};
+ghost use Rattle.sq_value.specs.Domain.{IsDomain, kind_of};
+ghost use Rattle.sq_bound.specs.Names.{are_positions, is_kind_at, option_all};
 ghost use Rattle.sq_bound.specs.Parameter.{IsDomain-prop};
 
 use crate::condition::{BoundCond, BoundSpecification, TablePlace};
@@ -27,8 +27,12 @@ pub enum Action {
 pub trait Names {
     ghost use Rattle.sq_bound.specs.declared.names.BaseTable.{BaseTable};
     ghost use Rattle.sq_bound.specs.Fits.{IsOver, all_refer};
+    ghost use Rattle.sq_bound.specs.WellFormed.{IsTable, TableKinds};
 
     ghost base_tables: { Self → List BaseTable };
+
+    /// The kinds of the columns of each table and view.
+    ghost column_kinds: { Self → TableKinds };
 
     /// The base tables, each at its place in the store.
     fn bases(&self) -> &[Shared<BaseTable>]
@@ -36,11 +40,13 @@ pub trait Names {
 
     /// The base table or view of this owner and name.
     fn table(&self, user: Name, name: Name) -> Option<&TableDesc>
-        ensures { IfSome result (λ t. IsOver (base_tables self.now) t.now) };
+        ensures over { IfSome result (λ t. IsOver (base_tables self.now) t.now) }
+        ensures well_formed { IfSome result (λ t. IsTable (column_kinds self.now) t.now) };
 
     /// The base table or view at this place.
     fn at(&self, place: TablePlace) -> Option<&TableDesc>
-        ensures { IfSome result (λ t. IsOver (base_tables self.now) t.now) };
+        ensures over { IfSome result (λ t. IsOver (base_tables self.now) t.now) }
+        ensures well_formed { IfSome result (λ t. IsTable (column_kinds self.now) t.now) };
 
     /// Whether the user holds the action on the table of this owner and name, or on the column at a position of it.
     fn may(&self, user: Name, action: Action, table: (Name, Name), column: Option<usize>) -> bool;
@@ -59,14 +65,20 @@ pub trait Names {
 
 /// The cursors of a module.
 pub trait Cursors {
-    ghost use Rattle.std.specs.Prelude.{ℕ};
+    ghost use Rattle.std.specs.Prelude.{ℕ, Some, slice_get};
+    ghost use Rattle.sq_value.specs.declared.domain.Kind.{Kind as AnyKind};
+    ghost use Rattle.sq_bound.specs.WellFormed.{kinds_of_results};
 
     /// How many cursors all modules have.
     ghost cursor_count: { Self → ℕ };
 
+    /// The kinds of each cursor's columns.
+    ghost cursor_kinds: { Self → List (List AnyKind) };
+
     /// The cursor of this name, where there is one and its query has no fault.
     fn cursor(&self, name: Name) -> Option<KnownCursor<'_>>
-        ensures { IfSome result (λ known. known.number < cursor_count self.now) };
+        ensures number { IfSome result (λ known. known.number < cursor_count self.now) }
+        ensures columns { IfSome result (λ known. slice_get (cursor_kinds self.now) known.number ≡ Some (kinds_of_results known.cursor.now.columns)) };
 }
 
 /// A cursor's number in its module, and the cursor.
@@ -94,6 +106,7 @@ pub struct TableDesc {
     /// For a base table and an updatable view, the rows under it.
     pub leaf: Option<Shared<Leaf>>,
     ghost leaf_columns: { option_all (λ l. list_all (λ c. nat_lt c.leaf_column (length l.table.columns)) columns) leaf ≡ true },
+    ghost leaf_kinds: { option_all (λ l. list_all (λ c. is_kind_at (map (λ own. kind_of own.domain) l.table.columns) c.leaf_column c.kind) columns) leaf ≡ true },
 }
 
 /// A column, as a query sees it.
@@ -201,8 +214,12 @@ impl BaseTable {
 }
 
 impl TableDesc {
+    ghost use Rattle.sq_bound.specs.WellFormed.{place_of};
+
     /// Where the table stands.
-    pub fn place(&self) -> TablePlace {
+    pub fn place(&self) -> TablePlace
+        ensures { result ≡ place_of self.now.body }
+    {
         match &self.body {
             TableBody::Base(table) => TablePlace::Base(table.get().place),
             TableBody::View(view) => TablePlace::View(view.place),

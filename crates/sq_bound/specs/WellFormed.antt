@@ -1,0 +1,219 @@
+-- Which bound trees are well formed (ISO/IEC 9075:1992, 6.3 to 6.5, 6.11, 7.3 to 7.11, clauses 8 and 13): their trees by
+-- place are, and what is known of their columns beforehand is what the definitions give.
+use Rattle.std.specs.Prelude.{⊤, ◌≡◌, ◌⊎◌, ℕ, nat_eq, if◌then◌else◌, IsTrue, List, [], ◌∷◌, ◌++◌, map, slice_get, Option, None, Some, IfSome, Ok}
+use Rattle.std.specs.List.{AllByRecursion, AllZip}
+use Rattle.sq_value.specs.Domain.{kind_of}
+use Rattle.sq_value.specs.declared.domain.Kind.{Kind}
+use Rattle.sq_value.specs.declared.domain.Kind.TheVariants.{Num}
+use Rattle.sq_value.specs.declared.value.Value.TheVariants.{Null}
+use Rattle.sq_meaning.specs.Status.{Outcome, well_formed, not_well_formed}
+use Rattle.sq_meaning.specs.Environment.{Row}
+use Rattle.sq_meaning.specs.Kind.{kind, select_kinds, query_kinds}
+use Rattle.sq_meaning.specs.Placed.{Placed, by_place}
+use Rattle.sq_meaning.specs.WellFormed.{Has, Level, froms, of_lines, is_comparable, MayStand, WellFormedCond, WellFormedSelect, WellFormedQuery, kinds_by_place, IsDeclaredAt}
+use Rattle.sq_bound.specs.Condition.{PlacedCond, cond_of, select_of}
+use Rattle.sq_bound.specs.Expression.{PlacedExpr, expr_of}
+use Rattle.sq_bound.specs.Fits.{IsOver, under}
+use Rattle.sq_bound.specs.Query.{query_of}
+use Rattle.sq_bound.specs.SetFunction.{call_of}
+use Rattle.sq_bound.specs.declared.condition.BoundCond.{BoundCond}
+use Rattle.sq_bound.specs.declared.condition.BoundSpecification.{BoundSpecification, out-BoundSpecification}
+use Rattle.sq_bound.specs.declared.condition.ResultColumn.{ResultColumn}
+use Rattle.sq_bound.specs.declared.condition.TablePlace.{TablePlace}
+use Rattle.sq_bound.specs.declared.condition.TablePlace.TheVariants.{Base, View}
+use Rattle.sq_bound.specs.declared.expression.BoundExpr.{BoundExpr}
+use Rattle.sq_bound.specs.declared.expression.BoundExpr.TheVariants.{Literal}
+use Rattle.sq_bound.specs.declared.expression.SetFunctionCall.{SetFunctionCall}
+use Rattle.sq_bound.specs.declared.names.BaseTable.{BaseTable}
+use Rattle.sq_bound.specs.declared.names.Column.{Column}
+use Rattle.sq_bound.specs.declared.names.Leaf.{Leaf}
+use Rattle.sq_bound.specs.declared.names.ObjectColumn.{ObjectColumn}
+use Rattle.sq_bound.specs.declared.names.ParameterDesc.{ParameterDesc}
+use Rattle.sq_bound.specs.declared.names.TableBody.{TableBody}
+use Rattle.sq_bound.specs.declared.names.TableBody.TheVariants as body
+use Rattle.sq_bound.specs.declared.names.TableDesc.{TableDesc}
+use Rattle.sq_bound.specs.declared.query.BoundCursor.{BoundCursor}
+use Rattle.sq_bound.specs.declared.query.BoundQuery.{BoundQuery, out-BoundQuery}
+use Rattle.sq_bound.specs.declared.query.CursorBody.{CursorBody}
+use Rattle.sq_bound.specs.declared.query.CursorBody.TheVariants as cursor
+use Rattle.sq_bound.specs.declared.query.Target.{Target}
+use Rattle.sq_bound.specs.declared.query.UpdatableQuery.{UpdatableQuery}
+use Rattle.sq_bound.specs.declared.statement.BoundAssignment.{BoundAssignment}
+use Rattle.sq_bound.specs.declared.statement.BoundFetch.{BoundFetch}
+use Rattle.sq_bound.specs.declared.statement.BoundStatement.{BoundStatement}
+use Rattle.sq_bound.specs.declared.statement.BoundStatement.TheVariants as statement
+use Rattle.sq_bound.specs.declared.statement.ChangeTarget.{ChangeTarget}
+use Rattle.sq_bound.specs.declared.statement.ChangeTarget.TheVariants as target
+use Rattle.sq_bound.specs.declared.statement.Distance.{Distance}
+use Rattle.sq_bound.specs.declared.statement.Distance.TheVariants as distance
+use Rattle.sq_bound.specs.declared.statement.FetchOrientation.{FetchOrientation}
+use Rattle.sq_bound.specs.declared.statement.FetchOrientation.TheVariants as orientation
+use Rattle.sq_bound.specs.declared.statement.InsertedRows.{InsertedRows}
+use Rattle.sq_bound.specs.declared.statement.InsertedRows.TheVariants as inserted
+use Rattle.sq_bound.specs.declared.statement.Output.{Output}
+
+-- ---- what is known of tables and parameters
+
+-- the kinds of the columns of each table and view that is there
+abbrev pub TableKinds : Type 0
+TableKinds = TablePlace → Outcome (List Kind)
+
+-- a base table alone is there
+abbrev pub only : ℕ → List Kind → TableKinds
+only place kinds (Base n) = if nat_eq n place then Ok kinds else not_well_formed
+only place kinds (View n) = not_well_formed
+
+-- what is there is still there
+abbrev pub Extends : TableKinds → TableKinds → Type 0
+Extends before after = (t : TablePlace) (kinds : List Kind) → before t ≡ Ok kinds → after t ≡ Ok kinds
+
+-- the queries around, from the nearest outward
+abbrev pub Levels : Type 0
+Levels = List (Level (Placed TablePlace))
+
+abbrev pub kinds_of_columns : List Column → List Kind
+kinds_of_columns columns = map (λ c. c.kind) columns
+
+abbrev pub kinds_of_results : List ResultColumn → List Kind
+kinds_of_results columns = map (λ c. c.kind) columns
+
+abbrev pub kinds_of_parameters : List ParameterDesc → List Kind
+kinds_of_parameters parameters = map (λ p. kind_of p.domain) parameters
+
+abbrev pub base_kinds : BaseTable → List Kind
+base_kinds b = map (λ c. kind_of c.domain) b.columns
+
+-- where a row of a base table alone is in scope
+abbrev pub of_base_at : ℕ → Levels
+of_base_at place = of_lines (Base place ∷ []) ∷ []
+
+abbrev pub of_base : BaseTable → Levels
+of_base b = of_base_at b.place
+
+-- ---- expressions, conditions and queries, whatever rows the tables have
+
+-- A bound expression of a kind: its tree, where the query has these set functions and maybe more behind them, has the
+-- kind, and may stand at these levels.
+pub record IsExpr (columns : TableKinds) (parameters : List Kind) (levels : Levels) (calls : List SetFunctionCall) (k : Kind) (e : BoundExpr) : Type 0 where
+  pub tree : PlacedExpr
+  pub is_tree : (later : List SetFunctionCall) → expr_of (map call_of (calls ++ later)) e ≡ tree
+  pub kind_is : kind (kinds_by_place columns parameters) (froms levels) tree ≡ Ok k
+  pub stands : (rows_of : TablePlace → Outcome (List Row)) → MayStand (by_place rows_of) (kinds_by_place columns parameters) (IsDeclaredAt parameters) levels tree
+
+-- a bound search condition, likewise
+pub record IsCond (columns : TableKinds) (parameters : List Kind) (levels : Levels) (calls : List SetFunctionCall) (c : BoundCond) : Type 0 where
+  pub tree : PlacedCond
+  pub is_tree : (later : List SetFunctionCall) → cond_of (map call_of (calls ++ later)) c ≡ tree
+  pub stands : (rows_of : TablePlace → Outcome (List Row)) → WellFormedCond (by_place rows_of) (kinds_by_place columns parameters) (IsDeclaredAt parameters) levels tree
+
+-- a bound query specification, whose columns are known beforehand
+pub record IsSelect (columns : TableKinds) (parameters : List Kind) (levels : Levels) (q : BoundSpecification) : Type 0 where
+  pub stands : (rows_of : TablePlace → Outcome (List Row)) → WellFormedSelect (by_place rows_of) (kinds_by_place columns parameters) (IsDeclaredAt parameters) levels (select_of q)
+  pub kinds_are : select_kinds (kinds_by_place columns parameters) (froms levels) (select_of q) ≡ Ok (kinds_of_results (out-BoundSpecification q).columns)
+
+-- a bound query expression, likewise
+pub record IsQuery (columns : TableKinds) (parameters : List Kind) (q : BoundQuery) : Type 0 where
+  pub stands : (rows_of : TablePlace → Outcome (List Row)) → WellFormedQuery (by_place rows_of) (kinds_by_place columns parameters) (IsDeclaredAt parameters) (query_of q)
+  pub kinds_are : query_kinds (kinds_by_place columns parameters) (query_of q) ≡ Ok (kinds_of_results (out-BoundQuery q).columns)
+
+-- ---- tables
+
+abbrev pub place_of : TableBody → TablePlace
+place_of (body.Base b) = Base b.place
+place_of (body.View v) = View v.place
+
+-- a condition on a row of a base table, without parameters
+abbrev pub IsCondOn : TableKinds → BaseTable → BoundCond → Type 0
+IsCondOn columns b = IsCond columns [] (of_base b) []
+
+-- the conditions of the views over a base table, and its own checks
+pub record IsLeaf (columns : TableKinds) (l : Leaf) : Type 0 where
+  pub kinds_are : columns (Base l.table.place) ≡ Ok (base_kinds l.table)
+  pub conditions : AllByRecursion (IsCondOn columns l.table) l.conditions
+  pub checks : AllByRecursion (IsCondOn columns l.table) l.table.checks
+
+abbrev pub IsBody : TableKinds → TableBody → Type 0
+IsBody columns (body.Base b) = ⊤
+IsBody columns (body.View v) = IsSelect columns [] [] v.query
+
+-- a base table or a view: its columns, what is under it, and the query of a view
+pub record IsTable (columns : TableKinds) (t : TableDesc) : Type 0 where
+  pub kinds_are : columns (place_of t.body) ≡ Ok (kinds_of_columns t.columns)
+  pub leaf : IfSome t.leaf (IsLeaf columns)
+  pub body : IsBody columns t.body
+
+-- ---- cursors and views
+
+-- a target over a base table
+pub record IsTarget (columns : TableKinds) (parameters : List Kind) (t : Target) : Type 0 where
+  pub leaf : IsLeaf columns t.leaf
+  pub condition : IfSome t.condition (IsCond columns parameters (of_base t.leaf.table) [])
+
+-- an updatable query, whose columns have these kinds
+abbrev pub IsUpdatable : TableKinds → List Kind → List Kind → UpdatableQuery → Type 0
+IsUpdatable columns parameters kinds u = IsTarget columns parameters u.target × AllZip (λ p k. slice_get (base_kinds u.target.leaf.table) p ≡ Some k) u.columns kinds
+
+abbrev pub IsCursorBody : TableKinds → List Kind → List Kind → CursorBody → Type 0
+IsCursorBody columns parameters kinds (cursor.Rows q order) = IsQuery columns parameters q × (kinds ≡ kinds_of_results (out-BoundQuery q).columns)
+IsCursorBody columns parameters kinds (cursor.Updatable u) = IsUpdatable columns parameters kinds u
+
+-- a cursor that a procedure with these parameters opens
+abbrev pub IsCursor : TableKinds → List Kind → BoundCursor → Type 0
+IsCursor columns parameters c = IsCursorBody columns parameters (kinds_of_results c.columns) c.body
+
+-- ---- statements
+
+-- a target gets values of a kind: its parameter is of numbers where they are, and its indicator parameter is of whole
+-- numbers (9.1)
+abbrev pub TakesKind : List Kind → Output → Kind → Type 0
+TakesKind parameters o k = Has (λ p. IsTrue (is_comparable p k)) (well_formed (slice_get parameters o.parameter)) × IfSome o.indicator (λ i. slice_get parameters i ≡ Some (Num 0))
+
+-- as many targets as there are columns, one for each
+abbrev pub TakeKinds : List Kind → List Output → List Kind → Type 0
+TakeKinds parameters = AllZip (TakesKind parameters)
+
+-- a value of this kind may be stored in the column (9.2)
+abbrev pub MayStore : ObjectColumn → Kind → Type 0
+MayStore c k = IsTrue (is_comparable k (kind_of c.domain))
+
+-- what a column gets: NULL, or the value of an expression that may be stored there (13.8, 13.9)
+abbrev pub IsNewValue : TableKinds → List Kind → Levels → ObjectColumn → BoundExpr → Type 0
+IsNewValue columns parameters levels c e = (e ≡ Literal Null) ⊎ ((k : Kind) × IsExpr columns parameters levels [] k e × MayStore c k)
+
+-- the column of a base table at its position
+abbrev pub IsColumnOf : BaseTable → ObjectColumn → Type 0
+IsColumnOf b c = slice_get (map (λ column. column.domain) b.columns) c.position ≡ Some c.domain
+
+abbrev pub IsSource : TableKinds → List Kind → List ObjectColumn → InsertedRows → Type 0
+IsSource columns parameters objects (inserted.Values es) = AllZip (IsNewValue columns parameters []) objects es
+IsSource columns parameters objects (inserted.Query q) = IsSelect columns parameters [] q × AllZip MayStore objects (kinds_of_results (out-BoundSpecification q).columns)
+
+-- the conditions on the rows that are changed
+abbrev pub IsChangeTarget : TableKinds → List Kind → ChangeTarget → Type 0
+IsChangeTarget columns parameters (target.Searched t) = IsTarget columns parameters t
+IsChangeTarget columns parameters (target.Positioned p) = IsLeaf columns p.leaf
+
+abbrev pub IsAssignment : TableKinds → List Kind → BaseTable → BoundAssignment → Type 0
+IsAssignment columns parameters b a = IsColumnOf b a.column × IsNewValue columns parameters (of_base b) a.column a.value
+
+-- the number of an orientation is a whole one (13.3)
+abbrev pub IsDistance : List Kind → Distance → Type 0
+IsDistance parameters (distance.Number n) = ⊤
+IsDistance parameters (distance.Parameter p) = slice_get parameters p ≡ Some (Num 0)
+
+abbrev pub IsOrientation : List Kind → FetchOrientation → Type 0
+IsOrientation parameters (orientation.Absolute d) = IsDistance parameters d
+IsOrientation parameters (orientation.Relative d) = IsDistance parameters d
+IsOrientation parameters _ = ⊤
+
+-- a statement of a procedure with these parameters, where the cursors have columns of these kinds
+abbrev pub IsStatement : TableKinds → List (List Kind) → List Kind → BoundStatement → Type 0
+IsStatement columns cursors parameters (statement.Open n) = ⊤
+IsStatement columns cursors parameters (statement.Fetch f) = IsOrientation parameters f.orientation × Has (TakeKinds parameters f.outputs) (well_formed (slice_get cursors f.cursor))
+IsStatement columns cursors parameters (statement.Close n) = ⊤
+IsStatement columns cursors parameters (statement.Select s) = IsSelect columns parameters [] s.query × TakeKinds parameters s.outputs (kinds_of_results (out-BoundSpecification s.query).columns)
+IsStatement columns cursors parameters (statement.Insert i) = IsLeaf columns i.leaf × AllByRecursion (IsColumnOf i.leaf.table) i.columns × IsSource columns parameters i.columns i.source
+IsStatement columns cursors parameters (statement.Update u) = IsChangeTarget columns parameters u.target × AllByRecursion (IsAssignment columns parameters (under u.target).table) u.assignments
+IsStatement columns cursors parameters (statement.Delete t) = IsChangeTarget columns parameters t
+IsStatement columns cursors parameters statement.Commit = ⊤
+IsStatement columns cursors parameters statement.Rollback = ⊤
