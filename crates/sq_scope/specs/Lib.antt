@@ -1,3 +1,4 @@
 pub mod Expression
 pub mod Kinds
 pub mod Scope
+pub mod WellFormed

@@ -16,6 +16,7 @@ ghost use Rattle.sq_value.specs.declared.value.Value.TheVariants as value;
 ghost use Rattle.sq_value.specs.declared.domain.Kind.TheVariants as kind;
 ghost use Rattle.sq_scope.specs.Expression.{Adds, Grows, IsBound, IsOperation, IsSigned, IsTree, IsTreeAmong, IsTypedOperation, column_kind, indicator_named, parameter_kind, parameter_named, placed_column, placed_parameter, product_operator, sum_operator, with_sign};
 ghost use Rattle.sq_scope.specs.Scope.{scopes_in};
+ghost use Rattle.sq_scope.specs.WellFormed.{IsTyped};
 ghost use Rattle.sq_scope.specs.declared.expression.Typed.{Typed as TypedExpr};
 ghost use Rattle.sq_value.specs.Number.{Number as Read};
 
@@ -92,6 +93,7 @@ pub fn bind_expr(
     functions: &mut SetFunctions,
 ) -> ExprResult
     ensures bound { IfOk result (λ found. IsBound (scopes_in environment.now) environment.now.parameters.now functions.new.calls (spelled_expr expr.now) found.part) }
+    ensures typed { IfOk result (λ found. IsTyped environment.now functions.old.allowed found.findings.has_ungrouped functions.new.calls found.part) }
     ensures grows { Grows functions.old functions.new }
 {
     let mut findings = Findings::NONE;

@@ -222,9 +222,12 @@ fn is_at(place: &Place, item: usize, column: usize) -> bool {
 }
 
 impl<'a> Environment<'a> {
+    ghost use Rattle.sq_scope.specs.WellFormed.{groupings_in, groupings_of};
+
     /// Outside all queries.
     pub fn new(alloc: Global, user: Name, parameters: &'a [ParameterDesc]) -> Environment<'a>
         ensures scopes { scopes_in result ≡ [] }
+        ensures groupings { groupings_in result ≡ [] }
         ensures parameters { result.parameters.now ≡ parameters.now }
         ensures user { result.user ≡ user }
     {
@@ -242,7 +245,8 @@ impl<'a> Environment<'a> {
         items: &'s [FromItem],
         grouping: Option<&'s [Place]>,
     ) -> Scope<'s>
-        ensures { scopes_of result ≡ items.now ∷ scopes_in self.now }
+        ensures scopes { scopes_of result ≡ items.now ∷ scopes_in self.now }
+        ensures groupings { groupings_of result ≡ grouping.entry ∷ groupings_in self.now }
     {
         Scope {
             items,
@@ -254,6 +258,7 @@ impl<'a> Environment<'a> {
     /// In a query of this scope.
     pub fn within<'s>(&'s self, scope: Scope<'s>) -> Environment<'s>
         ensures scopes { scopes_in result ≡ scopes_of scope.entry }
+        ensures groupings { groupings_in result ≡ groupings_of scope.entry }
         ensures parameters { result.parameters.now ≡ self.now.parameters.now }
         ensures user { result.user ≡ self.now.user }
     {
