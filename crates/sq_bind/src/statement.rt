@@ -2,6 +2,7 @@
 
 ghost use Rattle.std.specs.Prelude.{◌≡◌, ◌<◌, [], length, refl, true, IfOk, IfSome};
 ghost use Rattle.sq_bound.specs.Fits.{FitsCursor, FitsQuery, FitsStatement, are_parameters};
+ghost use Rattle.sq_bound.specs.WellFormed.{IsCond, IsCursor, IsSelect, IsStatement, IsUpdatable, kinds_of_columns, kinds_of_parameters, kinds_of_results, of_base_at, only};
 ghost use Rattle.sq_bound.specs.declared.statement.BoundStatement.TheVariants.{Delete, Insert, Update};
 
 use crate::change::{bind_delete, bind_insert, bind_update};
@@ -10,13 +11,13 @@ use crate::query::cursor_of;
 use crate::updatable::bind_updatable;
 use sq_bound::{
     Action, BaseTable, BindFault, BoundCond, BoundCursor, BoundFetch, BoundInsert, BoundSelect,
-    BoundSpecification, BoundStatement, BoundUpdate, ChangeTarget, Cursors, Distance,
+    BoundSpecification, BoundStatement, BoundUpdate, ChangeTarget, Column, Cursors, Distance,
     FetchOrientation, KnownCursor, Names, ParameterDesc, Shared, TableDesc, TablePlace,
     UpdatableQuery,
 };
 use sq_lex::Name;
 use sq_scope::{
-    Environment, Found, SetFunctions, both, is_whole, item_over, kept, parameter_of, signed_value,
+    Environment, Found, FromItem, SetFunctions, both, is_whole, item_of, kept, parameter_of, signed_value,
 };
 use sq_select::{SubqueryNumbers, bind_cond, bind_select};
 use sq_tree::{
@@ -36,6 +37,7 @@ pub fn bind_cursor<N: Names>(
     cursor: &Cursor,
 ) -> Result<BoundCursor, BindFault>
     ensures fits { IfOk result (FitsCursor (N.base_tables names.now)) }
+    ensures well_formed { IfOk result (IsCursor (N.column_kinds names.now) (kinds_of_parameters parameters.now)) }
 {
     let environment = Environment::new(alloc, user, parameters);
     cursor_of(cursor, names, &environment, &mut SubqueryNumbers::new())
@@ -61,6 +63,8 @@ pub fn bind_view<N: Names>(
     query: &QuerySpecification,
 ) -> Result<BoundView, BindFault>
     ensures fits { IfOk result (λ view. IfSome view.updatable (λ over. FitsQuery (N.base_tables names.now) over.1)) }
+    ensures well_formed { IfOk result (λ view. IsSelect (N.column_kinds names.now) [] [] view.query) }
+    ensures updatable { IfOk result (λ view. IfSome view.updatable (λ over. IsUpdatable (N.column_kinds names.now) [] (kinds_of_results view.query.columns) over.1)) }
 {
     let environment = Environment::new(alloc, user, &[]);
     let mut numbers = SubqueryNumbers::new();
@@ -91,12 +95,18 @@ fn granted(lacks_privilege: bool) -> Result<(), BindFault> {
     }
 }
 
-/// The names of a CHECK condition, which may name no table.
+/// What a CHECK condition may name: no table, but the columns of the table that is being defined.
 #[derive(Clone, Copy)]
-struct NoNames;
+struct OwnColumns<'a> {
+    /// The place that the table will have.
+    place: usize,
+    columns: &'a [Column],
+}
 
-impl Names for NoNames {
+impl Names for OwnColumns<'_> {
     ghost base_tables = { λ _. [] };
+
+    ghost column_kinds = { λ own. only own.place (kinds_of_columns own.columns.now) };
 
     ghost references = { λ _. refl };
 
@@ -133,22 +143,43 @@ impl Names for NoNames {
     }
 }
 
-/// A CHECK condition on the rows of a table (11.9), without subqueries, USER and parameters.
-pub fn bind_check(alloc: Global, table: &TableDesc, cond: &Cond) -> Result<BoundCond, BindFault> {
-    let environment = Environment::new(alloc, table.user, &[]);
-    let item = item_over(alloc, table, None, true)?;
-    let scope = environment.scope_over(from_ref(&item), None);
-    let mut functions = SetFunctions::forbidden(alloc);
+/// A CHECK condition on the rows of a base table of this owner and name with these columns (11.9), without subqueries, USER
+/// and parameters. `place` is the place that the table will have.
+pub fn bind_check(
+    alloc: Global,
+    (user, name): (Name, Name),
+    place: usize,
+    columns: &[Column],
+    cond: &Cond,
+) -> Result<BoundCond, BindFault>
+    ensures well_formed { IfOk result (IsCond (only place (kinds_of_columns columns.now)) [] (of_base_at place) []) }
+{
+    let environment = Environment::new(alloc, user, &[]);
+    let item = item_of(alloc, (user, name), columns, None, false)?;
+    let own = OwnColumns { place, columns };
+    let bound = checked_over(cond, &own, &item, &environment);
+    drop(item);
+    bound
+}
+
+/// A CHECK condition on the rows that an item shows.
+fn checked_over<'s>(
+    cond: &Cond,
+    own: &OwnColumns<'_>,
+    item: &'s FromItem,
+    environment: &'s Environment<'s>,
+) -> Result<BoundCond, BindFault> {
+    let scope = environment.scope_over(from_ref(item), None);
+    let mut functions = SetFunctions::forbidden(environment.alloc);
     let mut numbers = SubqueryNumbers::new();
     let bound = bind_cond(
         cond,
-        &NoNames,
+        own,
         &environment.within(scope),
         &mut functions,
         &mut numbers,
     );
     drop(functions);
-    drop(item);
     checked(bound)
 }
 
@@ -171,6 +202,7 @@ pub fn bind_statement<N: Names, C: Cursors>(
     statement: &Statement,
 ) -> Result<BoundStatement, BindFault>
     ensures fits { IfOk result (FitsStatement (N.base_tables names.now) (C.cursor_count cursors.now) (length parameters.now)) }
+    ensures well_formed { IfOk result (IsStatement (N.column_kinds names.now) (C.cursor_kinds cursors.now) (kinds_of_parameters parameters.now)) }
 {
     let environment = Environment::new(alloc, user, parameters);
     let mut numbers = SubqueryNumbers::new();

@@ -235,7 +235,9 @@ impl TableDesc {
     }
 
     /// Its owner and its name.
-    pub fn full_name(&self) -> (Name, Name) {
+    pub fn full_name(&self) -> (Name, Name)
+        ensures { result ≡ (self.now.user, self.now.name) }
+    {
         (self.user, self.name)
     }
 

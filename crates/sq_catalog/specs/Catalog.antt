@@ -1,5 +1,6 @@
 -- What a catalog defines, and what schema texts declare (ISO/IEC 9075:1992, 11.1 and 11.3).
-use Rattle.std.specs.Prelude.{◌≡◌, ℕ, ◌+◌, Bool, true, ◌&&◌, List, [], ◌∷◌, ◌++◌, length, flat_map, Option, unwrap_or, nat_eq, position}
+use Rattle.std.specs.Prelude.{◌≡◌, ℕ, ◌+◌, Bool, true, ◌&&◌, List, [], ◌∷◌, ◌++◌, length, flat_map, Option, unwrap_or, nat_eq, position, slice_get}
+use Rattle.std.specs.Option.{option_map}
 use Rattle.std.specs.Cmp.Lexicographic.{pointwise}
 use Rattle.sq_lex.specs.declared.name.Name.{Name}
 use Rattle.sq_tree.specs.declared.names.TableName.{TableName}
@@ -7,15 +8,26 @@ use Rattle.sq_tree.specs.declared.schema.SchemaDefinition.{SchemaDefinition}
 use Rattle.sq_tree.specs.declared.schema.SchemaElement.{SchemaElement}
 use Rattle.sq_tree.specs.declared.schema.SchemaElement.TheVariants as element
 use Rattle.sq_tree.specs.declared.schema.SchemaText.{SchemaText}
+use Rattle.sq_value.specs.declared.domain.Kind.{Kind}
+use Rattle.sq_meaning.specs.Status.{well_formed}
 use Rattle.sq_bound.specs.Fits.{all_refer}
+use Rattle.sq_bound.specs.WellFormed.{TableKinds, base_kinds}
+use Rattle.sq_bound.specs.declared.condition.TablePlace.TheVariants.{Base, View}
 use Rattle.sq_bound.specs.declared.names.BaseTable.{BaseTable}
 use Rattle.sq_catalog.specs.declared.catalog.FullName.{FullName}
 
--- the base tables' names and the base tables, each at its place, with references to keys of base tables alone
+-- the base tables' names and the base tables, each at its place, with references to keys of base tables alone; and the kinds
+-- of each view's columns
 pub record Catalog : Type 0 where
   pub tables : List FullName
   pub bases : List BaseTable
+  pub views : List (List Kind)
   pub refer : all_refer bases ≡ true
+
+-- the kinds of the columns of each table and view
+abbrev pub column_kinds : Catalog → TableKinds
+column_kinds c (Base n) = well_formed (option_map base_kinds (slice_get c.bases n))
+column_kinds c (View n) = well_formed (slice_get c.views n)
 
 abbrev pub is_table : Name → Name → FullName → Bool
 is_table user name t = pointwise nat_eq user t.user && pointwise nat_eq name t.name

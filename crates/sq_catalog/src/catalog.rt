@@ -5,7 +5,7 @@ ghost use Rattle.std.specs.Map.{keys_of};
 ghost use Rattle.sq_store.specs.Keys.{keys_of as keys_given};
 ghost use Rattle.sq_bound.specs.Fits.{all_refer, keys_of_bases};
 ghost use Rattle.sq_bound.specs.declared.names.BaseTable.{BaseTable as Base};
-ghost use Rattle.sq_catalog.specs.Catalog.{Gains, declared_tables, named_by, schema_tables, table_in, table_number, text_tables};
+ghost use Rattle.sq_catalog.specs.Catalog.{Gains, column_kinds, declared_tables, named_by, schema_tables, table_in, table_number, text_tables};
 ghost use Rattle.sq_catalog.specs.Fault.{IsOfSomeText, IsOfText};
 ghost use Rattle.sq_catalog.specs.Stored.{AreStored, IsNext, IsStored};
 
@@ -53,6 +53,7 @@ pub struct Catalog {
 impl Model for Catalog {
     ghost use Rattle.std.specs.Coded.{codes};
     ghost use Rattle.std.specs.Map.{keys_of};
+    ghost use Rattle.sq_bound.specs.WellFormed.{kinds_of_columns};
     ghost use Rattle.sq_bound.specs.contracts.condition.BoundCond as condition;
     ghost use Rattle.sq_bound.specs.contracts.condition.Predicate as predicate;
     ghost use Rattle.sq_bound.specs.contracts.expression.BoundExpr as expression;
@@ -65,7 +66,7 @@ impl Model for Catalog {
 
     ghost coded = { Prim.hlevel (codes, base.the_row.coded, column.the_row.coded, condition.the_row.coded, predicate.the_row.coded, expression.the_row.coded) };
 
-    ghost view = { λ c. record { tables = keys_of c.bases.entries; bases = c.base_tables.items; refer = c.refer } };
+    ghost view = { λ c. record { tables = keys_of c.bases.entries; bases = c.base_tables.items; views = map (λ e. kinds_of_columns e.1.columns) c.views.entries; refer = c.refer } };
 
     ghost invariant = { λ c. AreStored c.base_tables.items c.bases.entries × AreStored c.base_tables.items c.views.entries };
 }
@@ -358,6 +359,8 @@ fn key_columns(alloc: Global, keys: &[Items<usize>]) -> Result<Vec<Vec<usize>>, 
 
 impl Names for Catalog {
     ghost base_tables = { λ c. c.bases };
+
+    ghost column_kinds = { column_kinds };
 
     ghost references = { λ c. c.refer };
 

@@ -187,7 +187,7 @@ impl Catalog {
             keys: &draft.keys,
         };
         let bound = bound_references(self, user, own, draft.references.as_slice());
-        let parts = base_parts(self.alloc(), name, columns, draft);
+        let parts = base_parts(self.alloc(), name, own.before.len(), columns, draft);
         let (bound, parts) = both(bound, parts)?;
         Ok(assembled(own.before.len(), draft.keys.primary, bound, parts))
     }
@@ -221,13 +221,14 @@ struct BaseParts {
 fn base_parts(
     alloc: Global,
     name: &FullName,
+    place: usize,
     columns: &[Column],
     draft: &Draft<'_>,
 ) -> Result<BaseParts, ElementFault>
     ensures columns { IfOk result (λ parts. length parts.columns ≡ vec_len draft.now.written.columns) }
     ensures keys { IfOk result (λ parts. parts.keys ≡ draft.now.keys.columns) }
 {
-    let checks = bound_checks(alloc, name, columns, draft.written.checks.as_slice());
+    let checks = bound_checks(alloc, name, place, columns, draft.written.checks.as_slice());
     let held = base_columns(alloc, draft.written.columns.as_slice());
     let (checks, columns) = both(checks, held)?;
     let keys = copied_keys(alloc, draft.keys.columns.as_slice());
@@ -395,23 +396,13 @@ fn fits_kind(value: &Value, domain: Domain) -> bool
 fn bound_checks(
     alloc: Global,
     name: &FullName,
+    place: usize,
     columns: &[Column],
-    checks: &[&Cond],
-) -> Result<Items<BoundCond>, ElementFault> {
-    let table = columns_only(alloc, name, columns)?;
-    let bound = bound_conds(alloc, &table, checks);
-    drop(table);
-    bound
-}
-
-fn bound_conds(
-    alloc: Global,
-    table: &TableDesc,
     checks: &[&Cond],
 ) -> Result<Items<BoundCond>, ElementFault> {
     let mut bound = Ok(Items::new(alloc));
     for check in checks {
-        let cond = match bind_check(alloc, table, check) {
+        let cond = match bind_check(alloc, (name.user, name.name), place, columns, check) {
             Ok(cond) => Ok(cond),
             Err(fault) => Err(refused_as(fault, RefusalName::BadCheck)),
         };
@@ -431,36 +422,6 @@ fn with_item<T: Drop>(
         Err(_) => Err(ElementFault::NoMemory),
     };
     kept(list, pushed)
-}
-
-/// A table of which nothing but the columns is known yet.
-fn columns_only(
-    alloc: Global,
-    name: &FullName,
-    columns: &[Column],
-) -> Result<TableDesc, ElementFault> {
-    let (columns, base) = both(Items::from_slice(alloc, columns), empty_base(alloc))?;
-    Ok(TableDesc {
-        user: name.user,
-        name: name.name,
-        columns,
-        body: TableBody::Base(base),
-        leaf: None,
-    })
-}
-
-fn empty_base(alloc: Global) -> Result<Shared<BaseTable>, AllocError> {
-    Shared::new(
-        alloc,
-        BaseTable {
-            place: 0,
-            columns: Items::new(alloc),
-            keys: Items::new(alloc),
-            primary_key: None,
-            references: Items::new(alloc),
-            checks: Items::new(alloc),
-        },
-    )
 }
 
 fn copied_keys(alloc: Global, keys: &[Items<usize>]) -> Result<Items<Items<usize>>, ElementFault>

@@ -1,6 +1,6 @@
 //! The procedures and cursors of all modules, with their names as places.
 
-ghost use Rattle.std.specs.Prelude.{◌≡◌, [], IfOk, IfSome, List, Ok, OnOk, length};
+ghost use Rattle.std.specs.Prelude.{◌≡◌, [], IfOk, IfSome, List, Ok, OnOk, length, map};
 ghost use Rattle.std.specs.Map.{keys_of};
 ghost use Rattle.indexmap.specs.IndexMap.{insert_entry};
 ghost use Rattle.indexmap.specs.IndexSet.{insert_key};
@@ -59,7 +59,11 @@ struct ModuleCursors<'a> {
 }
 
 impl<'a> Cursors for ModuleCursors<'a> {
+    ghost use Rattle.sq_bound.specs.WellFormed.{kinds_of_results};
+
     ghost cursor_count = { λ c. length c.cursors.now };
+
+    ghost cursor_kinds = { λ c. map (λ declared. kinds_of_results declared.cursor.columns) c.cursors.now };
 
     fn cursor(&self, name: Name) -> Option<KnownCursor<'_>> {
         let number = self.numbers.get(&name).copied()?;

@@ -68,15 +68,35 @@ pub fn item_over(
     ensures named { IfOk result (λ item. (item.user ≡ table.now.user) × (item.name ≡ table.now.name) × (item.correlation ≡ correlation)) }
     ensures columns { IfOk result (λ item. item.columns ≡ columns_over at_leaf table.now.columns) }
 {
-    let mut columns = Items::new(alloc);
-    for (position, column) in table.columns.as_slice().iter().enumerate() {
-        columns.push(column_over(at_leaf, position, column))?;
+    item_of(
+        alloc,
+        table.full_name(),
+        table.columns.as_slice(),
+        correlation,
+        at_leaf,
+    )
+}
+
+/// An item over a table of this owner and name with these columns.
+pub fn item_of(
+    alloc: Global,
+    (user, name): (Name, Name),
+    columns: &[Column],
+    correlation: Option<Name>,
+    at_leaf: bool,
+) -> Result<FromItem, BindFault>
+    ensures named { IfOk result (λ item. (item.user ≡ user) × (item.name ≡ name) × (item.correlation ≡ correlation)) }
+    ensures columns { IfOk result (λ item. item.columns ≡ columns_over at_leaf columns.now) }
+{
+    let mut placed = Items::new(alloc);
+    for (position, column) in columns.iter().enumerate() {
+        placed.push(column_over(at_leaf, position, column))?;
     }
     Ok(FromItem {
-        user: table.user,
-        name: table.name,
+        user,
+        name,
         correlation,
-        columns,
+        columns: placed,
     })
 }
 

@@ -1,5 +1,9 @@
 //! Search conditions and query specifications (ISO/IEC 9075:1992, 7.3 to 7.9, 7.11, 8.12).
 
+ghost use Rattle.std.specs.Prelude.{IfOk};
+ghost use Rattle.sq_scope.specs.Expression.{Grows};
+ghost use Rattle.sq_select.specs.WellFormed.{IsCondIn, IsSelectIn};
+
 use crate::number::SubqueryNumbers;
 use crate::predicate::{
     PredicateResult, SubqueryResult, between, compared, compared_query, exists, in_list, in_query,
@@ -71,7 +75,10 @@ pub fn bind_cond<N: Names>(
     environment: &Environment<'_>,
     functions: &mut SetFunctions,
     numbers: &mut SubqueryNumbers,
-) -> CondResult {
+) -> CondResult
+    ensures well_formed { IfOk result (λ found. IsCondIn (N.column_kinds names.now) environment.now functions.old.allowed found.findings.has_ungrouped functions.new.calls found.part) }
+    ensures grows { Grows functions.old functions.new }
+{
     let first = bind_conj(&cond.first, names, environment, functions, numbers);
     let mut terms = gathered(none(environment.alloc), first);
     for conj in cond.rest.as_slice() {
@@ -245,7 +252,9 @@ pub fn bind_select<N: Names>(
     names: &N,
     environment: &Environment<'_>,
     numbers: &mut SubqueryNumbers,
-) -> SubqueryResult {
+) -> SubqueryResult
+    ensures well_formed { IfOk result (λ found. IsSelectIn (N.column_kinds names.now) environment.now found.part) }
+{
     let FromClause {
         items,
         tables,

@@ -2,6 +2,7 @@
 
 ghost use Rattle.std.specs.Prelude.{IfOk};
 ghost use Rattle.sq_bound.specs.Fits.{IsOver};
+ghost use Rattle.sq_bound.specs.WellFormed.{IsTable};
 
 use crate::predicate::SubqueryResult;
 use sq_bound::{
@@ -39,7 +40,8 @@ pub fn named_table<N: Names>(
     user: Name,
     written: TableName,
 ) -> Result<&TableDesc, BindFault>
-    ensures { IfOk result (λ table. IsOver (N.base_tables names.now) table.now) }
+    ensures over { IfOk result (λ table. IsOver (N.base_tables names.now) table.now) }
+    ensures well_formed { IfOk result (λ table. IsTable (N.column_kinds names.now) table.now) }
 {
     let owner = match written.schema {
         Some(owner) => owner,
