@@ -147,15 +147,16 @@ impl Names for OwnColumns<'_> {
 /// and parameters. `place` is the place that the table will have.
 pub fn bind_check(
     alloc: Global,
-    (user, name): (Name, Name),
+    table: (Name, Name),
     place: usize,
     columns: &[Column],
     cond: &Cond,
 ) -> Result<BoundCond, BindFault>
     ensures well_formed { IfOk result (IsCond (only place (kinds_of_columns columns.now)) [] (of_base_at place) []) }
 {
+    let (user, _) = table;
     let environment = Environment::new(alloc, user, &[]);
-    let item = item_of(alloc, (user, name), columns, None, false)?;
+    let item = item_of(alloc, table, columns, None, false)?;
     let own = OwnColumns { place, columns };
     let bound = checked_over(cond, &own, &item, &environment);
     drop(item);

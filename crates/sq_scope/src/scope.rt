@@ -80,18 +80,19 @@ pub fn item_over(
 /// An item over a table of this owner and name with these columns.
 pub fn item_of(
     alloc: Global,
-    (user, name): (Name, Name),
+    table: (Name, Name),
     columns: &[Column],
     correlation: Option<Name>,
     at_leaf: bool,
 ) -> Result<FromItem, BindFault>
-    ensures named { IfOk result (λ item. (item.user ≡ user) × (item.name ≡ name) × (item.correlation ≡ correlation)) }
+    ensures named { IfOk result (λ item. (item.user ≡ table.0) × (item.name ≡ table.1) × (item.correlation ≡ correlation)) }
     ensures columns { IfOk result (λ item. item.columns ≡ columns_over at_leaf columns.now) }
 {
     let mut placed = Items::new(alloc);
     for (position, column) in columns.iter().enumerate() {
         placed.push(column_over(at_leaf, position, column))?;
     }
+    let (user, name) = table;
     Ok(FromItem {
         user,
         name,
