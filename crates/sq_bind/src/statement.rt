@@ -2,7 +2,7 @@
 
 ghost use Rattle.std.specs.Prelude.{◌≡◌, ◌<◌, [], length, refl, true, IfOk, IfSome};
 ghost use Rattle.sq_bound.specs.Fits.{FitsCursor, FitsQuery, FitsStatement, are_parameters};
-ghost use Rattle.sq_bound.specs.WellFormed.{IsCond, IsCursor, IsSelect, IsStatement, IsUpdatable, kinds_of_columns, kinds_of_parameters, kinds_of_results, of_base_at, only};
+ghost use Rattle.sq_bound.specs.WellFormed.{IsCond, IsCursor, IsSelect, IsStatement, IsUpdatable, kinds_of_columns, kinds_of_parameters, kinds_of_select, of_base_at, only};
 ghost use Rattle.sq_bound.specs.declared.statement.BoundStatement.TheVariants.{Delete, Insert, Update};
 
 use crate::change::{bind_delete, bind_insert, bind_update};
@@ -64,7 +64,7 @@ pub fn bind_view<N: Names>(
 ) -> Result<BoundView, BindFault>
     ensures fits { IfOk result (λ view. IfSome view.updatable (λ over. FitsQuery (N.base_tables names.now) over.1)) }
     ensures well_formed { IfOk result (λ view. IsSelect (N.column_kinds names.now) [] [] view.query) }
-    ensures updatable { IfOk result (λ view. IfSome view.updatable (λ over. IsUpdatable (N.column_kinds names.now) [] (kinds_of_results view.query.columns) over.1)) }
+    ensures updatable { IfOk result (λ view. IfSome view.updatable (λ over. IsUpdatable (N.column_kinds names.now) [] (kinds_of_select view.query) over.1)) }
 {
     let environment = Environment::new(alloc, user, &[]);
     let mut numbers = SubqueryNumbers::new();

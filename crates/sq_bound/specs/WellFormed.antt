@@ -77,6 +77,12 @@ kinds_of_columns columns = map (λ c. c.kind) columns
 abbrev pub kinds_of_results : List ResultColumn → List Kind
 kinds_of_results columns = map (λ c. c.kind) columns
 
+abbrev pub kinds_of_select : BoundSpecification → List Kind
+kinds_of_select q = kinds_of_results (out-BoundSpecification q).columns
+
+abbrev pub kinds_of_query : BoundQuery → List Kind
+kinds_of_query q = kinds_of_results (out-BoundQuery q).columns
+
 abbrev pub kinds_of_parameters : List ParameterDesc → List Kind
 kinds_of_parameters parameters = map (λ p. kind_of p.domain) parameters
 
@@ -109,12 +115,12 @@ pub record IsCond (columns : TableKinds) (parameters : List Kind) (levels : Leve
 -- a bound query specification, whose columns are known beforehand
 pub record IsSelect (columns : TableKinds) (parameters : List Kind) (levels : Levels) (q : BoundSpecification) : Type 0 where
   pub stands : (rows_of : TablePlace → Outcome (List Row)) → WellFormedSelect (by_place rows_of) (kinds_by_place columns parameters) (IsDeclaredAt parameters) levels (select_of q)
-  pub kinds_are : select_kinds (kinds_by_place columns parameters) (froms levels) (select_of q) ≡ Ok (kinds_of_results (out-BoundSpecification q).columns)
+  pub kinds_are : select_kinds (kinds_by_place columns parameters) (froms levels) (select_of q) ≡ Ok (kinds_of_select q)
 
 -- a bound query expression, likewise
 pub record IsQuery (columns : TableKinds) (parameters : List Kind) (q : BoundQuery) : Type 0 where
   pub stands : (rows_of : TablePlace → Outcome (List Row)) → WellFormedQuery (by_place rows_of) (kinds_by_place columns parameters) (IsDeclaredAt parameters) (query_of q)
-  pub kinds_are : query_kinds (kinds_by_place columns parameters) (query_of q) ≡ Ok (kinds_of_results (out-BoundQuery q).columns)
+  pub kinds_are : query_kinds (kinds_by_place columns parameters) (query_of q) ≡ Ok (kinds_of_query q)
 
 -- ---- tables
 
@@ -154,7 +160,7 @@ abbrev pub IsUpdatable : TableKinds → List Kind → List Kind → UpdatableQue
 IsUpdatable columns parameters kinds u = IsTarget columns parameters u.target × AllZip (λ p k. slice_get (base_kinds u.target.leaf.table) p ≡ Some k) u.columns kinds
 
 abbrev pub IsCursorBody : TableKinds → List Kind → List Kind → CursorBody → Type 0
-IsCursorBody columns parameters kinds (cursor.Rows q order) = IsQuery columns parameters q × (kinds ≡ kinds_of_results (out-BoundQuery q).columns)
+IsCursorBody columns parameters kinds (cursor.Rows q order) = IsQuery columns parameters q × (kinds ≡ kinds_of_query q)
 IsCursorBody columns parameters kinds (cursor.Updatable u) = IsUpdatable columns parameters kinds u
 
 -- a cursor that a procedure with these parameters opens
@@ -186,7 +192,7 @@ IsColumnOf b c = slice_get (map (λ column. column.domain) b.columns) c.position
 
 abbrev pub IsSource : TableKinds → List Kind → List ObjectColumn → InsertedRows → Type 0
 IsSource columns parameters objects (inserted.Values es) = AllZip (IsNewValue columns parameters []) objects es
-IsSource columns parameters objects (inserted.Query q) = IsSelect columns parameters [] q × AllZip MayStore objects (kinds_of_results (out-BoundSpecification q).columns)
+IsSource columns parameters objects (inserted.Query q) = IsSelect columns parameters [] q × AllZip MayStore objects (kinds_of_select q)
 
 -- the conditions on the rows that are changed
 abbrev pub IsChangeTarget : TableKinds → List Kind → ChangeTarget → Type 0
@@ -211,7 +217,7 @@ abbrev pub IsStatement : TableKinds → List (List Kind) → List Kind → Bound
 IsStatement columns cursors parameters (statement.Open n) = ⊤
 IsStatement columns cursors parameters (statement.Fetch f) = IsOrientation parameters f.orientation × Has (TakeKinds parameters f.outputs) (well_formed (slice_get cursors f.cursor))
 IsStatement columns cursors parameters (statement.Close n) = ⊤
-IsStatement columns cursors parameters (statement.Select s) = IsSelect columns parameters [] s.query × TakeKinds parameters s.outputs (kinds_of_results (out-BoundSpecification s.query).columns)
+IsStatement columns cursors parameters (statement.Select s) = IsSelect columns parameters [] s.query × TakeKinds parameters s.outputs (kinds_of_select s.query)
 IsStatement columns cursors parameters (statement.Insert i) = IsLeaf columns i.leaf × AllByRecursion (IsColumnOf i.leaf.table) i.columns × IsSource columns parameters i.columns i.source
 IsStatement columns cursors parameters (statement.Update u) = IsChangeTarget columns parameters u.target × AllByRecursion (IsAssignment columns parameters (under u.target).table) u.assignments
 IsStatement columns cursors parameters (statement.Delete t) = IsChangeTarget columns parameters t
