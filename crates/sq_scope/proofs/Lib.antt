@@ -4,3 +4,4 @@ pub mod Literals
 pub mod Meanings
 pub mod Operations
 pub mod Scopes
+pub mod Typings
