@@ -1,5 +1,5 @@
 -- Bound expressions, part by part.
-use Rattle.std.proofs.Common.{◌≡◌, ℕ, suc, ◌<◌, ◌≤◌, get_or, take, take_all, ◌+◌, Bool, false, List, [], ◌∷◌, ◌++◌, length, map, Option, None, Some, Ok, Err, arith, refl, sym, ap, subst, ◌∙◌, append_assoc, append-nil, zero-add}
+use Rattle.std.proofs.Common.{◌≡◌, ℕ, ◌<◌, ◌≤◌, get_or, take, take_all, ◌+◌, Bool, List, [], ◌∷◌, ◌++◌, length, map, Option, Some, Ok, Err, refl, sym, ap, subst, ◌∙◌, append_assoc, append-nil, zero-add}
 use Rattle.std.proofs.lemmas.List.{map-append, take_more}
 use Rattle.std.specs.Prelude.{IfOk, Result, fold, slice_index_or}
 use Rattle.std.specs.Option.{option_map}
@@ -10,7 +10,6 @@ use Rattle.sq_value.specs.Spelling.{read}
 use Rattle.sq_value.specs.declared.domain.Domain.{Domain}
 use Rattle.sq_value.specs.declared.domain.Kind.{Kind}
 use Rattle.sq_value.specs.declared.domain.Kind.TheVariants as kinds
-use Rattle.sq_value.specs.declared.value.Value.{Value}
 use Rattle.sq_value.specs.declared.value.Value.TheVariants as value
 use Rattle.sq_tree.specs.declared.names.ColumnReference.{ColumnReference}
 use Rattle.sq_tree.specs.declared.names.Parameter.{Parameter}
@@ -25,7 +24,7 @@ use Rattle.sq_tree.specs.declared.expr.Expr.{Expr as SpelledExpr, out-Expr, roll
 use Rattle.sq_tree.specs.declared.expr.Term.{Term, out-Term, roll-out-Term}
 use Rattle.sq_tree.specs.declared.expr.Added.{Added, out-Added, roll-out-Added}
 use Rattle.sq_tree.specs.declared.expr.Scaled.{Scaled}
-use Rattle.sq_meaning.specs.Environment.{Place, place_of}
+use Rattle.sq_meaning.specs.Environment.{Place}
 use Rattle.sq_meaning.specs.Kind.{function_kind, kind, product_kind, signed_kind, sum_kind}
 use Rattle.sq_meaning.specs.Placed.{PlacedParameter}
 use Rattle.sq_meaning.specs.Spelled.{Named, added_of, expr_of as spelled_expr, factor_of, is_distinct_word, number_of, primary_of, scaled_of, term_of, zero_number}
@@ -43,7 +42,7 @@ use Rattle.sq_bound.specs.declared.fault.BindFault.{BindFault}
 use Rattle.sq_bound.specs.declared.names.ParameterDesc.{ParameterDesc}
 use Rattle.sq_scope.specs.Expression.{Adds, Grows, IsBound, IsSigned, IsTree, IsTreeAmong, IsTypedOperation, column_kind, indicator_named, kinds_in, parameter_kind, parameter_named, placed, placed_column, placed_parameter, product_operator, sum_operator, with_sign}
 use Rattle.sq_scope.specs.Kinds.{operated_kind}
-use Rattle.sq_scope.specs.Scope.{Means, column_at, heads_of, scopes_in}
+use Rattle.sq_scope.specs.Scope.{Means, column_at, scopes_in}
 use Rattle.sq_scope.specs.WellFormed.{IsColumn}
 use Rattle.sq_scope.specs.declared.scope.Environment.{Environment}
 use Rattle.sq_scope.specs.declared.scope.FoundColumn.{FoundColumn}

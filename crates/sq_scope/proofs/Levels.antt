@@ -1,21 +1,20 @@
 -- Scopes at levels: the items of FROM over their tables, and what column references read there.
-use Rattle.std.proofs.Common.{◌≡◌, ℕ, zero, suc, ◌+◌, Bool, true, false, not, List, [], ◌∷◌, map, Option, Some, None, Ok, Err, arith, refl, sym, ap, subst, ◌∙◌, add-zero, inl, inr}
+use Rattle.std.proofs.Common.{◌≡◌, ℕ, zero, suc, ◌+◌, Bool, true, false, not, List, [], ◌∷◌, map, Option, Some, Ok, Err, arith, refl, sym, ap, subst, ◌∙◌, add-zero, inl, inr}
 use Rattle.std.proofs.lemmas.Bool.{eqb-true}
-use Rattle.std.specs.Prelude.{⊤, ◌&&◌, ◌||◌, IsFalse, IsTrue, nat_eq, slice_get}
+use Rattle.std.specs.Prelude.{◌&&◌, ◌||◌, IsTrue, nat_eq, slice_get}
 use Rattle.std.specs.List.{AllByRecursion, AllZip, enumerate_from, list_all}
 use Rattle.std.specs.Option.{option_and_then}
 use Rattle.sq_value.specs.declared.domain.Kind.{Kind}
 use Rattle.sq_value.specs.declared.domain.Kind.TheVariants.{Num, Chars, Vary}
 use Rattle.sq_meaning.specs.Environment.{Place}
-use Rattle.sq_meaning.specs.Placed.{Placed}
 use Rattle.sq_meaning.specs.Status.{Outcome, and_then, well_formed}
-use Rattle.sq_meaning.specs.WellFormed.{Has, HasLine, IsInQuery, froms, inside_function, kind_there}
+use Rattle.sq_meaning.specs.WellFormed.{Has, HasLine, froms, inside_function, kind_there}
 use Rattle.sq_bound.specs.Names.{is_kind_at, same_kind}
 use Rattle.sq_bound.specs.WellFormed.{Levels, TableKinds, kinds_of_columns}
 use Rattle.sq_bound.specs.declared.condition.TablePlace.{TablePlace}
 use Rattle.sq_bound.specs.declared.names.Column.{Column}
 use Rattle.sq_scope.specs.Scope.{column_at, column_over, columns_over}
-use Rattle.sq_scope.specs.WellFormed.{AllowsAt, AreLevels, Grouped, IsItemOver, IsLevel, IsRead, allows_none, may_read}
+use Rattle.sq_scope.specs.WellFormed.{AllowsAt, AreLevels, Grouped, IsItemOver, IsRead, allows_none, may_read}
 use Rattle.sq_scope.specs.declared.scope.FromItem.{FromItem}
 use Rattle.sq_scope.specs.declared.scope.ItemColumn.{ItemColumn}
 

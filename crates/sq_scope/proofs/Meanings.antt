@@ -1,15 +1,15 @@
 -- What references mean, scope by scope.
-use Rattle.std.proofs.Common.{◌≡◌, ℕ, zero, suc, ◌+◌, add-zero, Bool, true, List, [], ◌∷◌, map, Option, Some, None, Ok, arith, refl, sym, ap, subst, ◌∙◌, Bor}
+use Rattle.std.proofs.Common.{◌≡◌, ℕ, zero, suc, ◌+◌, add-zero, true, List, [], ◌∷◌, Option, Some, None, arith, refl, sym, ap, subst, ◌∙◌, Bor}
 use Rattle.std.specs.Prelude.{IsFalse, slice_get}
 use Rattle.std.specs.Option.{option_map, option_and_then}
 use denote.Hole.Carrier.{out}
 use Rattle.sq_tree.specs.declared.names.ColumnReference.{ColumnReference}
-use Rattle.sq_meaning.specs.Environment.{Item, Place, fitting, nearest, place_of}
+use Rattle.sq_meaning.specs.Environment.{nearest, place_of}
 use Rattle.sq_scope.specs.declared.scope.FromItem.{FromItem}
 use Rattle.sq_scope.specs.declared.scope.ItemColumn.{ItemColumn}
 use Rattle.sq_scope.specs.declared.scope.FoundColumn.{FoundColumn}
 use Rattle.sq_scope.specs.declared.scope.Scope.{Scope, Scope', None', Some', out-Scope}
-use Rattle.sq_scope.specs.Scope.{FitsOnly, Means, column_at, column_numbered, fits, heads_of, items_in, items_meant, scopes_of}
+use Rattle.sq_scope.specs.Scope.{FitsOnly, Means, fits, heads_of, items_in, scopes_of}
 use Rattle.sq_scope.specs.WellFormed.{AllowsAt, Grouped, IsGroupedIn, allows_none, grouping_of, groupings_of}
 
 -- ---- the column of a scope

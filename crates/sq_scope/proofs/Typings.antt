@@ -1,7 +1,7 @@
 -- Bound expressions at the levels at which they stand, part by part: their kinds by place, and that they may stand there.
-use Rattle.std.proofs.Common.{◌≡◌, ℕ, zero, suc, ◌+◌, Bool, true, false, List, [], ◌∷◌, ◌++◌, length, map, Option, Some, None, Ok, Err, refl, sym, ap, subst, ◌∙◌, zero-add}
+use Rattle.std.proofs.Common.{◌≡◌, ℕ, Bool, true, false, List, [], ◌∷◌, ◌++◌, length, map, Option, Some, None, Ok, Err, refl, sym, ap, subst, ◌∙◌, zero-add}
 use Rattle.std.proofs.lemmas.Option.{slice_get-map}
-use Rattle.std.specs.Prelude.{⊤, IfOk, IsTrue, Result, slice_get}
+use Rattle.std.specs.Prelude.{IfOk, Result, slice_get}
 use Rattle.std.specs.List.{position}
 use Rattle.std.specs.Option.{option_and_then, option_map}
 use Rattle.sq_lex.specs.declared.name.Name.{Name}
@@ -21,9 +21,9 @@ use Rattle.sq_tree.specs.declared.names.Parameter.{Parameter}
 use Rattle.sq_tree.specs.declared.names.Indicator.{Indicator}
 use Rattle.sq_meaning.specs.Environment.{Place, Row, same_name}
 use Rattle.sq_meaning.specs.Kind.{function_kind, kind, signed_kind, sum_kind, product_kind}
-use Rattle.sq_meaning.specs.Placed.{Placed, PlacedParameter, by_place}
+use Rattle.sq_meaning.specs.Placed.{PlacedParameter, by_place}
 use Rattle.sq_meaning.specs.Status.{Outcome, and_then, each, well_formed}
-use Rattle.sq_meaning.specs.Syntax.{literal, parameter, user, column, count_rows, set_function, signed, added, scaled}
+use Rattle.sq_meaning.specs.Syntax.{literal, parameter, user, column, count_rows, set_function}
 use Rattle.sq_meaning.specs.WellFormed.{Has, HasLine, HasValue, IsDeclaredAt, IsInQuery, IsThere, MayStand, froms, inside_function, kind_there, kinds_by_place}
 use Rattle.sq_meaning.proofs.OutcomeLaws.{each_value}
 use Rattle.sq_bound.specs.Expression.{PlacedExpr, expr_of, operated, place_meant}
@@ -38,11 +38,10 @@ use Rattle.sq_bound.specs.declared.fault.BindFault.{BindFault}
 use Rattle.sq_bound.specs.declared.names.ParameterDesc.{ParameterDesc}
 use Rattle.sq_scope.specs.Expression.{Adds, IsSigned, IsTree, IsTreeAmong, IsTypedOperation, indicator_named, parameter_kind, parameter_named, placed_parameter, with_sign}
 use Rattle.sq_scope.specs.Kinds.{operated_kind}
-use Rattle.sq_scope.specs.Scope.{Means, scopes_in}
+use Rattle.sq_scope.specs.Scope.{scopes_in}
 use Rattle.sq_scope.specs.WellFormed.{IsColumn, IsRead, IsTyped, MayStandAt, groupings_in}
 use Rattle.sq_scope.specs.declared.expression.Typed.{Typed}
 use Rattle.sq_scope.specs.declared.scope.Environment.{Environment}
-use Rattle.sq_scope.specs.declared.scope.ItemColumn.{ItemColumn}
 use Rattle.sq_scope.proofs.Bindings.{among_all, among_more}
 use Rattle.sq_scope.proofs.Levels.{inside_froms, inside_levels, inside_read, level_kind, line_read, may_read_less}
 
@@ -124,6 +123,7 @@ parameter_is parameters p q k e f = named (parameter_named parameters p.name) re
         subst (λ q. IsParameter (kinds_of_parameters parameters) q k) place
         (subst (λ k. IsParameter (kinds_of_parameters parameters) (placed_by at i) k) f
         (there, (has_value (slice_get (kinds_of_parameters parameters) at.0) (kind_of at.1) there, indicator_there parameters p.indicator i also)))
+
     named : (o : Outcome (ℕ × Domain)) → parameter_named parameters p.name ≡ o
         → and_then o (λ at. and_then (indicator_named parameters p.indicator) (λ i. Ok (placed_by at i))) ≡ Ok q → and_then o (λ at. Ok (kind_of at.1)) ≡ Ok k
         → IsParameter (kinds_of_parameters parameters) q k

@@ -1,5 +1,5 @@
 -- What bound expressions stand for: trees by place, and their kinds (ISO/IEC 9075:1992, 6.2 to 6.5, 6.11 to 6.13).
-use Rattle.std.specs.Prelude.{◌≡◌, ℕ, Bool, false, List, [], ◌∷◌, ◌++◌, map, slice_get, Option, None, Some, Ok}
+use Rattle.std.specs.Prelude.{◌≡◌, ℕ, false, List, [], ◌++◌, map, slice_get, Option, None, Some, Ok}
 use Rattle.std.specs.List.{position}
 use Rattle.std.specs.Option.{option_map, option_and_then}
 use Rattle.sq_lex.specs.declared.name.Name.{Name}

@@ -1,6 +1,5 @@
 -- What column references fit in the items of a scope (ISO/IEC 9075:1992, 6.3 and 6.4), by the definitions' items.
 use Rattle.std.specs.Prelude.{◌≡◌, ℕ, ◌+◌, Bool, List, [], ◌∷◌, map, slice_get, Option, Some, None, Result, Ok, Err, if◌then◌else◌}
-use Rattle.std.specs.Borrow.{Bor}
 use Rattle.std.specs.List.{enumerate_from}
 use Rattle.std.specs.Option.{option_map, option_and_then}
 use Rattle.sq_tree.specs.declared.names.ColumnReference.{ColumnReference}

@@ -1,8 +1,6 @@
-use Rattle.std.proofs.Common.{◌≡◌, ◌+◌, [], Some, None, Ok, Err, take, refl, sym, subst, ◌∙◌}
+use Rattle.std.proofs.Common.{◌≡◌, [], Ok, take, refl, sym, subst, ◌∙◌}
 use Rattle.std.specs.Prelude.{IfOk}
 use Rattle.sq_tree.specs.declared.expr.Added.{out-Added}
-use Rattle.sq_tree.specs.declared.expr.Expr.{out-Expr}
-use Rattle.sq_tree.specs.declared.expr.Term.{out-Term}
 use Rattle.sq_meaning.proofs.SpelledLevels.{factor_of-out, primary_of-Bracketed, primary_of-Column, primary_of-CountRows, primary_of-Number, primary_of-Parameter, primary_of-SetFunction, primary_of-Text, primary_of-User}
 use Rattle.sq_meaning.specs.Spelled.{expr_of, factor_of, is_distinct_word, number_of, primary_of, term_of, with_sign_if}
 use Rattle.sq_meaning.specs.Syntax.{bracketed, column, count_rows, literal, parameter, set_function, user}

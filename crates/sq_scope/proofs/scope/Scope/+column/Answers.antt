@@ -1,4 +1,4 @@
-use Rattle.std.proofs.Common.{◌≡◌, ◌+◌, subst, Ok, Err}
+use Rattle.std.proofs.Common.{subst, Ok, Err}
 use Rattle.std.specs.Prelude.{IfOk, Result}
 use Rattle.sq_bound.specs.declared.fault.BindFault.{BindFault}
 use Rattle.sq_scope.specs.Scope.{Means, scopes_of}
