@@ -1,7 +1,7 @@
 -- Bound expressions at the levels at which they stand, part by part: their kinds by place, and that they may stand there.
 use Rattle.std.proofs.Common.{◌≡◌, ℕ, Bool, true, false, List, [], ◌∷◌, ◌++◌, length, map, Option, Some, None, Ok, Err, refl, sym, ap, subst, ◌∙◌, zero-add}
 use Rattle.std.proofs.lemmas.Option.{slice_get-map}
-use Rattle.std.specs.Prelude.{IfOk, Result, slice_get}
+use Rattle.std.specs.Prelude.{IfOk, IsTrue, Result, slice_get}
 use Rattle.std.specs.List.{position}
 use Rattle.std.specs.Option.{option_and_then, option_map}
 use Rattle.sq_lex.specs.declared.name.Name.{Name}
@@ -38,20 +38,21 @@ use Rattle.sq_bound.specs.declared.fault.BindFault.{BindFault}
 use Rattle.sq_bound.specs.declared.names.ParameterDesc.{ParameterDesc}
 use Rattle.sq_scope.specs.Expression.{Adds, IsSigned, IsTree, IsTreeAmong, IsTypedOperation, indicator_named, parameter_kind, parameter_named, placed_parameter, with_sign}
 use Rattle.sq_scope.specs.Kinds.{operated_kind}
-use Rattle.sq_scope.specs.Scope.{scopes_in}
-use Rattle.sq_scope.specs.WellFormed.{IsColumn, IsRead, IsTyped, MayStandAt, groupings_in}
+use Rattle.sq_scope.specs.Scope.{Means, scopes_in}
+use Rattle.sq_scope.specs.WellFormed.{AreLevelsIn, IsColumn, IsRead, IsTyped, MayStandAt, groupings_in, may_read}
 use Rattle.sq_scope.specs.declared.expression.Typed.{Typed}
 use Rattle.sq_scope.specs.declared.scope.Environment.{Environment}
+use Rattle.sq_scope.specs.declared.scope.FoundColumn.{FoundColumn}
 use Rattle.sq_scope.proofs.Bindings.{among_all, among_more}
 use Rattle.sq_scope.proofs.Levels.{inside_froms, inside_levels, inside_read, level_kind, line_read, may_read_less}
 
 -- ---- trees by place
 
 -- a tree has a kind, and may stand
-abbrev HasKind : TableKinds → List Kind → Levels → PlacedExpr → Kind → Type 0
+abbrev pub HasKind : TableKinds → List Kind → Levels → PlacedExpr → Kind → Type 0
 HasKind columns parameters levels tree k = kind (kinds_by_place columns parameters) (froms levels) tree ≡ Ok k
 
-abbrev Stands : TableKinds → List Kind → Levels → PlacedExpr → Type 0
+abbrev pub Stands : TableKinds → List Kind → Levels → PlacedExpr → Type 0
 Stands columns parameters levels tree = (rows_of : TablePlace → Outcome (List Row)) → MayStand (by_place rows_of) (kinds_by_place columns parameters) (IsDeclaredAt parameters) levels tree
 
 -- ---- columns
@@ -197,7 +198,7 @@ module _ (columns : TableKinds) (parameters : List Kind) (levels : Levels) where
 -- ---- what is bound in an environment
 
 module _ (environment : Environment) where
-  abbrev parameters_in : List Kind
+  abbrev pub parameters_in : List Kind
   parameters_in = kinds_of_parameters environment.parameters.now
 
   -- where more may be read, and more set functions are there
@@ -245,23 +246,30 @@ module _ (environment : Environment) where
   count_typed allowed has_ungrouped calls (Err fault) t k a = t
   count_typed allowed has_ungrouped calls (Ok typed) t k a = leaf_typed allowed has_ungrouped calls count_rows typed t (λ columns levels s. (ap (λ k. Ok k) (sym k), λ rows_of. s.functions a))
 
+  -- a column that a reference means, where it may be read
+  pub column_at_levels : (columns : TableKinds) (levels : Levels) (has_ungrouped : Bool) (r : ColumnReference) (found : FoundColumn) → AreLevelsIn columns levels environment → IsTrue (may_read levels has_ungrouped)
+      → Means r (scopes_in environment) 0 found → IsRead (groupings_in environment) has_ungrouped found.place.depth
+      → HasKind columns parameters_in levels (column (place_meant found.place)) found.kind × Stands columns parameters_in levels (column (place_meant found.place))
+  column_at_levels columns levels has_ungrouped r found are reads m read =
+      let scopes = scopes_in environment in
+      let groupings = groupings_in environment in
+      let depth : m.at.depth ≡ found.place.depth = sym (zero-add m.at.depth) ∙ sym m.depth_is in
+      let place : ◌≡◌ {A = Place} (record { depth = m.at.depth; item = m.at.item; column = m.column.position }) (place_meant found.place) = (λ i. record { depth = depth i; item = sym m.item_is i; column = sym m.column_is i }) in
+      let known : kind_there columns (froms levels) (place_meant found.place) ≡ Ok m.column.kind =
+      subst (λ p. kind_there columns (froms levels) p ≡ Ok m.column.kind) place (level_kind columns levels scopes groupings m.at.depth m.at.item m.at.column m.column are m.there) in
+      let line : HasLine levels m.at.depth =
+      line_read columns levels scopes groupings m.at m.column has_ungrouped are m.there reads (subst (IsRead groupings has_ungrouped) (sym depth) read) in
+      (known ∙ ap (λ k. Ok k) (sym m.kind_is), column_stands columns parameters_in levels (place_meant found.place) (subst (HasLine levels) depth line))
+
   pub column_typed : (allowed has_ungrouped : Bool) (calls : List SetFunctionCall) (r : ColumnReference) (o : Result Typed BindFault) → IfOk o (IsColumn environment has_ungrouped r)
       → IfOk o (IsTyped environment allowed has_ungrouped calls)
   column_typed allowed has_ungrouped calls r (Err fault) h = h
-  column_typed allowed has_ungrouped calls r (Ok typed) h = leaf_typed allowed has_ungrouped calls (column (place_meant h.found.place)) typed (among_all calls (column (place_meant h.found.place)) typed.expr h.is_tree) stands
-    where
-      stands : (columns : TableKinds) (levels : Levels) → MayStandAt columns levels environment allowed has_ungrouped
-          → HasKind columns parameters_in levels (column (place_meant h.found.place)) typed.kind × Stands columns parameters_in levels (column (place_meant h.found.place))
-      stands columns levels s =
-          let m = h.means in
-          let depth : m.at.depth ≡ h.found.place.depth = sym (zero-add m.at.depth) ∙ sym m.depth_is in
-          let place : ◌≡◌ {A = Place} (record { depth = m.at.depth; item = m.at.item; column = m.column.position }) (place_meant h.found.place) = (λ i. record { depth = depth i; item = sym m.item_is i; column = sym m.column_is i }) in
-          let known : kind_there columns (froms levels) (place_meant h.found.place) ≡ Ok m.column.kind =
-          subst (λ p. kind_there columns (froms levels) p ≡ Ok m.column.kind) place
-          (level_kind columns levels (scopes_in environment) (groupings_in environment) m.at.depth m.at.item m.at.column m.column s.are_levels m.there) in
-          let line : HasLine levels m.at.depth =
-          line_read columns levels (scopes_in environment) (groupings_in environment) m.at m.column has_ungrouped s.are_levels m.there s.reads (subst (IsRead (groupings_in environment) has_ungrouped) (sym depth) h.is_read) in
-          (known ∙ ap (λ k. Ok k) (sym (h.kind_is ∙ m.kind_is)), column_stands columns parameters_in levels (place_meant h.found.place) (subst (HasLine levels) depth line))
+  column_typed allowed has_ungrouped calls r (Ok typed) h =
+      let tree : PlacedExpr = column (place_meant h.found.place) in
+      leaf_typed allowed has_ungrouped calls tree typed (among_all calls tree typed.expr h.is_tree)
+      (λ columns levels s.
+      let at = column_at_levels columns levels has_ungrouped r h.found s.are_levels s.reads h.means h.is_read in
+      (at.0 ∙ ap (λ k. Ok k) (sym h.kind_is), at.1))
 
   pub function_typed : (allowed inside has_ungrouped : Bool) (calls inner : List SetFunctionCall) (f : SetFunction) (distinct : Bool) (operand o : Result Typed BindFault) → inner ≡ []
       → IfOk operand (IsTyped environment false inside inner)
