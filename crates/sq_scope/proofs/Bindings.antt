@@ -1,5 +1,5 @@
 -- Bound expressions, part by part.
-use Rattle.std.proofs.Common.{◌≡◌, ℕ, suc, ◌<◌, ◌≤◌, get_or, take, take_all, ◌+◌, ◌-◌, ◌^◌, min, Bool, false, List, [], ◌∷◌, ◌++◌, length, map, Option, None, Some, Ok, Err, arith, refl, sym, ap, subst, ◌∙◌, append_assoc, append-nil, zero-add}
+use Rattle.std.proofs.Common.{◌≡◌, ℕ, ◌<◌, ◌≤◌, get_or, take, take_all, ◌+◌, Bool, List, [], ◌∷◌, ◌++◌, length, map, Option, Some, Ok, Err, refl, sym, ap, subst, ◌∙◌, append_assoc, append-nil, zero-add}
 use Rattle.std.proofs.lemmas.List.{map-append, take_more}
 use Rattle.std.specs.Prelude.{IfOk, Result, fold, slice_index_or}
 use Rattle.std.specs.Option.{option_map}
@@ -10,7 +10,6 @@ use Rattle.sq_value.specs.Spelling.{read}
 use Rattle.sq_value.specs.declared.domain.Domain.{Domain}
 use Rattle.sq_value.specs.declared.domain.Kind.{Kind}
 use Rattle.sq_value.specs.declared.domain.Kind.TheVariants as kinds
-use Rattle.sq_value.specs.declared.value.Value.{Value}
 use Rattle.sq_value.specs.declared.value.Value.TheVariants as value
 use Rattle.sq_tree.specs.declared.names.ColumnReference.{ColumnReference}
 use Rattle.sq_tree.specs.declared.names.Parameter.{Parameter}
@@ -25,7 +24,7 @@ use Rattle.sq_tree.specs.declared.expr.Expr.{Expr as SpelledExpr, out-Expr, roll
 use Rattle.sq_tree.specs.declared.expr.Term.{Term, out-Term, roll-out-Term}
 use Rattle.sq_tree.specs.declared.expr.Added.{Added, out-Added, roll-out-Added}
 use Rattle.sq_tree.specs.declared.expr.Scaled.{Scaled}
-use Rattle.sq_meaning.specs.Environment.{Place, place_of}
+use Rattle.sq_meaning.specs.Environment.{Place}
 use Rattle.sq_meaning.specs.Kind.{function_kind, kind, product_kind, signed_kind, sum_kind}
 use Rattle.sq_meaning.specs.Placed.{PlacedParameter}
 use Rattle.sq_meaning.specs.Spelled.{Named, added_of, expr_of as spelled_expr, factor_of, is_distinct_word, number_of, primary_of, scaled_of, term_of, zero_number}
@@ -43,7 +42,9 @@ use Rattle.sq_bound.specs.declared.fault.BindFault.{BindFault}
 use Rattle.sq_bound.specs.declared.names.ParameterDesc.{ParameterDesc}
 use Rattle.sq_scope.specs.Expression.{Adds, Grows, IsBound, IsSigned, IsTree, IsTreeAmong, IsTypedOperation, column_kind, indicator_named, kinds_in, parameter_kind, parameter_named, placed, placed_column, placed_parameter, product_operator, sum_operator, with_sign}
 use Rattle.sq_scope.specs.Kinds.{operated_kind}
-use Rattle.sq_scope.specs.Scope.{Means, column_at, heads_of}
+use Rattle.sq_scope.specs.Scope.{Means, column_at, scopes_in}
+use Rattle.sq_scope.specs.WellFormed.{IsColumn}
+use Rattle.sq_scope.specs.declared.scope.Environment.{Environment}
 use Rattle.sq_scope.specs.declared.scope.FoundColumn.{FoundColumn}
 use Rattle.sq_scope.specs.declared.scope.FromItem.{FromItem}
 use Rattle.sq_scope.specs.declared.scope.ItemColumn.{ItemColumn}
@@ -62,11 +63,11 @@ pub kind_is : (parameters : List ParameterDesc) (p : Parameter) (at : ℕ × Dom
 kind_is parameters p at e = ap (λ o. and_then o (λ at. Ok (kind_of at.1))) e
 
 abbrev at_position : Place → ItemColumn → Place
-at_position at c = record { depth = min at.depth (2 ^ 64 - 1); item = at.item; column = c.position }
+at_position at c = record { depth = at.depth; item = at.item; column = c.position }
 
 pub column_placed : (r : ColumnReference) (scopes : List (List FromItem)) (found : FoundColumn) → Means r scopes 0 found → placed_column scopes r ≡ Ok (place_meant found.place)
 column_placed r scopes found m =
-    let depth : min m.at.depth (2 ^ 64 - 1) ≡ found.place.depth = ap (λ d. min d (2 ^ 64 - 1)) (sym (zero-add m.at.depth)) ∙ sym m.depth_is in
+    let depth : m.at.depth ≡ found.place.depth = sym (zero-add m.at.depth) ∙ sym m.depth_is in
     let same : at_position m.at m.column ≡ place_meant found.place = (λ i. record { depth = depth i; item = sym m.item_is i; column = sym m.column_is i }) in
     ap (λ o. and_then o (λ at. well_formed (option_map (at_position at) (column_at scopes at)))) m.placed
     ∙ ap (λ o. well_formed (option_map (at_position m.at) o)) m.there
@@ -274,11 +275,12 @@ module _ (scopes : List (List FromItem)) (parameters : List ParameterDesc) where
   parameter_if calls p (Ok typed) (q, e, t, k) = bound_parameter calls p typed q e t k
   parameter_if calls p (Err fault) h = h
 
-  pub column_if : (calls : List SetFunctionCall) (r : ColumnReference) (o : Result Typed BindFault)
-      → IfOk o (λ typed. (q : Place) × (placed_column scopes r ≡ Ok q) × IsTree (λ functions. column q) typed.expr × (column_kind scopes r ≡ Ok typed.kind))
-      → IfOk o (Bound calls (column r))
-  column_if calls r (Ok typed) (q, e, t, k) = bound_column calls r typed q e t k
-  column_if calls r (Err fault) h = h
+  pub column_if : (calls : List SetFunctionCall) (environment : Environment) (has_ungrouped : Bool) (r : ColumnReference) (o : Result Typed BindFault) → scopes_in environment ≡ scopes
+      → IfOk o (IsColumn environment has_ungrouped r) → IfOk o (Bound calls (column r))
+  column_if calls environment has_ungrouped r (Ok typed) same c =
+      let means : Means r scopes 0 c.found = subst (λ around. Means r around 0 c.found) same c.means in
+      bound_column calls r typed (place_meant c.found.place) (column_placed r scopes c.found means) c.is_tree (column_kind_is r scopes c.found means ∙ ap (λ k. Ok k) (sym c.kind_is))
+  column_if calls environment has_ungrouped r (Err fault) same h = h
 
   pub count_if : (calls : List SetFunctionCall) (o : Result Typed BindFault) → IfOk o (λ typed. IsTreeAmong calls count_rows typed.expr) → IfOk o (λ typed. typed.kind ≡ kinds.Num 0) → IfOk o (Bound calls count_rows)
   count_if calls (Ok typed) t k = bound_count calls typed t k

@@ -1,5 +1,7 @@
 pub mod Bindings
+pub mod Levels
 pub mod Literals
 pub mod Meanings
 pub mod Operations
 pub mod Scopes
+pub mod Typings

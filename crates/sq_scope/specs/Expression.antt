@@ -1,5 +1,5 @@
 -- What bound expressions stand for: trees by place, and their kinds (ISO/IEC 9075:1992, 6.2 to 6.5, 6.11 to 6.13).
-use Rattle.std.specs.Prelude.{◌≡◌, ℕ, ◌-◌, ◌^◌, min, Bool, false, List, [], ◌∷◌, ◌++◌, map, slice_get, Option, None, Some, Ok}
+use Rattle.std.specs.Prelude.{◌≡◌, ℕ, false, List, [], ◌++◌, map, slice_get, Option, None, Some, Ok}
 use Rattle.std.specs.List.{position}
 use Rattle.std.specs.Option.{option_map, option_and_then}
 use Rattle.sq_lex.specs.declared.name.Name.{Name}
@@ -78,10 +78,9 @@ placed_parameter parameters p = parameter_named parameters p.name >>= λ at. ind
 abbrev pub parameter_kind : List ParameterDesc → Parameter → Outcome Kind
 parameter_kind parameters p = parameter_named parameters p.name >>= λ at. Ok (kind_of at.1)
 
--- the column that a reference means, at its position in the rows that are read. The depth is counted up to the greatest
--- number
+-- the column that a reference means, at its position in the rows that are read
 abbrev pub placed_column : List (List FromItem) → ColumnReference → Outcome Place
-placed_column scopes r = place_of r (heads_of scopes) >>= λ at. well_formed (option_map (λ c. record { depth = min at.depth (2 ^ 64 - 1); item = at.item; column = c.position }) (column_at scopes at))
+placed_column scopes r = place_of r (heads_of scopes) >>= λ at. well_formed (option_map (λ c. record { depth = at.depth; item = at.item; column = c.position }) (column_at scopes at))
 
 abbrev pub column_kind : List (List FromItem) → ColumnReference → Outcome Kind
 column_kind scopes r = place_of r (heads_of scopes) >>= λ at. well_formed (option_map (λ c. c.kind) (column_at scopes at))

@@ -1,6 +1,5 @@
 -- What column references fit in the items of a scope (ISO/IEC 9075:1992, 6.3 and 6.4), by the definitions' items.
-use Rattle.std.specs.Prelude.{◌≡◌, ℕ, ◌+◌, ◌-◌, ◌^◌, min, Bool, List, [], ◌∷◌, map, slice_get, Option, Some, None, Result, Ok, Err, if◌then◌else◌}
-use Rattle.std.specs.Borrow.{Bor}
+use Rattle.std.specs.Prelude.{◌≡◌, ℕ, ◌+◌, Bool, List, [], ◌∷◌, map, slice_get, Option, Some, None, Result, Ok, Err, if◌then◌else◌}
 use Rattle.std.specs.List.{enumerate_from}
 use Rattle.std.specs.Option.{option_map, option_and_then}
 use Rattle.sq_tree.specs.declared.names.ColumnReference.{ColumnReference}
@@ -95,13 +94,13 @@ abbrev pub column_at : List (List FromItem) → Place → Option ItemColumn
 column_at scopes at = option_and_then (λ items. option_and_then (λ item. slice_get item.columns at.column) (slice_get items at.item)) (slice_get scopes at.depth)
 
 -- A column that a reference means, counted from so many queries further in: that at the place which the definitions give
--- it. Its position is that in the rows that are read. The depth is counted up to the greatest number.
+-- it. Its position is that in the rows that are read.
 pub record Means (r : ColumnReference) (scopes : List (List FromItem)) (depth : ℕ) (found : FoundColumn) : Type 0 where
   pub at : Place
   pub column : ItemColumn
   pub placed : place_of r (heads_of scopes) ≡ Ok at
   pub there : column_at scopes at ≡ Some column
-  pub depth_is : found.place.depth ≡ min (depth + at.depth) (2 ^ 64 - 1)
+  pub depth_is : found.place.depth ≡ depth + at.depth
   pub item_is : found.place.item ≡ at.item
   pub column_is : found.place.column ≡ column.position
   pub kind_is : found.kind ≡ column.kind

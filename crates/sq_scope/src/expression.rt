@@ -1,22 +1,22 @@
 //! Value expressions: columns and parameters become places, and kinds are checked (ISO/IEC 9075:1992, 6.2 to 6.5, 6.11 to 6.13).
 
-ghost use Rattle.std.specs.Prelude.{◌≡◌, ◌<◌, ◌∷◌, ◌++◌, [], false, nat_lt, true, IfOk, IfSome, Ok, length};
+ghost use Rattle.std.specs.Prelude.{◌≡◌, ◌<◌, ◌&&◌, ◌∷◌, ◌++◌, [], false, nat_eq, nat_lt, not, true, IfOk, IfSome, Ok, length};
 ghost use Rattle.sq_bound.specs.Names.{option_all};
 ghost use Rattle.std.specs.List.{position};
-ghost use Rattle.sq_meaning.specs.Environment.{Place as MeantPlace, same_name};
+ghost use Rattle.sq_meaning.specs.Environment.{same_name};
 ghost use Rattle.sq_meaning.specs.Kind.{function_kind};
 ghost use Rattle.sq_meaning.specs.Placed.{PlacedParameter};
 ghost use Rattle.sq_meaning.specs.Spelled.{expr_of as spelled_expr, factor_of, is_distinct_word, primary_of, term_of};
-ghost use Rattle.sq_meaning.specs.Syntax.{column as column_tree, count_rows as count_rows_tree, literal, parameter as parameter_tree, set_function as set_function_tree, signed, user as user_tree};
+ghost use Rattle.sq_meaning.specs.Syntax.{count_rows as count_rows_tree, literal, parameter as parameter_tree, set_function as set_function_tree, signed, user as user_tree};
 ghost use Rattle.sq_bound.specs.Expression.{expr_of};
 ghost use Rattle.sq_bound.specs.SetFunction.{call_of};
 ghost use Rattle.sq_tree.specs.declared.expr.Sign.TheVariants.{Minus};
 ghost use Rattle.sq_value.specs.Spelling.{read};
 ghost use Rattle.sq_value.specs.declared.value.Value.TheVariants as value;
 ghost use Rattle.sq_value.specs.declared.domain.Kind.TheVariants as kind;
-ghost use Rattle.sq_scope.specs.Expression.{Adds, Grows, IsBound, IsOperation, IsSigned, IsTree, IsTreeAmong, IsTypedOperation, column_kind, indicator_named, parameter_kind, parameter_named, placed_column, placed_parameter, product_operator, sum_operator, with_sign};
+ghost use Rattle.sq_scope.specs.Expression.{Adds, Grows, IsBound, IsOperation, IsSigned, IsTree, IsTreeAmong, IsTypedOperation, indicator_named, parameter_kind, parameter_named, placed_parameter, product_operator, sum_operator, with_sign};
 ghost use Rattle.sq_scope.specs.Scope.{scopes_in};
-ghost use Rattle.sq_scope.specs.WellFormed.{IsTyped};
+ghost use Rattle.sq_scope.specs.WellFormed.{Finds, IsColumn, IsTyped};
 ghost use Rattle.sq_scope.specs.declared.expression.Typed.{Typed as TypedExpr};
 ghost use Rattle.sq_value.specs.Number.{Number as Read};
 
@@ -110,7 +110,9 @@ fn expr_value(
     findings: &mut Findings,
 ) -> TypedResult
     ensures bound { IfOk result (IsBound (scopes_in environment.now) environment.now.parameters.now functions.new.calls (spelled_expr expr.now)) }
+    ensures typed { IfOk result (IsTyped environment.now functions.old.allowed findings.new.has_ungrouped functions.new.calls) }
     ensures grows { Grows functions.old functions.new }
+    ensures finds { Finds findings.old findings.new }
 {
     let mut bound = term_value(&expr.first, environment, functions, findings);
     for added in expr.rest.as_slice() {
@@ -129,7 +131,9 @@ fn term_value(
     findings: &mut Findings,
 ) -> TypedResult
     ensures bound { IfOk result (IsBound (scopes_in environment.now) environment.now.parameters.now functions.new.calls (term_of term.now)) }
+    ensures typed { IfOk result (IsTyped environment.now functions.old.allowed findings.new.has_ungrouped functions.new.calls) }
     ensures grows { Grows functions.old functions.new }
+    ensures finds { Finds findings.old findings.new }
 {
     let mut bound = factor_value(&term.first, environment, functions, findings);
     for scaled in term.rest.as_slice() {
@@ -153,7 +157,9 @@ fn factor_value(
     findings: &mut Findings,
 ) -> TypedResult
     ensures bound { IfOk result (IsBound (scopes_in environment.now) environment.now.parameters.now functions.new.calls (factor_of factor.now)) }
+    ensures typed { IfOk result (IsTyped environment.now functions.old.allowed findings.new.has_ungrouped functions.new.calls) }
     ensures grows { Grows functions.old functions.new }
+    ensures finds { Finds findings.old findings.new }
 {
     let bound = primary_value(&factor.primary, environment, functions, findings);
     match factor.sign {
@@ -170,7 +176,9 @@ fn primary_value(
     findings: &mut Findings,
 ) -> TypedResult
     ensures bound { IfOk result (IsBound (scopes_in environment.now) environment.now.parameters.now functions.new.calls (primary_of primary.now)) }
+    ensures typed { IfOk result (IsTyped environment.now functions.old.allowed findings.new.has_ungrouped functions.new.calls) }
     ensures grows { Grows functions.old functions.new }
+    ensures finds { Finds findings.old findings.new }
 {
     match primary {
         Primary::Number(number) => number_literal(*number),
@@ -235,6 +243,7 @@ fn product_operator(sign: TimesSign) -> Operator
 fn user_value(findings: &mut Findings) -> Typed
     ensures tree { IsTree (λ functions. user_tree) result.expr }
     ensures kind { result.kind ≡ kind.Chars 18 }
+    ensures finds { Finds findings.old findings.new }
 {
     findings.has_user = true;
     Typed {
@@ -303,7 +312,8 @@ fn column_value(
     reference: &ColumnReference,
     findings: &mut Findings,
 ) -> TypedResult
-    ensures { IfOk result (λ typed. (q : MeantPlace) × (placed_column (scopes_in environment.now) reference.now ≡ Ok q) × IsTree (λ functions. column_tree q) typed.expr × (column_kind (scopes_in environment.now) reference.now ≡ Ok typed.kind)) }
+    ensures column { IfOk result (IsColumn environment.now findings.new.has_ungrouped reference.now) }
+    ensures finds { Finds findings.old findings.new }
 {
     let found = environment.column(reference)?;
     let place = found.place;
@@ -318,7 +328,9 @@ fn column_value(
 }
 
 /// What is found in a column reference.
-pub fn column_findings(found: FoundColumn) -> Findings {
+pub fn column_findings(found: FoundColumn) -> Findings
+    ensures ungrouped { result.has_ungrouped ≡ (nat_eq found.place.depth 0 && not found.is_grouped) }
+{
     let Place { depth, item, .. } = found.place;
     let needed = item.saturating_add(1);
     Findings {
@@ -447,7 +459,9 @@ fn numbered(functions: &mut SetFunctions, call: SetFunctionCall, kind: Kind) -> 
 fn count_rows(functions: &mut SetFunctions, findings: &mut Findings) -> TypedResult
     ensures tree { IfOk result (λ typed. IsTreeAmong functions.new.calls count_rows_tree typed.expr) }
     ensures kind { IfOk result (λ typed. typed.kind ≡ kind.Num 0) }
+    ensures allowed { IfOk result (λ typed. functions.old.allowed ≡ true) }
     ensures grows { Grows functions.old functions.new }
+    ensures finds { Finds findings.old findings.new }
 {
     findings.has_set_function = true;
     if !functions.allowed {
@@ -472,6 +486,7 @@ fn set_function(
     functions: &mut SetFunctions,
 ) -> TypedResult
     ensures value { IfOk result (λ typed. (e : TypedExpr) × (operand ≡ Ok e) × IsTreeAmong functions.new.calls (set_function_tree function (is_distinct_word quantifier) (expr_of [] e.expr)) typed.expr × (function_kind function e.kind ≡ Ok typed.kind)) }
+    ensures allowed { IfOk result (λ typed. functions.old.allowed ≡ true) }
     ensures grows { Grows functions.old functions.new }
 {
     let Typed { expr, kind } = operand?;

@@ -1,5 +1,7 @@
 //! What binding finds out about a part of a text besides its tree.
 
+ghost use Rattle.std.specs.Prelude.{◌≡◌, ◌||◌, false};
+
 /// What binding finds out about a part.
 #[derive(Clone, Copy)]
 pub struct Findings {
@@ -44,7 +46,9 @@ impl Findings {
     };
 
     /// What is found in two parts.
-    pub fn and(self, other: Findings) -> Findings {
+    pub fn and(self, other: Findings) -> Findings
+        ensures ungrouped { result.has_ungrouped ≡ (self.has_ungrouped || other.has_ungrouped) }
+    {
         Findings {
             items: self.items.max(other.items),
             outer_items: self.outer_items.max(other.outer_items),
@@ -61,7 +65,9 @@ impl Findings {
     }
 
     /// The same, of a part that may answer a status.
-    pub fn failing(self) -> Findings {
+    pub fn failing(self) -> Findings
+        ensures ungrouped { result.has_ungrouped ≡ self.has_ungrouped }
+    {
         Findings {
             can_fail: true,
             ..self
@@ -69,7 +75,9 @@ impl Findings {
     }
 
     /// What the query around a subquery finds in it.
-    pub fn of_subquery(self) -> Findings {
+    pub fn of_subquery(self) -> Findings
+        ensures ungrouped { result.has_ungrouped ≡ false }
+    {
         Findings {
             items: self.outer_items,
             outer_items: if self.reach > 1 { usize::MAX } else { 0 },

@@ -16,4 +16,6 @@ pub use findings::{Findings, Found};
 pub use kinds::{must_agree, must_be_text, union_kind};
 pub use literal::{is_whole, number_value, signed_value, text_value};
 pub use parts::{both, kept};
-pub use scope::{Environment, FoundColumn, FromItem, ItemColumn, Scope, is_exposed, item_of, item_over};
+pub use scope::{
+    Environment, FoundColumn, FromItem, ItemColumn, Scope, is_exposed, item_of, item_over,
+};

@@ -1,8 +1,9 @@
 //! What column references mean: FROM items in scopes, the nearest first (ISO/IEC 9075:1992, 6.3, 6.4).
 
-ghost use Rattle.std.specs.Prelude.{◌≡◌, [], ◌∷◌, IfOk, MatchResult, find};
+ghost use Rattle.std.specs.Prelude.{◌≡◌, ◌+◌, ◌&&◌, [], ◌∷◌, IfOk, IsFalse, MatchResult, find, nat_eq, true};
 ghost use Rattle.sq_meaning.specs.Environment.{names_item, same_name};
 ghost use Rattle.sq_scope.specs.Scope.{FitsColumn, FitsMore, FitsOnly, Means, column_over, columns_over, fits, item_meant, items_in, scopes_at, scopes_in, scopes_of, with_fit};
+ghost use Rattle.sq_scope.specs.WellFormed.{AllowsAt, IsGroupedIn, allows_none, grouping_of, groupings_in, groupings_of, is_no_column};
 
 use sq_bound::{BindFault, Column, ParameterDesc, Place, TableDesc};
 use sq_items::Items;
@@ -185,20 +186,23 @@ impl Scope<'_> {
     }
 
     /// Whether the column is among the grouping columns, where there are such.
-    fn is_grouped(&self, item: usize, column: usize) -> bool {
+    fn is_grouped(&self, item: usize, column: usize) -> bool
+        ensures { result ≡ true → IsFalse (allows_none (grouping_of self.now)) }
+    {
         match self.grouping {
             None => true,
-            Some(places) => places.iter().any(|place| is_at(place, item, column)),
+            Some(places) => is_among(places, item, column),
         }
     }
 
     /// The column of the nearest scope in which an item fits the reference. This one is so many queries further out.
     fn column(&self, depth: usize, reference: &ColumnReference) -> Result<FoundColumn, BindFault>
-        ensures { IfOk result (Means reference.now (scopes_of self.now) depth) }
+        ensures means { IfOk result (Means reference.now (scopes_of self.now) depth) }
+        ensures grouped { IfOk result (IsGroupedIn (groupings_of self.now) depth) }
     {
         match (self.fitting(reference)?, self.outer) {
             (Some((item, column)), _) => Ok(self.found(depth, item, column)),
-            (None, Some(outer)) => outer.column(depth.saturating_add(1), reference),
+            (None, Some(outer)) => outer.column(further_out(depth)?, reference),
             (None, None) => Err(BindFault::UnknownColumn),
         }
     }
@@ -208,6 +212,7 @@ impl Scope<'_> {
         ensures item { result.place.item ≡ item }
         ensures column { result.place.column ≡ column.position }
         ensures kind { result.kind ≡ column.kind }
+        ensures grouped { result.is_grouped ≡ true → IsFalse (allows_none (grouping_of self.now)) }
     {
         FoundColumn {
             place: Place {
@@ -237,14 +242,28 @@ fn with_fit(
     }
 }
 
+/// The depth of the next scope further out.
+fn further_out(depth: usize) -> Result<usize, BindFault>
+    ensures { IfOk result (λ further. further ≡ depth + 1) }
+{
+    depth.checked_add(1).ok_or(BindFault::LimitExceeded)
+}
+
+/// Whether the column is among those of its own query.
+fn is_among(places: &[Place], item: usize, column: usize) -> bool
+    ensures { result ≡ true → IsFalse (is_no_column places.now) }
+{
+    places.iter().any(|place| is_at(place, item, column))
+}
+
 /// Whether a place is in its own query, at this item and column.
-fn is_at(place: &Place, item: usize, column: usize) -> bool {
+fn is_at(place: &Place, item: usize, column: usize) -> bool
+    ensures { result ≡ (nat_eq place.now.depth 0 && nat_eq place.now.item item && nat_eq place.now.column column) }
+{
     place.depth == 0 && place.item == item && place.column == column
 }
 
 impl<'a> Environment<'a> {
-    ghost use Rattle.sq_scope.specs.WellFormed.{groupings_in, groupings_of};
-
     /// Outside all queries.
     pub fn new(alloc: Global, user: Name, parameters: &'a [ParameterDesc]) -> Environment<'a>
         ensures scopes { scopes_in result ≡ [] }
@@ -293,7 +312,8 @@ impl<'a> Environment<'a> {
 
     /// The column of the nearest scope in which an item fits the reference.
     pub fn column(&self, reference: &ColumnReference) -> Result<FoundColumn, BindFault>
-        ensures { IfOk result (Means reference.now (scopes_in self.now) 0) }
+        ensures means { IfOk result (Means reference.now (scopes_in self.now) 0) }
+        ensures grouped { IfOk result (λ found. found.is_grouped ≡ true → AllowsAt (groupings_in self.now) found.place.depth) }
     {
         match &self.scope {
             Some(scope) => scope.column(0, reference),

@@ -1,8 +1,6 @@
-use Rattle.std.proofs.Common.{◌≡◌, ◌+◌, [], Some, None, Ok, Err, take, sym, subst, ◌∙◌}
+use Rattle.std.proofs.Common.{◌≡◌, [], Ok, take, refl, sym, subst, ◌∙◌}
 use Rattle.std.specs.Prelude.{IfOk}
 use Rattle.sq_tree.specs.declared.expr.Added.{out-Added}
-use Rattle.sq_tree.specs.declared.expr.Expr.{out-Expr}
-use Rattle.sq_tree.specs.declared.expr.Term.{out-Term}
 use Rattle.sq_meaning.proofs.SpelledLevels.{factor_of-out, primary_of-Bracketed, primary_of-Column, primary_of-CountRows, primary_of-Number, primary_of-Parameter, primary_of-SetFunction, primary_of-Text, primary_of-User}
 use Rattle.sq_meaning.specs.Spelled.{expr_of, factor_of, is_distinct_word, number_of, primary_of, term_of, with_sign_if}
 use Rattle.sq_meaning.specs.Syntax.{bracketed, column, count_rows, literal, parameter, set_function, user}
@@ -10,7 +8,9 @@ use Rattle.sq_tree.specs.declared.expr.Primary.TheVariants as spelled
 use Rattle.sq_value.specs.declared.value.Value.TheVariants as value
 use Rattle.sq_scope.specs.Expression.{IsBound}
 use Rattle.sq_scope.specs.Scope.{scopes_in}
+use Rattle.sq_scope.specs.WellFormed.{IsTyped}
 use Rattle.sq_scope.proofs.Bindings as bindings
+use Rattle.sq_scope.proofs.Typings as typings
 use Rattle.sq_scope.proofs.Bindings.{grows_further, product_first, product_next, product_so_far, product_whole, sum_first, sum_next, sum_so_far, sum_whole}
 use Rattle.sq_scope.proofs.expression.+bind_expr.Goals as goal
 
@@ -18,7 +18,9 @@ pub expr_value-loop-added-init : goal.expr_value-loop-added-init
 expr_value-loop-added-init t c = (
   subst (λ e. IfOk c.term_value-bound.result (IsBound (scopes_in c.args.environment.now) c.args.environment.now.parameters.now c.term_value-bound.new.functions.calls e))
       (sym (sum_first c.args.expr.now c.as_slice-added-items.result.now)) c.term_value-bound.ensures.bound,
+  c.term_value-bound.ensures.typed,
   c.term_value-bound.ensures.grows,
+  c.term_value-bound.ensures.finds,
 )
 
 pub expr_value-loop-added-preserved : goal.expr_value-loop-added-preserved
@@ -32,7 +34,11 @@ expr_value-loop-added-preserved t c =
           (bindings.added_if scopes parameters c.loop-added.functions.calls c.term_value-term.new.functions.calls (out-Added item).sign c.sum_operator.result
           (sum_so_far c.args.expr.now (take c.loop-added.added-index items)) (term_of (out-Added item).term) c.loop-added.bound c.term_value-term.result c.operation-bound.result
           c.term_value-term.ensures.grows.0 c.sum_operator.ensures c.loop-added.invariant.0 c.term_value-term.ensures.bound c.operation-bound.ensures),
-      grows_further c.args.functions.now c.loop-added.functions c.term_value-term.new.functions c.loop-added.invariant.1 c.term_value-term.ensures.grows,
+      typings.operation_typed c.args.environment.now c.args.functions.now.allowed c.loop-added.functions.allowed c.loop-added.findings.has_ungrouped c.term_value-term.new.findings.has_ungrouped
+          c.loop-added.functions.calls c.term_value-term.new.functions.calls c.sum_operator.result c.loop-added.bound c.term_value-term.result c.operation-bound.result
+          c.loop-added.invariant.2.1 c.term_value-term.ensures.finds c.term_value-term.ensures.grows.0 c.loop-added.invariant.1 c.term_value-term.ensures.typed c.operation-bound.ensures,
+      grows_further c.args.functions.now c.loop-added.functions c.term_value-term.new.functions c.loop-added.invariant.2 c.term_value-term.ensures.grows,
+      (λ h. c.term_value-term.ensures.finds (c.loop-added.invariant.3 h)),
     )
 
 pub expr_value-returns-clause-bound : goal.expr_value-returns-clause-bound
@@ -40,14 +46,22 @@ expr_value-returns-clause-bound t c =
     subst (λ e. IfOk c.loop-added.bound (IsBound (scopes_in c.args.environment.now) c.args.environment.now.parameters.now c.loop-added.functions.calls e))
     (sum_whole c.args.expr.now c.as_slice-added-items.result.now c.loop-added.added-index c.as_slice-added-items.ensures c.loop-added-test.false) c.loop-added.invariant.0
 
+pub expr_value-returns-clause-typed : goal.expr_value-returns-clause-typed
+expr_value-returns-clause-typed t c = c.loop-added.invariant.1
+
 pub expr_value-returns-clause-grows : goal.expr_value-returns-clause-grows
-expr_value-returns-clause-grows t c = c.loop-added.invariant.1
+expr_value-returns-clause-grows t c = c.loop-added.invariant.2
+
+pub expr_value-returns-clause-finds : goal.expr_value-returns-clause-finds
+expr_value-returns-clause-finds t c = c.loop-added.invariant.3
 
 pub term_value-loop-scaled-init : goal.term_value-loop-scaled-init
 term_value-loop-scaled-init t c = (
   subst (λ e. IfOk c.factor_value-bound.result (IsBound (scopes_in c.args.environment.now) c.args.environment.now.parameters.now c.factor_value-bound.new.functions.calls e))
       (sym (product_first c.args.term.now c.as_slice-scaled-items.result.now)) c.factor_value-bound.ensures.bound,
+  c.factor_value-bound.ensures.typed,
   c.factor_value-bound.ensures.grows,
+  c.factor_value-bound.ensures.finds,
 )
 
 pub term_value-loop-scaled-preserved : goal.term_value-loop-scaled-preserved
@@ -61,7 +75,11 @@ term_value-loop-scaled-preserved t c =
           (bindings.scaled_if scopes parameters c.loop-scaled.functions.calls c.factor_value-factor.new.functions.calls item.sign c.product_operator.result
           (product_so_far c.args.term.now (take c.loop-scaled.scaled-index items)) (factor_of item.factor) c.loop-scaled.bound c.factor_value-factor.result c.operation-bound.result
           c.factor_value-factor.ensures.grows.0 c.product_operator.ensures c.loop-scaled.invariant.0 c.factor_value-factor.ensures.bound c.operation-bound.ensures),
-      grows_further c.args.functions.now c.loop-scaled.functions c.factor_value-factor.new.functions c.loop-scaled.invariant.1 c.factor_value-factor.ensures.grows,
+      typings.operation_typed c.args.environment.now c.args.functions.now.allowed c.loop-scaled.functions.allowed c.loop-scaled.findings.has_ungrouped c.factor_value-factor.new.findings.has_ungrouped
+          c.loop-scaled.functions.calls c.factor_value-factor.new.functions.calls c.product_operator.result c.loop-scaled.bound c.factor_value-factor.result c.operation-bound.result
+          c.loop-scaled.invariant.2.1 c.factor_value-factor.ensures.finds c.factor_value-factor.ensures.grows.0 c.loop-scaled.invariant.1 c.factor_value-factor.ensures.typed c.operation-bound.ensures,
+      grows_further c.args.functions.now c.loop-scaled.functions c.factor_value-factor.new.functions c.loop-scaled.invariant.2 c.factor_value-factor.ensures.grows,
+      (λ h. c.factor_value-factor.ensures.finds (c.loop-scaled.invariant.3 h)),
     )
 
 pub term_value-returns-clause-bound : goal.term_value-returns-clause-bound
@@ -69,8 +87,14 @@ term_value-returns-clause-bound t c =
     subst (λ e. IfOk c.loop-scaled.bound (IsBound (scopes_in c.args.environment.now) c.args.environment.now.parameters.now c.loop-scaled.functions.calls e))
     (product_whole c.args.term.now c.as_slice-scaled-items.result.now c.loop-scaled.scaled-index c.as_slice-scaled-items.ensures c.loop-scaled-test.false) c.loop-scaled.invariant.0
 
+pub term_value-returns-clause-typed : goal.term_value-returns-clause-typed
+term_value-returns-clause-typed t c = c.loop-scaled.invariant.1
+
 pub term_value-returns-clause-grows : goal.term_value-returns-clause-grows
-term_value-returns-clause-grows t c = c.loop-scaled.invariant.1
+term_value-returns-clause-grows t c = c.loop-scaled.invariant.2
+
+pub term_value-returns-clause-finds : goal.term_value-returns-clause-finds
+term_value-returns-clause-finds t c = c.loop-scaled.invariant.3
 
 pub factor_value-returns-in-None-clause-bound : goal.factor_value-returns-in-None-clause-bound
 factor_value-returns-in-None-clause-bound t c =
@@ -129,7 +153,7 @@ primary_value-returns-in-Column-clause-bound t c =
     let calls = c.args.functions.now.calls in
     let primary = c.args.primary.now in
     bindings.at_primary scopes parameters calls primary (spelled.Column c.in-Column.reference) (column c.in-Column.reference) c.column_value.result c.in-Column.is (primary_of-Column c.in-Column.reference)
-    (bindings.column_if scopes parameters calls c.in-Column.reference c.column_value.result c.column_value.ensures)
+    (bindings.column_if scopes parameters calls c.args.environment.now c.column_value.new.findings.has_ungrouped c.in-Column.reference c.column_value.result refl c.column_value.ensures.column)
 
 pub primary_value-returns-in-CountRows-clause-bound : goal.primary_value-returns-in-CountRows-clause-bound
 primary_value-returns-in-CountRows-clause-bound t c =
@@ -162,3 +186,46 @@ primary_value-returns-in-Bracketed-clause-bound t c =
     bindings.at_primary scopes parameters after primary (spelled.Bracketed c.in-Bracketed.expr) (bracketed (expr_of c.in-Bracketed.expr)) c.expr_value.result c.in-Bracketed.is (primary_of-Bracketed c.in-Bracketed.expr)
     (bindings.bound_bracketed scopes parameters after (expr_of c.in-Bracketed.expr) c.expr_value.result
     (subst (λ e. IfOk c.expr_value.result (IsBound scopes parameters after (expr_of e))) c.get-in-Bracketed.ensures c.expr_value.ensures.bound))
+
+-- ---- at the levels
+
+pub factor_value-returns-in-Some-clause-typed : goal.factor_value-returns-in-Some-clause-typed
+factor_value-returns-in-Some-clause-typed t c =
+    typings.signed_typed c.args.environment.now c.args.functions.now.allowed c.primary_value-bound.new.findings.has_ungrouped c.primary_value-bound.new.functions.calls c.in-Some.sign
+    c.primary_value-bound.result c.signed.result c.primary_value-bound.ensures.typed c.signed.ensures
+
+pub primary_value-returns-in-Number-clause-typed : goal.primary_value-returns-in-Number-clause-typed
+primary_value-returns-in-Number-clause-typed t c =
+    typings.number_typed c.args.environment.now c.args.functions.now.allowed c.args.findings.now.has_ungrouped c.args.functions.now.calls c.in-Number.number c.number_literal.result c.number_literal.ensures
+
+pub primary_value-returns-in-Text-clause-typed : goal.primary_value-returns-in-Text-clause-typed
+primary_value-returns-in-Text-clause-typed t c =
+    typings.text_typed c.args.environment.now c.args.functions.now.allowed c.args.findings.now.has_ungrouped c.args.functions.now.calls c.in-Text.characters c.text_literal.result c.text_literal.ensures
+
+pub primary_value-returns-in-Parameter-clause-typed : goal.primary_value-returns-in-Parameter-clause-typed
+primary_value-returns-in-Parameter-clause-typed t c =
+    typings.parameter_typed c.args.environment.now c.args.functions.now.allowed c.args.findings.now.has_ungrouped c.args.functions.now.calls c.in-Parameter.parameter c.parameter_value.result c.parameter_value.ensures
+
+pub primary_value-returns-in-User-clause-typed : goal.primary_value-returns-in-User-clause-typed
+primary_value-returns-in-User-clause-typed t c =
+    typings.user_typed c.args.environment.now c.args.functions.now.allowed c.user_value.new.findings.has_ungrouped c.args.functions.now.calls c.user_value.result c.user_value.ensures.tree c.user_value.ensures.kind
+
+pub primary_value-returns-in-Column-clause-typed : goal.primary_value-returns-in-Column-clause-typed
+primary_value-returns-in-Column-clause-typed t c =
+    typings.column_typed c.args.environment.now c.args.functions.now.allowed c.column_value.new.findings.has_ungrouped c.args.functions.now.calls c.in-Column.reference c.column_value.result c.column_value.ensures.column
+
+pub primary_value-returns-in-CountRows-clause-typed : goal.primary_value-returns-in-CountRows-clause-typed
+primary_value-returns-in-CountRows-clause-typed t c =
+    typings.count_typed c.args.environment.now c.args.functions.now.allowed c.count_rows.new.findings.has_ungrouped c.count_rows.new.functions.calls c.count_rows.result
+    c.count_rows.ensures.tree c.count_rows.ensures.kind c.count_rows.ensures.allowed
+
+pub primary_value-returns-in-SetFunction-clause-typed : goal.primary_value-returns-in-SetFunction-clause-typed
+primary_value-returns-in-SetFunction-clause-typed t c =
+    let environment = c.args.environment.now in
+    let inside = c.expr_value-operand.new.findings.has_ungrouped in
+    let inner = c.expr_value-operand.new.functions.calls in
+    let none : inner ≡ [] = c.expr_value-operand.ensures.grows.2 c.forbidden-inner.ensures.allowed ∙ c.forbidden-inner.ensures.calls in
+    typings.function_typed environment c.args.functions.now.allowed inside c.args.findings.now.has_ungrouped c.set_function.new.functions.calls inner
+    c.in-SetFunction.function (is_distinct_word c.in-SetFunction.quantifier) c.expr_value-operand.result c.set_function.result none
+    (subst (λ allowed. IfOk c.expr_value-operand.result (IsTyped environment allowed inside inner)) c.forbidden-inner.ensures.allowed c.expr_value-operand.ensures.typed)
+    c.set_function.ensures.value c.set_function.ensures.allowed

@@ -1,15 +1,25 @@
+use Rattle.std.proofs.Common.{arith, refl, ap, ◌∙◌}
+use Rattle.std.specs.Prelude.{◌||◌}
 use Rattle.sq_bound.proofs.ExpressionLaws.{expr_of-Column}
-use Rattle.sq_bound.specs.Expression.{place_meant}
-use Rattle.sq_scope.proofs.Bindings.{column_kind_is, column_placed}
-use Rattle.sq_scope.specs.Scope.{scopes_in}
+use Rattle.sq_scope.specs.WellFormed.{IsRead, groupings_in}
+use Rattle.sq_scope.proofs.Levels.{read_grouped, read_nearest}
 use Rattle.sq_scope.proofs.expression.column_value.Goals as goal
+use Rattle.sq_scope.proofs.expression.column_value.Goals.{else-place-gt0-via-then-place-gt0+else-not-found, else-place-gt0-via-else-place-gt0}
 
-pub returns : goal.returns
-returns c =
-    let scopes = scopes_in c.args.environment.now in
-    let found = c.in_ok-found.found in (
-      place_meant found.place,
-      column_placed c.args.reference.now scopes found c.in_ok-found.ensures,
-      (λ functions. expr_of-Column functions found.place),
-      column_kind_is c.args.reference.now scopes found c.in_ok-found.ensures,
-    )
+pub returns-clause-column : goal.returns-clause-column
+returns-clause-column c =
+    let found = c.in_ok-found.found in
+    let groupings = groupings_in c.args.environment.now in
+    let read : IsRead groupings c.and.result.has_ungrouped found.place.depth = elim c.else-place-gt0.branch [
+      | else-place-gt0-via-then-place-gt0+else-not-found w ↦ read_grouped groupings c.and.result.has_ungrouped found.is_grouped found.place.depth w.if-not-found.false c.in_ok-found.ensures.grouped
+      | else-place-gt0-via-else-place-gt0 w ↦
+          read_nearest groupings c.args.findings.now.has_ungrouped c.and.result.has_ungrouped found.is_grouped found.place.depth (omega (arith, w.if-place-gt0.false))
+          (c.and.ensures.ungrouped ∙ ap (λ b. c.args.findings.now.has_ungrouped || b) c.column_findings.ensures.ungrouped) c.in_ok-found.ensures.grouped
+    ] in
+    record {
+      found = found;
+      means = c.in_ok-found.ensures.means;
+      is_tree = λ functions. expr_of-Column functions found.place;
+      kind_is = refl;
+      is_read = read;
+    }
