@@ -1,3 +1,4 @@
 pub mod ConditionLaws
 pub mod ExpressionLaws
 pub mod QueryLaws
+pub mod Wider

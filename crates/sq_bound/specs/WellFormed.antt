@@ -138,15 +138,16 @@ pub record IsLeaf (columns : TableKinds) (l : Leaf) : Type 0 where
   pub conditions : AllByRecursion (IsCondOn columns l.table) l.conditions
   pub checks : AllByRecursion (IsCondOn columns l.table) l.table.checks
 
-abbrev pub IsBody : TableKinds → TableBody → Type 0
-IsBody columns (body.Base b) = ⊤
-IsBody columns (body.View v) = IsSelect columns [] [] v.query
+-- a view has the columns of its query (11.19)
+abbrev pub IsBody : TableKinds → List Kind → TableBody → Type 0
+IsBody columns kinds (body.Base b) = ⊤
+IsBody columns kinds (body.View v) = IsSelect columns [] [] v.query × (kinds ≡ kinds_of_select v.query)
 
 -- a base table or a view: its columns, what is under it, and the query of a view
 pub record IsTable (columns : TableKinds) (t : TableDesc) : Type 0 where
   pub kinds_are : columns (place_of t.body) ≡ Ok (kinds_of_columns t.columns)
   pub leaf : IfSome t.leaf (IsLeaf columns)
-  pub body : IsBody columns t.body
+  pub body : IsBody columns (kinds_of_columns t.columns) t.body
 
 -- ---- cursors and views
 

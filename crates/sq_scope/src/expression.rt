@@ -1,6 +1,6 @@
 //! Value expressions: columns and parameters become places, and kinds are checked (ISO/IEC 9075:1992, 6.2 to 6.5, 6.11 to 6.13).
 
-ghost use Rattle.std.specs.Prelude.{◌≡◌, ◌<◌, ◌&&◌, ◌∷◌, ◌++◌, [], false, nat_eq, nat_lt, not, true, IfOk, IfSome, Ok, length};
+ghost use Rattle.std.specs.Prelude.{◌≡◌, ◌<◌, ◌&&◌, ◌∷◌, ◌++◌, [], false, nat_eq, nat_lt, not, slice_get, true, IfOk, IfSome, Ok, Some, length};
 ghost use Rattle.sq_bound.specs.Names.{option_all};
 ghost use Rattle.std.specs.List.{position};
 ghost use Rattle.sq_meaning.specs.Environment.{same_name};
@@ -10,6 +10,7 @@ ghost use Rattle.sq_meaning.specs.Spelled.{expr_of as spelled_expr, factor_of, i
 ghost use Rattle.sq_meaning.specs.Syntax.{count_rows as count_rows_tree, literal, parameter as parameter_tree, set_function as set_function_tree, signed, user as user_tree};
 ghost use Rattle.sq_bound.specs.Expression.{expr_of};
 ghost use Rattle.sq_bound.specs.SetFunction.{call_of};
+ghost use Rattle.sq_bound.specs.WellFormed.{kinds_of_parameters};
 ghost use Rattle.sq_tree.specs.declared.expr.Sign.TheVariants.{Minus};
 ghost use Rattle.sq_value.specs.Spelling.{read};
 ghost use Rattle.sq_value.specs.declared.value.Value.TheVariants as value;
@@ -280,6 +281,7 @@ pub fn indicator_of(
 ) -> Result<Option<usize>, BindFault>
     ensures named { IfOk result (λ at. indicator_named parameters.now indicator ≡ Ok at) }
     ensures within { IfOk result (λ at. option_all (λ p. nat_lt p (length parameters.now)) at ≡ true) }
+    ensures whole { IfOk result (λ at. IfSome at (λ p. slice_get (kinds_of_parameters parameters.now) p ≡ Some (kind.Num 0))) }
 {
     let Some(indicator) = indicator else {
         return Ok(None);
