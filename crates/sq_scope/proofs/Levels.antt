@@ -8,7 +8,8 @@ use Rattle.sq_value.specs.declared.domain.Kind.{Kind}
 use Rattle.sq_value.specs.declared.domain.Kind.TheVariants.{Num, Chars, Vary}
 use Rattle.sq_meaning.specs.Environment.{Place}
 use Rattle.sq_meaning.specs.Status.{Outcome, and_then, well_formed}
-use Rattle.sq_meaning.specs.WellFormed.{Has, HasLine, froms, inside_function, kind_there}
+use Rattle.sq_meaning.specs.WellFormed as meant
+use Rattle.sq_meaning.specs.WellFormed.{Has, HasLine, froms, inside_function}
 use Rattle.sq_bound.specs.Names.{is_kind_at, same_kind}
 use Rattle.sq_bound.specs.WellFormed.{Levels, TableKinds, kinds_of_columns}
 use Rattle.sq_bound.specs.declared.condition.TablePlace.{TablePlace}
@@ -54,10 +55,10 @@ same_kinds (Vary m) (Num t) h = cc
 same_kinds (Vary m) (Chars n) h = cc
 same_kinds (Vary m) (Vary n) h = ap Vary (eqb-true m n h)
 
-kind_stands : (kinds : List Kind) (n : ℕ) (k : Kind) → is_kind_at kinds n k ≡ true → slice_get kinds n ≡ Some k
-kind_stands [] n k h = cc
-kind_stands (l ∷ kinds) zero k h = ap Some (same_kinds l k h)
-kind_stands (l ∷ kinds) (suc n) k h = kind_stands kinds n k h
+pub kind_there : (kinds : List Kind) (n : ℕ) (k : Kind) → is_kind_at kinds n k ≡ true → slice_get kinds n ≡ Some k
+kind_there [] n k h = cc
+kind_there (l ∷ kinds) zero k h = ap Some (same_kinds l k h)
+kind_there (l ∷ kinds) (suc n) k h = kind_there kinds n k h
 
 both_true : (a b : Bool) → (a && b) ≡ true → (a ≡ true) × (b ≡ true)
 both_true true b h = (refl, h)
@@ -67,7 +68,7 @@ at_leaves : (kinds : List Kind) (n : ℕ) (cs : List Column) → list_all (λ c.
 at_leaves kinds n [] h = tt
 at_leaves kinds n (c ∷ cs) h =
     let both = both_true (is_kind_at kinds c.leaf_column c.kind) (list_all (λ c. is_kind_at kinds c.leaf_column c.kind) cs) h in
-    (kind_stands kinds c.leaf_column c.kind both.0, at_leaves kinds (n + 1) cs both.1)
+    (kind_there kinds c.leaf_column c.kind both.0, at_leaves kinds (n + 1) cs both.1)
 
 pub item_at_leaf : (columns : TableKinds) (t : TablePlace) (kinds : List Kind) (cs : List Column) (item : FromItem) → columns t ≡ Ok kinds → list_all (λ c. is_kind_at kinds c.leaf_column c.kind) cs ≡ true → item.columns ≡ columns_over true cs
     → IsItemOver columns t item
@@ -99,7 +100,7 @@ from_kind columns (t ∷ from) (item ∷ items) (suc n) k c h e = from_kind colu
 
 -- a column that is in scope has its kind at the levels
 pub level_kind : (columns : TableKinds) (levels : Levels) (scopes : List (List FromItem)) (groupings : List Grouped) (depth item column : ℕ) (c : ItemColumn) → AreLevels columns levels scopes groupings
-    → column_at scopes (record { depth = depth; item = item; column = column }) ≡ Some c → kind_there columns (froms levels) (record { depth = depth; item = item; column = c.position }) ≡ Ok c.kind
+    → column_at scopes (record { depth = depth; item = item; column = column }) ≡ Some c → meant.kind_there columns (froms levels) (record { depth = depth; item = item; column = c.position }) ≡ Ok c.kind
 level_kind columns [] [] [] depth item column c h e = cc
 level_kind columns [] [] (g ∷ gs) depth item column c h e = absurd h
 level_kind columns [] (items ∷ scopes) gs depth item column c h e = absurd h

@@ -70,7 +70,7 @@ heads_there (from ∷ scopes) =
     ap (λ (r : Outcome (List (Unit {0}))). and_then r (λ y. and_then (each (each item_there) scopes) (λ ys. Ok (y ∷ ys)))) (each_value (λ (t : TablePlace). tt) from)
     ∙ ap (λ (r : Outcome (List (List (Unit {0})))). and_then r (λ ys. Ok (items_there from ∷ ys))) (heads_there scopes)
 
-column_stands : (columns : TableKinds) (parameters : List Kind) (levels : Levels) (p : Place) → HasLine levels p.depth → Stands columns parameters levels (column p)
+pub column_stands : (columns : TableKinds) (parameters : List Kind) (levels : Levels) (p : Place) → HasLine levels p.depth → Stands columns parameters levels (column p)
 column_stands columns parameters levels p h rows_of =
     subst (λ (r : Outcome (List (List (Unit {0})))). Has (λ (p : Place). HasLine levels p.depth) (and_then r (λ items. Ok p))) (sym (heads_there (froms levels))) h
 

@@ -1,6 +1,6 @@
 //! Parts of which each may have failed.
 
-ghost use Rattle.std.specs.Prelude.{◌≡◌, is_ok, true, IfOk, Ok};
+ghost use Rattle.std.specs.Prelude.{◌≡◌, IfOk, Ok, is_ok, true};
 
 /// Two parts that must both be had. The fault of the first is answered first.
 pub fn both<T: Drop, U: Drop, E: Drop>(left: Result<T, E>, right: Result<U, E>) -> Result<(T, U), E>
