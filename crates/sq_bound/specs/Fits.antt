@@ -1,13 +1,17 @@
 -- What a bound tree names is there: the tree fits the base tables, the cursors and the parameters that it was bound for.
 -- (Own notion: names are places in bound trees, ISO/IEC 9075:1992 knows none.)
 use Rattle.std.specs.Prelude.{⊤, ◌≡◌, ◌<◌, ℕ, nat_eq, nat_lt, Bool, true, false, ◌&&◌, List, [], ◌∷◌, length, map, Some, IfSome, slice_get}
-use Rattle.std.specs.List.{list_all}
+use Rattle.std.specs.List.{AllByRecursion, AllZip, list_all}
+use Rattle.sq_value.specs.Domain.{IsInDomain}
+use Rattle.sq_value.specs.declared.value.Value.{Value}
 use Rattle.sq_store.specs.declared.table.Numbered.{Numbered}
 use Rattle.sq_store.specs.Content.{Content}
 use Rattle.sq_store.specs.Keys.{Keys, keys_at}
 use Rattle.sq_bound.specs.Names.{are_positions, option_all}
+use Rattle.sq_bound.specs.declared.names.BaseColumn.{BaseColumn}
 use Rattle.sq_bound.specs.declared.names.BaseTable.{BaseTable}
 use Rattle.sq_bound.specs.declared.names.Leaf.{Leaf}
+use Rattle.sq_bound.specs.declared.names.ObjectColumn.{ObjectColumn}
 use Rattle.sq_bound.specs.declared.names.Reference.{Reference}
 use Rattle.sq_bound.specs.declared.names.TableDesc.{TableDesc}
 use Rattle.sq_bound.specs.declared.query.BoundCursor.{BoundCursor}
@@ -55,6 +59,17 @@ holds [] (t ∷ ts) = false
 holds (b ∷ bs) [] = false
 holds (b ∷ bs) (t ∷ ts) = have_width (length b.columns) t.rows && holds bs ts
 
+-- a row has a value for each column, in its domain (4.10, 9.2)
+abbrev pub IsRowIn : List BaseColumn → List Value → Type 0
+IsRowIn = AllZip (λ c v. IsInDomain c.domain v)
+
+abbrev pub AreRowsIn : List BaseColumn → List Numbered → Type 0
+AreRowsIn columns = AllByRecursion (λ r. IsRowIn columns r.row)
+
+-- there is a table for each base table, and every value of its rows is in the domain of its column
+abbrev pub AreInDomains : List BaseTable → Content → Type 0
+AreInDomains = AllZip (λ b t. AreRowsIn b.columns t.rows)
+
 -- ---- cursors
 
 abbrev pub FitsQuery : List BaseTable → UpdatableQuery → Type 0
@@ -88,14 +103,21 @@ FitsTarget bases cursors t = IsBase bases (under t).table × (is_cursor cursors 
 abbrev pub are_columns : ℕ → List BoundAssignment → Bool
 are_columns columns list = list_all (λ a. nat_lt a.column.position columns) list
 
+-- the column of a base table at its position
+abbrev pub IsColumnOf : BaseTable → ObjectColumn → Type 0
+IsColumnOf b c = slice_get (map (λ column. column.domain) b.columns) c.position ≡ Some c.domain
+
 -- a statement fits base tables, so many cursors, and so many parameters of its procedure
 abbrev pub FitsStatement : List BaseTable → ℕ → ℕ → BoundStatement → Type 0
 FitsStatement bases cursors parameters (statement.Open n) = n < cursors
 FitsStatement bases cursors parameters (statement.Fetch f) = (f.cursor < cursors) × (are_parameters parameters f.outputs ≡ true)
 FitsStatement bases cursors parameters (statement.Close n) = n < cursors
 FitsStatement bases cursors parameters (statement.Select s) = are_parameters parameters s.outputs ≡ true
-FitsStatement bases cursors parameters (statement.Insert i) = IsBase bases i.leaf.table
-FitsStatement bases cursors parameters (statement.Update u) = FitsTarget bases cursors u.target × (are_columns (length (under u.target).table.columns) u.assignments ≡ true)
+FitsStatement bases cursors parameters (statement.Insert i) = IsBase bases i.leaf.table × AllByRecursion (IsColumnOf i.leaf.table) i.columns
+FitsStatement bases cursors parameters (statement.Update u) =
+    FitsTarget bases cursors u.target
+    × (are_columns (length (under u.target).table.columns) u.assignments ≡ true)
+    × AllByRecursion (λ a. IsColumnOf (under u.target).table a.column) u.assignments
 FitsStatement bases cursors parameters (statement.Delete t) = FitsTarget bases cursors t
 FitsStatement bases cursors parameters statement.Commit = ⊤
 FitsStatement bases cursors parameters statement.Rollback = ⊤

@@ -1,4 +1,5 @@
 pub mod Condition
+pub mod Default
 pub mod Expression
 pub mod Fits
 pub mod Names

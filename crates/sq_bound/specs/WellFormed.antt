@@ -13,7 +13,7 @@ use Rattle.sq_meaning.specs.Placed.{Placed, by_place}
 use Rattle.sq_meaning.specs.WellFormed.{Has, Level, froms, of_lines, is_comparable, MayStand, WellFormedCond, WellFormedSelect, WellFormedQuery, kinds_by_place, IsDeclaredAt}
 use Rattle.sq_bound.specs.Condition.{PlacedCond, cond_of, select_of}
 use Rattle.sq_bound.specs.Expression.{PlacedExpr, expr_of}
-use Rattle.sq_bound.specs.Fits.{IsOver, under}
+use Rattle.sq_bound.specs.Fits.{IsColumnOf, IsOver, under}
 use Rattle.sq_bound.specs.Query.{query_of}
 use Rattle.sq_bound.specs.SetFunction.{call_of}
 use Rattle.sq_bound.specs.declared.condition.BoundCond.{BoundCond}
@@ -186,10 +186,6 @@ MayStore c k = IsTrue (is_comparable k (kind_of c.domain))
 -- what a column gets: NULL, or the value of an expression that may be stored there (13.8, 13.9)
 abbrev pub IsNewValue : TableKinds → List Kind → Levels → ObjectColumn → BoundExpr → Type 0
 IsNewValue columns parameters levels c e = (e ≡ Literal Null) ⊎ ((k : Kind) × IsExpr columns parameters levels [] k e × MayStore c k)
-
--- the column of a base table at its position
-abbrev pub IsColumnOf : BaseTable → ObjectColumn → Type 0
-IsColumnOf b c = slice_get (map (λ column. column.domain) b.columns) c.position ≡ Some c.domain
 
 abbrev pub IsSource : TableKinds → List Kind → List ObjectColumn → InsertedRows → Type 0
 IsSource columns parameters objects (inserted.Values es) = AllZip (IsNewValue columns parameters []) objects es

@@ -1,8 +1,9 @@
 //! What names mean: tables and views, privileges, cursors and parameters.
 
-ghost use Rattle.std.specs.Prelude.{◌≡◌, ◌≤◌, ◌<◌, nat_lt, length, map, true, IfSome, List};
+ghost use Rattle.std.specs.Prelude.{◌≡◌, ◌≤◌, ◌<◌, nat_lt, length, map, slice_get, true, IfSome, List, Some};
 ghost use Rattle.std.specs.List.{list_all};
 ghost use Rattle.sq_value.specs.Domain.{IsDomain, kind_of};
+ghost use Rattle.sq_bound.specs.Default.{DefaultIsIn, DefaultIsIn-prop};
 ghost use Rattle.sq_bound.specs.Names.{are_positions, is_kind_at, option_all};
 ghost use Rattle.sq_bound.specs.Parameter.{IsDomain-prop};
 
@@ -148,6 +149,7 @@ pub struct BaseColumn {
     pub not_null: bool,
     pub default: ColumnDefault,
     ghost is_domain: { IsDomain domain } by { IsDomain-prop domain },
+    ghost default_is: { DefaultIsIn domain default } by { DefaultIsIn-prop domain default },
 }
 
 /// An object column: one of a base table that gets a value (13.8, 13.9).
@@ -204,7 +206,8 @@ impl BaseTable {
     /// The column at a position, as one that gets a value.
     pub fn object_column(&self, position: usize) -> ObjectColumn
         requires { position < length self.now.columns }
-        ensures { result.position ≡ position }
+        ensures position { result.position ≡ position }
+        ensures domain { slice_get (map (λ column. column.domain) self.now.columns) position ≡ Some result.domain }
     {
         ObjectColumn {
             position,
