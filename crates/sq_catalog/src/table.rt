@@ -1,8 +1,9 @@
 //! CREATE TABLE (ISO/IEC 9075:1992, 11.3 to 11.9).
 
-ghost use Rattle.std.specs.Prelude.{◌≡◌, ◌∷◌, [], nat_lt, true, length, vec_len, IfOk, IsTrue, OnOk};
+ghost use Rattle.std.specs.Prelude.{◌≡◌, ◌∷◌, [], is_err, nat_lt, true, length, vec_len, IfOk, IsTrue, OnOk};
 ghost use Rattle.std.specs.List.{All, list_all};
 ghost use Rattle.sq_value.specs.Domain.{IsDomain, FitsKind};
+ghost use Rattle.sq_bound.specs.Default.{DefaultIsIn};
 ghost use Rattle.sq_bound.specs.Names.{are_positions};
 ghost use Rattle.sq_catalog.specs.Catalog.{Gains, named_by};
 ghost use Rattle.sq_catalog.specs.Reference.{IsFound, is_to, keys_with};
@@ -329,7 +330,9 @@ fn base_column(alloc: Global, definition: &ColumnDefinition) -> Result<BaseColum
     })
 }
 
-fn bad_default<T>() -> Result<T, ElementFault> {
+fn bad_default<T>() -> Result<T, ElementFault>
+    ensures { is_err result ≡ true }
+{
     Err(ElementFault::Refused(RefusalName::BadDefault))
 }
 
@@ -340,6 +343,7 @@ fn default_of(
     domain: Domain,
 ) -> Result<ColumnDefault, ElementFault>
     requires { IsDomain domain }
+    ensures { IfOk result (DefaultIsIn domain) }
 {
     match written {
         None | Some(DefaultValue::Null) => Ok(ColumnDefault::Value(Value::Null)),
@@ -353,7 +357,9 @@ fn default_of(
     }
 }
 
-fn user_default(domain: Domain) -> Result<ColumnDefault, ElementFault> {
+fn user_default(domain: Domain) -> Result<ColumnDefault, ElementFault>
+    ensures { IfOk result (DefaultIsIn domain) }
+{
     match domain {
         Domain::Char(length) | Domain::VarChar(length) if length >= USER_LENGTH => {
             Ok(ColumnDefault::User)
@@ -369,6 +375,7 @@ fn stored_default(
     domain: Domain,
 ) -> Result<ColumnDefault, ElementFault>
     requires { IsDomain domain }
+    ensures { IfOk result (DefaultIsIn domain) }
 {
     if !fits_kind(&value, domain) {
         drop(value);
