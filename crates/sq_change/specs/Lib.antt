@@ -1,3 +1,4 @@
 pub mod Changed
+pub mod Given
 pub mod Reference
 pub mod Statement

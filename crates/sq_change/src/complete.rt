@@ -5,8 +5,8 @@ ghost use Rattle.std.specs.List.{list_all};
 ghost use Rattle.sq_store.specs.Change.{insert_count, rows_put};
 ghost use Rattle.sq_store.specs.Content.{changed_by, table_at, with_table};
 ghost use Rattle.sq_store.specs.Keys.{has_keys, keys_at};
-ghost use Rattle.sq_bound.specs.Fits.{IsBase, holds, keys_of_bases};
-ghost use Rattle.sq_change.specs.Changed.{are_wide};
+ghost use Rattle.sq_bound.specs.Fits.{AreInDomains, IsBase, holds, keys_of_bases};
+ghost use Rattle.sq_change.specs.Changed.{AreRowsPut, are_wide};
 ghost use Rattle.sq_change.specs.Reference.{are_of_keys};
 
 use crate::constraint::{check_options_met, rows_satisfied};
@@ -28,7 +28,7 @@ pub(crate) struct Changed {
 }
 
 /// Makes the changes of a base table. In this order: check options, constraints on one row, keys, references.
-#[tactic(auto, using(crate::proofs::Held::still_held))]
+#[tactic(auto, using(crate::proofs::Held::still_held, crate::proofs::Domains::still_in))]
 pub(crate) fn complete<N: Names, S: Store>(
     alloc: Global,
     names: &N,
@@ -39,14 +39,17 @@ pub(crate) fn complete<N: Names, S: Store>(
     parameters: &[Value],
 ) -> Result<(), Fault>
     requires tables { holds (N.base_tables names.now) (S.content_now store.old) ≡ true }
+    requires in_domains { AreInDomains (N.base_tables names.now) (S.content_now store.old) }
     requires keys { S.key_columns store.old ≡ keys_of_bases (N.base_tables names.now) }
     requires base { IsBase (N.base_tables names.now) leaf.now.table }
     requires wide { are_wide (length leaf.now.table.columns) (rows_put changed.changes.items) ≡ true }
+    requires domains { AreRowsPut leaf.now.table.columns changed.changes.items }
     requires numbers { insert_count changed.changes.items ≤ S.row_numbers store.old + 1 - (table_at (S.content_now store.old) leaf.now.table.place).next }
     ensures ok { OnOk result (S.content_now store.new
         ≡ with_table (S.content_now store.old) leaf.now.table.place (changed_by (table_at (S.content_now store.old) leaf.now.table.place) changed.changes.items)) }
     ensures err { OnErr result (S.content_now store.new ≡ S.content_now store.old) }
     ensures tables { holds (N.base_tables names.now) (S.content_now store.new) ≡ true }
+    ensures in_domains { AreInDomains (N.base_tables names.now) (S.content_now store.new) }
     ensures committed { S.committed store.new ≡ S.committed store.old }
     ensures keys { S.key_columns store.new ≡ S.key_columns store.old }
     ensures numbers { S.row_numbers store.new ≡ S.row_numbers store.old }

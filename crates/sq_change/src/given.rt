@@ -1,8 +1,12 @@
 //! The rows that an insert statement makes (ISO/IEC 9075:1992, 13.8).
 
-ghost use Rattle.std.specs.Prelude.{◌≡◌, ◌<◌, length, true, vec_len, IfOk};
+ghost use Rattle.std.specs.Prelude.{◌≡◌, ◌<◌, length, nat_eq, true, vec_len, IfOk, IfSome};
+ghost use Rattle.std.specs.List.{AllByRecursion, position};
+ghost use Rattle.sq_value.specs.Domain.{IsInDomain};
 ghost use Rattle.sq_store.specs.Change.{rows_put};
-ghost use Rattle.sq_change.specs.Changed.{are_insertions, are_wide};
+ghost use Rattle.sq_bound.specs.Fits.{IsColumnOf, IsRowIn};
+ghost use Rattle.sq_change.specs.Changed.{AreRowsPut, are_insertions, are_wide};
+ghost use Rattle.sq_change.specs.Given.{AreStored, IsStoredFor};
 
 use crate::setting::Setting;
 use crate::storing::{assigned, stored_value};
@@ -23,8 +27,10 @@ pub(crate) fn new_rows<N: Names, S: Store>(
     table: &BaseTable,
     meter: &mut Meter,
 ) -> Result<Vec<Change>, Fault>
+    requires { AllByRecursion (IsColumnOf table.now) insert.now.columns }
     ensures insertions { IfOk result (λ changes. are_insertions changes.items ≡ true) }
     ensures wide { IfOk result (λ changes. are_wide (length table.now.columns) (rows_put changes.items) ≡ true) }
+    ensures in_domains { IfOk result (λ changes. AreRowsPut table.now.columns changes.items) }
     ensures some { IfOk result (λ changes. 0 < vec_len changes) }
 {
     let given = given_rows(setting, insert, meter)?;
@@ -37,7 +43,8 @@ fn given_rows<N: Names, S: Store>(
     insert: &BoundInsert,
     meter: &mut Meter,
 ) -> Result<Vec<Row>, Fault>
-    ensures { IfOk result (λ rows. 0 < vec_len rows) }
+    ensures some { IfOk result (λ rows. 0 < vec_len rows) }
+    ensures stored { IfOk result (λ rows. AllByRecursion (AreStored insert.now.columns) rows.items) }
 {
     let columns = insert.columns.as_slice();
     match &insert.source {
@@ -59,7 +66,9 @@ fn given_values<N: Names, S: Store>(
     setting: &Setting<'_, N, S>,
     columns: &[ObjectColumn],
     values: &[BoundExpr],
-) -> Result<Row, Fault> {
+) -> Result<Row, Fault>
+    ensures { IfOk result (AreStored columns.now) }
+{
     let mut row = Items::new(setting.alloc);
     for (column, value) in columns.iter().zip(values) {
         row.push(stored_value(setting, *column, value, None)?)?;
@@ -91,7 +100,8 @@ fn rows_found<N: Names, S: Store>(
 
 /// Rows as the columns store them.
 fn stored_rows(alloc: Global, columns: &[ObjectColumn], rows: &[Row]) -> Result<Vec<Row>, Fault>
-    ensures { IfOk result (λ stored. vec_len stored ≡ length rows.now) }
+    ensures count { IfOk result (λ stored. vec_len stored ≡ length rows.now) }
+    ensures stored { IfOk result (λ stored. AllByRecursion (AreStored columns.now) stored.items) }
 {
     let mut stored = Vec::new(alloc);
     for row in rows {
@@ -101,7 +111,9 @@ fn stored_rows(alloc: Global, columns: &[ObjectColumn], rows: &[Row]) -> Result<
 }
 
 /// A row as the columns store it.
-fn stored_row(alloc: Global, columns: &[ObjectColumn], row: &[Value]) -> Result<Row, Fault> {
+fn stored_row(alloc: Global, columns: &[ObjectColumn], row: &[Value]) -> Result<Row, Fault>
+    ensures { IfOk result (AreStored columns.now) }
+{
     let mut stored = Items::new(alloc);
     for (column, value) in columns.iter().zip(row) {
         stored.push(assigned(alloc, column.domain, value)?)?;
@@ -116,8 +128,11 @@ fn completed_rows<N: Names, S: Store>(
     columns: &[ObjectColumn],
     given: &[Row],
 ) -> Result<Vec<Change>, Fault>
+    requires columns { AllByRecursion (IsColumnOf table.now) columns.now }
+    requires stored { AllByRecursion (AreStored columns.now) given.now }
     ensures insertions { IfOk result (λ changes. are_insertions changes.items ≡ true) }
     ensures wide { IfOk result (λ changes. are_wide (length table.now.columns) (rows_put changes.items) ≡ true) }
+    ensures in_domains { IfOk result (λ changes. AreRowsPut table.now.columns changes.items) }
     ensures length { IfOk result (λ changes. vec_len changes ≡ length given.now) }
 {
     let mut changes = Vec::new(setting.alloc);
@@ -135,7 +150,10 @@ fn new_row<N: Names, S: Store>(
     columns: &[ObjectColumn],
     given: &[Value],
 ) -> Result<Row, Fault>
-    ensures { IfOk result (λ row. length row ≡ length table.now.columns) }
+    requires columns { AllByRecursion (IsColumnOf table.now) columns.now }
+    requires stored { AreStored columns.now given.now }
+    ensures wide { IfOk result (λ row. length row ≡ length table.now.columns) }
+    ensures in_domains { IfOk result (IsRowIn table.now.columns) }
 {
     let mut row = Items::new(setting.alloc);
     for (place, column) in table.columns.as_slice().iter().enumerate() {
@@ -146,9 +164,18 @@ fn new_row<N: Names, S: Store>(
 }
 
 /// The value that is given for the column at a place.
-fn given_at<'a>(columns: &[ObjectColumn], given: &'a [Value], place: usize) -> Option<&'a Value> {
-    let position = columns.iter().position(|column| column.position == place)?;
-    given.get(position)
+fn given_at<'a>(columns: &[ObjectColumn], given: &'a [Value], place: usize) -> Option<&'a Value>
+    requires { AreStored columns.now given.now }
+    ensures { IfSome result (λ value. IsStoredFor columns.now place value.now) }
+{
+    given.get(listed_at(columns, place)?)
+}
+
+/// Where the column at a place is listed.
+fn listed_at(columns: &[ObjectColumn], place: usize) -> Option<usize>
+    ensures { result ≡ position (λ column. nat_eq column.position place) columns.now }
+{
+    columns.iter().position(|column| column.position == place)
 }
 
 /// The value that is given, or the column's default (11.5). USER is the caller.
@@ -156,7 +183,10 @@ fn value_or_default<N: Names, S: Store>(
     setting: &Setting<'_, N, S>,
     column: &BaseColumn,
     given: Option<&Value>,
-) -> Result<Value, Fault> {
+) -> Result<Value, Fault>
+    requires { IfSome given (λ value. IsInDomain column.now.domain value.now) }
+    ensures { IfOk result (IsInDomain column.now.domain) }
+{
     if let Some(value) = given {
         return Ok(value.copy(setting.alloc)?);
     }

@@ -1,10 +1,11 @@
 //! The three statements that change a table.
 
 ghost use Rattle.std.specs.Prelude.{◌≡◌, ◌<◌, ◌≤◌, ◌+◌, ◌-◌, true, length, vec_len, IfOk, Ok, OnErr, OnOk};
+ghost use Rattle.std.specs.List.{AllByRecursion};
 ghost use Rattle.sq_store.specs.Change.{insert_count, rows_put};
 ghost use Rattle.sq_store.specs.Content.{table_at};
-ghost use Rattle.sq_bound.specs.Fits.{IsBase, are_columns, holds, keys_of_bases, under};
-ghost use Rattle.sq_change.specs.Changed.{Removals, Replacements, are_insertions, are_wide};
+ghost use Rattle.sq_bound.specs.Fits.{AreInDomains, IsBase, IsColumnOf, are_columns, holds, keys_of_bases, under};
+ghost use Rattle.sq_change.specs.Changed.{AreRowsPut, Removals, Replacements, are_insertions, are_wide};
 ghost use Rattle.sq_change.specs.Statement.{Deletes, Inserts, IsGiven, Updates};
 
 use crate::complete::{Changed, complete};
@@ -28,11 +29,14 @@ pub fn insert<N: Names, S: Store>(
     meter: &mut Meter,
 ) -> Result<(), Fault>
     requires tables { holds (N.base_tables names.now) (S.content_now store.old) ≡ true }
+    requires in_domains { AreInDomains (N.base_tables names.now) (S.content_now store.old) }
     requires keys { S.key_columns store.old ≡ keys_of_bases (N.base_tables names.now) }
     requires base { IsBase (N.base_tables names.now) insert.now.leaf.table }
+    requires columns { AllByRecursion (IsColumnOf insert.now.leaf.table) insert.now.columns }
     ensures ok { OnOk result (Inserts insert.now.base (S.content_now store.old) (S.content_now store.new)) }
     ensures err { OnErr result (S.content_now store.new ≡ S.content_now store.old) }
     ensures tables { holds (N.base_tables names.now) (S.content_now store.new) ≡ true }
+    ensures in_domains { AreInDomains (N.base_tables names.now) (S.content_now store.new) }
     ensures committed { S.committed store.new ≡ S.committed store.old }
     ensures keys { S.key_columns store.new ≡ S.key_columns store.old }
     ensures numbers { S.row_numbers store.new ≡ S.row_numbers store.old }
@@ -51,10 +55,12 @@ fn inserted<N: Names, S: Store>(
     insert: &BoundInsert,
     meter: &mut Meter,
 ) -> Result<Changed, Fault>
-    requires { insert.now.leaf.table.place < length (S.content_now setting.now.store.now) }
+    requires place { insert.now.leaf.table.place < length (S.content_now setting.now.store.now) }
+    requires columns { AllByRecursion (IsColumnOf insert.now.leaf.table) insert.now.columns }
     ensures insertions { IfOk result (λ changed. are_insertions changed.changes.items ≡ true) }
     ensures some { IfOk result (λ changed. 0 < vec_len changed.changes) }
     ensures wide { IfOk result (λ changed. are_wide (length insert.now.leaf.table.columns) (rows_put changed.changes.items) ≡ true) }
+    ensures in_domains { IfOk result (λ changed. AreRowsPut insert.now.leaf.table.columns changed.changes.items) }
     ensures numbers { IfOk result (λ changed. insert_count changed.changes.items
         ≤ S.row_numbers setting.now.store.now + 1 - (table_at (S.content_now setting.now.store.now) insert.now.leaf.table.place).next) }
 {
@@ -85,12 +91,15 @@ pub fn update<N: Names, S: Store>(
 ) -> Result<(), Fault>
     requires given { IsGiven update.now.target on }
     requires tables { holds (N.base_tables names.now) (S.content_now store.old) ≡ true }
+    requires in_domains { AreInDomains (N.base_tables names.now) (S.content_now store.old) }
     requires keys { S.key_columns store.old ≡ keys_of_bases (N.base_tables names.now) }
     requires base { IsBase (N.base_tables names.now) (under update.now.target).table }
     requires columns { are_columns (length (under update.now.target).table.columns) update.now.assignments ≡ true }
+    requires domains { AllByRecursion (λ a. IsColumnOf (under update.now.target).table a.column) update.now.assignments }
     ensures ok { OnOk result (Updates update.now.target on (S.content_now store.old) (S.content_now store.new)) }
     ensures err { OnErr result (S.content_now store.new ≡ S.content_now store.old) }
     ensures tables { holds (N.base_tables names.now) (S.content_now store.new) ≡ true }
+    ensures in_domains { AreInDomains (N.base_tables names.now) (S.content_now store.new) }
     ensures committed { S.committed store.new ≡ S.committed store.old }
     ensures keys { S.key_columns store.new ≡ S.key_columns store.old }
     ensures numbers { S.row_numbers store.new ≡ S.row_numbers store.old }
@@ -113,8 +122,11 @@ fn updated<N: Names, S: Store>(
     requires tables { holds (N.base_tables setting.now.names.now) (S.content_now setting.now.store.now) ≡ true }
     requires base { IsBase (N.base_tables setting.now.names.now) (under update.now.target).table }
     requires columns { are_columns (length (under update.now.target).table.columns) update.now.assignments ≡ true }
+    requires in_domains { AreInDomains (N.base_tables setting.now.names.now) (S.content_now setting.now.store.now) }
+    requires domains { AllByRecursion (λ a. IsColumnOf (under update.now.target).table a.column) update.now.assignments }
     ensures replacements { IfOk result (λ changed. Replacements update.now.target on changed.changes.items) }
     ensures wide { IfOk result (λ changed. are_wide (length (under update.now.target).table.columns) (rows_put changed.changes.items) ≡ true) }
+    ensures in_domains { IfOk result (λ changed. AreRowsPut (under update.now.target).table.columns changed.changes.items) }
 {
     let table = leaf_under(&update.target).table.get();
     let assignments = update.assignments.as_slice();
@@ -158,11 +170,13 @@ pub fn delete<N: Names, S: Store>(
 ) -> Result<(), Fault>
     requires given { IsGiven target.now on }
     requires tables { holds (N.base_tables names.now) (S.content_now store.old) ≡ true }
+    requires in_domains { AreInDomains (N.base_tables names.now) (S.content_now store.old) }
     requires keys { S.key_columns store.old ≡ keys_of_bases (N.base_tables names.now) }
     requires base { IsBase (N.base_tables names.now) (under target.now).table }
     ensures ok { OnOk result (Deletes target.now on (S.content_now store.old) (S.content_now store.new)) }
     ensures err { OnErr result (S.content_now store.new ≡ S.content_now store.old) }
     ensures tables { holds (N.base_tables names.now) (S.content_now store.new) ≡ true }
+    ensures in_domains { AreInDomains (N.base_tables names.now) (S.content_now store.new) }
     ensures committed { S.committed store.new ≡ S.committed store.old }
     ensures keys { S.key_columns store.new ≡ S.key_columns store.old }
     ensures numbers { S.row_numbers store.new ≡ S.row_numbers store.old }

@@ -1,9 +1,9 @@
 //! Values as the columns of a base table store them (ISO/IEC 9075:1992, 9.2).
 
-ghost use Rattle.std.specs.Prelude.{◌≡◌, ◌↔◌, IsTrue};
+ghost use Rattle.std.specs.Prelude.{◌≡◌, ◌↔◌, IfOk, IsTrue};
 ghost use Rattle.sq_meaning.specs.Assignment as spec;
 ghost use Rattle.sq_query.specs.Fault.{Meets};
-ghost use Rattle.sq_value.specs.Domain.{FitsKind, IsDomain, is_of_numbers};
+ghost use Rattle.sq_value.specs.Domain.{FitsKind, IsDomain, IsInDomain, is_of_numbers};
 
 use crate::setting::Setting;
 use sq_bound::{BoundExpr, Names, ObjectColumn};
@@ -18,7 +18,9 @@ pub(crate) fn stored_value<N: Names, S: Store>(
     column: ObjectColumn,
     expr: &BoundExpr,
     row: Option<&Row>,
-) -> Result<Value, Fault> {
+) -> Result<Value, Fault>
+    ensures { IfOk result (IsInDomain column.domain) }
+{
     let value = setting.value(expr, row)?;
     assigned(setting.alloc, column.domain, &value)
 }
@@ -29,6 +31,7 @@ pub fn assigned(alloc: Global, domain: Domain, value: &Value) -> Result<Value, F
     requires { IsDomain domain }
     ensures fit { FitsKind domain value.now → Meets result (spec.assigned domain value.now) }
     ensures unfit { ¬ FitsKind domain value.now → result ≡ Err Fault.NOT_WELL_FORMED }
+    ensures in_domain { IfOk result (IsInDomain domain) }
 {
     if !fits_kind(domain, value) {
         return Err(Fault::NOT_WELL_FORMED);

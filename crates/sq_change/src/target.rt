@@ -1,9 +1,11 @@
 //! The rows that UPDATE and DELETE change (ISO/IEC 9075:1992, 13.6, 13.7, 13.9 and 13.10).
 
-ghost use Rattle.std.specs.Prelude.{◌≡◌, ◌<◌, ◌∷◌, [], length, map, true, IfOk};
+ghost use Rattle.std.specs.Prelude.{◌≡◌, ◌<◌, ◌∷◌, [], length, map, true, IfOk, OnOk};
+ghost use Rattle.std.specs.List.{AllByRecursion};
 ghost use Rattle.sq_store.specs.Change.{rows_put};
-ghost use Rattle.sq_bound.specs.Fits.{IsBase, are_columns, holds, under};
-ghost use Rattle.sq_change.specs.Changed.{are_replacements, are_wide};
+ghost use Rattle.sq_bound.specs.Fits.{AreInDomains, IsBase, IsColumnOf, IsRowIn, are_columns, holds, under};
+ghost use Rattle.sq_bound.specs.declared.names.BaseTable.{BaseTable as AnyTable};
+ghost use Rattle.sq_change.specs.Changed.{AreRowsPut, are_replacements, are_wide};
 ghost use Rattle.sq_change.specs.Statement.{Chosen, IsGiven};
 
 use crate::setting::Setting;
@@ -77,8 +79,11 @@ pub(crate) fn replaced<N: Names, S: Store>(
     requires tables { holds (N.base_tables setting.now.names.now) (S.content_now setting.now.store.now) ≡ true }
     requires base { IsBase (N.base_tables setting.now.names.now) table.now }
     requires columns { are_columns (length table.now.columns) assignments.now ≡ true }
+    requires in_domains { AreInDomains (N.base_tables setting.now.names.now) (S.content_now setting.now.store.now) }
+    requires domains { AllByRecursion (λ a. IsColumnOf table.now a.column) assignments.now }
     ensures replacements { IfOk result (λ changes. are_replacements numbers.now changes.items ≡ true) }
     ensures wide { IfOk result (λ changes. are_wide (length table.now.columns) (rows_put changes.items) ≡ true) }
+    ensures in_domains { IfOk result (λ changes. AreRowsPut table.now.columns changes.items) }
 {
     let mut changes = Vec::new(setting.alloc);
     let mut meter = Meter::new();
@@ -98,7 +103,9 @@ fn updated_row<N: Names, S: Store>(
     row: &Row,
 ) -> Result<Row, Fault>
     requires { are_columns (length row.now) assignments.now ≡ true }
-    ensures { IfOk result (λ updated. length updated ≡ length row.now) }
+    ensures wide { IfOk result (λ updated. length updated ≡ length row.now) }
+    ensures in_domains { IfOk result (λ updated. (t : AnyTable) → AllByRecursion (λ a. IsColumnOf t a.column) assignments.now → IsRowIn t.columns row.now
+        → IsRowIn t.columns updated) }
 {
     let mut updated = copy_row(setting.alloc, row.as_slice())?.into_vec();
     for assignment in assignments {
@@ -115,6 +122,7 @@ fn assign<N: Names, S: Store>(
     updated: &mut [Value],
 ) -> Result<(), Fault>
     requires { assignment.now.column.position < length updated.old }
+    ensures { OnOk result ((t : AnyTable) → IsColumnOf t assignment.now.column → IsRowIn t.columns updated.old → IsRowIn t.columns updated.new) }
 {
     let column = assignment.column;
     let value = stored_value(setting, column, &assignment.value, Some(row))?;

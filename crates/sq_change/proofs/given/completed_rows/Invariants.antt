@@ -1,11 +1,12 @@
 use Rattle.std.proofs.Common.{◌≡◌, true, length, vec_len}
 use Rattle.sq_store.specs.Change.{rows_put}
-use Rattle.sq_change.specs.Changed.{are_insertions, are_wide}
+use Rattle.sq_change.specs.Changed.{AreRowsPut, are_insertions, are_wide}
 use Rattle.sq_change.proofs.given.completed_rows.Given as goal
 
 abbrev pub invariant-loop-values : goal.invariant-loop-values
 invariant-loop-values g l = record {
   insertions : are_insertions l.changes.items ≡ true;
   wide : are_wide (length l.table.columns) (rows_put l.changes.items) ≡ true;
+  in_domains : AreRowsPut l.table.columns l.changes.items;
   length : vec_len l.changes ≡ l.values-index;
 }

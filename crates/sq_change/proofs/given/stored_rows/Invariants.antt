@@ -1,5 +1,10 @@
 use Rattle.std.proofs.Common.{◌≡◌, vec_len}
+use Rattle.std.specs.List.{AllByRecursion}
+use Rattle.sq_change.specs.Given.{AreStored}
 use Rattle.sq_change.proofs.given.stored_rows.Given as goal
 
 abbrev pub invariant-loop-row : goal.invariant-loop-row
-invariant-loop-row l = vec_len l.stored ≡ l.row-index
+invariant-loop-row l = record {
+  count : vec_len l.stored ≡ l.row-index;
+  stored : AllByRecursion (AreStored l.columns) l.stored.items;
+}

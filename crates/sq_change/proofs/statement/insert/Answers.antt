@@ -1,7 +1,7 @@
 use Rattle.sq_change.proofs.Held.{is_there}
 use Rattle.sq_change.proofs.statement.insert.Goals as goal
 
-pub inserted-requires : goal.inserted-requires
-inserted-requires g c =
+pub inserted-requires-clause-place : goal.inserted-requires-clause-place
+inserted-requires-clause-place g c =
     let table = c.args.insert.now.leaf.table in
     rw c.new-setting.ensures.store (is_there (g.N.Names.base_tables c.args.names.now) (g.S.Store.content_now c.args.store.now) table.place table c.requires.tables c.requires.base)

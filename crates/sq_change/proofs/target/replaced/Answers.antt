@@ -1,6 +1,8 @@
 use Rattle.std.proofs.Common.{◌≡◌, length, ◌∙◌, arith}
 use Rattle.std.proofs.lemmas.Grind.{common_steps}
+use Rattle.sq_bound.specs.Fits.{IsRowIn}
 use Rattle.sq_change.proofs.Applied.{wide_replaced}
+use Rattle.sq_change.proofs.Domains.{replaced_in, row_at_in}
 use Rattle.sq_change.proofs.Held.{is_there, row_at_wide}
 use Rattle.sq_change.proofs.target.replaced.Goals.{in-Some+in_ok-row+in_ok-push, in_default}
 use Rattle.sq_change.proofs.target.replaced.Goals as goal
@@ -27,9 +29,13 @@ loop-number-preserved g c =
       | in-Some+in_ok-row+in_ok-push w ↦
           let wide : length w.in-Some.row.now ≡ length table.columns
           = row_at_wide (g.N.Names.base_tables setting.names.now) (g.S.Store.content_now setting.store.now) table _ w.in-Some.row.now c.requires.tables c.requires.base w.in-Some.ensures.row in
+          let is : IsRowIn table.columns w.in-Some.row.now
+          = row_at_in (g.N.Names.base_tables setting.names.now) (g.S.Store.content_now setting.store.now) table _ w.in-Some.row.now c.requires.in_domains c.requires.base w.in-Some.ensures.row in
           record {
             replacements = grind (arith, common_steps);
-            wide = rw w.changes-is (rw w.in_ok-push.ensures.items (wide_replaced (length table.columns) c.loop-number.changes.items _ w.in_ok-row.row c.loop-number.invariant.wide (w.in_ok-row.ensures ∙ wide)));
+            wide = rw w.changes-is (rw w.in_ok-push.ensures.items (wide_replaced (length table.columns) c.loop-number.changes.items _ w.in_ok-row.row c.loop-number.invariant.wide (w.in_ok-row.ensures.wide ∙ wide)));
+            in_domains = rw w.changes-is (rw w.in_ok-push.ensures.items
+                (replaced_in table.columns c.loop-number.changes.items _ w.in_ok-row.row c.loop-number.invariant.in_domains (w.in_ok-row.ensures.in_domains table c.requires.domains is)));
           }
       | in_default w ↦ rw w.changes-is c.loop-number.invariant
     ]
