@@ -1,7 +1,7 @@
 -- Defaults of columns (ISO/IEC 9075:1992, 11.5).
 use Rattle.std.specs.Prelude.{⊤, ◌≡◌, ℤ, ◌≤ℤ◌}
 use Rattle.std.specs.Coded.{×_prop, Unit-prop, le_prop, Coded-set, coded_ℕ, codes}
-use Rattle.std.proofs.Common.{◌≤◌, ℕ, List, length, ap₂}
+use Rattle.std.proofs.Common.{ℕ, List, length, ap₂}
 use Rattle.sq_value.specs.Domain.{IsInDomain, NumberIsIn, TextIsIn}
 use Rattle.sq_value.specs.Number.{Number}
 use Rattle.sq_value.specs.declared.domain.Domain.{Domain}

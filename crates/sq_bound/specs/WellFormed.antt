@@ -1,6 +1,6 @@
 -- Which bound trees are well formed (ISO/IEC 9075:1992, 6.3 to 6.5, 6.11, 7.3 to 7.11, clauses 8 and 13): their trees by
 -- place are, and what is known of their columns beforehand is what the definitions give.
-use Rattle.std.specs.Prelude.{⊤, ◌≡◌, ◌⊎◌, ℕ, nat_eq, if◌then◌else◌, IsTrue, List, [], ◌∷◌, ◌++◌, map, slice_get, Option, None, Some, IfSome, Ok}
+use Rattle.std.specs.Prelude.{⊤, ◌≡◌, ◌⊎◌, ℕ, nat_eq, if◌then◌else◌, IsTrue, List, [], ◌∷◌, ◌++◌, map, slice_get, Some, IfSome, Ok}
 use Rattle.std.specs.List.{AllByRecursion, AllZip}
 use Rattle.sq_value.specs.Domain.{kind_of}
 use Rattle.sq_value.specs.declared.domain.Kind.{Kind}
@@ -13,7 +13,7 @@ use Rattle.sq_meaning.specs.Placed.{Placed, by_place}
 use Rattle.sq_meaning.specs.WellFormed.{Has, Level, froms, of_lines, is_comparable, MayStand, WellFormedCond, WellFormedSelect, WellFormedQuery, kinds_by_place, IsDeclaredAt}
 use Rattle.sq_bound.specs.Condition.{PlacedCond, cond_of, select_of}
 use Rattle.sq_bound.specs.Expression.{PlacedExpr, expr_of}
-use Rattle.sq_bound.specs.Fits.{IsColumnOf, IsOver, under}
+use Rattle.sq_bound.specs.Fits.{IsColumnOf, under}
 use Rattle.sq_bound.specs.Query.{query_of}
 use Rattle.sq_bound.specs.SetFunction.{call_of}
 use Rattle.sq_bound.specs.declared.condition.BoundCond.{BoundCond}
@@ -39,7 +39,6 @@ use Rattle.sq_bound.specs.declared.query.CursorBody.TheVariants as cursor
 use Rattle.sq_bound.specs.declared.query.Target.{Target}
 use Rattle.sq_bound.specs.declared.query.UpdatableQuery.{UpdatableQuery}
 use Rattle.sq_bound.specs.declared.statement.BoundAssignment.{BoundAssignment}
-use Rattle.sq_bound.specs.declared.statement.BoundFetch.{BoundFetch}
 use Rattle.sq_bound.specs.declared.statement.BoundStatement.{BoundStatement}
 use Rattle.sq_bound.specs.declared.statement.BoundStatement.TheVariants as statement
 use Rattle.sq_bound.specs.declared.statement.ChangeTarget.{ChangeTarget}
