@@ -93,7 +93,7 @@ pub record MayStandAt (columns : TableKinds) (levels : Levels) (environment : En
   pub functions : allowed ≡ true → IsInQuery levels
   pub reads : IsTrue (may_read levels has_ungrouped)
 
--- an expression is well formed at each levels at which it may stand
+-- an expression is well formed at all levels at which it may stand
 abbrev pub IsTyped : Environment → (allowed has_ungrouped : Bool) → List SetFunctionCall → Typed → Type 0
 IsTyped environment allowed has_ungrouped calls typed =
     (columns : TableKinds) (levels : Levels) → MayStandAt columns levels environment allowed has_ungrouped
