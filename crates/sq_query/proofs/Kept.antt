@@ -13,7 +13,7 @@ use Rattle.sq_query.proofs.Each.{after}
 pub ok_same : {A : Type 0} (x y : A) → ◌≡◌ {A = Outcome A} (Ok x) (Ok y) → x ≡ y
 ok_same x y h = cc
 
-no_status : {A : Type 0} (P : Type 0) (s : Status) (x : A) → ◌≡◌ {A = Outcome A} (Err s) (Ok x) → P
+pub no_status : {A : Type 0} (P : Type 0) (s : Status) (x : A) → ◌≡◌ {A = Outcome A} (Err s) (Ok x) → P
 no_status P s x h = absurd cc
 
 -- what is there, and an element where it is kept

@@ -30,3 +30,8 @@ pub mod Wanted
 pub mod Grouped
 pub mod QueryRows
 pub mod Tables
+pub mod Ruling
+pub mod Longer
+pub mod Joined
+pub mod Pruned
+pub mod Products

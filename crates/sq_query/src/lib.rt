@@ -24,6 +24,7 @@ mod memo;
 mod needed;
 mod order;
 mod predicate;
+mod product;
 mod row;
 mod select;
 mod set_function;
