@@ -30,3 +30,5 @@ pub mod Wanted
 pub mod Grouped
 pub mod QueryRows
 pub mod Tables
+pub mod Bases
+pub mod Stored
