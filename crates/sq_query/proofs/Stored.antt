@@ -8,7 +8,7 @@ use Rattle.sq_store.specs.Content.{Content}
 use Rattle.sq_store.specs.declared.table.Table.{Table}
 use Rattle.sq_meaning.specs.Status.{Outcome, and_then, each, kept, well_formed}
 use Rattle.sq_meaning.specs.declared.status.Status.{Status}
-use Rattle.sq_meaning.specs.Syntax.{from_clause, where_clause, having_clause, select}
+use Rattle.sq_meaning.specs.Syntax.{from_clause, where_clause, having_clause, select, specification}
 use Rattle.sq_meaning.specs.Environment.{Row, Env, alone, within}
 use Rattle.sq_meaning.specs.Placed.{by_place}
 use Rattle.sq_meaning.specs.Query.{rows, clause_truth, is_true, scopes_of, listed_values}
@@ -17,18 +17,22 @@ use Rattle.sq_meaning.specs.Tables.{rows_in}
 use Rattle.sq_meaning.specs.Target.{clause_has_subquery}
 use Rattle.sq_meaning.proofs.OutcomeLaws.{each_value}
 use Rattle.sq_bound.specs.Condition.{PlacedSelect, PlacedClause, Groups, select_of, groups_of, groups_if, clause_of}
+use Rattle.sq_bound.specs.Query.{query_of, term_of, union_of}
 use Rattle.sq_bound.specs.SetFunction.{call_of}
 use Rattle.sq_bound.specs.declared.condition.BoundSpecification.{BoundSpecification, out-BoundSpecification}
 use Rattle.sq_bound.specs.declared.condition.Grouping.{Grouping, out-Grouping}
 use Rattle.sq_bound.specs.declared.condition.TablePlace.{TablePlace}
 use Rattle.sq_bound.specs.declared.condition.TablePlace.TheVariants.{Base}
 use Rattle.sq_bound.specs.declared.expression.BoundExpr.{BoundExpr}
+use Rattle.sq_bound.specs.declared.query.BoundQuery.{BoundQuery, out-BoundQuery}
 use Rattle.sq_bound.proofs.ConditionLaws.{groups_of-out, select_of-out}
+use Rattle.sq_bound.proofs.QueryLaws.{query_of-out, term_of-Specification}
 use Rattle.sq_query.specs.Fault.{Meets, MeetsAs, rows_in as rows_found}
 use Rattle.sq_query.specs.Frame.{lent}
 use Rattle.sq_query.specs.Needed.{NeedsBases, places_in, with_table}
 use Rattle.sq_query.specs.Specification.{items_in, IsPlainQuery, AreGroupsIfAny}
 use Rattle.sq_query.specs.Table.{table_there, stored_rows, stored_base, base_seen, bases_of, AreOfStore}
+use Rattle.sq_query.specs.Union.{IsOnly}
 use Rattle.sq_query.specs.declared.fault.Fault.{Fault}
 use Rattle.sq_query.specs.declared.fault.Fault.TheVariants as fault
 use Rattle.sq_query.specs.declared.needed.Needed.{Needed}
@@ -152,3 +156,13 @@ module _ (q : BoundSpecification) (p : ℕ) (over : items_in q ≡ Base p ∷ []
   rows_fail tables env content view shown fault.NoMemory are h = tt
   rows_fail tables env content view shown (fault.Status f) are h =
       no_tables tables (select_of q) env _ (one_base tables _ (are p ∙ base_fails content p _ h))
+
+-- ---- query expressions
+
+-- one without UNION is its query specification
+pub query_is : (q : BoundQuery) (s : BoundSpecification) → IsOnly q s → query_of q ≡ specification (select_of s)
+query_is q s only =
+    query_of-out q
+    ∙ ap (fold (λ left u. union_of u left) (term_of (out-BoundQuery q).first)) only.1
+    ∙ ap term_of only.0
+    ∙ term_of-Specification s

@@ -20,3 +20,4 @@ pub mod Needed
 pub mod Target
 pub mod Table
 pub mod Specification
+pub mod Union

@@ -6,6 +6,8 @@ ghost use Rattle.sq_bound.specs.Condition.{cond_of, conj_of, predicate_of, claus
 ghost use Rattle.sq_meaning.specs.Target.{has_subquery, clause_has_subquery};
 ghost use Rattle.sq_query.specs.Needed.{NeedsNone, places_in, with_place, with_table};
 ghost use Rattle.sq_query.specs.Specification.{items_in, IsPlainQuery};
+ghost use Rattle.sq_query.specs.Union.{IsSpecification, IsOnly};
+ghost use Rattle.sq_bound.specs.declared.condition.BoundSpecification.{BoundSpecification as AnySpecification};
 
 use sq_bound::{
     BoundCond, BoundConj, BoundQuery, BoundSpecification, BoundTerm, Grouping, Names, Predicate,
@@ -43,7 +45,9 @@ impl Needed {
     }
 
     /// The tables in the FROM clauses of a query expression.
-    pub(crate) fn of_query(alloc: Global, query: &BoundQuery) -> Result<Needed, AllocError> {
+    pub(crate) fn of_query(alloc: Global, query: &BoundQuery) -> Result<Needed, AllocError>
+        ensures { (s : AnySpecification) → IsOnly query.now s → IsPlainQuery s → IfOk result (λ needed. places_in needed ≡ fold with_table ([], []) (items_in s)) }
+    {
         let mut needed = Needed::new(alloc);
         needed.add_of_query(query)?;
         Ok(needed)
@@ -96,7 +100,9 @@ impl Needed {
     }
 
     #[cycle(needed_of_query)]
-    pub(crate) fn add_of_query(&mut self, query: &BoundQuery) -> Result<(), AllocError> {
+    pub(crate) fn add_of_query(&mut self, query: &BoundQuery) -> Result<(), AllocError>
+        ensures { (s : AnySpecification) → IsOnly query.now s → IsPlainQuery s → OnOk result (places_in self.new ≡ fold with_table (places_in self.old) (items_in s)) }
+    {
         self.add_of_term(&query.first)?;
         for union in query.rest.as_slice() {
             self.add_of_term(&union.term)?;
@@ -105,7 +111,9 @@ impl Needed {
     }
 
     #[cycle(needed_of_query)]
-    fn add_of_term(&mut self, term: &BoundTerm) -> Result<(), AllocError> {
+    fn add_of_term(&mut self, term: &BoundTerm) -> Result<(), AllocError>
+        ensures { (s : AnySpecification) → IsSpecification term.now s → IsPlainQuery s → OnOk result (places_in self.new ≡ fold with_table (places_in self.old) (items_in s)) }
+    {
         match term {
             BoundTerm::Specification(specification) => self.add_of_specification(specification),
             BoundTerm::Bracketed(query) => self.add_of_query(query.get()),

@@ -1,5 +1,11 @@
 //! The rows of a query expression (ISO/IEC 9075:1992, 7.10).
 
+ghost use Rattle.std.specs.Prelude.{◌≡◌, None, length};
+ghost use Rattle.sq_bound.specs.declared.condition.BoundSpecification.{BoundSpecification as AnySpecification};
+ghost use Rattle.sq_query.specs.Fault.{HasRows};
+ghost use Rattle.sq_query.specs.Specification.{items_in, IsPlainQuery, rows_meant};
+ghost use Rattle.sq_query.specs.Union.{IsSpecification, IsOnly};
+
 use crate::arithmetic::GREATEST_SCALE;
 use crate::condition::rows;
 use crate::context::Context;
@@ -16,7 +22,9 @@ pub(crate) fn query_rows<'a, 'm>(
     query: &'a BoundQuery,
     context: &'a Context<'m>,
     memo: &mut Memo<'m>,
-) -> Result<Vec<Row>, Fault> {
+) -> Result<Vec<Row>, Fault>
+    ensures { (s : AnySpecification) → IsOnly query.now s → length (items_in s) ≡ 1 → IsPlainQuery s → HasRows result (rows_meant s None context.now) }
+{
     let mut so_far = term_rows(&query.first, context, memo)?;
     for union in query.rest.as_slice() {
         match term_rows(&union.term, context, memo) {
@@ -32,7 +40,9 @@ fn term_rows<'a, 'm>(
     term: &'a BoundTerm,
     context: &'a Context<'m>,
     memo: &mut Memo<'m>,
-) -> Result<Vec<Row>, Fault> {
+) -> Result<Vec<Row>, Fault>
+    ensures { (s : AnySpecification) → IsSpecification term.now s → length (items_in s) ≡ 1 → IsPlainQuery s → HasRows result (rows_meant s None context.now) }
+{
     match term {
         BoundTerm::Specification(query) => rows(query, context, memo),
         BoundTerm::Bracketed(query) => query_rows(query.get(), context, memo),
