@@ -32,3 +32,4 @@ pub mod QueryRows
 pub mod Tables
 pub mod Bases
 pub mod Stored
+pub mod Unions
