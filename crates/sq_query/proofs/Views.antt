@@ -19,7 +19,7 @@ pub handed_on_as : {A B : Type 0} (view : A → B) (r : Result A Fault) (f : Fau
 handed_on_as view (Ok v) f o is h = absurd is
 handed_on_as {A} {B} view (Err g) f o is h = subst (λ (x : Fault). MeetsAs {A = A} {B = B} view (Err x) o) (sym is) (fails_as {A = A} {B = B} view f o h)
 
--- where memory alone may be refused, the fault is that
-pub answered_fails : {B : Type 0} (f : Fault) (o : Outcome B) → IsAnswered {A = Unit {0}} (Err f) → Meets {A = B} (Err f) o
-answered_fails fault.NoMemory o h = tt
-answered_fails (fault.Status s) o h = absurd h
+-- where there is an outcome, memory alone may be refused
+pub answered_fails : {A B C : Type 0} (view : A → C) (f : Fault) (there : C) (o : Outcome B) → MeetsAs {A = A} view (Err f) (Ok there) → Meets {A = B} (Err f) o
+answered_fails view fault.NoMemory there o h = tt
+answered_fails view (fault.Status s) there o h = absurd cc

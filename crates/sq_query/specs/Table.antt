@@ -1,5 +1,5 @@
 -- The tables that a statement reads, by their places.
-use Rattle.std.specs.Prelude.{ℕ, find, nat_eq, nat_lt, if◌then◌else◌, List, length, map, Option, Some, None, Vec, Ok, Err}
+use Rattle.std.specs.Prelude.{◌≡◌, ℕ, find, nat_eq, nat_lt, if◌then◌else◌, List, length, map, Option, Some, None, Vec, Ok, Err}
 use Rattle.std.specs.Borrow.{Bor}
 use Rattle.std.specs.declared.alloc.Global.{Global}
 use Rattle.sq_store.specs.Content.{Content, table_at}
@@ -7,11 +7,16 @@ use Rattle.sq_store.specs.declared.table.Numbered.{Numbered}
 use Rattle.sq_store.specs.declared.table.Table.{Table}
 use Rattle.sq_meaning.specs.Environment.{Row}
 use Rattle.sq_meaning.specs.Status.{Outcome, ◌>>=◌, well_formed, not_well_formed}
+use Rattle.sq_meaning.specs.Tables.{rows_in}
+use Rattle.sq_bound.specs.declared.condition.TablePlace.{TablePlace}
+use Rattle.sq_bound.specs.declared.condition.TablePlace.TheVariants.{Base}
 use Rattle.sq_query.specs.Fault.{status_of}
+use Rattle.sq_query.specs.Frame.{lent}
 use Rattle.sq_query.specs.declared.context.Context.{Context}
 use Rattle.sq_query.specs.declared.fault.Failure.{Failure}
 use Rattle.sq_query.specs.declared.table.BaseRows.{BaseRows}
 use Rattle.sq_query.specs.declared.table.ViewRows.{ViewRows}
+use Rattle.sq_query.specs.declared.view.Tables.{Tables}
 
 -- a base table
 abbrev pub base_there : Context → ℕ → Outcome BaseRows
@@ -36,3 +41,24 @@ numbered_row found = record { number = found.0; row = found.1.now }
 
 abbrev pub numbered_in : Vec (ℕ × Bor Row) Global → List Numbered
 numbered_in rows = map numbered_row rows.items
+
+-- the rows of a base table
+abbrev pub stored_rows : Content → ℕ → Outcome (List Row)
+stored_rows content place = table_there content place >>= λ found. Ok (rows_in found)
+
+-- and its place
+abbrev pub stored_base : Content → ℕ → Outcome (ℕ × List Row)
+stored_base content place = table_there content place >>= λ found. Ok (place, rows_in found)
+
+abbrev pub base_seen : BaseRows → ℕ × List Row
+base_seen base = (base.place, lent base.rows.items)
+
+abbrev pub bases_in : Vec BaseRows Global → List (ℕ × List Row)
+bases_in bases = map base_seen bases.items
+
+abbrev pub bases_of : Tables → List (ℕ × List Row)
+bases_of tables = bases_in tables.bases
+
+-- tables of which each base table has the rows of the store
+abbrev pub AreOfStore : Content → (TablePlace → Outcome (List Row)) → Type 0
+AreOfStore content tables = (place : ℕ) → tables (Base place) ≡ stored_rows content place

@@ -59,7 +59,7 @@ fn quotient(left: Decimal, right: Decimal) -> Result<Value, Fault>
 }
 
 /// The number, or the status of its fault.
-fn made(number: Result<Decimal, ArithmeticFault>) -> Result<Value, Fault>
+pub(crate) fn made(number: Result<Decimal, ArithmeticFault>) -> Result<Value, Fault>
     ensures { Meets result (number_outcome number) }
 {
     match number {

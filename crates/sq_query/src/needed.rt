@@ -1,9 +1,13 @@
 //! Which tables a statement reads.
 
-ghost use Rattle.std.specs.Prelude.{◌≡◌, [], false, IfOk, OnOk};
-ghost use Rattle.sq_bound.specs.Condition.{cond_of, conj_of, predicate_of};
-ghost use Rattle.sq_meaning.specs.Target.{has_subquery};
-ghost use Rattle.sq_query.specs.Needed.{NeedsNone};
+ghost use Rattle.std.specs.Prelude.{◌≡◌, [], false, fold, nat_eq, IfOk, OnOk};
+ghost use Rattle.std.specs.List.{list_any};
+ghost use Rattle.sq_bound.specs.Condition.{cond_of, conj_of, predicate_of, clause_of};
+ghost use Rattle.sq_meaning.specs.Target.{has_subquery, clause_has_subquery};
+ghost use Rattle.sq_query.specs.Needed.{NeedsNone, places_in, with_place, with_table};
+ghost use Rattle.sq_query.specs.Specification.{items_in, IsPlainQuery};
+ghost use Rattle.sq_query.specs.Union.{IsSpecification, IsOnly};
+ghost use Rattle.sq_bound.specs.declared.condition.BoundSpecification.{BoundSpecification as AnySpecification};
 
 use sq_bound::{
     BoundCond, BoundConj, BoundQuery, BoundSpecification, BoundTerm, Grouping, Names, Predicate,
@@ -32,14 +36,18 @@ impl Needed {
     pub(crate) fn of_specification(
         alloc: Global,
         query: &BoundSpecification,
-    ) -> Result<Needed, AllocError> {
+    ) -> Result<Needed, AllocError>
+        ensures { IsPlainQuery query.now → IfOk result (λ needed. places_in needed ≡ fold with_table ([], []) (items_in query.now)) }
+    {
         let mut needed = Needed::new(alloc);
         needed.add_of_specification(query)?;
         Ok(needed)
     }
 
     /// The tables in the FROM clauses of a query expression.
-    pub(crate) fn of_query(alloc: Global, query: &BoundQuery) -> Result<Needed, AllocError> {
+    pub(crate) fn of_query(alloc: Global, query: &BoundQuery) -> Result<Needed, AllocError>
+        ensures { (s : AnySpecification) → IsOnly query.now s → IsPlainQuery s → IfOk result (λ needed. places_in needed ≡ fold with_table ([], []) (items_in s)) }
+    {
         let mut needed = Needed::new(alloc);
         needed.add_of_query(query)?;
         Ok(needed)
@@ -67,7 +75,7 @@ impl Needed {
 
     /// Adds what the needed views need in turn. A view names only earlier ones.
     pub(crate) fn add_of_views<N: Names>(&mut self, names: &N) -> Result<(), AllocError>
-        ensures { NeedsNone self.old → OnOk result (NeedsNone self.new) }
+        ensures { self.old.views.items ≡ [] → OnOk result (self.new ≡ self.old) }
     {
         if self.views.is_empty() {
             return Ok(());
@@ -82,7 +90,9 @@ impl Needed {
         Ok(())
     }
 
-    fn add(&mut self, table: TablePlace) -> Result<(), AllocError> {
+    fn add(&mut self, table: TablePlace) -> Result<(), AllocError>
+        ensures { OnOk result (places_in self.new ≡ with_table (places_in self.old) table) }
+    {
         match table {
             TablePlace::Base(place) => add_place(place, &mut self.bases),
             TablePlace::View(place) => add_place(place, &mut self.views),
@@ -90,7 +100,9 @@ impl Needed {
     }
 
     #[cycle(needed_of_query)]
-    pub(crate) fn add_of_query(&mut self, query: &BoundQuery) -> Result<(), AllocError> {
+    pub(crate) fn add_of_query(&mut self, query: &BoundQuery) -> Result<(), AllocError>
+        ensures { (s : AnySpecification) → IsOnly query.now s → IsPlainQuery s → OnOk result (places_in self.new ≡ fold with_table (places_in self.old) (items_in s)) }
+    {
         self.add_of_term(&query.first)?;
         for union in query.rest.as_slice() {
             self.add_of_term(&union.term)?;
@@ -99,7 +111,9 @@ impl Needed {
     }
 
     #[cycle(needed_of_query)]
-    fn add_of_term(&mut self, term: &BoundTerm) -> Result<(), AllocError> {
+    fn add_of_term(&mut self, term: &BoundTerm) -> Result<(), AllocError>
+        ensures { (s : AnySpecification) → IsSpecification term.now s → IsPlainQuery s → OnOk result (places_in self.new ≡ fold with_table (places_in self.old) (items_in s)) }
+    {
         match term {
             BoundTerm::Specification(specification) => self.add_of_specification(specification),
             BoundTerm::Bracketed(query) => self.add_of_query(query.get()),
@@ -110,7 +124,9 @@ impl Needed {
     pub(crate) fn add_of_specification(
         &mut self,
         query: &BoundSpecification,
-    ) -> Result<(), AllocError> {
+    ) -> Result<(), AllocError>
+        ensures { IsPlainQuery query.now → OnOk result (places_in self.new ≡ fold with_table (places_in self.old) (items_in query.now)) }
+    {
         for table in query.from.as_slice() {
             self.add(*table)?;
         }
@@ -125,7 +141,9 @@ impl Needed {
     pub(crate) fn add_of_optional(
         &mut self,
         condition: &Option<BoundCond>,
-    ) -> Result<(), AllocError> {
+    ) -> Result<(), AllocError>
+        ensures { clause_has_subquery (clause_of [] condition.now) ≡ false → OnOk result (self.new ≡ self.old) }
+    {
         match condition {
             Some(condition) => self.add_of_condition(condition),
             None => Ok(()),
@@ -167,14 +185,18 @@ impl Needed {
 }
 
 /// Adds a place that isn't there yet.
-fn add_place(place: usize, places: &mut Vec<usize>) -> Result<(), AllocError> {
+fn add_place(place: usize, places: &mut Vec<usize>) -> Result<(), AllocError>
+    ensures { OnOk result (places.new.items ≡ with_place places.old.items place) }
+{
     if !is_among(place, places.as_slice()) {
         places.push(place)?;
     }
     Ok(())
 }
 
-pub(crate) fn is_among(place: usize, places: &[usize]) -> bool {
+pub(crate) fn is_among(place: usize, places: &[usize]) -> bool
+    ensures { result ≡ list_any (λ other. nat_eq other place) places.now }
+{
     places.iter().any(|other| *other == place)
 }
 

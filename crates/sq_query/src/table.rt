@@ -1,12 +1,10 @@
 //! The rows of the tables that a statement reads.
 
-ghost use Rattle.std.specs.Prelude.{◌≡◌, []};
-ghost use Rattle.sq_meaning.specs.Status.{and_then};
-ghost use Rattle.sq_query.specs.Fault.{IsAnswered, MeetsAs};
+ghost use Rattle.sq_meaning.specs.Status.{and_then, each};
+ghost use Rattle.sq_query.specs.Fault.{MeetsAs};
 ghost use Rattle.sq_query.specs.Frame.{lent, table_rows};
 ghost use Rattle.sq_query.specs.Group.{rows_of_line};
-ghost use Rattle.sq_query.specs.Table.{base_there, view_there, table_there, numbered_in};
-ghost use Rattle.sq_meaning.specs.Tables.{rows_in};
+ghost use Rattle.sq_query.specs.Table.{base_there, view_there, table_there, numbered_in, stored_rows, stored_base, bases_in};
 
 use crate::context::Context;
 use crate::fault::{Failure, Fault};
@@ -37,13 +35,14 @@ pub(crate) fn base_tables<'a, S: Store>(
     places: &[usize],
     meter: &mut Meter,
 ) -> Result<Vec<BaseRows<'a>>, Fault>
-    ensures { places.now ≡ [] → IsAnswered result }
+    ensures { MeetsAs bases_in result (each (stored_base (S.content_now store.now)) places.now) }
 {
     let mut tables = Vec::new(alloc);
     for place in places {
+        let rows = base_rows(alloc, store, *place, meter)?;
         tables.push(BaseRows {
             place: *place,
-            rows: base_rows(alloc, store, *place, meter)?,
+            rows,
         })?;
     }
     Ok(tables)
@@ -56,7 +55,7 @@ fn base_rows<'a, S: Store>(
     table: usize,
     meter: &mut Meter,
 ) -> Result<Vec<&'a Row>, Fault>
-    ensures { MeetsAs rows_of_line result (and_then (table_there (S.content_now store.now) table) (λ found. Ok (rows_in found))) }
+    ensures { MeetsAs rows_of_line result (stored_rows (S.content_now store.now) table) }
 {
     let numbered = numbered_rows(alloc, store, table, meter)?;
     let mut rows = Vec::new(alloc);

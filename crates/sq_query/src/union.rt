@@ -1,14 +1,29 @@
 //! The rows of a query expression (ISO/IEC 9075:1992, 7.10).
 
-use crate::arithmetic::GREATEST_SCALE;
+ghost use Rattle.std.specs.Prelude.{◌≡◌, ◌++◌, None, length};
+ghost use Rattle.sq_value.specs.Storing.{IsStored};
+ghost use Rattle.sq_value.specs.declared.domain.Kind.TheVariants.{Num, Chars};
+ghost use Rattle.sq_value.specs.declared.value.Value.{Value as AnyValue};
+ghost use Rattle.sq_meaning.specs.QueryExpression as meaning;
+ghost use Rattle.sq_meaning.specs.Status.{each};
+ghost use Rattle.sq_bound.specs.WellFormed.{kinds_of_results};
+ghost use Rattle.sq_bound.specs.declared.condition.BoundSpecification.{BoundSpecification as AnySpecification};
+ghost use Rattle.sq_query.specs.Fault.{Meets, HasRows};
+ghost use Rattle.sq_query.specs.Specification.{items_in, IsPlainQuery, rows_meant};
+ghost use Rattle.sq_query.specs.Union.{IsSpecification, IsOnly, MayBeBrought, IsBringable, AreBringable, IsTextOf, joined_rows};
+
+use crate::arithmetic::{GREATEST_SCALE, made};
 use crate::condition::rows;
 use crate::context::Context;
 use crate::fault::Fault;
 use crate::memo::Memo;
 use crate::select::distinct_rows;
 use sq_bound::{BoundQuery, BoundTerm, BoundUnion, ResultColumn};
-use sq_value::{Decimal, Domain, Kind, Row, Value, store};
+use sq_value::{Decimal, Domain, Kind, Row, StoreFault, Value, store};
 use std::alloc::Global;
+
+/// The greatest length of a text.
+const GREATEST_LENGTH: u16 = 240;
 
 /// The rows of a query expression: terms are joined from left to right.
 #[cycle(query_rows)]
@@ -16,7 +31,9 @@ pub(crate) fn query_rows<'a, 'm>(
     query: &'a BoundQuery,
     context: &'a Context<'m>,
     memo: &mut Memo<'m>,
-) -> Result<Vec<Row>, Fault> {
+) -> Result<Vec<Row>, Fault>
+    ensures { (s : AnySpecification) → IsOnly query.now s → length (items_in s) ≡ 1 → IsPlainQuery s → HasRows result (rows_meant s None context.now) }
+{
     let mut so_far = term_rows(&query.first, context, memo)?;
     for union in query.rest.as_slice() {
         match term_rows(&union.term, context, memo) {
@@ -32,7 +49,9 @@ fn term_rows<'a, 'm>(
     term: &'a BoundTerm,
     context: &'a Context<'m>,
     memo: &mut Memo<'m>,
-) -> Result<Vec<Row>, Fault> {
+) -> Result<Vec<Row>, Fault>
+    ensures { (s : AnySpecification) → IsSpecification term.now s → length (items_in s) ≡ 1 → IsPlainQuery s → HasRows result (rows_meant s None context.now) }
+{
     match term {
         BoundTerm::Specification(query) => rows(query, context, memo),
         BoundTerm::Bracketed(query) => query_rows(query.get(), context, memo),
@@ -45,65 +64,97 @@ fn joined(
     left: Vec<Row>,
     right: Vec<Row>,
     alloc: Global,
-) -> Result<Vec<Row>, Fault> {
-    let mut rows = Vec::new(alloc);
-    let columns = union.columns.as_slice();
-    add_brought(columns, left, &mut rows, alloc)?;
-    add_brought(columns, right, &mut rows, alloc)?;
+) -> Result<Vec<Row>, Fault>
+    ensures { AreBringable (kinds_of_results union.now.columns) (left.items ++ right.items) → HasRows result (joined_rows union.now.all (kinds_of_results union.now.columns) (left.items ++ right.items)) }
+{
+    let found = both(left, right)?;
+    let brought = rows_brought_to(union.columns.as_slice(), found.as_slice(), alloc);
+    drop(found);
     if union.all {
-        Ok(rows)
+        brought
     } else {
-        distinct_rows(alloc, rows)
+        distinct_rows(alloc, brought?)
     }
 }
 
-fn add_brought(
-    columns: &[ResultColumn],
-    rows: Vec<Row>,
-    brought: &mut Vec<Row>,
-    alloc: Global,
-) -> Result<(), Fault> {
+/// The left rows, and then the right ones.
+fn both(left: Vec<Row>, right: Vec<Row>) -> Result<Vec<Row>, Fault>
+    ensures { HasRows result (Ok (left.items ++ right.items)) }
+{
+    let mut rows = left;
+    let mut others = right;
+    rows.append(&mut others)?;
+    Ok(rows)
+}
+
+fn rows_brought_to(columns: &[ResultColumn], rows: &[Row], alloc: Global) -> Result<Vec<Row>, Fault>
+    ensures { AreBringable (kinds_of_results columns.now) rows.now → HasRows result (each (meaning.row_brought_to (kinds_of_results columns.now)) rows.now) }
+{
+    let mut brought = Vec::new(alloc);
     for row in rows {
-        brought.push(row_brought_to(columns, &row, alloc)?)?;
+        let row = row_brought_to(columns, row.as_slice(), alloc)?;
+        brought.push(row)?;
     }
-    Ok(())
+    Ok(brought)
 }
 
-fn row_brought_to(columns: &[ResultColumn], row: &Row, alloc: Global) -> Result<Row, Fault> {
+fn row_brought_to(columns: &[ResultColumn], row: &[Value], alloc: Global) -> Result<Row, Fault>
+    ensures { IsBringable (kinds_of_results columns.now) row.now → Meets result (meaning.row_brought_to (kinds_of_results columns.now) row.now) }
+{
     let mut brought = Row::new(alloc);
-    for (column, value) in columns.iter().zip(row.as_slice()) {
-        brought.push(brought_to(column.kind, value, alloc)?)?;
+    for (column, value) in columns.iter().zip(row) {
+        let value = brought_to(column.kind, value, alloc)?;
+        brought.push(value)?;
     }
     Ok(brought)
 }
 
 /// A value as a column of a UNION has it: a number at the scale, a fixed text padded with blanks to the length, a varying
 /// text as it is.
-fn brought_to(kind: Kind, value: &Value, alloc: Global) -> Result<Value, Fault> {
+fn brought_to(kind: Kind, value: &Value, alloc: Global) -> Result<Value, Fault>
+    ensures { MayBeBrought kind value.now → Meets result (meaning.brought_to kind value.now) }
+{
     match (kind, value) {
         (_, Value::Null) => Ok(Value::Null),
-        (Kind::Num(scale), Value::Num(number)) => Ok(Value::Num(at_scale(scale, *number)?)),
-        (Kind::Chars(length), Value::Chars(_)) => padded(length, value, alloc),
+        (Kind::Num(scale), Value::Num(number)) => at_scale(scale, *number),
+        (Kind::Chars(length), Value::Chars(text)) => {
+            padded(value, text.codes().len(), length, alloc)
+        }
         (Kind::Vary(_), Value::Chars(_)) => Ok(value.copy(alloc)?),
         _ => Err(Fault::NOT_WELL_FORMED),
     }
 }
 
 /// The number at a scale that is no smaller than its own.
-fn at_scale(scale: u8, number: Decimal) -> Result<Decimal, Fault> {
+fn at_scale(scale: u8, number: Decimal) -> Result<Value, Fault>
+    ensures { MayBeBrought (Num scale) (Value.Num number) → Meets result (meaning.brought_to (Num scale) (Value.Num number)) }
+{
     if scale > GREATEST_SCALE || number.scale() > scale {
         return Err(Fault::NOT_WELL_FORMED);
     }
-    Ok(number.add(Decimal::new(0, scale))?)
+    made(number.add(Decimal::new(0, scale)))
 }
 
-/// The text with blanks behind it, up to a length that is no smaller than its own.
-fn padded(length: u16, value: &Value, alloc: Global) -> Result<Value, Fault> {
-    let Value::Chars(text) = value else {
-        return Err(Fault::NOT_WELL_FORMED);
-    };
-    if length == 0 || length > 240 || text.codes().len() > length as usize {
+/// A text of a length, with blanks behind it up to another one.
+fn padded(text: &Value, from: usize, to: u16, alloc: Global) -> Result<Value, Fault>
+    requires { IsTextOf from text.now }
+    ensures { MayBeBrought (Chars to) text.now → Meets result (meaning.brought_to (Chars to) text.now) }
+{
+    if from >= to as usize {
+        return Ok(text.copy(alloc)?);
+    }
+    if to > GREATEST_LENGTH {
         return Err(Fault::NOT_WELL_FORMED);
     }
-    Ok(store(alloc, value, Domain::Char(length))?)
+    stored(store(alloc, text, Domain::Char(to)))
+}
+
+/// The value that was stored, or the status of its fault.
+fn stored(value: Result<Value, StoreFault>) -> Result<Value, Fault>
+    ensures { (v : AnyValue) → IsStored value (Ok v) → Meets result (Ok v) }
+{
+    match value {
+        Ok(value) => Ok(value),
+        Err(fault) => Err(Fault::from(fault)),
+    }
 }

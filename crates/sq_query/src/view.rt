@@ -1,8 +1,10 @@
 //! The tables that a statement reads: its base tables, and its views, each evaluated once.
 
-ghost use Rattle.std.specs.Prelude.{◌≡◌, [], IfOk};
-ghost use Rattle.sq_query.specs.Fault.{IsAnswered};
-ghost use Rattle.sq_query.specs.Needed.{NeedsNone};
+ghost use Rattle.std.specs.Prelude.{◌≡◌, [], ℕ, List, IfOk};
+ghost use Rattle.sq_meaning.specs.Status.{each};
+ghost use Rattle.sq_query.specs.Fault.{IsAnswered, MeetsAs};
+ghost use Rattle.sq_query.specs.Needed.{NeedsBases};
+ghost use Rattle.sq_query.specs.Table.{stored_base, bases_of};
 
 use crate::condition::outermost_rows;
 use crate::context::Context;
@@ -30,7 +32,7 @@ pub(crate) fn tables_of<'a, N: Names, S: Store>(
     call: &Context<'_>,
     meter: &mut Meter,
 ) -> Result<Tables<'a>, Fault>
-    ensures { IfOk needed NeedsNone → IsAnswered result }
+    ensures { (places : List ℕ) → IfOk needed (NeedsBases places) → MeetsAs bases_of result (each (stored_base (S.content_now store.now)) places) }
 {
     let mut needed = needed?;
     needed.add_of_views(names)?;
@@ -44,7 +46,7 @@ fn tables_at<'a, N: Names, S: Store>(
     call: &Context<'_>,
     meter: &mut Meter,
 ) -> Result<Tables<'a>, Fault>
-    ensures { NeedsNone needed.now → IsAnswered result }
+    ensures { (places : List ℕ) → NeedsBases places needed.now → MeetsAs bases_of result (each (stored_base (S.content_now store.now)) places) }
 {
     let bases = base_tables(call.alloc, store, needed.bases.as_slice(), meter)?;
     match view_tables(call.alloc, names, needed, bases.as_slice(), call.user) {

@@ -1,0 +1,9 @@
+use Rattle.std.proofs.Common.{◌≡◌, fold}
+use Rattle.sq_bound.specs.declared.condition.BoundSpecification.{BoundSpecification}
+use Rattle.sq_query.specs.Needed.{places_in, with_table}
+use Rattle.sq_query.specs.Specification.{items_in, IsPlainQuery}
+use Rattle.sq_query.specs.Union.{IsOnly}
+use Rattle.sq_query.proofs.needed.Needed.+needed_of_query.Given as goal
+
+abbrev pub invariant-add_of_query-loop-union : goal.invariant-add_of_query-loop-union
+invariant-add_of_query-loop-union l = (s : BoundSpecification) → IsOnly l.query s → IsPlainQuery s → places_in l.self ≡ fold with_table (places_in l.fn.self) (items_in s)

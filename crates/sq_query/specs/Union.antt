@@ -1,0 +1,71 @@
+-- Query expressions (ISO/IEC 9075:1992, 7.10).
+use Rattle.std.specs.Prelude.{◌≡◌, ◌≤◌, ⊤, ℕ, Bool, if◌then◌else◌, List, [], length, Result, Vec, Ok}
+use Rattle.std.specs.List.{AllByRecursion, zip}
+use Rattle.std.specs.declared.alloc.Global.{Global}
+use Rattle.sq_lex.specs.declared.name.Name.{Name}
+use Rattle.sq_value.specs.declared.domain.Kind.{Kind}
+use Rattle.sq_value.specs.declared.domain.Kind.TheVariants as kind
+use Rattle.sq_value.specs.declared.value.Value.{Value}
+use Rattle.sq_value.specs.declared.value.Value.TheVariants.{Null, Num, Chars}
+use Rattle.sq_store.specs.Content.{Content}
+use Rattle.sq_meaning.specs.Status.{Outcome, ◌>>=◌, each}
+use Rattle.sq_meaning.specs.Environment.{Row, outermost}
+use Rattle.sq_meaning.specs.Kind.{Kinds}
+use Rattle.sq_meaning.specs.Placed.{Placed, by_place}
+use Rattle.sq_meaning.specs.QueryExpression.{row_brought_to, query_rows}
+use Rattle.sq_meaning.specs.Rows.{firsts, same_row}
+use Rattle.sq_bound.specs.Query.{query_of}
+use Rattle.sq_bound.specs.declared.condition.BoundSpecification.{BoundSpecification}
+use Rattle.sq_bound.specs.declared.condition.TablePlace.{TablePlace}
+use Rattle.sq_bound.specs.declared.query.BoundQuery.{BoundQuery, out-BoundQuery}
+use Rattle.sq_bound.specs.declared.query.BoundTerm.{BoundTerm}
+use Rattle.sq_bound.specs.declared.query.BoundTerm.TheVariants.{Specification}
+use Rattle.sq_query.specs.Fault.{HasRows}
+use Rattle.sq_query.specs.Frame.{inputs_of}
+use Rattle.sq_query.specs.Specification.{IsPlainQuery, IsOverBase}
+use Rattle.sq_query.specs.Table.{AreOfStore}
+use Rattle.sq_query.specs.declared.fault.Fault.{Fault}
+
+-- the term is this query specification
+abbrev pub IsSpecification : BoundTerm → BoundSpecification → Type 0
+IsSpecification term s = term ≡ Specification s
+
+-- the query expression is this query specification
+abbrev pub IsOnly : BoundQuery → BoundSpecification → Type 0
+IsOnly query s = IsSpecification (out-BoundQuery query).first s × ((out-BoundQuery query).rest ≡ [])
+
+-- Of a query expression without UNION, over one base table and without subqueries: something of its rows, where base tables
+-- have the rows of the store. Views are not read, so they may have any; and no kinds are asked for.
+abbrev pub OfStoredRows : (Outcome (List Row) → Type 0) → BoundQuery → Content → List Value → Name → Type 0
+OfStoredRows P query content parameters user =
+    (s : BoundSpecification) → IsOnly query s → IsOverBase s → IsPlainQuery s
+    → (tables : TablePlace → Outcome (List Row)) → AreOfStore content tables → (kinds : Kinds (Placed TablePlace))
+    → P (query_rows (by_place tables) kinds (query_of query) (outermost (inputs_of parameters) user))
+
+-- its rows
+abbrev pub HasQueryRows : Result (Vec (List Value) Global) Fault → BoundQuery → Content → List Value → Name → Type 0
+HasQueryRows result = OfStoredRows (HasRows result)
+
+-- ---- both sides of UNION
+
+-- a value that may be brought to a kind: a number of no greater scale, which is at most 18, and a text
+-- where the length is at most 240 (own rules)
+abbrev pub MayBeBrought : Kind → Value → Type 0
+MayBeBrought (kind.Num s) (Num n) = (n.scale ≤ s) × (s ≤ 18)
+MayBeBrought (kind.Chars n) (Chars t) = n ≤ 240
+MayBeBrought _ _ = ⊤
+
+abbrev pub IsBringable : List Kind → Row → Type 0
+IsBringable kinds row = AllByRecursion (λ p. MayBeBrought p.0 p.1) (zip kinds row)
+
+abbrev pub AreBringable : List Kind → List Row → Type 0
+AreBringable kinds = AllByRecursion (IsBringable kinds)
+
+-- a text of this length
+abbrev pub IsTextOf : ℕ → Value → Type 0
+IsTextOf n (Chars t) = length t ≡ n
+IsTextOf n _ = ⊥
+
+-- all brought to their common kinds; without ALL each row at its first occurrence
+abbrev pub joined_rows : Bool → List Kind → List Row → Outcome (List Row)
+joined_rows all kinds found = each (row_brought_to kinds) found >>= λ joined. Ok (if all then joined else firsts same_row joined)
