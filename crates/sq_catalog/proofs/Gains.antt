@@ -19,10 +19,11 @@ keys_append : {K V : Type 0} (es : List (K × V)) (k : K) (v : V) → keys_of (e
 keys_append [] k v = refl
 keys_append (e ∷ es) k v = ap (λ ks. e.0 ∷ ks) (keys_append es k v)
 
+pub entry_last : {K V S : Type 0} (eq : K → K → Bool) (m : IndexMap K V S) (k : K) (v : V) → position (eq k) (keys m) ≡ None → insert_entry eq m.entries k v ≡ m.entries ++ (k, v) ∷ []
+entry_last eq m k v none = insert_entry-new eq m k v (none_there (get eq m k) (sym (some_index (eq k) m.entries) ∙ ap is_some none))
+
 pub key_last : {K V S : Type 0} (eq : K → K → Bool) (m : IndexMap K V S) (k : K) (v : V) → position (eq k) (keys m) ≡ None → keys_of (insert_entry eq m.entries k v) ≡ keys m ++ k ∷ []
-key_last eq m k v none =
-    let missing : get eq m k ≡ None = none_there (get eq m k) (sym (some_index (eq k) m.entries) ∙ ap is_some none) in
-    ap keys_of (insert_entry-new eq m k v missing) ∙ keys_append m.entries k v
+key_last eq m k v none = ap keys_of (entry_last eq m k v none) ∙ keys_append m.entries k v
 
 -- ---- tables that are added one after the other
 

@@ -1,3 +1,5 @@
 pub mod Gains
+pub mod Extending
 pub mod Listed
+pub mod Seen
 pub mod Stored

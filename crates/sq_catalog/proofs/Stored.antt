@@ -3,13 +3,16 @@ use Rattle.std.proofs.Common.{◌≡◌, ℕ, zero, suc, ◌+◌, ◌<◌, Bool,
 use Rattle.std.specs.List.{All, list_all, slice_get}
 use Rattle.std.specs.Option.{IfSome}
 use Rattle.std.proofs.lemmas.Bool.{and_parts}
-use Rattle.std.proofs.lemmas.List.{map-append, get_or_append_left}
+use Rattle.std.proofs.lemmas.List.{length-map, map-append}
 use Rattle.std.proofs.lemmas.List.Elements.{All-nil, All-cons, All-head, All-tail, All-get_or, All-weaker}
 use Rattle.std.proofs.lemmas.Option.{IfSome_then, slice_get_within, get_or_from_slice_get, slice_get-get_or}
 use Rattle.indexmap.specs.IndexMap.{insert_entry}
 use Rattle.sq_store.specs.Keys.{Keys, keys_at}
 use Rattle.sq_bound.specs.Fits.{IsBase, IsOver, all_refer, keys_of_bases, refers}
 use Rattle.sq_bound.specs.Names.{are_positions}
+use Rattle.sq_bound.specs.WellFormed.{base_kinds, kinds_of_columns}
+use Rattle.sq_bound.specs.declared.names.BaseColumn.{BaseColumn}
+use Rattle.sq_value.specs.Domain.{kind_of}
 use Rattle.sq_bound.specs.declared.names.BaseTable.{BaseTable}
 use Rattle.sq_bound.specs.declared.names.Column.{Column}
 use Rattle.sq_bound.specs.declared.names.Leaf.{Leaf}
@@ -18,54 +21,32 @@ use Rattle.sq_bound.specs.declared.names.TableBody.{TableBody}
 use Rattle.sq_bound.specs.declared.names.TableBody.TheVariants as body
 use Rattle.sq_bound.specs.declared.names.TableDesc.{TableDesc}
 use Rattle.sq_catalog.specs.Reference.{is_to, keys_with}
-use Rattle.sq_catalog.specs.Stored.{AreStored, IsBody, IsDescribed, IsNext, IsStored, IsTableOf}
+use Rattle.sq_catalog.specs.Stored.{AreChecksAt, AreStored, IsBody, IsDescribed, IsNext, IsStored, IsTableOf}
 use Rattle.sq_catalog.specs.declared.catalog.FullName.{FullName}
-use Rattle.sq_catalog.proofs.Listed.{all_push, all_weaker, is_below}
+use Rattle.sq_catalog.proofs.Listed.{all_push, all_weaker, get_behind, get_more, is_below}
+use Rattle.sq_catalog.proofs.Extending.{table_made}
 
 -- ---- a base table behind the others
 
-base_more : (bases : List BaseTable) (b x : BaseTable) (place : ℕ) → slice_get bases place ≡ Some x → slice_get (bases ++ b ∷ []) place ≡ Some x
-base_more bases b x place h =
-    let within : place < length bases = slice_get_within bases place x h in
-    let more : length (bases ++ b ∷ []) ≡ length bases + 1 = length-append bases (b ∷ []) in
-    slice_get-get_or (bases ++ b ∷ []) place x (omega arith) ∙ ap Some (get_or_append_left bases (b ∷ []) x place within ∙ get_or_from_slice_get bases place x x h)
-
-get_behind : (bases : List BaseTable) (b : BaseTable) → get_or (bases ++ b ∷ []) (length bases) b ≡ b
-get_behind [] b = refl
-get_behind (x ∷ xs) b = get_behind xs b
 
 -- the last stands at its place
 pub base_behind : (bases : List BaseTable) (b : BaseTable) → b.place ≡ length bases → IsBase (bases ++ b ∷ []) b
-base_behind bases b place =
-    let more : length (bases ++ b ∷ []) ≡ length bases + 1 = length-append bases (b ∷ []) in
-    slice_get-get_or (bases ++ b ∷ []) b.place b (omega arith) ∙ ap Some (ap (λ i. get_or (bases ++ b ∷ []) i b) place ∙ get_behind bases b)
+base_behind bases b place = get_behind bases b b.place place
 
 -- ---- tables and views
 
 body_more : (bases : List BaseTable) (b : BaseTable) (columns : ℕ) (t : TableBody) → IsBody bases columns t → IsBody (bases ++ b ∷ []) columns t
-body_more bases b columns (body.Base x) h = (base_more bases b x x.place h.0, h.1)
+body_more bases b columns (body.Base x) h = (get_more bases b x x.place h.0, h.1)
 body_more bases b columns (body.View v) h = tt
 
 pub stored_more : (bases : List BaseTable) (b : BaseTable) (t : TableDesc) → IsStored bases t → IsStored (bases ++ b ∷ []) t
 stored_more bases b t h = record {
-  over = IfSome_then t.leaf {P = λ (l : Leaf). IsBase bases l.table} {Q = λ (l : Leaf). IsBase (bases ++ b ∷ []) l.table} h.over (λ l there. base_more bases b l.table l.table.place there);
+  over = IfSome_then t.leaf {P = λ (l : Leaf). IsBase bases l.table} {Q = λ (l : Leaf). IsBase (bases ++ b ∷ []) l.table} h.over (λ l there. get_more bases b l.table l.table.place there);
   body = body_more bases b (length t.columns) t.body h.body;
 }
 
 pub all_stored_more : (bases : List BaseTable) (b : BaseTable) (es : List (FullName × TableDesc)) → AreStored bases es → AreStored (bases ++ b ∷ []) es
 all_stored_more bases b es h = All-weaker (λ e. IsStored bases e.1) (λ e. IsStored (bases ++ b ∷ []) e.1) (λ e there. stored_more bases b e.1 there) es h
-
-put_first : (bases : List BaseTable) (e : FullName × TableDesc) (es : List (FullName × TableDesc)) (name : FullName) (t : TableDesc) (others : List (FullName × TableDesc))
-    → AreStored bases (e ∷ es) → IsStored bases t → AreStored bases others → (same : Bool) → AreStored bases (if same then (e.0, t) ∷ es else e ∷ others)
-put_first bases e es name t others h new rest true = All-cons (λ (x : FullName × TableDesc). IsStored bases x.1) (e.0, t) es new (All-tail (λ (x : FullName × TableDesc). IsStored bases x.1) e es h)
-put_first bases e es name t others h new rest false = All-cons (λ (x : FullName × TableDesc). IsStored bases x.1) e others (All-head (λ (x : FullName × TableDesc). IsStored bases x.1) e es h) rest
-
--- under a new name or one that is used
-pub all_stored_with : (eq : FullName → FullName → Bool) (bases : List BaseTable) (es : List (FullName × TableDesc)) (name : FullName) (t : TableDesc)
-    → AreStored bases es → IsStored bases t → AreStored bases (insert_entry eq es name t)
-all_stored_with eq bases [] name t h new = All-cons (λ (e : FullName × TableDesc). IsStored bases e.1) (name, t) [] new (All-nil (λ (e : FullName × TableDesc). IsStored bases e.1))
-all_stored_with eq bases (e ∷ es) name t h new =
-    put_first bases e es name t (insert_entry eq es name t) h new (all_stored_with eq bases es name t (All-tail (λ (x : FullName × TableDesc). IsStored bases x.1) e es h) new) (eq name e.0)
 
 -- the one at a place
 pub stored_at : (bases : List BaseTable) (es : List (FullName × TableDesc)) (place : ℕ) (name : FullName) (t : TableDesc) → AreStored bases es → slice_get es place ≡ Some (name, t) → IsStored bases t
@@ -126,16 +107,19 @@ body_made : (bases : List BaseTable) (b : BaseTable) (columns : ℕ) (t : TableB
 body_made bases b columns (body.Base x) there count h = (subst (λ (y : BaseTable). IsBase bases y) (sym h) there, count ∙ ap (λ (y : BaseTable). length y.columns) (sym h))
 body_made bases b columns (body.View v) there count h = absurd h
 
-pub next_made : (bases : List BaseTable) (b : BaseTable) (columns : List Column) (width : ℕ) (t : TableDesc) → IsDescribed b columns t → b.place ≡ length bases → length columns ≡ length b.columns
-    → list_all (is_to (keys_with bases b.keys) width) b.references ≡ true → IsNext bases t b
-next_made bases b columns width t h place count refer = record {
-  stored = record {
-    over = IfSome_then t.leaf {P = λ (l : Leaf). l.table ≡ b} {Q = λ (l : Leaf). IsBase (bases ++ b ∷ []) l.table} h.leaf
-        (λ l same. subst (λ (y : BaseTable). IsBase (bases ++ b ∷ []) y) (sym same) (base_behind bases b place));
-    body = body_made (bases ++ b ∷ []) b (length t.columns) t.body (base_behind bases b place) (ap length h.columns ∙ count) h.body;
-  };
-  refer = refer_made bases b width b.references refer;
-}
+pub next_made : (bases : List BaseTable) (b : BaseTable) (columns : List Column) (width : ℕ) (t : TableDesc) → IsDescribed b columns t → b.place ≡ length bases → kinds_of_columns columns ≡ base_kinds b
+    → AreChecksAt (length bases) (kinds_of_columns columns) b.checks → list_all (is_to (keys_with bases b.keys) width) b.references ≡ true → IsNext bases t b
+next_made bases b columns width t h place kinds checks refer =
+    let count : length columns ≡ length b.columns = sym (length-map columns (λ (c : Column). c.kind)) ∙ ap length kinds ∙ length-map b.columns (λ (c : BaseColumn). kind_of c.domain) in
+    record {
+      stored = record {
+        over = IfSome_then t.leaf {P = λ (l : Leaf). (l.table ≡ b) × (l.conditions ≡ [])} {Q = λ (l : Leaf). IsBase (bases ++ b ∷ []) l.table} h.leaf
+            (λ l same. subst (λ (y : BaseTable). IsBase (bases ++ b ∷ []) y) (sym same.0) (base_behind bases b place));
+        body = body_made (bases ++ b ∷ []) b (length t.columns) t.body (base_behind bases b place) (ap length h.columns ∙ count) h.body;
+      };
+      table = λ views. table_made bases b columns views t h place kinds checks;
+      refer = refer_made bases b width b.references refer;
+    }
 
 -- ---- base tables that were there, and one more
 
@@ -156,10 +140,7 @@ by_keys_at keys n m rs e h = by_keys keys n rs (ap (λ k. list_all (is_to keys k
 
 -- a base table that is made with the table as names see it
 pub next_of : {E : Type 0} (bases : List BaseTable) (columns : List Column) (width : ℕ) (b : BaseTable) (r : Result (TableDesc × BaseTable) E) → IfOk r (λ new. new.1 ≡ b) → IfOk r (λ new. IsDescribed b columns new.0)
-    → b.place ≡ length bases → length columns ≡ length b.columns → list_all (is_to (keys_with bases b.keys) width) b.references ≡ true → IfOk r (λ new. IsNext bases new.0 new.1)
-next_of bases columns width b (Ok new) e h place count refer = subst (λ (x : BaseTable). IsNext bases new.0 x) (sym e) (next_made bases b columns width new.0 h place count refer)
-next_of bases columns width b (Err x) e h place count refer = tt
-
--- columns over a base table of as many
-pub leaf_columns_of : (n m : ℕ) (columns : List Column) → list_all (λ c. nat_lt c.leaf_column n) columns ≡ true → n ≡ m → list_all (λ c. nat_lt c.leaf_column m) columns ≡ true
-leaf_columns_of n m columns h e = ap (λ k. list_all (λ (c : Column). nat_lt c.leaf_column k) columns) (sym e) ∙ h
+    → b.place ≡ length bases → kinds_of_columns columns ≡ base_kinds b → AreChecksAt (length bases) (kinds_of_columns columns) b.checks → list_all (is_to (keys_with bases b.keys) width) b.references ≡ true
+    → IfOk r (λ new. IsNext bases new.0 new.1)
+next_of bases columns width b (Ok new) e h place kinds checks refer = subst (λ (x : BaseTable). IsNext bases new.0 x) (sym e) (next_made bases b columns width new.0 h place kinds checks refer)
+next_of bases columns width b (Err x) e h place kinds checks refer = tt

@@ -1,5 +1,5 @@
 -- What a catalog defines, and what schema texts declare (ISO/IEC 9075:1992, 11.1 and 11.3).
-use Rattle.std.specs.Prelude.{◌≡◌, ℕ, ◌+◌, Bool, true, ◌&&◌, List, [], ◌∷◌, ◌++◌, length, flat_map, Option, unwrap_or, nat_eq, position, slice_get}
+use Rattle.std.specs.Prelude.{◌≡◌, ℕ, ◌+◌, Bool, true, ◌&&◌, List, [], ◌∷◌, ◌++◌, length, flat_map, Option, None, unwrap_or, nat_eq, position, slice_get}
 use Rattle.std.specs.Option.{option_map}
 use Rattle.std.specs.Cmp.Lexicographic.{pointwise}
 use Rattle.sq_lex.specs.declared.name.Name.{Name}
@@ -16,18 +16,23 @@ use Rattle.sq_bound.specs.declared.condition.TablePlace.TheVariants.{Base, View}
 use Rattle.sq_bound.specs.declared.names.BaseTable.{BaseTable}
 use Rattle.sq_catalog.specs.declared.catalog.FullName.{FullName}
 
--- the base tables' names and the base tables, each at its place, with references to keys of base tables alone; and the kinds
--- of each view's columns
+-- the base tables' names and the base tables, each at its place, with references to keys of base tables alone; and the views'
+-- names and the kinds of their columns, likewise
 pub record Catalog : Type 0 where
   pub tables : List FullName
   pub bases : List BaseTable
+  pub view_names : List FullName
   pub views : List (List Kind)
   pub refer : all_refer bases ≡ true
 
+-- the kinds of the columns of these base tables, and of views whose columns have these kinds
+abbrev pub kinds_at : List BaseTable → List (List Kind) → TableKinds
+kinds_at bases views (Base n) = well_formed (option_map base_kinds (slice_get bases n))
+kinds_at bases views (View n) = well_formed (slice_get views n)
+
 -- the kinds of the columns of each table and view
 abbrev pub column_kinds : Catalog → TableKinds
-column_kinds c (Base n) = well_formed (option_map base_kinds (slice_get c.bases n))
-column_kinds c (View n) = well_formed (slice_get c.views n)
+column_kinds c = kinds_at c.bases c.views
 
 abbrev pub is_table : Name → Name → FullName → Bool
 is_table user name t = pointwise nat_eq user t.user && pointwise nat_eq name t.name
@@ -35,6 +40,10 @@ is_table user name t = pointwise nat_eq user t.user && pointwise nat_eq name t.n
 -- the place of the table of this owner and name
 abbrev pub table_number : List FullName → Name → Name → Option ℕ
 table_number tables user name = position (is_table user name) tables
+
+-- no table and no view has the name (11.3, 11.19)
+abbrev pub IsNewName : Catalog → FullName → Type 0
+IsNewName c name = (table_number c.tables name.user name.name ≡ None) × (table_number c.view_names name.user name.name ≡ None)
 
 -- ---- the base tables of schema texts, in the order of the texts
 

@@ -1,12 +1,21 @@
 -- Tables and views over the base tables of a catalog. (Own notion: they are found by places.)
-use Rattle.std.specs.Prelude.{⊤, ◌≡◌, ℕ, true, List, [], ◌∷◌, ◌++◌, length, IfSome}
-use Rattle.std.specs.List.{All, list_all}
-use Rattle.sq_bound.specs.Fits.{IsBase, IsOver, refers}
+use Rattle.std.specs.Prelude.{⊤, ◌≡◌, ℕ, true, List, [], ◌∷◌, ◌++◌, length, map, Option, IfSome}
+use Rattle.std.specs.List.{All, AllByRecursion, list_all}
+use Rattle.sq_lex.specs.declared.name.Name.{Name}
+use Rattle.sq_value.specs.declared.domain.Kind.{Kind}
+use Rattle.sq_bound.specs.Fits.{FitsQuery, IsBase, IsOver, refers}
+use Rattle.sq_bound.specs.Names.{is_kind_at}
+use Rattle.sq_bound.specs.WellFormed.{IsBody as IsBodyOver, IsCond, IsLeaf, IsSelect, IsTable, IsUpdatable, TableKinds, kinds_of_columns, kinds_of_select, of_base_at, only, place_of}
+use Rattle.sq_bound.specs.declared.condition.BoundCond.{BoundCond}
+use Rattle.sq_bound.specs.declared.condition.BoundSpecification.{BoundSpecification}
+use Rattle.sq_bound.specs.declared.query.UpdatableQuery.{UpdatableQuery}
+use Rattle.sq_bound.specs.declared.condition.TablePlace.TheVariants.{View}
 use Rattle.sq_bound.specs.declared.names.BaseTable.{BaseTable}
 use Rattle.sq_bound.specs.declared.names.Column.{Column}
 use Rattle.sq_bound.specs.declared.names.TableBody.{TableBody}
 use Rattle.sq_bound.specs.declared.names.TableBody.TheVariants as body
 use Rattle.sq_bound.specs.declared.names.TableDesc.{TableDesc}
+use Rattle.sq_catalog.specs.Catalog.{Catalog, column_kinds, kinds_at}
 use Rattle.sq_catalog.specs.declared.catalog.FullName.{FullName}
 
 -- a base table stands at its place and has so many columns
@@ -23,6 +32,25 @@ pub record IsStored (bases : List BaseTable) (t : TableDesc) : Type 0 where
 abbrev pub AreStored : List BaseTable → List (FullName × TableDesc) → Type 0
 AreStored bases entries = All (λ e. IsStored bases e.1) entries
 
+-- and well formed, where tables and views have columns of these kinds
+abbrev pub AreTables : TableKinds → List (FullName × TableDesc) → Type 0
+AreTables columns entries = All (λ e. IsTable columns e.1) entries
+
+-- the kinds of the columns of each
+abbrev pub kinds_of_views : List (FullName × TableDesc) → List (List Kind)
+kinds_of_views entries = map (λ e. kinds_of_columns e.1.columns) entries
+
+-- ---- the next one
+
+-- columns of these kinds, each over a column of a base table whose columns have those
+pub record AreColumnsOver (base kinds : List Kind) (columns : List Column) : Type 0 where
+  pub kinds_are : kinds_of_columns columns ≡ kinds
+  pub places : list_all (λ c. is_kind_at base c.leaf_column c.kind) columns ≡ true
+
+-- conditions on a row of the base table at a place, whose columns have these kinds
+abbrev pub AreChecksAt : ℕ → List Kind → List BoundCond → Type 0
+AreChecksAt place kinds = AllByRecursion (IsCond (only place kinds) [] (of_base_at place) [])
+
 -- a base table with these columns as names see it
 abbrev pub IsTableOf : BaseTable → TableBody → Type 0
 IsTableOf b (body.Base own) = own ≡ b
@@ -31,9 +59,23 @@ IsTableOf b (body.View v) = ⊥
 pub record IsDescribed (b : BaseTable) (described : List Column) (t : TableDesc) : Type 0 where
   pub columns : t.columns ≡ described
   pub body : IsTableOf b t.body
-  pub leaf : IfSome t.leaf (λ l. l.table ≡ b)
+  pub leaf : IfSome t.leaf (λ l. (l.table ≡ b) × (l.conditions ≡ []))
 
 -- a base table that can be stored behind these, and the table as names see it
 pub record IsNext (bases : List BaseTable) (t : TableDesc) (b : BaseTable) : Type 0 where
   pub stored : IsStored (bases ++ b ∷ []) t
+  pub table : (views : List (List Kind)) → IsTable (kinds_at (bases ++ b ∷ []) views) t
   pub refer : list_all (refers (bases ++ b ∷ [])) b.references ≡ true
+
+-- a view that can be stored behind those of a catalog
+pub record IsNextView (c : Catalog) (t : TableDesc) : Type 0 where
+  pub stored : IsStored c.bases t
+  pub place : place_of t.body ≡ View (length c.views)
+  pub leaf : IfSome t.leaf (IsLeaf (column_kinds c))
+  pub body : IsBodyOver (column_kinds c) (kinds_of_columns t.columns) t.body
+
+-- a view's query, bound over the tables and views of a catalog, and what it is where it is updatable
+pub record IsBoundOver (c : Catalog) (q : BoundSpecification) (updatable : Option ((Name × Name) × UpdatableQuery)) : Type 0 where
+  pub fits : IfSome updatable (λ over. FitsQuery c.bases over.1)
+  pub query : IsSelect (column_kinds c) [] [] q
+  pub target : IfSome updatable (λ over. IsUpdatable (column_kinds c) [] (kinds_of_select q) over.1)

@@ -1,13 +1,14 @@
 //! The catalog, built element by element (ISO/IEC 9075:1992, 11.1).
 
-ghost use Rattle.std.specs.Prelude.{◌≡◌, List, [], ◌∷◌, ◌++◌, true, IfErr, IfOk, IfSome, None, OnOk, is_none, length, map};
+ghost use Rattle.std.specs.Prelude.{◌≡◌, List, [], ◌∷◌, ◌++◌, true, IfErr, IfOk, IfSome, None, OnErr, OnOk, is_none, length, map};
 ghost use Rattle.std.specs.Map.{keys_of};
 ghost use Rattle.sq_store.specs.Keys.{keys_of as keys_given};
 ghost use Rattle.sq_bound.specs.Fits.{all_refer, keys_of_bases};
+ghost use Rattle.sq_bound.specs.WellFormed.{IsTable, TableKinds};
 ghost use Rattle.sq_bound.specs.declared.names.BaseTable.{BaseTable as Base};
-ghost use Rattle.sq_catalog.specs.Catalog.{Gains, column_kinds, declared_tables, named_by, schema_tables, table_in, table_number, text_tables};
+ghost use Rattle.sq_catalog.specs.Catalog.{Gains, IsNewName, column_kinds, declared_tables, named_by, schema_tables, table_in, table_number, text_tables};
 ghost use Rattle.sq_catalog.specs.Fault.{IsOfSomeText, IsOfText};
-ghost use Rattle.sq_catalog.specs.Stored.{AreStored, IsNext, IsStored};
+ghost use Rattle.sq_catalog.specs.Stored.{AreStored, AreTables, IsNext, IsNextView, IsStored};
 
 use crate::fault::{CatalogFault, ElementFault, RefusalName, SchemaRefusal, refused_if};
 use crate::grants::{Held, Privilege};
@@ -53,22 +54,21 @@ pub struct Catalog {
 impl Model for Catalog {
     ghost use Rattle.std.specs.Coded.{codes};
     ghost use Rattle.std.specs.Map.{keys_of};
-    ghost use Rattle.sq_bound.specs.WellFormed.{kinds_of_columns};
     ghost use Rattle.sq_bound.specs.contracts.condition.BoundCond as condition;
     ghost use Rattle.sq_bound.specs.contracts.condition.Predicate as predicate;
     ghost use Rattle.sq_bound.specs.contracts.expression.BoundExpr as expression;
     ghost use Rattle.sq_bound.specs.contracts.names.BaseColumn as column;
     ghost use Rattle.sq_bound.specs.contracts.names.BaseTable as base;
-    ghost use Rattle.sq_catalog.specs.Catalog.{Catalog};
-    ghost use Rattle.sq_catalog.specs.Stored.{AreStored};
+    ghost use Rattle.sq_catalog.specs.Catalog.{Catalog, kinds_at};
+    ghost use Rattle.sq_catalog.specs.Stored.{AreStored, AreTables, kinds_of_views};
 
     ghost Value = { Catalog };
 
     ghost coded = { Prim.hlevel (codes, base.the_row.coded, column.the_row.coded, condition.the_row.coded, predicate.the_row.coded, expression.the_row.coded) };
 
-    ghost view = { λ c. record { tables = keys_of c.bases.entries; bases = c.base_tables.items; views = map (λ e. kinds_of_columns e.1.columns) c.views.entries; refer = c.refer } };
+    ghost view = { λ c. record { tables = keys_of c.bases.entries; bases = c.base_tables.items; view_names = keys_of c.views.entries; views = kinds_of_views c.views.entries; refer = c.refer } };
 
-    ghost invariant = { λ c. AreStored c.base_tables.items c.bases.entries × AreStored c.base_tables.items c.views.entries };
+    ghost invariant = { λ c. AreStored c.base_tables.items c.bases.entries × AreStored c.base_tables.items c.views.entries × AreTables (kinds_at c.base_tables.items (kinds_of_views c.views.entries)) c.bases.entries × AreTables (kinds_at c.base_tables.items (kinds_of_views c.views.entries)) c.views.entries };
 }
 
 impl Catalog {
@@ -175,7 +175,7 @@ impl Catalog {
         user: Name,
         full_name: &FullName,
     ) -> Result<(), ElementFault>
-        ensures { OnOk result (full_name.now.user ≡ user → table_number self.now.tables full_name.now.user full_name.now.name ≡ None) }
+        ensures { OnOk result (full_name.now.user ≡ user → IsNewName self.now full_name.now) }
     {
         let is_used = full_name.user == user && self.entry(full_name).is_some();
         refused_if(is_used, RefusalName::NameTwice)
@@ -191,7 +191,9 @@ impl Catalog {
     }
 
     /// The place of the next view.
-    pub(crate) fn next_view(&self) -> usize {
+    pub(crate) fn next_view(&self) -> usize
+        ensures { result ≡ length self.now.views }
+    {
         self.views.len()
     }
 
@@ -216,9 +218,10 @@ impl Catalog {
         }
     }
 
-    /// Adds a view.
+    /// Adds a view of a new name behind the others.
     pub(crate) fn add_view(&mut self, name: FullName, table: TableDesc) -> Result<(), ElementFault>
-        requires { IsStored self.old.bases table }
+        requires new { table_number self.old.view_names name.user name.name ≡ None }
+        requires next { IsNextView self.old table }
         ensures { Gains self.old self.new [] }
     {
         insert_table(&mut self.views, name, table)
@@ -233,8 +236,9 @@ impl Catalog {
 
     /// The table or view of this name, and where it stands.
     pub(crate) fn entry(&self, full_name: &FullName) -> Option<(TablePlace, &TableDesc)>
-        ensures absent { is_none result ≡ true → table_number self.now.tables full_name.now.user full_name.now.name ≡ None }
+        ensures absent { is_none result ≡ true → IsNewName self.now full_name.now }
         ensures stored { IfSome result (λ entry. IsStored self.now.bases entry.1.now) }
+        ensures well_formed { IfSome result (λ entry. IsTable (column_kinds self.now) entry.1.now) }
     {
         match self.bases.get_full(full_name) {
             Some((place, _, table)) => Some((TablePlace::Base(place), table)),
@@ -247,7 +251,8 @@ impl Catalog {
 
     /// The table or view at a place.
     fn table_at(&self, place: TablePlace) -> Option<&TableDesc>
-        ensures { IfSome result (λ table. IsStored self.now.bases table.now) }
+        ensures stored { IfSome result (λ table. IsStored self.now.bases table.now) }
+        ensures well_formed { IfSome result (λ table. IsTable (column_kinds self.now) table.now) }
     {
         match place {
             TablePlace::Base(place) => value_at(&self.bases, place),
@@ -284,8 +289,10 @@ fn insert_table(
     name: FullName,
     table: TableDesc,
 ) -> Result<(), ElementFault>
-    ensures names { OnOk result (table_number (keys_of tables.old.entries) name.user name.name ≡ None → keys_of tables.new.entries ≡ keys_of tables.old.entries ++ name ∷ []) }
-    ensures stored { (bases : List Base) → AreStored bases tables.old.entries → IsStored bases table → AreStored bases tables.new.entries }
+    requires { table_number (keys_of tables.old.entries) name.user name.name ≡ None }
+    ensures names { OnOk result (keys_of tables.new.entries ≡ keys_of tables.old.entries ++ name ∷ []) }
+    ensures added { OnOk result (tables.new.entries ≡ tables.old.entries ++ (name, table) ∷ []) }
+    ensures unchanged { OnErr result (tables.new.entries ≡ tables.old.entries) }
 {
     match tables.insert(name, table) {
         Ok(before) => {
@@ -301,7 +308,8 @@ fn insert_table(
 
 /// The table or view at a place among those of its kind.
 fn value_at(tables: &IndexMap<FullName, TableDesc>, place: usize) -> Option<&TableDesc>
-    ensures { IfSome result (λ table. (bases : List Base) → AreStored bases tables.now.entries → IsStored bases table.now) }
+    ensures stored { IfSome result (λ table. (bases : List Base) → AreStored bases tables.now.entries → IsStored bases table.now) }
+    ensures well_formed { IfSome result (λ table. (columns : TableKinds) → AreTables columns tables.now.entries → IsTable columns table.now) }
 {
     let (_, table) = tables.get_index(place)?;
     Some(table)

@@ -1,13 +1,15 @@
 //! CREATE TABLE (ISO/IEC 9075:1992, 11.3 to 11.9).
 
-ghost use Rattle.std.specs.Prelude.{◌≡◌, ◌∷◌, [], is_err, nat_lt, true, length, vec_len, IfOk, IsTrue, OnOk};
+ghost use Rattle.std.specs.Prelude.{◌≡◌, ◌∷◌, [], is_err, map, nat_lt, true, length, vec_len, IfOk, IsTrue, OnOk};
 ghost use Rattle.std.specs.List.{All, list_all};
-ghost use Rattle.sq_value.specs.Domain.{IsDomain, FitsKind};
+ghost use Rattle.sq_value.specs.Domain.{IsDomain, FitsKind, kind_of};
 ghost use Rattle.sq_bound.specs.Default.{DefaultIsIn};
-ghost use Rattle.sq_bound.specs.Names.{are_positions};
+ghost use Rattle.sq_bound.specs.Names.{are_positions, is_kind_at};
+ghost use Rattle.sq_bound.specs.WellFormed.{base_kinds, kinds_of_columns};
 ghost use Rattle.sq_catalog.specs.Catalog.{Gains, named_by};
 ghost use Rattle.sq_catalog.specs.Reference.{IsFound, is_to, keys_with};
-ghost use Rattle.sq_catalog.specs.Stored.{IsDescribed, IsNext};
+ghost use Rattle.sq_catalog.specs.Stored.{AreChecksAt, AreColumnsOver, IsDescribed, IsNext};
+ghost use Rattle.sq_catalog.specs.Table.{typed_kinds};
 ghost use Rattle.sq_catalog.specs.Written.{column_count};
 
 use crate::catalog::{Catalog, FullName, full_name};
@@ -17,15 +19,15 @@ use crate::reference::{
     BoundReferences, FoundReference, OwnKeys, OwnTable, bound_references, check_lists,
     references_of,
 };
-use crate::written::{NamedColumns, Written, is_not_null, named_columns, parts_of};
+use crate::written::{NamedColumns, TypedColumn, Written, is_not_null, named_columns, parts_of, typed_columns};
 use sq_bind::bind_check;
 use sq_bound::{
     BaseColumn, BaseTable, BoundCond, Column, ColumnDefault, Leaf, Names, Shared, TableBody,
-    TableDesc, domain_of,
+    TableDesc,
 };
 use sq_items::Items;
 use sq_lex::Name;
-use sq_scope::{both, kept, signed_value, text_value};
+use sq_scope::{both, signed_value, text_value};
 use sq_tree::{ColumnDefinition, Cond, DefaultValue, TableDefinition};
 use sq_value::{Domain, StoreFault, Value, store};
 use std::alloc::{AllocError, Global};
@@ -36,13 +38,15 @@ const MOST_COLUMNS: usize = 64;
 /// The length of USER (own rule).
 const USER_LENGTH: u16 = 18;
 
-/// What a table definition writes, with the names in it found.
+/// What a table definition writes, with the names in it found and the domains of its columns.
 #[derive(Drop)]
 struct Draft<'t> {
     written: Written<'t>,
+    columns: Vec<TypedColumn<'t>>,
     keys: Keys,
     references: Vec<FoundReference<'t>>,
     ghost keyed: { list_all (are_positions (vec_len written.columns)) keys.columns ≡ true },
+    ghost typed: { vec_len columns ≡ vec_len written.columns },
 }
 
 impl Catalog {
@@ -76,7 +80,7 @@ impl Catalog {
         table
     }
 
-    /// What a definition writes, each name of a column or table in it found.
+    /// What a definition writes, each name of a column or table in it found, and each domain.
     fn draft<'t>(
         &'t self,
         user: Name,
@@ -92,9 +96,12 @@ impl Catalog {
             Err(fault) => Err(*fault),
         };
         drop(named);
-        let (written, (keys, references)) = both(Ok(written), found)?;
+        let columns = typed_columns(self.alloc(), written.columns.as_slice());
+        let (written, (found, columns)) = both(Ok(written), both(found, columns))?;
+        let (keys, references) = found;
         Ok(Draft {
             written,
+            columns,
             keys,
             references,
         })
@@ -132,7 +139,7 @@ impl Catalog {
         ensures own { OnOk result (name.now.user ≡ user) }
         ensures next { IfOk result (λ new. IsNext self.now.bases new.0 new.1) }
     {
-        let columns = columns_of(self.alloc(), draft.written.columns.as_slice())?;
+        let columns = columns_of(self.alloc(), draft.columns.as_slice())?;
         match (&*self).checked_base(user, name, columns.as_slice(), &*draft) {
             Ok(base) => described(self.alloc(), name, columns, base),
             Err(fault) => {
@@ -151,10 +158,12 @@ impl Catalog {
         draft: &'x Draft<'_>,
     ) -> Result<BaseTable, ElementFault>
         requires width { length columns.now ≡ vec_len draft.now.written.columns }
+        requires kinds { kinds_of_columns columns.now ≡ typed_kinds draft.now.columns.items }
         requires found { All (IsFound self.now.bases (vec_len draft.now.written.columns)) draft.now.references.items }
         ensures own { OnOk result (name.now.user ≡ user) }
-        ensures columns { IfOk result (λ base. length base.columns ≡ length columns.now) }
+        ensures kinds { IfOk result (λ base. base_kinds base ≡ kinds_of_columns columns.now) }
         ensures place { IfOk result (λ base. base.place ≡ length self.now.bases) }
+        ensures checks { IfOk result (λ base. AreChecksAt (length self.now.bases) (kinds_of_columns columns.now) base.checks) }
         ensures refer { IfOk result (λ base. list_all (is_to (keys_with self.now.bases base.keys) (length columns.now)) base.references ≡ true) }
     {
         draft.check_keys()?;
@@ -177,9 +186,11 @@ impl Catalog {
         draft: &'x Draft<'_>,
     ) -> Result<(BaseTable, bool), ElementFault>
         requires width { length columns.now ≡ vec_len draft.now.written.columns }
+        requires kinds { kinds_of_columns columns.now ≡ typed_kinds draft.now.columns.items }
         requires found { All (IsFound self.now.bases (vec_len draft.now.written.columns)) draft.now.references.items }
-        ensures columns { IfOk result (λ made. length made.0.columns ≡ length columns.now) }
+        ensures kinds { IfOk result (λ made. base_kinds made.0 ≡ kinds_of_columns columns.now) }
         ensures place { IfOk result (λ made. made.0.place ≡ length self.now.bases) }
+        ensures checks { IfOk result (λ made. AreChecksAt (length self.now.bases) (kinds_of_columns columns.now) made.0.checks) }
         ensures refer { IfOk result (λ made. list_all (is_to (keys_with self.now.bases made.0.keys) (length columns.now)) made.0.references ≡ true) }
     {
         let own = OwnKeys {
@@ -227,10 +238,12 @@ fn base_parts(
     draft: &Draft<'_>,
 ) -> Result<BaseParts, ElementFault>
     ensures columns { IfOk result (λ parts. length parts.columns ≡ vec_len draft.now.written.columns) }
+    ensures kinds { IfOk result (λ parts. map (λ c. kind_of c.domain) parts.columns ≡ typed_kinds draft.now.columns.items) }
     ensures keys { IfOk result (λ parts. parts.keys ≡ draft.now.keys.columns) }
+    ensures checks { IfOk result (λ parts. AreChecksAt place (kinds_of_columns columns.now) parts.checks) }
 {
     let checks = bound_checks(alloc, name, place, columns, draft.written.checks.as_slice());
-    let held = base_columns(alloc, draft.written.columns.as_slice());
+    let held = base_columns(alloc, draft.columns.as_slice());
     let (checks, columns) = both(checks, held)?;
     let keys = copied_keys(alloc, draft.keys.columns.as_slice());
     let ((checks, columns), keys) = both(Ok((checks, columns)), keys)?;
@@ -254,6 +267,7 @@ fn assembled(
     ensures columns { result.0.columns ≡ parts.columns }
     ensures keys { result.0.keys ≡ parts.keys }
     ensures references { result.0.references ≡ bound.references }
+    ensures checks { result.0.checks ≡ parts.checks }
 {
     let BoundReferences {
         references,
@@ -284,21 +298,14 @@ impl Draft<'_> {
 }
 
 /// The columns as queries see them.
-fn columns_of(
-    alloc: Global,
-    definitions: &[&ColumnDefinition],
-) -> Result<Items<Column>, ElementFault>
-    ensures count { IfOk result (λ columns. length columns ≡ length definitions.now) }
-    ensures leaf_columns { IfOk result (λ columns. list_all (λ c. nat_lt c.leaf_column (length definitions.now)) columns ≡ true) }
+fn columns_of(alloc: Global, typed: &[TypedColumn<'_>]) -> Result<Items<Column>, ElementFault>
+    ensures { IfOk result (AreColumnsOver (typed_kinds typed.now) (typed_kinds typed.now)) }
 {
     let mut columns = Items::new(alloc);
-    for (position, definition) in definitions.iter().enumerate() {
-        let Some(domain) = domain_of(&definition.data_type) else {
-            return Err(ElementFault::Refused(RefusalName::BadType));
-        };
+    for (position, column) in typed.iter().enumerate() {
         columns.push(Column {
-            name: definition.name,
-            kind: domain.kind(),
+            name: column.definition.name,
+            kind: column.domain.kind(),
             leaf_column: position,
         })?;
     }
@@ -308,25 +315,25 @@ fn columns_of(
 /// The columns as the table holds them.
 fn base_columns(
     alloc: Global,
-    definitions: &[&ColumnDefinition],
+    typed: &[TypedColumn<'_>],
 ) -> Result<Items<BaseColumn>, ElementFault>
-    ensures { IfOk result (λ columns. length columns ≡ length definitions.now) }
+    ensures count { IfOk result (λ columns. length columns ≡ length typed.now) }
+    ensures kinds { IfOk result (λ columns. map (λ c. kind_of c.domain) columns ≡ typed_kinds typed.now) }
 {
     let mut columns = Items::new(alloc);
-    for definition in definitions {
-        columns.push(base_column(alloc, definition)?)?;
+    for column in typed {
+        columns.push(base_column(alloc, column)?)?;
     }
     Ok(columns)
 }
 
-fn base_column(alloc: Global, definition: &ColumnDefinition) -> Result<BaseColumn, ElementFault> {
-    let Some(domain) = domain_of(&definition.data_type) else {
-        return Err(ElementFault::Refused(RefusalName::BadType));
-    };
+fn base_column(alloc: Global, typed: &TypedColumn<'_>) -> Result<BaseColumn, ElementFault>
+    ensures { IfOk result (λ column. column.domain ≡ typed.now.domain) }
+{
     Ok(BaseColumn {
-        domain,
-        not_null: is_not_null(definition),
-        default: default_of(alloc, &definition.default, domain)?,
+        domain: typed.domain,
+        not_null: is_not_null(typed.definition),
+        default: default_of(alloc, &typed.definition.default, typed.domain)?,
     })
 }
 
@@ -406,29 +413,34 @@ fn bound_checks(
     place: usize,
     columns: &[Column],
     checks: &[&Cond],
-) -> Result<Items<BoundCond>, ElementFault> {
-    let mut bound = Ok(Items::new(alloc));
+) -> Result<Items<BoundCond>, ElementFault>
+    ensures { IfOk result (AreChecksAt place (kinds_of_columns columns.now)) }
+{
+    let mut bound = Items::new(alloc);
     for check in checks {
-        let cond = match bind_check(alloc, (name.user, name.name), place, columns, check) {
-            Ok(cond) => Ok(cond),
-            Err(fault) => Err(refused_as(fault, RefusalName::BadCheck)),
-        };
-        bound = with_item(bound, cond);
+        if let Err(fault) = add_check(alloc, name, place, columns, check, &mut bound) {
+            drop(bound);
+            return Err(fault);
+        }
     }
-    bound
+    Ok(bound)
 }
 
-/// A list with a further item.
-fn with_item<T: Drop>(
-    list: Result<Items<T>, ElementFault>,
-    item: Result<T, ElementFault>,
-) -> Result<Items<T>, ElementFault> {
-    let (mut list, item) = both(list, item)?;
-    let pushed = match list.push(item) {
-        Ok(()) => Ok(()),
-        Err(_) => Err(ElementFault::NoMemory),
-    };
-    kept(list, pushed)
+fn add_check(
+    alloc: Global,
+    name: &FullName,
+    place: usize,
+    columns: &[Column],
+    check: &Cond,
+    bound: &mut Items<BoundCond>,
+) -> Result<(), ElementFault>
+    requires { AreChecksAt place (kinds_of_columns columns.now) bound.old }
+    ensures { OnOk result (AreChecksAt place (kinds_of_columns columns.now) bound.new) }
+{
+    match bind_check(alloc, (name.user, name.name), place, columns, check) {
+        Ok(cond) => Ok(bound.push(cond)?),
+        Err(fault) => Err(refused_as(fault, RefusalName::BadCheck)),
+    }
 }
 
 fn copied_keys(alloc: Global, keys: &[Items<usize>]) -> Result<Items<Items<usize>>, ElementFault>
@@ -448,7 +460,8 @@ fn described(
     columns: Items<Column>,
     base: BaseTable,
 ) -> Result<(TableDesc, Shared<BaseTable>), ElementFault>
-    requires { list_all (λ c. nat_lt c.leaf_column (length base.columns)) columns ≡ true }
+    requires columns { list_all (λ c. nat_lt c.leaf_column (length base.columns)) columns ≡ true }
+    requires kinds { list_all (λ c. is_kind_at (base_kinds base) c.leaf_column c.kind) columns ≡ true }
     ensures base { IfOk result (λ new. new.1 ≡ base) }
     ensures table { IfOk result (λ new. IsDescribed base columns new.0) }
 {
@@ -465,7 +478,8 @@ fn table_over(
     columns: Items<Column>,
     base: &Shared<BaseTable>,
 ) -> Result<TableDesc, ElementFault>
-    requires { list_all (λ c. nat_lt c.leaf_column (length base.now.columns)) columns ≡ true }
+    requires columns { list_all (λ c. nat_lt c.leaf_column (length base.now.columns)) columns ≡ true }
+    requires kinds { list_all (λ c. is_kind_at (base_kinds base.now) c.leaf_column c.kind) columns ≡ true }
     ensures { IfOk result (IsDescribed base.now columns) }
 {
     match owners(alloc, base) {
@@ -484,7 +498,9 @@ fn base_table(
     leaf: Shared<Leaf>,
 ) -> TableDesc
     requires leaf { leaf.table ≡ base }
+    requires conditions { leaf.conditions ≡ [] }
     requires columns { list_all (λ c. nat_lt c.leaf_column (length leaf.table.columns)) columns ≡ true }
+    requires kinds { list_all (λ c. is_kind_at (base_kinds leaf.table) c.leaf_column c.kind) columns ≡ true }
     ensures { IsDescribed base columns result }
 {
     TableDesc {
@@ -501,14 +517,16 @@ fn owners(
     alloc: Global,
     base: &Shared<BaseTable>,
 ) -> Result<(Shared<BaseTable>, Shared<Leaf>), AllocError>
-    ensures { IfOk result (λ owners. (owners.0 ≡ base.now) × (owners.1.table ≡ base.now)) }
+    ensures owners { IfOk result (λ owners. (owners.0 ≡ base.now) × (owners.1.table ≡ base.now)) }
+    ensures conditions { IfOk result (λ owners. owners.1.conditions ≡ []) }
 {
     both(base.share(), base_leaf(alloc, base))
 }
 
 /// What is under a base table: itself.
 fn base_leaf(alloc: Global, base: &Shared<BaseTable>) -> Result<Shared<Leaf>, AllocError>
-    ensures { IfOk result (λ leaf. leaf.table ≡ base.now) }
+    ensures table { IfOk result (λ leaf. leaf.table ≡ base.now) }
+    ensures conditions { IfOk result (λ leaf. leaf.conditions ≡ []) }
 {
     let table = base.share()?;
     Shared::new(

@@ -1,11 +1,13 @@
 //! CREATE VIEW (ISO/IEC 9075:1992, 11.19).
 
-ghost use Rattle.std.specs.Prelude.{◌≡◌, ◌≤◌, ℕ, [], true, length, IfOk, IfSome, OnOk, nat_lt};
-ghost use Rattle.std.specs.List.{list_all};
-ghost use Rattle.sq_bound.specs.Fits.{FitsQuery, IsBase};
-ghost use Rattle.sq_bound.specs.Names.{are_positions};
-ghost use Rattle.sq_catalog.specs.Catalog.{Gains};
-ghost use Rattle.sq_catalog.specs.Stored.{IsStored};
+ghost use Rattle.std.specs.Prelude.{◌≡◌, ◌++◌, ◌≤◌, ℕ, [], length, IfOk, IfSome, List, OnOk, Some, slice_get};
+ghost use Rattle.std.specs.List.{AllZip};
+ghost use Rattle.sq_value.specs.declared.domain.Kind.{Kind};
+ghost use Rattle.sq_bound.specs.Fits.{IsBase};
+ghost use Rattle.sq_bound.specs.WellFormed.{IsLeaf, IsSelect, IsTarget, IsUpdatable, TableKinds, base_kinds, kinds_of_columns, kinds_of_results, kinds_of_select};
+ghost use Rattle.sq_catalog.specs.Catalog.{Gains, column_kinds};
+ghost use Rattle.sq_catalog.specs.Stored.{AreColumnsOver, IsBoundOver, IsNextView};
+ghost use Rattle.sq_catalog.specs.View.{conditions_with};
 
 use crate::catalog::{Catalog, FullName, full_name};
 use crate::fault::{ElementFault, RefusalName, refused_as, refused_if};
@@ -62,7 +64,8 @@ impl Catalog {
         name: &FullName,
         definition: &ViewDefinition,
     ) -> Result<NewView, ElementFault>
-        ensures { IfOk result (λ view. IsStored self.now.bases view.table) }
+        ensures own { OnOk result (name.now.user ≡ user) }
+        ensures next { IfOk result (λ view. IsNextView self.now view.table) }
     {
         let listed = listed_names(self.alloc(), definition)?;
         let bound = bind_view(self.alloc(), self, user, &definition.query);
@@ -78,8 +81,9 @@ impl Catalog {
         listed: Option<Items<Name>>,
         bound: Result<BoundView, BindFault>,
     ) -> Result<NewView, ElementFault>
-        requires { IfOk bound (λ view. IfSome view.updatable (λ over. FitsQuery self.now.bases over.1)) }
-        ensures { IfOk result (λ view. IsStored self.now.bases view.table) }
+        requires { IfOk bound (λ view. IsBoundOver self.now view.query view.updatable) }
+        ensures own { OnOk result (name.now.user ≡ user) }
+        ensures next { IfOk result (λ view. IsNextView self.now view.table) }
     {
         let bound = match bound {
             Ok(bound) => bound,
@@ -104,7 +108,9 @@ impl Catalog {
         name: &FullName,
         definition: &ViewDefinition,
         bound: &BoundView,
-    ) -> Result<Items<OwnerGrant>, ElementFault> {
+    ) -> Result<Items<OwnerGrant>, ElementFault>
+        ensures { OnOk result (name.now.user ≡ user) }
+    {
         self.check_view(user, name, definition, bound)?;
         self.owner_grants(user, bound)
     }
@@ -116,7 +122,9 @@ impl Catalog {
         name: &FullName,
         definition: &ViewDefinition,
         bound: &BoundView,
-    ) -> Result<(), ElementFault> {
+    ) -> Result<(), ElementFault>
+        ensures { OnOk result (name.now.user ≡ user) }
+    {
         let is_bad_option = definition.check_option && bound.updatable.is_none();
         refused_if(is_bad_option, RefusalName::BadCheckOption)?;
         refused_if(!bound.may_select, RefusalName::PrivilegeMissing)?;
@@ -192,8 +200,9 @@ impl Catalog {
         names: Items<Name>,
         bound: BoundView,
     ) -> Result<TableDesc, ElementFault>
-        requires { IfSome bound.updatable (λ over. FitsQuery self.now.bases over.1) }
-        ensures { IfOk result (IsStored self.now.bases) }
+        requires bound { IsBoundOver self.now bound.query bound.updatable }
+        requires names { length names ≡ length (kinds_of_select bound.query) }
+        ensures { IfOk result (IsNextView self.now) }
     {
         let BoundView {
             query,
@@ -217,7 +226,9 @@ impl Catalog {
         names: &[Name],
         query: BoundSpecification,
     ) -> Result<TableDesc, ElementFault>
-        ensures { IfOk result (IsStored self.now.bases) }
+        requires query { IsSelect (column_kinds self.now) [] [] query }
+        requires names { length names.now ≡ length (kinds_of_select query) }
+        ensures { IfOk result (IsNextView self.now) }
     {
         let columns = view_columns(self.alloc(), names, query.columns.as_slice());
         let (query, columns) = both(Ok(query), columns)?;
@@ -242,11 +253,38 @@ impl Catalog {
         query: BoundSpecification,
         over: UpdatableQuery,
     ) -> Result<TableDesc, ElementFault>
-        requires { FitsQuery self.now.bases over }
-        ensures { IfOk result (IsStored self.now.bases) }
+        requires query { IsSelect (column_kinds self.now) [] [] query }
+        requires names { length names.now ≡ length (kinds_of_select query) }
+        requires base { IsBase self.now.bases over.target.leaf.table }
+        requires target { IsUpdatable (column_kinds self.now) [] (kinds_of_select query) over }
+        ensures { IfOk result (IsNextView self.now) }
     {
-        let columns = view_columns(self.alloc(), names, query.columns.as_slice());
-        let parts = view_parts(self.alloc(), check_option, columns, over);
+        match view_columns(self.alloc(), names, query.columns.as_slice()) {
+            Ok(columns) => {
+                let parts = view_parts(self.alloc(), check_option, columns.as_slice(), over);
+                drop(columns);
+                self.view_of_parts(name, query, parts)
+            }
+            Err(fault) => {
+                drop(query);
+                drop(over);
+                Err(fault)
+            }
+        }
+    }
+
+    fn view_of_parts(
+        &self,
+        name: &FullName,
+        query: BoundSpecification,
+        parts: Result<(Items<Column>, Shared<Leaf>), ElementFault>,
+    ) -> Result<TableDesc, ElementFault>
+        requires query { IsSelect (column_kinds self.now) [] [] query }
+        requires base { IfOk parts (λ parts. IsBase self.now.bases parts.1.table) }
+        requires columns { IfOk parts (λ parts. AreColumnsOver (base_kinds parts.1.table) (kinds_of_select query) parts.0) }
+        requires leaf { IfOk parts (λ parts. IsLeaf (column_kinds self.now) parts.1) }
+        ensures { IfOk result (IsNextView self.now) }
+    {
         match parts {
             Ok((columns, leaf)) => Ok(self.view_over(name, query, columns, leaf)),
             Err(fault) => {
@@ -264,9 +302,11 @@ impl Catalog {
         columns: Items<Column>,
         leaf: Shared<Leaf>,
     ) -> TableDesc
+        requires query { IsSelect (column_kinds self.now) [] [] query }
         requires base { IsBase self.now.bases leaf.table }
-        requires columns { list_all (λ c. nat_lt c.leaf_column (length leaf.table.columns)) columns ≡ true }
-        ensures { IsStored self.now.bases result }
+        requires columns { AreColumnsOver (base_kinds leaf.table) (kinds_of_select query) columns }
+        requires leaf { IsLeaf (column_kinds self.now) leaf }
+        ensures { IsNextView self.now result }
     {
         TableDesc {
             user: name.user,
@@ -285,18 +325,19 @@ impl Catalog {
 fn view_parts(
     alloc: Global,
     check_option: bool,
-    columns: Result<Items<Column>, ElementFault>,
+    columns: &[Column],
     over: UpdatableQuery,
 ) -> Result<(Items<Column>, Shared<Leaf>), ElementFault>
-    requires { are_positions (length over.target.leaf.table.columns) over.columns ≡ true }
-    ensures leaf { IfOk result (λ parts. parts.1.table ≡ over.target.leaf.table) }
-    ensures columns { IfOk result (λ parts. list_all (λ c. nat_lt c.leaf_column (length over.target.leaf.table.columns)) parts.0 ≡ true) }
+    requires { AllZip (λ p k. slice_get (base_kinds over.target.leaf.table) p ≡ Some k) over.columns (kinds_of_columns columns.now) }
+    ensures base { IfOk result (λ parts. parts.1.table ≡ over.target.leaf.table) }
+    ensures columns { IfOk result (λ parts. AreColumnsOver (base_kinds over.target.leaf.table) (kinds_of_columns columns.now) parts.0) }
+    ensures leaf { IfOk result (λ parts. (known : TableKinds) → IsTarget known [] over.target → IsLeaf known parts.1) }
 {
     let UpdatableQuery {
         target,
         columns: below,
     } = over;
-    let columns = columns_over(alloc, columns, below.as_slice());
+    let columns = placed_columns(alloc, columns, below.as_slice());
     drop(below);
     both(columns, view_leaf(alloc, check_option, target))
 }
@@ -325,7 +366,8 @@ fn view_leaf(
     check_option: bool,
     target: Target,
 ) -> Result<Shared<Leaf>, ElementFault>
-    ensures { IfOk result (λ leaf. leaf.table ≡ target.leaf.table) }
+    ensures base { IfOk result (λ leaf. leaf.table ≡ target.leaf.table) }
+    ensures leaf { IfOk result (λ leaf. (known : TableKinds) → IsTarget known [] target → IsLeaf known leaf) }
 {
     let Target {
         leaf,
@@ -346,7 +388,8 @@ fn leaf_above(
     is_quiet: bool,
     condition: Option<BoundCond>,
 ) -> Result<Leaf, ElementFault>
-    ensures { IfOk result (λ leaf. leaf.table ≡ below.now.table) }
+    ensures base { IfOk result (λ leaf. leaf.table ≡ below.now.table) }
+    ensures conditions { IfOk result (λ leaf. leaf.conditions ≡ conditions_with below.now.conditions condition) }
 {
     let conditions = conditions_above(alloc, below.conditions.as_slice(), condition);
     let (conditions, table) = both(conditions, below.table.share())?;
@@ -368,7 +411,8 @@ fn conditions_above(
     below: &[Shared<BoundCond>],
     condition: Option<BoundCond>,
 ) -> Result<Items<Shared<BoundCond>>, AllocError>
-    ensures { IfOk result (λ conditions. length below.now ≤ length conditions) }
+    ensures count { IfOk result (λ conditions. length below.now ≤ length conditions) }
+    ensures conditions { IfOk result (λ conditions. conditions ≡ conditions_with below.now condition) }
 {
     let Some(condition) = condition else {
         return shared_conditions(alloc, below);
@@ -391,7 +435,7 @@ fn shared_conditions(
     alloc: Global,
     conditions: &[Shared<BoundCond>],
 ) -> Result<Items<Shared<BoundCond>>, AllocError>
-    ensures { IfOk result (λ shared. length shared ≡ length conditions.now) }
+    ensures { IfOk result (λ shared. shared ≡ conditions.now) }
 {
     let mut shared = Items::new(alloc);
     for condition in conditions {
@@ -423,7 +467,14 @@ fn check_distinct(alloc: Global, names: &[Name]) -> Result<(), ElementFault> {
     Ok(())
 }
 
-fn bad_view<T>() -> Result<T, ElementFault> {
+/// The names, if there are so many.
+fn as_many(names: Items<Name>, count: usize) -> Result<Items<Name>, ElementFault>
+    ensures { IfOk result (λ names. length names ≡ count) }
+{
+    if names.len() == count {
+        return Ok(names);
+    }
+    drop(names);
     Err(ElementFault::Refused(RefusalName::BadView))
 }
 
@@ -432,18 +483,19 @@ fn column_names(
     alloc: Global,
     listed: Option<Items<Name>>,
     columns: &[ResultColumn],
-) -> Result<Items<Name>, ElementFault> {
+) -> Result<Items<Name>, ElementFault>
+    ensures { IfOk result (λ names. length names ≡ length columns.now) }
+{
     match listed {
-        Some(names) => {
-            let test = refused_if(names.len() != columns.len(), RefusalName::BadView);
-            kept(names, test)
-        }
+        Some(names) => as_many(names, columns.len()),
         None => query_names(alloc, columns),
     }
 }
 
 /// The names of a query's columns: none twice, and none missing.
-fn query_names(alloc: Global, columns: &[ResultColumn]) -> Result<Items<Name>, ElementFault> {
+fn query_names(alloc: Global, columns: &[ResultColumn]) -> Result<Items<Name>, ElementFault>
+    ensures { IfOk result (λ names. length names ≡ length columns.now) }
+{
     let mut names = Items::new(alloc);
     for column in columns {
         if let Some(name) = column.name {
@@ -451,10 +503,7 @@ fn query_names(alloc: Global, columns: &[ResultColumn]) -> Result<Items<Name>, E
         }
     }
     check_distinct(alloc, names.as_slice())?;
-    if names.len() < columns.len() {
-        return bad_view();
-    }
-    Ok(names)
+    as_many(names, columns.len())
 }
 
 /// The columns of a view as queries see them.
@@ -462,11 +511,14 @@ fn view_columns(
     alloc: Global,
     names: &[Name],
     columns: &[ResultColumn],
-) -> Result<Items<Column>, ElementFault> {
+) -> Result<Items<Column>, ElementFault>
+    requires { length names.now ≡ length columns.now }
+    ensures { IfOk result (λ described. kinds_of_columns described ≡ kinds_of_results columns.now) }
+{
     let mut described = Items::new(alloc);
-    for (position, (name, column)) in names.iter().zip(columns).enumerate() {
+    for (position, column) in columns.iter().enumerate() {
         described.push(Column {
-            name: *name,
+            name: names[position],
             kind: column.kind,
             leaf_column: position,
         })?;
@@ -475,32 +527,20 @@ fn view_columns(
 }
 
 /// The columns of a view over these columns of a base table.
-fn columns_over(
-    alloc: Global,
-    columns: Result<Items<Column>, ElementFault>,
-    below: &[usize],
-) -> Result<Items<Column>, ElementFault>
-    ensures { IfOk result (λ placed. (width : ℕ) → are_positions width below.now ≡ true → list_all (λ c. nat_lt c.leaf_column width) placed ≡ true) }
-{
-    let columns = columns?;
-    let placed = placed_columns(alloc, columns.as_slice(), below);
-    drop(columns);
-    placed
-}
-
 fn placed_columns(
     alloc: Global,
     columns: &[Column],
     below: &[usize],
 ) -> Result<Items<Column>, ElementFault>
-    ensures { IfOk result (λ placed. (width : ℕ) → are_positions width below.now ≡ true → list_all (λ c. nat_lt c.leaf_column width) placed ≡ true) }
+    requires { length below.now ≡ length columns.now }
+    ensures { IfOk result (λ placed. (base : List Kind) → AllZip (λ p k. slice_get base p ≡ Some k) below.now (kinds_of_columns columns.now) → AreColumnsOver base (kinds_of_columns columns.now) placed) }
 {
     let mut placed = Items::new(alloc);
-    for (column, leaf_column) in columns.iter().zip(below) {
+    for (position, column) in columns.iter().enumerate() {
         placed.push(Column {
             name: column.name,
             kind: column.kind,
-            leaf_column: *leaf_column,
+            leaf_column: below[position],
         })?;
     }
     Ok(placed)

@@ -1,17 +1,21 @@
 //! What a table definition writes, by kinds of its elements (ISO/IEC 9075:1992, 11.3, 11.4, 11.6).
 
-ghost use Rattle.std.specs.Prelude.{◌≡◌, ◌<◌, ◌+◌, true, length, IfOk, OnOk};
+ghost use Rattle.std.specs.Prelude.{◌≡◌, ◌<◌, ◌+◌, true, length, vec_len, IfOk, OnOk};
+ghost use Rattle.sq_value.specs.Domain.{IsDomain};
 ghost use Rattle.sq_bound.specs.Names.{are_positions};
+ghost use Rattle.sq_bound.specs.Parameter.{IsDomain-prop};
 ghost use Rattle.sq_catalog.specs.Written.{column_count};
 
 use crate::fault::{ElementFault, RefusalName, refused_if};
 use indexmap::{IndexMap, IndexSet};
+use sq_bound::domain_of;
 use sq_items::Items;
 use sq_lex::Name;
 use sq_tree::{
     ColumnConstraint, ColumnDefinition, CommaList, Cond, ForeignKey, References, TableDefinition,
     TableElement,
 };
+use sq_value::Domain;
 use std::alloc::Global;
 
 /// A key as it is written.
@@ -35,6 +39,14 @@ pub(crate) struct Written<'t> {
     pub keys: Vec<WrittenKey>,
     pub references: Vec<WrittenReference<'t>>,
     pub checks: Vec<&'t Cond>,
+}
+
+/// A column of a definition, and its domain.
+#[derive(Clone, Copy)]
+pub(crate) struct TypedColumn<'t> {
+    pub definition: &'t ColumnDefinition,
+    pub domain: Domain,
+    ghost is_domain: { IsDomain domain } by { IsDomain-prop domain },
 }
 
 /// The names of a list.
@@ -240,6 +252,23 @@ impl NamedColumns {
         }
         Ok(positions)
     }
+}
+
+/// The columns of a definition with their domains.
+pub(crate) fn typed_columns<'t>(
+    alloc: Global,
+    definitions: &[&'t ColumnDefinition],
+) -> Result<Vec<TypedColumn<'t>>, ElementFault>
+    ensures { IfOk result (λ typed. vec_len typed ≡ length definitions.now) }
+{
+    let mut typed = Vec::new(alloc);
+    for definition in definitions {
+        let Some(domain) = domain_of(&definition.data_type) else {
+            return Err(ElementFault::Refused(RefusalName::BadType));
+        };
+        pushed(typed.push(TypedColumn { definition, domain }).is_ok())?;
+    }
+    Ok(typed)
 }
 
 /// Whether NOT NULL is written for a column.

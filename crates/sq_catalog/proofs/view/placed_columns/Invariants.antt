@@ -1,7 +1,10 @@
-use Rattle.std.proofs.Common.{◌≡◌, ℕ, true, nat_lt}
-use Rattle.std.specs.List.{list_all}
-use Rattle.sq_bound.specs.Names.{are_positions}
+use Rattle.std.proofs.Common.{◌≡◌, List, Some, take}
+use Rattle.std.specs.List.{AllZip, slice_get}
+use Rattle.sq_value.specs.declared.domain.Kind.{Kind}
+use Rattle.sq_bound.specs.WellFormed.{kinds_of_columns}
+use Rattle.sq_catalog.specs.Stored.{AreColumnsOver}
 use Rattle.sq_catalog.proofs.view.placed_columns.Given as goal
 
-abbrev pub invariant-loop-column : goal.invariant-loop-column
-invariant-loop-column l = (width : ℕ) → are_positions width l.below ≡ true → list_all (λ c. nat_lt c.leaf_column width) l.placed ≡ true
+abbrev pub invariant-loop-position : goal.invariant-loop-position
+invariant-loop-position l =
+    (base : List Kind) → AllZip (λ p k. slice_get base p ≡ Some k) l.below (kinds_of_columns l.columns) → AreColumnsOver base (take l.position (kinds_of_columns l.columns)) l.placed

@@ -1,5 +1,5 @@
-use Rattle.std.proofs.Common.{◌≡◌, length}
+use Rattle.std.proofs.Common.{◌≡◌, take}
 use Rattle.sq_catalog.proofs.view.shared_conditions.Given as goal
 
 abbrev pub invariant-loop-condition : goal.invariant-loop-condition
-invariant-loop-condition l = length l.shared ≡ l.condition-index
+invariant-loop-condition l = l.shared ≡ take l.condition-index l.conditions

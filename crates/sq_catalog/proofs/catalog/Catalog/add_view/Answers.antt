@@ -2,11 +2,19 @@ use Rattle.std.proofs.Common.{List, ap, subst, sym}
 use Rattle.sq_bound.specs.declared.names.BaseTable.{BaseTable}
 use Rattle.sq_catalog.specs.Catalog.{Catalog}
 use Rattle.sq_catalog.specs.Stored.{IsStored}
+use Rattle.sq_catalog.proofs.Extending.{tables_beside, view_beside}
+use Rattle.sq_catalog.proofs.Listed.{all_inserted}
 use Rattle.sq_catalog.proofs.catalog.Catalog.add_view.Goals as goal
 
 pub invariant_of-self : goal.invariant_of-self
-invariant_of-self c = (
-  c.self.invariant.0,
-  c.insert_table.ensures.stored c.self.inside.base_tables.items c.self.invariant.1
-      (subst (λ (bs : List BaseTable). IsStored bs c.args.table) (sym (ap (λ (s : Catalog). s.bases) c.self.view_is)) c.requires),
-)
+invariant_of-self c =
+    let same = ap (λ (s : Catalog). s.bases) c.self.view_is in
+    (
+      c.self.invariant.0,
+      all_inserted (λ e. IsStored c.self.inside.base_tables.items e.1) c.insert_table.result c.self.inside.views.entries c.insert_table.new.tables.entries (c.args.name, c.args.table) c.insert_table.ensures.added c.insert_table.ensures.unchanged
+          c.self.invariant.1 (subst (λ (bs : List BaseTable). IsStored bs c.args.table) (sym same) c.requires.next.stored),
+      tables_beside c.insert_table.result c.self.inside.base_tables.items c.self.inside.views.entries c.insert_table.new.tables.entries c.self.inside.bases.entries c.args.name c.args.table
+          c.insert_table.ensures.added c.insert_table.ensures.unchanged c.self.invariant.2,
+      view_beside c.insert_table.result c.args.self.now c.self.inside.base_tables.items c.self.inside.views.entries c.insert_table.new.tables.entries c.args.name c.args.table
+          c.insert_table.ensures.added c.insert_table.ensures.unchanged same (ap (λ (s : Catalog). s.views) c.self.view_is) c.requires.next c.self.invariant.3,
+    )

@@ -1,0 +1,19 @@
+use Rattle.std.proofs.Common.{subst}
+use Rattle.sq_catalog.specs.Catalog.{Catalog, column_kinds}
+use Rattle.sq_catalog.specs.Stored.{IsStored}
+use Rattle.sq_bound.specs.WellFormed.{IsTable}
+use Rattle.sq_catalog.proofs.Extending.{table_read}
+use Rattle.sq_catalog.proofs.Stored.{stored_at}
+use Rattle.sq_catalog.proofs.catalog.Catalog.entry.Goals as goal
+
+pub returns-in-Some-clause-well_formed : goal.returns-in-Some-clause-well_formed
+returns-in-Some-clause-well_formed c = table_read _ _ c.self.inside.bases.entries c.in-Some.place c.in-Some.field-0-1.now c.in-Some.table.now c.self.view_is c.self.invariant.2 c.in-Some.ensures.entry
+
+pub returns-in-Some-get_full-clause-stored : goal.returns-in-Some-get_full-clause-stored
+returns-in-Some-get_full-clause-stored c =
+    subst (λ (s : Catalog). IsStored s.bases c.in-Some-get_full.table.now) c.self.view_is
+    (stored_at c.self.inside.base_tables.items c.self.inside.views.entries c.in-Some-get_full.place c.in-Some-get_full.field-0-1.now c.in-Some-get_full.table.now c.self.invariant.1 c.in-Some-get_full.ensures.entry)
+
+pub returns-in-Some-get_full-clause-well_formed : goal.returns-in-Some-get_full-clause-well_formed
+returns-in-Some-get_full-clause-well_formed c =
+    table_read _ _ c.self.inside.views.entries c.in-Some-get_full.place c.in-Some-get_full.field-0-1.now c.in-Some-get_full.table.now c.self.view_is c.self.invariant.3 c.in-Some-get_full.ensures.entry

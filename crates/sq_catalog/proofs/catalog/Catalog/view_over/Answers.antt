@@ -1,0 +1,9 @@
+use Rattle.std.proofs.Common.{refl}
+use Rattle.sq_catalog.proofs.Seen.{columns_seen}
+use Rattle.sq_catalog.proofs.catalog.Catalog.view_over.Goals as goal
+
+pub invariant_of-result : goal.invariant_of-result
+invariant_of-result c = record {
+  leaf_columns = columns_seen c.args.leaf.table c.args.columns refl c.requires.columns.places;
+  leaf_kinds = c.requires.columns.places;
+}

@@ -1,0 +1,10 @@
+use Rattle.std.proofs.Common.{refl}
+use Rattle.sq_catalog.proofs.Seen.{column_next, kind_read, kinds_zipped}
+use Rattle.sq_catalog.proofs.view.placed_columns.Goals as goal
+
+pub loop-position-preserved : goal.loop-position-preserved
+loop-position-preserved c = λ base over.
+    column_next (λ x. x.kind) c.args.columns.now base c.loop-position.placed c.push.new.self c.loop-position.position c.index-columns-position.result _
+    c.loop-position-test.true c.index-columns-position.is c.in_ok-push.ensures.ok refl
+    (kind_read base _ c.index-columns-position.result.kind (kinds_zipped (λ x. x.kind) base c.args.below.now c.args.columns.now c.loop-position.position c.index-columns-position.result 0 over c.loop-position-test.true c.index-columns-position.is))
+    (c.loop-position.invariant base over)
