@@ -1,0 +1,5 @@
+pub mod Trees
+pub mod Contexts
+pub mod Columns
+pub mod NoFunctions
+pub mod Queries

@@ -1,9 +1,17 @@
 //! Search conditions and query specifications (ISO/IEC 9075:1992, 7.3 to 7.9, 7.11, 8.12).
 
-ghost use Rattle.std.specs.Prelude.{IfOk};
+ghost use Rattle.std.specs.Prelude.{[], ◌∷◌, Bool, IfOk, List};
+ghost use Rattle.std.specs.List.{AllZip};
+ghost use Rattle.sq_meaning.specs.WellFormed.{of_lines};
+ghost use Rattle.sq_bound.specs.WellFormed.{Levels, TableKinds, kinds_of_parameters};
+ghost use Rattle.sq_bound.specs.declared.condition.TablePlace.{TablePlace};
+ghost use Rattle.sq_bound.specs.declared.expression.SetFunctionCall.{SetFunctionCall};
 ghost use Rattle.sq_scope.specs.Expression.{Grows};
-ghost use Rattle.sq_select.specs.WellFormed.{IsCondIn, IsSelectIn};
+ghost use Rattle.sq_scope.specs.WellFormed.{AreLevelsIn, IsItemOver, allows_none};
+ghost use Rattle.sq_scope.specs.declared.scope.Environment.{Environment as AnyEnvironment};
+ghost use Rattle.sq_select.specs.WellFormed.{Context, Each, Everywhere, IsClauseAt, IsClauseIn, IsCondAt, IsCondIn, IsConjAt, IsConjIn, IsHavingAt, IsPredicateAt, IsPredicateIn, IsSelectIn, IsTestAt, IsTestIn};
 
+use crate::gathered::{Gathered, gathered, none};
 use crate::number::SubqueryNumbers;
 use crate::predicate::{
     PredicateResult, SubqueryResult, between, compared, compared_query, exists, in_list, in_query,
@@ -13,7 +21,7 @@ use crate::select::{
     FromClause, Selected, from_clause, group_by, grouping_of, make_specification, select_list,
 };
 use sq_bound::{BindFault, BoundCond, BoundConj, BoundTest, Names, Place, Predicate};
-use sq_items::{Boxed, Items};
+use sq_items::Boxed;
 use sq_scope::{Environment, Findings, Found, FromItem, SetFunctions, bind_expr};
 use sq_tree::{
     Body, Cond, Conj, Expr, QuerySpecification, SelectList, SetQuantifier, TableExpression, Tail,
@@ -23,50 +31,6 @@ use std::alloc::Global;
 
 /// What binding a search condition answers.
 pub type CondResult = Result<Found<BoundCond>, BindFault>;
-
-/// Parts that are bound so far, with what was found in them.
-type Gathered<T> = Result<Found<Items<T>>, BindFault>;
-
-/// The parts with a further one.
-fn gathered<T: Drop>(parts: Gathered<T>, part: Result<Found<T>, BindFault>) -> Gathered<T> {
-    match (parts, part) {
-        (Ok(parts), Ok(part)) => with_part(parts, part),
-        (Ok(parts), Err(fault)) => {
-            drop(parts);
-            Err(fault)
-        }
-        (Err(fault), part) => {
-            drop(part);
-            Err(fault)
-        }
-    }
-}
-
-fn with_part<T: Drop>(parts: Found<Items<T>>, part: Found<T>) -> Gathered<T> {
-    let Found {
-        part: mut items,
-        findings,
-    } = parts;
-    let findings = findings.and(part.findings);
-    match items.push(part.part) {
-        Ok(()) => Ok(Found {
-            part: items,
-            findings,
-        }),
-        Err(_) => {
-            drop(items);
-            Err(BindFault::NoMemory)
-        }
-    }
-}
-
-/// No parts so far.
-fn none<T>(alloc: Global) -> Gathered<T> {
-    Ok(Found {
-        part: Items::new(alloc),
-        findings: Findings::NONE,
-    })
-}
 
 #[cycle(bind_cond)]
 pub fn bind_cond<N: Names>(
@@ -88,7 +52,9 @@ pub fn bind_cond<N: Names>(
     whole_cond(terms)
 }
 
-fn whole_cond(terms: Gathered<BoundConj>) -> CondResult {
+fn whole_cond(terms: Gathered<BoundConj>) -> CondResult
+    ensures { (x : Context) (calls : List SetFunctionCall) → IfOk terms (Everywhere x (Each (IsConjAt x calls))) → IfOk result (Everywhere x (IsCondAt x calls)) }
+{
     let Found { part, findings } = terms?;
     Ok(Found {
         part: BoundCond { terms: part },
@@ -103,7 +69,10 @@ fn bind_conj<N: Names>(
     environment: &Environment<'_>,
     functions: &mut SetFunctions,
     numbers: &mut SubqueryNumbers,
-) -> Result<Found<BoundConj>, BindFault> {
+) -> Result<Found<BoundConj>, BindFault>
+    ensures well_formed { IfOk result (IsConjIn (N.column_kinds names.now) environment.now functions.old.allowed functions.new.calls) }
+    ensures grows { Grows functions.old functions.new }
+{
     let first = bind_test(&conj.first, names, environment, functions, numbers);
     let mut tests = gathered(none(environment.alloc), first);
     for test in conj.rest.as_slice() {
@@ -113,7 +82,9 @@ fn bind_conj<N: Names>(
     whole_conj(tests)
 }
 
-fn whole_conj(tests: Gathered<BoundTest>) -> Result<Found<BoundConj>, BindFault> {
+fn whole_conj(tests: Gathered<BoundTest>) -> Result<Found<BoundConj>, BindFault>
+    ensures { (x : Context) (calls : List SetFunctionCall) → IfOk tests (Everywhere x (Each (IsTestAt x calls))) → IfOk result (Everywhere x (IsConjAt x calls)) }
+{
     let Found { part, findings } = tests?;
     Ok(Found {
         part: BoundConj { tests: part },
@@ -128,12 +99,17 @@ fn bind_test<N: Names>(
     environment: &Environment<'_>,
     functions: &mut SetFunctions,
     numbers: &mut SubqueryNumbers,
-) -> Result<Found<BoundTest>, BindFault> {
+) -> Result<Found<BoundTest>, BindFault>
+    ensures well_formed { IfOk result (IsTestIn (N.column_kinds names.now) environment.now functions.old.allowed functions.new.calls) }
+    ensures grows { Grows functions.old functions.new }
+{
     let predicate = bind_body(&test.body, names, environment, functions, numbers);
     whole_test(test.negated, predicate)
 }
 
-fn whole_test(negated: bool, predicate: PredicateResult) -> Result<Found<BoundTest>, BindFault> {
+fn whole_test(negated: bool, predicate: PredicateResult) -> Result<Found<BoundTest>, BindFault>
+    ensures { (x : Context) (calls : List SetFunctionCall) → IfOk predicate (Everywhere x (IsPredicateAt x calls)) → IfOk result (Everywhere x (IsTestAt x calls)) }
+{
     let Found { part, findings } = predicate?;
     Ok(Found {
         part: BoundTest {
@@ -153,7 +129,10 @@ fn bind_body<N: Names>(
     environment: &Environment<'_>,
     functions: &mut SetFunctions,
     numbers: &mut SubqueryNumbers,
-) -> PredicateResult {
+) -> PredicateResult
+    ensures well_formed { IfOk result (IsPredicateIn (N.column_kinds names.now) environment.now functions.old.allowed functions.new.calls) }
+    ensures grows { Grows functions.old functions.new }
+{
     match body {
         Body::Predicate(left, tail) => bind_tail(
             tail,
@@ -174,7 +153,9 @@ fn bind_body<N: Names>(
     }
 }
 
-fn bracketed(alloc: Global, cond: CondResult) -> PredicateResult {
+fn bracketed(alloc: Global, cond: CondResult) -> PredicateResult
+    ensures { (x : Context) (calls : List SetFunctionCall) → IfOk cond (Everywhere x (IsCondAt x calls)) → IfOk result (Everywhere x (IsPredicateAt x calls)) }
+{
     let Found { part, findings } = cond?;
     Ok(Found {
         part: Predicate::Bracketed(Boxed::new(alloc, part)?),
@@ -190,7 +171,10 @@ fn bind_tail<N: Names>(
     environment: &Environment<'_>,
     functions: &mut SetFunctions,
     numbers: &mut SubqueryNumbers,
-) -> PredicateResult {
+) -> PredicateResult
+    ensures well_formed { IfOk result (IsPredicateIn (N.column_kinds names.now) environment.now functions.old.allowed functions.new.calls) }
+    ensures grows { Grows functions.old functions.new }
+{
     let left = bind_expr(left, environment, functions);
     match tail {
         Tail::Compare(comparison, right) => {
@@ -222,7 +206,9 @@ fn bind_subquery<N: Names>(
     names: &N,
     environment: &Environment<'_>,
     numbers: &mut SubqueryNumbers,
-) -> SubqueryResult {
+) -> SubqueryResult
+    ensures { IfOk result (λ found. IsSelectIn (N.column_kinds names.now) environment.now found.part) }
+{
     let query = bind_select(
         &query.table,
         query.quantifier,
@@ -235,7 +221,9 @@ fn bind_subquery<N: Names>(
 }
 
 /// The subquery, with a number where it reads no column of a query around it.
-fn numbered(query: SubqueryResult, numbers: &mut SubqueryNumbers) -> SubqueryResult {
+fn numbered(query: SubqueryResult, numbers: &mut SubqueryNumbers) -> SubqueryResult
+    ensures { (columns : TableKinds) (environment : AnyEnvironment) → IfOk query (λ found. IsSelectIn columns environment found.part) → IfOk result (λ found. IsSelectIn columns environment found.part) }
+{
     let Found { mut part, findings } = query?;
     if findings.reach == 0 {
         part.number = numbers.take();
@@ -307,7 +295,9 @@ fn bind_where<'s, N: Names>(
     items: &'s [FromItem],
     environment: &'s Environment<'s>,
     numbers: &mut SubqueryNumbers,
-) -> Result<Found<Option<BoundCond>>, BindFault> {
+) -> Result<Found<Option<BoundCond>>, BindFault>
+    ensures { (tables : List TablePlace) (levels : Levels) → AllZip (IsItemOver (N.column_kinds names.now)) tables items.now → AreLevelsIn (N.column_kinds names.now) levels environment.now → IfOk result (λ found. IsClauseAt (N.column_kinds names.now) (kinds_of_parameters environment.now.parameters.now) (of_lines tables ∷ levels) [] found.part) }
+{
     let mut functions = SetFunctions::forbidden(environment.alloc);
     let condition = bind_optional(
         cond,
@@ -330,7 +320,10 @@ fn bind_having<'s, N: Names>(
     environment: &'s Environment<'s>,
     functions: &mut SetFunctions,
     numbers: &mut SubqueryNumbers,
-) -> Result<Found<Option<BoundCond>>, BindFault> {
+) -> Result<Found<Option<BoundCond>>, BindFault>
+    ensures well_formed { (tables : List TablePlace) (levels : Levels) → AllZip (IsItemOver (N.column_kinds names.now)) tables items.now → AreLevelsIn (N.column_kinds names.now) levels environment.now → IfOk result (IsHavingAt (N.column_kinds names.now) (kinds_of_parameters environment.now.parameters.now) tables levels (allows_none grouping.entry) functions.new.calls) }
+    ensures grows { Grows functions.old functions.new }
+{
     bind_optional(
         cond,
         names,
@@ -352,7 +345,10 @@ fn bind_optional<N: Names>(
     environment: &Environment<'_>,
     functions: &mut SetFunctions,
     numbers: &mut SubqueryNumbers,
-) -> Result<Found<Option<BoundCond>>, BindFault> {
+) -> Result<Found<Option<BoundCond>>, BindFault>
+    ensures well_formed { IfOk result (IsClauseIn (N.column_kinds names.now) environment.now functions.old.allowed functions.new.calls) }
+    ensures grows { Grows functions.old functions.new }
+{
     match cond {
         None => Ok(Found {
             part: None,
@@ -362,7 +358,9 @@ fn bind_optional<N: Names>(
     }
 }
 
-fn optional(cond: CondResult) -> Result<Found<Option<BoundCond>>, BindFault> {
+fn optional(cond: CondResult) -> Result<Found<Option<BoundCond>>, BindFault>
+    ensures { (columns : TableKinds) (environment : AnyEnvironment) (allowed : Bool) (calls : List SetFunctionCall) → IfOk cond (λ found. IsCondIn columns environment allowed found.findings.has_ungrouped calls found.part) → IfOk result (IsClauseIn columns environment allowed calls) }
+{
     let Found { part, findings } = cond?;
     Ok(Found {
         part: Some(part),

@@ -3,6 +3,7 @@
 #![tactic(auto)]
 
 mod condition;
+mod gathered;
 mod number;
 mod predicate;
 mod select;

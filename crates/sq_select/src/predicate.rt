@@ -1,7 +1,15 @@
 //! Predicates over bound operands: their kinds, and what is found in them (ISO/IEC 9075:1992, 8.2 to 8.7).
 
+ghost use Rattle.std.specs.Prelude.{◌≡◌, ◌∷◌, [], IfOk, IsTrue, List, Ok, true};
+ghost use Rattle.sq_bound.specs.WellFormed.{TableKinds, kinds_of_select};
+ghost use Rattle.sq_bound.specs.declared.expression.SetFunctionCall.{SetFunctionCall};
+ghost use Rattle.sq_meaning.specs.WellFormed.{is_comparable, is_text};
+ghost use Rattle.sq_scope.specs.Expression.{Grows};
+ghost use Rattle.sq_select.specs.WellFormed.{AgreesAt, AreBesideAt, Context, Each, Everywhere, IsPredicateAt, IsSelectIn, IsTypedAt, here};
+
+use crate::gathered::{Gathered, gathered, none};
 use sq_bound::{BindFault, BoundExpr, BoundSpecification, Compared, Predicate};
-use sq_items::{Boxed, Items};
+use sq_items::Boxed;
 use sq_scope::{
     Environment, ExprResult, Findings, Found, SetFunctions, Typed, bind_expr, both, kept,
     must_agree, must_be_text,
@@ -17,17 +25,19 @@ pub type PredicateResult = Result<Found<Predicate>, BindFault>;
 pub type SubqueryResult = Result<Found<BoundSpecification>, BindFault>;
 
 /// Two expressions whose kinds must agree.
-fn agreeing(
-    left: ExprResult,
-    right: ExprResult,
-) -> Result<(Found<Typed>, Found<Typed>), BindFault> {
+fn agreeing(left: ExprResult, right: ExprResult) -> Result<(Found<Typed>, Found<Typed>), BindFault>
+    ensures parts { IfOk result (λ parts. (left ≡ Ok parts.0) × (right ≡ Ok parts.1)) }
+    ensures agree { IfOk result (λ parts. IsTrue (is_comparable parts.0.part.kind parts.1.part.kind)) }
+{
     let (left, right) = both(left, right)?;
     let test = must_agree(left.part.kind, right.part.kind);
     kept((left, right), test)
 }
 
 /// `left op right`.
-pub fn compared(comparison: Comparison, left: ExprResult, right: ExprResult) -> PredicateResult {
+pub fn compared(comparison: Comparison, left: ExprResult, right: ExprResult) -> PredicateResult
+    ensures { (x : Context) (calls : List SetFunctionCall) → IfOk left (Everywhere x (IsTypedAt x calls)) → IfOk right (Everywhere x (IsTypedAt x calls)) → IfOk result (Everywhere x (IsPredicateAt x calls)) }
+{
     let (left, right) = agreeing(left, right)?;
     let findings = left.findings.and(right.findings);
     Ok(Found {
@@ -37,7 +47,9 @@ pub fn compared(comparison: Comparison, left: ExprResult, right: ExprResult) -> 
 }
 
 /// The one column of a subquery (7.11), and the subquery in its place.
-fn column_of(query: &BoundSpecification) -> Result<Kind, BindFault> {
+fn column_of(query: &BoundSpecification) -> Result<Kind, BindFault>
+    ensures { IfOk result (λ kind. kinds_of_select query.now ≡ kind ∷ []) }
+{
     match query.columns.as_slice() {
         [column] => Ok(column.kind),
         _ => Err(BindFault::CountMismatch),
@@ -49,7 +61,9 @@ fn with_subquery(
     alloc: Global,
     left: ExprResult,
     query: SubqueryResult,
-) -> Result<Found<(BoundExpr, Boxed<BoundSpecification>)>, BindFault> {
+) -> Result<Found<(BoundExpr, Boxed<BoundSpecification>)>, BindFault>
+    ensures { (x : Context) (calls : List SetFunctionCall) → IfOk left (Everywhere x (IsTypedAt x calls)) → IfOk query (λ found. IsSelectIn x.columns x.environment found.part) → IfOk result (Everywhere x (AreBesideAt x calls)) }
+{
     let (left, query) = both(left, query)?;
     let test = match column_of(&query.part) {
         Ok(kind) => must_agree(left.part.kind, kind),
@@ -65,7 +79,9 @@ fn boxed_beside(
     left: BoundExpr,
     query: BoundSpecification,
     findings: Findings,
-) -> Result<Found<(BoundExpr, Boxed<BoundSpecification>)>, BindFault> {
+) -> Result<Found<(BoundExpr, Boxed<BoundSpecification>)>, BindFault>
+    ensures { IfOk result (λ found. (found.part ≡ (left, query)) × (found.findings ≡ findings)) }
+{
     match Boxed::new(alloc, query) {
         Ok(query) => Ok(Found {
             part: (left, query),
@@ -85,7 +101,9 @@ pub fn compared_query(
     quantifier: Option<Quantifier>,
     left: ExprResult,
     query: SubqueryResult,
-) -> PredicateResult {
+) -> PredicateResult
+    ensures { (x : Context) (calls : List SetFunctionCall) → IfOk left (Everywhere x (IsTypedAt x calls)) → IfOk query (λ found. IsSelectIn x.columns x.environment found.part) → IfOk result (Everywhere x (IsPredicateAt x calls)) }
+{
     let Found { part, findings } = with_subquery(alloc, left, query)?;
     let (left, query) = part;
     let compared = match quantifier {
@@ -109,7 +127,9 @@ pub fn in_query(
     negated: bool,
     left: ExprResult,
     query: SubqueryResult,
-) -> PredicateResult {
+) -> PredicateResult
+    ensures { (x : Context) (calls : List SetFunctionCall) → IfOk left (Everywhere x (IsTypedAt x calls)) → IfOk query (λ found. IsSelectIn x.columns x.environment found.part) → IfOk result (Everywhere x (IsPredicateAt x calls)) }
+{
     let Found { part, findings } = with_subquery(alloc, left, query)?;
     let (left, query) = part;
     Ok(Found {
@@ -119,7 +139,9 @@ pub fn in_query(
 }
 
 /// `EXISTS (query)`.
-pub fn exists(alloc: Global, query: SubqueryResult) -> PredicateResult {
+pub fn exists(alloc: Global, query: SubqueryResult) -> PredicateResult
+    ensures { (x : Context) (calls : List SetFunctionCall) → IfOk query (λ found. IsSelectIn x.columns x.environment found.part) → IfOk result (Everywhere x (IsPredicateAt x calls)) }
+{
     let Found { part, findings } = query?;
     Ok(Found {
         part: Predicate::Exists(Boxed::new(alloc, part)?),
@@ -135,9 +157,23 @@ pub fn between(
     high: &Expr,
     environment: &Environment<'_>,
     functions: &mut SetFunctions,
-) -> PredicateResult {
+) -> PredicateResult
+    ensures well_formed { (columns : TableKinds) → let x = here columns environment.now functions.old.allowed in IfOk left (Everywhere x (IsTypedAt x functions.old.calls)) → IfOk result (Everywhere x (IsPredicateAt x functions.new.calls)) }
+    ensures grows { Grows functions.old functions.new }
+{
     let low = bind_expr(low, environment, functions);
     let high = bind_expr(high, environment, functions);
+    between_bounds(negated, left, low, high)
+}
+
+fn between_bounds(
+    negated: bool,
+    left: ExprResult,
+    low: ExprResult,
+    high: ExprResult,
+) -> PredicateResult
+    ensures { (x : Context) (calls : List SetFunctionCall) → IfOk left (Everywhere x (IsTypedAt x calls)) → IfOk low (Everywhere x (IsTypedAt x calls)) → IfOk high (Everywhere x (IsTypedAt x calls)) → IfOk result (Everywhere x (IsPredicateAt x calls)) }
+{
     let ((left, low), high) = both(agreeing(left, low), high)?;
     let test = must_agree(left.part.kind, high.part.kind);
     let ((left, low), high) = kept(((left, low), high), test)?;
@@ -148,34 +184,17 @@ pub fn between(
     })
 }
 
-/// Expressions whose kinds agree with one before them.
-#[derive(Drop)]
-struct Listed {
-    exprs: Items<BoundExpr>,
-    findings: Findings,
-}
-
-/// The list with a further expression.
-fn with_item(
-    list: Result<Listed, BindFault>,
-    kind: Kind,
-    item: ExprResult,
-) -> Result<Listed, BindFault> {
-    let (list, item) = both(list, item)?;
+/// An expression whose kind agrees with that of one before it.
+fn agreed(kind: Kind, item: ExprResult) -> Result<Found<BoundExpr>, BindFault>
+    ensures { (x : Context) (calls : List SetFunctionCall) → IfOk item (Everywhere x (IsTypedAt x calls)) → IfOk result (Everywhere x (AgreesAt x calls kind)) }
+{
+    let item = item?;
     let test = must_agree(kind, item.part.kind);
-    let (list, item) = kept((list, item), test)?;
-    let Listed {
-        mut exprs,
+    let Found { part, findings } = kept(item, test)?;
+    Ok(Found {
+        part: part.expr,
         findings,
-    } = list;
-    let findings = findings.and(item.findings);
-    match exprs.push(item.part.expr) {
-        Ok(()) => Ok(Listed { exprs, findings }),
-        Err(_) => {
-            drop(exprs);
-            Err(BindFault::NoMemory)
-        }
-    }
+    })
 }
 
 /// The expressions of an IN list.
@@ -184,16 +203,15 @@ fn list_exprs(
     list: &CommaList<Expr>,
     environment: &Environment<'_>,
     functions: &mut SetFunctions,
-) -> Result<Listed, BindFault> {
-    let empty = Ok(Listed {
-        exprs: Items::new(environment.alloc),
-        findings: Findings::NONE,
-    });
+) -> Gathered<BoundExpr>
+    ensures well_formed { (columns : TableKinds) → let x = here columns environment.now functions.old.allowed in IfOk result (Everywhere x (Each (AgreesAt x functions.new.calls kind))) }
+    ensures grows { Grows functions.old functions.new }
+{
     let first = bind_expr(&list.first, environment, functions);
-    let mut bound = with_item(empty, kind, first);
+    let mut bound = gathered(none(environment.alloc), agreed(kind, first));
     for expr in list.rest.as_slice() {
         let item = bind_expr(expr, environment, functions);
-        bound = with_item(bound, kind, item);
+        bound = gathered(bound, agreed(kind, item));
     }
     bound
 }
@@ -205,18 +223,29 @@ pub fn in_list(
     list: &CommaList<Expr>,
     environment: &Environment<'_>,
     functions: &mut SetFunctions,
-) -> PredicateResult {
+) -> PredicateResult
+    ensures well_formed { (columns : TableKinds) → let x = here columns environment.now functions.old.allowed in IfOk left (Everywhere x (IsTypedAt x functions.old.calls)) → IfOk result (Everywhere x (IsPredicateAt x functions.new.calls)) }
+    ensures grows { Grows functions.old functions.new }
+{
     let left = left?;
-    let kind = left.part.kind;
-    let (left, list) = both(Ok(left), list_exprs(kind, list, environment, functions))?;
+    let list = list_exprs(left.part.kind, list, environment, functions);
+    listed(negated, left, list)
+}
+
+fn listed(negated: bool, left: Found<Typed>, list: Gathered<BoundExpr>) -> PredicateResult
+    ensures { (x : Context) (calls : List SetFunctionCall) → Everywhere x (IsTypedAt x calls) left → IfOk list (Everywhere x (Each (AgreesAt x calls left.part.kind))) → IfOk result (Everywhere x (IsPredicateAt x calls)) }
+{
+    let (left, list) = both(Ok(left), list)?;
     Ok(Found {
         findings: left.findings.and(list.findings),
-        part: Predicate::InList(negated, left.part.expr, list.exprs),
+        part: Predicate::InList(negated, left.part.expr, list.part),
     })
 }
 
 /// A text.
-fn text(operand: ExprResult) -> ExprResult {
+fn text(operand: ExprResult) -> ExprResult
+    ensures { IfOk result (λ text. (operand ≡ Ok text) × IsTrue (is_text text.part.kind)) }
+{
     let operand = operand?;
     let test = must_be_text(operand.part.kind);
     kept(operand, test)
@@ -230,7 +259,10 @@ pub fn like(
     escape: &Option<Boxed<Expr>>,
     environment: &Environment<'_>,
     functions: &mut SetFunctions,
-) -> PredicateResult {
+) -> PredicateResult
+    ensures well_formed { (columns : TableKinds) → let x = here columns environment.now functions.old.allowed in IfOk left (Everywhere x (IsTypedAt x functions.old.calls)) → IfOk result (Everywhere x (IsPredicateAt x functions.new.calls)) }
+    ensures grows { Grows functions.old functions.new }
+{
     let pattern = bind_expr(pattern, environment, functions);
     match escape {
         None => like_plain(negated, left, pattern),
@@ -241,7 +273,9 @@ pub fn like(
     }
 }
 
-fn like_plain(negated: bool, left: ExprResult, pattern: ExprResult) -> PredicateResult {
+fn like_plain(negated: bool, left: ExprResult, pattern: ExprResult) -> PredicateResult
+    ensures { (x : Context) (calls : List SetFunctionCall) → IfOk left (Everywhere x (IsTypedAt x calls)) → IfOk pattern (Everywhere x (IsTypedAt x calls)) → IfOk result (Everywhere x (IsPredicateAt x calls)) }
+{
     let (left, pattern) = both(text(left), text(pattern))?;
     Ok(Found {
         findings: left.findings.and(pattern.findings),
@@ -255,7 +289,9 @@ fn like_escape(
     left: ExprResult,
     pattern: ExprResult,
     escape: ExprResult,
-) -> PredicateResult {
+) -> PredicateResult
+    ensures { (x : Context) (calls : List SetFunctionCall) → IfOk left (Everywhere x (IsTypedAt x calls)) → IfOk pattern (Everywhere x (IsTypedAt x calls)) → IfOk escape (Everywhere x (IsTypedAt x calls)) → IfOk result (Everywhere x (IsPredicateAt x calls)) }
+{
     let ((left, pattern), escape) = both(both(text(left), text(pattern)), text(escape))?;
     let findings = left.findings.and(pattern.findings).and(escape.findings);
     Ok(Found {
@@ -270,7 +306,9 @@ fn like_escape(
 }
 
 /// `left IS [ NOT ] NULL`.
-pub fn null_test(negated: bool, left: ExprResult) -> PredicateResult {
+pub fn null_test(negated: bool, left: ExprResult) -> PredicateResult
+    ensures { (x : Context) (calls : List SetFunctionCall) → IfOk left (Everywhere x (IsTypedAt x calls)) → IfOk result (Everywhere x (IsPredicateAt x calls)) }
+{
     let Found { part, findings } = left?;
     Ok(Found {
         part: Predicate::Null(negated, part.expr),

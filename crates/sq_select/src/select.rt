@@ -1,8 +1,17 @@
 //! The parts of a query specification: FROM items, grouping columns, select lists (ISO/IEC 9075:1992, 7.4, 7.7, 7.9).
 
-ghost use Rattle.std.specs.Prelude.{IfOk};
+ghost use Rattle.std.specs.Prelude.{◌≡◌, ◌||◌, ◌++◌, ◌∷◌, [], Bool, IfOk, List, None, Some, false, if◌then◌else◌, slice_get, true};
+ghost use Rattle.std.specs.List.{AllZip};
+ghost use Rattle.sq_meaning.specs.WellFormed.{of_lines};
 ghost use Rattle.sq_bound.specs.Fits.{IsOver};
-ghost use Rattle.sq_bound.specs.WellFormed.{IsTable};
+ghost use Rattle.sq_bound.specs.WellFormed.{IsSelect, IsTable, Levels, TableKinds, kinds_of_parameters};
+ghost use Rattle.sq_bound.specs.declared.condition.TablePlace.{TablePlace as AnyPlace};
+ghost use Rattle.sq_bound.specs.declared.expression.Place.{Place as ColumnPlace};
+ghost use Rattle.sq_bound.specs.declared.expression.SetFunctionCall.{SetFunctionCall};
+ghost use Rattle.sq_scope.specs.Expression.{Grows};
+ghost use Rattle.sq_scope.specs.WellFormed.{AreLevelsIn, IsItemOver, allows_none, is_no_column};
+ghost use Rattle.sq_select.specs.WellFormed.{AreColumns, AreGroupingColumns, AreParts, AreSelected, Context, Everywhere, IsGroupedRightly, IsGroupingColumn, IsListAt, IsListIn, IsTypedAt, level_over, reads_ungrouped};
+ghost use Rattle.sq_value.specs.declared.domain.Kind.{Kind as AnyKind};
 
 use crate::predicate::SubqueryResult;
 use sq_bound::{
@@ -91,7 +100,9 @@ pub fn from_clause<N: Names>(
     names: &N,
     environment: &Environment<'_>,
     list: &CommaList<TableReference>,
-) -> Result<FromClause, BindFault> {
+) -> Result<FromClause, BindFault>
+    ensures { IfOk result (λ clause. AllZip (IsItemOver (N.column_kinds names.now)) clause.tables clause.items) }
+{
     if list.rest.len() >= MOST_ITEMS {
         return Err(BindFault::LimitExceeded);
     }
@@ -113,7 +124,9 @@ impl FromClause {
         names: &N,
         environment: &Environment<'_>,
         reference: &TableReference,
-    ) -> Result<(), BindFault> {
+    ) -> Result<(), BindFault>
+        ensures { IfOk result (λ u. AllZip (IsItemOver (N.column_kinds names.now)) self.old.tables self.old.items → AllZip (IsItemOver (N.column_kinds names.now)) self.new.tables self.new.items) }
+    {
         let table = named_table(names, environment.user, reference.table)?;
         self.tables.push(table.place())?;
         let found = table_findings(names, environment.user, table);
@@ -128,12 +141,14 @@ impl FromClause {
     }
 }
 
-/// The grouping columns, which may be those of a query further out.
+/// The grouping columns. One of a query further out is a grouping column there, or need not be one.
 pub fn group_by<'s>(
     items: &'s [FromItem],
     environment: &'s Environment<'s>,
     list: &Option<CommaList<ColumnReference>>,
-) -> GroupsResult {
+) -> GroupsResult
+    ensures { (kinds : TableKinds) (tables : List AnyPlace) (levels : Levels) → AllZip (IsItemOver kinds) tables items.now → AreLevelsIn kinds levels environment.now → IfOk result (λ found. AreGroupingColumns kinds (kinds_of_parameters environment.now.parameters.now) (of_lines tables ∷ levels) found.part) }
+{
     grouping_columns(
         &environment.within(environment.scope_over(items, None)),
         list,
@@ -143,7 +158,9 @@ pub fn group_by<'s>(
 fn grouping_columns(
     environment: &Environment<'_>,
     list: &Option<CommaList<ColumnReference>>,
-) -> GroupsResult {
+) -> GroupsResult
+    ensures { (kinds : TableKinds) (levels : Levels) → AreLevelsIn kinds levels environment.now → IfOk result (λ found. AreGroupingColumns kinds (kinds_of_parameters environment.now.parameters.now) levels found.part) }
+{
     let mut columns = Items::new(environment.alloc);
     let mut findings = Findings::NONE;
     if let Some(list) = list {
@@ -159,7 +176,9 @@ fn grouping_columns(
 }
 
 /// The columns that alone may stand outside set functions.
-pub fn grouping_of(groups: &GroupsResult) -> Option<&[Place]> {
+pub fn grouping_of(groups: &GroupsResult) -> Option<&[Place]>
+    ensures { IfOk groups.now (λ found. allows_none result ≡ is_no_column found.part) }
+{
     match groups {
         Ok(groups) => Some(groups.part.as_slice()),
         Err(_) => None,
@@ -171,8 +190,13 @@ fn push_grouping(
     reference: &ColumnReference,
     environment: &Environment<'_>,
     findings: Findings,
-) -> Result<Findings, BindFault> {
+) -> Result<Findings, BindFault>
+    ensures { IfOk result (λ more. (p : ColumnPlace) × (columns.new ≡ columns.old ++ p ∷ []) × ((kinds : TableKinds) (levels : Levels) → AreLevelsIn kinds levels environment.now → IsGroupingColumn kinds (kinds_of_parameters environment.now.parameters.now) levels p)) }
+{
     let found = environment.column(reference)?;
+    if !found.is_grouped {
+        return Err(BindFault::UngroupedColumn);
+    }
     columns.push(found.place)?;
     Ok(findings.and(column_findings(found)))
 }
@@ -205,7 +229,10 @@ pub fn select_list<'s>(
     grouping: Option<&'s [Place]>,
     environment: &'s Environment<'s>,
     functions: &mut SetFunctions,
-) -> Result<SelectedList, BindFault> {
+) -> Result<SelectedList, BindFault>
+    ensures well_formed { (kinds : TableKinds) (tables : List AnyPlace) (levels : Levels) → AllZip (IsItemOver kinds) tables items.now → AreLevelsIn kinds levels environment.now → IfOk result (IsListAt kinds (kinds_of_parameters environment.now.parameters.now) tables levels (allows_none grouping.entry) functions.new.calls) }
+    ensures grows { Grows functions.old functions.new }
+{
     match list {
         SelectList::Star => all_columns(environment.alloc, items),
         SelectList::Items(list) => listed_columns(
@@ -216,7 +243,11 @@ pub fn select_list<'s>(
     }
 }
 
-fn no_columns(alloc: Global, is_star: bool) -> SelectedList {
+fn no_columns(alloc: Global, is_star: bool) -> SelectedList
+    ensures exprs { result.exprs ≡ [] }
+    ensures columns { result.columns ≡ [] }
+    ensures star { result.is_star ≡ is_star }
+{
     SelectedList {
         exprs: Items::new(alloc),
         columns: Items::new(alloc),
@@ -229,7 +260,10 @@ fn listed_columns(
     list: &CommaList<Expr>,
     environment: &Environment<'_>,
     functions: &mut SetFunctions,
-) -> Result<SelectedList, BindFault> {
+) -> Result<SelectedList, BindFault>
+    ensures well_formed { (kinds : TableKinds) → IfOk result (IsListIn kinds environment.now functions.old.allowed functions.new.calls) }
+    ensures grows { Grows functions.old functions.new }
+{
     let mut selected = Ok(no_columns(environment.alloc, false));
     let first = bind_expr(&list.first, environment, functions);
     selected = with_column(selected, name_of(&list.first), first);
@@ -252,7 +286,9 @@ fn with_column(
     selected: Result<SelectedList, BindFault>,
     name: Option<Name>,
     item: ExprResult,
-) -> Result<SelectedList, BindFault> {
+) -> Result<SelectedList, BindFault>
+    ensures { (x : Context) (calls : List SetFunctionCall) → IfOk selected (IsListIn x.columns x.environment x.allowed calls) → IfOk item (Everywhere x (IsTypedAt x calls)) → IfOk result (IsListIn x.columns x.environment x.allowed calls) }
+{
     let (mut selected, item) = both(selected, item)?;
     let Found { part, findings } = item;
     let pushed = push_column(&mut selected, part.expr, name, part.kind, findings);
@@ -265,7 +301,12 @@ fn push_column(
     name: Option<Name>,
     kind: Kind,
     findings: Findings,
-) -> Result<(), BindFault> {
+) -> Result<(), BindFault>
+    ensures exprs { IfOk result (λ u. selected.new.exprs ≡ selected.old.exprs ++ expr ∷ []) }
+    ensures columns { IfOk result (λ u. selected.new.columns ≡ selected.old.columns ++ record { name = name; kind = kind } ∷ []) }
+    ensures ungrouped { IfOk result (λ u. selected.new.findings.has_ungrouped ≡ (selected.old.findings.has_ungrouped || findings.has_ungrouped)) }
+    ensures star { selected.new.is_star ≡ selected.old.is_star }
+{
     if selected.columns.len() >= MOST_COLUMNS {
         drop(expr);
         return Err(BindFault::LimitExceeded);
@@ -276,13 +317,19 @@ fn push_column(
     Ok(())
 }
 
-fn all_columns(alloc: Global, items: &[FromItem]) -> Result<SelectedList, BindFault> {
+fn all_columns(alloc: Global, items: &[FromItem]) -> Result<SelectedList, BindFault>
+    ensures well_formed { (kinds : TableKinds) (parameters : List AnyKind) (tables : List AnyPlace) (levels : Levels) (calls : List SetFunctionCall) → AllZip (IsItemOver kinds) tables items.now → IfOk result (λ s. AreColumns kinds parameters (level_over tables true ∷ levels) calls s.exprs s.columns) }
+    ensures star { IfOk result (λ s. s.is_star ≡ true) }
+{
     let mut selected = no_columns(alloc, true);
     let pushed = push_items(&mut selected, items);
     kept(selected, pushed)
 }
 
-fn push_items(selected: &mut SelectedList, items: &[FromItem]) -> Result<(), BindFault> {
+fn push_items(selected: &mut SelectedList, items: &[FromItem]) -> Result<(), BindFault>
+    ensures well_formed { (kinds : TableKinds) (parameters : List AnyKind) (tables : List AnyPlace) (levels : Levels) (calls : List SetFunctionCall) → AllZip (IsItemOver kinds) tables items.now → AreColumns kinds parameters (level_over tables true ∷ levels) calls selected.old.exprs selected.old.columns → IfOk result (λ u. AreColumns kinds parameters (level_over tables true ∷ levels) calls selected.new.exprs selected.new.columns) }
+    ensures star { selected.new.is_star ≡ selected.old.is_star }
+{
     for (number, item) in items.iter().enumerate() {
         push_table(selected, number, item)?;
     }
@@ -290,11 +337,10 @@ fn push_items(selected: &mut SelectedList, items: &[FromItem]) -> Result<(), Bin
 }
 
 /// Adds all columns of an item.
-fn push_table(
-    selected: &mut SelectedList,
-    number: usize,
-    item: &FromItem,
-) -> Result<(), BindFault> {
+fn push_table(selected: &mut SelectedList, number: usize, item: &FromItem) -> Result<(), BindFault>
+    ensures well_formed { (kinds : TableKinds) (parameters : List AnyKind) (tables : List AnyPlace) (levels : Levels) (calls : List SetFunctionCall) → (t : AnyPlace) → slice_get tables number ≡ Some t → IsItemOver kinds t item.now → AreColumns kinds parameters (level_over tables true ∷ levels) calls selected.old.exprs selected.old.columns → IfOk result (λ u. AreColumns kinds parameters (level_over tables true ∷ levels) calls selected.new.exprs selected.new.columns) }
+    ensures star { selected.new.is_star ≡ selected.old.is_star }
+{
     for column in item.columns.as_slice() {
         let place = Place {
             depth: 0,
@@ -337,7 +383,9 @@ struct Parts {
 }
 
 /// The query specification of these parts.
-pub fn make_specification(parts: Selected) -> SubqueryResult {
+pub fn make_specification(parts: Selected) -> SubqueryResult
+    ensures { (kinds : TableKinds) (parameters : List AnyKind) (levels : Levels) → AreSelected kinds parameters levels parts → IfOk result (λ found. IsSelect kinds parameters levels found.part) }
+{
     let Selected {
         is_distinct,
         tables,
@@ -372,12 +420,16 @@ pub fn make_specification(parts: Selected) -> SubqueryResult {
 
 impl Parts {
     /// Whether the query is grouped (7.9): by GROUP BY, by HAVING, or by a set function in its select list.
-    fn is_grouped(&self) -> bool {
-        self.by_columns || self.having.part.is_some() || self.selected.findings.has_set_function
+    fn is_grouped(&self) -> bool
+        ensures { result ≡ false → IsGroupedRightly self.now false }
+    {
+        self.by_columns || self.having.part.is_some() || !self.functions.calls.is_empty()
     }
 
     /// In a grouped query `*` may not stand, nor a column that is no grouping column.
-    fn check_grouping(&self) -> Result<(), BindFault> {
+    fn check_grouping(&self) -> Result<(), BindFault>
+        ensures { IfOk result (λ u. IsGroupedRightly self.now true) }
+    {
         if self.selected.is_star {
             return Err(BindFault::CountMismatch);
         }
@@ -387,20 +439,34 @@ impl Parts {
         Ok(())
     }
 
+    /// Whether the query is grouped, and rightly so.
+    fn grouped(&self) -> Result<bool, BindFault>
+        ensures { IfOk result (IsGroupedRightly self.now) }
+    {
+        if self.is_grouped() {
+            self.check_grouping()?;
+            Ok(true)
+        } else {
+            Ok(false)
+        }
+    }
+
     /// Whether evaluating the query may answer a status.
     fn can_fail(&self) -> bool {
         self.findings.can_fail || self.functions.can_fail
     }
 }
 
-fn whole_specification(parts: Parts) -> SubqueryResult {
-    let is_grouped = parts.is_grouped();
-    let test = if is_grouped {
-        parts.check_grouping()
-    } else {
-        Ok(())
+fn whole_specification(parts: Parts) -> SubqueryResult
+    ensures { (kinds : TableKinds) (parameters : List AnyKind) (levels : Levels) → AreParts kinds parameters levels parts → IfOk result (λ found. IsSelect kinds parameters levels found.part) }
+{
+    let is_grouped = match parts.grouped() {
+        Ok(is_grouped) => is_grouped,
+        Err(fault) => {
+            drop(parts);
+            return Err(fault);
+        }
     };
-    let parts = kept(parts, test)?;
     let can_fail = parts.can_fail();
     let Parts {
         is_distinct,
@@ -438,7 +504,9 @@ fn whole_specification(parts: Parts) -> SubqueryResult {
     })
 }
 
-fn grouping_if(is_grouped: bool, grouping: Grouping) -> Option<Grouping> {
+fn grouping_if(is_grouped: bool, grouping: Grouping) -> Option<Grouping>
+    ensures { result ≡ (if is_grouped then Some grouping else None) }
+{
     if is_grouped {
         Some(grouping)
     } else {

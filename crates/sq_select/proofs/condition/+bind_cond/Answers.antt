@@ -1,0 +1,128 @@
+use Rattle.sq_scope.specs.declared.scope.FromItem.{FromItem}
+use Rattle.std.proofs.Common.{◌≡◌, List, refl, sym, subst}
+use Rattle.std.proofs.lemmas.Result.{IfOk-weaker}
+use Rattle.std.specs.List.{AllZip}
+use Rattle.std.specs.Prelude.{IfOk}
+use Rattle.sq_bound.specs.Condition.{conj_of, test_of}
+use Rattle.sq_bound.specs.WellFormed.{kinds_of_parameters}
+use Rattle.sq_scope.proofs.Bindings.{grows_further}
+use Rattle.sq_scope.specs.WellFormed.{IsItemOver, allows_none, is_no_column}
+use Rattle.sq_select.proofs.Columns.{list_at_more, select_in, tables_there}
+use Rattle.sq_select.proofs.Contexts.{each_everywhere, gathered_all, gathered_none, typed_in, typed_more}
+use Rattle.sq_select.proofs.Trees.{part_more}
+use Rattle.sq_select.specs.WellFormed.{IsConjAt, IsConjIn, IsHavingAt, IsListAt, IsTestAt, IsTestIn, here, parameters_in}
+use Rattle.sq_select.proofs.condition.+bind_cond.Goals as goal
+
+pub bind_cond-loop-conj-init : goal.bind_cond-loop-conj-init
+bind_cond-loop-conj-init g t c =
+    let x = here (g.N.Names.column_kinds c.args.names.now) c.args.environment.now c.args.functions.now.allowed in
+    let P = IsConjAt x c.bind_conj-first.new.functions.calls in (
+      gathered_all x P c.none.result c.bind_conj-first.result c.gathered-terms.result c.gathered-terms.ensures (gathered_none x P c.none.result c.none.ensures) c.bind_conj-first.ensures.well_formed,
+      c.bind_conj-first.ensures.grows,
+    )
+
+pub bind_cond-loop-conj-preserved : goal.bind_cond-loop-conj-preserved
+bind_cond-loop-conj-preserved g t c =
+    let kinds = g.N.Names.column_kinds c.args.names.now in
+    let environment = c.args.environment.now in
+    let x = here kinds environment c.args.functions.now.allowed in
+    let before = c.loop-conj.functions in
+    let calls = c.bind_conj-term.new.functions.calls in
+    let adds = c.bind_conj-term.ensures.grows.0 in (
+      gathered_all x (IsConjAt x calls) c.loop-conj.terms c.bind_conj-term.result c.gathered-terms-in-loop-conj.result c.gathered-terms-in-loop-conj.ensures
+          (each_everywhere x (IsConjAt x before.calls) (IsConjAt x calls) c.loop-conj.terms (λ levels y. part_more kinds (parameters_in x) levels before.calls calls (λ functions. conj_of functions y) adds) c.loop-conj.invariant.0)
+          (subst (λ a. IfOk c.bind_conj-term.result (IsConjIn kinds environment a calls)) c.loop-conj.invariant.1.1 c.bind_conj-term.ensures.well_formed),
+      grows_further c.args.functions.now before c.bind_conj-term.new.functions c.loop-conj.invariant.1 c.bind_conj-term.ensures.grows,
+    )
+
+pub bind_cond-returns-clause-well_formed : goal.bind_cond-returns-clause-well_formed
+bind_cond-returns-clause-well_formed g t c =
+    c.whole_cond.ensures (here (g.N.Names.column_kinds c.args.names.now) c.args.environment.now c.args.functions.now.allowed) c.loop-conj.functions.calls c.loop-conj.invariant.0
+
+pub bind_cond-returns-clause-grows : goal.bind_cond-returns-clause-grows
+bind_cond-returns-clause-grows g t c = c.loop-conj.invariant.1
+
+pub bind_conj-loop-test-init : goal.bind_conj-loop-test-init
+bind_conj-loop-test-init g t c =
+    let x = here (g.N.Names.column_kinds c.args.names.now) c.args.environment.now c.args.functions.now.allowed in
+    let P = IsTestAt x c.bind_test-first.new.functions.calls in (
+      gathered_all x P c.none.result c.bind_test-first.result c.gathered-tests.result c.gathered-tests.ensures (gathered_none x P c.none.result c.none.ensures) c.bind_test-first.ensures.well_formed,
+      c.bind_test-first.ensures.grows,
+    )
+
+pub bind_conj-loop-test-preserved : goal.bind_conj-loop-test-preserved
+bind_conj-loop-test-preserved g t c =
+    let kinds = g.N.Names.column_kinds c.args.names.now in
+    let environment = c.args.environment.now in
+    let x = here kinds environment c.args.functions.now.allowed in
+    let before = c.loop-test.functions in
+    let calls = c.bind_test-factor.new.functions.calls in
+    let adds = c.bind_test-factor.ensures.grows.0 in (
+      gathered_all x (IsTestAt x calls) c.loop-test.tests c.bind_test-factor.result c.gathered-tests-in-loop-test.result c.gathered-tests-in-loop-test.ensures
+          (each_everywhere x (IsTestAt x before.calls) (IsTestAt x calls) c.loop-test.tests (λ levels y. part_more kinds (parameters_in x) levels before.calls calls (λ functions. test_of functions y) adds) c.loop-test.invariant.0)
+          (subst (λ a. IfOk c.bind_test-factor.result (IsTestIn kinds environment a calls)) c.loop-test.invariant.1.1 c.bind_test-factor.ensures.well_formed),
+      grows_further c.args.functions.now before c.bind_test-factor.new.functions c.loop-test.invariant.1 c.bind_test-factor.ensures.grows,
+    )
+
+pub bind_conj-returns-clause-well_formed : goal.bind_conj-returns-clause-well_formed
+bind_conj-returns-clause-well_formed g t c =
+    c.whole_conj.ensures (here (g.N.Names.column_kinds c.args.names.now) c.args.environment.now c.args.functions.now.allowed) c.loop-test.functions.calls c.loop-test.invariant.0
+
+pub bind_conj-returns-clause-grows : goal.bind_conj-returns-clause-grows
+bind_conj-returns-clause-grows g t c = c.loop-test.invariant.1
+
+pub bind_select-returns : goal.bind_select-returns
+bind_select-returns g t c =
+    let kinds = g.N.Names.column_kinds c.args.names.now in
+    let environment = c.args.environment.now in
+    let parameters = kinds_of_parameters environment.parameters.now in
+    let clause = c.in_ok-items.field-0 in
+    let over : (items : List FromItem) → items ≡ clause.items → AllZip (IsItemOver kinds) clause.tables items = λ items same. subst (AllZip (IsItemOver kinds) clause.tables) (sym same) c.in_ok-items.ensures in
+    let groups = c.group_by-groups.result in
+    let calls = c.bind_having-having.new.functions.calls in
+    record {
+      well_formed = select_in kinds environment c.make_specification.result (λ levels are. c.make_specification.ensures kinds parameters levels (record {
+        tables = tables_there kinds clause.tables clause.items c.in_ok-items.ensures;
+        condition = c.bind_where-condition.ensures clause.tables levels (over c.as_slice.result.now c.as_slice.ensures) are;
+        groups = c.group_by-groups.ensures kinds clause.tables levels (over c.as_slice-2.result.now c.as_slice-2.ensures) are;
+        list = IfOk-weaker groups (λ found. allows_none c.grouping_of.result ≡ is_no_column found.part)
+            (λ found. IfOk c.select_list-selected.result (IsListAt kinds parameters clause.tables levels (is_no_column found.part) calls))
+            (λ found e. subst (λ b. IfOk c.select_list-selected.result (IsListAt kinds parameters clause.tables levels b calls)) e
+            (list_at_more kinds parameters clause.tables levels (allows_none c.grouping_of.result) c.select_list-selected.new.functions.calls calls c.select_list-selected.result c.bind_having-having.ensures.grows.0
+            (c.select_list-selected.ensures.well_formed kinds clause.tables levels (over c.as_slice-3.result.now c.as_slice-3.ensures) are)))
+            c.grouping_of.ensures;
+        having = IfOk-weaker groups (λ found. allows_none c.grouping_of-2.result ≡ is_no_column found.part)
+            (λ found. IfOk c.bind_having-having.result (IsHavingAt kinds parameters clause.tables levels (is_no_column found.part) calls))
+            (λ found e. subst (λ b. IfOk c.bind_having-having.result (IsHavingAt kinds parameters clause.tables levels b calls)) e
+            (c.bind_having-having.ensures.well_formed clause.tables levels (over c.as_slice-4.result.now c.as_slice-4.ensures) are))
+            c.grouping_of-2.ensures;
+      }));
+    }
+
+pub bind_tail-returns-in-Compare-clause-well_formed : goal.bind_tail-returns-in-Compare-clause-well_formed
+bind_tail-returns-in-Compare-clause-well_formed g t c =
+    let kinds = g.N.Names.column_kinds c.args.names.now in
+    let environment = c.args.environment.now in
+    let allowed = c.args.functions.now.allowed in
+    let x = here kinds environment allowed in
+    let left = c.bind_expr-left.new.functions in
+    let right = c.bind_expr-right.new.functions in
+    c.compared.ensures x right.calls
+    (typed_more x left.calls right.calls c.bind_expr-left.result c.bind_expr-right.ensures.grows.0 (typed_in kinds environment allowed allowed left.calls c.bind_expr-left.result refl c.bind_expr-left.ensures.typed))
+    (typed_in kinds environment left.allowed allowed right.calls c.bind_expr-right.result c.bind_expr-left.ensures.grows.1 c.bind_expr-right.ensures.typed)
+
+pub bind_tail-returns-in-CompareQuery-clause-well_formed : goal.bind_tail-returns-in-CompareQuery-clause-well_formed
+bind_tail-returns-in-CompareQuery-clause-well_formed g t c =
+    let kinds = g.N.Names.column_kinds c.args.names.now in
+    let environment = c.args.environment.now in
+    let allowed = c.args.functions.now.allowed in
+    let calls = c.bind_expr-left.new.functions.calls in
+    c.compared_query.ensures (here kinds environment allowed) calls (typed_in kinds environment allowed allowed calls c.bind_expr-left.result refl c.bind_expr-left.ensures.typed) c.bind_subquery-query.ensures
+
+pub bind_tail-returns-in-InQuery-clause-well_formed : goal.bind_tail-returns-in-InQuery-clause-well_formed
+bind_tail-returns-in-InQuery-clause-well_formed g t c =
+    let kinds = g.N.Names.column_kinds c.args.names.now in
+    let environment = c.args.environment.now in
+    let allowed = c.args.functions.now.allowed in
+    let calls = c.bind_expr-left.new.functions.calls in
+    c.in_query.ensures (here kinds environment allowed) calls (typed_in kinds environment allowed allowed calls c.bind_expr-left.result refl c.bind_expr-left.ensures.typed) c.bind_subquery-query-in-InQuery.ensures

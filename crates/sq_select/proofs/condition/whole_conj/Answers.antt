@@ -1,0 +1,13 @@
+use Rattle.std.proofs.Common.{sym, subst}
+use Rattle.std.proofs.lemmas.Result.{IfOk-at_ok}
+use Rattle.std.specs.List.{AllByRecursion}
+use Rattle.sq_bound.specs.declared.condition.BoundConj.{out-roll-BoundConj, roll-BoundConj}
+use Rattle.sq_select.specs.WellFormed.{Each, Everywhere, IsTestAt, parameters_in}
+use Rattle.sq_select.proofs.Trees.{conj_is}
+use Rattle.sq_select.proofs.condition.whole_conj.Goals as goal
+
+pub returns : goal.returns
+returns c = λ x calls h levels m.
+    let tests = c.in_ok-part.field-0.part in
+    conj_is x.columns (parameters_in x) levels calls (roll-BoundConj (record { tests = tests }))
+    (subst (λ o. AllByRecursion (IsTestAt x calls levels) o.tests) (sym (out-roll-BoundConj (record { tests = tests }))) (IfOk-at_ok (Everywhere x (Each (IsTestAt x calls))) c.in_ok-part.was h levels m))

@@ -1,0 +1,18 @@
+use Rattle.std.proofs.Common.{refl}
+use Rattle.sq_scope.proofs.Bindings.{adds_more}
+use Rattle.sq_select.specs.WellFormed.{here}
+use Rattle.sq_select.proofs.Contexts.{typed_in, typed_more}
+use Rattle.sq_select.proofs.predicate.between.Goals as goal
+
+pub returns-clause-well_formed : goal.returns-clause-well_formed
+returns-clause-well_formed c = λ columns h.
+    let environment = c.args.environment.now in
+    let allowed = c.args.functions.now.allowed in
+    let x = here columns environment allowed in
+    let before = c.args.functions.now.calls in
+    let low = c.bind_expr-low.new.functions in
+    let high = c.bind_expr-high.new.functions in
+    c.between_bounds.ensures x high.calls
+    (typed_more x before high.calls c.args.left (adds_more before low.calls high.calls c.bind_expr-low.ensures.grows.0 c.bind_expr-high.ensures.grows.0) h)
+    (typed_more x low.calls high.calls c.bind_expr-low.result c.bind_expr-high.ensures.grows.0 (typed_in columns environment allowed allowed low.calls c.bind_expr-low.result refl c.bind_expr-low.ensures.typed))
+    (typed_in columns environment low.allowed allowed high.calls c.bind_expr-high.result c.bind_expr-low.ensures.grows.1 c.bind_expr-high.ensures.typed)

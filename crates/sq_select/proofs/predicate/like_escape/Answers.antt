@@ -1,0 +1,27 @@
+use Rattle.std.proofs.Common.{◌≡◌, Ok}
+use Rattle.std.proofs.lemmas.Result.{IfOk-at_ok}
+use Rattle.sq_select.specs.WellFormed.{parameters_in}
+use Rattle.sq_select.proofs.Trees.{like_escape_is}
+use Rattle.sq_select.proofs.Contexts.{may_first, may_second, may_same, operand, text_is}
+use Rattle.sq_select.proofs.predicate.like_escape.Goals as goal
+
+pub returns : goal.returns
+returns c = λ x calls h k j levels m.
+    let l = c.in_ok-left.left in
+    let p = c.in_ok-left.pattern in
+    let e = c.in_ok-left.escape in
+    let first = c.and.result.has_ungrouped in
+    let all = c.and-findings.result.has_ungrouped in
+    let m0 = may_same x levels c.failing.result.has_ungrouped all c.failing.ensures.ungrouped m in
+    let m1 = may_first x levels all first e.findings.has_ungrouped c.and-findings.ensures.ungrouped m0 in
+    let two = IfOk-at_ok (λ parts. (c.text.result ≡ Ok parts.0) × (c.text-2.result ≡ Ok parts.1)) c.in_ok-left.ensures.0 c.both.ensures in
+    let is_left = text_is c.args.left c.text.result l two.0 c.text.ensures in
+    let is_pattern = text_is c.args.pattern c.text-2.result p two.1 c.text-2.ensures in
+    let is_escape = text_is c.args.escape c.text-3.result e c.in_ok-left.ensures.1 c.text-3.ensures in
+    like_escape_is x.columns (parameters_in x) levels calls c.args.negated l.part.kind p.part.kind e.part.kind l.part.expr p.part.expr e.part.expr
+    (operand x calls c.args.left l levels is_left.0 h (may_first x levels first l.findings.has_ungrouped p.findings.has_ungrouped c.and.ensures.ungrouped m1))
+    (operand x calls c.args.pattern p levels is_pattern.0 k (may_second x levels first l.findings.has_ungrouped p.findings.has_ungrouped c.and.ensures.ungrouped m1))
+    (operand x calls c.args.escape e levels is_escape.0 j (may_second x levels all first e.findings.has_ungrouped c.and-findings.ensures.ungrouped m0))
+    is_left.1
+    is_pattern.1
+    is_escape.1

@@ -1,0 +1,39 @@
+use Rattle.std.proofs.Common.{refl}
+use Rattle.sq_scope.proofs.Bindings.{grows_further}
+use Rattle.sq_select.specs.WellFormed.{AgreesAt, here}
+use Rattle.sq_select.proofs.Contexts.{agrees_more, each_everywhere, gathered_all, gathered_none, typed_in}
+use Rattle.sq_select.proofs.predicate.list_exprs.Goals as goal
+
+pub loop-expr-init : goal.loop-expr-init
+loop-expr-init c = (
+  (λ columns.
+      let environment = c.args.environment.now in
+      let allowed = c.args.functions.now.allowed in
+      let x = here columns environment allowed in
+      let calls = c.bind_expr-first.new.functions.calls in
+      gathered_all x (AgreesAt x calls c.args.kind) c.none.result c.agreed.result c.gathered-bound.result c.gathered-bound.ensures
+      (gathered_none x (AgreesAt x calls c.args.kind) c.none.result c.none.ensures)
+      (c.agreed.ensures x calls (typed_in columns environment allowed allowed calls c.bind_expr-first.result refl c.bind_expr-first.ensures.typed))),
+  c.bind_expr-first.ensures.grows,
+)
+
+pub loop-expr-preserved : goal.loop-expr-preserved
+loop-expr-preserved c = (
+  (λ columns.
+      let environment = c.args.environment.now in
+      let allowed = c.args.functions.now.allowed in
+      let x = here columns environment allowed in
+      let before = c.loop-expr.functions in
+      let calls = c.bind_expr-item.new.functions.calls in
+      let k = c.args.kind in
+      gathered_all x (AgreesAt x calls k) c.loop-expr.bound c.agreed-in-loop-expr.result c.gathered-bound-in-loop-expr.result c.gathered-bound-in-loop-expr.ensures
+      (each_everywhere x (AgreesAt x before.calls k) (AgreesAt x calls k) c.loop-expr.bound (λ levels e. agrees_more x before.calls calls k levels e c.bind_expr-item.ensures.grows.0) (c.loop-expr.invariant.0 columns))
+      (c.agreed-in-loop-expr.ensures x calls (typed_in columns environment before.allowed allowed calls c.bind_expr-item.result c.loop-expr.invariant.1.1 c.bind_expr-item.ensures.typed))),
+  grows_further c.args.functions.now c.loop-expr.functions c.bind_expr-item.new.functions c.loop-expr.invariant.1 c.bind_expr-item.ensures.grows,
+)
+
+pub returns-clause-well_formed : goal.returns-clause-well_formed
+returns-clause-well_formed c = c.loop-expr.invariant.0
+
+pub returns-clause-grows : goal.returns-clause-grows
+returns-clause-grows c = c.loop-expr.invariant.1

@@ -1,0 +1,26 @@
+use Rattle.std.proofs.Common.{◌≡◌, Ok, sym, ap, subst, ◌∙◌}
+use Rattle.std.specs.Prelude.{is_ok}
+use Rattle.sq_meaning.specs.WellFormed.{IsOnlyKind}
+use Rattle.sq_bound.specs.WellFormed.{kinds_of_select}
+use Rattle.sq_select.proofs.predicate.with_subquery.Goals.{in-Ok, in-Err}
+use Rattle.sq_select.proofs.Contexts.{may_first, operand, subquery, beside_made, not_failed}
+use Rattle.sq_select.proofs.predicate.with_subquery.Goals as goal
+use Rattle.sq_bound.specs.declared.condition.BoundSpecification.{BoundSpecification}
+use Rattle.sq_scope.specs.declared.expression.Typed.{Typed}
+use Rattle.sq_scope.specs.declared.findings.Found.{Found}
+
+pub returns : goal.returns
+returns c = λ x calls h k.
+    let l = c.in_ok-left-2.left in
+    let q = c.in_ok-left-2.query in
+    let findings = c.and-findings.result in
+    let there : (c.args.left ≡ Ok l) × (c.args.query ≡ Ok q) = subst (λ (t : Found Typed × Found BoundSpecification). (c.args.left ≡ Ok t.0) × (c.args.query ≡ Ok t.1)) (sym c.in_ok-left-2.ensures.part) c.in_ok-left.ensures in
+    let one : IsOnlyKind c.in_ok-left.left.part.kind (kinds_of_select c.in_ok-left.query.part) = elim c.match-column_of.branch [
+      | in-Ok w ↦ subst (IsOnlyKind c.in_ok-left.left.part.kind) (sym w.in-Ok.ensures) (sym w.must_agree-test.ensures.ok ∙ ap is_ok (sym w.test-is) ∙ c.in_ok-left-2.ensures.test)
+      | in-Err w ↦ absurd (not_failed c.match-column_of.test _ w.test-is c.in_ok-left-2.ensures.test)
+    ] in
+    let only : IsOnlyKind l.part.kind (kinds_of_select q.part) = subst (λ (t : Found Typed × Found BoundSpecification). IsOnlyKind t.0.part.kind (kinds_of_select t.1.part)) (sym c.in_ok-left-2.ensures.part) one in
+    beside_made x calls l.part.kind l.part.expr q.part findings c.boxed_beside.result c.boxed_beside.ensures
+    (λ levels m. operand x calls c.args.left l levels there.0 h (may_first x levels findings.has_ungrouped l.findings.has_ungrouped c.of_subquery.result.has_ungrouped c.and-findings.ensures.ungrouped m))
+    (λ levels m. subquery x c.args.query q levels findings.has_ungrouped there.1 k m)
+    only

@@ -1,0 +1,13 @@
+use Rattle.std.proofs.Common.{◌≡◌, Ok, sym, subst}
+use Rattle.sq_bound.specs.WellFormed.{kinds_of_columns}
+use Rattle.sq_scope.proofs.Levels.{item_of_table}
+use Rattle.sq_scope.specs.WellFormed.{IsItemOver}
+use Rattle.sq_select.proofs.Columns.{zip_more}
+use Rattle.sq_select.proofs.select.FromClause.add.Goals as goal
+
+pub returns : goal.returns
+returns g c = λ before.
+    let kinds = g.N.Names.column_kinds c.args.names.now in
+    let table = c.in_ok-table.table.now in
+    zip_more (IsItemOver kinds) c.args.self.now.tables c.args.self.now.items c.place.result c.in_ok-item.item c.push.new.self c.push-2.new.self c.in_ok-push.ensures.ok c.in_ok-push-2.ensures.ok before
+    (item_of_table kinds c.place.result table.columns c.in_ok-item.item (subst (λ p. kinds p ≡ Ok (kinds_of_columns table.columns)) (sym c.place.ensures) c.in_ok-table.ensures.well_formed.kinds_are) c.in_ok-item.ensures.columns)

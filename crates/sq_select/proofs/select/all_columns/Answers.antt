@@ -1,0 +1,13 @@
+use Rattle.std.proofs.Common.{true, ◌∷◌}
+use Rattle.sq_bound.specs.WellFormed.{IsExpr}
+use Rattle.sq_select.specs.WellFormed.{AreColumns, level_over}
+use Rattle.sq_select.specs.declared.select.SelectedList.{SelectedList}
+use Rattle.sq_select.proofs.Columns.{kept_with, zip_none}
+use Rattle.sq_select.proofs.select.all_columns.Goals as goal
+
+pub returns-clause-well_formed : goal.returns-clause-well_formed
+returns-clause-well_formed c = λ kinds parameters tables levels calls over.
+    let none = c.no_columns-selected in
+    kept_with (λ (s : SelectedList). AreColumns kinds parameters (level_over tables true ∷ levels) calls s.exprs s.columns) c.push_items-pushed.new.selected c.push_items-pushed.result c.kept.result c.kept.ensures.part c.kept.ensures.test
+    (c.push_items-pushed.ensures.well_formed kinds parameters tables levels calls over
+    (zip_none (λ e r. IsExpr kinds parameters (level_over tables true ∷ levels) calls r.kind e) none.result.exprs none.result.columns none.ensures.exprs none.ensures.columns))

@@ -1,0 +1,7 @@
+use Rattle.sq_bound.specs.WellFormed.{Levels, TableKinds, kinds_of_parameters}
+use Rattle.sq_scope.specs.WellFormed.{AreLevelsIn}
+use Rattle.sq_select.specs.WellFormed.{AreGroupingColumns}
+use Rattle.sq_select.proofs.select.grouping_columns.Given as goal
+
+abbrev pub invariant-loop-reference : goal.invariant-loop-reference
+invariant-loop-reference l = (kinds : TableKinds) (levels : Levels) → AreLevelsIn kinds levels l.environment → AreGroupingColumns kinds (kinds_of_parameters l.environment.parameters.now) levels l.columns

@@ -1,0 +1,40 @@
+use Rattle.std.proofs.Common.{refl}
+use Rattle.sq_bound.specs.WellFormed.{IsExpr}
+use Rattle.sq_scope.proofs.Bindings.{grows_further}
+use Rattle.sq_select.specs.WellFormed.{here, parameters_in}
+use Rattle.sq_select.proofs.Columns.{list_more, zip_none}
+use Rattle.sq_select.proofs.Contexts.{typed_in}
+use Rattle.sq_select.proofs.select.listed_columns.Goals as goal
+
+pub loop-expr-init : goal.loop-expr-init
+loop-expr-init c = (
+  (λ kinds.
+      let environment = c.args.environment.now in
+      let allowed = c.args.functions.now.allowed in
+      let x = here kinds environment allowed in
+      let calls = c.bind_expr-first.new.functions.calls in
+      c.with_column-selected.ensures x calls
+      (λ levels m. zip_none (λ e r. IsExpr kinds (parameters_in x) levels calls r.kind e) c.no_columns.result.exprs c.no_columns.result.columns c.no_columns.ensures.exprs c.no_columns.ensures.columns)
+      (typed_in kinds environment allowed allowed calls c.bind_expr-first.result refl c.bind_expr-first.ensures.typed)),
+  c.bind_expr-first.ensures.grows,
+)
+
+pub loop-expr-preserved : goal.loop-expr-preserved
+loop-expr-preserved c = (
+  (λ kinds.
+      let environment = c.args.environment.now in
+      let allowed = c.args.functions.now.allowed in
+      let x = here kinds environment allowed in
+      let before = c.loop-expr.functions in
+      let calls = c.bind_expr-item.new.functions.calls in
+      c.with_column-selected-in-loop-expr.ensures x calls
+      (list_more x before.calls calls c.loop-expr.selected c.bind_expr-item.ensures.grows.0 (c.loop-expr.invariant.0 kinds))
+      (typed_in kinds environment before.allowed allowed calls c.bind_expr-item.result c.loop-expr.invariant.1.1 c.bind_expr-item.ensures.typed)),
+  grows_further c.args.functions.now c.loop-expr.functions c.bind_expr-item.new.functions c.loop-expr.invariant.1 c.bind_expr-item.ensures.grows,
+)
+
+pub returns-clause-well_formed : goal.returns-clause-well_formed
+returns-clause-well_formed c = c.loop-expr.invariant.0
+
+pub returns-clause-grows : goal.returns-clause-grows
+returns-clause-grows c = c.loop-expr.invariant.1

@@ -1,0 +1,30 @@
+use Rattle.std.proofs.Common.{◌≡◌, Some, refl, sym, ap, ◌∙◌}
+use Rattle.std.proofs.lemmas.Option.{slice_get-get_or}
+use Rattle.std.specs.Prelude.{slice_get}
+use Rattle.sq_scope.specs.WellFormed.{IsItemOver}
+use Rattle.sq_select.proofs.Columns.{zip_at}
+use Rattle.sq_select.proofs.select.push_items.Goals as goal
+
+pub loop-number-init : goal.loop-number-init
+loop-number-init c = ((λ kinds parameters tables levels calls over before. before), refl)
+
+pub returns-in_err-push_table-clause-star : goal.returns-in_err-push_table-clause-star
+returns-in_err-push_table-clause-star c = c.push_table.ensures.star ∙ c.loop-number.invariant.1
+
+pub loop-number-preserved : goal.loop-number-preserved
+loop-number-preserved c = (
+  (λ kinds parameters tables levels calls over before.
+      let items = c.args.items.now in
+      let number = c.loop-number.number in
+      let item = c.index-items-number.result in
+      let there : slice_get items number ≡ Some item = slice_get-get_or items number item c.loop-number-test.true ∙ ap Some (sym c.index-items-number.is) in
+      let at = zip_at (IsItemOver kinds) tables items number item over there in
+      c.in_ok-push_table.ensures.well_formed kinds parameters tables levels calls at.0 at.1 at.2 (c.loop-number.invariant.0 kinds parameters tables levels calls over before)),
+  c.push_table.ensures.star ∙ c.loop-number.invariant.1,
+)
+
+pub returns-clause-well_formed : goal.returns-clause-well_formed
+returns-clause-well_formed c = c.loop-number.invariant.0
+
+pub returns-clause-star : goal.returns-clause-star
+returns-clause-star c = c.loop-number.invariant.1

@@ -1,0 +1,36 @@
+use Rattle.std.proofs.Common.{◌≡◌, true, ◌∷◌, Some, refl, sym, ap, ◌∙◌}
+use Rattle.std.proofs.lemmas.Option.{slice_get-get_or}
+use Rattle.std.specs.Prelude.{slice_get}
+use Rattle.sq_bound.specs.WellFormed.{IsExpr}
+use Rattle.sq_bound.specs.declared.expression.BoundExpr.TheVariants as bound
+use Rattle.sq_select.specs.WellFormed.{level_over}
+use Rattle.sq_select.proofs.Columns.{column_is, zip_more}
+use Rattle.sq_select.proofs.select.push_table.Goals as goal
+
+pub loop-column-init : goal.loop-column-init
+loop-column-init c = ((λ kinds parameters tables levels calls t at over before. before), refl)
+
+pub returns-in_err-push_column-clause-star : goal.returns-in_err-push_column-clause-star
+returns-in_err-push_column-clause-star c = c.push_column.ensures.star ∙ c.loop-column.invariant.1
+
+pub loop-column-preserved : goal.loop-column-preserved
+loop-column-preserved c = (
+  (λ kinds parameters tables levels calls t at over before.
+      let column = c.column-item.result in
+      let items = c.as_slice-column-items.result.now in
+      let index = c.loop-column.column-index in
+      let there : slice_get c.args.item.now.columns index ≡ Some column =
+      ap (λ cs. slice_get cs index) (sym c.as_slice-column-items.ensures) ∙ slice_get-get_or items index column c.loop-column-test.true ∙ ap Some (sym c.column-item.is) in
+      zip_more (λ e r. IsExpr kinds parameters (level_over tables true ∷ levels) calls r.kind e) c.loop-column.selected.exprs c.loop-column.selected.columns
+      (bound.Column (record { depth = 0; item = c.args.number; column = column.position })) (record { name = Some column.name; kind = column.kind })
+      c.push_column.new.selected.exprs c.push_column.new.selected.columns c.in_ok-push_column.ensures.exprs c.in_ok-push_column.ensures.columns
+      (c.loop-column.invariant.0 kinds parameters tables levels calls t at over before)
+      (column_is kinds parameters tables levels calls t c.args.item.now c.args.number index column at over there)),
+  c.push_column.ensures.star ∙ c.loop-column.invariant.1,
+)
+
+pub returns-clause-well_formed : goal.returns-clause-well_formed
+returns-clause-well_formed c = c.loop-column.invariant.0
+
+pub returns-clause-star : goal.returns-clause-star
+returns-clause-star c = c.loop-column.invariant.1

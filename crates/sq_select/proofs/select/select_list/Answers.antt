@@ -1,0 +1,22 @@
+use Rattle.std.proofs.Common.{ap, ◌∙◌}
+use Rattle.sq_bound.specs.WellFormed.{kinds_of_parameters}
+use Rattle.sq_scope.specs.WellFormed.{allows_none}
+use Rattle.sq_select.specs.WellFormed.{level_over}
+use Rattle.sq_select.proofs.Columns.{levels_within, list_at, star_at}
+use Rattle.sq_select.proofs.select.select_list.Goals as goal
+
+pub returns-in-Star-clause-well_formed : goal.returns-in-Star-clause-well_formed
+returns-in-Star-clause-well_formed c = λ kinds tables levels over are.
+    let parameters = kinds_of_parameters c.args.environment.now.parameters.now in
+    let calls = c.args.functions.now.calls in
+    star_at kinds parameters tables levels (allows_none c.args.grouping) calls c.all_columns.result (c.all_columns.ensures.well_formed kinds parameters tables levels calls over) c.all_columns.ensures.star
+
+pub returns-in-Items-clause-well_formed : goal.returns-in-Items-clause-well_formed
+returns-in-Items-clause-well_formed c = λ kinds tables levels over are.
+    let environment = c.args.environment.now in
+    let inner = c.within.result in
+    list_at kinds tables levels inner (kinds_of_parameters environment.parameters.now) (allows_none c.args.grouping) c.args.functions.now.allowed c.listed_columns.new.functions.calls c.listed_columns.result
+    (ap kinds_of_parameters c.within.ensures.parameters)
+    (λ line read. levels_within kinds (level_over tables line) levels environment inner c.args.items.now c.args.grouping
+    (c.within.ensures.scopes ∙ c.scope_over.ensures.scopes) (c.within.ensures.groupings ∙ c.scope_over.ensures.groupings) (record { over = over; is_read = read }) are)
+    (c.listed_columns.ensures.well_formed kinds)

@@ -1,0 +1,11 @@
+use Rattle.std.proofs.Common.{sym, subst, None}
+use Rattle.sq_bound.specs.WellFormed.{IsSelect}
+use Rattle.sq_bound.specs.declared.condition.BoundSpecification.{roll-BoundSpecification}
+use Rattle.sq_select.proofs.Queries.{specification_is}
+use Rattle.sq_select.proofs.select.whole_specification.Goals as goal
+
+pub returns : goal.returns
+returns c = λ kinds parameters levels h.
+    let s = c.args.parts in
+    subst (λ groups. IsSelect kinds parameters levels (roll-BoundSpecification (record { distinct = s.is_distinct; list = s.selected.exprs; from = s.tables; condition = s.condition.part; grouping = groups; columns = s.selected.columns; can_fail = c.can_fail-can_fail.result; number = None })))
+    (sym c.grouping_if-grouping.ensures) (specification_is kinds parameters levels s h c.in-Ok.is_grouped c.can_fail-can_fail.result c.in-Ok.ensures)
