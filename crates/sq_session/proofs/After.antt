@@ -3,7 +3,7 @@ use Rattle.std.proofs.Common.{◌≡◌, ◌∙◌, ℕ, Bool, true, false, nat_
 use Rattle.std.proofs.lemmas.Grind.{common_steps}
 use Rattle.sq_value.specs.declared.value.Value.{Value}
 use Rattle.sq_store.specs.Content.{Content, table_at}
-use Rattle.sq_bound.specs.Fits.{holds, keys_of_bases}
+use Rattle.sq_bound.specs.Fits.{AreInDomains, holds, keys_of_bases}
 use Rattle.sq_bound.specs.declared.names.BaseTable.{BaseTable}
 use Rattle.sq_bound.specs.declared.names.ParameterDesc.{ParameterDesc}
 use Rattle.sq_bound.specs.declared.statement.BoundStatement.{BoundStatement}
@@ -29,16 +29,17 @@ use Rattle.sq_session.specs.declared.reply.Done.{Done}
 use Rattle.sq_session.specs.declared.walk.WalkingCursor.{WalkingCursor}
 use Rattle.sq_session.proofs.Over.{closed_over, go_on_over, put_closed, put_like, put_off, put_over}
 
--- the session is whole but for the tables now, of which a statement says itself that they hold rows for the base tables
+-- the session is whole but for the tables now, of which a statement says itself that they hold rows for the base tables, with
+-- values in the domains of their columns
 abbrev Others : List BaseTable → List DeclaredCursor → State → Type 0
-Others bases ds s = (holds bases s.committed ≡ true) × (s.keys ≡ keys_of_bases bases) × (are_over ds s.cursors ≡ true)
+Others bases ds s = (holds bases s.committed ≡ true) × (s.keys ≡ keys_of_bases bases) × (are_over ds s.cursors ≡ true) × AreInDomains bases s.committed
 
 same : (bases : List BaseTable) (ds : List DeclaredCursor) (b a : State) → Others bases ds b → a ≡ b → Others bases ds a
 same bases ds b a h e = subst (λ s. Others bases ds s) (sym e) h
 
 with_one : (bases : List BaseTable) (ds : List DeclaredCursor) (b : State) (n : ℕ) (c : CursorState) (a : State) → Others bases ds b → are_over ds (slice_set b.cursors n c) ≡ true
     → a ≡ with_cursor b n c → Others bases ds a
-with_one bases ds b n c a has h e = same bases ds (with_cursor b n c) a (has.0, has.1, h) e
+with_one bases ds b n c a has h e = same bases ds (with_cursor b n c) a (has.0, has.1, h, has.3) e
 
 ok_same : {A : Type 0} (x y : A) (o : Outcome A) → o ≡ Ok x → o ≡ Ok y → x ≡ y
 ok_same x y o h k = cc
@@ -126,6 +127,7 @@ changes_to bases ds w a has h =
       subst (λ (c : Content). holds bases c ≡ true) (sym committed) has.0,
       keys ∙ has.1,
       subst (λ (cs : List CursorState). are_over ds cs ≡ true) (sym cursors) has.2,
+      subst (λ (c : Content). AreInDomains bases c) (sym committed) has.3,
     )
 
 changes_if : (bases : List BaseTable) (ds : List DeclaredCursor) (s : Bool) (b a : State) → Others bases ds b → ChangesIf s b a → Others bases ds a
@@ -135,12 +137,16 @@ changes_if bases ds false b a has h = same bases ds b a has h
 updates_if : (bases : List BaseTable) (ds : List DeclaredCursor) (s : Bool) (b a : State) → Others bases ds b → UpdatesIf s b a → Others bases ds a
 updates_if bases ds true b a has h =
     let committed : a.committed ≡ b.committed = ap (λ s. s.committed) h.0 in
-    let keys : a.keys ≡ b.keys = ap (λ s. s.keys) h.0 in
-    (subst (λ (c : Content). holds bases c ≡ true) (sym committed) has.0, keys ∙ has.1, go_on_over ds b.cursors a.cursors h.2 has.2)
+    let keys : a.keys ≡ b.keys = ap (λ s. s.keys) h.0 in (
+      subst (λ (c : Content). holds bases c ≡ true) (sym committed) has.0,
+      keys ∙ has.1,
+      go_on_over ds b.cursors a.cursors h.2 has.2,
+      subst (λ (c : Content). AreInDomains bases c) (sym committed) has.3,
+    )
 updates_if bases ds false b a has h = same bases ds b a has h
 
 deletes_if : (bases : List BaseTable) (ds : List DeclaredCursor) (s : Bool) (n : ℕ) (b a : State) → Others bases ds b → DeletesIf s n b a → Others bases ds a
-deletes_if bases ds true n b a has h = changes_to bases ds (with_cursor b n (off_row (cursor_at b n))) a (has.0, has.1, put_off ds b.cursors n has.2) h
+deletes_if bases ds true n b a has h = changes_to bases ds (with_cursor b n (off_row (cursor_at b n))) a (has.0, has.1, put_off ds b.cursors n has.2, has.3) h
 deletes_if bases ds false n b a has h = same bases ds b a has h
 
 update_at : (bases : List BaseTable) (ds : List DeclaredCursor) (r : Bool) (b : State) (d : Done) (a : State) → Others bases ds b → MayUpdateAt r b d a → Others bases ds a
@@ -163,18 +169,18 @@ of_delete bases ds (target.Positioned p) vs b d a has h = delete_at bases ds (is
 
 after_statement : (bases : List BaseTable) (ds : List DeclaredCursor) (ps : List ParameterDesc) (s : BoundStatement) (vs : List Value) (b : State) (d : Done) (a : State) → IsWhole bases ds b
     → MayStep (kind_of ds ps s) vs b d a → Others bases ds a
-after_statement bases ds ps (statement.Open n) vs b d a has h = open_if bases ds ps (is_open (cursor_at b n)) n vs b d a (has.1, has.2, has.3) h
-after_statement bases ds ps (statement.Fetch f) vs b d a has h = fetch_from bases ds (cursor_at b f.cursor) (fetching ds ps f) vs b d a refl (has.1, has.2, has.3) h
-after_statement bases ds ps (statement.Close n) vs b d a has h = close_if bases ds (is_open (cursor_at b n)) n b d a (has.1, has.2, has.3) h
-after_statement bases ds ps (statement.Select s) vs b d a has h = same bases ds b a (has.1, has.2, has.3) h.0
-after_statement bases ds ps (statement.Insert i) vs b d a has h = changes_if bases ds (is_success d.status) b a (has.1, has.2, has.3) h.1
-after_statement bases ds ps (statement.Update u) vs b d a has h = of_update bases ds u.target vs b d a (has.1, has.2, has.3) h
-after_statement bases ds ps (statement.Delete t) vs b d a has h = of_delete bases ds t vs b d a (has.1, has.2, has.3) h
-after_statement bases ds ps statement.Commit vs b d a has h = same bases ds (committed_state b) a (has.0, has.2, closed_over ds b.cursors has.3) h.1
-after_statement bases ds ps statement.Rollback vs b d a has h = same bases ds (rolled_back b) a (has.1, has.2, closed_over ds b.cursors has.3) h.1
+after_statement bases ds ps (statement.Open n) vs b d a has h = open_if bases ds ps (is_open (cursor_at b n)) n vs b d a (has.1, has.2, has.3, has.5) h
+after_statement bases ds ps (statement.Fetch f) vs b d a has h = fetch_from bases ds (cursor_at b f.cursor) (fetching ds ps f) vs b d a refl (has.1, has.2, has.3, has.5) h
+after_statement bases ds ps (statement.Close n) vs b d a has h = close_if bases ds (is_open (cursor_at b n)) n b d a (has.1, has.2, has.3, has.5) h
+after_statement bases ds ps (statement.Select s) vs b d a has h = same bases ds b a (has.1, has.2, has.3, has.5) h.0
+after_statement bases ds ps (statement.Insert i) vs b d a has h = changes_if bases ds (is_success d.status) b a (has.1, has.2, has.3, has.5) h.1
+after_statement bases ds ps (statement.Update u) vs b d a has h = of_update bases ds u.target vs b d a (has.1, has.2, has.3, has.5) h
+after_statement bases ds ps (statement.Delete t) vs b d a has h = of_delete bases ds t vs b d a (has.1, has.2, has.3, has.5) h
+after_statement bases ds ps statement.Commit vs b d a has h = same bases ds (committed_state b) a (has.0, has.2, closed_over ds b.cursors has.3, has.4) h.1
+after_statement bases ds ps statement.Rollback vs b d a has h = same bases ds (rolled_back b) a (has.1, has.2, closed_over ds b.cursors has.3, has.5) h.1
 
 -- a statement that is refused changes nothing
 pub after : (bases : List BaseTable) (ds : List DeclaredCursor) (ps : List ParameterDesc) (s : BoundStatement) (vs : List Value) (b : State) (r : Result Done Fault) (a : State) → IsWhole bases ds b
-    → holds bases a.tables ≡ true → IfSome (ending r) (λ d. MayStep (kind_of ds ps s) vs b d a) → OnErr r (a ≡ b) → IsWhole bases ds a
-after bases ds ps s vs b (Ok d) a has rows h unchanged = let o = after_statement bases ds ps s vs b d a has h in (rows, o.0, o.1, o.2)
-after bases ds ps s vs b (Err f) a has rows h unchanged = subst (λ s. IsWhole bases ds s) (sym unchanged) has
+    → holds bases a.tables ≡ true → AreInDomains bases a.tables → IfSome (ending r) (λ d. MayStep (kind_of ds ps s) vs b d a) → OnErr r (a ≡ b) → IsWhole bases ds a
+after bases ds ps s vs b (Ok d) a has rows domains h unchanged = let o = after_statement bases ds ps s vs b d a has h in (rows, o.0, o.1, o.2, domains, o.3)
+after bases ds ps s vs b (Err f) a has rows domains h unchanged = subst (λ s. IsWhole bases ds s) (sym unchanged) has

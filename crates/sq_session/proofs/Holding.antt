@@ -1,14 +1,19 @@
 -- Tables that have rows for the base tables.
 use Rattle.std.proofs.Common.{◌≡◌, ◌<◌, ℕ, zero, suc, Bool, true, false, ◌&&◌, nat_eq, List, [], ◌∷◌, find, length, slice_get, Some, refl, ap, sym, subst, true≢false, arith}
 use Rattle.std.proofs.lemmas.Bool.{eqb-true, ltb-true}
+use Rattle.std.proofs.lemmas.Grind.{common_steps}
+use Rattle.std.proofs.lemmas.Slice.Zip.{AllZip-long}
 use Rattle.std.specs.Prelude.{Vec}
 use Rattle.std.specs.declared.alloc.Global.{Global}
+use Rattle.sq_value.specs.Domain.{IsInDomain}
+use Rattle.sq_value.specs.declared.value.Value.{Value}
 use Rattle.sq_store.specs.Content.{Content, no_rows, row_at, table_at}
 use Rattle.sq_store.specs.Keys.{keys_of}
 use Rattle.sq_store.specs.declared.table.Numbered.{Numbered}
 use Rattle.sq_store.specs.declared.table.Table.{Table}
-use Rattle.sq_bound.specs.Fits.{FitsQuery, FitsTarget, have_width, holds, keys_of_bases}
+use Rattle.sq_bound.specs.Fits.{AreInDomains, AreRowsIn, FitsQuery, FitsTarget, have_width, holds, keys_of_bases}
 use Rattle.sq_bound.specs.Names.{are_positions}
+use Rattle.sq_bound.specs.declared.names.BaseColumn.{BaseColumn}
 use Rattle.sq_bound.specs.declared.names.BaseTable.{BaseTable}
 use Rattle.sq_bound.specs.declared.query.UpdatableQuery.{UpdatableQuery}
 use Rattle.sq_bound.specs.declared.statement.ChangeTarget.TheVariants as target
@@ -24,12 +29,28 @@ both false b h = none h
 
 -- ---- tables of a new store
 
-none_hold : (bases : List BaseTable) → holds bases (no_rows (length bases)) ≡ true
-none_hold [] = refl
-none_hold (b ∷ bases) = none_hold bases
+none_hold : (bases : List BaseTable) → AreInDomains bases (no_rows (length bases))
+none_hold [] = tt
+none_hold (b ∷ bases) = (tt, none_hold bases)
 
-pub no_rows_hold : (bases : List BaseTable) (content : Content) → content ≡ no_rows (length bases) → holds bases content ≡ true
-no_rows_hold bases content h = rw h (none_hold bases)
+pub no_rows_hold : (bases : List BaseTable) (content : Content) → content ≡ no_rows (length bases) → AreInDomains bases content
+no_rows_hold bases content h = subst (λ (c : Content). AreInDomains bases c) (sym h) (none_hold bases)
+
+-- ---- values in the domains of their columns
+
+wide_in : (columns : List BaseColumn) (rows : List Numbered) → AreRowsIn columns rows → have_width (length columns) rows ≡ true
+wide_in columns [] h = refl
+wide_in columns (r ∷ rows) h =
+    let wide : length r.row ≡ length columns = AllZip-long (λ (c : BaseColumn) (v : Value). IsInDomain c.domain v) columns r.row h.0 in
+    let rest = wide_in columns rows h.1 in
+    grind (arith, common_steps)
+
+-- then a row has a value for each column of its table
+pub wide_where_in : (bases : List BaseTable) (content : Content) → AreInDomains bases content → holds bases content ≡ true
+wide_where_in [] [] h = refl
+wide_where_in [] (t ∷ ts) h = absurd h
+wide_where_in (b ∷ bases) [] h = absurd h
+wide_where_in (b ∷ bases) (t ∷ ts) h = let wide = wide_in b.columns t.rows h.0 in let rest = wide_where_in bases ts h.1 in grind (arith, common_steps)
 
 -- a store that was made for the keys of base tables has as many
 pub keys_count : (given : List (Vec (Vec ℕ Global) Global)) (bases : List BaseTable) → keys_of given ≡ keys_of_bases bases → length given ≡ length bases

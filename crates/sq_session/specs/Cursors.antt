@@ -1,7 +1,7 @@
 -- The cursors of a session: one for each that a module declares, closed or over what that one goes over (ISO/IEC 9075:1992,
 -- 4.21).
 use Rattle.std.specs.Prelude.{◌≡◌, ⊤, ℕ, Bool, true, false, ◌&&◌, nat_eq, List, [], ◌∷◌}
-use Rattle.sq_bound.specs.Fits.{holds, keys_of_bases}
+use Rattle.sq_bound.specs.Fits.{AreInDomains, holds, keys_of_bases}
 use Rattle.sq_bound.specs.declared.names.BaseTable.{BaseTable}
 use Rattle.sq_module.specs.declared.program.DeclaredCursor.{DeclaredCursor}
 use Rattle.sq_session.specs.Kind.{Over, over_of}
@@ -51,10 +51,12 @@ are_over (d ∷ ds) (c ∷ cs) = is_over (over_of d.cursor.body) c && are_over d
 
 -- ---- a session
 
--- the tables as they are now and as they were committed are those of the base tables, with their keys, and each cursor is over what is declared
+-- The tables as they are now and as they were committed are those of the base tables, with their keys, each cursor is over
+-- what is declared, and every value in the tables, now and as committed, is in the domain of its column.
 abbrev pub IsWhole : List BaseTable → List DeclaredCursor → State → Type 0
 IsWhole bases declared s =
     (holds bases s.tables ≡ true) × (holds bases s.committed ≡ true) × (s.keys ≡ keys_of_bases bases) × (are_over declared s.cursors ≡ true)
+    × AreInDomains bases s.tables × AreInDomains bases s.committed
 
 -- ---- an UPDATE
 

@@ -1,7 +1,7 @@
 //! A call: a procedure's statement with the values that are handed in (ISO/IEC 9075:1992, 12.3).
 
 ghost use Rattle.std.specs.Prelude.{◌≡◌, false, length, IfOk, IfSome, IsSome, None, OnErr, Some, true};
-ghost use Rattle.sq_bound.specs.Fits.{FitsStatement, holds};
+ghost use Rattle.sq_bound.specs.Fits.{AreInDomains, FitsStatement, holds};
 ghost use Rattle.sq_module.specs.Program.{CursorsFit, FitsProgram};
 ghost use Rattle.sq_query.specs.declared.fault.Fault.TheVariants as fault;
 ghost use Rattle.sq_session.specs.Cursors.{IsWhole};
@@ -66,6 +66,7 @@ fn performed<S: Store>(
     requires fit { CursorsFit catalog.now.bases program.now.cursors.items }
     requires whole { IsWhole catalog.now.bases program.now.cursors.items machine.old }
     ensures rows { holds catalog.now.bases machine.new.tables ≡ true }
+    ensures in_domains { AreInDomains catalog.now.bases machine.new.tables }
     ensures step { IfSome (ending result) (λ d. MayStep (kind_of program.now.cursors.items procedure.now.parameters statement.now)
         (started_values procedure.now.parameters values.now) machine.old d machine.new) }
     ensures err { OnErr result (machine.new ≡ machine.old) }
@@ -97,6 +98,7 @@ fn with_values<S: Store>(
     requires whole { IsWhole catalog.now.bases program.now.cursors.items machine.old }
     requires memory { takes_memory (kind_of program.now.cursors.items procedure.now.parameters statement.now) ≡ true }
     ensures rows { holds catalog.now.bases machine.new.tables ≡ true }
+    ensures in_domains { AreInDomains catalog.now.bases machine.new.tables }
     ensures step { IfSome (ending result) (λ d. MayStep (kind_of program.now.cursors.items procedure.now.parameters statement.now)
         (started_values procedure.now.parameters values.now) machine.old d machine.new) }
     ensures err { OnErr result (machine.new ≡ machine.old) }
@@ -126,6 +128,7 @@ fn performed_with<S: Store>(
     requires whole { IsWhole called.now.catalog.now.bases called.now.cursors.now machine.old }
     requires memory { takes_memory (kind_of called.now.cursors.now called.now.procedure.now.parameters statement.now) ≡ true }
     ensures rows { holds called.now.catalog.now.bases machine.new.tables ≡ true }
+    ensures in_domains { AreInDomains called.now.catalog.now.bases machine.new.tables }
     ensures step { IfSome (ending result) (λ d. MayStep (kind_of called.now.cursors.now called.now.procedure.now.parameters statement.now)
         called.now.values.now machine.old d machine.new) }
     ensures err { OnErr result (machine.new ≡ machine.old) }

@@ -1,7 +1,8 @@
 //! The tables and cursors of a session, and the statements that work on them.
 
 ghost use Rattle.std.specs.Prelude.{◌≡◌, ◌<◌, true, length, replicate, is_ok, is_some, IfErr, IfOk, IfSome, IsSome, OnErr};
-ghost use Rattle.sq_bound.specs.Fits.{FitsTarget, IsBase, are_columns, are_parameters, holds, under};
+ghost use Rattle.std.specs.List.{AllByRecursion};
+ghost use Rattle.sq_bound.specs.Fits.{AreInDomains, FitsTarget, IsBase, IsColumnOf, are_columns, are_parameters, holds, under};
 ghost use Rattle.sq_change.specs.Statement.{IsGiven};
 ghost use Rattle.sq_meaning.specs.declared.status.Status.TheVariants as status;
 ghost use Rattle.sq_module.specs.Program.{CursorsFit};
@@ -183,9 +184,11 @@ impl<S: Store> Machine<S> {
         meter: &mut Meter,
     ) -> Result<Done, Fault>
         requires fits { IsBase called.now.catalog.now.bases statement.now.leaf.table }
+        requires columns { AllByRecursion (IsColumnOf statement.now.leaf.table) statement.now.columns }
         requires whole { IsWhole called.now.catalog.now.bases called.now.cursors.now self.old }
         ensures step { IfSome (ending result) (λ d. MayChange self.old d self.new) }
         ensures rows { holds called.now.catalog.now.bases self.new.tables ≡ true }
+        ensures in_domains { AreInDomains called.now.catalog.now.bases self.new.tables }
         ensures err { OnErr result (self.new ≡ self.old) }
     {
         insert(
@@ -209,9 +212,11 @@ impl<S: Store> Machine<S> {
     ) -> Result<Done, Fault>
         requires target { FitsTarget called.now.catalog.now.bases (length called.now.cursors.now) statement.now.target }
         requires columns { are_columns (length (under statement.now.target).table.columns) statement.now.assignments ≡ true }
+        requires domains { AllByRecursion (λ a. IsColumnOf (under statement.now.target).table a.column) statement.now.assignments }
         requires fit { CursorsFit called.now.catalog.now.bases called.now.cursors.now }
         requires whole { IsWhole called.now.catalog.now.bases called.now.cursors.now self.old }
         ensures rows { holds called.now.catalog.now.bases self.new.tables ≡ true }
+        ensures in_domains { AreInDomains called.now.catalog.now.bases self.new.tables }
         ensures step { IfSome (ending result) (λ d. MayStep (update_kind statement.now.target) called.now.values.now self.old d self.new) }
         ensures err { OnErr result (self.new ≡ self.old) }
     {
@@ -249,6 +254,7 @@ impl<S: Store> Machine<S> {
         requires target { FitsTarget called.now.catalog.now.bases (length called.now.cursors.now) target.now }
         requires whole { IsWhole called.now.catalog.now.bases called.now.cursors.now self.old }
         ensures rows { holds called.now.catalog.now.bases self.new.tables ≡ true }
+        ensures in_domains { AreInDomains called.now.catalog.now.bases self.new.tables }
         ensures step { IfSome (ending result) (λ d. MayStep (delete_kind target.now) called.now.values.now self.old d self.new) }
         ensures err { OnErr result (self.new ≡ self.old) }
     {

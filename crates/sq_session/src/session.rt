@@ -7,7 +7,7 @@ ghost use Rattle.sq_session.specs.Lent.{lent};
 ghost use Rattle.sq_catalog.specs.Catalog.{table_number};
 ghost use Rattle.sq_session.specs.Kind.{fault_at, fits_at, kind_at, needs_memory};
 ghost use Rattle.std.specs.Map.{keys_of};
-ghost use Rattle.sq_bound.specs.Fits.{holds, keys_of_bases};
+ghost use Rattle.sq_bound.specs.Fits.{AreInDomains, keys_of_bases};
 ghost use Rattle.sq_module.specs.Program.{FitsProgram, declared_procedures};
 ghost use Rattle.sq_session.specs.Session.{names_of, procedure_number};
 ghost use Rattle.sq_session.specs.State.{AreClosed};
@@ -65,8 +65,8 @@ impl<S: Store> Session<S> {
         modules: &[ModuleText],
         store: S,
     ) -> Result<Session<S>, SessionFault>
-        requires tables { holds catalog.bases (S.content_now store) ≡ true }
-        requires committed { holds catalog.bases (S.committed store) ≡ true }
+        requires tables { AreInDomains catalog.bases (S.content_now store) }
+        requires committed { AreInDomains catalog.bases (S.committed store) }
         requires keys { S.key_columns store ≡ keys_of_bases catalog.bases }
         ensures start { IfOk result (λ s. (s.state.tables ≡ S.content_now store) × (s.state.committed ≡ S.committed store) × AreClosed s.state.cursors) }
         ensures procedures { IfOk result (λ s. names_of s.procedures ≡ declared_procedures modules.now) }
@@ -84,7 +84,7 @@ impl<S: Store> Session<S> {
     }
 
     /// A session of bound modules.
-    #[tactic(auto, using(crate::proofs::Closed::replicated_closed, crate::proofs::Named::names_are, crate::proofs::Over::start_over))]
+    #[tactic(auto, using(crate::proofs::Closed::replicated_closed, crate::proofs::Named::names_are, crate::proofs::Over::start_over, crate::proofs::Holding::wide_where_in))]
     fn with_program(
         alloc: Global,
         catalog: Catalog,
@@ -92,8 +92,8 @@ impl<S: Store> Session<S> {
         store: S,
     ) -> Result<Session<S>, AllocError>
         requires fits { FitsProgram catalog.bases program }
-        requires tables { holds catalog.bases (S.content_now store) ≡ true }
-        requires committed { holds catalog.bases (S.committed store) ≡ true }
+        requires tables { AreInDomains catalog.bases (S.content_now store) }
+        requires committed { AreInDomains catalog.bases (S.committed store) }
         requires keys { S.key_columns store ≡ keys_of_bases catalog.bases }
         ensures start { IfOk result (λ s. (s.state.tables ≡ S.content_now store) × (s.state.committed ≡ S.committed store) × AreClosed s.state.cursors) }
         ensures procedures { IfOk result (λ s. names_of s.procedures ≡ keys_of program.procedures.entries) }
