@@ -21,3 +21,4 @@ pub mod Target
 pub mod Table
 pub mod Specification
 pub mod Product
+pub mod Item
