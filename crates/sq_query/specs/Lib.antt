@@ -8,6 +8,7 @@ pub mod Found
 pub mod Frame
 pub mod Group
 pub mod Index
+pub mod Item
 pub mod Lines
 pub mod Members
 pub mod Needed
