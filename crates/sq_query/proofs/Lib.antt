@@ -33,3 +33,4 @@ pub mod Tables
 pub mod Bases
 pub mod Stored
 pub mod Unions
+pub mod Chosen
