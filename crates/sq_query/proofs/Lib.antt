@@ -3,6 +3,7 @@ pub mod AlikeConds
 pub mod AnyTables
 pub mod Bases
 pub mod ByKeys
+pub mod Chosen
 pub mod Classes
 pub mod Conditions
 pub mod Depths

@@ -42,6 +42,10 @@ numbered_row found = record { number = found.0; row = found.1.now }
 abbrev pub numbered_in : Vec (ℕ × Bor Row) Global → List Numbered
 numbered_in rows = map numbered_row rows.items
 
+-- the numbered rows of a base table
+abbrev pub stored_numbered : Content → ℕ → Outcome (List Numbered)
+stored_numbered content place = table_there content place >>= λ found. Ok found.rows
+
 -- the rows of a base table
 abbrev pub stored_rows : Content → ℕ → Outcome (List Row)
 stored_rows content place = table_there content place >>= λ found. Ok (rows_in found)

@@ -1,10 +1,13 @@
 -- The rows of a base table that a statement may change (ISO/IEC 9075:1992, 13.6 to 13.10).
-use Rattle.std.specs.Prelude.{◌≡◌, Bool, true, false, if◌then◌else◌, List, [], ◌∷◌, ◌++◌, Option, Some, None, Result, Ok}
+use Rattle.std.specs.Prelude.{◌≡◌, ℕ, map, Vec, Bool, true, false, if◌then◌else◌, List, [], ◌∷◌, ◌++◌, Option, Some, None, Result, Ok}
 use Rattle.std.specs.List.{list_any}
+use Rattle.std.specs.declared.alloc.Global.{Global}
 use Rattle.sq_lex.specs.declared.name.Name.{Name}
 use Rattle.sq_value.specs.declared.truth.Truth.{Truth}
 use Rattle.sq_value.specs.declared.value.Value.{Value}
-use Rattle.sq_meaning.specs.Status.{Outcome, ◌>>=◌}
+use Rattle.sq_store.specs.Content.{Content}
+use Rattle.sq_store.specs.declared.table.Numbered.{Numbered}
+use Rattle.sq_meaning.specs.Status.{Outcome, ◌>>=◌, kept}
 use Rattle.sq_meaning.specs.Environment.{Row}
 use Rattle.sq_meaning.specs.Placed.{by_place}
 use Rattle.sq_meaning.specs.Query.{truth, is_true}
@@ -13,8 +16,9 @@ use Rattle.sq_bound.specs.Condition.{cond_of}
 use Rattle.sq_bound.specs.declared.condition.BoundCond.{BoundCond}
 use Rattle.sq_bound.specs.declared.condition.TablePlace.{TablePlace}
 use Rattle.sq_bound.specs.declared.query.Target.{Target}
-use Rattle.sq_query.specs.Fault.{Meets}
+use Rattle.sq_query.specs.Fault.{Meets, MeetsAs}
 use Rattle.sq_query.specs.Row.{outside}
+use Rattle.sq_query.specs.Table.{stored_numbered}
 use Rattle.sq_query.specs.declared.fault.Fault.{Fault}
 
 abbrev pub and_own : List BoundCond → Option BoundCond → List BoundCond
@@ -35,3 +39,29 @@ abbrev pub IsChosen : Result Bool Fault → List BoundCond → Row → List Valu
 IsChosen result conditions row parameters user =
     list_any (λ c. has_subquery (cond_of [] c)) conditions ≡ false
     → (tables : TablePlace → Outcome (List Row)) → Meets result (are_true (λ c. truth (by_place tables) (cond_of [] c) (outside (row ∷ []) parameters user)) conditions)
+
+-- ---- the rows that a target means
+
+-- whether a condition is true of a row
+abbrev pub is_true_of : (TablePlace → Outcome (List Row)) → List Value → Name → BoundCond → Numbered → Outcome Bool
+is_true_of tables parameters user c r = is_true (truth (by_place tables) (cond_of [] c) (outside (r.row ∷ []) parameters user))
+
+-- the rows for which each condition in turn is true, over all rows
+abbrev pub chosen : {X : Type 0} → (X → Numbered → Outcome Bool) → List X → List Numbered → Outcome (List Numbered)
+chosen test [] rows = Ok rows
+chosen test (x ∷ xs) rows = kept (test x) rows >>= chosen test xs
+
+-- their numbers
+abbrev pub numbers_chosen : {X : Type 0} → (X → Numbered → Outcome Bool) → List X → List Numbered → Outcome (List ℕ)
+numbers_chosen test xs rows = chosen test xs rows >>= λ found. Ok (map (λ r. r.number) found)
+
+abbrev pub numbers_in : Vec ℕ Global → List ℕ
+numbers_in numbers = numbers.items
+
+-- of a target that names no row by a key, and whose conditions have no subquery: the numbers of the rows of its base table for
+-- which they are true
+abbrev pub HasNumbers : Result (Vec ℕ Global) Fault → Target → Content → List Value → Name → Type 0
+HasNumbers result target content parameters user =
+    target.key ≡ None → list_any (λ c. has_subquery (cond_of [] c)) (conditions_of target) ≡ false
+    → (tables : TablePlace → Outcome (List Row))
+    → MeetsAs numbers_in result (stored_numbered content target.base >>= numbers_chosen (is_true_of tables parameters user) (conditions_of target))

@@ -4,7 +4,7 @@ ghost use Rattle.sq_meaning.specs.Status.{and_then, each};
 ghost use Rattle.sq_query.specs.Fault.{MeetsAs};
 ghost use Rattle.sq_query.specs.Frame.{lent, table_rows};
 ghost use Rattle.sq_query.specs.Group.{rows_of_line};
-ghost use Rattle.sq_query.specs.Table.{base_there, view_there, table_there, numbered_in, stored_rows, stored_base, bases_in};
+ghost use Rattle.sq_query.specs.Table.{base_there, view_there, numbered_in, stored_numbered, stored_rows, stored_base, bases_in};
 
 use crate::context::Context;
 use crate::fault::{Failure, Fault};
@@ -72,7 +72,7 @@ pub(crate) fn numbered_rows<'a, S: Store>(
     table: usize,
     meter: &mut Meter,
 ) -> Result<Vec<(u64, &'a Row)>, Fault>
-    ensures { MeetsAs numbered_in result (and_then (table_there (S.content_now store.now) table) (λ found. Ok found.rows)) }
+    ensures { MeetsAs numbered_in result (stored_numbered (S.content_now store.now) table) }
 {
     if table >= store.table_count() {
         return Err(Fault::NOT_WELL_FORMED);
