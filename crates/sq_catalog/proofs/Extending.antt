@@ -1,6 +1,6 @@
 -- Kinds of columns as base tables and views are added: what is well formed stays so.
-use Rattle.std.proofs.Common.{◌≡◌, ℕ, Bool, true, false, length, if◌then◌else◌, nat_eq, List, [], ◌∷◌, ◌++◌, map, Option, Some, None, Result, Ok, Err, refl, ap, sym, subst, ◌∙◌}
-use Rattle.std.specs.List.{All, AllByRecursion, slice_get}
+use Rattle.std.proofs.Common.{◌≡◌, ℕ, Bool, true, false, length, if◌then◌else◌, nat_eq, List, [], ◌∷◌, ◌++◌, Option, Some, None, Result, Ok, Err, refl, ap, sym, subst, ◌∙◌}
+use Rattle.std.specs.List.{AllByRecursion, slice_get}
 use Rattle.std.specs.Option.{IfSome, option_map}
 use Rattle.std.specs.Result.{OnErr, OnOk}
 use Rattle.std.proofs.lemmas.List.{map-append}
@@ -134,7 +134,7 @@ view_beside (Ok u) c bases old new name t added same b v h all =
     let ks : List (List Kind) = kinds_of_views old ++ kinds_of_columns t.columns ∷ [] in
     let grown : kinds_of_views new ≡ ks = ap kinds_of_views added ∙ views_added old name t in
     let here : IsTable (kinds_at bases ks) t =
-        subst (λ (bs : List BaseTable). IsTable (kinds_at bs ks) t) (sym b) (subst (λ (vs : List (List Kind)). IsTable (kinds_at c.bases (vs ++ kinds_of_columns t.columns ∷ [])) t) (sym v) (view_made c t h)) in
+    subst (λ (bs : List BaseTable). IsTable (kinds_at bs ks) t) (sym b) (subst (λ (vs : List (List Kind)). IsTable (kinds_at c.bases (vs ++ kinds_of_columns t.columns ∷ [])) t) (sym v) (view_made c t h)) in
     let wide : AreTables (kinds_at bases ks) old = tables_wider (kinds_at bases (kinds_of_views old)) (kinds_at bases ks) old (views_extend bases (kinds_of_views old) (kinds_of_columns t.columns)) all in
     subst (λ (vs : List (List Kind)). AreTables (kinds_at bases vs) new) (sym grown)
     (subst (λ (vs : List (FullName × TableDesc)). AreTables (kinds_at bases ks) vs) (sym added) (all_with (λ (e : FullName × TableDesc). IsTable (kinds_at bases ks) e.1) old (name, t) wide here))

@@ -1,5 +1,5 @@
 -- A catalog grows table by table.
-use Rattle.std.proofs.Common.{◌≡◌, ℕ, ◌+◌, ◌<◌, Bool, true, false, List, [], ◌∷◌, ◌++◌, length, get_or, take, flat_map, position, Option, Some, None, is_some, refl, ap, sym, ◌∙◌, true≢false, arith, append_assoc, length-append}
+use Rattle.std.proofs.Common.{◌≡◌, ℕ, ◌+◌, ◌<◌, Bool, false, List, [], ◌∷◌, ◌++◌, length, get_or, take, flat_map, position, Option, Some, None, is_some, refl, ap, sym, ◌∙◌, true≢false, arith, append_assoc, length-append}
 use Rattle.std.proofs.lemmas.List.{take_more, append-nil}
 use Rattle.std.proofs.lemmas.Grind.{flat_map-append}
 use Rattle.std.specs.Map.{keys_of}

@@ -1,5 +1,5 @@
 -- Columns as names see them, over columns of a base table.
-use Rattle.std.proofs.Common.{◌≡◌, ℕ, zero, suc, ◌+◌, ◌<◌, Bool, true, false, List, [], ◌∷◌, ◌++◌, length, get_or, take, map, nat_eq, nat_lt, Some, refl, ap, sym, subst, ◌∙◌, true≢false, arith, unwrap_or, Result, Ok, Err, IfOk}
+use Rattle.std.proofs.Common.{◌≡◌, ℕ, zero, suc, ◌+◌, ◌<◌, true, List, [], ◌∷◌, ◌++◌, length, get_or, take, map, nat_eq, nat_lt, Some, refl, ap, sym, subst, ◌∙◌, true≢false, arith, unwrap_or, Result, Ok, Err, IfOk}
 use Rattle.std.specs.List.{AllZip, list_all, slice_get}
 use Rattle.std.proofs.lemmas.Option.{slice_get-get_or, slice_get_within}
 use Rattle.std.proofs.lemmas.Bool.Decides.{nat_tests}
@@ -8,7 +8,7 @@ use Rattle.sq_value.specs.Domain.{kind_of}
 use Rattle.sq_value.specs.declared.domain.Kind.{Kind}
 use Rattle.sq_value.specs.declared.domain.Kind.TheVariants.{Num, Chars, Vary}
 use Rattle.sq_bound.specs.Names.{is_kind_at, same_kind}
-use Rattle.sq_bound.specs.WellFormed.{base_kinds, kinds_of_columns}
+use Rattle.sq_bound.specs.WellFormed.{base_kinds}
 use Rattle.sq_bound.specs.declared.names.BaseColumn.{BaseColumn}
 use Rattle.sq_bound.specs.declared.names.BaseTable.{BaseTable}
 use Rattle.sq_bound.specs.declared.names.Column.{Column}

@@ -1,14 +1,12 @@
 -- Tables and views that stand over base tables, and references to their keys, as base tables are added.
-use Rattle.std.proofs.Common.{◌≡◌, ℕ, zero, suc, ◌+◌, ◌<◌, Bool, true, false, ◌&&◌, nat_lt, List, [], ◌∷◌, ◌++◌, length, get_or, map, Option, Some, None, Result, Ok, Err, IfOk, if◌then◌else◌, refl, ap, sym, subst, ◌∙◌, arith, length-append}
-use Rattle.std.specs.List.{All, list_all, slice_get}
-use Rattle.std.specs.Option.{IfSome}
+use Rattle.std.proofs.Common.{◌≡◌, ℕ, zero, suc, ◌<◌, true, nat_lt, List, [], ◌∷◌, ◌++◌, length, get_or, Some, Result, Ok, Err, IfOk, refl, ap, sym, subst, ◌∙◌, arith}
+use Rattle.std.specs.List.{list_all, slice_get}
 use Rattle.std.proofs.lemmas.Bool.{and_parts}
 use Rattle.std.proofs.lemmas.List.{length-map, map-append}
-use Rattle.std.proofs.lemmas.List.Elements.{All-nil, All-cons, All-head, All-tail, All-get_or, All-weaker}
-use Rattle.std.proofs.lemmas.Option.{IfSome_then, slice_get_within, get_or_from_slice_get, slice_get-get_or}
-use Rattle.indexmap.specs.IndexMap.{insert_entry}
+use Rattle.std.proofs.lemmas.List.Elements.{All-get_or, All-weaker}
+use Rattle.std.proofs.lemmas.Option.{IfSome_then, slice_get_within, get_or_from_slice_get}
 use Rattle.sq_store.specs.Keys.{Keys, keys_at}
-use Rattle.sq_bound.specs.Fits.{IsBase, IsOver, all_refer, keys_of_bases, refers}
+use Rattle.sq_bound.specs.Fits.{IsBase, all_refer, keys_of_bases, refers}
 use Rattle.sq_bound.specs.Names.{are_positions}
 use Rattle.sq_bound.specs.WellFormed.{base_kinds, kinds_of_columns}
 use Rattle.sq_bound.specs.declared.names.BaseColumn.{BaseColumn}
@@ -27,7 +25,6 @@ use Rattle.sq_catalog.proofs.Listed.{all_push, all_weaker, get_behind, get_more,
 use Rattle.sq_catalog.proofs.Extending.{table_made}
 
 -- ---- a base table behind the others
-
 
 -- the last stands at its place
 pub base_behind : (bases : List BaseTable) (b : BaseTable) → b.place ≡ length bases → IsBase (bases ++ b ∷ []) b

@@ -19,7 +19,9 @@ use crate::reference::{
     BoundReferences, FoundReference, OwnKeys, OwnTable, bound_references, check_lists,
     references_of,
 };
-use crate::written::{NamedColumns, TypedColumn, Written, is_not_null, named_columns, parts_of, typed_columns};
+use crate::written::{
+    NamedColumns, TypedColumn, Written, is_not_null, named_columns, parts_of, typed_columns,
+};
 use sq_bind::bind_check;
 use sq_bound::{
     BaseColumn, BaseTable, BoundCond, Column, ColumnDefault, Leaf, Names, Shared, TableBody,
@@ -313,10 +315,7 @@ fn columns_of(alloc: Global, typed: &[TypedColumn<'_>]) -> Result<Items<Column>,
 }
 
 /// The columns as the table holds them.
-fn base_columns(
-    alloc: Global,
-    typed: &[TypedColumn<'_>],
-) -> Result<Items<BaseColumn>, ElementFault>
+fn base_columns(alloc: Global, typed: &[TypedColumn<'_>]) -> Result<Items<BaseColumn>, ElementFault>
     ensures count { IfOk result (λ columns. length columns ≡ length typed.now) }
     ensures kinds { IfOk result (λ columns. map (λ c. kind_of c.domain) columns ≡ typed_kinds typed.now) }
 {

@@ -1,5 +1,3 @@
-use Rattle.sq_catalog.proofs.Extending.{tables_beside}
-use Rattle.sq_catalog.proofs.Stored.{stored_at}
 use Rattle.std.proofs.Common.{ap, ◌∙◌}
 use Rattle.std.specs.Map.{keys_of}
 use Rattle.sq_catalog.proofs.Gains.{entry_last, key_last}

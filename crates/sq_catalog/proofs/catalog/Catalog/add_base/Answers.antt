@@ -14,8 +14,7 @@ invariant_of-self-inside c =
 
 pub invariant_of-self : goal.invariant_of-self
 invariant_of-self c =
-    let same = ap (λ (s : Catalog). s.bases) c.self.view_is in
-    (
+    let same = ap (λ (s : Catalog). s.bases) c.self.view_is in (
       all_inserted (λ e. IsStored c.push.new.self.items e.1) c.insert_table.result c.self.inside.bases.entries c.insert_table.new.tables.entries (c.args.name, c.args.table) c.insert_table.ensures.added c.insert_table.ensures.unchanged
           (all_stored_added c.self.inside.base_tables.items c.push.new.self.items c.args.base c.self.inside.bases.entries c.in-Ok.ensures.items c.self.invariant.0)
           (stored_added c.self.inside.base_tables.items c.args.self.now.bases c.push.new.self.items c.args.base c.args.table same c.in-Ok.ensures.items c.requires.next.stored),

@@ -8,8 +8,7 @@ use Rattle.sq_catalog.proofs.catalog.Catalog.add_view.Goals as goal
 
 pub invariant_of-self : goal.invariant_of-self
 invariant_of-self c =
-    let same = ap (λ (s : Catalog). s.bases) c.self.view_is in
-    (
+    let same = ap (λ (s : Catalog). s.bases) c.self.view_is in (
       c.self.invariant.0,
       all_inserted (λ e. IsStored c.self.inside.base_tables.items e.1) c.insert_table.result c.self.inside.views.entries c.insert_table.new.tables.entries (c.args.name, c.args.table) c.insert_table.ensures.added c.insert_table.ensures.unchanged
           c.self.invariant.1 (subst (λ (bs : List BaseTable). IsStored bs c.args.table) (sym same) c.requires.next.stored),

@@ -1,7 +1,6 @@
 use Rattle.std.proofs.Common.{subst}
-use Rattle.sq_catalog.specs.Catalog.{Catalog, column_kinds}
+use Rattle.sq_catalog.specs.Catalog.{Catalog}
 use Rattle.sq_catalog.specs.Stored.{IsStored}
-use Rattle.sq_bound.specs.WellFormed.{IsTable}
 use Rattle.sq_catalog.proofs.Extending.{table_read}
 use Rattle.sq_catalog.proofs.Stored.{stored_at}
 use Rattle.sq_catalog.proofs.catalog.Catalog.entry.Goals as goal

@@ -1,6 +1,5 @@
-use Rattle.std.proofs.Common.{List, length, ap, sym, subst, ◌∙◌}
-use Rattle.sq_bound.specs.WellFormed.{base_kinds, kinds_of_columns}
-use Rattle.sq_bound.specs.declared.names.Column.{Column}
+use Rattle.std.proofs.Common.{length, ap, sym, subst, ◌∙◌}
+use Rattle.sq_bound.specs.WellFormed.{kinds_of_columns}
 use Rattle.sq_catalog.specs.Stored.{AreChecksAt}
 use Rattle.sq_catalog.proofs.Stored.{next_of}
 use Rattle.sq_catalog.proofs.Seen.{columns_seen, kinds_seen}
