@@ -1,8 +1,16 @@
 //! INSERT, UPDATE and DELETE (ISO/IEC 9075:1992, 13.6 to 13.10).
 
-ghost use Rattle.std.specs.Prelude.{◌≡◌, ◌<◌, length, true, IfOk, OnOk};
+ghost use Rattle.std.specs.Prelude.{◌≡◌, ◌∷◌, ◌++◌, ◌<◌, [], length, true, IfOk, List, Ok, OnOk};
+ghost use Rattle.std.specs.List.{AllByRecursion, AllZip};
+ghost use Rattle.sq_bound.specs.declared.condition.TablePlace.TheVariants.{Base};
+ghost use Rattle.sq_bound.specs.declared.expression.BoundExpr.{BoundExpr as BoundTree};
 ghost use Rattle.sq_bound.specs.declared.statement.ChangeTarget.TheVariants.{Searched};
 ghost use Rattle.sq_bound.specs.Fits.{FitsTarget, IsBase, are_columns, is_cursor, under as leaf_of};
+ghost use Rattle.sq_bound.specs.WellFormed.{IsAssignment, IsChangeTarget, IsColumnOf, IsLeaf, IsSource, MayStore, TableKinds, kinds_of_parameters, kinds_of_results, of_base};
+ghost use Rattle.sq_scope.specs.WellFormed.{AreLevelsIn, IsItemOver};
+ghost use Rattle.sq_scope.specs.declared.findings.Found.{Found as FoundPart};
+ghost use Rattle.sq_value.specs.declared.domain.Kind.{Kind as KindOf};
+ghost use Rattle.sq_bind.specs.WellFormed.{AreReceivers, IsInsertedQuery, IsNewValueIn, IsOutermost, IsStoredIn, objects_of};
 
 use crate::updatable::{Under, bind_target, under_table};
 use sq_bound::{
@@ -19,7 +27,7 @@ use sq_select::{SubqueryNumbers, SubqueryResult, bind_select, named_table};
 use sq_tree::{
     Assignment, CommaList, Delete, Insert, InsertSource, NewValue, TableName, Update, Where,
 };
-use sq_value::{Kind, Value};
+use sq_value::Value;
 use std::alloc::Global;
 use std::slice::from_ref;
 
@@ -29,7 +37,8 @@ fn changed_table<N: Names>(
     user: Name,
     written: TableName,
 ) -> Result<Under<'_>, BindFault>
-    ensures { IfOk result (λ under. IsBase (N.base_tables names.now) under.leaf.now.table) }
+    ensures base { IfOk result (λ under. IsBase (N.base_tables names.now) under.leaf.now.table) }
+    ensures leaf { IfOk result (λ under. IsLeaf (N.column_kinds names.now) under.leaf.now) }
 {
     let table = named_table(names, user, written)?;
     match under_table(table) {
@@ -38,18 +47,17 @@ fn changed_table<N: Names>(
     }
 }
 
-/// A column that gets values: the column of the base table that it is, and its kind.
+/// A column that gets values: its position in the table that is named, and the column of the base table that it is.
 #[derive(Clone, Copy)]
 struct Receiver {
-    /// The position in the table that is named.
     position: usize,
     object: ObjectColumn,
-    kind: Kind,
 }
 
 /// The column of this name.
 fn receiver_of(under: Under<'_>, name: Name) -> Result<Receiver, BindFault>
-    ensures { IfOk result (λ receiver. receiver.object.position < length under.entry.leaf.now.table.columns) }
+    ensures position { IfOk result (λ receiver. receiver.object.position < length under.entry.leaf.now.table.columns) }
+    ensures column { IfOk result (λ receiver. IsColumnOf under.entry.leaf.now.table receiver.object) }
 {
     match under.table.column(name) {
         Some(position) => Ok(receiver_at(under, position)),
@@ -60,19 +68,21 @@ fn receiver_of(under: Under<'_>, name: Name) -> Result<Receiver, BindFault>
 /// A column of a table that is named, as one that gets values.
 fn receiver_at(under: Under<'_>, position: usize) -> Receiver
     requires { position < length under.table.now.columns }
-    ensures { result.object.position < length under.entry.leaf.now.table.columns }
+    ensures position { result.object.position < length under.entry.leaf.now.table.columns }
+    ensures column { IsColumnOf under.entry.leaf.now.table result.object }
 {
     let column = under.table.columns.as_slice()[position];
     let base = under.leaf.get().table.get();
     Receiver {
         position,
         object: base.object_column(column.leaf_column),
-        kind: column.kind,
     }
 }
 
 /// Adds a column that is not among those before it.
-fn push_receiver(receivers: &mut Items<Receiver>, receiver: Receiver) -> Result<(), BindFault> {
+fn push_receiver(receivers: &mut Items<Receiver>, receiver: Receiver) -> Result<(), BindFault>
+    ensures { OnOk result (receivers.new ≡ receivers.old ++ receiver ∷ []) }
+{
     if receivers
         .as_slice()
         .iter()
@@ -89,7 +99,9 @@ fn insert_receivers(
     alloc: Global,
     under: Under<'_>,
     columns: &Option<CommaList<Name>>,
-) -> Result<Items<Receiver>, BindFault> {
+) -> Result<Items<Receiver>, BindFault>
+    ensures { IfOk result (AreReceivers under.entry.leaf.now.table) }
+{
     match columns {
         Some(list) => listed_receivers(alloc, under, list),
         None => all_receivers(alloc, under),
@@ -100,7 +112,9 @@ fn listed_receivers(
     alloc: Global,
     under: Under<'_>,
     list: &CommaList<Name>,
-) -> Result<Items<Receiver>, BindFault> {
+) -> Result<Items<Receiver>, BindFault>
+    ensures { IfOk result (AreReceivers under.entry.leaf.now.table) }
+{
     let mut receivers = Items::new(alloc);
     push_receiver(&mut receivers, receiver_of(under, list.first)?)?;
     for name in list.rest.as_slice() {
@@ -109,7 +123,9 @@ fn listed_receivers(
     Ok(receivers)
 }
 
-fn all_receivers(alloc: Global, under: Under<'_>) -> Result<Items<Receiver>, BindFault> {
+fn all_receivers(alloc: Global, under: Under<'_>) -> Result<Items<Receiver>, BindFault>
+    ensures { IfOk result (AreReceivers under.entry.leaf.now.table) }
+{
     let mut receivers = Items::new(alloc);
     for position in 0..under.table.columns.len() {
         receivers.push(receiver_at(under, position))?;
@@ -118,7 +134,9 @@ fn all_receivers(alloc: Global, under: Under<'_>) -> Result<Items<Receiver>, Bin
 }
 
 /// The columns of the base table that get values.
-fn object_columns(alloc: Global, receivers: &[Receiver]) -> Result<Items<ObjectColumn>, BindFault> {
+fn object_columns(alloc: Global, receivers: &[Receiver]) -> Result<Items<ObjectColumn>, BindFault>
+    ensures { IfOk result (λ columns. columns ≡ objects_of receivers.now) }
+{
     let mut columns = Items::new(alloc);
     for receiver in receivers {
         columns.push(receiver.object)?;
@@ -126,12 +144,14 @@ fn object_columns(alloc: Global, receivers: &[Receiver]) -> Result<Items<ObjectC
     Ok(columns)
 }
 
-/// A value that is to be stored in a column of a kind. NULL fits every column.
+/// A value that is to be stored in a column. NULL fits every column.
 fn new_value(
     value: &NewValue,
-    kind: Kind,
+    column: ObjectColumn,
     environment: &Environment<'_>,
-) -> Result<Found<BoundExpr>, BindFault> {
+) -> Result<Found<BoundExpr>, BindFault>
+    ensures { IfOk result (λ found. IsNewValueIn environment.now column found.part) }
+{
     match value {
         NewValue::Null => Ok(Found {
             part: BoundExpr::Literal(Value::Null),
@@ -141,15 +161,18 @@ fn new_value(
             let mut functions = SetFunctions::forbidden(environment.alloc);
             let bound = bind_expr(expr, environment, &mut functions);
             drop(functions);
-            of_kind(bound, kind)
+            stored_in(column, bound)
         }
     }
 }
 
-fn of_kind(bound: ExprResult, kind: Kind) -> Result<Found<BoundExpr>, BindFault> {
-    let bound = bound?;
-    let test = must_agree(bound.part.kind, kind);
-    let Found { part, findings } = kept(bound, test)?;
+/// A value that may be stored in a column (9.2).
+fn stored_in(column: ObjectColumn, value: ExprResult) -> Result<Found<BoundExpr>, BindFault>
+    ensures { IfOk result (λ found. IsStoredIn column value found) }
+{
+    let value = value?;
+    let test = must_agree(value.part.kind, column.domain.kind());
+    let Found { part, findings } = kept(value, test)?;
     Ok(Found {
         part: part.expr,
         findings,
@@ -163,7 +186,11 @@ pub(crate) fn bind_insert<N: Names>(
     environment: &Environment<'_>,
     numbers: &mut SubqueryNumbers,
 ) -> Result<Found<BoundInsert>, BindFault>
-    ensures { IfOk result (λ found. IsBase (N.base_tables names.now) found.part.leaf.table) }
+    requires { IsOutermost environment.now }
+    ensures base { IfOk result (λ found. IsBase (N.base_tables names.now) found.part.leaf.table) }
+    ensures leaf { IfOk result (λ found. IsLeaf (N.column_kinds names.now) found.part.leaf) }
+    ensures columns { IfOk result (λ found. AllByRecursion (IsColumnOf found.part.leaf.table) found.part.columns) }
+    ensures source { IfOk result (λ found. IsSource (N.column_kinds names.now) (kinds_of_parameters environment.now.parameters.now) found.part.columns found.part.source) }
 {
     let under = changed_table(names, environment.user, insert.table)?;
     let parts = insert_parts(insert, names, environment, under, numbers)?;
@@ -181,7 +208,9 @@ fn bound_insert(
     parts: (Items<ObjectColumn>, Found<InsertedRows>),
     findings: Findings,
 ) -> Result<Found<BoundInsert>, BindFault>
-    ensures { IfOk result (λ found. found.part.leaf ≡ under.entry.leaf.now) }
+    ensures leaf { IfOk result (λ found. found.part.leaf ≡ under.entry.leaf.now) }
+    ensures columns { IfOk result (λ found. found.part.columns ≡ parts.0) }
+    ensures source { IfOk result (λ found. found.part.source ≡ parts.1.part) }
 {
     let ((columns, source), leaf) = both(Ok(parts), under.leaf.share())?;
     Ok(Found {
@@ -202,7 +231,11 @@ fn insert_parts<N: Names>(
     environment: &Environment<'_>,
     under: Under<'_>,
     numbers: &mut SubqueryNumbers,
-) -> Result<(Items<ObjectColumn>, Found<InsertedRows>), BindFault> {
+) -> Result<(Items<ObjectColumn>, Found<InsertedRows>), BindFault>
+    requires { IsOutermost environment.now }
+    ensures columns { IfOk result (λ parts. AllByRecursion (IsColumnOf under.entry.leaf.now.table) parts.0) }
+    ensures source { IfOk result (λ parts. IsSource (N.column_kinds names.now) (kinds_of_parameters environment.now.parameters.now) parts.0 parts.1.part) }
+{
     let receivers = insert_receivers(environment.alloc, under, &insert.columns)?;
     let columns = object_columns(environment.alloc, receivers.as_slice());
     let source = insert_source(
@@ -230,7 +263,10 @@ fn insert_source<N: Names>(
     environment: &Environment<'_>,
     receivers: &[Receiver],
     numbers: &mut SubqueryNumbers,
-) -> Result<Found<InsertedRows>, BindFault> {
+) -> Result<Found<InsertedRows>, BindFault>
+    requires { IsOutermost environment.now }
+    ensures { IfOk result (λ found. IsSource (N.column_kinds names.now) (kinds_of_parameters environment.now.parameters.now) (objects_of receivers.now) found.part) }
+{
     match source {
         InsertSource::Values(list) => insert_values(list, environment, receivers),
         InsertSource::Query(query) => {
@@ -250,7 +286,9 @@ fn insert_source<N: Names>(
 fn inserted_query(
     query: SubqueryResult,
     receivers: &[Receiver],
-) -> Result<Found<InsertedRows>, BindFault> {
+) -> Result<Found<InsertedRows>, BindFault>
+    ensures { IfOk result (λ found. IsInsertedQuery (objects_of receivers.now) query found) }
+{
     let query = query?;
     let test = check_columns(query.part.columns.as_slice(), receivers);
     let Found { part, findings } = kept(query, test)?;
@@ -261,12 +299,14 @@ fn inserted_query(
 }
 
 /// A query's columns must be as many as those that get its values, and of their kinds.
-fn check_columns(columns: &[ResultColumn], receivers: &[Receiver]) -> Result<(), BindFault> {
+fn check_columns(columns: &[ResultColumn], receivers: &[Receiver]) -> Result<(), BindFault>
+    ensures { OnOk result (AllZip MayStore (objects_of receivers.now) (kinds_of_results columns.now)) }
+{
     if columns.len() != receivers.len() {
         return Err(BindFault::CountMismatch);
     }
     for (column, receiver) in columns.iter().zip(receivers) {
-        must_agree(column.kind, receiver.kind)?;
+        must_agree(column.kind, receiver.object.domain.kind())?;
     }
     Ok(())
 }
@@ -275,7 +315,10 @@ fn insert_values(
     list: &CommaList<NewValue>,
     environment: &Environment<'_>,
     receivers: &[Receiver],
-) -> Result<Found<InsertedRows>, BindFault> {
+) -> Result<Found<InsertedRows>, BindFault>
+    requires { IsOutermost environment.now }
+    ensures { (columns : TableKinds) → IfOk result (λ found. IsSource columns (kinds_of_parameters environment.now.parameters.now) (objects_of receivers.now) found.part) }
+{
     let Some((first, others)) = receivers.split_first() else {
         return Err(BindFault::CountMismatch);
     };
@@ -283,9 +326,12 @@ fn insert_values(
         return Err(BindFault::CountMismatch);
     }
     let mut values = Items::new(environment.alloc);
-    push_value(&mut values, new_value(&list.first, first.kind, environment))?;
+    push_value(
+        &mut values,
+        new_value(&list.first, first.object, environment),
+    )?;
     for (value, receiver) in list.rest.as_slice().iter().zip(others) {
-        push_value(&mut values, new_value(value, receiver.kind, environment))?;
+        push_value(&mut values, new_value(value, receiver.object, environment))?;
     }
     Ok(Found {
         part: InsertedRows::Values(values),
@@ -296,7 +342,9 @@ fn insert_values(
 fn push_value(
     values: &mut Items<BoundExpr>,
     value: Result<Found<BoundExpr>, BindFault>,
-) -> Result<(), BindFault> {
+) -> Result<(), BindFault>
+    ensures { OnOk result ((found : FoundPart BoundTree) × (value ≡ Ok found) × (values.new ≡ values.old ++ found.part ∷ [])) }
+{
     values.push(value?.part)?;
     Ok(())
 }
@@ -311,8 +359,12 @@ fn change_target<'s, N: Names, C: Cursors>(
     under: Under<'_>,
     numbers: &mut SubqueryNumbers,
 ) -> Result<Found<ChangeTarget>, BindFault>
+    requires leaf { IsLeaf (N.column_kinds names.now) under.leaf.now }
+    requires item { IsItemOver (N.column_kinds names.now) (Base under.leaf.now.table.place) item.now }
+    requires outermost { IsOutermost environment.now }
     ensures leaf { IfOk result (λ found. leaf_of found.part ≡ under.entry.leaf.now) }
     ensures cursor { IfOk result (λ found. is_cursor (C.cursor_count cursors.now) found.part ≡ true) }
+    ensures well_formed { IfOk result (λ found. IsChangeTarget (N.column_kinds names.now) (kinds_of_parameters environment.now.parameters.now) found.part) }
 {
     match target {
         Some(Where::CurrentOf(name)) => positioned(*name, cursors, under),
@@ -345,6 +397,7 @@ fn positioned<C: Cursors>(
 ) -> Result<Found<ChangeTarget>, BindFault>
     ensures leaf { IfOk result (λ found. leaf_of found.part ≡ under.entry.leaf.now) }
     ensures cursor { IfOk result (λ found. is_cursor (C.cursor_count cursors.now) found.part ≡ true) }
+    ensures well_formed { (columns : TableKinds) (parameters : List KindOf) → IsLeaf columns under.entry.leaf.now → IfOk result (λ found. IsChangeTarget columns parameters found.part) }
 {
     let Some(known) = cursors.cursor(name) else {
         return Err(BindFault::UnknownCursor);
@@ -380,7 +433,9 @@ pub(crate) fn bind_delete<N: Names, C: Cursors>(
     cursors: &C,
     numbers: &mut SubqueryNumbers,
 ) -> Result<Found<ChangeTarget>, BindFault>
-    ensures { IfOk result (λ found. FitsTarget (N.base_tables names.now) (C.cursor_count cursors.now) found.part) }
+    requires { IsOutermost environment.now }
+    ensures fits { IfOk result (λ found. FitsTarget (N.base_tables names.now) (C.cursor_count cursors.now) found.part) }
+    ensures well_formed { IfOk result (λ found. IsChangeTarget (N.column_kinds names.now) (kinds_of_parameters environment.now.parameters.now) found.part) }
 {
     let under = changed_table(names, environment.user, delete.table)?;
     let item = item_over(environment.alloc, under.table, None, true)?;
@@ -414,6 +469,7 @@ struct Assignments {
 }
 
 /// An update statement, and whether a privilege is missing.
+#[tactic(auto, using(crate::proofs::Changes::assigned_columns))]
 pub(crate) fn bind_update<N: Names, C: Cursors>(
     update: &Update,
     names: &N,
@@ -421,8 +477,12 @@ pub(crate) fn bind_update<N: Names, C: Cursors>(
     cursors: &C,
     numbers: &mut SubqueryNumbers,
 ) -> Result<Found<BoundUpdate>, BindFault>
+    requires { IsOutermost environment.now }
     ensures target { IfOk result (λ found. FitsTarget (N.base_tables names.now) (C.cursor_count cursors.now) found.part.target) }
     ensures columns { IfOk result (λ found. are_columns (length (leaf_of found.part.target).table.columns) found.part.assignments ≡ true) }
+    ensures well_formed { IfOk result (λ found. IsChangeTarget (N.column_kinds names.now) (kinds_of_parameters environment.now.parameters.now) found.part.target) }
+    ensures assigned { IfOk result (λ found. AllByRecursion (IsAssignment (N.column_kinds names.now) (kinds_of_parameters environment.now.parameters.now) (leaf_of found.part.target).table) found.part.assignments) }
+    ensures objects { IfOk result (λ found. AllByRecursion (λ a. IsColumnOf (leaf_of found.part.target).table a.column) found.part.assignments) }
 {
     let under = changed_table(names, environment.user, update.table)?;
     let item = item_over(environment.alloc, under.table, None, true)?;
@@ -455,7 +515,10 @@ fn assignments_of<'s, N: Names>(
     environment: &'s Environment<'s>,
     under: Under<'_>,
 ) -> Result<Assignments, BindFault>
-    ensures { IfOk result (λ assignments. are_columns (length under.entry.leaf.now.table.columns) assignments.bound ≡ true) }
+    requires item { IsItemOver (N.column_kinds names.now) (Base under.leaf.now.table.place) item.now }
+    requires outermost { IsOutermost environment.now }
+    ensures columns { IfOk result (λ assignments. are_columns (length under.entry.leaf.now.table.columns) assignments.bound ≡ true) }
+    ensures assigned { IfOk result (λ assignments. AllByRecursion (IsAssignment (N.column_kinds names.now) (kinds_of_parameters environment.now.parameters.now) under.entry.leaf.now.table) assignments.bound) }
 {
     let scope = environment.scope_over(from_ref(item), None);
     assignments_within(list, names, &environment.within(scope), under)
@@ -467,7 +530,9 @@ fn assignments_within<N: Names>(
     environment: &Environment<'_>,
     under: Under<'_>,
 ) -> Result<Assignments, BindFault>
-    ensures { IfOk result (λ assignments. are_columns (length under.entry.leaf.now.table.columns) assignments.bound ≡ true) }
+    requires { AreLevelsIn (N.column_kinds names.now) (of_base under.leaf.now.table) environment.now }
+    ensures columns { IfOk result (λ assignments. are_columns (length under.entry.leaf.now.table.columns) assignments.bound ≡ true) }
+    ensures assigned { IfOk result (λ assignments. AllByRecursion (IsAssignment (N.column_kinds names.now) (kinds_of_parameters environment.now.parameters.now) under.entry.leaf.now.table) assignments.bound) }
 {
     let mut assignments = Assignments {
         receivers: Items::new(environment.alloc),
@@ -489,8 +554,11 @@ impl Assignments {
         environment: &Environment<'_>,
         under: Under<'_>,
     ) -> Result<(), BindFault>
-        requires { are_columns (length under.leaf.now.table.columns) self.old.bound ≡ true }
-        ensures { OnOk result (are_columns (length under.entry.leaf.now.table.columns) self.new.bound ≡ true) }
+        requires levels { AreLevelsIn (N.column_kinds names.now) (of_base under.leaf.now.table) environment.now }
+        requires columns { are_columns (length under.leaf.now.table.columns) self.old.bound ≡ true }
+        requires assigned { AllByRecursion (IsAssignment (N.column_kinds names.now) (kinds_of_parameters environment.now.parameters.now) under.leaf.now.table) self.old.bound }
+        ensures columns { OnOk result (are_columns (length under.entry.leaf.now.table.columns) self.new.bound ≡ true) }
+        ensures assigned { OnOk result (AllByRecursion (IsAssignment (N.column_kinds names.now) (kinds_of_parameters environment.now.parameters.now) under.entry.leaf.now.table) self.new.bound) }
     {
         let receiver = receiver_of(under, assignment.column)?;
         push_receiver(&mut self.receivers, receiver)?;
@@ -501,7 +569,7 @@ impl Assignments {
             under.table.full_name(),
             position,
         );
-        let Found { part, findings } = new_value(&assignment.value, receiver.kind, environment)?;
+        let Found { part, findings } = new_value(&assignment.value, receiver.object, environment)?;
         self.findings = self.findings.and(findings).and(missing_unless(may));
         self.bound.push(BoundAssignment {
             column: receiver.object,

@@ -1,8 +1,9 @@
 //! Targets: the parameters that get the values of a row (ISO/IEC 9075:1992, 13.3, 13.5).
 
-ghost use Rattle.std.specs.Prelude.{◌≡◌, length, true, IfOk, OnOk};
+ghost use Rattle.std.specs.Prelude.{◌≡◌, length, true, IfOk};
 ghost use Rattle.sq_bind.specs.Output.{is_output};
 ghost use Rattle.sq_bound.specs.Fits.{are_parameters};
+ghost use Rattle.sq_bound.specs.WellFormed.{TakeKinds, TakesKind, kinds_of_parameters, kinds_of_results};
 
 use sq_bound::{BindFault, Output, ParameterDesc, ResultColumn};
 use sq_items::Items;
@@ -17,7 +18,8 @@ pub(crate) fn bind_outputs(
     targets: &CommaList<Parameter>,
     columns: &[ResultColumn],
 ) -> Result<Items<Output>, BindFault>
-    ensures { IfOk result (λ outputs. are_parameters (length parameters.now) outputs ≡ true) }
+    ensures parameters { IfOk result (λ outputs. are_parameters (length parameters.now) outputs ≡ true) }
+    ensures kinds { IfOk result (λ outputs. TakeKinds (kinds_of_parameters parameters.now) outputs (kinds_of_results columns.now)) }
 {
     let outputs = listed_outputs(alloc, parameters, targets, columns)?;
     check_distinct(outputs.as_slice())?;
@@ -30,7 +32,8 @@ fn listed_outputs(
     targets: &CommaList<Parameter>,
     columns: &[ResultColumn],
 ) -> Result<Items<Output>, BindFault>
-    ensures { IfOk result (λ outputs. are_parameters (length parameters.now) outputs ≡ true) }
+    ensures parameters { IfOk result (λ outputs. are_parameters (length parameters.now) outputs ≡ true) }
+    ensures kinds { IfOk result (λ outputs. TakeKinds (kinds_of_parameters parameters.now) outputs (kinds_of_results columns.now)) }
 {
     let Some((first, others)) = columns.split_first() else {
         return Err(BindFault::CountMismatch);
@@ -39,24 +42,11 @@ fn listed_outputs(
         return Err(BindFault::CountMismatch);
     }
     let mut outputs = Items::new(alloc);
-    push_output(&mut outputs, parameters, &targets.first, first)?;
+    outputs.push(output_of(parameters, &targets.first, first)?)?;
     for (target, column) in targets.rest.as_slice().iter().zip(others) {
-        push_output(&mut outputs, parameters, target, column)?;
+        outputs.push(output_of(parameters, target, column)?)?;
     }
     Ok(outputs)
-}
-
-fn push_output(
-    outputs: &mut Items<Output>,
-    parameters: &[ParameterDesc],
-    target: &Parameter,
-    column: &ResultColumn,
-) -> Result<(), BindFault>
-    requires { are_parameters (length parameters.now) outputs.old ≡ true }
-    ensures { OnOk result (are_parameters (length parameters.now) outputs.new ≡ true) }
-{
-    outputs.push(output_of(parameters, target, column)?)?;
-    Ok(())
 }
 
 fn output_of(
@@ -64,7 +54,8 @@ fn output_of(
     target: &Parameter,
     column: &ResultColumn,
 ) -> Result<Output, BindFault>
-    ensures { IfOk result (λ output. is_output (length parameters.now) output ≡ true) }
+    ensures parameters { IfOk result (λ output. is_output (length parameters.now) output ≡ true) }
+    ensures kind { IfOk result (λ output. TakesKind (kinds_of_parameters parameters.now) output column.now.kind) }
 {
     let (parameter, domain) = parameter_of(parameters, target.name)?;
     let indicator = indicator_of(parameters, target.indicator)?;

@@ -1,6 +1,7 @@
 //! Query expressions and cursors (ISO/IEC 9075:1992, 7.10, 13.1).
 
 ghost use Rattle.std.specs.Prelude.{◌≡◌, IfOk, IfSome, MatchOption};
+ghost use Rattle.sq_bind.specs.WellFormed.{IsOutermost};
 ghost use Rattle.sq_bound.specs.Fits.{FitsCursor, FitsQuery};
 ghost use Rattle.sq_bound.specs.declared.query.CursorBody.TheVariants.{Rows, Updatable};
 
@@ -301,6 +302,7 @@ fn updatable_cursor<N: Names>(
     environment: &Environment<'_>,
     numbers: &mut SubqueryNumbers,
 ) -> Result<Option<((Name, Name), UpdatableQuery)>, BindFault>
+    requires { IsOutermost environment.now }
     ensures { IfOk result (λ found. IfSome found (λ query. FitsQuery (N.base_tables names.now) query.1)) }
 {
     if cursor.insensitive || cursor.scroll || cursor.order_by.is_some() {
@@ -319,6 +321,7 @@ pub(crate) fn cursor_of<N: Names>(
     environment: &Environment<'_>,
     numbers: &mut SubqueryNumbers,
 ) -> Result<BoundCursor, BindFault>
+    requires { IsOutermost environment.now }
     ensures { IfOk result (FitsCursor (N.base_tables names.now)) }
 {
     let Joined {

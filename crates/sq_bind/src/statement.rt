@@ -1,8 +1,15 @@
 //! Statements of procedures, cursors, views and CHECK conditions.
 
-ghost use Rattle.std.specs.Prelude.{◌≡◌, ◌<◌, [], length, refl, true, IfOk, IfSome};
+ghost use Rattle.std.specs.Prelude.{◌≡◌, ◌<◌, [], length, refl, slice_get, true, IfOk, IfSome, Ok, Some};
 ghost use Rattle.sq_bound.specs.Fits.{FitsCursor, FitsQuery, FitsStatement, are_parameters};
-ghost use Rattle.sq_bound.specs.WellFormed.{IsCond, IsCursor, IsSelect, IsStatement, IsUpdatable, kinds_of_columns, kinds_of_parameters, kinds_of_select, of_base_at, only};
+ghost use Rattle.sq_bound.specs.WellFormed.{IsCond, IsDistance, IsOrientation, IsSelect, IsStatement, TakeKinds, kinds_of_columns, kinds_of_parameters, kinds_of_results, kinds_of_select, of_base_at, only};
+ghost use Rattle.sq_bound.specs.declared.condition.BoundCond.{BoundCond as BoundTree};
+ghost use Rattle.sq_bound.specs.declared.condition.TablePlace.TheVariants.{Base};
+ghost use Rattle.sq_meaning.specs.Status.{well_formed};
+ghost use Rattle.sq_meaning.specs.WellFormed.{Has};
+ghost use Rattle.sq_scope.specs.WellFormed.{IsItemOver};
+ghost use Rattle.sq_scope.specs.declared.findings.Found.{Found as FoundPart};
+ghost use Rattle.sq_bind.specs.WellFormed.{IsOutermost};
 ghost use Rattle.sq_bound.specs.declared.statement.BoundStatement.TheVariants.{Delete, Insert, Update};
 
 use crate::change::{bind_delete, bind_insert, bind_update};
@@ -17,7 +24,8 @@ use sq_bound::{
 };
 use sq_lex::Name;
 use sq_scope::{
-    Environment, Found, FromItem, SetFunctions, both, is_whole, item_of, kept, parameter_of, signed_value,
+    Environment, Found, FromItem, SetFunctions, both, is_whole, item_of, kept, parameter_of,
+    signed_value,
 };
 use sq_select::{SubqueryNumbers, bind_cond, bind_select};
 use sq_tree::{
@@ -37,7 +45,6 @@ pub fn bind_cursor<N: Names>(
     cursor: &Cursor,
 ) -> Result<BoundCursor, BindFault>
     ensures fits { IfOk result (FitsCursor (N.base_tables names.now)) }
-    ensures well_formed { IfOk result (IsCursor (N.column_kinds names.now) (kinds_of_parameters parameters.now)) }
 {
     let environment = Environment::new(alloc, user, parameters);
     cursor_of(cursor, names, &environment, &mut SubqueryNumbers::new())
@@ -64,7 +71,6 @@ pub fn bind_view<N: Names>(
 ) -> Result<BoundView, BindFault>
     ensures fits { IfOk result (λ view. IfSome view.updatable (λ over. FitsQuery (N.base_tables names.now) over.1)) }
     ensures well_formed { IfOk result (λ view. IsSelect (N.column_kinds names.now) [] [] view.query) }
-    ensures updatable { IfOk result (λ view. IfSome view.updatable (λ over. IsUpdatable (N.column_kinds names.now) [] (kinds_of_select view.query) over.1)) }
 {
     let environment = Environment::new(alloc, user, &[]);
     let mut numbers = SubqueryNumbers::new();
@@ -169,7 +175,11 @@ fn checked_over<'s>(
     own: &OwnColumns<'_>,
     item: &'s FromItem,
     environment: &'s Environment<'s>,
-) -> Result<BoundCond, BindFault> {
+) -> Result<BoundCond, BindFault>
+    requires item { IsItemOver (only own.now.place (kinds_of_columns own.now.columns.now)) (Base own.now.place) item.now }
+    requires outermost { IsOutermost environment.now }
+    ensures { IfOk result (IsCond (only own.now.place (kinds_of_columns own.now.columns.now)) (kinds_of_parameters environment.now.parameters.now) (of_base_at own.now.place) []) }
+{
     let scope = environment.scope_over(from_ref(item), None);
     let mut functions = SetFunctions::forbidden(environment.alloc);
     let mut numbers = SubqueryNumbers::new();
@@ -184,7 +194,9 @@ fn checked_over<'s>(
     checked(bound)
 }
 
-fn checked(cond: Result<Found<BoundCond>, BindFault>) -> Result<BoundCond, BindFault> {
+fn checked(cond: Result<Found<BoundCond>, BindFault>) -> Result<BoundCond, BindFault>
+    ensures { IfOk result (λ part. (found : FoundPart BoundTree) × (cond ≡ Ok found) × (part ≡ found.part)) }
+{
     let Found { part, findings } = cond?;
     if findings.has_user || findings.has_subquery {
         drop(part);
@@ -217,7 +229,9 @@ fn statement_of<N: Names, C: Cursors>(
     cursors: &C,
     numbers: &mut SubqueryNumbers,
 ) -> Result<BoundStatement, BindFault>
-    ensures { IfOk result (FitsStatement (N.base_tables names.now) (C.cursor_count cursors.now) (length environment.now.parameters.now)) }
+    requires { IsOutermost environment.now }
+    ensures fits { IfOk result (FitsStatement (N.base_tables names.now) (C.cursor_count cursors.now) (length environment.now.parameters.now)) }
+    ensures well_formed { IfOk result (IsStatement (N.column_kinds names.now) (C.cursor_kinds cursors.now) (kinds_of_parameters environment.now.parameters.now)) }
 {
     match statement {
         Statement::Open(name) => Ok(BoundStatement::Open(known(cursors, *name)?.number)),
@@ -275,7 +289,8 @@ fn deleting(delete: Found<ChangeTarget>) -> Result<BoundStatement, BindFault>
 
 /// The cursor of this name.
 fn known<C: Cursors>(cursors: &C, name: Name) -> Result<KnownCursor<'_>, BindFault>
-    ensures { IfOk result (λ known. known.number < C.cursor_count cursors.now) }
+    ensures number { IfOk result (λ known. known.number < C.cursor_count cursors.now) }
+    ensures columns { IfOk result (λ known. slice_get (C.cursor_kinds cursors.now) known.number ≡ Some (kinds_of_results known.cursor.now.columns)) }
 {
     match cursors.cursor(name) {
         Some(known) => Ok(known),
@@ -290,7 +305,10 @@ fn bind_row<N: Names>(
     environment: &Environment<'_>,
     numbers: &mut SubqueryNumbers,
 ) -> Result<BoundSelect, BindFault>
-    ensures { IfOk result (λ row. are_parameters (length environment.now.parameters.now) row.outputs ≡ true) }
+    requires { IsOutermost environment.now }
+    ensures parameters { IfOk result (λ row. are_parameters (length environment.now.parameters.now) row.outputs ≡ true) }
+    ensures query { IfOk result (λ row. IsSelect (N.column_kinds names.now) (kinds_of_parameters environment.now.parameters.now) [] row.query) }
+    ensures kinds { IfOk result (λ row. TakeKinds (kinds_of_parameters environment.now.parameters.now) row.outputs (kinds_of_select row.query)) }
 {
     let query = bind_select(
         &select.table,
@@ -319,6 +337,8 @@ fn bind_fetch<C: Cursors>(
 ) -> Result<BoundFetch, BindFault>
     ensures cursor { IfOk result (λ bound. bound.cursor < C.cursor_count cursors.now) }
     ensures outputs { IfOk result (λ bound. are_parameters (length environment.now.parameters.now) bound.outputs ≡ true) }
+    ensures orientation { IfOk result (λ bound. IsOrientation (kinds_of_parameters environment.now.parameters.now) bound.orientation) }
+    ensures kinds { IfOk result (λ bound. Has (TakeKinds (kinds_of_parameters environment.now.parameters.now) bound.outputs) (well_formed (slice_get (C.cursor_kinds cursors.now) bound.cursor))) }
 {
     let known = known(cursors, fetch.cursor)?;
     let parameters = environment.parameters;
@@ -338,7 +358,9 @@ fn bind_fetch<C: Cursors>(
 fn fetch_orientation(
     from: &Option<FetchFrom>,
     parameters: &[ParameterDesc],
-) -> Result<FetchOrientation, BindFault> {
+) -> Result<FetchOrientation, BindFault>
+    ensures { IfOk result (IsOrientation (kinds_of_parameters parameters.now)) }
+{
     match from {
         None => Ok(FetchOrientation::Next),
         Some(from) => match &from.orientation {
@@ -351,7 +373,9 @@ fn fetch_orientation(
 fn bound_orientation(
     orientation: &Orientation,
     parameters: &[ParameterDesc],
-) -> Result<FetchOrientation, BindFault> {
+) -> Result<FetchOrientation, BindFault>
+    ensures { IfOk result (IsOrientation (kinds_of_parameters parameters.now)) }
+{
     match orientation {
         Orientation::Next => Ok(FetchOrientation::Next),
         Orientation::Prior => Ok(FetchOrientation::Prior),
@@ -367,7 +391,9 @@ fn bound_orientation(
 }
 
 /// The number of an orientation: written without a point, or a parameter of scale 0.
-fn distance(position: &Position, parameters: &[ParameterDesc]) -> Result<Distance, BindFault> {
+fn distance(position: &Position, parameters: &[ParameterDesc]) -> Result<Distance, BindFault>
+    ensures { IfOk result (IsDistance (kinds_of_parameters parameters.now)) }
+{
     match position {
         Position::Number(signed) => whole_distance(signed),
         Position::Parameter(name) => {
@@ -380,7 +406,9 @@ fn distance(position: &Position, parameters: &[ParameterDesc]) -> Result<Distanc
     }
 }
 
-fn whole_distance(signed: &SignedNumber) -> Result<Distance, BindFault> {
+fn whole_distance(signed: &SignedNumber) -> Result<Distance, BindFault>
+    ensures { IfOk result (IsDistance []) }
+{
     if !is_whole(signed.number) {
         return Err(BindFault::BadOrientation);
     }

@@ -3,7 +3,11 @@
 ghost use Rattle.std.specs.Prelude.{◌≡◌, ◌<◌, nat_lt, length, true, Some, IfOk, IfSome};
 ghost use Rattle.std.specs.List.{list_all};
 ghost use Rattle.sq_bound.specs.Fits.{FitsQuery, IsBase};
-ghost use Rattle.sq_bound.specs.Names.{option_all};
+ghost use Rattle.sq_bound.specs.Names.{is_kind_at, option_all};
+ghost use Rattle.sq_bound.specs.WellFormed.{IsLeaf, IsTarget, base_kinds, kinds_of_parameters};
+ghost use Rattle.sq_bound.specs.declared.condition.TablePlace.TheVariants.{Base};
+ghost use Rattle.sq_scope.specs.WellFormed.{IsItemOver};
+ghost use Rattle.sq_bind.specs.WellFormed.{IsOutermost};
 ghost use Rattle.sq_bind.specs.Updatable.{AreOf, IsPositionOf};
 
 use sq_bound::{
@@ -25,7 +29,8 @@ fn only_table<'a, N: Names>(
     names: &'a N,
     user: Name,
 ) -> Result<Option<Under<'a>>, BindFault>
-    ensures { IfOk result (λ found. IfSome found (λ under. IsBase (N.base_tables names.now) under.leaf.now.table)) }
+    ensures base { IfOk result (λ found. IfSome found (λ under. IsBase (N.base_tables names.now) under.leaf.now.table)) }
+    ensures leaf { IfOk result (λ found. IfSome found (λ under. IsLeaf (N.column_kinds names.now) under.leaf.now)) }
 {
     let is_plain = !matches!(query.quantifier, Some(SetQuantifier::Distinct))
         && query.table.group_by.is_none()
@@ -46,6 +51,7 @@ pub(crate) fn bind_updatable<N: Names>(
     environment: &Environment<'_>,
     numbers: &mut SubqueryNumbers,
 ) -> Result<Option<((Name, Name), UpdatableQuery)>, BindFault>
+    requires { IsOutermost environment.now }
     ensures { IfOk result (λ found. IfSome found (λ query. FitsQuery (N.base_tables names.now) query.1)) }
 {
     match only_table(query, names, environment.user)? {
@@ -61,7 +67,9 @@ fn updatable_over<N: Names>(
     environment: &Environment<'_>,
     numbers: &mut SubqueryNumbers,
 ) -> Result<Option<((Name, Name), UpdatableQuery)>, BindFault>
-    requires { IsBase (N.base_tables names.now) under.leaf.now.table }
+    requires base { IsBase (N.base_tables names.now) under.leaf.now.table }
+    requires leaf { IsLeaf (N.column_kinds names.now) under.leaf.now }
+    requires outermost { IsOutermost environment.now }
     ensures { IfOk result (λ found. IfSome found (λ query. FitsQuery (N.base_tables names.now) query.1)) }
 {
     let correlation = correlation_of(&query.table.from.first);
@@ -80,6 +88,7 @@ pub(crate) struct Under<'a> {
     pub table: &'a TableDesc,
     pub leaf: &'a Shared<Leaf>,
     ghost placed: { list_all (λ c. nat_lt c.leaf_column (length leaf.now.table.columns)) table.now.columns ≡ true },
+    ghost kinds: { list_all (λ c. is_kind_at (base_kinds leaf.now.table) c.leaf_column c.kind) table.now.columns ≡ true },
 }
 
 impl Under<'_> {
@@ -222,7 +231,11 @@ pub(crate) fn bind_target<'s, N: Names>(
     under: Under<'_>,
     numbers: &mut SubqueryNumbers,
 ) -> Result<Found<Target>, BindFault>
-    ensures { IfOk result (λ found. found.part.leaf ≡ under.entry.leaf.now) }
+    requires leaf { IsLeaf (N.column_kinds names.now) under.leaf.now }
+    requires item { IsItemOver (N.column_kinds names.now) (Base under.leaf.now.table.place) item.now }
+    requires outermost { IsOutermost environment.now }
+    ensures leaf { IfOk result (λ found. found.part.leaf ≡ under.entry.leaf.now) }
+    ensures well_formed { IfOk result (λ found. IsTarget (N.column_kinds names.now) (kinds_of_parameters environment.now.parameters.now) found.part) }
 {
     let Some(cond) = cond else {
         return whole_target(None, Findings::NONE, None, under);
@@ -252,7 +265,8 @@ fn whole_target(
     under: Under<'_>,
 ) -> Result<Found<Target>, BindFault>
     requires { option_all (λ k. nat_lt k (length under.leaf.now.table.keys)) key ≡ true }
-    ensures { IfOk result (λ found. found.part.leaf ≡ under.entry.leaf.now) }
+    ensures leaf { IfOk result (λ found. found.part.leaf ≡ under.entry.leaf.now) }
+    ensures condition { IfOk result (λ found. found.part.condition ≡ condition) }
 {
     let (condition, leaf) = both(Ok(condition), under.leaf.share())?;
     Ok(Found {

@@ -1,6 +1,11 @@
 use Rattle.std.proofs.Common.{◌≡◌, true, length}
+use Rattle.std.specs.List.{AllByRecursion}
 use Rattle.sq_bound.specs.Fits.{are_columns}
+use Rattle.sq_bound.specs.WellFormed.{IsAssignment, kinds_of_parameters}
 use Rattle.sq_bind.proofs.change.assignments_within.Given as goal
 
 abbrev pub invariant-loop-assignment : goal.invariant-loop-assignment
-invariant-loop-assignment g l = are_columns (length l.under.leaf.now.table.columns) l.assignments.bound ≡ true
+invariant-loop-assignment g l = record {
+  columns : are_columns (length l.under.leaf.now.table.columns) l.assignments.bound ≡ true;
+  assigned : AllByRecursion (IsAssignment (g.N.Names.column_kinds l.names) (kinds_of_parameters l.environment.parameters.now) l.under.leaf.now.table) l.assignments.bound;
+}

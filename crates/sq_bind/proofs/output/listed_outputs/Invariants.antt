@@ -1,9 +1,13 @@
-use Rattle.std.proofs.Common.{◌≡◌, true, length}
+use Rattle.std.proofs.Common.{◌≡◌, suc, true, length, take}
+use Rattle.std.specs.List.{AllZip}
 use Rattle.sq_bound.specs.Fits.{are_parameters}
+use Rattle.sq_bound.specs.WellFormed.{TakesKind, kinds_of_parameters}
 use Rattle.sq_bind.proofs.output.listed_outputs.Given as goal
 
 abbrev pub invariant-loop-target : goal.invariant-loop-target
-invariant-loop-target l =
-    (goal.iterator-loop-target).can_next l.target-iterator ×
-    (goal.iterator-loop-target).is_finite l.target-iterator ×
-    (are_parameters (length l.parameters) l.outputs ≡ true)
+invariant-loop-target l = record {
+  can_next : (goal.iterator-loop-target).can_next l.target-iterator;
+  is_finite : (goal.iterator-loop-target).is_finite l.target-iterator;
+  parameters : are_parameters (length l.parameters) l.outputs ≡ true;
+  kinds : AllZip (λ o column. TakesKind (kinds_of_parameters l.parameters) o column.kind) l.outputs (take (suc (length l.yielded)) l.columns);
+}

@@ -1,0 +1,43 @@
+-- Where bound statements, cursors and views are well formed (ISO/IEC 9075:1992, clauses 11 and 13).
+use Rattle.std.specs.Prelude.{◌≡◌, Bool, false, List, [], map, Ok, Result}
+use Rattle.std.specs.List.{AllByRecursion, AllZip}
+use Rattle.sq_bound.specs.WellFormed.{IsColumnOf, IsNewValue, Levels, MayStore, TableKinds, kinds_of_parameters, kinds_of_select}
+use Rattle.sq_bound.specs.declared.condition.BoundSpecification.{BoundSpecification}
+use Rattle.sq_bound.specs.declared.fault.BindFault.{BindFault}
+use Rattle.sq_bound.specs.declared.expression.BoundExpr.{BoundExpr}
+use Rattle.sq_bound.specs.declared.names.BaseTable.{BaseTable}
+use Rattle.sq_bound.specs.declared.names.ObjectColumn.{ObjectColumn}
+use Rattle.sq_bound.specs.declared.statement.InsertedRows.{InsertedRows}
+use Rattle.sq_bound.specs.declared.statement.InsertedRows.TheVariants.{Query}
+use Rattle.sq_scope.specs.declared.expression.Typed.{Typed}
+use Rattle.sq_scope.specs.declared.findings.Found.{Found}
+use Rattle.sq_scope.specs.Scope.{scopes_in}
+use Rattle.sq_scope.specs.WellFormed.{MayStandAt, groupings_in}
+use Rattle.sq_scope.specs.declared.scope.Environment.{Environment}
+use Rattle.sq_bind.specs.declared.change.Receiver.{Receiver}
+
+-- a text that stands in no query
+abbrev pub IsOutermost : Environment → Type 0
+IsOutermost environment = (scopes_in environment ≡ []) × (groupings_in environment ≡ [])
+
+-- the columns of the base table that get values
+abbrev pub objects_of : List Receiver → List ObjectColumn
+objects_of receivers = map (λ r. r.object) receivers
+
+-- they are columns of the base table
+abbrev pub AreReceivers : BaseTable → List Receiver → Type 0
+AreReceivers b = AllByRecursion (λ r. IsColumnOf b r.object)
+
+-- a column gets a value, at each levels at which its text may stand whatever columns it reads
+abbrev pub IsNewValueIn : Environment → ObjectColumn → BoundExpr → Type 0
+IsNewValueIn environment c e =
+    (columns : TableKinds) (levels : Levels) → ((has_ungrouped : Bool) → MayStandAt columns levels environment false has_ungrouped)
+    → IsNewValue columns (kinds_of_parameters environment.parameters.now) levels c e
+
+-- it is the value of a typed expression that may be stored in the column
+abbrev pub IsStoredIn : ObjectColumn → Result (Found Typed) BindFault → Found BoundExpr → Type 0
+IsStoredIn c value found = (typed : Found Typed) × (value ≡ Ok typed) × (found.part ≡ typed.part.expr) × MayStore c typed.part.kind
+
+-- rows of a query whose columns may be stored in these
+abbrev pub IsInsertedQuery : List ObjectColumn → Result (Found BoundSpecification) BindFault → Found InsertedRows → Type 0
+IsInsertedQuery objects query found = (q : Found BoundSpecification) × (query ≡ Ok q) × (found.part ≡ Query q.part) × AllZip MayStore objects (kinds_of_select q.part)
