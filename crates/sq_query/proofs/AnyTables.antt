@@ -1,5 +1,5 @@
 -- What reads no table means the same over any tables.
-use Rattle.std.proofs.Common.{◌≡◌, Bool, true, false, List, [], ◌∷◌, ◌++◌, map, Option, Some, None, refl, Ok}
+use Rattle.std.proofs.Common.{◌≡◌, false, List, [], ◌∷◌, ◌++◌, map, Option, Some, None, refl, Ok}
 use Rattle.std.specs.Prelude.{if◌then◌else◌}
 use Rattle.sq_value.specs.Pattern.{liked}
 use Rattle.sq_value.specs.SetFunctions.{is_null as is_null_value}
@@ -8,7 +8,7 @@ use Rattle.sq_tree.specs.declared.cond.Comparison.{Comparison}
 use Rattle.sq_tree.specs.declared.cond.Comparison.TheVariants.{Equal, LessOrEqual, GreaterOrEqual}
 use Rattle.sq_meaning.specs.Status.{Outcome, and_then, each, kept, with_status, like_status}
 use Rattle.sq_meaning.specs.Syntax.{Conds, SelectList, all_columns, expressions, absent, present, select, from_clause, where_clause, having_clause, literal, parameter, user, column, count_rows, set_function, signed, added, scaled, bracketed, compare, compare_subquery, compare_quantified, between, in_subquery, in_list, like, is_null, exists, negated, conjunction, disjunction, no_cond, a_cond}
-use Rattle.sq_meaning.specs.Environment.{Row, Line, Scope, Env, Place, alone, within}
+use Rattle.sq_meaning.specs.Environment.{Row, Line, Env, Place, alone, within}
 use Rattle.sq_meaning.specs.Expression.{value, over_group, with_sign, sum_of, product_of, function_value, distinct_values}
 use Rattle.sq_meaning.specs.Placed.{Placed, by_place}
 use Rattle.sq_meaning.specs.Query.{compared, comparison, and_also, or_else, any_in_turn, like_truth, truth, all_truth, any_truth, clause_truth, is_true, is_grouped, list_functions, clause_functions, group_scope, groups_by, group_scopes, scopes_of, listed_values, rows}

@@ -1,12 +1,11 @@
 -- The base tables that a statement reads.
-use Rattle.std.proofs.Common.{◌≡◌, ℕ, List, [], ◌∷◌, ◌++◌, map, refl, sym, ap, ◌∙◌, Ok, Err, Bor}
+use Rattle.std.proofs.Common.{◌≡◌, ℕ, List, [], ◌∷◌, ◌++◌, map, refl, ap, ◌∙◌, Ok, Err}
 use Rattle.std.proofs.lemmas.List.{map_push}
 use Rattle.sq_store.specs.declared.table.Table.{Table}
 use Rattle.sq_meaning.specs.Environment.{Row}
-use Rattle.sq_meaning.specs.Status.{Outcome, and_then, each}
+use Rattle.sq_meaning.specs.Status.{Outcome, and_then}
 use Rattle.sq_meaning.specs.Tables.{rows_in}
 use Rattle.sq_query.specs.Fault.{Meets}
-use Rattle.sq_query.specs.Frame.{lent}
 use Rattle.sq_query.specs.Table.{base_seen}
 use Rattle.sq_query.specs.declared.fault.Fault.{Fault}
 use Rattle.sq_query.specs.declared.fault.Fault.TheVariants as fault

@@ -1,5 +1,5 @@
 -- Queries over the rows of a store.
-use Rattle.std.proofs.Common.{◌≡◌, rules, ℕ, nat_eq, ◌||◌, Bool, true, false, List, [], ◌∷◌, map, fold, cond, Option, Some, None, Result, refl, sym, ap, ◌∙◌, subst, Ok, Err}
+use Rattle.std.proofs.Common.{◌≡◌, rules, ℕ, nat_eq, ◌||◌, Bool, true, false, List, [], ◌∷◌, map, fold, cond, Option, Some, None, Result, refl, sym, ap, ◌∙◌, Ok, Err}
 use Rattle.std.proofs.lemmas.Bool.{eqb-true}
 use Rattle.std.specs.Prelude.{find, if◌then◌else◌, IfOk}
 use Rattle.std.specs.List.{list_any}
@@ -16,7 +16,7 @@ use Rattle.sq_meaning.specs.Rows.{product, firsts, same_row}
 use Rattle.sq_meaning.specs.Tables.{rows_in}
 use Rattle.sq_meaning.specs.Target.{clause_has_subquery}
 use Rattle.sq_meaning.proofs.OutcomeLaws.{each_value}
-use Rattle.sq_bound.specs.Condition.{PlacedSelect, PlacedClause, Groups, select_of, groups_of, groups_if, clause_of}
+use Rattle.sq_bound.specs.Condition.{PlacedSelect, Groups, select_of, groups_of, groups_if}
 use Rattle.sq_bound.specs.Query.{query_of, term_of, union_of}
 use Rattle.sq_bound.specs.SetFunction.{call_of}
 use Rattle.sq_bound.specs.declared.condition.BoundSpecification.{BoundSpecification, out-BoundSpecification}
@@ -27,11 +27,11 @@ use Rattle.sq_bound.specs.declared.expression.BoundExpr.{BoundExpr}
 use Rattle.sq_bound.specs.declared.query.BoundQuery.{BoundQuery, out-BoundQuery}
 use Rattle.sq_bound.proofs.ConditionLaws.{groups_of-out, select_of-out}
 use Rattle.sq_bound.proofs.QueryLaws.{query_of-out, term_of-Specification}
-use Rattle.sq_query.specs.Fault.{Meets, MeetsAs, rows_in as rows_found}
+use Rattle.sq_query.specs.Fault.{MeetsAs}
 use Rattle.sq_query.specs.Frame.{lent}
 use Rattle.sq_query.specs.Needed.{NeedsBases, places_in, with_table}
 use Rattle.sq_query.specs.Specification.{items_in, IsPlainQuery, AreGroupsIfAny}
-use Rattle.sq_query.specs.Table.{table_there, stored_rows, stored_base, base_seen, bases_of, AreOfStore}
+use Rattle.sq_query.specs.Table.{table_there, stored_rows, stored_base, base_seen, AreOfStore}
 use Rattle.sq_query.specs.Union.{IsOnly}
 use Rattle.sq_query.specs.declared.fault.Fault.{Fault}
 use Rattle.sq_query.specs.declared.fault.Fault.TheVariants as fault

@@ -2,7 +2,7 @@
 use Rattle.std.proofs.Common.{◌≡◌, sym, subst, Result, Ok, Err}
 use Rattle.std.specs.Result.{IsErrAnd}
 use Rattle.sq_meaning.specs.Status.{Outcome}
-use Rattle.sq_query.specs.Fault.{Meets, MeetsAs, IsAnswered}
+use Rattle.sq_query.specs.Fault.{Meets, MeetsAs}
 use Rattle.sq_query.specs.declared.fault.Fault.{Fault}
 use Rattle.sq_query.specs.declared.fault.Fault.TheVariants as fault
 

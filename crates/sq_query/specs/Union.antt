@@ -6,7 +6,7 @@ use Rattle.sq_lex.specs.declared.name.Name.{Name}
 use Rattle.sq_value.specs.declared.domain.Kind.{Kind}
 use Rattle.sq_value.specs.declared.domain.Kind.TheVariants as kind
 use Rattle.sq_value.specs.declared.value.Value.{Value}
-use Rattle.sq_value.specs.declared.value.Value.TheVariants.{Null, Num, Chars}
+use Rattle.sq_value.specs.declared.value.Value.TheVariants.{Num, Chars}
 use Rattle.sq_store.specs.Content.{Content}
 use Rattle.sq_meaning.specs.Status.{Outcome, ◌>>=◌, each}
 use Rattle.sq_meaning.specs.Environment.{Row, outermost}

@@ -1,6 +1,5 @@
-use Rattle.std.proofs.Common.{◌≡◌, ℕ, List, slice_index, map, sym, ap, ◌∙◌}
+use Rattle.std.proofs.Common.{ℕ, List, slice_index, map, sym, ap, ◌∙◌}
 use Rattle.std.proofs.lemmas.List.{get_or_default}
-use Rattle.sq_meaning.specs.Environment.{Row}
 use Rattle.sq_meaning.specs.Status.{each}
 use Rattle.sq_query.specs.Group.{rows_of_line}
 use Rattle.sq_query.specs.Frame.{lent}

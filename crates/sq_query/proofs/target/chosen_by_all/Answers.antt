@@ -1,7 +1,7 @@
-use Rattle.std.proofs.Common.{◌≡◌, [], List, map, ap, subst, sym, ◌∙◌, Ok, Err}
+use Rattle.std.proofs.Common.{[], List, map, ap, subst, sym, ◌∙◌, Err}
 use Rattle.std.specs.Borrow.{Bor}
 use Rattle.sq_store.specs.declared.table.Numbered.{Numbered}
-use Rattle.sq_meaning.specs.Status.{Outcome, kept}
+use Rattle.sq_meaning.specs.Status.{kept}
 use Rattle.sq_meaning.specs.Target.{has_subquery}
 use Rattle.sq_bound.specs.Condition.{cond_of}
 use Rattle.sq_bound.specs.declared.condition.BoundCond.{BoundCond}

@@ -2,7 +2,7 @@ use Rattle.std.proofs.Common.{map, ap}
 use Rattle.sq_meaning.specs.Status.{kept}
 use Rattle.sq_query.specs.Table.{numbered_row, numbered_in}
 use Rattle.sq_query.specs.Target.{is_true_of}
-use Rattle.sq_query.proofs.Each.{after, after_start}
+use Rattle.sq_query.proofs.Each.{after_start}
 use Rattle.sq_query.proofs.Kept.{added_if, kept_done, kept_failed, kept_ends}
 use Rattle.sq_query.proofs.Views.{handed_on_as, failed_as}
 use Rattle.sq_query.proofs.target.chosen_with.Goals as goal

@@ -1,4 +1,4 @@
-use Rattle.std.proofs.Common.{◌≡◌, ◌≤◌, ℕ, Bor, List, ◌++◌, ◌∷◌, [], length, min, drop, map, arith, rules, sym, ap, subst, ◌∙◌}
+use Rattle.std.proofs.Common.{◌≡◌, ◌≤◌, ℕ, Bor, length, min, drop, map, arith, rules, sym, ap, subst, ◌∙◌}
 use Rattle.std.proofs.lemmas.Slice.Zip.{zip_turn, zip_end}
 use Rattle.std.specs.List.{zip}
 use Rattle.sq_value.specs.declared.domain.Kind.{Kind}
