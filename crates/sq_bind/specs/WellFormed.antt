@@ -1,7 +1,8 @@
 -- Where bound statements, cursors and views are well formed (ISO/IEC 9075:1992, clauses 11 and 13).
 use Rattle.std.specs.Prelude.{◌≡◌, Bool, false, List, [], map, Ok, Result}
 use Rattle.std.specs.List.{AllByRecursion, AllZip}
-use Rattle.sq_bound.specs.WellFormed.{IsColumnOf, IsNewValue, Levels, MayStore, TableKinds, kinds_of_parameters, kinds_of_select}
+use Rattle.sq_bound.specs.Fits.{IsColumnOf}
+use Rattle.sq_bound.specs.WellFormed.{IsNewValue, Levels, MayStore, TableKinds, kinds_of_parameters, kinds_of_select}
 use Rattle.sq_bound.specs.declared.condition.BoundSpecification.{BoundSpecification}
 use Rattle.sq_bound.specs.declared.fault.BindFault.{BindFault}
 use Rattle.sq_bound.specs.declared.expression.BoundExpr.{BoundExpr}

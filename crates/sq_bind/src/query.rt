@@ -3,6 +3,7 @@
 ghost use Rattle.std.specs.Prelude.{◌≡◌, IfOk, IfSome, MatchOption};
 ghost use Rattle.sq_bind.specs.WellFormed.{IsOutermost};
 ghost use Rattle.sq_bound.specs.Fits.{FitsCursor, FitsQuery};
+ghost use Rattle.sq_bound.specs.WellFormed.{IsCursor, IsUpdatable, kinds_of_parameters, kinds_of_results};
 ghost use Rattle.sq_bound.specs.declared.query.CursorBody.TheVariants.{Rows, Updatable};
 
 use crate::updatable::bind_updatable;
@@ -82,7 +83,9 @@ fn bind_query_term<N: Names>(
 }
 
 /// A copy of what is known of result columns.
-fn copied(alloc: Global, columns: &Items<ResultColumn>) -> Result<Items<ResultColumn>, BindFault> {
+fn copied(alloc: Global, columns: &Items<ResultColumn>) -> Result<Items<ResultColumn>, BindFault>
+    ensures { IfOk result (λ copy. copy ≡ columns.now) }
+{
     Ok(Items::from_slice(alloc, columns.as_slice())?)
 }
 
@@ -295,21 +298,23 @@ fn sole_term(term: &QueryTerm) -> Option<&QuerySpecification> {
 }
 
 /// What an updatable cursor is over, if the cursor is updatable (13.1; own rule): its query is, and neither ORDER BY nor
-/// SCROLL nor INSENSITIVE is written.
+/// SCROLL nor INSENSITIVE is written. The query shows columns of these kinds.
 fn updatable_cursor<N: Names>(
     cursor: &Cursor,
+    shown: &[ResultColumn],
     names: &N,
     environment: &Environment<'_>,
     numbers: &mut SubqueryNumbers,
 ) -> Result<Option<((Name, Name), UpdatableQuery)>, BindFault>
     requires { IsOutermost environment.now }
-    ensures { IfOk result (λ found. IfSome found (λ query. FitsQuery (N.base_tables names.now) query.1)) }
+    ensures fits { IfOk result (λ found. IfSome found (λ query. FitsQuery (N.base_tables names.now) query.1)) }
+    ensures well_formed { IfOk result (λ found. IfSome found (λ query. IsUpdatable (N.column_kinds names.now) (kinds_of_parameters environment.now.parameters.now) (kinds_of_results shown.now) query.1)) }
 {
     if cursor.insensitive || cursor.scroll || cursor.order_by.is_some() {
         return Ok(None);
     }
     match sole_specification(&cursor.query) {
-        Some(query) => bind_updatable(query, names, environment, numbers),
+        Some(query) => bind_updatable(query, shown, names, environment, numbers),
         None => Ok(None),
     }
 }
@@ -322,7 +327,8 @@ pub(crate) fn cursor_of<N: Names>(
     numbers: &mut SubqueryNumbers,
 ) -> Result<BoundCursor, BindFault>
     requires { IsOutermost environment.now }
-    ensures { IfOk result (FitsCursor (N.base_tables names.now)) }
+    ensures fits { IfOk result (FitsCursor (N.base_tables names.now)) }
+    ensures well_formed { IfOk result (IsCursor (N.column_kinds names.now) (kinds_of_parameters environment.now.parameters.now)) }
 {
     let Joined {
         query,
@@ -338,7 +344,8 @@ pub(crate) fn cursor_of<N: Names>(
         drop(query);
         return Err(BindFault::PrivilegeMissing);
     }
-    let updatable = updatable_cursor(cursor, names, environment, numbers);
+    let shown = query.columns.as_slice();
+    let updatable = updatable_cursor(cursor, shown, names, environment, numbers);
     let columns = copied(environment.alloc, &query.columns);
     let ((query, columns), updatable) = both(both(Ok(query), columns), updatable)?;
     Ok(whole_cursor(cursor, query, sorts, columns, updatable))
@@ -351,7 +358,8 @@ fn whole_cursor(
     columns: Items<ResultColumn>,
     updatable: Option<((Name, Name), UpdatableQuery)>,
 ) -> BoundCursor
-    ensures { MatchOption updatable (result.body ≡ Rows query sorts) (λ over. result.body ≡ Updatable over.1) }
+    ensures body { MatchOption updatable (result.body ≡ Rows query sorts) (λ over. result.body ≡ Updatable over.1) }
+    ensures columns { result.columns ≡ columns }
 {
     let (table, body) = match updatable {
         None => (None, CursorBody::Rows(query, sorts)),

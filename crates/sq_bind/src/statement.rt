@@ -2,7 +2,7 @@
 
 ghost use Rattle.std.specs.Prelude.{◌≡◌, ◌<◌, [], length, refl, slice_get, true, IfOk, IfSome, Ok, Some};
 ghost use Rattle.sq_bound.specs.Fits.{FitsCursor, FitsQuery, FitsStatement, are_parameters};
-ghost use Rattle.sq_bound.specs.WellFormed.{IsCond, IsDistance, IsOrientation, IsSelect, IsStatement, TakeKinds, kinds_of_columns, kinds_of_parameters, kinds_of_results, kinds_of_select, of_base_at, only};
+ghost use Rattle.sq_bound.specs.WellFormed.{IsCond, IsCursor, IsDistance, IsOrientation, IsSelect, IsStatement, IsUpdatable, TakeKinds, kinds_of_columns, kinds_of_parameters, kinds_of_results, kinds_of_select, of_base_at, only};
 ghost use Rattle.sq_bound.specs.declared.condition.BoundCond.{BoundCond as BoundTree};
 ghost use Rattle.sq_bound.specs.declared.condition.TablePlace.TheVariants.{Base};
 ghost use Rattle.sq_meaning.specs.Status.{well_formed};
@@ -45,6 +45,7 @@ pub fn bind_cursor<N: Names>(
     cursor: &Cursor,
 ) -> Result<BoundCursor, BindFault>
     ensures fits { IfOk result (FitsCursor (N.base_tables names.now)) }
+    ensures well_formed { IfOk result (IsCursor (N.column_kinds names.now) (kinds_of_parameters parameters.now)) }
 {
     let environment = Environment::new(alloc, user, parameters);
     cursor_of(cursor, names, &environment, &mut SubqueryNumbers::new())
@@ -71,6 +72,7 @@ pub fn bind_view<N: Names>(
 ) -> Result<BoundView, BindFault>
     ensures fits { IfOk result (λ view. IfSome view.updatable (λ over. FitsQuery (N.base_tables names.now) over.1)) }
     ensures well_formed { IfOk result (λ view. IsSelect (N.column_kinds names.now) [] [] view.query) }
+    ensures updatable { IfOk result (λ view. IfSome view.updatable (λ over. IsUpdatable (N.column_kinds names.now) [] (kinds_of_select view.query) over.1)) }
 {
     let environment = Environment::new(alloc, user, &[]);
     let mut numbers = SubqueryNumbers::new();
@@ -82,7 +84,8 @@ pub fn bind_view<N: Names>(
         &environment,
         &mut numbers,
     )?;
-    let updatable = bind_updatable(query, names, &environment, &mut numbers);
+    let shown = bound.part.columns.as_slice();
+    let updatable = bind_updatable(query, shown, names, &environment, &mut numbers);
     let (Found { part, findings }, updatable) = both(Ok(bound), updatable)?;
     Ok(BoundView {
         query: part,

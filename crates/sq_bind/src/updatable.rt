@@ -1,24 +1,26 @@
 //! Updatable queries and targets (ISO/IEC 9075:1992, 7.9, 13.6 to 13.10).
 
-ghost use Rattle.std.specs.Prelude.{◌≡◌, ◌<◌, nat_lt, length, true, Some, IfOk, IfSome};
+ghost use Rattle.std.specs.Prelude.{◌≡◌, ◌<◌, nat_lt, length, map, slice_get, true, Some, IfOk, IfSome};
 ghost use Rattle.std.specs.List.{list_all};
 ghost use Rattle.sq_bound.specs.Fits.{FitsQuery, IsBase};
 ghost use Rattle.sq_bound.specs.Names.{is_kind_at, option_all};
-ghost use Rattle.sq_bound.specs.WellFormed.{IsLeaf, IsTarget, base_kinds, kinds_of_parameters};
+ghost use Rattle.sq_bound.specs.WellFormed.{IsLeaf, IsTarget, IsUpdatable, base_kinds, kinds_of_parameters, kinds_of_results};
+ghost use Rattle.sq_value.specs.Domain.{kind_of};
 ghost use Rattle.sq_bound.specs.declared.condition.TablePlace.TheVariants.{Base};
 ghost use Rattle.sq_scope.specs.WellFormed.{IsItemOver};
 ghost use Rattle.sq_bind.specs.WellFormed.{IsOutermost};
-ghost use Rattle.sq_bind.specs.Updatable.{AreOf, IsPositionOf};
+ghost use Rattle.sq_bind.specs.Updatable.{AreOf, HaveKinds, IsPositionOf};
 
 use sq_bound::{
-    BindFault, BoundCond, BoundConj, BoundExpr, BoundTest, Leaf, Names, Predicate, Shared,
-    TableBody, TableDesc, Target, UpdatableQuery,
+    BaseColumn, BaseTable, BindFault, BoundCond, BoundConj, BoundExpr, BoundTest, Leaf, Names,
+    Predicate, ResultColumn, Shared, TableBody, TableDesc, Target, UpdatableQuery,
 };
 use sq_items::Items;
 use sq_lex::Name;
 use sq_scope::{Environment, Findings, Found, FromItem, SetFunctions, both, item_over};
 use sq_select::{SubqueryNumbers, bind_cond, correlation_of, named_table, reference_of};
 use sq_tree::{CommaList, Comparison, Cond, Expr, QuerySpecification, SelectList, SetQuantifier};
+use sq_value::Kind;
 use std::alloc::Global;
 use std::slice::from_ref;
 
@@ -44,18 +46,20 @@ fn only_table<'a, N: Names>(
 }
 
 /// What an updatable query is over, its table's owner and name, and the columns that it selects, if the query is updatable
-/// (own rule).
+/// (own rule). The query shows columns of these kinds.
 pub(crate) fn bind_updatable<N: Names>(
     query: &QuerySpecification,
+    shown: &[ResultColumn],
     names: &N,
     environment: &Environment<'_>,
     numbers: &mut SubqueryNumbers,
 ) -> Result<Option<((Name, Name), UpdatableQuery)>, BindFault>
     requires { IsOutermost environment.now }
-    ensures { IfOk result (λ found. IfSome found (λ query. FitsQuery (N.base_tables names.now) query.1)) }
+    ensures fits { IfOk result (λ found. IfSome found (λ query. FitsQuery (N.base_tables names.now) query.1)) }
+    ensures well_formed { IfOk result (λ found. IfSome found (λ query. IsUpdatable (N.column_kinds names.now) (kinds_of_parameters environment.now.parameters.now) (kinds_of_results shown.now) query.1)) }
 {
     match only_table(query, names, environment.user)? {
-        Some(under) => updatable_over(under, query, names, environment, numbers),
+        Some(under) => updatable_over(under, query, shown, names, environment, numbers),
         None => Ok(None),
     }
 }
@@ -63,6 +67,7 @@ pub(crate) fn bind_updatable<N: Names>(
 fn updatable_over<N: Names>(
     under: Under<'_>,
     query: &QuerySpecification,
+    shown: &[ResultColumn],
     names: &N,
     environment: &Environment<'_>,
     numbers: &mut SubqueryNumbers,
@@ -70,7 +75,8 @@ fn updatable_over<N: Names>(
     requires base { IsBase (N.base_tables names.now) under.leaf.now.table }
     requires leaf { IsLeaf (N.column_kinds names.now) under.leaf.now }
     requires outermost { IsOutermost environment.now }
-    ensures { IfOk result (λ found. IfSome found (λ query. FitsQuery (N.base_tables names.now) query.1)) }
+    ensures fits { IfOk result (λ found. IfSome found (λ query. FitsQuery (N.base_tables names.now) query.1)) }
+    ensures well_formed { IfOk result (λ found. IfSome found (λ query. IsUpdatable (N.column_kinds names.now) (kinds_of_parameters environment.now.parameters.now) (kinds_of_results shown.now) query.1)) }
 {
     let correlation = correlation_of(&query.table.from.first);
     let item = item_over(environment.alloc, under.table, correlation, true)?;
@@ -79,7 +85,7 @@ fn updatable_over<N: Names>(
     let target = bind_target(cond, names, &item, &*environment, under, numbers);
     drop(item);
     let (columns, target) = both(columns, target)?;
-    Ok(updatable(under.table.full_name(), columns, target))
+    Ok(updatable(under, columns, target, shown))
 }
 
 /// A table that may be changed, and what is under it.
@@ -110,17 +116,21 @@ pub(crate) fn under_table<'a>(table: &'a TableDesc) -> Option<Under<'a>>
     }
 }
 
-/// An updatable query has columns each named once, and no subquery in its condition.
+/// An updatable query has columns each named once, and no subquery in its condition. Each column that it shows has the kind of
+/// the base table's column that it is.
 fn updatable(
-    table: (Name, Name),
+    under: Under<'_>,
     columns: Option<Items<usize>>,
     target: Found<Target>,
+    shown: &[ResultColumn],
 ) -> Option<((Name, Name), UpdatableQuery)>
-    ensures { IfSome result (λ found. (columns ≡ Some found.1.columns) × (target.part ≡ found.1.target)) }
+    ensures made { IfSome result (λ found. (columns ≡ Some found.1.columns) × (target.part ≡ found.1.target)) }
+    ensures kinds { IfSome result (λ found. HaveKinds (base_kinds under.entry.leaf.now.table) found.1.columns (kinds_of_results shown.now)) }
 {
+    let base = under.leaf.get().table.get();
     match (columns, target.findings.has_subquery) {
-        (Some(columns), false) => Some((
-            table,
+        (Some(columns), false) if have_kinds(base, columns.as_slice(), shown) => Some((
+            under.table.full_name(),
             UpdatableQuery {
                 target: target.part,
                 columns,
@@ -131,6 +141,31 @@ fn updatable(
             drop(target);
             None
         }
+    }
+}
+
+/// Whether the columns of a base table at these positions have the kinds of the columns that are shown.
+fn have_kinds(base: &BaseTable, positions: &[usize], shown: &[ResultColumn]) -> bool
+    ensures { result ≡ true → HaveKinds (base_kinds base.now) positions.now (kinds_of_results shown.now) }
+{
+    if positions.len() != shown.len() {
+        return false;
+    }
+    for (position, column) in positions.iter().zip(shown) {
+        if !has_kind(base.columns.as_slice(), *position, column.kind) {
+            return false;
+        }
+    }
+    true
+}
+
+/// Whether the column at this position has this kind.
+fn has_kind(columns: &[BaseColumn], position: usize, kind: Kind) -> bool
+    ensures { result ≡ true → slice_get (map (λ c. kind_of c.domain) columns.now) position ≡ Some kind }
+{
+    match columns.get(position) {
+        Some(column) => column.domain.kind() == kind,
+        None => false,
     }
 }
 
