@@ -1,6 +1,6 @@
 //! CREATE VIEW (ISO/IEC 9075:1992, 11.19).
 
-ghost use Rattle.std.specs.Prelude.{◌≡◌, ◌++◌, ◌≤◌, ℕ, [], length, IfOk, IfSome, List, OnOk, Some, slice_get};
+ghost use Rattle.std.specs.Prelude.{◌≡◌, ◌≤◌, [], length, IfOk, List, OnOk, Some, slice_get};
 ghost use Rattle.std.specs.List.{AllZip};
 ghost use Rattle.sq_value.specs.declared.domain.Kind.{Kind};
 ghost use Rattle.sq_bound.specs.Fits.{IsBase};

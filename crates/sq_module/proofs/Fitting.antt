@@ -1,8 +1,12 @@
--- What a program names is there: for one cursor and one procedure by its place, and with a cursor or a procedure more.
-use Rattle.std.proofs.Common.{◌≡◌, ℕ, ◌+◌, ◌≤◌, Bool, true, false, List, [], ◌∷◌, ◌++◌, length, length-append, Option, Some, IfSome, slice_get, Result, Ok, Err, IfOk, OnOk, nat_lt, zero, suc, refl, sym, ap, ◌∙◌, subst, arith}
+-- What a program names is there and its parts are well formed with a cursor or a procedure more.
+use Rattle.std.proofs.Common.{◌≡◌, ℕ, ◌≤◌, Bool, true, false, List, [], ◌∷◌, ◌++◌, length, length-append, Option, Some, IfSome, slice_get, Result, Ok, Err, IfOk, OnOk, nat_lt, zero, suc, refl, sym, ap, ◌∙◌, subst, arith}
 use Rattle.std.proofs.lemmas.Bool.{lt-ltb, ltb-true}
+use Rattle.std.proofs.lemmas.List.{map-append}
 use Rattle.std.specs.List.{AllByRecursion}
 use Rattle.indexmap.specs.IndexMap.{insert_entry}
+use Rattle.sq_value.specs.declared.domain.Kind.{Kind}
+use Rattle.sq_meaning.specs.Status.{well_formed}
+use Rattle.sq_meaning.specs.WellFormed.{Has}
 use Rattle.sq_bound.specs.declared.names.BaseTable.{BaseTable}
 use Rattle.sq_bound.specs.declared.fault.BindFault.{BindFault}
 use Rattle.sq_bound.specs.declared.query.BoundCursor.{BoundCursor}
@@ -11,18 +15,13 @@ use Rattle.sq_bound.specs.declared.statement.BoundStatement.TheVariants as state
 use Rattle.sq_bound.specs.declared.statement.ChangeTarget.{ChangeTarget}
 use Rattle.sq_bound.specs.declared.statement.ChangeTarget.TheVariants as target
 use Rattle.sq_bound.specs.Fits.{FitsCursor, FitsStatement, FitsTarget}
+use Rattle.sq_bound.specs.WellFormed.{IsCursor, IsStatement, TableKinds, TakeKinds, kinds_of_parameters, kinds_of_results}
 use Rattle.sq_module.specs.declared.program.BoundProcedure.{BoundProcedure}
 use Rattle.sq_module.specs.declared.program.DeclaredCursor.{DeclaredCursor}
 use Rattle.sq_module.specs.declared.program.ProcedureName.{ProcedureName}
-use Rattle.sq_module.specs.declared.program.Program.{Program}
-use Rattle.sq_module.specs.Program.{CursorsFit, FitsProcedure, FitsProgram, ProceduresFit, same_procedure}
+use Rattle.sq_module.specs.Program.{CursorsAreWellFormed, CursorsFit, FitsProcedure, ProcedureIsWellFormed, ProceduresAreWellFormed, ProceduresFit, kinds_of_cursors, same_procedure}
 
 -- ---- elements of a list
-
-all_at : {X : Type 0} (P : X → Type 0) (xs : List X) (i : ℕ) (x : X) → slice_get xs i ≡ Some x → AllByRecursion P xs → P x
-all_at P [] i x there all = cc
-all_at P (y ∷ xs) zero x there all = let e : y ≡ x = cc in subst P e all.0
-all_at P (y ∷ xs) (suc i) x there all = all_at P xs i x there all.1
 
 all_last : {X : Type 0} (P : X → Type 0) (xs : List X) (x : X) → AllByRecursion P xs → P x → AllByRecursion P (xs ++ x ∷ [])
 all_last P [] x all one = (one, tt)
@@ -68,14 +67,35 @@ procedure_more bases n m p le fits = by p.statement fits
     by (Ok s) h = statement_more bases n m (length p.parameters) s le h
     by (Err e) h = tt
 
+-- the columns of a cursor are known beside more cursors, too
+kinds_known : (P : List Kind → Type 0) (cursors more : List (List Kind)) (i : ℕ) → Has P (well_formed (slice_get cursors i)) → Has P (well_formed (slice_get (cursors ++ more) i))
+kinds_known P [] more i known = absurd known
+kinds_known P (k ∷ ks) more zero known = known
+kinds_known P (k ∷ ks) more (suc i) known = kinds_known P ks more i known
+
+statement_stands : (columns : TableKinds) (cursors more : List (List Kind)) (parameters : List Kind) (s : BoundStatement) → IsStatement columns cursors parameters s
+    → IsStatement columns (cursors ++ more) parameters s
+statement_stands columns cursors more parameters (statement.Open c) stands = tt
+statement_stands columns cursors more parameters (statement.Fetch f) stands = (stands.0, kinds_known (TakeKinds parameters f.outputs) cursors more f.cursor stands.1)
+statement_stands columns cursors more parameters (statement.Close c) stands = tt
+statement_stands columns cursors more parameters (statement.Select s) stands = stands
+statement_stands columns cursors more parameters (statement.Insert i) stands = stands
+statement_stands columns cursors more parameters (statement.Update u) stands = stands
+statement_stands columns cursors more parameters (statement.Delete t) stands = stands
+statement_stands columns cursors more parameters statement.Commit stands = tt
+statement_stands columns cursors more parameters statement.Rollback stands = tt
+
+procedure_stands : (columns : TableKinds) (cursors more : List (List Kind)) (p : BoundProcedure) → ProcedureIsWellFormed columns cursors p → ProcedureIsWellFormed columns (cursors ++ more) p
+procedure_stands columns cursors more p stands = by p.statement stands
+  where
+    ps : List Kind
+    ps = kinds_of_parameters p.parameters
+
+    by : (r : Result BoundStatement BindFault) → IfOk r (IsStatement columns cursors ps) → IfOk r (IsStatement columns (cursors ++ more) ps)
+    by (Ok s) h = statement_stands columns cursors more ps s h
+    by (Err e) h = tt
+
 -- ---- a program
-
-pub cursor_fits : (bases : List BaseTable) (cursors : List DeclaredCursor) (i : ℕ) (c : DeclaredCursor) → slice_get cursors i ≡ Some c → CursorsFit bases cursors → FitsCursor bases c.cursor
-cursor_fits bases cursors i c there fit = all_at (λ c. FitsCursor bases c.cursor) cursors i c there fit
-
-pub procedure_fits : (bases : List BaseTable) (n : ℕ) (procedures : List (ProcedureName × BoundProcedure)) (i : ℕ) (e : ProcedureName × BoundProcedure)
-    → slice_get procedures i ≡ Some e → ProceduresFit bases n procedures → FitsProcedure bases n e.1
-procedure_fits bases n procedures i e there fit = all_at (λ e. FitsProcedure bases n e.1) procedures i e there fit
 
 -- with a cursor more
 cursor_added : (bases : List BaseTable) (cursors more : List DeclaredCursor) (procedures : List (ProcedureName × BoundProcedure)) (c : DeclaredCursor)
@@ -88,24 +108,48 @@ cursor_added bases cursors more procedures c is fit all one =
           procedures all,
     )
 
+kinds_added : (cursors more : List DeclaredCursor) (c : DeclaredCursor) → more ≡ cursors ++ c ∷ [] → kinds_of_cursors more ≡ kinds_of_cursors cursors ++ kinds_of_cursors (c ∷ [])
+kinds_added cursors more c is = ap kinds_of_cursors is ∙ map-append (λ c. kinds_of_results c.cursor.columns) cursors (c ∷ [])
+
+cursor_stands : (columns : TableKinds) (parameters : List Kind) (cursors more : List DeclaredCursor) (procedures : List (ProcedureName × BoundProcedure)) (c : DeclaredCursor)
+    → more ≡ cursors ++ c ∷ [] → CursorsAreWellFormed columns cursors → ProceduresAreWellFormed columns (kinds_of_cursors cursors) procedures → IsCursor columns parameters c.cursor
+    → CursorsAreWellFormed columns more × ProceduresAreWellFormed columns (kinds_of_cursors more) procedures
+cursor_stands columns parameters cursors more procedures c is stand all one =
+    let before : List (List Kind) = kinds_of_cursors cursors in
+    let last : List (List Kind) = kinds_of_cursors (c ∷ []) in (
+      rw is (all_last (λ c. (ps : List Kind) × IsCursor columns ps c.cursor) cursors c stand (parameters, one)),
+      subst (λ ks. ProceduresAreWellFormed columns ks procedures) (sym (kinds_added cursors more c is)) (all_mapped (λ e. ProcedureIsWellFormed columns before e.1)
+          (λ e. ProcedureIsWellFormed columns (before ++ last) e.1) (λ e h. procedure_stands columns before last e.1 h) procedures all),
+    )
+
 -- with a procedure more, or another of that name
-pub procedure_added : (bases : List BaseTable) (n : ℕ) (procedures more : List (ProcedureName × BoundProcedure)) (name : ProcedureName) (p : BoundProcedure)
-    → more ≡ insert_entry same_procedure procedures name p → ProceduresFit bases n procedures → FitsProcedure bases n p → ProceduresFit bases n more
-procedure_added bases n procedures more name p is all one = rw is (all_inserted same_procedure (FitsProcedure bases n) procedures name p all one)
+pub procedure_added : (P : BoundProcedure → Type 0) (procedures more : List (ProcedureName × BoundProcedure)) (name : ProcedureName) (p : BoundProcedure)
+    → more ≡ insert_entry same_procedure procedures name p → AllByRecursion (λ e. P e.1) procedures → P p → AllByRecursion (λ e. P e.1) more
+procedure_added P procedures more name p is all one = rw is (all_inserted same_procedure P procedures name p all one)
+
+-- what holds of a cursor that has no fault
+of_bound : (P : BoundCursor → Type 0) (bound : Result BoundCursor BindFault) (part : Option BoundCursor) (c : BoundCursor) → IfSome part (λ x. bound ≡ Ok x) → part ≡ Some c
+    → IfOk bound P → P c
+of_bound P bound part c of some one = rw same at one
+  where
+    same : bound ≡ Ok c
+    same = rw some at of
+
+on_ok : {A E Q : Type 0} (r : Result A E) → Q → OnOk r Q
+on_ok (Ok x) q = q
+on_ok (Err e) q = tt
 
 -- with a cursor that has no fault
 pub bound_added : {A E : Type 0} (bases : List BaseTable) (bound : Result BoundCursor BindFault) (part : Option BoundCursor) (cursors more : List DeclaredCursor)
     (procedures : List (ProcedureName × BoundProcedure)) (c : DeclaredCursor) (r : Result A E) → IfSome part (λ x. bound ≡ Ok x) → part ≡ Some c.cursor → more ≡ cursors ++ c ∷ []
     → CursorsFit bases cursors × ProceduresFit bases (length cursors) procedures → IfOk bound (FitsCursor bases)
     → OnOk r (CursorsFit bases more × ProceduresFit bases (length more) procedures)
-bound_added bases bound part cursors more procedures c r of some is fit one = by r
-  where
-    same : bound ≡ Ok c.cursor
-    same = rw some at of
+bound_added bases bound part cursors more procedures c r of some is fit one =
+    on_ok r (cursor_added bases cursors more procedures c is fit.0 fit.1 (of_bound (FitsCursor bases) bound part c.cursor of some one))
 
-    added : CursorsFit bases more × ProceduresFit bases (length more) procedures
-    added = cursor_added bases cursors more procedures c is fit.0 fit.1 (rw same at one)
-
-    by : {A E : Type 0} (r : Result A E) → OnOk r (CursorsFit bases more × ProceduresFit bases (length more) procedures)
-    by (Ok x) = added
-    by (Err e) = tt
+pub bound_stands : {A E : Type 0} (columns : TableKinds) (parameters : List Kind) (bound : Result BoundCursor BindFault) (part : Option BoundCursor) (cursors more : List DeclaredCursor)
+    (procedures : List (ProcedureName × BoundProcedure)) (c : DeclaredCursor) (r : Result A E) → IfSome part (λ x. bound ≡ Ok x) → part ≡ Some c.cursor → more ≡ cursors ++ c ∷ []
+    → CursorsAreWellFormed columns cursors × ProceduresAreWellFormed columns (kinds_of_cursors cursors) procedures → IfOk bound (IsCursor columns parameters)
+    → OnOk r (CursorsAreWellFormed columns more × ProceduresAreWellFormed columns (kinds_of_cursors more) procedures)
+bound_stands columns parameters bound part cursors more procedures c r of some is stand one =
+    on_ok r (cursor_stands columns parameters cursors more procedures c is stand.0 stand.1 (of_bound (IsCursor columns parameters) bound part c.cursor of some one))

@@ -1,11 +1,14 @@
--- The procedures that modules declare, that their names differ (ISO/IEC 9075:1992, 12.1 and 12.3), and that what they name is there.
-use Rattle.std.specs.Prelude.{◌≡◌, ℕ, Bool, false, ◌&&◌, List, [], ◌∷◌, ◌++◌, IfOk, flat_map, fold, length, nat_eq, ⊤}
+-- The procedures that modules declare, that their names differ (ISO/IEC 9075:1992, 12.1 and 12.3), that what they name is there,
+-- and that their cursors and statements are well formed (clause 13).
+use Rattle.std.specs.Prelude.{◌≡◌, ℕ, Bool, false, ◌&&◌, List, [], ◌∷◌, ◌++◌, IfOk, flat_map, fold, length, map, nat_eq, ⊤}
 use Rattle.std.specs.List.{AllByRecursion, list_any}
 use Rattle.std.specs.Cmp.Lexicographic.{pointwise}
 use Rattle.indexmap.specs.IndexSet.{insert_key}
 use Rattle.sq_lex.specs.declared.name.Name.{Name}
+use Rattle.sq_value.specs.declared.domain.Kind.{Kind}
 use Rattle.sq_bound.specs.declared.names.BaseTable.{BaseTable}
 use Rattle.sq_bound.specs.Fits.{FitsCursor, FitsStatement}
+use Rattle.sq_bound.specs.WellFormed.{IsCursor, IsStatement, TableKinds, kinds_of_parameters, kinds_of_results}
 use Rattle.sq_tree.specs.declared.module.ModuleItem.{ModuleItem}
 use Rattle.sq_tree.specs.declared.module.ModuleItem.TheVariants as item
 use Rattle.sq_tree.specs.declared.module.ModuleText.{ModuleText}
@@ -73,3 +76,24 @@ ProceduresFit bases cursors procedures = AllByRecursion (λ e. FitsProcedure bas
 -- the cursors of a program fit the base tables, and its procedures those and the cursors
 abbrev pub FitsProgram : List BaseTable → Program → Type 0
 FitsProgram bases p = CursorsFit bases p.cursors.items × ProceduresFit bases (length p.cursors.items) p.procedures.entries
+
+-- ---- cursors and statements are well formed (clause 13)
+
+-- the kinds of each cursor's columns
+abbrev pub kinds_of_cursors : List DeclaredCursor → List (List Kind)
+kinds_of_cursors cursors = map (λ c. kinds_of_results c.cursor.columns) cursors
+
+-- each cursor is well formed where a procedure with some parameters opens it
+abbrev pub CursorsAreWellFormed : TableKinds → List DeclaredCursor → Type 0
+CursorsAreWellFormed columns cursors = AllByRecursion (λ c. (parameters : List Kind) × IsCursor columns parameters c.cursor) cursors
+
+-- a statement without a fault is well formed, where its procedure has these parameters and the cursors columns of these kinds
+abbrev pub ProcedureIsWellFormed : TableKinds → List (List Kind) → BoundProcedure → Type 0
+ProcedureIsWellFormed columns cursors p = IfOk p.statement (IsStatement columns cursors (kinds_of_parameters p.parameters))
+
+abbrev pub ProceduresAreWellFormed : TableKinds → List (List Kind) → List (ProcedureName × BoundProcedure) → Type 0
+ProceduresAreWellFormed columns cursors procedures = AllByRecursion (λ e. ProcedureIsWellFormed columns cursors e.1) procedures
+
+-- the cursors of a program are well formed, and so are its procedures beside them
+abbrev pub ProgramIsWellFormed : TableKinds → Program → Type 0
+ProgramIsWellFormed columns p = CursorsAreWellFormed columns p.cursors.items × ProceduresAreWellFormed columns (kinds_of_cursors p.cursors.items) p.procedures.entries

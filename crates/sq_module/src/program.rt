@@ -1,13 +1,16 @@
 //! The procedures and cursors of all modules, with their names as places.
 
-ghost use Rattle.std.specs.Prelude.{◌≡◌, [], IfOk, IfSome, List, Ok, OnOk, length, map};
+ghost use Rattle.std.specs.Prelude.{◌≡◌, [], IfOk, IfSome, List, Ok, OnOk, length};
 ghost use Rattle.std.specs.Map.{keys_of};
 ghost use Rattle.indexmap.specs.IndexMap.{insert_entry};
 ghost use Rattle.indexmap.specs.IndexSet.{insert_key};
 ghost use Rattle.sq_bound.specs.Fits.{FitsCursor};
+ghost use Rattle.sq_bound.specs.WellFormed.{IsCursor, TableKinds};
 ghost use Rattle.sq_bound.specs.declared.names.BaseTable.{BaseTable};
+ghost use Rattle.sq_catalog.specs.Catalog.{column_kinds};
 ghost use Rattle.sq_module.specs.Admitted.{admitted_procedures, module_keys, name_of};
-ghost use Rattle.sq_module.specs.Program.{FitsProcedure, FitsProgram, same_procedure, with_procedures};
+ghost use Rattle.sq_module.specs.Program.{FitsProcedure, FitsProgram, ProcedureIsWellFormed, ProgramIsWellFormed, kinds_of_cursors, same_procedure, with_procedures};
+ghost use Rattle.sq_value.specs.declared.domain.Kind.{Kind};
 
 use crate::admission::{AdmittedModule, AdmittedProcedure};
 use indexmap::IndexMap;
@@ -59,11 +62,9 @@ struct ModuleCursors<'a> {
 }
 
 impl<'a> Cursors for ModuleCursors<'a> {
-    ghost use Rattle.sq_bound.specs.WellFormed.{kinds_of_results};
-
     ghost cursor_count = { λ c. length c.cursors.now };
 
-    ghost cursor_kinds = { λ c. map (λ declared. kinds_of_results declared.cursor.columns) c.cursors.now };
+    ghost cursor_kinds = { λ c. kinds_of_cursors c.cursors.now };
 
     fn cursor(&self, name: Name) -> Option<KnownCursor<'_>> {
         let number = self.numbers.get(&name).copied()?;
@@ -86,6 +87,7 @@ impl Program {
     ) -> Result<Program, AllocError>
         ensures procedures { IfOk result (λ program. keys_of program.procedures.entries ≡ with_procedures [] (admitted_procedures modules.now)) }
         ensures fits { IfOk result (FitsProgram catalog.now.bases) }
+        ensures well_formed { IfOk result (ProgramIsWellFormed (column_kinds catalog.now)) }
     {
         let mut program = Program {
             procedures: IndexMap::new(alloc),
@@ -106,9 +108,11 @@ impl Program {
         catalog: &Catalog,
         modules: &[AdmittedModule<'_>],
     ) -> Result<(), AllocError>
-        requires { FitsProgram catalog.now.bases self.old }
+        requires fits { FitsProgram catalog.now.bases self.old }
+        requires well_formed { ProgramIsWellFormed (column_kinds catalog.now) self.old }
         ensures procedures { OnOk result (keys_of self.new.procedures.entries ≡ with_procedures (keys_of self.old.procedures.entries) (admitted_procedures modules.now)) }
         ensures fits { OnOk result (FitsProgram catalog.now.bases self.new) }
+        ensures well_formed { OnOk result (ProgramIsWellFormed (column_kinds catalog.now) self.new) }
     {
         for module in modules {
             self.add_module(alloc, catalog, module)?;
@@ -122,9 +126,11 @@ impl Program {
         catalog: &Catalog,
         module: &AdmittedModule<'_>,
     ) -> Result<(), AllocError>
-        requires { FitsProgram catalog.now.bases self.old }
+        requires fits { FitsProgram catalog.now.bases self.old }
+        requires well_formed { ProgramIsWellFormed (column_kinds catalog.now) self.old }
         ensures procedures { OnOk result (keys_of self.new.procedures.entries ≡ with_procedures (keys_of self.old.procedures.entries) (module_keys «module».now)) }
         ensures fits { OnOk result (FitsProgram catalog.now.bases self.new) }
+        ensures well_formed { OnOk result (ProgramIsWellFormed (column_kinds catalog.now) self.new) }
     {
         let mut numbers = IndexMap::new(alloc);
         let added = self.add_parts(alloc, catalog, module, &mut numbers);
@@ -140,9 +146,11 @@ impl Program {
         module: &AdmittedModule<'_>,
         numbers: &mut IndexMap<Name, usize>,
     ) -> Result<(), AllocError>
-        requires { FitsProgram catalog.now.bases self.old }
+        requires fits { FitsProgram catalog.now.bases self.old }
+        requires well_formed { ProgramIsWellFormed (column_kinds catalog.now) self.old }
         ensures procedures { OnOk result (keys_of self.new.procedures.entries ≡ with_procedures (keys_of self.old.procedures.entries) (module_keys «module».now)) }
         ensures fits { OnOk result (FitsProgram catalog.now.bases self.new) }
+        ensures well_formed { OnOk result (ProgramIsWellFormed (column_kinds catalog.now) self.new) }
     {
         self.add_cursors(alloc, catalog, module, numbers)?;
         self.add_procedures(alloc, catalog, module, numbers)
@@ -156,9 +164,11 @@ impl Program {
         module: &AdmittedModule<'_>,
         numbers: &mut IndexMap<Name, usize>,
     ) -> Result<(), AllocError>
-        requires { FitsProgram catalog.now.bases self.old }
+        requires fits { FitsProgram catalog.now.bases self.old }
+        requires well_formed { ProgramIsWellFormed (column_kinds catalog.now) self.old }
         ensures procedures { self.new.procedures ≡ self.old.procedures }
         ensures fits { OnOk result (FitsProgram catalog.now.bases self.new) }
+        ensures well_formed { OnOk result (ProgramIsWellFormed (column_kinds catalog.now) self.new) }
     {
         for opener in module.procedures.as_slice() {
             self.add_opened(alloc, catalog, module, opener, numbers)?;
@@ -175,9 +185,11 @@ impl Program {
         opener: &AdmittedProcedure<'_>,
         numbers: &mut IndexMap<Name, usize>,
     ) -> Result<(), AllocError>
-        requires { FitsProgram catalog.now.bases self.old }
+        requires fits { FitsProgram catalog.now.bases self.old }
+        requires well_formed { ProgramIsWellFormed (column_kinds catalog.now) self.old }
         ensures procedures { self.new.procedures ≡ self.old.procedures }
         ensures fits { OnOk result (FitsProgram catalog.now.bases self.new) }
+        ensures well_formed { OnOk result (ProgramIsWellFormed (column_kinds catalog.now) self.new) }
     {
         let Statement::Open(name) = &opener.procedure.statement else {
             return Ok(());
@@ -203,6 +215,7 @@ impl Program {
     ) -> Result<(), AllocError>
         ensures procedures { self.new.procedures ≡ self.old.procedures }
         ensures fits { (bases : List BaseTable) → FitsProgram bases self.old → IfOk bound (FitsCursor bases) → OnOk result (FitsProgram bases self.new) }
+        ensures well_formed { (columns : TableKinds) (parameters : List Kind) → ProgramIsWellFormed columns self.old → IfOk bound (IsCursor columns parameters) → OnOk result (ProgramIsWellFormed columns self.new) }
     {
         match without_fault(bound)? {
             Some(cursor) => {
@@ -221,9 +234,11 @@ impl Program {
         module: &AdmittedModule<'_>,
         numbers: &IndexMap<Name, usize>,
     ) -> Result<(), AllocError>
-        requires { FitsProgram catalog.now.bases self.old }
+        requires fits { FitsProgram catalog.now.bases self.old }
+        requires well_formed { ProgramIsWellFormed (column_kinds catalog.now) self.old }
         ensures procedures { OnOk result (keys_of self.new.procedures.entries ≡ with_procedures (keys_of self.old.procedures.entries) (module_keys «module».now)) }
         ensures fits { OnOk result (FitsProgram catalog.now.bases self.new) }
+        ensures well_formed { OnOk result (ProgramIsWellFormed (column_kinds catalog.now) self.new) }
     {
         for admitted in module.procedures.as_slice() {
             self.add_procedure(alloc, catalog, module, numbers, admitted)?;
@@ -239,9 +254,11 @@ impl Program {
         numbers: &IndexMap<Name, usize>,
         admitted: &AdmittedProcedure<'_>,
     ) -> Result<(), AllocError>
-        requires { FitsProgram catalog.now.bases self.old }
+        requires fits { FitsProgram catalog.now.bases self.old }
+        requires well_formed { ProgramIsWellFormed (column_kinds catalog.now) self.old }
         ensures procedures { OnOk result (keys_of self.new.procedures.entries ≡ insert_key same_procedure (keys_of self.old.procedures.entries) (name_of «module».now.name admitted.now)) }
         ensures fits { OnOk result (FitsProgram catalog.now.bases self.new) }
+        ensures well_formed { OnOk result (ProgramIsWellFormed (column_kinds catalog.now) self.new) }
     {
         let cursors = ModuleCursors {
             numbers,
@@ -264,7 +281,8 @@ fn bound_procedure(
     cursors: &ModuleCursors<'_>,
     admitted: &AdmittedProcedure<'_>,
 ) -> Result<BoundProcedure, AllocError>
-    ensures { IfOk result (FitsProcedure catalog.now.bases (length cursors.now.cursors.now)) }
+    ensures fits { IfOk result (FitsProcedure catalog.now.bases (length cursors.now.cursors.now)) }
+    ensures well_formed { IfOk result (ProcedureIsWellFormed (column_kinds catalog.now) (kinds_of_cursors cursors.now.cursors.now)) }
 {
     let parameters = admitted.parameters.as_slice();
     let written = &admitted.procedure.statement;

@@ -1,6 +1,6 @@
 //! Predicates over bound operands: their kinds, and what is found in them (ISO/IEC 9075:1992, 8.2 to 8.7).
 
-ghost use Rattle.std.specs.Prelude.{◌≡◌, ◌∷◌, [], IfOk, IsTrue, List, Ok, true};
+ghost use Rattle.std.specs.Prelude.{◌≡◌, ◌∷◌, [], IfOk, IsTrue, List, Ok};
 ghost use Rattle.sq_bound.specs.WellFormed.{TableKinds, kinds_of_select};
 ghost use Rattle.sq_bound.specs.declared.expression.SetFunctionCall.{SetFunctionCall};
 ghost use Rattle.sq_meaning.specs.WellFormed.{is_comparable, is_text};

@@ -1,6 +1,6 @@
 //! The parts of a query specification: FROM items, grouping columns, select lists (ISO/IEC 9075:1992, 7.4, 7.7, 7.9).
 
-ghost use Rattle.std.specs.Prelude.{◌≡◌, ◌||◌, ◌++◌, ◌∷◌, [], Bool, IfOk, List, None, Some, false, if◌then◌else◌, slice_get, true};
+ghost use Rattle.std.specs.Prelude.{◌≡◌, ◌||◌, ◌++◌, ◌∷◌, [], IfOk, List, None, Some, false, if◌then◌else◌, slice_get, true};
 ghost use Rattle.std.specs.List.{AllZip};
 ghost use Rattle.sq_meaning.specs.WellFormed.{of_lines};
 ghost use Rattle.sq_bound.specs.Fits.{IsOver};
@@ -10,7 +10,7 @@ ghost use Rattle.sq_bound.specs.declared.expression.Place.{Place as ColumnPlace}
 ghost use Rattle.sq_bound.specs.declared.expression.SetFunctionCall.{SetFunctionCall};
 ghost use Rattle.sq_scope.specs.Expression.{Grows};
 ghost use Rattle.sq_scope.specs.WellFormed.{AreLevelsIn, IsItemOver, allows_none, is_no_column};
-ghost use Rattle.sq_select.specs.WellFormed.{AreColumns, AreGroupingColumns, AreParts, AreSelected, Context, Everywhere, IsGroupedRightly, IsGroupingColumn, IsListAt, IsListIn, IsTypedAt, level_over, reads_ungrouped};
+ghost use Rattle.sq_select.specs.WellFormed.{AreColumns, AreGroupingColumns, AreParts, AreSelected, Context, Everywhere, IsGroupedRightly, IsGroupingColumn, IsListAt, IsListIn, IsTypedAt, level_over};
 ghost use Rattle.sq_value.specs.declared.domain.Kind.{Kind as AnyKind};
 
 use crate::predicate::SubqueryResult;

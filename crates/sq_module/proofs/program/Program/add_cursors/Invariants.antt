@@ -1,9 +1,11 @@
 use Rattle.std.proofs.Common.{◌≡◌}
-use Rattle.sq_module.specs.Program.{FitsProgram}
+use Rattle.sq_catalog.specs.Catalog.{column_kinds}
+use Rattle.sq_module.specs.Program.{FitsProgram, ProgramIsWellFormed}
 use Rattle.sq_module.proofs.program.Program.add_cursors.Given as goal
 
 abbrev pub invariant-loop-opener : goal.invariant-loop-opener
 invariant-loop-opener l = record {
   procedures : l.self.procedures ≡ l.fn.self.procedures;
   fits : FitsProgram l.catalog.bases l.self;
+  well_formed : ProgramIsWellFormed (column_kinds l.catalog) l.self;
 }
