@@ -3,6 +3,7 @@ use Rattle.std.specs.Prelude.{ℕ, Bool, ◌&&◌, List, map, nat_eq, position, 
 use Rattle.std.specs.Cmp.Lexicographic.{pointwise}
 use Rattle.std.specs.Result.{result_map_both}
 use Rattle.sq_lex.specs.declared.name.Name.{Name}
+use Rattle.sq_bound.specs.declared.names.BaseTable.{BaseTable}
 use Rattle.sq_catalog.specs.declared.catalog.FullName.{FullName}
 use Rattle.sq_module.specs.declared.program.BoundProcedure.{BoundProcedure}
 use Rattle.sq_module.specs.declared.program.DeclaredCursor.{DeclaredCursor}
@@ -11,10 +12,11 @@ use Rattle.sq_session.specs.Kind.{Procedure, kind_of}
 use Rattle.sq_session.specs.Parameter.{declared}
 use Rattle.sq_session.specs.State.{State}
 
--- the procedures and the base tables, each at its number, and what calls work on
+-- the procedures, the names of the base tables and what these hold and obey, each at its number, and what calls work on
 pub record Session : Type 0 where
   pub procedures : List Procedure
   pub tables : List FullName
+  pub bases : List BaseTable
   pub state : State
 
 -- ---- what names mean

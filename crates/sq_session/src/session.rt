@@ -42,6 +42,7 @@ impl<S: Store> Model for Session<S> {
     ghost use Rattle.sq_bound.specs.contracts.condition.Predicate as predicate;
     ghost use Rattle.sq_bound.specs.contracts.expression.BoundExpr as expression;
     ghost use Rattle.sq_bound.specs.contracts.names.BaseColumn as column;
+    ghost use Rattle.sq_bound.specs.contracts.names.BaseTable as base;
     ghost use Rattle.sq_bound.specs.contracts.names.ParameterDesc as parameter;
     ghost use Rattle.sq_module.specs.Program.{FitsProgram};
     ghost use Rattle.sq_session.specs.Cursors.{IsWhole};
@@ -49,9 +50,9 @@ impl<S: Store> Model for Session<S> {
 
     ghost Value = { Session };
 
-    ghost coded = { Prim.hlevel (codes, parameter.the_row.coded, column.the_row.coded, condition.the_row.coded, predicate.the_row.coded, expression.the_row.coded) };
+    ghost coded = { Prim.hlevel (codes, base.the_row.coded, parameter.the_row.coded, column.the_row.coded, condition.the_row.coded, predicate.the_row.coded, expression.the_row.coded) };
 
-    ghost view = { λ s. record { procedures = procedures_of s.program.cursors.items s.program.procedures.entries; tables = s.catalog.tables; state = s.machine } };
+    ghost view = { λ s. record { procedures = procedures_of s.program.cursors.items s.program.procedures.entries; tables = s.catalog.tables; bases = s.catalog.bases; state = s.machine } };
 
     ghost invariant = { λ s. FitsProgram s.catalog.bases s.program × IsWhole s.catalog.bases s.program.cursors.items s.machine };
 }
@@ -71,6 +72,7 @@ impl<S: Store> Session<S> {
         ensures start { IfOk result (λ s. (s.state.tables ≡ S.content_now store) × (s.state.committed ≡ S.committed store) × AreClosed s.state.cursors) }
         ensures procedures { IfOk result (λ s. names_of s.procedures ≡ declared_procedures modules.now) }
         ensures tables { IfOk result (λ s. s.tables ≡ catalog.tables) }
+        ensures bases { IfOk result (λ s. s.bases ≡ catalog.bases) }
         ensures refused { IfErr result (IsOfSomeModule (length modules.now)) }
     {
         match program_of(alloc, &catalog, modules) {
@@ -98,6 +100,7 @@ impl<S: Store> Session<S> {
         ensures start { IfOk result (λ s. (s.state.tables ≡ S.content_now store) × (s.state.committed ≡ S.committed store) × AreClosed s.state.cursors) }
         ensures procedures { IfOk result (λ s. names_of s.procedures ≡ keys_of program.procedures.entries) }
         ensures tables { IfOk result (λ s. s.tables ≡ catalog.tables) }
+        ensures bases { IfOk result (λ s. s.bases ≡ catalog.bases) }
     {
         match Machine::new(alloc, store, program.cursors.len()) {
             Ok(machine) => Ok(Session {
@@ -144,7 +147,7 @@ impl<S: Store> Session<S> {
     }
 
     /// Makes one call. Running out of memory changes nothing, and a call that ends with another status than success leaves
-    /// the tables as they were.
+    /// the tables as they were. Each value of each row, now and as committed, is in the domain of its column.
     #[tactic(auto, using(crate::proofs::Kept::kept_by_failure))]
     pub fn call(
         &mut self,
@@ -157,6 +160,8 @@ impl<S: Store> Session<S> {
         ensures kept { IfOk result (λ r. is_success r.status ≡ false → self.new.state.tables ≡ self.old.state.tables) }
         ensures procedures { self.new.procedures ≡ self.old.procedures }
         ensures tables { self.new.tables ≡ self.old.tables }
+        ensures bases { self.new.bases ≡ self.old.bases }
+        ensures in_domains { AreInDomains self.new.bases self.new.state.tables × AreInDomains self.new.bases self.new.state.committed }
         ensures err { OnErr result (self.new ≡ self.old) }
         ensures memory { needs_memory (kind_at self.old.procedures procedure) ≡ false → IsOk result }
     {
