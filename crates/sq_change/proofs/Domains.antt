@@ -1,7 +1,7 @@
 -- Rows whose values are in the domains of their columns.
-use Rattle.std.proofs.Common.{◌≡◌, ℕ, zero, suc, ◌<◌, Bool, true, false, nat_eq, nat_lt, not, is_some, List, [], ◌∷◌, ◌++◌, length, map, filter, find, Option, None, Some, IfSome, get_or, slice_get, slice_set, take, ◌+◌, refl, sym, subst, arith, add-one}
+use Rattle.std.proofs.Common.{◌≡◌, ℕ, zero, suc, ◌<◌, Bool, true, false, nat_eq, nat_lt, not, is_some, List, [], ◌∷◌, ◌++◌, length, map, find, Option, None, Some, IfSome, get_or, slice_get, slice_set, take, ◌+◌, refl, sym, subst, arith, add-one}
 use Rattle.std.specs.Borrow.{Bor}
-use Rattle.std.specs.List.{AllByRecursion, Contains, position}
+use Rattle.std.specs.List.{AllByRecursion, position}
 use Rattle.std.proofs.lemmas.Bool.{eqb-true, ltb-true}
 use Rattle.std.proofs.lemmas.List.Quantifiers.{position-Some}
 use Rattle.std.proofs.lemmas.List.Elements.{All-from_recursion, All-contains}
