@@ -16,7 +16,9 @@ use Rattle.sq_scope.specs.Scope.{FitsColumn, column_over, columns_over}
 use Rattle.sq_scope.specs.declared.findings.Found.{Found}
 use Rattle.sq_scope.specs.declared.scope.FromItem.{FromItem}
 use Rattle.sq_scope.specs.declared.scope.ItemColumn.{ItemColumn}
-use Rattle.sq_bind.specs.Updatable.{AreOf, IsPositionOf}
+use Rattle.sq_value.specs.declared.domain.Kind.{Kind}
+use Rattle.sq_bound.specs.WellFormed.{IsTarget, IsUpdatable, TableKinds, base_kinds}
+use Rattle.sq_bind.specs.Updatable.{AreOf, HaveKinds, IsPositionOf}
 
 both_true : (a b : Bool) → (a && b) ≡ true → (a ≡ true) × (b ≡ true)
 both_true true b h = (refl, h)
@@ -62,3 +64,18 @@ fits_found bases leaf columns item named target positions t (Some f) base placed
     let there : AreOf item f.1.columns = subst (λ (o : Option (List ℕ)). IfSome o (AreOf item)) h.0 some in
     let under : t.part.leaf ≡ leaf = subst (λ (r : Result (Found Target) BindFault). IfOk r (λ (x : Found Target). x.part.leaf ≡ leaf)) e on in
     fits_query bases leaf columns item f.1 base placed over there (ap (λ (x : Target). x.leaf) (sym h.1) ∙ under)
+
+-- an updatable query of a target that is well formed, whose columns have the kinds of those that are shown
+pub updatable_found : (columns : TableKinds) (parameters : List Kind) (kinds : List Kind) (leaf : Leaf) (target : Result (Found Target) BindFault) (positions : Option (List ℕ)) (t : Found Target)
+    (found : Option ((Name × Name) × UpdatableQuery))
+    → IfOk target (λ f. f.part.leaf ≡ leaf) → IfOk target (λ f. IsTarget columns parameters f.part) → target ≡ Ok t
+    → IfSome found (λ f. (positions ≡ Some f.1.columns) × (t.part ≡ f.1.target)) → IfSome found (λ f. HaveKinds (base_kinds leaf.table) f.1.columns kinds)
+    → IfSome found (λ f. IsUpdatable columns parameters kinds f.1)
+updatable_found columns parameters kinds leaf target positions t None on is e h k = tt {0}
+updatable_found columns parameters kinds leaf target positions t (Some f) on is e h k =
+    let under : t.part.leaf ≡ leaf = subst (λ (r : Result (Found Target) BindFault). IfOk r (λ (x : Found Target). x.part.leaf ≡ leaf)) e on in
+    let targeted : IsTarget columns parameters t.part = subst (λ (r : Result (Found Target) BindFault). IfOk r (λ (x : Found Target). IsTarget columns parameters x.part)) e is in
+    let same : f.1.target.leaf ≡ leaf = ap (λ (x : Target). x.leaf) (sym h.1) ∙ under in (
+      subst (IsTarget columns parameters) h.1 targeted,
+      subst (λ (l : Leaf). HaveKinds (base_kinds l.table) f.1.columns kinds) (sym same) k,
+    )

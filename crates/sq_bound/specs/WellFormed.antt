@@ -8,13 +8,12 @@ use Rattle.sq_value.specs.declared.domain.Kind.TheVariants.{Num}
 use Rattle.sq_value.specs.declared.value.Value.TheVariants.{Null}
 use Rattle.sq_meaning.specs.Status.{Outcome, well_formed, not_well_formed}
 use Rattle.sq_meaning.specs.Environment.{Row}
-use Rattle.sq_meaning.specs.Kind.{kind, select_kinds, query_kinds}
+use Rattle.sq_meaning.specs.Kind.{kind, select_kinds}
 use Rattle.sq_meaning.specs.Placed.{Placed, by_place}
-use Rattle.sq_meaning.specs.WellFormed.{Has, Level, froms, of_lines, is_comparable, MayStand, WellFormedCond, WellFormedSelect, WellFormedQuery, kinds_by_place, IsDeclaredAt}
+use Rattle.sq_meaning.specs.WellFormed.{Has, Level, froms, of_lines, is_comparable, MayStand, WellFormedCond, WellFormedSelect, kinds_by_place, IsDeclaredAt}
 use Rattle.sq_bound.specs.Condition.{PlacedCond, cond_of, select_of}
 use Rattle.sq_bound.specs.Expression.{PlacedExpr, expr_of}
 use Rattle.sq_bound.specs.Fits.{IsColumnOf, under}
-use Rattle.sq_bound.specs.Query.{query_of}
 use Rattle.sq_bound.specs.SetFunction.{call_of}
 use Rattle.sq_bound.specs.declared.condition.BoundCond.{BoundCond}
 use Rattle.sq_bound.specs.declared.condition.BoundSpecification.{BoundSpecification, out-BoundSpecification}
@@ -33,7 +32,6 @@ use Rattle.sq_bound.specs.declared.names.TableBody.{TableBody}
 use Rattle.sq_bound.specs.declared.names.TableBody.TheVariants as body
 use Rattle.sq_bound.specs.declared.names.TableDesc.{TableDesc}
 use Rattle.sq_bound.specs.declared.query.BoundCursor.{BoundCursor}
-use Rattle.sq_bound.specs.declared.query.BoundQuery.{BoundQuery, out-BoundQuery}
 use Rattle.sq_bound.specs.declared.query.CursorBody.{CursorBody}
 use Rattle.sq_bound.specs.declared.query.CursorBody.TheVariants as cursor
 use Rattle.sq_bound.specs.declared.query.Target.{Target}
