@@ -1,12 +1,12 @@
 -- Columns that get values.
-use Rattle.std.proofs.Common.{◌≡◌, Bool, true, false, List, [], ◌∷◌, ◌++◌, map, Ok, Err, refl, sym, ap, subst, ◌∙◌, inl, inr}
+use Rattle.std.proofs.Common.{◌≡◌, Bool, true, false, List, [], ◌∷◌, ◌++◌, map, Ok, Err, sym, ap, subst, ◌∙◌, inr}
 use Rattle.std.specs.Prelude.{IfOk, OnOk, Result, is_ok}
 use Rattle.std.specs.List.{AllByRecursion, AllZip}
 use Rattle.sq_value.specs.Domain.{kind_of}
 use Rattle.sq_value.specs.declared.domain.Kind.{Kind}
 use Rattle.sq_meaning.specs.WellFormed.{is_comparable}
 use Rattle.sq_bound.specs.Fits.{IsColumnOf}
-use Rattle.sq_bound.specs.WellFormed.{IsAssignment, IsExpr, IsNewValue, IsSource, Levels, MayStore, TableKinds, kinds_of_parameters, kinds_of_results}
+use Rattle.sq_bound.specs.WellFormed.{IsAssignment, IsExpr, IsNewValue, IsSource, MayStore, TableKinds, kinds_of_parameters}
 use Rattle.sq_bound.specs.declared.condition.BoundSpecification.{BoundSpecification}
 use Rattle.sq_bound.specs.declared.fault.BindFault.{BindFault}
 use Rattle.sq_bound.specs.declared.names.BaseTable.{BaseTable}

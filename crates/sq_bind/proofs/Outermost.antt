@@ -1,5 +1,5 @@
 -- Texts outside every query, and the levels at which their parts stand.
-use Rattle.std.proofs.Common.{◌≡◌, ℕ, Bool, true, false, List, [], ◌∷◌, Option, None, Some, Ok, Err, refl, sym, ap, subst, ◌∙◌}
+use Rattle.std.proofs.Common.{◌≡◌, ℕ, Bool, false, List, [], ◌∷◌, None, Ok, Err, refl, sym, ap, subst, ◌∙◌}
 use Rattle.std.specs.Prelude.{IfOk, Result}
 use Rattle.sq_bound.specs.WellFormed.{IsCond, Levels, TableKinds, kinds_of_parameters, of_base_at}
 use Rattle.sq_bound.specs.declared.condition.BoundCond.{BoundCond}
@@ -12,7 +12,7 @@ use Rattle.sq_scope.specs.declared.findings.Found.{Found}
 use Rattle.sq_select.specs.WellFormed.{IsCondIn}
 use Rattle.sq_bound.specs.declared.condition.TablePlace.TheVariants.{Base}
 use Rattle.sq_scope.specs.Scope.{scopes_in}
-use Rattle.sq_scope.specs.WellFormed.{AreLevels, AreLevelsIn, Grouped, IsItemOver, MayStandAt, groupings_in, may_read}
+use Rattle.sq_scope.specs.WellFormed.{AreLevels, AreLevelsIn, Grouped, IsItemOver, MayStandAt, groupings_in}
 use Rattle.sq_scope.specs.declared.scope.Environment.{Environment}
 use Rattle.sq_scope.specs.declared.scope.FromItem.{FromItem}
 use Rattle.sq_bind.specs.WellFormed.{IsOutermost}

@@ -1,4 +1,4 @@
-use Rattle.std.proofs.Common.{rules, length, ◌++◌, ◌∷◌, [], take, sym, refl, subst}
+use Rattle.std.proofs.Common.{rules, length, take, refl, subst}
 use Rattle.std.specs.List.{AllZip}
 use Rattle.sq_bound.specs.WellFormed.{MayStore}
 use Rattle.sq_bound.specs.declared.condition.ResultColumn.{ResultColumn}

@@ -1,4 +1,4 @@
-use Rattle.std.proofs.Common.{rules, length, ◌++◌, ◌∷◌, [], take, sym, refl, subst}
+use Rattle.std.proofs.Common.{rules, length, ◌++◌, ◌∷◌, [], subst}
 use Rattle.std.specs.Prelude.{IfOk, Result}
 use Rattle.sq_bound.specs.declared.expression.BoundExpr.{BoundExpr}
 use Rattle.sq_bound.specs.declared.fault.BindFault.{BindFault}

@@ -1,4 +1,4 @@
-use Rattle.std.proofs.Common.{◌≡◌, ◌++◌, ◌∷◌, [], length, take, arith, rules, sym, ap, subst, ◌∙◌}
+use Rattle.std.proofs.Common.{◌++◌, ◌∷◌, [], length, arith, rules}
 use Rattle.std.proofs.lemmas.Grind.{common_steps}
 use Rattle.sq_bound.specs.WellFormed.{TakesKind, kinds_of_parameters}
 use Rattle.sq_bound.specs.declared.condition.ResultColumn.{ResultColumn}

@@ -1,5 +1,5 @@
-use Rattle.std.proofs.Common.{◌∷◌, ap, sym, ◌∙◌}
-use Rattle.sq_bound.specs.WellFormed.{IsCond, kinds_of_columns, kinds_of_parameters, of_base_at, only}
+use Rattle.std.proofs.Common.{◌∙◌}
+use Rattle.sq_bound.specs.WellFormed.{kinds_of_columns, only}
 use Rattle.sq_select.specs.WellFormed.{IsCondIn}
 use Rattle.sq_scope.specs.declared.findings.Found.{Found}
 use Rattle.sq_bound.specs.declared.condition.BoundCond.{BoundCond}

@@ -1,4 +1,4 @@
-use Rattle.std.proofs.Common.{◌≡◌, ℕ, Some, rules, length, ◌++◌, ◌∷◌, [], take, sym, refl, subst}
+use Rattle.std.proofs.Common.{◌≡◌, ℕ, Some, rules, length, take, subst}
 use Rattle.std.specs.Prelude.{slice_get}
 use Rattle.std.specs.List.{AllZip}
 use Rattle.sq_bound.specs.WellFormed.{base_kinds}
