@@ -1,3 +1,4 @@
+pub mod NoBases
 pub mod Output
 pub mod Updatable
 pub mod WellFormed

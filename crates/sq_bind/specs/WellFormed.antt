@@ -1,9 +1,12 @@
 -- Where bound statements, cursors and views are well formed (ISO/IEC 9075:1992, clauses 11 and 13).
 use Rattle.std.specs.Prelude.{◌≡◌, Bool, false, List, [], map, Ok, Result}
 use Rattle.std.specs.List.{AllByRecursion, AllZip}
+use Rattle.sq_meaning.specs.Kind.{common_kinds}
 use Rattle.sq_bound.specs.Fits.{IsColumnOf}
-use Rattle.sq_bound.specs.WellFormed.{IsNewValue, Levels, MayStore, TableKinds, kinds_of_parameters, kinds_of_select}
+use Rattle.sq_bound.specs.Joined.{term_kinds, term_specifications}
+use Rattle.sq_bound.specs.WellFormed.{IsNewValue, IsQuery, IsSelect, Levels, MayStore, TableKinds, kinds_of_parameters, kinds_of_results, kinds_of_select}
 use Rattle.sq_bound.specs.declared.condition.BoundSpecification.{BoundSpecification}
+use Rattle.sq_bound.specs.declared.condition.ResultColumn.{ResultColumn}
 use Rattle.sq_bound.specs.declared.fault.BindFault.{BindFault}
 use Rattle.sq_bound.specs.declared.expression.BoundExpr.{BoundExpr}
 use Rattle.sq_bound.specs.declared.names.BaseTable.{BaseTable}
@@ -15,7 +18,10 @@ use Rattle.sq_scope.specs.declared.findings.Found.{Found}
 use Rattle.sq_scope.specs.Scope.{scopes_in}
 use Rattle.sq_scope.specs.WellFormed.{MayStandAt, groupings_in}
 use Rattle.sq_scope.specs.declared.scope.Environment.{Environment}
+use Rattle.sq_value.specs.declared.domain.Kind.{Kind}
 use Rattle.sq_bind.specs.declared.change.Receiver.{Receiver}
+use Rattle.sq_bind.specs.declared.query.Joined.{Joined}
+use Rattle.sq_bind.specs.declared.query.Term.{Term}
 
 -- a text that stands in no query
 abbrev pub IsOutermost : Environment → Type 0
@@ -42,3 +48,16 @@ IsStoredIn c value found = (typed : Found Typed) × (value ≡ Ok typed) × (fou
 -- rows of a query whose columns may be stored in these
 abbrev pub IsInsertedQuery : List ObjectColumn → Result (Found BoundSpecification) BindFault → Found InsertedRows → Type 0
 IsInsertedQuery objects query found = (q : Found BoundSpecification) × (query ≡ Ok q) × (found.part ≡ Query q.part) × AllZip MayStore objects (kinds_of_select q.part)
+
+-- a query term with its columns: its query specifications are well formed, and its columns are known beforehand (7.10)
+pub record IsTerm (columns : TableKinds) (parameters : List Kind) (t : Term) : Type 0 where
+  pub specifications : AllByRecursion (IsSelect columns parameters []) (term_specifications t.term)
+  pub kinds_are : term_kinds t.term ≡ Ok (kinds_of_results t.columns)
+
+-- both sides of a UNION have as many columns as it, and it has the common kinds of theirs (7.10)
+abbrev pub AreCommon : List ResultColumn → List ResultColumn → List ResultColumn → Type 0
+AreCommon left right columns = common_kinds (kinds_of_results left) (kinds_of_results right) ≡ Ok (kinds_of_results columns)
+
+-- a query expression that is bound so far
+abbrev pub IsJoined : TableKinds → List Kind → Joined → Type 0
+IsJoined columns parameters j = IsQuery columns parameters j.query

@@ -1,9 +1,11 @@
 //! Query expressions and cursors (ISO/IEC 9075:1992, 7.10, 13.1).
 
-ghost use Rattle.std.specs.Prelude.{◌≡◌, IfOk, IfSome, MatchOption};
-ghost use Rattle.sq_bind.specs.WellFormed.{IsOutermost};
+ghost use Rattle.std.specs.Prelude.{◌≡◌, [], List, IfOk, IfSome, MatchOption};
+ghost use Rattle.sq_value.specs.declared.domain.Kind.{Kind};
+ghost use Rattle.sq_bind.specs.WellFormed.{AreCommon, IsJoined, IsOutermost, IsTerm};
 ghost use Rattle.sq_bound.specs.Fits.{FitsCursor, FitsQuery};
-ghost use Rattle.sq_bound.specs.WellFormed.{IsCursor, IsUpdatable, kinds_of_parameters, kinds_of_results};
+ghost use Rattle.sq_bound.specs.WellFormed.{IsCursor, IsSelect, IsUpdatable, TableKinds, kinds_of_parameters, kinds_of_results};
+ghost use Rattle.sq_bound.specs.declared.query.BoundQuery.{out-BoundQuery};
 ghost use Rattle.sq_bound.specs.declared.query.CursorBody.TheVariants.{Rows, Updatable};
 
 use crate::updatable::bind_updatable;
@@ -46,7 +48,10 @@ pub(crate) fn bind_query<N: Names>(
     names: &N,
     environment: &Environment<'_>,
     numbers: &mut SubqueryNumbers,
-) -> JoinedResult {
+) -> JoinedResult
+    requires { IsOutermost environment.now }
+    ensures { IfOk result (IsJoined (N.column_kinds names.now) (kinds_of_parameters environment.now.parameters.now)) }
+{
     let first = bind_query_term(&query.first, names, environment, numbers);
     let mut joined = started(environment.alloc, first);
     for union in query.rest.as_slice() {
@@ -62,7 +67,10 @@ fn bind_query_term<N: Names>(
     names: &N,
     environment: &Environment<'_>,
     numbers: &mut SubqueryNumbers,
-) -> TermResult {
+) -> TermResult
+    requires { IsOutermost environment.now }
+    ensures { IfOk result (IsTerm (N.column_kinds names.now) (kinds_of_parameters environment.now.parameters.now)) }
+{
     match term {
         QueryTerm::Specification(query) => {
             let query = bind_select(
@@ -89,7 +97,9 @@ fn copied(alloc: Global, columns: &Items<ResultColumn>) -> Result<Items<ResultCo
     Ok(Items::from_slice(alloc, columns.as_slice())?)
 }
 
-fn specification_term(alloc: Global, query: SubqueryResult) -> TermResult {
+fn specification_term(alloc: Global, query: SubqueryResult) -> TermResult
+    ensures { (tables : TableKinds) (parameters : List Kind) → IfOk query (λ found. IsSelect tables parameters [] found.part) → IfOk result (IsTerm tables parameters) }
+{
     let found = query?;
     let lacks_privilege = found.findings.lacks_privilege;
     let columns = copied(alloc, &found.part.columns);
@@ -101,7 +111,9 @@ fn specification_term(alloc: Global, query: SubqueryResult) -> TermResult {
     })
 }
 
-fn bracketed_term(alloc: Global, query: JoinedResult) -> TermResult {
+fn bracketed_term(alloc: Global, query: JoinedResult) -> TermResult
+    ensures { (tables : TableKinds) (parameters : List Kind) → IfOk query (IsJoined tables parameters) → IfOk result (IsTerm tables parameters) }
+{
     let Joined {
         query,
         lacks_privilege,
@@ -115,11 +127,15 @@ fn bracketed_term(alloc: Global, query: JoinedResult) -> TermResult {
     })
 }
 
-fn boxed_query(alloc: Global, query: BoundQuery) -> Result<Boxed<BoundQuery>, BindFault> {
+fn boxed_query(alloc: Global, query: BoundQuery) -> Result<Boxed<BoundQuery>, BindFault>
+    ensures { IfOk result (λ boxed. boxed ≡ query) }
+{
     Ok(Boxed::new(alloc, query)?)
 }
 
-fn started(alloc: Global, term: TermResult) -> JoinedResult {
+fn started(alloc: Global, term: TermResult) -> JoinedResult
+    ensures { (tables : TableKinds) (parameters : List Kind) → IfOk term (IsTerm tables parameters) → IfOk result (IsJoined tables parameters) }
+{
     let Term {
         term,
         columns,
@@ -136,7 +152,9 @@ fn started(alloc: Global, term: TermResult) -> JoinedResult {
 }
 
 /// The query expression with a further term.
-fn with_union(alloc: Global, joined: JoinedResult, all: bool, term: TermResult) -> JoinedResult {
+fn with_union(alloc: Global, joined: JoinedResult, all: bool, term: TermResult) -> JoinedResult
+    ensures { (tables : TableKinds) (parameters : List Kind) → IfOk joined (IsJoined tables parameters) → IfOk term (IsTerm tables parameters) → IfOk result (IsJoined tables parameters) }
+{
     let (joined, term) = both(joined, term)?;
     let columns = common_columns(
         alloc,
@@ -155,7 +173,9 @@ fn push_union(
     all: bool,
     columns: Items<ResultColumn>,
     copy: Items<ResultColumn>,
-) -> JoinedResult {
+) -> JoinedResult
+    ensures { (tables : TableKinds) (parameters : List Kind) → AreCommon (out-BoundQuery joined.query).columns term.columns columns → copy ≡ columns → IsJoined tables parameters joined → IsTerm tables parameters term → IfOk result (IsJoined tables parameters) }
+{
     let BoundQuery {
         first,
         mut rest,
@@ -191,15 +211,17 @@ fn common_columns(
     alloc: Global,
     left: &[ResultColumn],
     right: &[ResultColumn],
-) -> Result<Items<ResultColumn>, BindFault> {
+) -> Result<Items<ResultColumn>, BindFault>
+    ensures { IfOk result (AreCommon left.now right.now) }
+{
     if left.len() != right.len() {
         return Err(BindFault::CountMismatch);
     }
     let mut columns = Items::new(alloc);
-    for (left, right) in left.iter().zip(right) {
-        let kind = union_kind(left.kind, right.kind)?;
+    for (column, beside) in left.iter().zip(right) {
+        let kind = union_kind(column.kind, beside.kind)?;
         columns.push(ResultColumn {
-            name: common_name(left.name, right.name),
+            name: common_name(column.name, beside.name),
             kind,
         })?;
     }

@@ -9,6 +9,7 @@ ghost use Rattle.sq_meaning.specs.Status.{well_formed};
 ghost use Rattle.sq_meaning.specs.WellFormed.{Has};
 ghost use Rattle.sq_scope.specs.WellFormed.{IsItemOver};
 ghost use Rattle.sq_scope.specs.declared.findings.Found.{Found as FoundPart};
+ghost use Rattle.sq_bind.specs.NoBases.{no_base};
 ghost use Rattle.sq_bind.specs.WellFormed.{IsOutermost};
 ghost use Rattle.sq_bound.specs.declared.statement.BoundStatement.TheVariants.{Delete, Insert, Update};
 
@@ -118,6 +119,8 @@ impl Names for OwnColumns<'_> {
     ghost column_kinds = { λ own. only own.place (kinds_of_columns own.columns.now) };
 
     ghost references = { λ _. refl };
+
+    ghost kinds_of_bases = { λ own. no_base (only own.place (kinds_of_columns own.columns.now)) };
 
     fn bases(&self) -> &[Shared<BaseTable>] {
         &[]

@@ -1,4 +1,5 @@
 pub mod ConditionLaws
 pub mod ExpressionLaws
+pub mod JoinedLaws
 pub mod QueryLaws
 pub mod Wider

@@ -1,8 +1,8 @@
 -- Defaults of columns (ISO/IEC 9075:1992, 11.5).
-use Rattle.std.specs.Prelude.{⊤, ◌≡◌, ℤ, ◌≤ℤ◌}
-use Rattle.std.specs.Coded.{×_prop, Unit-prop, le_prop, Coded-set, coded_ℕ, codes}
+use Rattle.std.specs.Prelude.{◌≡◌, ℤ, ◌≤ℤ◌, false}
+use Rattle.std.specs.Coded.{×_prop, Unit-prop, le_prop, Coded-set, coded_bool, coded_ℕ, codes}
 use Rattle.std.proofs.Common.{ℕ, List, length, ap₂}
-use Rattle.sq_value.specs.Domain.{IsInDomain, NumberIsIn, TextIsIn}
+use Rattle.sq_value.specs.Domain.{IsInDomain, NumberIsIn, TextIsIn, is_of_numbers}
 use Rattle.sq_value.specs.Number.{Number}
 use Rattle.sq_value.specs.declared.domain.Domain.{Domain}
 use Rattle.sq_value.specs.declared.domain.Domain.TheVariants.{Small, Int, Numeric, Char, VarChar}
@@ -11,10 +11,10 @@ use Rattle.sq_value.specs.declared.value.Value.TheVariants.{Null, Num, Chars}
 use Rattle.sq_bound.specs.declared.names.ColumnDefault.{ColumnDefault}
 use Rattle.sq_bound.specs.declared.names.ColumnDefault.TheVariants as default
 
--- a default that is a value is in the column's domain; USER is stored at each call
+-- a default that is a value is in the column's domain; USER, a text, is stored at each call
 abbrev pub DefaultIsIn : Domain → ColumnDefault → Type 0
 DefaultIsIn d (default.Value v) = IsInDomain d v
-DefaultIsIn d default.User = ⊤
+DefaultIsIn d default.User = is_of_numbers d ≡ false
 
 -- ---- there is one way at most to be in a domain
 
@@ -50,4 +50,4 @@ IsInDomain-prop d (Chars t) = TextIsIn-prop d t
 
 pub DefaultIsIn-prop : (d : Domain) (c : ColumnDefault) → IsProp (DefaultIsIn d c)
 DefaultIsIn-prop d (default.Value v) = IsInDomain-prop d v
-DefaultIsIn-prop d default.User = Unit-prop
+DefaultIsIn-prop d default.User = Coded-set coded_bool (is_of_numbers d) false

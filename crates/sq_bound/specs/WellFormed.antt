@@ -14,6 +14,7 @@ use Rattle.sq_meaning.specs.WellFormed.{Has, Level, froms, of_lines, is_comparab
 use Rattle.sq_bound.specs.Condition.{PlacedCond, cond_of, select_of}
 use Rattle.sq_bound.specs.Expression.{PlacedExpr, expr_of}
 use Rattle.sq_bound.specs.Fits.{IsColumnOf, under}
+use Rattle.sq_bound.specs.Joined.{joined_kinds, specifications_of}
 use Rattle.sq_bound.specs.SetFunction.{call_of}
 use Rattle.sq_bound.specs.declared.condition.BoundCond.{BoundCond}
 use Rattle.sq_bound.specs.declared.condition.BoundSpecification.{BoundSpecification, out-BoundSpecification}
@@ -32,6 +33,7 @@ use Rattle.sq_bound.specs.declared.names.TableBody.{TableBody}
 use Rattle.sq_bound.specs.declared.names.TableBody.TheVariants as body
 use Rattle.sq_bound.specs.declared.names.TableDesc.{TableDesc}
 use Rattle.sq_bound.specs.declared.query.BoundCursor.{BoundCursor}
+use Rattle.sq_bound.specs.declared.query.BoundQuery.{BoundQuery, out-BoundQuery}
 use Rattle.sq_bound.specs.declared.query.CursorBody.{CursorBody}
 use Rattle.sq_bound.specs.declared.query.CursorBody.TheVariants as cursor
 use Rattle.sq_bound.specs.declared.query.Target.{Target}
@@ -77,6 +79,9 @@ kinds_of_results columns = map (λ c. c.kind) columns
 abbrev pub kinds_of_select : BoundSpecification → List Kind
 kinds_of_select q = kinds_of_results (out-BoundSpecification q).columns
 
+abbrev pub kinds_of_query : BoundQuery → List Kind
+kinds_of_query q = kinds_of_results (out-BoundQuery q).columns
+
 abbrev pub kinds_of_parameters : List ParameterDesc → List Kind
 kinds_of_parameters parameters = map (λ p. kind_of p.domain) parameters
 
@@ -110,6 +115,11 @@ pub record IsCond (columns : TableKinds) (parameters : List Kind) (levels : Leve
 pub record IsSelect (columns : TableKinds) (parameters : List Kind) (levels : Levels) (q : BoundSpecification) : Type 0 where
   pub stands : (rows_of : TablePlace → Outcome (List Row)) → WellFormedSelect (by_place rows_of) (kinds_by_place columns parameters) (IsDeclaredAt parameters) levels (select_of q)
   pub kinds_are : select_kinds (kinds_by_place columns parameters) (froms levels) (select_of q) ≡ Ok (kinds_of_select q)
+
+-- a bound query expression outside every query: its query specifications are, and its columns are known beforehand
+pub record IsQuery (columns : TableKinds) (parameters : List Kind) (q : BoundQuery) : Type 0 where
+  pub specifications : AllByRecursion (IsSelect columns parameters []) (specifications_of q)
+  pub kinds_are : joined_kinds q ≡ Ok (kinds_of_query q)
 
 -- ---- tables
 
@@ -150,10 +160,10 @@ abbrev pub IsUpdatable : TableKinds → List Kind → List Kind → UpdatableQue
 IsUpdatable columns parameters kinds u = IsTarget columns parameters u.target × AllZip (λ p k. slice_get (base_kinds u.target.leaf.table) p ≡ Some k) u.columns kinds
 
 abbrev pub IsCursorBody : TableKinds → List Kind → List Kind → CursorBody → Type 0
-IsCursorBody columns parameters kinds (cursor.Rows q order) = ⊤
+IsCursorBody columns parameters kinds (cursor.Rows q order) = IsQuery columns parameters q × (kinds ≡ kinds_of_query q)
 IsCursorBody columns parameters kinds (cursor.Updatable u) = IsUpdatable columns parameters kinds u
 
--- a cursor that a procedure with these parameters opens; of one over rows nothing is said
+-- a cursor that a procedure with these parameters opens
 abbrev pub IsCursor : TableKinds → List Kind → BoundCursor → Type 0
 IsCursor columns parameters c = IsCursorBody columns parameters (kinds_of_results c.columns) c.body
 

@@ -26,9 +26,11 @@ pub enum Action {
 
 /// The tables, views and privileges that a user's texts may name.
 pub trait Names {
+    ghost use Rattle.std.specs.Prelude.{ℕ, Ok};
+    ghost use Rattle.sq_bound.specs.declared.condition.TablePlace.TheVariants as at_place;
     ghost use Rattle.sq_bound.specs.declared.names.BaseTable.{BaseTable};
     ghost use Rattle.sq_bound.specs.Fits.{IsOver, all_refer};
-    ghost use Rattle.sq_bound.specs.WellFormed.{IsTable, TableKinds};
+    ghost use Rattle.sq_bound.specs.WellFormed.{IsTable, TableKinds, base_kinds, kinds_of_columns};
 
     ghost base_tables: { Self → List BaseTable };
 
@@ -47,7 +49,8 @@ pub trait Names {
     /// The base table or view at this place.
     fn at(&self, place: TablePlace) -> Option<&TableDesc>
         ensures over { IfSome result (λ t. IsOver (base_tables self.now) t.now) }
-        ensures well_formed { IfSome result (λ t. IsTable (column_kinds self.now) t.now) };
+        ensures well_formed { IfSome result (λ t. IsTable (column_kinds self.now) t.now) }
+        ensures kinds { IfSome result (λ t. column_kinds self.now place ≡ Ok (kinds_of_columns t.now.columns)) };
 
     /// Whether the user holds the action on the table of this owner and name, or on the column at a position of it.
     fn may(&self, user: Name, action: Action, table: (Name, Name), column: Option<usize>) -> bool;
@@ -62,6 +65,8 @@ pub trait Names {
     ) -> bool;
 
     ghost references: { (names : Self) → all_refer (base_tables names) ≡ true };
+
+    ghost kinds_of_bases: { (names : Self) (place : ℕ) (b : BaseTable) → slice_get (base_tables names) place ≡ Some b → column_kinds names (at_place.Base place) ≡ Ok (base_kinds b) };
 }
 
 /// The cursors of a module.

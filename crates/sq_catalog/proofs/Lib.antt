@@ -1,5 +1,6 @@
-pub mod Gains
+pub mod Added
 pub mod Extending
+pub mod Gains
 pub mod Listed
 pub mod Seen
 pub mod Stored

@@ -115,6 +115,7 @@ next_made bases b columns width t h place kinds checks refer =
         body = body_made (bases ++ b ∷ []) b (length t.columns) t.body (base_behind bases b place) (ap length h.columns ∙ count) h.body;
       };
       table = λ views. table_made bases b columns views t h place kinds checks;
+      kinds = sym kinds ∙ ap kinds_of_columns (sym h.columns);
       refer = refer_made bases b width b.references refer;
     }
 

@@ -1,5 +1,6 @@
 -- What a catalog defines, and what schema texts declare (ISO/IEC 9075:1992, 11.1 and 11.3).
-use Rattle.std.specs.Prelude.{◌≡◌, ℕ, ◌+◌, Bool, true, ◌&&◌, List, [], ◌∷◌, ◌++◌, length, flat_map, Option, None, unwrap_or, nat_eq, position, slice_get}
+use Rattle.std.proofs.Common.{ap}
+use Rattle.std.specs.Prelude.{◌≡◌, ℕ, ◌+◌, Bool, true, ◌&&◌, List, [], ◌∷◌, ◌++◌, length, flat_map, Ok, Option, None, Some, unwrap_or, nat_eq, position, slice_get}
 use Rattle.std.specs.Option.{option_map}
 use Rattle.std.specs.Cmp.Lexicographic.{pointwise}
 use Rattle.sq_lex.specs.declared.name.Name.{Name}
@@ -29,6 +30,10 @@ pub record Catalog : Type 0 where
 abbrev pub kinds_at : List BaseTable → List (List Kind) → TableKinds
 kinds_at bases views (Base n) = well_formed (option_map base_kinds (slice_get bases n))
 kinds_at bases views (View n) = well_formed (slice_get views n)
+
+-- those of a base table are of its columns' domains
+pub base_there : (c : Catalog) (place : ℕ) (b : BaseTable) → slice_get c.bases place ≡ Some b → kinds_at c.bases c.views (Base place) ≡ Ok (base_kinds b)
+base_there c place b there = ap (λ found. well_formed (option_map base_kinds found)) there
 
 -- the kinds of the columns of each table and view
 abbrev pub column_kinds : Catalog → TableKinds

@@ -1,11 +1,11 @@
 -- Tables and views over the base tables of a catalog. (Own notion: they are found by places.)
-use Rattle.std.specs.Prelude.{⊤, ◌≡◌, ℕ, true, List, [], ◌∷◌, ◌++◌, length, map, Option, IfSome}
-use Rattle.std.specs.List.{All, AllByRecursion, list_all}
+use Rattle.std.specs.Prelude.{⊤, ◌≡◌, ℕ, true, List, [], ◌∷◌, ◌++◌, length, map, slice_get, Option, Some, IfSome}
+use Rattle.std.specs.List.{All, AllByRecursion, AllZip, list_all}
 use Rattle.sq_lex.specs.declared.name.Name.{Name}
 use Rattle.sq_value.specs.declared.domain.Kind.{Kind}
 use Rattle.sq_bound.specs.Fits.{FitsQuery, IsBase, IsOver, refers}
 use Rattle.sq_bound.specs.Names.{is_kind_at}
-use Rattle.sq_bound.specs.WellFormed.{IsBody as IsBodyOver, IsCond, IsLeaf, IsSelect, IsTable, IsUpdatable, TableKinds, kinds_of_columns, kinds_of_select, of_base_at, only, place_of}
+use Rattle.sq_bound.specs.WellFormed.{IsBody as IsBodyOver, IsCond, IsLeaf, IsSelect, IsTable, IsUpdatable, TableKinds, base_kinds, kinds_of_columns, kinds_of_select, of_base_at, only, place_of}
 use Rattle.sq_bound.specs.declared.condition.BoundCond.{BoundCond}
 use Rattle.sq_bound.specs.declared.condition.BoundSpecification.{BoundSpecification}
 use Rattle.sq_bound.specs.declared.query.UpdatableQuery.{UpdatableQuery}
@@ -36,6 +36,14 @@ AreStored bases entries = All (λ e. IsStored bases e.1) entries
 abbrev pub AreTables : TableKinds → List (FullName × TableDesc) → Type 0
 AreTables columns entries = All (λ e. IsTable columns e.1) entries
 
+-- each base table, in the order of the places, stands under a name with columns of its kinds
+abbrev pub AreDescribed : List BaseTable → List (FullName × TableDesc) → Type 0
+AreDescribed = AllZip (λ b e. base_kinds b ≡ kinds_of_columns e.1.columns)
+
+-- a table is the one at a place, under some name
+abbrev pub StandsAt : List (FullName × TableDesc) → ℕ → TableDesc → Type 0
+StandsAt entries place t = (name : FullName) × (slice_get entries place ≡ Some (name, t))
+
 -- the kinds of the columns of each
 abbrev pub kinds_of_views : List (FullName × TableDesc) → List (List Kind)
 kinds_of_views entries = map (λ e. kinds_of_columns e.1.columns) entries
@@ -65,6 +73,7 @@ pub record IsDescribed (b : BaseTable) (described : List Column) (t : TableDesc)
 pub record IsNext (bases : List BaseTable) (t : TableDesc) (b : BaseTable) : Type 0 where
   pub stored : IsStored (bases ++ b ∷ []) t
   pub table : (views : List (List Kind)) → IsTable (kinds_at (bases ++ b ∷ []) views) t
+  pub kinds : base_kinds b ≡ kinds_of_columns t.columns
   pub refer : list_all (refers (bases ++ b ∷ [])) b.references ≡ true
 
 -- a view that can be stored behind those of a catalog

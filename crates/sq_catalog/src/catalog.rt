@@ -1,14 +1,14 @@
 //! The catalog, built element by element (ISO/IEC 9075:1992, 11.1).
 
-ghost use Rattle.std.specs.Prelude.{◌≡◌, List, [], ◌∷◌, ◌++◌, true, IfErr, IfOk, IfSome, None, OnErr, OnOk, is_none, length, map};
+ghost use Rattle.std.specs.Prelude.{◌≡◌, List, [], ◌∷◌, ◌++◌, true, IfErr, IfOk, IfSome, None, Ok, OnErr, OnOk, is_none, length, map};
 ghost use Rattle.std.specs.Map.{keys_of};
 ghost use Rattle.sq_store.specs.Keys.{keys_of as keys_given};
 ghost use Rattle.sq_bound.specs.Fits.{all_refer, keys_of_bases};
-ghost use Rattle.sq_bound.specs.WellFormed.{IsTable, TableKinds};
+ghost use Rattle.sq_bound.specs.WellFormed.{IsTable, TableKinds, kinds_of_columns};
 ghost use Rattle.sq_bound.specs.declared.names.BaseTable.{BaseTable as Base};
-ghost use Rattle.sq_catalog.specs.Catalog.{Gains, IsNewName, column_kinds, declared_tables, named_by, schema_tables, table_in, table_number, text_tables};
+ghost use Rattle.sq_catalog.specs.Catalog.{Gains, IsNewName, base_there, column_kinds, declared_tables, named_by, schema_tables, table_in, table_number, text_tables};
 ghost use Rattle.sq_catalog.specs.Fault.{IsOfSomeText, IsOfText};
-ghost use Rattle.sq_catalog.specs.Stored.{AreStored, AreTables, IsNext, IsNextView, IsStored};
+ghost use Rattle.sq_catalog.specs.Stored.{AreStored, AreTables, IsNext, IsNextView, IsStored, StandsAt};
 
 use crate::fault::{CatalogFault, ElementFault, RefusalName, SchemaRefusal, refused_if};
 use crate::grants::{Held, Privilege};
@@ -60,7 +60,7 @@ impl Model for Catalog {
     ghost use Rattle.sq_bound.specs.contracts.names.BaseColumn as column;
     ghost use Rattle.sq_bound.specs.contracts.names.BaseTable as base;
     ghost use Rattle.sq_catalog.specs.Catalog.{Catalog, kinds_at};
-    ghost use Rattle.sq_catalog.specs.Stored.{AreStored, AreTables, kinds_of_views};
+    ghost use Rattle.sq_catalog.specs.Stored.{AreDescribed, AreStored, AreTables, kinds_of_views};
 
     ghost Value = { Catalog };
 
@@ -68,7 +68,7 @@ impl Model for Catalog {
 
     ghost view = { λ c. record { tables = keys_of c.bases.entries; bases = c.base_tables.items; view_names = keys_of c.views.entries; views = kinds_of_views c.views.entries; refer = c.refer } };
 
-    ghost invariant = { λ c. AreStored c.base_tables.items c.bases.entries × AreStored c.base_tables.items c.views.entries × AreTables (kinds_at c.base_tables.items (kinds_of_views c.views.entries)) c.bases.entries × AreTables (kinds_at c.base_tables.items (kinds_of_views c.views.entries)) c.views.entries };
+    ghost invariant = { λ c. AreStored c.base_tables.items c.bases.entries × AreStored c.base_tables.items c.views.entries × AreTables (kinds_at c.base_tables.items (kinds_of_views c.views.entries)) c.bases.entries × AreTables (kinds_at c.base_tables.items (kinds_of_views c.views.entries)) c.views.entries × AreDescribed c.base_tables.items c.bases.entries };
 }
 
 impl Catalog {
@@ -208,14 +208,7 @@ impl Catalog {
         requires next { IsNext self.old.bases table base }
         ensures { OnOk result (Gains self.old self.new (name ∷ [])) }
     {
-        match self.base_tables.push(base) {
-            Ok(()) => insert_table(&mut self.bases, name, table),
-            Err(error) => {
-                drop(error);
-                drop(table);
-                Err(ElementFault::NoMemory)
-            }
-        }
+        insert_base(&mut self.bases, &mut self.base_tables, name, table, base)
     }
 
     /// Adds a view of a new name behind the others.
@@ -253,6 +246,7 @@ impl Catalog {
     fn table_at(&self, place: TablePlace) -> Option<&TableDesc>
         ensures stored { IfSome result (λ table. IsStored self.now.bases table.now) }
         ensures well_formed { IfSome result (λ table. IsTable (column_kinds self.now) table.now) }
+        ensures kinds { IfSome result (λ table. column_kinds self.now place ≡ Ok (kinds_of_columns table.now.columns)) }
     {
         match place {
             TablePlace::Base(place) => value_at(&self.bases, place),
@@ -283,6 +277,31 @@ impl Catalog {
     }
 }
 
+/// Adds a base table behind the others, and the table as names see it under a new name: both, or out of memory neither.
+fn insert_base(
+    tables: &mut IndexMap<FullName, TableDesc>,
+    bases: &mut Vec<Shared<BaseTable>>,
+    name: FullName,
+    table: TableDesc,
+    base: Shared<BaseTable>,
+) -> Result<(), ElementFault>
+    requires { table_number (keys_of tables.old.entries) name.user name.name ≡ None }
+    ensures names { OnOk result (keys_of tables.new.entries ≡ keys_of tables.old.entries ++ name ∷ []) }
+    ensures added { OnOk result (tables.new.entries ≡ tables.old.entries ++ (name, table) ∷ []) }
+    ensures bases { OnOk result (bases.new.items ≡ bases.old.items ++ base ∷ []) }
+    ensures unchanged { OnErr result ((tables.new.entries ≡ tables.old.entries) × (bases.new.items ≡ bases.old.items)) }
+{
+    if bases.push(base).is_err() {
+        drop(table);
+        return Err(ElementFault::NoMemory);
+    }
+    let inserted = insert_table(tables, name, table);
+    if inserted.is_err() {
+        drop(bases.pop());
+    }
+    inserted
+}
+
 /// Adds a table or view of a new name.
 fn insert_table(
     tables: &mut IndexMap<FullName, TableDesc>,
@@ -310,6 +329,7 @@ fn insert_table(
 fn value_at(tables: &IndexMap<FullName, TableDesc>, place: usize) -> Option<&TableDesc>
     ensures stored { IfSome result (λ table. (bases : List Base) → AreStored bases tables.now.entries → IsStored bases table.now) }
     ensures well_formed { IfSome result (λ table. (columns : TableKinds) → AreTables columns tables.now.entries → IsTable columns table.now) }
+    ensures there { IfSome result (λ table. StandsAt tables.now.entries place table.now) }
 {
     let (_, table) = tables.get_index(place)?;
     Some(table)
@@ -371,6 +391,8 @@ impl Names for Catalog {
     ghost column_kinds = { column_kinds };
 
     ghost references = { λ c. c.refer };
+
+    ghost kinds_of_bases = { base_there };
 
     fn bases(&self) -> &[Shared<BaseTable>] {
         self.base_tables.as_slice()

@@ -1,9 +1,20 @@
--- The values that an insert statement gives (ISO/IEC 9075:1992, 13.8).
-use Rattle.std.specs.Prelude.{⊤, ◌≡◌, ℕ, List, [], ◌∷◌}
-use Rattle.std.specs.List.{Contains}
-use Rattle.sq_value.specs.Domain.{IsInDomain}
+-- The values that insert and update statements give (ISO/IEC 9075:1992, 13.8 to 13.10).
+use Rattle.std.specs.Prelude.{⊤, ◌≡◌, ℕ, List, [], ◌∷◌, Ok}
+use Rattle.std.specs.List.{AllByRecursion, AllZip, Contains}
+use Rattle.sq_lex.specs.declared.name.Name.{Name}
+use Rattle.sq_value.specs.Domain.{FitsKind, IsInDomain}
 use Rattle.sq_value.specs.declared.value.Value.{Value}
+use Rattle.sq_value.specs.declared.domain.Domain.{Domain}
+use Rattle.sq_value.specs.declared.domain.Kind.{Kind}
+use Rattle.sq_meaning.specs.Environment.{Row, Line}
+use Rattle.sq_meaning.specs.WellFormed.{IsRowOf}
+use Rattle.sq_bound.specs.WellFormed.{TableKinds, IsSource, IsAssignment}
+use Rattle.sq_bound.specs.declared.expression.BoundExpr.{BoundExpr}
+use Rattle.sq_bound.specs.declared.names.BaseTable.{BaseTable}
 use Rattle.sq_bound.specs.declared.names.ObjectColumn.{ObjectColumn}
+use Rattle.sq_bound.specs.declared.statement.BoundAssignment.{BoundAssignment}
+use Rattle.sq_bound.specs.declared.statement.InsertedRows.{InsertedRows}
+use Rattle.sq_query.specs.Row.{HasValueOn}
 
 -- each value is in the domain of its column
 abbrev pub AreStored : List ObjectColumn → List Value → Type 0
@@ -14,3 +25,35 @@ AreStored (c ∷ columns) (v ∷ values) = IsInDomain c.domain v × AreStored co
 -- the value is in the domain of a column at this position
 abbrev pub IsStoredFor : List ObjectColumn → ℕ → Value → Type 0
 IsStoredFor columns position v = (c : ObjectColumn) × Contains columns c × (c.position ≡ position) × IsInDomain c.domain v
+
+-- ---- what may be stored (9.2)
+
+-- a value for each column: null, a number for a domain of numbers, or a text for one of texts
+abbrev pub FitColumns : List ObjectColumn → List Value → Type 0
+FitColumns = AllZip (λ c v. FitsKind c.domain v)
+
+-- where the expression has a value on the line, it is such a one for the domain
+abbrev pub IsStorable : Domain → BoundExpr → Line → List Value → Name → Type 0
+IsStorable domain e line parameters user = (v : Value) → HasValueOn (Ok v) e line parameters user → FitsKind domain v
+
+-- an expression for each column, whose value may be stored there
+abbrev pub AreStorable : List ObjectColumn → List BoundExpr → List Value → Name → Type 0
+AreStorable columns es parameters user = AllZip (λ c e. IsStorable c.domain e [] parameters user) columns es
+
+-- the values of set clauses on a row may be stored in their columns
+abbrev pub AreAssignable : List BoundAssignment → Row → List Value → Name → Type 0
+AreAssignable assignments row parameters user = AllByRecursion (λ a. IsStorable a.column.domain a.value (row ∷ []) parameters user) assignments
+
+-- ---- statements
+
+-- the source of an insert statement is well formed where the parameters, which have these values, are of some kinds
+pub record MayGive (columns : TableKinds) (values : List Value) (objects : List ObjectColumn) (source : InsertedRows) : Type 0 where
+  pub parameters : List Kind
+  pub inputs : IsRowOf parameters values
+  pub given : IsSource columns parameters objects source
+
+-- so are the set clauses of an update statement of the base table
+pub record MayAssign (columns : TableKinds) (values : List Value) (table : BaseTable) (assignments : List BoundAssignment) : Type 0 where
+  pub parameters : List Kind
+  pub inputs : IsRowOf parameters values
+  pub assigned : AllByRecursion (IsAssignment columns parameters table) assignments

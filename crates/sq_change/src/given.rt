@@ -1,12 +1,15 @@
 //! The rows that an insert statement makes (ISO/IEC 9075:1992, 13.8).
 
-ghost use Rattle.std.specs.Prelude.{◌≡◌, ◌<◌, length, nat_eq, true, vec_len, IfOk, IfSome};
+ghost use Rattle.std.specs.Prelude.{◌≡◌, ◌<◌, [], length, nat_eq, true, vec_len, IfOk, IfSome, List};
 ghost use Rattle.std.specs.List.{AllByRecursion, position};
 ghost use Rattle.sq_value.specs.Domain.{IsInDomain};
 ghost use Rattle.sq_store.specs.Change.{rows_put};
-ghost use Rattle.sq_bound.specs.Fits.{IsColumnOf, IsRowIn};
+ghost use Rattle.sq_value.specs.declared.domain.Kind.{Kind};
+ghost use Rattle.sq_meaning.specs.WellFormed.{AreRowsOf, IsRowOf};
+ghost use Rattle.sq_bound.specs.Fits.{AreInDomains, IsColumnOf, IsRowIn};
+ghost use Rattle.sq_bound.specs.WellFormed.{IsSelect, kinds_of_select};
 ghost use Rattle.sq_change.specs.Changed.{AreRowsPut, are_insertions, are_wide};
-ghost use Rattle.sq_change.specs.Given.{AreStored, IsStoredFor};
+ghost use Rattle.sq_change.specs.Given.{AreStorable, AreStored, FitColumns, IsStoredFor, MayGive};
 
 use crate::setting::Setting;
 use crate::storing::{assigned, stored_value};
@@ -27,7 +30,9 @@ pub(crate) fn new_rows<N: Names, S: Store>(
     table: &BaseTable,
     meter: &mut Meter,
 ) -> Result<Vec<Change>, Fault>
-    requires { AllByRecursion (IsColumnOf table.now) insert.now.columns }
+    requires columns { AllByRecursion (IsColumnOf table.now) insert.now.columns }
+    requires in_domains { AreInDomains (N.base_tables setting.now.names.now) (S.content_now setting.now.store.now) }
+    requires given { MayGive (N.column_kinds setting.now.names.now) setting.now.parameters.now insert.now.columns insert.now.source }
     ensures insertions { IfOk result (λ changes. are_insertions changes.items ≡ true) }
     ensures wide { IfOk result (λ changes. are_wide (length table.now.columns) (rows_put changes.items) ≡ true) }
     ensures in_domains { IfOk result (λ changes. AreRowsPut table.now.columns changes.items) }
@@ -43,6 +48,8 @@ fn given_rows<N: Names, S: Store>(
     insert: &BoundInsert,
     meter: &mut Meter,
 ) -> Result<Vec<Row>, Fault>
+    requires in_domains { AreInDomains (N.base_tables setting.now.names.now) (S.content_now setting.now.store.now) }
+    requires given { MayGive (N.column_kinds setting.now.names.now) setting.now.parameters.now insert.now.columns insert.now.source }
     ensures some { IfOk result (λ rows. 0 < vec_len rows) }
     ensures stored { IfOk result (λ rows. AllByRecursion (AreStored insert.now.columns) rows.items) }
 {
@@ -67,6 +74,7 @@ fn given_values<N: Names, S: Store>(
     columns: &[ObjectColumn],
     values: &[BoundExpr],
 ) -> Result<Row, Fault>
+    requires { AreStorable columns.now values.now setting.now.parameters.now setting.now.user }
     ensures { IfOk result (AreStored columns.now) }
 {
     let mut row = Items::new(setting.alloc);
@@ -82,7 +90,10 @@ fn rows_found<N: Names, S: Store>(
     query: &BoundSpecification,
     meter: &mut Meter,
 ) -> Result<Vec<Row>, Fault>
-    ensures { IfOk result (λ rows. 0 < vec_len rows) }
+    requires { AreInDomains (N.base_tables setting.now.names.now) (S.content_now setting.now.store.now) }
+    ensures some { IfOk result (λ rows. 0 < vec_len rows) }
+    ensures kinds { (parameters : List Kind) → IsRowOf parameters setting.now.parameters.now → IsSelect (N.column_kinds setting.now.names.now) parameters [] query.now
+        → IfOk result (λ rows. AreRowsOf (kinds_of_select query.now) rows.items) }
 {
     let rows = specification_rows(
         setting.alloc,
@@ -100,6 +111,7 @@ fn rows_found<N: Names, S: Store>(
 
 /// Rows as the columns store them.
 fn stored_rows(alloc: Global, columns: &[ObjectColumn], rows: &[Row]) -> Result<Vec<Row>, Fault>
+    requires { AllByRecursion (FitColumns columns.now) rows.now }
     ensures count { IfOk result (λ stored. vec_len stored ≡ length rows.now) }
     ensures stored { IfOk result (λ stored. AllByRecursion (AreStored columns.now) stored.items) }
 {
@@ -112,6 +124,7 @@ fn stored_rows(alloc: Global, columns: &[ObjectColumn], rows: &[Row]) -> Result<
 
 /// A row as the columns store it.
 fn stored_row(alloc: Global, columns: &[ObjectColumn], row: &[Value]) -> Result<Row, Fault>
+    requires { FitColumns columns.now row.now }
     ensures { IfOk result (AreStored columns.now) }
 {
     let mut stored = Items::new(alloc);

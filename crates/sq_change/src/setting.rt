@@ -1,6 +1,8 @@
 //! What a statement reads.
 
 ghost use Rattle.std.specs.Prelude.{◌≡◌};
+ghost use Rattle.std.specs.Option.{option_copied};
+ghost use Rattle.sq_query.specs.Row.{line_of, HasValueOn};
 
 use sq_bound::{BoundCond, BoundExpr, Names};
 use sq_lex::Name;
@@ -15,8 +17,8 @@ pub(crate) struct Setting<'a, N: Names, S: Store> {
     pub(crate) alloc: Global,
     pub(crate) names: &'a N,
     pub(crate) store: &'a S,
-    user: Name,
-    parameters: &'a [Value],
+    pub(crate) user: Name,
+    pub(crate) parameters: &'a [Value],
 }
 
 impl<'a, N: Names, S: Store> Setting<'a, N, S> {
@@ -29,6 +31,8 @@ impl<'a, N: Names, S: Store> Setting<'a, N, S> {
     ) -> Setting<'a, N, S>
         ensures names { result.names.now ≡ names.now }
         ensures store { result.store.now ≡ store.now }
+        ensures user { result.user ≡ user }
+        ensures parameters { result.parameters.now ≡ parameters.now }
     {
         Setting {
             alloc,
@@ -40,7 +44,10 @@ impl<'a, N: Names, S: Store> Setting<'a, N, S> {
     }
 
     /// The user and the parameters' values.
-    pub(crate) fn inputs(&self) -> Inputs<'a> {
+    pub(crate) fn inputs(&self) -> Inputs<'a>
+        ensures user { result.user ≡ self.now.user }
+        ensures parameters { result.parameters.now ≡ self.now.parameters.now }
+    {
         Inputs {
             user: self.user,
             parameters: self.parameters,
@@ -48,7 +55,9 @@ impl<'a, N: Names, S: Store> Setting<'a, N, S> {
     }
 
     /// The value of an expression, which may read a row of a base table.
-    pub(crate) fn value(&self, expr: &BoundExpr, row: Option<&Row>) -> Result<Value, Fault> {
+    pub(crate) fn value(&self, expr: &BoundExpr, row: Option<&Row>) -> Result<Value, Fault>
+        ensures { HasValueOn result expr.now (line_of (option_copied row.entry)) self.now.parameters.now self.now.user }
+    {
         value_of(self.alloc, self.names, expr, row, self.store, self.inputs())
     }
 

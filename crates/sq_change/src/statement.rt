@@ -6,6 +6,7 @@ ghost use Rattle.sq_store.specs.Change.{insert_count, rows_put};
 ghost use Rattle.sq_store.specs.Content.{table_at};
 ghost use Rattle.sq_bound.specs.Fits.{AreInDomains, IsBase, IsColumnOf, are_columns, holds, keys_of_bases, under};
 ghost use Rattle.sq_change.specs.Changed.{AreRowsPut, Removals, Replacements, are_insertions, are_wide};
+ghost use Rattle.sq_change.specs.Given.{MayAssign, MayGive};
 ghost use Rattle.sq_change.specs.Statement.{Deletes, Inserts, IsGiven, Updates};
 
 use crate::complete::{Changed, complete};
@@ -17,8 +18,8 @@ use sq_query::{Failure, Fault, Inputs};
 use sq_store::{Change, Meter, Store};
 use std::alloc::Global;
 
-/// Performs an insert statement (ISO/IEC 9075:1992, 13.8). The store keeps the tables of the names and their keys, and the
-/// statement is over one of these tables.
+/// Performs an insert statement (ISO/IEC 9075:1992, 13.8). The store keeps the tables of the names and their keys, the
+/// statement is over one of these tables, and its source is well formed.
 #[tactic(auto, using(crate::proofs::Made::inserts))]
 pub fn insert<N: Names, S: Store>(
     alloc: Global,
@@ -33,6 +34,7 @@ pub fn insert<N: Names, S: Store>(
     requires keys { S.key_columns store.old ≡ keys_of_bases (N.base_tables names.now) }
     requires base { IsBase (N.base_tables names.now) insert.now.leaf.table }
     requires columns { AllByRecursion (IsColumnOf insert.now.leaf.table) insert.now.columns }
+    requires given { MayGive (N.column_kinds names.now) inputs.parameters.now insert.now.columns insert.now.source }
     ensures ok { OnOk result (Inserts insert.now.base (S.content_now store.old) (S.content_now store.new)) }
     ensures err { OnErr result (S.content_now store.new ≡ S.content_now store.old) }
     ensures tables { holds (N.base_tables names.now) (S.content_now store.new) ≡ true }
@@ -57,6 +59,8 @@ fn inserted<N: Names, S: Store>(
 ) -> Result<Changed, Fault>
     requires place { insert.now.leaf.table.place < length (S.content_now setting.now.store.now) }
     requires columns { AllByRecursion (IsColumnOf insert.now.leaf.table) insert.now.columns }
+    requires in_domains { AreInDomains (N.base_tables setting.now.names.now) (S.content_now setting.now.store.now) }
+    requires given { MayGive (N.column_kinds setting.now.names.now) setting.now.parameters.now insert.now.columns insert.now.source }
     ensures insertions { IfOk result (λ changed. are_insertions changed.changes.items ≡ true) }
     ensures some { IfOk result (λ changed. 0 < vec_len changed.changes) }
     ensures wide { IfOk result (λ changed. are_wide (length insert.now.leaf.table.columns) (rows_put changed.changes.items) ≡ true) }
@@ -78,7 +82,7 @@ fn inserted<N: Names, S: Store>(
 
 /// Performs an update statement (13.9, 13.10). `on` is the number of the row that the cursor is on, for a positioned one.
 /// The store keeps the tables of the names and their keys, the statement is over one of these tables, and its set clauses
-/// are for columns of it.
+/// are for columns of it and well formed.
 #[tactic(auto, using(crate::proofs::Made::updates))]
 pub fn update<N: Names, S: Store>(
     alloc: Global,
@@ -96,6 +100,7 @@ pub fn update<N: Names, S: Store>(
     requires base { IsBase (N.base_tables names.now) (under update.now.target).table }
     requires columns { are_columns (length (under update.now.target).table.columns) update.now.assignments ≡ true }
     requires domains { AllByRecursion (λ a. IsColumnOf (under update.now.target).table a.column) update.now.assignments }
+    requires assigned { MayAssign (N.column_kinds names.now) inputs.parameters.now (under update.now.target).table update.now.assignments }
     ensures ok { OnOk result (Updates update.now.target on (S.content_now store.old) (S.content_now store.new)) }
     ensures err { OnErr result (S.content_now store.new ≡ S.content_now store.old) }
     ensures tables { holds (N.base_tables names.now) (S.content_now store.new) ≡ true }
@@ -124,6 +129,7 @@ fn updated<N: Names, S: Store>(
     requires columns { are_columns (length (under update.now.target).table.columns) update.now.assignments ≡ true }
     requires in_domains { AreInDomains (N.base_tables setting.now.names.now) (S.content_now setting.now.store.now) }
     requires domains { AllByRecursion (λ a. IsColumnOf (under update.now.target).table a.column) update.now.assignments }
+    requires assigned { MayAssign (N.column_kinds setting.now.names.now) setting.now.parameters.now (under update.now.target).table update.now.assignments }
     ensures replacements { IfOk result (λ changed. Replacements update.now.target on changed.changes.items) }
     ensures wide { IfOk result (λ changed. are_wide (length (under update.now.target).table.columns) (rows_put changed.changes.items) ≡ true) }
     ensures in_domains { IfOk result (λ changed. AreRowsPut (under update.now.target).table.columns changed.changes.items) }

@@ -1,9 +1,12 @@
 //! Values as the columns of a base table store them (ISO/IEC 9075:1992, 9.2).
 
 ghost use Rattle.std.specs.Prelude.{◌≡◌, ◌↔◌, IfOk, IsTrue};
+ghost use Rattle.std.specs.Option.{option_copied};
 ghost use Rattle.sq_meaning.specs.Assignment as spec;
 ghost use Rattle.sq_query.specs.Fault.{Meets};
+ghost use Rattle.sq_query.specs.Row.{line_of};
 ghost use Rattle.sq_value.specs.Domain.{FitsKind, IsDomain, IsInDomain, is_of_numbers};
+ghost use Rattle.sq_change.specs.Given.{IsStorable};
 
 use crate::setting::Setting;
 use sq_bound::{BoundExpr, Names, ObjectColumn};
@@ -12,30 +15,29 @@ use sq_store::Store;
 use sq_value::{Domain, Row, Value, store};
 use std::alloc::Global;
 
-/// The value of an expression as a column stores it.
+/// The value of an expression as a column stores it. It is asked for that the column may store it.
 pub(crate) fn stored_value<N: Names, S: Store>(
     setting: &Setting<'_, N, S>,
     column: ObjectColumn,
     expr: &BoundExpr,
     row: Option<&Row>,
 ) -> Result<Value, Fault>
+    requires { IsStorable column.domain expr.now (line_of (option_copied row)) setting.now.parameters.now setting.now.user }
     ensures { IfOk result (IsInDomain column.domain) }
 {
     let value = setting.value(expr, row)?;
     assigned(setting.alloc, column.domain, &value)
 }
 
-/// A value as a domain stores it, a number where the domain is one of numbers, or a text where it is one of texts.
+/// A value as a domain stores it. It is asked for that the value is null, a number for a domain of numbers, or a text for
+/// one of texts.
 #[tactic(auto, using(crate::proofs::Stored::ok_meets, crate::proofs::Stored::err_meets))]
 pub fn assigned(alloc: Global, domain: Domain, value: &Value) -> Result<Value, Fault>
-    requires { IsDomain domain }
-    ensures fit { FitsKind domain value.now → Meets result (spec.assigned domain value.now) }
-    ensures unfit { ¬ FitsKind domain value.now → result ≡ Err Fault.NOT_WELL_FORMED }
+    requires domain { IsDomain domain }
+    requires kind { FitsKind domain value.now }
+    ensures fit { Meets result (spec.assigned domain value.now) }
     ensures in_domain { IfOk result (IsInDomain domain) }
 {
-    if !fits_kind(domain, value) {
-        return Err(Fault::NOT_WELL_FORMED);
-    }
     match store(alloc, value, domain) {
         Ok(stored) => Ok(stored),
         Err(fault) => Err(Fault::from(fault)),

@@ -6,6 +6,7 @@ ghost use Rattle.sq_store.specs.Change.{rows_put};
 ghost use Rattle.sq_bound.specs.Fits.{AreInDomains, IsBase, IsColumnOf, IsRowIn, are_columns, holds, under};
 ghost use Rattle.sq_bound.specs.declared.names.BaseTable.{BaseTable as AnyTable};
 ghost use Rattle.sq_change.specs.Changed.{AreRowsPut, are_replacements, are_wide};
+ghost use Rattle.sq_change.specs.Given.{AreAssignable, IsStorable, MayAssign};
 ghost use Rattle.sq_change.specs.Statement.{Chosen, IsGiven};
 
 use crate::setting::Setting;
@@ -81,6 +82,7 @@ pub(crate) fn replaced<N: Names, S: Store>(
     requires columns { are_columns (length table.now.columns) assignments.now ≡ true }
     requires in_domains { AreInDomains (N.base_tables setting.now.names.now) (S.content_now setting.now.store.now) }
     requires domains { AllByRecursion (λ a. IsColumnOf table.now a.column) assignments.now }
+    requires assigned { MayAssign (N.column_kinds setting.now.names.now) setting.now.parameters.now table.now assignments.now }
     ensures replacements { IfOk result (λ changes. are_replacements numbers.now changes.items ≡ true) }
     ensures wide { IfOk result (λ changes. are_wide (length table.now.columns) (rows_put changes.items) ≡ true) }
     ensures in_domains { IfOk result (λ changes. AreRowsPut table.now.columns changes.items) }
@@ -102,7 +104,8 @@ fn updated_row<N: Names, S: Store>(
     assignments: &[BoundAssignment],
     row: &Row,
 ) -> Result<Row, Fault>
-    requires { are_columns (length row.now) assignments.now ≡ true }
+    requires columns { are_columns (length row.now) assignments.now ≡ true }
+    requires assignable { AreAssignable assignments.now row.now setting.now.parameters.now setting.now.user }
     ensures wide { IfOk result (λ updated. length updated ≡ length row.now) }
     ensures in_domains { IfOk result (λ updated. (t : AnyTable) → AllByRecursion (λ a. IsColumnOf t a.column) assignments.now → IsRowIn t.columns row.now
         → IsRowIn t.columns updated) }
@@ -121,7 +124,8 @@ fn assign<N: Names, S: Store>(
     row: &Row,
     updated: &mut [Value],
 ) -> Result<(), Fault>
-    requires { assignment.now.column.position < length updated.old }
+    requires position { assignment.now.column.position < length updated.old }
+    requires storable { IsStorable assignment.now.column.domain assignment.now.value (row.now ∷ []) setting.now.parameters.now setting.now.user }
     ensures { OnOk result ((t : AnyTable) → IsColumnOf t assignment.now.column → IsRowIn t.columns updated.old → IsRowIn t.columns updated.new) }
 {
     let column = assignment.column;

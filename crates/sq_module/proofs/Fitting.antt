@@ -1,5 +1,5 @@
 -- What a program names is there and its parts are well formed with a cursor or a procedure more.
-use Rattle.std.proofs.Common.{◌≡◌, ℕ, ◌≤◌, Bool, true, false, List, [], ◌∷◌, ◌++◌, length, length-append, Option, Some, IfSome, slice_get, Result, Ok, Err, IfOk, OnOk, nat_lt, zero, suc, refl, sym, ap, ◌∙◌, subst, arith}
+use Rattle.std.proofs.Common.{◌≡◌, ℕ, ◌≤◌, Bool, true, false, List, [], ◌∷◌, ◌++◌, length, length-append, Option, Some, IfSome, slice_get, Result, Ok, Err, IfOk, nat_lt, zero, suc, refl, sym, ap, ◌∙◌, subst, arith}
 use Rattle.std.proofs.lemmas.Bool.{lt-ltb, ltb-true}
 use Rattle.std.proofs.lemmas.List.{map-append}
 use Rattle.std.specs.List.{AllByRecursion}
@@ -19,7 +19,8 @@ use Rattle.sq_bound.specs.WellFormed.{IsCursor, IsStatement, TableKinds, TakeKin
 use Rattle.sq_module.specs.declared.program.BoundProcedure.{BoundProcedure}
 use Rattle.sq_module.specs.declared.program.DeclaredCursor.{DeclaredCursor}
 use Rattle.sq_module.specs.declared.program.ProcedureName.{ProcedureName}
-use Rattle.sq_module.specs.Program.{CursorsAreWellFormed, CursorsFit, FitsProcedure, ProcedureIsWellFormed, ProceduresAreWellFormed, ProceduresFit, kinds_of_cursors, same_procedure}
+use Rattle.sq_module.specs.Program.{CursorsAreWellFormed, CursorsFit, FitsProcedure, ProcedureIsWellFormed, ProceduresAreWellFormed, ProceduresFit, ProceduresOpen, kinds_of_cursors, same_procedure}
+use Rattle.sq_module.proofs.Opening.{procedures_open_more}
 
 -- ---- elements of a list
 
@@ -98,7 +99,7 @@ procedure_stands columns cursors more p stands = by p.statement stands
 -- ---- a program
 
 -- with a cursor more
-cursor_added : (bases : List BaseTable) (cursors more : List DeclaredCursor) (procedures : List (ProcedureName × BoundProcedure)) (c : DeclaredCursor)
+pub cursor_added : (bases : List BaseTable) (cursors more : List DeclaredCursor) (procedures : List (ProcedureName × BoundProcedure)) (c : DeclaredCursor)
     → more ≡ cursors ++ c ∷ [] → CursorsFit bases cursors → ProceduresFit bases (length cursors) procedures → FitsCursor bases c.cursor
     → CursorsFit bases more × ProceduresFit bases (length more) procedures
 cursor_added bases cursors more procedures c is fit all one =
@@ -111,15 +112,16 @@ cursor_added bases cursors more procedures c is fit all one =
 kinds_added : (cursors more : List DeclaredCursor) (c : DeclaredCursor) → more ≡ cursors ++ c ∷ [] → kinds_of_cursors more ≡ kinds_of_cursors cursors ++ kinds_of_cursors (c ∷ [])
 kinds_added cursors more c is = ap kinds_of_cursors is ∙ map-append (λ c. kinds_of_results c.cursor.columns) cursors (c ∷ [])
 
-cursor_stands : (columns : TableKinds) (parameters : List Kind) (cursors more : List DeclaredCursor) (procedures : List (ProcedureName × BoundProcedure)) (c : DeclaredCursor)
-    → more ≡ cursors ++ c ∷ [] → CursorsAreWellFormed columns cursors → ProceduresAreWellFormed columns (kinds_of_cursors cursors) procedures → IsCursor columns parameters c.cursor
-    → CursorsAreWellFormed columns more × ProceduresAreWellFormed columns (kinds_of_cursors more) procedures
-cursor_stands columns parameters cursors more procedures c is stand all one =
+pub cursor_stands : (columns : TableKinds) (parameters : List Kind) (cursors more : List DeclaredCursor) (procedures : List (ProcedureName × BoundProcedure)) (c : DeclaredCursor)
+    → more ≡ cursors ++ c ∷ [] → CursorsAreWellFormed columns cursors → ProceduresAreWellFormed columns (kinds_of_cursors cursors) procedures → ProceduresOpen columns cursors procedures
+    → IsCursor columns parameters c.cursor → CursorsAreWellFormed columns more × ProceduresAreWellFormed columns (kinds_of_cursors more) procedures × ProceduresOpen columns more procedures
+cursor_stands columns parameters cursors more procedures c is stand all opens one =
     let before : List (List Kind) = kinds_of_cursors cursors in
     let last : List (List Kind) = kinds_of_cursors (c ∷ []) in (
       rw is (all_last (λ c. (ps : List Kind) × IsCursor columns ps c.cursor) cursors c stand (parameters, one)),
       subst (λ ks. ProceduresAreWellFormed columns ks procedures) (sym (kinds_added cursors more c is)) (all_mapped (λ e. ProcedureIsWellFormed columns before e.1)
           (λ e. ProcedureIsWellFormed columns (before ++ last) e.1) (λ e h. procedure_stands columns before last e.1 h) procedures all),
+      subst (λ cs. ProceduresOpen columns cs procedures) (sym is) (procedures_open_more columns cursors (c ∷ []) procedures opens),
     )
 
 -- with a procedure more, or another of that name
@@ -128,28 +130,9 @@ pub procedure_added : (P : BoundProcedure → Type 0) (procedures more : List (P
 procedure_added P procedures more name p is all one = rw is (all_inserted same_procedure P procedures name p all one)
 
 -- what holds of a cursor that has no fault
-of_bound : (P : BoundCursor → Type 0) (bound : Result BoundCursor BindFault) (part : Option BoundCursor) (c : BoundCursor) → IfSome part (λ x. bound ≡ Ok x) → part ≡ Some c
+pub of_bound : (P : BoundCursor → Type 0) (bound : Result BoundCursor BindFault) (part : Option BoundCursor) (c : BoundCursor) → IfSome part (λ x. bound ≡ Ok x) → part ≡ Some c
     → IfOk bound P → P c
 of_bound P bound part c of some one = rw same at one
   where
     same : bound ≡ Ok c
     same = rw some at of
-
-on_ok : {A E Q : Type 0} (r : Result A E) → Q → OnOk r Q
-on_ok (Ok x) q = q
-on_ok (Err e) q = tt
-
--- with a cursor that has no fault
-pub bound_added : {A E : Type 0} (bases : List BaseTable) (bound : Result BoundCursor BindFault) (part : Option BoundCursor) (cursors more : List DeclaredCursor)
-    (procedures : List (ProcedureName × BoundProcedure)) (c : DeclaredCursor) (r : Result A E) → IfSome part (λ x. bound ≡ Ok x) → part ≡ Some c.cursor → more ≡ cursors ++ c ∷ []
-    → CursorsFit bases cursors × ProceduresFit bases (length cursors) procedures → IfOk bound (FitsCursor bases)
-    → OnOk r (CursorsFit bases more × ProceduresFit bases (length more) procedures)
-bound_added bases bound part cursors more procedures c r of some is fit one =
-    on_ok r (cursor_added bases cursors more procedures c is fit.0 fit.1 (of_bound (FitsCursor bases) bound part c.cursor of some one))
-
-pub bound_stands : {A E : Type 0} (columns : TableKinds) (parameters : List Kind) (bound : Result BoundCursor BindFault) (part : Option BoundCursor) (cursors more : List DeclaredCursor)
-    (procedures : List (ProcedureName × BoundProcedure)) (c : DeclaredCursor) (r : Result A E) → IfSome part (λ x. bound ≡ Ok x) → part ≡ Some c.cursor → more ≡ cursors ++ c ∷ []
-    → CursorsAreWellFormed columns cursors × ProceduresAreWellFormed columns (kinds_of_cursors cursors) procedures → IfOk bound (IsCursor columns parameters)
-    → OnOk r (CursorsAreWellFormed columns more × ProceduresAreWellFormed columns (kinds_of_cursors more) procedures)
-bound_stands columns parameters bound part cursors more procedures c r of some is stand one =
-    on_ok r (cursor_stands columns parameters cursors more procedures c is stand.0 stand.1 (of_bound (IsCursor columns parameters) bound part c.cursor of some one))

@@ -1,3 +1,4 @@
 pub mod Admitted
+pub mod Opened
 pub mod Program
 pub mod Refusal

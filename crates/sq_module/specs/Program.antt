@@ -1,6 +1,6 @@
 -- The procedures that modules declare, that their names differ (ISO/IEC 9075:1992, 12.1 and 12.3), that what they name is there,
 -- and that their cursors and statements are well formed (clause 13).
-use Rattle.std.specs.Prelude.{◌≡◌, ℕ, Bool, false, ◌&&◌, List, [], ◌∷◌, ◌++◌, IfOk, flat_map, fold, length, map, nat_eq, ⊤}
+use Rattle.std.specs.Prelude.{◌≡◌, ℕ, Bool, false, ◌&&◌, List, [], ◌∷◌, ◌++◌, IfOk, flat_map, fold, length, map, nat_eq, slice_get, ⊤}
 use Rattle.std.specs.List.{AllByRecursion, list_any}
 use Rattle.std.specs.Cmp.Lexicographic.{pointwise}
 use Rattle.indexmap.specs.IndexSet.{insert_key}
@@ -9,6 +9,10 @@ use Rattle.sq_value.specs.declared.domain.Kind.{Kind}
 use Rattle.sq_bound.specs.declared.names.BaseTable.{BaseTable}
 use Rattle.sq_bound.specs.Fits.{FitsCursor, FitsStatement}
 use Rattle.sq_bound.specs.WellFormed.{IsCursor, IsStatement, TableKinds, kinds_of_parameters, kinds_of_results}
+use Rattle.sq_bound.specs.declared.statement.BoundStatement.{BoundStatement}
+use Rattle.sq_bound.specs.declared.statement.BoundStatement.TheVariants as statement
+use Rattle.sq_meaning.specs.Status.{well_formed}
+use Rattle.sq_meaning.specs.WellFormed.{Has}
 use Rattle.sq_tree.specs.declared.module.ModuleItem.{ModuleItem}
 use Rattle.sq_tree.specs.declared.module.ModuleItem.TheVariants as item
 use Rattle.sq_tree.specs.declared.module.ModuleText.{ModuleText}
@@ -94,6 +98,21 @@ ProcedureIsWellFormed columns cursors p = IfOk p.statement (IsStatement columns 
 abbrev pub ProceduresAreWellFormed : TableKinds → List (List Kind) → List (ProcedureName × BoundProcedure) → Type 0
 ProceduresAreWellFormed columns cursors procedures = AllByRecursion (λ e. ProcedureIsWellFormed columns cursors e.1) procedures
 
--- the cursors of a program are well formed, and so are its procedures beside them
+-- an OPEN is of a cursor that is well formed where a procedure with these parameters opens it
+abbrev pub OpensWellFormed : TableKinds → List DeclaredCursor → List Kind → BoundStatement → Type 0
+OpensWellFormed columns cursors parameters (statement.Open n) = Has (λ c. IsCursor columns parameters c.cursor) (well_formed (slice_get cursors n))
+OpensWellFormed columns cursors parameters _ = ⊤
+
+-- a procedure whose statement has no fault opens no other
+abbrev pub ProcedureOpens : TableKinds → List DeclaredCursor → BoundProcedure → Type 0
+ProcedureOpens columns cursors p = IfOk p.statement (OpensWellFormed columns cursors (kinds_of_parameters p.parameters))
+
+abbrev pub ProceduresOpen : TableKinds → List DeclaredCursor → List (ProcedureName × BoundProcedure) → Type 0
+ProceduresOpen columns cursors procedures = AllByRecursion (λ e. ProcedureOpens columns cursors e.1) procedures
+
+-- the cursors of a program are well formed, and so are its procedures beside them, those that open them included
 abbrev pub ProgramIsWellFormed : TableKinds → Program → Type 0
-ProgramIsWellFormed columns p = CursorsAreWellFormed columns p.cursors.items × ProceduresAreWellFormed columns (kinds_of_cursors p.cursors.items) p.procedures.entries
+ProgramIsWellFormed columns p =
+    CursorsAreWellFormed columns p.cursors.items
+    × ProceduresAreWellFormed columns (kinds_of_cursors p.cursors.items) p.procedures.entries
+    × ProceduresOpen columns p.cursors.items p.procedures.entries

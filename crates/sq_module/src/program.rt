@@ -1,15 +1,18 @@
 //! The procedures and cursors of all modules, with their names as places.
 
-ghost use Rattle.std.specs.Prelude.{◌≡◌, [], IfOk, IfSome, List, Ok, OnOk, length};
+ghost use Rattle.std.specs.Prelude.{◌≡◌, ◌<◌, ℕ, [], IfOk, IfSome, List, Ok, OnOk, length};
 ghost use Rattle.std.specs.Map.{keys_of};
 ghost use Rattle.indexmap.specs.IndexMap.{insert_entry};
 ghost use Rattle.indexmap.specs.IndexSet.{insert_key};
-ghost use Rattle.sq_bound.specs.Fits.{FitsCursor};
-ghost use Rattle.sq_bound.specs.WellFormed.{IsCursor, TableKinds};
+ghost use Rattle.sq_bound.specs.Fits.{FitsCursor, FitsStatement};
+ghost use Rattle.sq_bound.specs.WellFormed.{IsCursor, IsStatement, TableKinds};
 ghost use Rattle.sq_bound.specs.declared.names.BaseTable.{BaseTable};
 ghost use Rattle.sq_catalog.specs.Catalog.{column_kinds};
 ghost use Rattle.sq_module.specs.Admitted.{admitted_procedures, module_keys, name_of};
-ghost use Rattle.sq_module.specs.Program.{FitsProcedure, FitsProgram, ProcedureIsWellFormed, ProgramIsWellFormed, kinds_of_cursors, same_procedure, with_procedures};
+ghost use Rattle.sq_module.specs.Opened.{AreOpened, Grow, IsOpened};
+ghost use Rattle.sq_module.specs.Program.{FitsProcedure, FitsProgram, OpensWellFormed, ProcedureIsWellFormed, ProcedureOpens, ProgramIsWellFormed, kinds_of_cursors, same_procedure, with_procedures};
+ghost use Rattle.sq_bound.specs.declared.statement.BoundStatement.TheVariants.{Open};
+ghost use Rattle.sq_module.specs.declared.program.DeclaredCursor.{DeclaredCursor as AnyCursor};
 ghost use Rattle.sq_value.specs.declared.domain.Kind.{Kind};
 
 use crate::admission::{AdmittedModule, AdmittedProcedure};
@@ -152,31 +155,36 @@ impl Program {
         ensures fits { OnOk result (FitsProgram catalog.now.bases self.new) }
         ensures well_formed { OnOk result (ProgramIsWellFormed (column_kinds catalog.now) self.new) }
     {
-        self.add_cursors(alloc, catalog, module, numbers)?;
-        self.add_procedures(alloc, catalog, module, numbers)
+        let opened = self.add_cursors(alloc, catalog, module, numbers)?;
+        let added = self.add_procedures(alloc, catalog, module, numbers, opened.as_slice());
+        drop(opened);
+        added
     }
 
-    /// Adds the cursors of a module, each with the procedure that opens it.
+    /// Adds the cursors of a module, each with the procedure that opens it: for each procedure the number of its cursor.
     fn add_cursors(
         &mut self,
         alloc: Global,
         catalog: &Catalog,
         module: &AdmittedModule<'_>,
         numbers: &mut IndexMap<Name, usize>,
-    ) -> Result<(), AllocError>
+    ) -> Result<Vec<Option<usize>>, AllocError>
         requires fits { FitsProgram catalog.now.bases self.old }
         requires well_formed { ProgramIsWellFormed (column_kinds catalog.now) self.old }
         ensures procedures { self.new.procedures ≡ self.old.procedures }
         ensures fits { OnOk result (FitsProgram catalog.now.bases self.new) }
         ensures well_formed { OnOk result (ProgramIsWellFormed (column_kinds catalog.now) self.new) }
+        ensures opened { IfOk result (λ opened. AreOpened (column_kinds catalog.now) self.new.cursors.items «module».now.procedures.items opened.items) }
     {
+        let mut opened = Vec::new(alloc);
         for opener in module.procedures.as_slice() {
-            self.add_opened(alloc, catalog, module, opener, numbers)?;
+            opened.push(self.add_opened(alloc, catalog, module, opener, numbers)?)?;
         }
-        Ok(())
+        Ok(opened)
     }
 
-    /// Adds the cursor that a procedure opens, if it is one of the module. Its parameters are those of that procedure.
+    /// Adds the cursor that a procedure opens, if it is one of the module: its number, if it has no fault. Its parameters
+    /// are those of that procedure.
     fn add_opened(
         &mut self,
         alloc: Global,
@@ -184,15 +192,17 @@ impl Program {
         module: &AdmittedModule<'_>,
         opener: &AdmittedProcedure<'_>,
         numbers: &mut IndexMap<Name, usize>,
-    ) -> Result<(), AllocError>
+    ) -> Result<Option<usize>, AllocError>
         requires fits { FitsProgram catalog.now.bases self.old }
         requires well_formed { ProgramIsWellFormed (column_kinds catalog.now) self.old }
         ensures procedures { self.new.procedures ≡ self.old.procedures }
         ensures fits { OnOk result (FitsProgram catalog.now.bases self.new) }
         ensures well_formed { OnOk result (ProgramIsWellFormed (column_kinds catalog.now) self.new) }
+        ensures grows { OnOk result (Grow self.old.cursors.items self.new.cursors.items) }
+        ensures opened { IfOk result (IsOpened (column_kinds catalog.now) self.new.cursors.items opener.now) }
     {
         let Statement::Open(name) = &opener.procedure.statement else {
-            return Ok(());
+            return Ok(None);
         };
         match module.cursors.get(name) {
             Some(cursor) => {
@@ -201,47 +211,53 @@ impl Program {
                 let bound = bind_cursor(alloc, catalog, user, parameters, cursor);
                 self.add_cursor(numbers, user, *name, bound)
             }
-            None => Ok(()),
+            None => Ok(None),
         }
     }
 
-    /// Adds a cursor, if it has no fault.
+    /// Adds a cursor, if it has no fault: its number among all cursors.
     fn add_cursor(
         &mut self,
         numbers: &mut IndexMap<Name, usize>,
         user: Name,
         name: Name,
         bound: Result<BoundCursor, BindFault>,
-    ) -> Result<(), AllocError>
+    ) -> Result<Option<usize>, AllocError>
         ensures procedures { self.new.procedures ≡ self.old.procedures }
         ensures fits { (bases : List BaseTable) → FitsProgram bases self.old → IfOk bound (FitsCursor bases) → OnOk result (FitsProgram bases self.new) }
         ensures well_formed { (columns : TableKinds) (parameters : List Kind) → ProgramIsWellFormed columns self.old → IfOk bound (IsCursor columns parameters) → OnOk result (ProgramIsWellFormed columns self.new) }
+        ensures grows { OnOk result (Grow self.old.cursors.items self.new.cursors.items) }
+        ensures opened { (columns : TableKinds) (parameters : List Kind) → IfOk bound (IsCursor columns parameters) → IfOk result (λ opened. IfSome opened (λ number. OpensWellFormed columns self.new.cursors.items parameters (Open number))) }
     {
         match without_fault(bound)? {
             Some(cursor) => {
                 let number = self.cursors.len();
                 self.cursors.push(DeclaredCursor { user, cursor })?;
-                named(numbers.insert(name, number).is_ok())
+                named(numbers.insert(name, number).is_ok())?;
+                Ok(Some(number))
             }
-            None => Ok(()),
+            None => Ok(None),
         }
     }
 
+    /// Adds the procedures of a module, each with the number of the cursor that it opens.
     fn add_procedures(
         &mut self,
         alloc: Global,
         catalog: &Catalog,
         module: &AdmittedModule<'_>,
         numbers: &IndexMap<Name, usize>,
+        opened: &[Option<usize>],
     ) -> Result<(), AllocError>
+        requires opened { AreOpened (column_kinds catalog.now) self.old.cursors.items «module».now.procedures.items opened.now }
         requires fits { FitsProgram catalog.now.bases self.old }
         requires well_formed { ProgramIsWellFormed (column_kinds catalog.now) self.old }
         ensures procedures { OnOk result (keys_of self.new.procedures.entries ≡ with_procedures (keys_of self.old.procedures.entries) (module_keys «module».now)) }
         ensures fits { OnOk result (FitsProgram catalog.now.bases self.new) }
         ensures well_formed { OnOk result (ProgramIsWellFormed (column_kinds catalog.now) self.new) }
     {
-        for admitted in module.procedures.as_slice() {
-            self.add_procedure(alloc, catalog, module, numbers, admitted)?;
+        for (place, admitted) in module.procedures.as_slice().iter().enumerate() {
+            self.add_procedure(alloc, catalog, module, numbers, admitted, opened[place])?;
         }
         Ok(())
     }
@@ -253,9 +269,12 @@ impl Program {
         module: &AdmittedModule<'_>,
         numbers: &IndexMap<Name, usize>,
         admitted: &AdmittedProcedure<'_>,
+        opened: Option<usize>,
     ) -> Result<(), AllocError>
+        requires opened { IsOpened (column_kinds catalog.now) self.old.cursors.items admitted.now opened }
         requires fits { FitsProgram catalog.now.bases self.old }
         requires well_formed { ProgramIsWellFormed (column_kinds catalog.now) self.old }
+        ensures cursors { self.new.cursors ≡ self.old.cursors }
         ensures procedures { OnOk result (keys_of self.new.procedures.entries ≡ insert_key same_procedure (keys_of self.old.procedures.entries) (name_of «module».now.name admitted.now)) }
         ensures fits { OnOk result (FitsProgram catalog.now.bases self.new) }
         ensures well_formed { OnOk result (ProgramIsWellFormed (column_kinds catalog.now) self.new) }
@@ -264,7 +283,7 @@ impl Program {
             numbers,
             cursors: self.cursors.as_slice(),
         };
-        let bound = bound_procedure(alloc, catalog, module.user, &cursors, admitted)?;
+        let bound = bound_procedure(alloc, catalog, module.user, &cursors, admitted, opened)?;
         let name = ProcedureName {
             module: module.name,
             name: admitted.procedure.name,
@@ -280,14 +299,17 @@ fn bound_procedure(
     user: Name,
     cursors: &ModuleCursors<'_>,
     admitted: &AdmittedProcedure<'_>,
+    opened: Option<usize>,
 ) -> Result<BoundProcedure, AllocError>
+    requires { IsOpened (column_kinds catalog.now) cursors.now.cursors.now admitted.now opened }
     ensures fits { IfOk result (FitsProcedure catalog.now.bases (length cursors.now.cursors.now)) }
     ensures well_formed { IfOk result (ProcedureIsWellFormed (column_kinds catalog.now) (kinds_of_cursors cursors.now.cursors.now)) }
+    ensures opens { IfOk result (ProcedureOpens (column_kinds catalog.now) cursors.now.cursors.now) }
 {
     let parameters = admitted.parameters.as_slice();
     let written = &admitted.procedure.statement;
     let bound = bind_statement(alloc, catalog, user, parameters, cursors, written);
-    let statement = unless_no_memory(bound)?;
+    let statement = with_opened(unless_no_memory(bound)?, opened);
     match Items::from_slice(alloc, parameters) {
         Ok(parameters) => Ok(BoundProcedure {
             user,
@@ -298,6 +320,24 @@ fn bound_procedure(
             drop(statement);
             Err(error)
         }
+    }
+}
+
+/// The statement of a procedure, where an OPEN is of the cursor that was bound for this procedure. One with a fault is unknown.
+fn with_opened(
+    bound: Result<BoundStatement, BindFault>,
+    opened: Option<usize>,
+) -> Result<BoundStatement, BindFault>
+    ensures fits { (bases : List BaseTable) (cursors parameters : ℕ) → IfSome opened (λ number. number < cursors) → IfOk bound (FitsStatement bases cursors parameters) → IfOk result (FitsStatement bases cursors parameters) }
+    ensures well_formed { (columns : TableKinds) (cursors : List (List Kind)) (parameters : List Kind) → IfOk bound (IsStatement columns cursors parameters) → IfOk result (IsStatement columns cursors parameters) }
+    ensures opens { (columns : TableKinds) (cursors : List AnyCursor) (parameters : List Kind) → IfSome opened (λ number. OpensWellFormed columns cursors parameters (Open number)) → IfOk result (OpensWellFormed columns cursors parameters) }
+{
+    match bound {
+        Ok(BoundStatement::Open(_)) => match opened {
+            Some(number) => Ok(BoundStatement::Open(number)),
+            None => Err(BindFault::UnknownCursor),
+        },
+        bound => bound,
     }
 }
 

@@ -5,8 +5,7 @@ use Rattle.std.proofs.lemmas.List.{map_push}
 use Rattle.std.proofs.lemmas.Bool.{lt-ltb}
 use Rattle.sq_meaning.specs.Environment.{Row}
 use Rattle.std.specs.Prelude.{if◌then◌else◌}
-use Rattle.sq_meaning.specs.Status.{Outcome, not_well_formed}
-use Rattle.sq_store.specs.declared.table.Table.{Table}
+use Rattle.sq_meaning.specs.Status.{not_well_formed}
 use Rattle.sq_query.specs.Table.{numbered_row, table_there}
 use Rattle.sq_store.specs.declared.table.Numbered.{Numbered}
 use Rattle.sq_store.specs.Content.{Content, first_from, table_at}

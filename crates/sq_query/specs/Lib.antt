@@ -9,6 +9,7 @@ pub mod Frame
 pub mod Group
 pub mod Index
 pub mod Item
+pub mod Kinds
 pub mod Lines
 pub mod Members
 pub mod Needed

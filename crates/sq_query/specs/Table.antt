@@ -1,15 +1,20 @@
 -- The tables that a statement reads, by their places.
-use Rattle.std.specs.Prelude.{◌≡◌, ℕ, find, nat_eq, nat_lt, if◌then◌else◌, List, length, map, Option, Some, None, Vec, Ok, Err}
+use Rattle.std.specs.Prelude.{◌≡◌, ℕ, find, nat_eq, nat_lt, if◌then◌else◌, List, [], length, map, Option, Some, None, Vec, Ok, Err}
 use Rattle.std.specs.Borrow.{Bor}
+use Rattle.std.specs.List.{AllByRecursion}
 use Rattle.std.specs.declared.alloc.Global.{Global}
+use Rattle.sq_value.specs.declared.domain.Kind.{Kind}
 use Rattle.sq_store.specs.Content.{Content, table_at}
 use Rattle.sq_store.specs.declared.table.Numbered.{Numbered}
 use Rattle.sq_store.specs.declared.table.Table.{Table}
 use Rattle.sq_meaning.specs.Environment.{Row}
 use Rattle.sq_meaning.specs.Status.{Outcome, ◌>>=◌, well_formed, not_well_formed}
 use Rattle.sq_meaning.specs.Tables.{rows_in}
+use Rattle.sq_meaning.specs.WellFormed.{AreRowsOf}
+use Rattle.sq_bound.specs.WellFormed.{TableKinds, IsSelect, kinds_of_select}
 use Rattle.sq_bound.specs.declared.condition.TablePlace.{TablePlace}
-use Rattle.sq_bound.specs.declared.condition.TablePlace.TheVariants.{Base}
+use Rattle.sq_bound.specs.declared.condition.TablePlace.TheVariants.{Base, View}
+use Rattle.sq_bound.specs.declared.names.View.{View as BoundView}
 use Rattle.sq_query.specs.Fault.{status_of}
 use Rattle.sq_query.specs.Frame.{lent}
 use Rattle.sq_query.specs.declared.context.Context.{Context}
@@ -66,3 +71,29 @@ bases_of tables = bases_in tables.bases
 -- tables of which each base table has the rows of the store
 abbrev pub AreOfStore : Content → (TablePlace → Outcome (List Row)) → Type 0
 AreOfStore content tables = (place : ℕ) → tables (Base place) ≡ stored_rows content place
+
+-- ---- kinds
+
+-- where the kinds of a table's columns are known, its rows have values of them
+abbrev pub AreRowsAt : TableKinds → TablePlace → List Row → Type 0
+AreRowsAt columns place rows = (kinds : List Kind) → columns place ≡ Ok kinds → AreRowsOf kinds rows
+
+abbrev pub IsBaseOf : TableKinds → BaseRows → Type 0
+IsBaseOf columns base = AreRowsAt columns (Base base.place) (lent base.rows.items)
+
+-- a view whose query ended with a status has no rows
+abbrev pub IsViewOf : TableKinds → ViewRows → Type 0
+IsViewOf columns view = AreRowsAt columns (View view.place) view.rows.items
+
+abbrev pub AreBasesOf : TableKinds → List BaseRows → Type 0
+AreBasesOf columns bases = AllByRecursion (IsBaseOf columns) bases
+
+abbrev pub AreViewsOf : TableKinds → List ViewRows → Type 0
+AreViewsOf columns views = AllByRecursion (IsViewOf columns) views
+
+abbrev pub AreTablesOf : TableKinds → Tables → Type 0
+AreTablesOf columns tables = AreBasesOf columns tables.bases.items × AreViewsOf columns tables.views.items
+
+-- a view at its place has the columns of its query (11.19)
+abbrev pub IsViewAt : TableKinds → ℕ → BoundView → Type 0
+IsViewAt columns place view = IsSelect columns [] [] view.query × (columns (View place) ≡ Ok (kinds_of_select view.query))

@@ -1,5 +1,5 @@
 -- Query expressions (ISO/IEC 9075:1992, 7.10).
-use Rattle.std.specs.Prelude.{◌≡◌, ◌≤◌, ⊤, ℕ, Bool, if◌then◌else◌, List, [], length, Result, Vec, Ok}
+use Rattle.std.specs.Prelude.{◌≡◌, ◌≤◌, ⊤, ℕ, Bool, if◌then◌else◌, List, [], length, Result, Vec, Ok, IfOk}
 use Rattle.std.specs.List.{AllByRecursion, zip}
 use Rattle.std.specs.declared.alloc.Global.{Global}
 use Rattle.sq_lex.specs.declared.name.Name.{Name}
@@ -14,7 +14,10 @@ use Rattle.sq_meaning.specs.Kind.{Kinds}
 use Rattle.sq_meaning.specs.Placed.{Placed, by_place}
 use Rattle.sq_meaning.specs.QueryExpression.{row_brought_to, query_rows}
 use Rattle.sq_meaning.specs.Rows.{firsts, same_row}
+use Rattle.sq_meaning.specs.WellFormed.{IsRowOf, AreRowsOf}
+use Rattle.sq_bound.specs.Joined.{term_specifications, term_kinds}
 use Rattle.sq_bound.specs.Query.{query_of}
+use Rattle.sq_bound.specs.WellFormed.{TableKinds, IsSelect}
 use Rattle.sq_bound.specs.declared.condition.BoundSpecification.{BoundSpecification}
 use Rattle.sq_bound.specs.declared.condition.TablePlace.{TablePlace}
 use Rattle.sq_bound.specs.declared.query.BoundQuery.{BoundQuery, out-BoundQuery}
@@ -22,8 +25,10 @@ use Rattle.sq_bound.specs.declared.query.BoundTerm.{BoundTerm}
 use Rattle.sq_bound.specs.declared.query.BoundTerm.TheVariants.{Specification}
 use Rattle.sq_query.specs.Fault.{HasRows}
 use Rattle.sq_query.specs.Frame.{inputs_of}
+use Rattle.sq_query.specs.Kinds.{HaveKinds}
 use Rattle.sq_query.specs.Specification.{IsPlainQuery, IsOverBase}
 use Rattle.sq_query.specs.Table.{AreOfStore}
+use Rattle.sq_query.specs.declared.context.Context.{Context}
 use Rattle.sq_query.specs.declared.fault.Fault.{Fault}
 
 -- the term is this query specification
@@ -45,6 +50,13 @@ OfStoredRows P query content parameters user =
 -- its rows
 abbrev pub HasQueryRows : Result (Vec (List Value) Global) Fault → BoundQuery → Content → List Value → Name → Type 0
 HasQueryRows result = OfStoredRows (HasRows result)
+
+-- the rows of a term are of the kinds that are known of it beforehand
+abbrev pub HasTermKinds : Result (Vec (List Value) Global) Fault → BoundTerm → Context → Type 0
+HasTermKinds result term context =
+    (columns : TableKinds) (parameters : List Kind) → HaveKinds columns context → IsRowOf parameters context.parameters.now
+    → AllByRecursion (IsSelect columns parameters []) (term_specifications term) → (kinds : List Kind) → term_kinds term ≡ Ok kinds
+    → IfOk result (λ rows. AreRowsOf kinds rows.items)
 
 -- ---- both sides of UNION
 

@@ -1,11 +1,12 @@
 //! Which tables a statement reads.
 
-ghost use Rattle.std.specs.Prelude.{◌≡◌, [], false, fold, nat_eq, IfOk, OnOk};
+ghost use Rattle.std.specs.Prelude.{◌≡◌, [], false, fold, nat_eq, IfOk, IfSome, OnOk};
 ghost use Rattle.std.specs.List.{list_any};
 ghost use Rattle.sq_bound.specs.Condition.{cond_of, conj_of, predicate_of, clause_of};
 ghost use Rattle.sq_meaning.specs.Target.{has_subquery, clause_has_subquery};
 ghost use Rattle.sq_query.specs.Needed.{NeedsNone, places_in, with_place, with_table};
 ghost use Rattle.sq_query.specs.Specification.{items_in, IsPlainQuery};
+ghost use Rattle.sq_query.specs.Table.{IsViewAt};
 ghost use Rattle.sq_query.specs.Union.{IsSpecification, IsOnly};
 ghost use Rattle.sq_bound.specs.declared.condition.BoundSpecification.{BoundSpecification as AnySpecification};
 
@@ -201,7 +202,9 @@ pub(crate) fn is_among(place: usize, places: &[usize]) -> bool
 }
 
 /// The view at a place.
-pub(crate) fn view_at<N: Names>(names: &N, place: usize) -> Option<&View> {
+pub(crate) fn view_at<N: Names>(names: &N, place: usize) -> Option<&View>
+    ensures { IfSome result (λ view. IsViewAt (N.column_kinds names.now) place view.now) }
+{
     match names.at(TablePlace::View(place)) {
         Some(table) => match &table.body {
             TableBody::View(view) => Some(view),

@@ -1,6 +1,6 @@
 //! The rows of a query expression (ISO/IEC 9075:1992, 7.10).
 
-ghost use Rattle.std.specs.Prelude.{◌≡◌, ◌++◌, None, length};
+ghost use Rattle.std.specs.Prelude.{◌≡◌, ◌++◌, None, Ok, IfOk, length};
 ghost use Rattle.sq_value.specs.Storing.{IsStored};
 ghost use Rattle.sq_value.specs.declared.domain.Kind.TheVariants.{Num, Chars};
 ghost use Rattle.sq_value.specs.declared.value.Value.{Value as AnyValue};
@@ -9,8 +9,9 @@ ghost use Rattle.sq_meaning.specs.Status.{each};
 ghost use Rattle.sq_bound.specs.WellFormed.{kinds_of_results};
 ghost use Rattle.sq_bound.specs.declared.condition.BoundSpecification.{BoundSpecification as AnySpecification};
 ghost use Rattle.sq_query.specs.Fault.{Meets, HasRows};
+ghost use Rattle.sq_query.specs.Kinds.{HasQueryKinds};
 ghost use Rattle.sq_query.specs.Specification.{items_in, IsPlainQuery, rows_meant};
-ghost use Rattle.sq_query.specs.Union.{IsSpecification, IsOnly, MayBeBrought, IsBringable, AreBringable, IsTextOf, joined_rows};
+ghost use Rattle.sq_query.specs.Union.{HasTermKinds, IsSpecification, IsOnly, MayBeBrought, IsBringable, AreBringable, IsTextOf, joined_rows};
 
 use crate::arithmetic::{GREATEST_SCALE, made};
 use crate::condition::rows;
@@ -32,7 +33,8 @@ pub(crate) fn query_rows<'a, 'm>(
     context: &'a Context<'m>,
     memo: &mut Memo<'m>,
 ) -> Result<Vec<Row>, Fault>
-    ensures { (s : AnySpecification) → IsOnly query.now s → length (items_in s) ≡ 1 → IsPlainQuery s → HasRows result (rows_meant s None context.now) }
+    ensures kinds { HasQueryKinds result query.now context.now }
+    ensures rows { (s : AnySpecification) → IsOnly query.now s → length (items_in s) ≡ 1 → IsPlainQuery s → HasRows result (rows_meant s None context.now) }
 {
     let mut so_far = term_rows(&query.first, context, memo)?;
     for union in query.rest.as_slice() {
@@ -50,7 +52,8 @@ fn term_rows<'a, 'm>(
     context: &'a Context<'m>,
     memo: &mut Memo<'m>,
 ) -> Result<Vec<Row>, Fault>
-    ensures { (s : AnySpecification) → IsSpecification term.now s → length (items_in s) ≡ 1 → IsPlainQuery s → HasRows result (rows_meant s None context.now) }
+    ensures kinds { HasTermKinds result term.now context.now }
+    ensures rows { (s : AnySpecification) → IsSpecification term.now s → length (items_in s) ≡ 1 → IsPlainQuery s → HasRows result (rows_meant s None context.now) }
 {
     match term {
         BoundTerm::Specification(query) => rows(query, context, memo),
@@ -65,7 +68,8 @@ fn joined(
     right: Vec<Row>,
     alloc: Global,
 ) -> Result<Vec<Row>, Fault>
-    ensures { AreBringable (kinds_of_results union.now.columns) (left.items ++ right.items) → HasRows result (joined_rows union.now.all (kinds_of_results union.now.columns) (left.items ++ right.items)) }
+    ensures found { IfOk result (λ rows. joined_rows union.now.all (kinds_of_results union.now.columns) (left.items ++ right.items) ≡ Ok rows.items) }
+    ensures rows { AreBringable (kinds_of_results union.now.columns) (left.items ++ right.items) → HasRows result (joined_rows union.now.all (kinds_of_results union.now.columns) (left.items ++ right.items)) }
 {
     let found = both(left, right)?;
     let brought = rows_brought_to(union.columns.as_slice(), found.as_slice(), alloc);
@@ -88,7 +92,8 @@ fn both(left: Vec<Row>, right: Vec<Row>) -> Result<Vec<Row>, Fault>
 }
 
 fn rows_brought_to(columns: &[ResultColumn], rows: &[Row], alloc: Global) -> Result<Vec<Row>, Fault>
-    ensures { AreBringable (kinds_of_results columns.now) rows.now → HasRows result (each (meaning.row_brought_to (kinds_of_results columns.now)) rows.now) }
+    ensures found { IfOk result (λ brought. each (meaning.row_brought_to (kinds_of_results columns.now)) rows.now ≡ Ok brought.items) }
+    ensures rows { AreBringable (kinds_of_results columns.now) rows.now → HasRows result (each (meaning.row_brought_to (kinds_of_results columns.now)) rows.now) }
 {
     let mut brought = Vec::new(alloc);
     for row in rows {
@@ -99,7 +104,8 @@ fn rows_brought_to(columns: &[ResultColumn], rows: &[Row], alloc: Global) -> Res
 }
 
 fn row_brought_to(columns: &[ResultColumn], row: &[Value], alloc: Global) -> Result<Row, Fault>
-    ensures { IsBringable (kinds_of_results columns.now) row.now → Meets result (meaning.row_brought_to (kinds_of_results columns.now) row.now) }
+    ensures found { IfOk result (λ brought. meaning.row_brought_to (kinds_of_results columns.now) row.now ≡ Ok brought) }
+    ensures row { IsBringable (kinds_of_results columns.now) row.now → Meets result (meaning.row_brought_to (kinds_of_results columns.now) row.now) }
 {
     let mut brought = Row::new(alloc);
     for (column, value) in columns.iter().zip(row) {
@@ -112,7 +118,8 @@ fn row_brought_to(columns: &[ResultColumn], row: &[Value], alloc: Global) -> Res
 /// A value as a column of a UNION has it: a number at the scale, a fixed text padded with blanks to the length, a varying
 /// text as it is.
 fn brought_to(kind: Kind, value: &Value, alloc: Global) -> Result<Value, Fault>
-    ensures { MayBeBrought kind value.now → Meets result (meaning.brought_to kind value.now) }
+    ensures found { IfOk result (λ brought. meaning.brought_to kind value.now ≡ Ok brought) }
+    ensures value { MayBeBrought kind value.now → Meets result (meaning.brought_to kind value.now) }
 {
     match (kind, value) {
         (_, Value::Null) => Ok(Value::Null),
@@ -127,7 +134,8 @@ fn brought_to(kind: Kind, value: &Value, alloc: Global) -> Result<Value, Fault>
 
 /// The number at a scale that is no smaller than its own.
 fn at_scale(scale: u8, number: Decimal) -> Result<Value, Fault>
-    ensures { MayBeBrought (Num scale) (Value.Num number) → Meets result (meaning.brought_to (Num scale) (Value.Num number)) }
+    ensures found { IfOk result (λ brought. meaning.brought_to (Num scale) (Value.Num number) ≡ Ok brought) }
+    ensures value { MayBeBrought (Num scale) (Value.Num number) → Meets result (meaning.brought_to (Num scale) (Value.Num number)) }
 {
     if scale > GREATEST_SCALE || number.scale() > scale {
         return Err(Fault::NOT_WELL_FORMED);
@@ -138,7 +146,8 @@ fn at_scale(scale: u8, number: Decimal) -> Result<Value, Fault>
 /// A text of a length, with blanks behind it up to another one.
 fn padded(text: &Value, from: usize, to: u16, alloc: Global) -> Result<Value, Fault>
     requires { IsTextOf from text.now }
-    ensures { MayBeBrought (Chars to) text.now → Meets result (meaning.brought_to (Chars to) text.now) }
+    ensures found { IfOk result (λ brought. meaning.brought_to (Chars to) text.now ≡ Ok brought) }
+    ensures value { MayBeBrought (Chars to) text.now → Meets result (meaning.brought_to (Chars to) text.now) }
 {
     if from >= to as usize {
         return Ok(text.copy(alloc)?);

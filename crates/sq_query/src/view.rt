@@ -1,10 +1,13 @@
 //! The tables that a statement reads: its base tables, and its views, each evaluated once.
 
 ghost use Rattle.std.specs.Prelude.{◌≡◌, [], ℕ, List, IfOk};
+ghost use Rattle.sq_value.specs.declared.domain.Kind.{Kind};
 ghost use Rattle.sq_meaning.specs.Status.{each};
+ghost use Rattle.sq_meaning.specs.WellFormed.{AreRowsOf};
+ghost use Rattle.sq_bound.specs.Fits.{AreInDomains};
 ghost use Rattle.sq_query.specs.Fault.{IsAnswered, MeetsAs};
 ghost use Rattle.sq_query.specs.Needed.{NeedsBases};
-ghost use Rattle.sq_query.specs.Table.{stored_base, bases_of};
+ghost use Rattle.sq_query.specs.Table.{stored_base, bases_of, IsViewOf, AreBasesOf, AreViewsOf, AreTablesOf};
 
 use crate::condition::outermost_rows;
 use crate::context::Context;
@@ -32,7 +35,8 @@ pub(crate) fn tables_of<'a, N: Names, S: Store>(
     call: &Context<'_>,
     meter: &mut Meter,
 ) -> Result<Tables<'a>, Fault>
-    ensures { (places : List ℕ) → IfOk needed (NeedsBases places) → MeetsAs bases_of result (each (stored_base (S.content_now store.now)) places) }
+    ensures kinds { AreInDomains (N.base_tables names.now) (S.content_now store.now) → IfOk result (AreTablesOf (N.column_kinds names.now)) }
+    ensures bases { (places : List ℕ) → IfOk needed (NeedsBases places) → MeetsAs bases_of result (each (stored_base (S.content_now store.now)) places) }
 {
     let mut needed = needed?;
     needed.add_of_views(names)?;
@@ -46,7 +50,8 @@ fn tables_at<'a, N: Names, S: Store>(
     call: &Context<'_>,
     meter: &mut Meter,
 ) -> Result<Tables<'a>, Fault>
-    ensures { (places : List ℕ) → NeedsBases places needed.now → MeetsAs bases_of result (each (stored_base (S.content_now store.now)) places) }
+    ensures kinds { AreInDomains (N.base_tables names.now) (S.content_now store.now) → IfOk result (AreTablesOf (N.column_kinds names.now)) }
+    ensures bases { (places : List ℕ) → NeedsBases places needed.now → MeetsAs bases_of result (each (stored_base (S.content_now store.now)) places) }
 {
     let bases = base_tables(call.alloc, store, needed.bases.as_slice(), meter)?;
     match view_tables(call.alloc, names, needed, bases.as_slice(), call.user) {
@@ -67,7 +72,8 @@ fn view_tables<N: Names>(
     bases: &[BaseRows<'_>],
     user: Name,
 ) -> Result<Vec<ViewRows>, Fault>
-    ensures { needed.now.views.items ≡ [] → IsAnswered result }
+    ensures kinds { AreBasesOf (N.column_kinds names.now) bases.now → IfOk result (λ views. AreViewsOf (N.column_kinds names.now) views.items) }
+    ensures answered { needed.now.views.items ≡ [] → IsAnswered result }
 {
     let mut views = Vec::new(alloc);
     for place in 0..needed.view_end() {
@@ -87,7 +93,9 @@ fn view_rows<'a, N: Names>(
     user: Name,
     bases: &'a [BaseRows<'a>],
     views: &'a [ViewRows],
-) -> Result<ViewRows, Fault> {
+) -> Result<ViewRows, Fault>
+    ensures { AreBasesOf (N.column_kinds names.now) bases.now → AreViewsOf (N.column_kinds names.now) views.now → IfOk result (IsViewOf (N.column_kinds names.now)) }
+{
     let Some(view) = view_at(names, place) else {
         return Err(Fault::NOT_WELL_FORMED);
     };
@@ -106,7 +114,10 @@ fn outcome_of_view(
     alloc: Global,
     place: usize,
     rows: Result<Vec<Row>, Fault>,
-) -> Result<ViewRows, Fault> {
+) -> Result<ViewRows, Fault>
+    ensures place { IfOk result (λ view. view.place ≡ place) }
+    ensures kinds { (kinds : List Kind) → IfOk rows (λ found. AreRowsOf kinds found.items) → IfOk result (λ view. AreRowsOf kinds view.rows.items) }
+{
     match rows {
         Ok(rows) => Ok(ViewRows {
             place,

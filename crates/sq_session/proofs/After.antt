@@ -14,7 +14,7 @@ use Rattle.sq_meaning.specs.Status.{Outcome}
 use Rattle.sq_model.proofs.Bind.{bind_ok}
 use Rattle.sq_module.specs.declared.program.DeclaredCursor.{DeclaredCursor}
 use Rattle.sq_query.specs.declared.fault.Fault.{Fault}
-use Rattle.sq_session.specs.Cursors.{IsWhole, are_over, is_over, is_over_numbers, is_over_table}
+use Rattle.sq_session.specs.Cursors.{IsWhole, OpenHasKinds, are_over, is_over, is_over_numbers, is_over_table}
 use Rattle.sq_session.specs.Fetch.{come_to_number, come_to_row, over_numbers, over_rows, row_on, shown_fetched}
 use Rattle.sq_session.specs.Kind.{Fetching, Over, delete_kind, fetching, kind_of, over_at, update_kind}
 use Rattle.sq_session.specs.Open.{IsOpenOver, before_numbers, before_rows, numbers_opened, rows_opened, walk_before}
@@ -27,6 +27,7 @@ use Rattle.sq_session.specs.declared.cursor.NumbersCursor.{NumbersCursor}
 use Rattle.sq_session.specs.declared.cursor.RowsCursor.{RowsCursor}
 use Rattle.sq_session.specs.declared.reply.Done.{Done}
 use Rattle.sq_session.specs.declared.walk.WalkingCursor.{WalkingCursor}
+use Rattle.sq_session.proofs.Listed.{kinds_after}
 use Rattle.sq_session.proofs.Over.{closed_over, go_on_over, put_closed, put_like, put_off, put_over}
 
 -- the session is whole but for the tables now, of which a statement says itself that they hold rows for the base tables, with
@@ -181,6 +182,8 @@ after_statement bases ds ps statement.Rollback vs b d a has h = same bases ds (r
 
 -- a statement that is refused changes nothing
 pub after : (bases : List BaseTable) (ds : List DeclaredCursor) (ps : List ParameterDesc) (s : BoundStatement) (vs : List Value) (b : State) (r : Result Done Fault) (a : State) → IsWhole bases ds b
-    → holds bases a.tables ≡ true → AreInDomains bases a.tables → IfSome (ending r) (λ d. MayStep (kind_of ds ps s) vs b d a) → OnErr r (a ≡ b) → IsWhole bases ds a
-after bases ds ps s vs b (Ok d) a has rows domains h unchanged = let o = after_statement bases ds ps s vs b d a has h in (rows, o.0, o.1, o.2, domains, o.3)
-after bases ds ps s vs b (Err f) a has rows domains h unchanged = subst (λ s. IsWhole bases ds s) (sym unchanged) has
+    → holds bases a.tables ≡ true → AreInDomains bases a.tables → OpenHasKinds ds s a.cursors → IfSome (ending r) (λ d. MayStep (kind_of ds ps s) vs b d a) → OnErr r (a ≡ b) → IsWhole bases ds a
+after bases ds ps s vs b (Ok d) a has rows domains opened h unchanged =
+    let o = after_statement bases ds ps s vs b d a has h in
+    (rows, o.0, o.1, o.2, domains, o.3, kinds_after ds ps s vs b d a has.6 opened h)
+after bases ds ps s vs b (Err f) a has rows domains opened h unchanged = subst (λ s. IsWhole bases ds s) (sym unchanged) has

@@ -1,11 +1,15 @@
 pub mod After
+pub mod Asking
 pub mod Closed
+pub mod Coming
 pub mod Counted
 pub mod Fetched
 pub mod Fitting
+pub mod Found
 pub mod GoOn
 pub mod Holding
 pub mod Kept
+pub mod Listed
 pub mod Named
 pub mod NextNumber
 pub mod Opened
@@ -17,4 +21,5 @@ pub mod Selected
 pub mod Shown
 pub mod Started
 pub mod TableWalk
+pub mod Taken
 pub mod Targets

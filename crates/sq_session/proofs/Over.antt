@@ -31,7 +31,7 @@ walk_updatable (Over.numbers t) w h = none h
 walk_updatable (Over.walk t) w h = refl
 
 -- what is walked may be gone over by numbers
-as_numbers : (o : Over) (table : ℕ) → is_over_table o table ≡ true → is_over_numbers o table ≡ true
+pub as_numbers : (o : Over) (table : ℕ) → is_over_table o table ≡ true → is_over_numbers o table ≡ true
 as_numbers Over.rows table h = none h
 as_numbers (Over.numbers t) table h = none h
 as_numbers (Over.walk t) table h = h
@@ -159,7 +159,7 @@ go_on_over (d ∷ ds) (x ∷ xs) (y ∷ ys) g h =
 
 -- ---- the base table under an open cursor
 
-over_quiet : (quiet : Bool) (base table : ℕ) → is_over_numbers (if quiet then Over.walk base else Over.numbers base) table ≡ true → base ≡ table
+pub over_quiet : (quiet : Bool) (base table : ℕ) → is_over_numbers (if quiet then Over.walk base else Over.numbers base) table ≡ true → base ≡ table
 over_quiet true base table h = eqb-true base table h
 over_quiet false base table h = eqb-true base table h
 

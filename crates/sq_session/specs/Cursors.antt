@@ -1,8 +1,14 @@
 -- The cursors of a session: one for each that a module declares, closed or over what that one goes over (ISO/IEC 9075:1992,
 -- 4.21).
 use Rattle.std.specs.Prelude.{◌≡◌, ⊤, ℕ, Bool, true, false, ◌&&◌, nat_eq, List, [], ◌∷◌}
+use Rattle.std.specs.List.{AllZip}
+use Rattle.sq_value.specs.declared.domain.Kind.{Kind}
+use Rattle.sq_meaning.specs.WellFormed.{AreRowsOf}
 use Rattle.sq_bound.specs.Fits.{AreInDomains, holds, keys_of_bases}
+use Rattle.sq_bound.specs.WellFormed.{kinds_of_results}
 use Rattle.sq_bound.specs.declared.names.BaseTable.{BaseTable}
+use Rattle.sq_bound.specs.declared.statement.BoundStatement.{BoundStatement}
+use Rattle.sq_bound.specs.declared.statement.BoundStatement.TheVariants as statement
 use Rattle.sq_module.specs.declared.program.DeclaredCursor.{DeclaredCursor}
 use Rattle.sq_session.specs.Kind.{Over, over_of}
 use Rattle.sq_session.specs.State.{State}
@@ -49,14 +55,33 @@ are_over [] (c ∷ cs) = false
 are_over (d ∷ ds) [] = false
 are_over (d ∷ ds) (c ∷ cs) = is_over (over_of d.cursor.body) c && are_over ds cs
 
+-- ---- the rows that cursors have listed
+
+-- one over rows has listed rows of these kinds
+abbrev pub HasListed : List Kind → CursorState → Type 0
+HasListed kinds cursor.Closed = ⊤
+HasListed kinds (cursor.Rows c) = AreRowsOf kinds c.rows
+HasListed kinds (cursor.Numbers c) = ⊤
+HasListed kinds (cursor.Walking c) = ⊤
+
+-- each has listed rows of the kinds of its columns
+abbrev pub HaveKinds : List DeclaredCursor → List CursorState → Type 0
+HaveKinds = AllZip (λ d c. HasListed (kinds_of_results d.cursor.columns) c)
+
+-- after an OPEN they have
+abbrev pub OpenHasKinds : List DeclaredCursor → BoundStatement → List CursorState → Type 0
+OpenHasKinds declared (statement.Open n) cursors = HaveKinds declared cursors
+OpenHasKinds declared _ cursors = ⊤
+
 -- ---- a session
 
 -- The tables as they are now and as they were committed are those of the base tables, with their keys, each cursor is over
--- what is declared, and every value in the tables, now and as committed, is in the domain of its column.
+-- what is declared, every value in the tables, now and as committed, is in the domain of its column, and the rows that cursors
+-- have listed are of the kinds of their columns.
 abbrev pub IsWhole : List BaseTable → List DeclaredCursor → State → Type 0
 IsWhole bases declared s =
     (holds bases s.tables ≡ true) × (holds bases s.committed ≡ true) × (s.keys ≡ keys_of_bases bases) × (are_over declared s.cursors ≡ true)
-    × AreInDomains bases s.tables × AreInDomains bases s.committed
+    × AreInDomains bases s.tables × AreInDomains bases s.committed × HaveKinds declared s.cursors
 
 -- ---- an UPDATE
 

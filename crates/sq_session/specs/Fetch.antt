@@ -1,18 +1,23 @@
 -- FETCH (ISO/IEC 9075:1992, 13.3): where a cursor comes, and how the statement ends then. Where a rule of the language is
 -- broken it ends with 42000, and the cursor stays where it is.
 use Rattle.std.specs.Prelude.{◌≡◌, ◌≤◌, ◌<◌, ◌+◌, ⊤, ℕ, ℤ, true, false, List, length, slice_get, Option, None, Some, Result, Ok, Err}
+use Rattle.std.specs.List.{AllByRecursion}
 use Rattle.std.specs.Option.{option_and_then, option_map}
 use Rattle.sq_value.specs.Key.{in_columns}
+use Rattle.sq_value.specs.declared.domain.Kind.{Kind}
 use Rattle.sq_value.specs.declared.value.Value.{Value}
 use Rattle.sq_value.specs.declared.value.Value.TheVariants as value
 use Rattle.sq_store.specs.Content.{Content, row_at, table_at}
 use Rattle.sq_store.specs.declared.table.Table.{Table}
+use Rattle.sq_bound.specs.WellFormed.{IsOrientation, TakeKinds}
+use Rattle.sq_bound.specs.declared.statement.BoundFetch.{BoundFetch}
 use Rattle.sq_bound.specs.declared.statement.Distance.{Distance}
 use Rattle.sq_bound.specs.declared.statement.Distance.TheVariants as distance
 use Rattle.sq_bound.specs.declared.statement.FetchOrientation.{FetchOrientation}
 use Rattle.sq_bound.specs.declared.statement.FetchOrientation.TheVariants as orientation
 use Rattle.sq_meaning.specs.Status.{Outcome, and_then, not_well_formed, well_formed}
 use Rattle.sq_meaning.specs.declared.status.Status.TheVariants as status
+use Rattle.sq_meaning.specs.WellFormed.{Has, HasValue}
 use Rattle.sq_model.specs.Cursor.{Move, bounded, wanted, row_at as row_of}
 use Rattle.sq_query.specs.Fault.{status_of}
 use Rattle.sq_query.specs.declared.fault.Failure.TheVariants as failure
@@ -20,7 +25,7 @@ use Rattle.sq_query.specs.declared.fault.Fault.{Fault}
 use Rattle.sq_query.specs.declared.fault.Fault.TheVariants as fault
 use Rattle.sq_session.specs.Kind.{Fetching}
 use Rattle.sq_session.specs.State.{is_there, next_number}
-use Rattle.sq_session.specs.Target.{ended, is_refused, row_reply}
+use Rattle.sq_session.specs.Target.{MayTake, MayTakeRows, ended, is_refused, row_reply}
 use Rattle.sq_session.specs.declared.cursor.CursorState.{CursorState}
 use Rattle.sq_session.specs.declared.cursor.CursorState.TheVariants as cursor
 use Rattle.sq_session.specs.declared.cursor.NumbersCursor.{NumbersCursor}
@@ -39,6 +44,15 @@ whole_number (value.Chars t) = not_well_formed
 abbrev pub number_of : List Value → Distance → Outcome ℤ
 number_of values (distance.Number n) = Ok n
 number_of values (distance.Parameter p) = and_then (well_formed (slice_get values p)) whole_number
+
+-- an orientation means a place: it needs no number, or has one
+abbrev pub HasNumber : List Value → Distance → Type 0
+HasNumber values d = HasValue (number_of values d)
+
+abbrev pub MeansPlace : List Value → FetchOrientation → Type 0
+MeansPlace values (orientation.Absolute d) = HasNumber values d
+MeansPlace values (orientation.Relative d) = HasNumber values d
+MeansPlace values _ = ⊤
 
 abbrev pub move_of : List Value → FetchOrientation → Outcome Move
 move_of values orientation.Next = Ok Move.next
@@ -70,6 +84,23 @@ shown_fetched f row = row_fetched f (option_map (λ r. in_columns r f.columns) r
 -- the row under the number that a cursor is on, as it is now
 abbrev pub row_on : Table → Option ℕ → Option (List Value)
 row_on t on = option_map (λ r. r.row) (option_and_then (row_at t) on)
+
+-- ---- a FETCH that is well formed (13.3)
+
+-- its orientation's number is a whole one, and its targets take the columns of its cursor, where the cursors have columns of
+-- these kinds
+abbrev pub IsFetch : List (List Kind) → List Kind → BoundFetch → Type 0
+IsFetch cursors parameters f = IsOrientation parameters f.orientation × Has (TakeKinds parameters f.outputs) (well_formed (slice_get cursors f.cursor))
+
+-- the targets take what the cursor may come to: its rows, or those of its base table as its query shows them
+abbrev pub MayTakeShown : Fetching → Table → Type 0
+MayTakeShown f t = AllByRecursion (λ r. MayTake f.parameters f.targets (in_columns r.row f.columns)) t.rows
+
+abbrev pub MayTakeFrom : Fetching → Content → CursorState → Type 0
+MayTakeFrom f tables cursor.Closed = ⊤
+MayTakeFrom f tables (cursor.Rows c) = MayTakeRows f.parameters f.targets c.rows
+MayTakeFrom f tables (cursor.Numbers c) = MayTakeShown f (table_at tables c.table)
+MayTakeFrom f tables (cursor.Walking c) = MayTakeShown f (table_at tables c.table)
 
 -- ---- where a cursor comes, and the reply
 

@@ -1,3 +1,4 @@
+pub mod Asked
 pub mod Cursors
 pub mod Fetch
 pub mod Kind

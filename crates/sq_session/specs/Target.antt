@@ -1,9 +1,11 @@
 -- Targets: the parameters that get the values of a row (ISO/IEC 9075:1992, 9.1, 13.3 and 13.5).
 use Rattle.std.specs.Prelude.{◌≡◌, ⊤, Result, ℕ, suc, ℤ, negsuc, Bool, true, false, not, ◌||◌, ◌++◌, List, [], ◌∷◌, find, is_some, length, nat_eq, slice_get, if◌then◌else◌, Option, None, Some, Ok, Err}
+use Rattle.std.specs.List.{AllByRecursion}
 use Rattle.std.specs.Option.{option_map_or}
 use Rattle.sq_value.specs.Domain.{is_of_numbers}
 use Rattle.sq_value.specs.declared.domain.Domain.{Domain}
 use Rattle.sq_value.specs.declared.domain.Domain.TheVariants as domain
+use Rattle.sq_value.specs.declared.domain.Kind.{Kind}
 use Rattle.sq_value.specs.declared.retrieving.Retrieved.{Retrieved}
 use Rattle.sq_value.specs.declared.value.Value.{Value}
 use Rattle.sq_value.specs.declared.value.Value.TheVariants as value
@@ -12,10 +14,12 @@ use Rattle.sq_meaning.specs.Assignment.{retrieved_into}
 use Rattle.sq_meaning.specs.Status.{Outcome, and_then, not_well_formed, or_status, well_formed_if}
 use Rattle.sq_meaning.specs.declared.status.Status.{Status}
 use Rattle.sq_meaning.specs.declared.status.Status.TheVariants as status
+use Rattle.sq_meaning.specs.WellFormed.{IsRowOf}
 use Rattle.sq_model.specs.Parameter.{length_before_cut, whole}
 use Rattle.sq_query.specs.Fault.{status_of}
 use Rattle.sq_query.specs.declared.fault.Fault.{Fault}
 use Rattle.sq_query.specs.declared.fault.Fault.TheVariants as fault
+use Rattle.sq_bound.specs.WellFormed.{TakeKinds, kinds_of_parameters}
 use Rattle.sq_bound.specs.declared.names.ParameterDesc.{ParameterDesc}
 use Rattle.sq_bound.specs.declared.statement.Output.{Output as Target}
 use Rattle.sq_session.specs.declared.reply.Done.{Done}
@@ -79,6 +83,17 @@ each_set parameters (t ∷ ts) (v ∷ vs) = and_then (target_set parameters t v)
 
 abbrev pub row_set : List ParameterDesc → List Target → List Value → Outcome Assignments
 row_set parameters targets row = and_then (well_formed_if (nat_eq (length targets) (length row))) (λ as_many. each_set parameters targets row)
+
+-- ---- rows that targets take
+
+-- a row has as many values as there are targets, each of a kind that its target takes
+pub record MayTake (parameters : List ParameterDesc) (targets : List Target) (row : List Value) : Type 0 where
+  pub kinds : List Kind
+  pub taken : TakeKinds (kinds_of_parameters parameters) targets kinds
+  pub of_kinds : IsRowOf kinds row
+
+abbrev pub MayTakeRows : List ParameterDesc → List Target → List (List Value) → Type 0
+MayTakeRows parameters targets = AllByRecursion (MayTake parameters targets)
 
 -- ---- the reply
 

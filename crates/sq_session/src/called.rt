@@ -1,5 +1,7 @@
 //! What a statement is given besides the tables and cursors.
 
+ghost use Rattle.std.specs.Prelude.{◌≡◌};
+
 use sq_catalog::Catalog;
 use sq_module::{BoundProcedure, DeclaredCursor};
 use sq_query::Inputs;
@@ -18,7 +20,9 @@ pub(crate) struct Called<'a> {
 
 impl<'a> Called<'a> {
     /// The user and the values, as queries read them.
-    pub(crate) fn inputs(&self) -> Inputs<'_> {
+    pub(crate) fn inputs(&self) -> Inputs<'_>
+        ensures { result.parameters.now ≡ self.now.values.now }
+    {
         Inputs {
             user: self.procedure.user,
             parameters: self.values,

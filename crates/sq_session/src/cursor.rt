@@ -1,16 +1,14 @@
 //! Cursors, and the place that a FETCH reaches (ISO/IEC 9075:1992, 4.21 and 13.3).
 
-ghost use Rattle.std.specs.Prelude.{◌≡◌, ◌<◌, ◌^◌, IfSome, length, MatchOption, None, Some, option_copied};
+ghost use Rattle.std.specs.Prelude.{◌≡◌, ◌<◌, ◌^◌, IfSome, length, MatchOption, None, Ok, Some, option_copied};
 ghost use Rattle.sq_model.specs.Cursor.{bounded, row_at as row_of};
-ghost use Rattle.sq_query.specs.Fault.{Meets};
 ghost use Rattle.sq_store.specs.Content.{table_at};
 ghost use Rattle.sq_session.specs.State.{next_number, number_on};
-ghost use Rattle.sq_session.specs.Fetch.{number_of, place_reached, place_wanted, row_on};
+ghost use Rattle.sq_session.specs.Fetch.{HasNumber, MeansPlace, number_of, place_reached, place_wanted, row_on};
 
 use crate::walk::WalkingCursor;
 use sq_bound::{Distance, FetchOrientation};
 use sq_items::Items;
-use sq_query::Fault;
 use sq_store::{Meter, Store};
 use sq_value::{Row, Value};
 
@@ -63,38 +61,33 @@ pub(crate) fn place_reached(
     values: &[Value],
     count: usize,
     place: usize,
-) -> Result<usize, Fault>
-    requires { count < 2 ^ 63 }
-    ensures { Meets result (place_reached values.now orientation count place) }
+) -> usize
+    requires rows { count < 2 ^ 63 }
+    requires orientation { MeansPlace values.now orientation }
+    ensures { place_reached values.now orientation count place ≡ Ok result }
 {
-    Ok(bounded(count, place_wanted(orientation, values, count, place)?))
+    bounded(count, place_wanted(orientation, values, count, place))
 }
 
 /// The place that a fetch orientation wants, which need not be one that there is.
-fn place_wanted(
-    orientation: FetchOrientation,
-    values: &[Value],
-    count: usize,
-    place: usize,
-) -> Result<i128, Fault>
-    ensures { Meets result (place_wanted values.now orientation count place) }
+fn place_wanted(orientation: FetchOrientation, values: &[Value], count: usize, place: usize) -> i128
+    requires { MeansPlace values.now orientation }
+    ensures { place_wanted values.now orientation count place ≡ Ok result }
 {
     match orientation {
-        FetchOrientation::Next => Ok(place as i128 + 1),
-        FetchOrientation::Prior => Ok(place as i128 - 1),
-        FetchOrientation::First => Ok(1),
-        FetchOrientation::Last => Ok(count as i128),
+        FetchOrientation::Next => place as i128 + 1,
+        FetchOrientation::Prior => place as i128 - 1,
+        FetchOrientation::First => 1,
+        FetchOrientation::Last => count as i128,
         FetchOrientation::Absolute(distance) => {
-            let number = number_of(distance, values)? as i128;
-            Ok(if number >= 0 {
+            let number = number_of(distance, values) as i128;
+            if number >= 0 {
                 number
             } else {
                 count as i128 + 1 + number
-            })
+            }
         }
-        FetchOrientation::Relative(distance) => {
-            Ok(place as i128 + number_of(distance, values)? as i128)
-        }
+        FetchOrientation::Relative(distance) => place as i128 + number_of(distance, values) as i128,
     }
 }
 
@@ -113,14 +106,15 @@ fn bounded(count: usize, wanted: i128) -> usize
 }
 
 /// The number of an orientation.
-fn number_of(distance: Distance, values: &[Value]) -> Result<i64, Fault>
-    ensures { Meets result (number_of values.now distance) }
+fn number_of(distance: Distance, values: &[Value]) -> i64
+    requires { HasNumber values.now distance }
+    ensures { number_of values.now distance ≡ Ok result }
 {
     match distance {
-        Distance::Number(number) => Ok(number),
+        Distance::Number(number) => number,
         Distance::Parameter(parameter) => match values.get(parameter) {
-            Some(Value::Num(number)) => Ok(number.unscaled()),
-            _ => Err(Fault::NOT_WELL_FORMED),
+            Some(Value::Num(number)) => number.unscaled(),
+            Some(Value::Null) | Some(Value::Chars(_)) | None => unreachable!(),
         },
     }
 }

@@ -2,15 +2,19 @@
 
 ghost use Rattle.std.specs.Prelude.{◌≡◌, ◌<◌, length, true, IfOk, IfSome, OnErr};
 ghost use Rattle.sq_value.specs.Key.{in_columns};
-ghost use Rattle.sq_bound.specs.Fits.{are_parameters, holds};
+ghost use Rattle.sq_bound.specs.Fits.{AreInDomains, are_parameters, holds};
 ghost use Rattle.sq_bound.specs.Names.{are_positions};
-ghost use Rattle.sq_module.specs.Program.{CursorsFit};
+ghost use Rattle.sq_bound.specs.WellFormed.{kinds_of_parameters};
+ghost use Rattle.sq_catalog.specs.Catalog.{column_kinds};
+ghost use Rattle.sq_module.specs.Program.{CursorsAreWellFormed, CursorsFit, kinds_of_cursors};
 ghost use Rattle.sq_query.specs.Fault.{Meets};
-ghost use Rattle.sq_session.specs.Cursors.{are_over, is_over, is_updatable};
-ghost use Rattle.sq_session.specs.Fetch.{HasCome, HasFetched, HasWalked, come_to_number, come_to_row};
+ghost use Rattle.sq_store.specs.Content.{table_at};
+ghost use Rattle.sq_session.specs.Cursors.{HaveKinds, are_over, is_over, is_updatable};
+ghost use Rattle.sq_session.specs.Fetch.{HasCome, HasFetched, HasWalked, IsFetch, MayTakeFrom, MayTakeShown, MeansPlace, come_to_number, come_to_row};
 ghost use Rattle.sq_session.specs.Kind.{columns_at, fetching, over_at};
+ghost use Rattle.sq_session.specs.Parameter.{AreGiven};
 ghost use Rattle.sq_session.specs.Step.{MayFetch, ending};
-ghost use Rattle.sq_session.specs.Target.{row_reply};
+ghost use Rattle.sq_session.specs.Target.{MayTake, MayTakeRows, row_reply};
 
 use crate::called::Called;
 use crate::cursor::{CursorState, NumbersCursor, RowsCursor, next_there, place_reached, row_at};
@@ -26,7 +30,7 @@ use sq_value::{Row, Value};
 use std::alloc::{AllocError, Global};
 
 /// FETCH of the cursor of a number. A status of retrieving leaves it where it came.
-#[tactic(auto, using(crate::proofs::Put::put_same, crate::proofs::Over::as_many, crate::proofs::Over::over_there))]
+#[tactic(auto, using(crate::proofs::Put::put_same, crate::proofs::Over::as_many, crate::proofs::Over::over_there, crate::proofs::Coming::place_meant))]
 pub(crate) fn fetch_at<S: Store>(
     called: &Called<'_>,
     fetch: &BoundFetch,
@@ -39,6 +43,11 @@ pub(crate) fn fetch_at<S: Store>(
     requires fit { CursorsFit called.now.catalog.now.bases called.now.cursors.now }
     requires cursors { are_over called.now.cursors.now cursors.old ≡ true }
     requires rows { holds called.now.catalog.now.bases (S.content_now store.now) ≡ true }
+    requires asked { IsFetch (kinds_of_cursors called.now.cursors.now) (kinds_of_parameters called.now.procedure.now.parameters) fetch.now }
+    requires given { AreGiven (kinds_of_parameters called.now.procedure.now.parameters) called.now.values.now }
+    requires well_formed { CursorsAreWellFormed (column_kinds called.now.catalog.now) called.now.cursors.now }
+    requires in_domains { AreInDomains called.now.catalog.now.bases (S.content_now store.now) }
+    requires kinds { HaveKinds called.now.cursors.now cursors.old }
     ensures step { IfSome (ending result) (λ d. MayFetch (fetching called.now.cursors.now called.now.procedure.now.parameters fetch.now) called.now.values.now
         (record { tables = S.content_now store.now; committed = S.committed store.now; keys = S.key_columns store.now; cursors = cursors.old }) d
         (record { tables = S.content_now store.now; committed = S.committed store.now; keys = S.key_columns store.now; cursors = cursors.new })) }
@@ -59,6 +68,8 @@ fn fetch_cursor<S: Store>(
     requires targets { are_parameters (length called.now.procedure.now.parameters) fetch.now.outputs ≡ true }
     requires fit { CursorsFit called.now.catalog.now.bases called.now.cursors.now }
     requires rows { holds called.now.catalog.now.bases (S.content_now store.now) ≡ true }
+    requires place { MeansPlace called.now.values.now fetch.now.orientation }
+    requires taken { MayTakeFrom (fetching called.now.cursors.now called.now.procedure.now.parameters fetch.now) (S.content_now store.now) cursor.old }
     ensures fetched { HasFetched (fetching called.now.cursors.now called.now.procedure.now.parameters fetch.now) called.now.values.now (S.content_now store.now)
         cursor.old result cursor.new }
     ensures err { OnErr result (cursor.new ≡ cursor.old) }
@@ -72,17 +83,20 @@ fn fetch_cursor<S: Store>(
 }
 
 /// FETCH of a cursor over rows.
+#[tactic(auto, using(crate::proofs::Coming::row_taken))]
 fn fetch_row(
     called: &Called<'_>,
     fetch: &BoundFetch,
     cursor: &mut RowsCursor,
 ) -> Result<Done, Fault>
     requires targets { are_parameters (length called.now.procedure.now.parameters) fetch.now.outputs ≡ true }
+    requires place { MeansPlace called.now.values.now fetch.now.orientation }
+    requires taken { MayTakeRows called.now.procedure.now.parameters fetch.now.outputs cursor.old.rows }
     ensures comes { HasCome result cursor.new (come_to_row (fetching called.now.cursors.now called.now.procedure.now.parameters fetch.now) called.now.values.now cursor.old) }
     ensures err { OnErr result (cursor.new ≡ cursor.old) }
 {
     let rows = cursor.rows.as_slice();
-    let place = place_reached(fetch.orientation, called.values, rows.len(), cursor.place)?;
+    let place = place_reached(fetch.orientation, called.values, rows.len(), cursor.place);
     let done = match row_at(rows, place) {
         None => Done::without_outputs(called.alloc, Status::NoData),
         Some(row) => row_retrieved(called, fetch.outputs.as_slice(), row.as_slice())?,
@@ -104,6 +118,7 @@ fn fetch_number<S: Store>(
     requires targets { are_parameters (length called.now.procedure.now.parameters) fetch.now.outputs ≡ true }
     requires fit { CursorsFit called.now.catalog.now.bases called.now.cursors.now }
     requires rows { holds called.now.catalog.now.bases (S.content_now store.now) ≡ true }
+    requires taken { MayTakeShown (fetching called.now.cursors.now called.now.procedure.now.parameters fetch.now) (table_at (S.content_now store.now) cursor.old.table) }
     ensures comes { HasCome result cursor.new (come_to_number (fetching called.now.cursors.now called.now.procedure.now.parameters fetch.now) (S.content_now store.now) cursor.old) }
     ensures err { OnErr result (cursor.new ≡ cursor.old) }
 {
@@ -136,6 +151,7 @@ fn fetch_walk<S: Store>(
     requires targets { are_parameters (length called.now.procedure.now.parameters) fetch.now.outputs ≡ true }
     requires fit { CursorsFit called.now.catalog.now.bases called.now.cursors.now }
     requires rows { holds called.now.catalog.now.bases (S.content_now store.now) ≡ true }
+    requires taken { MayTakeShown (fetching called.now.cursors.now called.now.procedure.now.parameters fetch.now) (table_at (S.content_now store.now) walk.old.table) }
     ensures walked { HasWalked (fetching called.now.cursors.now called.now.procedure.now.parameters fetch.now) (S.content_now store.now) walk.old result walk.new }
     ensures err { OnErr result (walk.new ≡ walk.old) }
 {
@@ -178,6 +194,7 @@ fn shown_row_retrieved(
 ) -> Result<Done, Fault>
     requires targets { are_parameters (length called.now.procedure.now.parameters) fetch.now.outputs ≡ true }
     requires columns { are_positions (length row.now) query.now.columns ≡ true }
+    requires taken { MayTake called.now.procedure.now.parameters fetch.now.outputs (in_columns row.now query.now.columns) }
     ensures { Meets result (row_reply called.now.procedure.now.parameters fetch.now.outputs (in_columns row.now query.now.columns)) }
 {
     match shown(called.alloc, row.as_slice(), query.columns.as_slice()) {

@@ -3,9 +3,10 @@
 //! `specs/Step.antt`, with the rules of FETCH in `specs/Fetch.antt` and those of targets in `specs/Target.antt`.
 //!
 //! Cursors, targets, base tables and columns of them that a bound statement names are there: the procedures of a session fit
-//! its catalog, and its tables have rows for the base tables. A statement could still set a parameter of texts from a number, or
-//! other than as many targets as a row has values, or go by a parameter that is no number. Such a statement ends with 42000.
-//! That binding makes none is not proved.
+//! its catalog, and its tables have rows for the base tables. Its cursors and statements are well formed, each of its parameters
+//! has a value of its kind while a call runs, and the rows that an open cursor has listed are of the kinds of its columns. So no
+//! statement sets a parameter of texts from a number, has other than as many targets as a row has values, or goes by a parameter
+//! that is no number: binding makes none.
 #![tactic(auto)]
 
 mod call;

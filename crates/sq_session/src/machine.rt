@@ -1,15 +1,21 @@
 //! The tables and cursors of a session, and the statements that work on them.
 
-ghost use Rattle.std.specs.Prelude.{◌≡◌, ◌<◌, true, length, replicate, is_ok, is_some, IfErr, IfOk, IfSome, IsSome, OnErr};
+ghost use Rattle.std.specs.Prelude.{◌≡◌, ◌<◌, [], true, length, replicate, is_ok, is_some, IfErr, IfOk, IfSome, IsSome, OnErr};
 ghost use Rattle.std.specs.List.{AllByRecursion};
 ghost use Rattle.sq_bound.specs.Fits.{AreInDomains, FitsTarget, IsBase, IsColumnOf, are_columns, are_parameters, holds, under};
+ghost use Rattle.sq_bound.specs.WellFormed.{IsSelect, TakeKinds, kinds_of_parameters, kinds_of_select};
+ghost use Rattle.sq_bound.specs.declared.statement.BoundStatement.TheVariants.{Open};
+ghost use Rattle.sq_catalog.specs.Catalog.{column_kinds};
+ghost use Rattle.sq_change.specs.Given.{MayAssign, MayGive};
 ghost use Rattle.sq_change.specs.Statement.{IsGiven};
 ghost use Rattle.sq_meaning.specs.declared.status.Status.TheVariants as status;
-ghost use Rattle.sq_module.specs.Program.{CursorsFit};
+ghost use Rattle.sq_module.specs.Program.{CursorsAreWellFormed, CursorsFit, OpensWellFormed, kinds_of_cursors};
 ghost use Rattle.sq_query.specs.declared.fault.Failure.TheVariants as failure;
 ghost use Rattle.sq_query.specs.declared.fault.Fault.TheVariants as fault;
-ghost use Rattle.sq_session.specs.Cursors.{IsWhole};
+ghost use Rattle.sq_session.specs.Cursors.{HaveKinds, IsWhole};
+ghost use Rattle.sq_session.specs.Fetch.{IsFetch};
 ghost use Rattle.sq_session.specs.Kind.{delete_kind, fetching, opening, over_at, selecting, update_kind};
+ghost use Rattle.sq_session.specs.Parameter.{AreGiven};
 ghost use Rattle.sq_session.specs.State.{committed_state, rolled_back};
 ghost use Rattle.sq_session.specs.Step.{MayChange, MayClose, MayFetch, MayOpen, MayOpenOver, MayStep, Selects, ending, is_on_row, is_ready};
 ghost use Rattle.sq_session.specs.Target.{ended};
@@ -70,6 +76,9 @@ impl<S: Store> Machine<S> {
         requires there { number < length called.now.cursors.now }
         requires fit { CursorsFit called.now.catalog.now.bases called.now.cursors.now }
         requires whole { IsWhole called.now.catalog.now.bases called.now.cursors.now self.old }
+        requires asked { OpensWellFormed (column_kinds called.now.catalog.now) called.now.cursors.now (kinds_of_parameters called.now.procedure.now.parameters) (Open number) }
+        requires given { AreGiven (kinds_of_parameters called.now.procedure.now.parameters) called.now.values.now }
+        ensures kinds { HaveKinds called.now.cursors.now self.new.cursors }
         ensures step { IfSome (ending result) (λ d. MayOpen (opening called.now.cursors.now called.now.procedure.now.parameters number)
             called.now.values.now self.old d self.new) }
         ensures tables { self.new.tables ≡ self.old.tables }
@@ -91,6 +100,9 @@ impl<S: Store> Machine<S> {
         requires there { number < length called.now.cursors.now }
         requires fit { CursorsFit called.now.catalog.now.bases called.now.cursors.now }
         requires whole { IsWhole called.now.catalog.now.bases called.now.cursors.now self.old }
+        requires asked { OpensWellFormed (column_kinds called.now.catalog.now) called.now.cursors.now (kinds_of_parameters called.now.procedure.now.parameters) (Open number) }
+        requires given { AreGiven (kinds_of_parameters called.now.procedure.now.parameters) called.now.values.now }
+        ensures kinds { HaveKinds called.now.cursors.now self.new.cursors }
         ensures step { IfSome (ending result) (λ d. MayOpenOver (over_at called.now.cursors.now number) number called.now.values.now self.old d self.new) }
         ensures tables { self.new.tables ≡ self.old.tables }
         ensures err { OnErr result (self.new ≡ self.old) }
@@ -115,6 +127,9 @@ impl<S: Store> Machine<S> {
         requires targets { are_parameters (length called.now.procedure.now.parameters) fetch.now.outputs ≡ true }
         requires fit { CursorsFit called.now.catalog.now.bases called.now.cursors.now }
         requires whole { IsWhole called.now.catalog.now.bases called.now.cursors.now self.old }
+        requires asked { IsFetch (kinds_of_cursors called.now.cursors.now) (kinds_of_parameters called.now.procedure.now.parameters) fetch.now }
+        requires given { AreGiven (kinds_of_parameters called.now.procedure.now.parameters) called.now.values.now }
+        requires well_formed { CursorsAreWellFormed (column_kinds called.now.catalog.now) called.now.cursors.now }
         ensures step { IfSome (ending result) (λ d. MayFetch (fetching called.now.cursors.now called.now.procedure.now.parameters fetch.now)
             called.now.values.now self.old d self.new) }
         ensures tables { self.new.tables ≡ self.old.tables }
@@ -154,7 +169,11 @@ impl<S: Store> Machine<S> {
         select: &BoundSelect,
         meter: &mut Meter,
     ) -> Result<Done, Fault>
-        requires { are_parameters (length called.now.procedure.now.parameters) select.now.outputs ≡ true }
+        requires targets { are_parameters (length called.now.procedure.now.parameters) select.now.outputs ≡ true }
+        requires query { IsSelect (column_kinds called.now.catalog.now) (kinds_of_parameters called.now.procedure.now.parameters) [] select.now.query }
+        requires taken { TakeKinds (kinds_of_parameters called.now.procedure.now.parameters) select.now.outputs (kinds_of_select select.now.query) }
+        requires given { AreGiven (kinds_of_parameters called.now.procedure.now.parameters) called.now.values.now }
+        requires in_domains { AreInDomains called.now.catalog.now.bases self.now.tables }
         ensures { IfSome (ending result) (Selects (selecting called.now.procedure.now.parameters select.now)) }
     {
         let found = specification_rows(
@@ -185,6 +204,7 @@ impl<S: Store> Machine<S> {
     ) -> Result<Done, Fault>
         requires fits { IsBase called.now.catalog.now.bases statement.now.leaf.table }
         requires columns { AllByRecursion (IsColumnOf statement.now.leaf.table) statement.now.columns }
+        requires given { MayGive (column_kinds called.now.catalog.now) called.now.values.now statement.now.columns statement.now.source }
         requires whole { IsWhole called.now.catalog.now.bases called.now.cursors.now self.old }
         ensures step { IfSome (ending result) (λ d. MayChange self.old d self.new) }
         ensures rows { holds called.now.catalog.now.bases self.new.tables ≡ true }
@@ -213,6 +233,7 @@ impl<S: Store> Machine<S> {
         requires target { FitsTarget called.now.catalog.now.bases (length called.now.cursors.now) statement.now.target }
         requires columns { are_columns (length (under statement.now.target).table.columns) statement.now.assignments ≡ true }
         requires domains { AllByRecursion (λ a. IsColumnOf (under statement.now.target).table a.column) statement.now.assignments }
+        requires assigned { MayAssign (column_kinds called.now.catalog.now) called.now.values.now (under statement.now.target).table statement.now.assignments }
         requires fit { CursorsFit called.now.catalog.now.bases called.now.cursors.now }
         requires whole { IsWhole called.now.catalog.now.bases called.now.cursors.now self.old }
         ensures rows { holds called.now.catalog.now.bases self.new.tables ≡ true }

@@ -1,18 +1,22 @@
 //! OPEN (ISO/IEC 9075:1992, 13.2).
 
-ghost use Rattle.std.specs.Prelude.{◌≡◌, ◌<◌, length, true, IfSome, OnErr};
-ghost use Rattle.sq_bound.specs.Fits.{FitsBody, holds};
-ghost use Rattle.sq_module.specs.Program.{CursorsFit};
-ghost use Rattle.sq_session.specs.Cursors.{are_over};
+ghost use Rattle.std.specs.Prelude.{◌≡◌, ◌<◌, length, true, IfOk, IfSome, OnErr};
+ghost use Rattle.sq_bound.specs.Fits.{AreInDomains, FitsCursor, holds};
+ghost use Rattle.sq_bound.specs.WellFormed.{IsCursor, IsQuery, kinds_of_parameters, kinds_of_query, kinds_of_results};
+ghost use Rattle.sq_bound.specs.declared.statement.BoundStatement.TheVariants.{Open};
+ghost use Rattle.sq_catalog.specs.Catalog.{column_kinds};
+ghost use Rattle.sq_module.specs.Program.{CursorsFit, OpensWellFormed};
+ghost use Rattle.sq_session.specs.Cursors.{HasListed, HaveKinds, are_over};
 ghost use Rattle.sq_session.specs.Kind.{Over, over_at, over_of, over_target};
 ghost use Rattle.sq_session.specs.Open.{HasOpened};
+ghost use Rattle.sq_session.specs.Parameter.{AreGiven};
 ghost use Rattle.sq_session.specs.Step.{MayOpenOver, ending};
 
 use crate::called::Called;
 use crate::cursor::{CursorState, NumbersCursor, RowsCursor};
 use crate::reply::Done;
 use crate::walk::started_walk;
-use sq_bound::{BoundQuery, CursorBody, SortColumn, Target};
+use sq_bound::{BoundCursor, BoundQuery, CursorBody, SortColumn, Target};
 use sq_items::Items;
 use sq_query::{Fault, numbers_of, ordered_rows};
 use sq_store::{Meter, Store};
@@ -30,13 +34,18 @@ pub(crate) fn open_closed<S: Store>(
     requires fit { CursorsFit called.now.catalog.now.bases called.now.cursors.now }
     requires cursors { are_over called.now.cursors.now cursors.old ≡ true }
     requires rows { holds called.now.catalog.now.bases (S.content_now store.now) ≡ true }
+    requires kinds { HaveKinds called.now.cursors.now cursors.old }
+    requires asked { OpensWellFormed (column_kinds called.now.catalog.now) called.now.cursors.now (kinds_of_parameters called.now.procedure.now.parameters) (Open number) }
+    requires given { AreGiven (kinds_of_parameters called.now.procedure.now.parameters) called.now.values.now }
+    requires domains { AreInDomains called.now.catalog.now.bases (S.content_now store.now) }
+    ensures kinds { HaveKinds called.now.cursors.now cursors.new }
     ensures step { IfSome (ending result) (λ d. MayOpenOver (over_at called.now.cursors.now number) number called.now.values.now
         (record { tables = S.content_now store.now; committed = S.committed store.now; keys = S.key_columns store.now; cursors = cursors.old }) d
         (record { tables = S.content_now store.now; committed = S.committed store.now; keys = S.key_columns store.now; cursors = cursors.new })) }
     ensures err { OnErr result (cursors.new ≡ cursors.old) }
 {
     let declared = &called.cursors[number];
-    match opened(called, &declared.cursor.body, store, meter) {
+    match opened(called, &declared.cursor, store, meter) {
         Ok(cursor) => {
             cursors[number] = cursor;
             Ok(Done::successful(called.alloc))
@@ -46,17 +55,22 @@ pub(crate) fn open_closed<S: Store>(
 }
 
 /// An open cursor, before its first row.
+#[tactic(auto, using(crate::proofs::Asking::updatable_lists))]
 fn opened<S: Store>(
     called: &Called<'_>,
-    body: &CursorBody,
+    cursor: &BoundCursor,
     store: &S,
     meter: &mut Meter,
 ) -> Result<CursorState, Fault>
-    requires fits { FitsBody called.now.catalog.now.bases body.now }
+    requires fits { FitsCursor called.now.catalog.now.bases cursor.now }
     requires rows { holds called.now.catalog.now.bases (S.content_now store.now) ≡ true }
-    ensures { HasOpened (over_of body.now) called.now.values.now (S.content_now store.now) result }
+    requires asked { IsCursor (column_kinds called.now.catalog.now) (kinds_of_parameters called.now.procedure.now.parameters) cursor.now }
+    requires given { AreGiven (kinds_of_parameters called.now.procedure.now.parameters) called.now.values.now }
+    requires domains { AreInDomains called.now.catalog.now.bases (S.content_now store.now) }
+    ensures opened { HasOpened (over_of cursor.now.body) called.now.values.now (S.content_now store.now) result }
+    ensures kinds { IfOk result (HasListed (kinds_of_results cursor.now.columns)) }
 {
-    match body {
+    match &cursor.body {
         CursorBody::Rows(query, order) => {
             opened_over_rows(called, query, order.as_slice(), store, meter)
         }
@@ -72,7 +86,11 @@ fn opened_over_rows<S: Store>(
     store: &S,
     meter: &mut Meter,
 ) -> Result<CursorState, Fault>
-    ensures { HasOpened Over.rows called.now.values.now (S.content_now store.now) result }
+    requires asked { IsQuery (column_kinds called.now.catalog.now) (kinds_of_parameters called.now.procedure.now.parameters) query.now }
+    requires given { AreGiven (kinds_of_parameters called.now.procedure.now.parameters) called.now.values.now }
+    requires domains { AreInDomains called.now.catalog.now.bases (S.content_now store.now) }
+    ensures opened { HasOpened Over.rows called.now.values.now (S.content_now store.now) result }
+    ensures kinds { IfOk result (HasListed (kinds_of_query query.now)) }
 {
     let found = ordered_rows(
         called.alloc,

@@ -7,7 +7,8 @@ ghost use Rattle.sq_value.specs.Memory.{takes_memory};
 ghost use Rattle.sq_value.specs.Text.{only_blanks_past};
 ghost use Rattle.sq_model.specs.Parameter.{started};
 ghost use Rattle.sq_model.specs.Script.{fit, fits_in};
-ghost use Rattle.sq_session.specs.Parameter.{declared, started_values};
+ghost use Rattle.sq_bound.specs.WellFormed.{kinds_of_parameters};
+ghost use Rattle.sq_session.specs.Parameter.{AreGiven, declared, started_values};
 
 use sq_bound::ParameterDesc;
 use sq_change::fits_kind;
@@ -69,20 +70,21 @@ fn are_blanks(codes: &[u8]) -> bool
     codes.iter().all(|code| *code == b' ')
 }
 
-/// The values at which the parameters start: what is handed in, stored.
-#[tactic(auto, using(crate::proofs::Started::started_first, crate::proofs::Started::started_next, crate::proofs::Started::started_short, crate::proofs::Started::started_all))]
+/// The values at which the parameters start: what is handed in, stored; without a value, as with null.
+#[tactic(auto, using(crate::proofs::Started::started_first, crate::proofs::Started::started_next, crate::proofs::Started::started_missing, crate::proofs::Started::started_all, crate::proofs::Started::given_all))]
 pub(crate) fn started_values(
     alloc: Global,
     parameters: &[ParameterDesc],
     values: &[Value],
 ) -> Result<Items<Value>, AllocError>
-    ensures { IfOk result (λ started. started ≡ started_values parameters.now values.now) }
+    ensures started { IfOk result (λ started. started ≡ started_values parameters.now values.now) }
+    ensures given { IfOk result (AreGiven (kinds_of_parameters parameters.now)) }
 {
     let mut started = Items::new(alloc);
     for (place, parameter) in parameters.iter().enumerate() {
         match values.get(place) {
             Some(value) => started.push(started_value(alloc, *parameter, value)?)?,
-            None => return Ok(started),
+            None => started.push(start_value(alloc, parameter.domain)?)?,
         }
     }
     Ok(started)

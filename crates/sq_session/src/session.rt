@@ -8,7 +8,8 @@ ghost use Rattle.sq_catalog.specs.Catalog.{table_number};
 ghost use Rattle.sq_session.specs.Kind.{fault_at, fits_at, kind_at, needs_memory};
 ghost use Rattle.std.specs.Map.{keys_of};
 ghost use Rattle.sq_bound.specs.Fits.{AreInDomains, keys_of_bases};
-ghost use Rattle.sq_module.specs.Program.{FitsProgram, declared_procedures};
+ghost use Rattle.sq_catalog.specs.Catalog.{column_kinds};
+ghost use Rattle.sq_module.specs.Program.{FitsProgram, ProgramIsWellFormed, declared_procedures};
 ghost use Rattle.sq_session.specs.Session.{names_of, procedure_number};
 ghost use Rattle.sq_session.specs.State.{AreClosed};
 ghost use Rattle.sq_session.specs.Step.{MayCall, is_success};
@@ -44,7 +45,8 @@ impl<S: Store> Model for Session<S> {
     ghost use Rattle.sq_bound.specs.contracts.names.BaseColumn as column;
     ghost use Rattle.sq_bound.specs.contracts.names.BaseTable as base;
     ghost use Rattle.sq_bound.specs.contracts.names.ParameterDesc as parameter;
-    ghost use Rattle.sq_module.specs.Program.{FitsProgram};
+    ghost use Rattle.sq_catalog.specs.Catalog.{column_kinds};
+    ghost use Rattle.sq_module.specs.Program.{FitsProgram, ProgramIsWellFormed};
     ghost use Rattle.sq_session.specs.Cursors.{IsWhole};
     ghost use Rattle.sq_session.specs.Session.{Session, procedures_of};
 
@@ -54,7 +56,7 @@ impl<S: Store> Model for Session<S> {
 
     ghost view = { λ s. record { procedures = procedures_of s.program.cursors.items s.program.procedures.entries; tables = s.catalog.tables; bases = s.catalog.bases; state = s.machine } };
 
-    ghost invariant = { λ s. FitsProgram s.catalog.bases s.program × IsWhole s.catalog.bases s.program.cursors.items s.machine };
+    ghost invariant = { λ s. FitsProgram s.catalog.bases s.program × ProgramIsWellFormed (column_kinds s.catalog) s.program × IsWhole s.catalog.bases s.program.cursors.items s.machine };
 }
 
 impl<S: Store> Session<S> {
@@ -86,7 +88,7 @@ impl<S: Store> Session<S> {
     }
 
     /// A session of bound modules.
-    #[tactic(auto, using(crate::proofs::Closed::replicated_closed, crate::proofs::Named::names_are, crate::proofs::Over::start_over, crate::proofs::Holding::wide_where_in))]
+    #[tactic(auto, using(crate::proofs::Closed::replicated_closed, crate::proofs::Named::names_are, crate::proofs::Over::start_over, crate::proofs::Listed::start_kinds, crate::proofs::Holding::wide_where_in))]
     fn with_program(
         alloc: Global,
         catalog: Catalog,
@@ -94,6 +96,7 @@ impl<S: Store> Session<S> {
         store: S,
     ) -> Result<Session<S>, AllocError>
         requires fits { FitsProgram catalog.bases program }
+        requires well_formed { ProgramIsWellFormed (column_kinds catalog) program }
         requires tables { AreInDomains catalog.bases (S.content_now store) }
         requires committed { AreInDomains catalog.bases (S.committed store) }
         requires keys { S.key_columns store ≡ keys_of_bases catalog.bases }
@@ -206,6 +209,7 @@ fn program_of(
 ) -> Result<Program, SessionFault>
     ensures procedures { IfOk result (λ program. keys_of program.procedures.entries ≡ declared_procedures modules.now) }
     ensures fits { IfOk result (λ program. FitsProgram catalog.now.bases program) }
+    ensures well_formed { IfOk result (ProgramIsWellFormed (column_kinds catalog.now)) }
     ensures refused { IfErr result (IsOfSomeModule (length modules.now)) }
 {
     let admitted = admit(alloc, modules)?;

@@ -1,17 +1,17 @@
 //! Targets: the parameters that get the values of a row (ISO/IEC 9075:1992, 9.1).
 
 ghost use Rattle.std.specs.Prelude.{◌≡◌, ◌<◌, ◌^◌, ◌++◌, ◌∷◌, [], true, find, length, nat_eq, option_copied, unsigned_abs, IfOk, OnOk};
+ghost use Rattle.sq_value.specs.Domain.{FitsKind};
 ghost use Rattle.sq_bound.specs.Fits.{are_parameters};
 ghost use Rattle.sq_meaning.specs.Status.{and_then};
 ghost use Rattle.sq_model.specs.Machine.{single_row};
 ghost use Rattle.sq_model.specs.Parameter.{whole};
 ghost use Rattle.sq_query.specs.Fault.{Meets};
-ghost use Rattle.sq_session.specs.Target.{IsSet, joined, null_set, outputs_from, row_reply, row_set, set_behind, set_reply, target_set, value_set};
+ghost use Rattle.sq_session.specs.Target.{IsSet, MayTake, MayTakeRows, domain_at, joined, null_set, outputs_from, row_reply, row_set, set_behind, set_reply, target_set, value_set};
 
 use crate::called::Called;
 use crate::reply::{Done, Output};
 use sq_bound::{BoundSelect, ParameterDesc};
-use sq_change::fits_kind;
 use sq_items::Items;
 use sq_meaning::Status;
 use sq_query::{Failure, Fault};
@@ -38,15 +38,14 @@ pub(crate) fn row_retrieved(
     targets: &[sq_bound::Output],
     row: &[Value],
 ) -> Result<Done, Fault>
-    requires { are_parameters (length called.now.procedure.now.parameters) targets.now ≡ true }
+    requires targets { are_parameters (length called.now.procedure.now.parameters) targets.now ≡ true }
+    requires row { MayTake called.now.procedure.now.parameters targets.now row.now }
     ensures { Meets result (row_reply called.now.procedure.now.parameters targets.now row.now) }
 {
     match assignments_of(called, targets, row) {
         Ok(assignments) => Ok(done(called, &assignments)?),
-        Err(Fault::Status(failure)) if failure != Failure::SyntaxErrorOrAccessRuleViolation => {
-            Ok(Done::without_outputs(called.alloc, failure.status()))
-        }
-        Err(fault) => Err(fault),
+        Err(Fault::Status(failure)) => Ok(Done::without_outputs(called.alloc, failure.status())),
+        Err(Fault::NoMemory) => Err(Fault::NoMemory),
     }
 }
 
@@ -56,7 +55,8 @@ pub(crate) fn only_row_retrieved(
     select: &BoundSelect,
     rows: &[Row],
 ) -> Result<Done, Fault>
-    requires { are_parameters (length called.now.procedure.now.parameters) select.now.outputs ≡ true }
+    requires targets { are_parameters (length called.now.procedure.now.parameters) select.now.outputs ≡ true }
+    requires rows { MayTakeRows called.now.procedure.now.parameters select.now.outputs rows.now }
     ensures { Meets result (and_then (single_row rows.now) (row_reply called.now.procedure.now.parameters select.now.outputs)) }
 {
     match rows {
@@ -110,18 +110,17 @@ fn assigned_to(assignments: &[Assignment], place: usize) -> Option<&Assignment>
         .find(|assignment| assignment.parameter == place)
 }
 
+/// The targets take the row from left to right.
 #[tactic(auto, using(crate::proofs::Targets::target_there))]
 fn assignments_of(
     called: &Called<'_>,
     targets: &[sq_bound::Output],
     row: &[Value],
 ) -> Result<Assignments, Fault>
-    requires { are_parameters (length called.now.procedure.now.parameters) targets.now ≡ true }
+    requires targets { are_parameters (length called.now.procedure.now.parameters) targets.now ≡ true }
+    requires row { MayTake called.now.procedure.now.parameters targets.now row.now }
     ensures { Meets result (row_set called.now.procedure.now.parameters targets.now row.now) }
 {
-    if targets.len() != row.len() {
-        return Err(Fault::NOT_WELL_FORMED);
-    }
     let mut assignments = Assignments {
         list: Items::new(called.alloc),
         is_cut: false,
@@ -141,7 +140,7 @@ fn assignments_of(
 
 impl Assignments {
     /// Sets a target and its indicator.
-    #[tactic(auto, using(crate::proofs::Targets::domain_is))]
+    #[tactic(auto, using(crate::proofs::Targets::domain_is, crate::proofs::Taken::fits_known))]
     fn set(
         &mut self,
         alloc: Global,
@@ -149,15 +148,13 @@ impl Assignments {
         target: sq_bound::Output,
         value: &Value,
     ) -> Result<(), Fault>
-        requires { target.parameter < length parameters.now }
+        requires there { target.parameter < length parameters.now }
+        requires fits { FitsKind (domain_at parameters.now target.parameter) value.now }
         ensures { IsSet result (set_behind self.old (target_set parameters.now target value.now)) self.new }
     {
         let parameter = parameters[target.parameter];
         if let Value::Null = value {
             return self.set_null(target);
-        }
-        if !fits_kind(parameter.domain, value) {
-            return Err(Fault::NOT_WELL_FORMED);
         }
         match retrieve(alloc, value, parameter.domain) {
             Ok(retrieved) => Ok(self.set_retrieved(target, retrieved)?),

@@ -1,8 +1,18 @@
 use Rattle.std.proofs.Common.{rules, ◌≡◌, length, get_or, arith}
 use Rattle.std.proofs.lemmas.Grind.{common_steps}
 use Rattle.std.proofs.lemmas.Slice.Zip.{zip_turn}
+use Rattle.sq_value.specs.Domain.{FitsKind}
 use Rattle.sq_change.proofs.Domains.{none_stored, stored_push}
+use Rattle.sq_change.proofs.Storable.{zipped_at}
 use Rattle.sq_change.proofs.given.stored_row.Goals as goal
+
+pub assigned-requires-clause-kind : goal.assigned-requires-clause-kind
+assigned-requires-clause-kind c =
+    let turn =
+    zip_turn c.args.columns.now c.args.row.now c.loop-column.yielded c.into_iter-column-iterator.result c.loop-column.column-iterator c.next.new.self c.next.result (search rules) (search rules)
+    c.loop-column.yielded_by (c.in-Some.column, c.in-Some.value) c.in-Some.is c.next.ensures.steps in
+    zipped_at (λ d v. FitsKind d.domain v) c.args.columns.now c.args.row.now (length c.loop-column.yielded) c.in-Some.column.now c.in-Some.value.now c.requires turn.0
+    (turn.2 c.in-Some.column.now) (turn.3 c.in-Some.value.now)
 
 pub loop-column-init : goal.loop-column-init
 loop-column-init c = record {

@@ -1,4 +1,7 @@
 use Rattle.sq_query.proofs.order.ordered_rows.Goals as goal
 
+pub returns-clause-kinds : goal.returns-clause-kinds
+returns-clause-kinds g c = λ parameters are in_domains well. c.in_order.ensures.kinds _ (c.rows_of_query.ensures.kinds parameters are in_domains well)
+
 pub returns-clause-rows : goal.returns-clause-rows
-returns-clause-rows g c = λ s only over plain tables are kinds. c.in_order.ensures.rows _ (c.rows_of_query.ensures s only over plain tables are kinds)
+returns-clause-rows g c = λ s only over plain tables are kinds. c.in_order.ensures.rows _ (c.rows_of_query.ensures.rows s only over plain tables are kinds)

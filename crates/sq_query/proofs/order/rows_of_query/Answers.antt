@@ -1,32 +1,41 @@
-use Rattle.std.proofs.Common.{None, Err, [], ◌∷◌, length, ap, sym, ◌∙◌}
+use Rattle.std.proofs.Common.{None, Err, [], ◌∷◌, length, ap, sym, subst, ◌∙◌}
 use Rattle.sq_meaning.specs.QueryExpression.{query_rows}
 use Rattle.sq_meaning.specs.Placed.{by_place}
 use Rattle.sq_query.specs.Fault.{rows_in}
 use Rattle.sq_query.specs.Frame.{table_rows}
 use Rattle.sq_query.specs.Lines.{env_around}
-use Rattle.sq_query.specs.Table.{bases_of}
+use Rattle.sq_query.specs.Table.{bases_of, AreBasesOf, AreViewsOf}
 use Rattle.sq_query.specs.declared.context.Context.{Context}
 use Rattle.sq_query.proofs.Groups.{meets_as_same}
+use Rattle.sq_query.proofs.KindsOfTables.{have_kinds}
 use Rattle.sq_query.proofs.Stored.{found_rows, base_there, needs_base, rows_over_base, rows_fail, query_is}
 use Rattle.sq_query.proofs.order.rows_of_query.Goals as goal
 
-pub returns-in-Ok : goal.returns-in-Ok
-returns-in-Ok g c = λ s only over plain tables are kinds.
+pub returns-in-Ok-clause-rows : goal.returns-in-Ok-clause-rows
+returns-in-Ok-clause-rows g c = λ s only over plain tables are kinds.
     let content = g.S.Store.content_now c.args.store.now in
     let p = over.0 in
     let needs = needs_base c.of_query-needed.result _ p over.1 (c.of_query-needed.ensures s only plain) in
-    let same = ap (found_rows p) c.as_slice.ensures.value ∙ base_there content p c.in-Ok.tables.bases.items (c.in-Ok.ensures (p ∷ []) needs) in
+    let same = ap (found_rows p) c.as_slice.ensures.value ∙ base_there content p c.in-Ok.tables.bases.items (c.in-Ok.ensures.bases (p ∷ []) needs) in
     let context : Context = record c.args.call.now { bases = c.as_slice.result; views = c.as_slice-in-Ok.result } in
     meets_as_same rows_in c.outermost_query_rows-rows.result _ _
     (ap (λ q. query_rows (by_place tables) kinds q (env_around None context)) (query_is c.args.query.now s only)
     ∙ rows_over_base s p over.1 tables (table_rows context) _ plain (are p ∙ sym same))
-    (c.outermost_query_rows-rows.ensures s only (ap length over.1) plain)
+    (c.outermost_query_rows-rows.ensures.rows s only (ap length over.1) plain)
 
-pub returns-in-Err : goal.returns-in-Err
-returns-in-Err g c = λ s only over plain tables are kinds.
+pub returns-in-Err-clause-rows : goal.returns-in-Err-clause-rows
+returns-in-Err-clause-rows g c = λ s only over plain tables are kinds.
     let content = g.S.Store.content_now c.args.store.now in
     let p = over.0 in
     let needs = needs_base c.of_query-needed.result _ p over.1 (c.of_query-needed.ensures s only plain) in
     let same = ap (λ q. query_rows (by_place tables) kinds q (env_around None c.args.call.now)) (query_is c.args.query.now s only) in
     meets_as_same rows_in (Err c.in-Err.fault) _ _ same
-    (rows_fail s p over.1 tables _ content bases_of rows_in c.in-Err.fault are (c.in-Err.ensures (p ∷ []) needs))
+    (rows_fail s p over.1 tables _ content bases_of rows_in c.in-Err.fault are (c.in-Err.ensures.bases (p ∷ []) needs))
+
+pub returns-in-Ok-clause-kinds : goal.returns-in-Ok-clause-kinds
+returns-in-Ok-clause-kinds g c = λ parameters are_values in_domains is_bound.
+    let columns = g.N.Names.column_kinds c.args.names.now in
+    let tables = c.in-Ok.ensures.kinds in_domains in
+    let context : Context = record c.args.call.now { bases = c.as_slice.result; views = c.as_slice-in-Ok.result } in
+    c.outermost_query_rows-rows.ensures.kinds columns parameters
+    (have_kinds columns context (subst (AreBasesOf columns) (sym c.as_slice.ensures.value) tables.0) (subst (AreViewsOf columns) (sym c.as_slice-in-Ok.ensures.value) tables.1)) are_values is_bound

@@ -1,8 +1,18 @@
 use Rattle.std.proofs.Common.{◌<◌, ap, arith, get_or, length}
+use Rattle.sq_catalog.specs.Catalog.{column_kinds}
 use Rattle.sq_session.specs.Kind.{fetching}
+use Rattle.sq_session.proofs.Coming.{fetched_taken}
 use Rattle.sq_session.proofs.Fetched.{may_fetch}
 use Rattle.sq_session.proofs.Over.{as_many}
 use Rattle.sq_session.proofs.fetch.fetch_at.Goals as goal
+
+pub fetch_cursor-requires-clause-taken : goal.fetch_cursor-requires-clause-taken
+fetch_cursor-requires-clause-taken g c =
+    let called = c.args.called.now in
+    let cursors = c.args.cursors.now in
+    let there : c.args.fetch.now.cursor < length cursors = omega (arith, as_many called.cursors.now cursors c.requires.cursors, c.requires.there) in
+    fetched_taken (column_kinds called.catalog.now) called.catalog.now.bases (g.S.Store.content_now c.args.store.now) called.cursors.now cursors called.procedure.now.parameters c.args.fetch.now
+    c.index-cursors-fetch.result c.requires.in_domains c.requires.fit c.requires.well_formed c.requires.cursors c.requires.kinds c.requires.asked there
 
 pub returns-clause-step : goal.returns-clause-step
 returns-clause-step g c =

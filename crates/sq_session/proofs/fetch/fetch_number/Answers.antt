@@ -1,5 +1,7 @@
 use Rattle.std.proofs.Common.{subst, sym, ◌∙◌}
+use Rattle.sq_store.specs.Content.{table_at}
 use Rattle.sq_session.specs.Kind.{fetching}
+use Rattle.sq_session.proofs.Coming.{shown_taken_on}
 use Rattle.sq_session.proofs.Holding.{HasColumns}
 use Rattle.sq_session.proofs.Over.{numbers_over}
 use Rattle.sq_session.proofs.Reached.{comes_to_fault, comes_to_none, comes_to_row}
@@ -15,6 +17,13 @@ shown_row_retrieved-requires-clause-columns g c =
     let over = numbers_over bases called.cursors.now c.args.fetch.now.cursor cursor c.requires.fit c.requires.over in
     let query = subst (HasColumns bases cursor.table) c.updatable_query-query.ensures over in
     columns_there bases (g.S.Store.content_now c.args.store.now) cursor.table reached.number c.updatable_query-query.result.now.columns reached.row.now c.requires.rows query c.in-Some.ensures.row
+
+pub shown_row_retrieved-requires-clause-taken : goal.shown_row_retrieved-requires-clause-taken
+shown_row_retrieved-requires-clause-taken g c =
+    let called = c.args.called.now in
+    let reached = c.in-Some.reached in
+    shown_taken_on (fetching called.cursors.now called.procedure.now.parameters c.args.fetch.now) (table_at (g.S.Store.content_now c.args.store.now) c.args.cursor.now.table) reached.number
+    c.updatable_query-query.result.now.columns reached.row.now c.requires.taken c.updatable_query-query.ensures c.in-Some.ensures.row
 
 pub returns-in_default-clause-comes : goal.returns-in_default-clause-comes
 returns-in_default-clause-comes g c =

@@ -1,6 +1,8 @@
 use Rattle.std.proofs.Common.{subst}
 use Rattle.sq_value.specs.Key.{in_columns}
+use Rattle.sq_store.specs.Content.{table_at}
 use Rattle.sq_session.specs.Kind.{fetching}
+use Rattle.sq_session.proofs.Coming.{shown_taken_on}
 use Rattle.sq_session.proofs.Holding.{HasColumns}
 use Rattle.sq_session.proofs.Over.{walk_over}
 use Rattle.sq_session.proofs.Reached.{shown_refused, walks_on}
@@ -16,6 +18,13 @@ shown_row_retrieved-requires-clause-columns g c =
     let query = subst (HasColumns bases walk.table) c.updatable_query-query.ensures over in
     let there = rw c.in-Some.is at c.in_ok-number.ensures.there in
     columns_there bases (g.S.Store.content_now c.args.store.now) walk.table c.in-Some.number c.updatable_query-query.result.now.columns c.in-Some.row.now c.requires.rows query there
+
+pub shown_row_retrieved-requires-clause-taken : goal.shown_row_retrieved-requires-clause-taken
+shown_row_retrieved-requires-clause-taken g c =
+    let called = c.args.called.now in
+    let there = rw c.in-Some.is at c.in_ok-number.ensures.there in
+    shown_taken_on (fetching called.cursors.now called.procedure.now.parameters c.args.fetch.now) (table_at (g.S.Store.content_now c.args.store.now) c.args.walk.now.table) c.in-Some.number
+    c.updatable_query-query.result.now.columns c.in-Some.row.now c.requires.taken c.updatable_query-query.ensures there
 
 pub returns-in-Ok-clause-walked : goal.returns-in-Ok-clause-walked
 returns-in-Ok-clause-walked g c =

@@ -16,4 +16,5 @@ invariant_of-self c =
           c.insert_table.ensures.added c.insert_table.ensures.unchanged c.self.invariant.2,
       view_beside c.insert_table.result c.args.self.now c.self.inside.base_tables.items c.self.inside.views.entries c.insert_table.new.tables.entries c.args.name c.args.table
           c.insert_table.ensures.added c.insert_table.ensures.unchanged same (ap (λ (s : Catalog). s.views) c.self.view_is) c.requires.next c.self.invariant.3,
+      c.self.invariant.4,
     )

@@ -1,5 +1,6 @@
-use Rattle.std.proofs.Common.{◌≡◌}
+use Rattle.std.proofs.Common.{◌≡◌, take}
 use Rattle.sq_catalog.specs.Catalog.{column_kinds}
+use Rattle.sq_module.specs.Opened.{AreOpened}
 use Rattle.sq_module.specs.Program.{FitsProgram, ProgramIsWellFormed}
 use Rattle.sq_module.proofs.program.Program.add_cursors.Given as goal
 
@@ -8,4 +9,5 @@ invariant-loop-opener l = record {
   procedures : l.self.procedures ≡ l.fn.self.procedures;
   fits : FitsProgram l.catalog.bases l.self;
   well_formed : ProgramIsWellFormed (column_kinds l.catalog) l.self;
+  opened : AreOpened (column_kinds l.catalog) l.self.cursors.items (take l.opener-index l.«module».procedures.items) l.opened.items;
 }

@@ -5,9 +5,10 @@ use Rattle.sq_module.specs.Admitted.{name_of}
 use Rattle.sq_module.specs.Program.{FitsProgram, ProgramIsWellFormed, with_procedures}
 use Rattle.sq_module.proofs.program.Program.add_procedures.Given as goal
 
-abbrev pub invariant-loop-admitted : goal.invariant-loop-admitted
-invariant-loop-admitted l = record {
-  procedures : keys_of l.self.procedures.entries ≡ with_procedures (keys_of l.fn.self.procedures.entries) (map (name_of l.«module».name) (take l.admitted-index l.«module».procedures.items));
+abbrev pub invariant-loop-place : goal.invariant-loop-place
+invariant-loop-place l = record {
+  procedures : keys_of l.self.procedures.entries ≡ with_procedures (keys_of l.fn.self.procedures.entries) (map (name_of l.«module».name) (take l.place l.«module».procedures.items));
+  cursors : l.self.cursors ≡ l.fn.self.cursors;
   fits : FitsProgram l.catalog.bases l.self;
   well_formed : ProgramIsWellFormed (column_kinds l.catalog) l.self;
 }

@@ -1,0 +1,20 @@
+use Rattle.std.proofs.Common.{rules, length, take, subst}
+use Rattle.sq_bind.specs.WellFormed.{AreCommon}
+use Rattle.sq_bind.proofs.Joins.{columns_more}
+use Rattle.sq_bind.proofs.Zipped.{zipped_all, zipped_more}
+use Rattle.sq_bind.proofs.query.common_columns.Goals as goal
+
+pub loop-column-preserved : goal.loop-column-preserved
+loop-column-preserved c =
+    let more = zipped_more c.args.left.now c.args.right.now c.loop-column.yielded c.into_iter-column-iterator.result c.loop-column.column-iterator c.next.new.self c.next.result (search rules) (search rules) (search rules) (c.in-Some.column, c.in-Some.beside) c.in-Some.is c.next.ensures.steps in
+    record {
+      can_next = search rules;
+      is_finite = search rules;
+      kinds = rw c.in_ok-push.ensures.ok (columns_more _ _ _ _ c.loop-column.columns c.in-Some.column.now c.in-Some.beside.now _ more.0 more.1 c.loop-column.invariant.kinds c.in_ok-kind.ensures.kind);
+    }
+
+pub returns : goal.returns
+returns c =
+    let all = zipped_all c.args.left.now c.args.right.now c.loop-column.yielded c.into_iter-column-iterator.result c.loop-column.column-iterator c.next.new.self c.next.result (search rules) (search rules) (search rules) c.in-None.is c.next.ensures.steps (search rules) in
+    subst (λ ls. AreCommon ls c.args.right.now c.loop-column.columns) all.0
+    (subst (λ rs. AreCommon (take (length c.loop-column.yielded) c.args.left.now) rs c.loop-column.columns) all.1 c.loop-column.invariant.kinds)

@@ -1,0 +1,17 @@
+use Rattle.std.proofs.Common.{◌≡◌, List, [], ap, refl, subst, ◌∙◌}
+use Rattle.sq_bound.specs.WellFormed.{IsSelect}
+use Rattle.sq_bound.specs.declared.condition.BoundSpecification.{BoundSpecification, out-BoundSpecification}
+use Rattle.sq_bound.specs.declared.condition.ResultColumn.{ResultColumn}
+use Rattle.sq_scope.specs.declared.findings.Found.{Found}
+use Rattle.sq_bind.proofs.Joins.{of_specification, on_value}
+use Rattle.sq_bind.proofs.query.specification_term.Goals as goal
+
+pub returns : goal.returns
+returns c tables parameters h =
+    let found = c.in_ok-found.found in
+    let query = c.in_ok-query.query in
+    let same : found.part ≡ query = cc (c.in_ok-query.ensures.0) in
+    let columns : c.in_ok-query.columns ≡ (out-BoundSpecification found.part).columns =
+    on_value (λ (copy : List ResultColumn). copy ≡ (out-BoundSpecification found.part).columns) c.copied-columns.result c.in_ok-query.columns c.in_ok-query.ensures.1 c.copied-columns.ensures in
+    of_specification tables parameters _ query refl (columns ∙ ap (λ (q : BoundSpecification). (out-BoundSpecification q).columns) same)
+    (subst (IsSelect tables parameters []) same (on_value (λ (f : Found BoundSpecification). IsSelect tables parameters [] f.part) c.args.query found c.in_ok-found.was h))

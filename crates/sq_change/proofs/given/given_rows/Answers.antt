@@ -1,0 +1,25 @@
+use Rattle.std.proofs.Common.{List, sym, subst}
+use Rattle.sq_value.specs.declared.value.Value.{Value}
+use Rattle.sq_bound.specs.declared.expression.BoundExpr.{BoundExpr}
+use Rattle.sq_bound.specs.declared.names.ObjectColumn.{ObjectColumn}
+use Rattle.std.specs.List.{AllByRecursion}
+use Rattle.sq_change.specs.Given.{AreStorable, FitColumns}
+use Rattle.sq_change.proofs.Storable.{gives_rows, gives_values}
+use Rattle.sq_change.proofs.given.given_rows.Goals as goal
+
+pub given_values-requires : goal.given_values-requires
+given_values-requires g c =
+    let setting = c.args.setting.now in
+    let insert = c.args.insert.now in
+    subst (λ (columns : List ObjectColumn). AreStorable columns c.as_slice.result.now setting.parameters.now setting.user) (sym c.as_slice-columns.ensures)
+    (subst (λ (values : List BoundExpr). AreStorable insert.columns values setting.parameters.now setting.user) (sym c.as_slice.ensures)
+    (gives_values (g.N.Names.column_kinds setting.names.now) setting.parameters.now setting.user insert.columns insert.source c.in-Values.values c.requires.given c.in-Values.is))
+
+pub stored_rows-requires : goal.stored_rows-requires
+stored_rows-requires g c =
+    let setting = c.args.setting.now in
+    let insert = c.args.insert.now in
+    let rows = c.in_ok-rows-in-Query in
+    subst (λ (columns : List ObjectColumn). AllByRecursion (FitColumns columns) c.as_slice-in-Query.result.now) (sym c.as_slice-columns.ensures)
+    (subst (λ (found : List (List Value)). AllByRecursion (FitColumns insert.columns) found) (sym c.as_slice-in-Query.ensures.value)
+    (gives_rows (g.N.Names.column_kinds setting.names.now) setting.parameters.now insert.columns insert.source c.in-Query.query rows.rows.items c.requires.given c.in-Query.is rows.ensures.kinds))

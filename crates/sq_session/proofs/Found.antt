@@ -1,0 +1,35 @@
+-- What is known of the statement of the procedure that is found.
+use Rattle.std.proofs.Common.{◌≡◌, ℕ, zero, suc, List, [], ◌∷◌, slice_get, Some, None, Ok, Err, subst, arith}
+use Rattle.std.specs.List.{AllByRecursion}
+use Rattle.sq_bound.specs.WellFormed.{TableKinds, kinds_of_parameters}
+use Rattle.sq_bound.specs.declared.fault.BindFault.{BindFault}
+use Rattle.sq_bound.specs.declared.statement.BoundStatement.{BoundStatement}
+use Rattle.sq_module.specs.Program.{ProcedureIsWellFormed, ProcedureOpens, ProceduresAreWellFormed, ProceduresOpen, kinds_of_cursors}
+use Rattle.sq_module.specs.declared.program.BoundProcedure.{BoundProcedure}
+use Rattle.sq_module.specs.declared.program.DeclaredCursor.{DeclaredCursor}
+use Rattle.sq_module.specs.declared.program.ProcedureName.{ProcedureName}
+use Rattle.sq_session.specs.Asked.{IsAsked}
+use Rattle.sq_session.specs.Kind.{kind_at}
+use Rattle.sq_session.specs.Session.{procedures_of}
+
+abbrev Entry : Type 0
+Entry = ProcedureName × BoundProcedure
+
+held_at : {A : Type 0} (P : A → Type 0) (xs : List A) (i : ℕ) (x : A) → AllByRecursion P xs → slice_get xs i ≡ Some x → P x
+held_at P [] i x h at = cc
+held_at P (y ∷ xs) zero x h at = let first : Some y ≡ Some x = at in let same : y ≡ x = cc in subst P same h.0
+held_at P (y ∷ xs) (suc i) x h at = held_at P xs i x h.1 at
+
+-- it is well formed, where those of all procedures are
+pub asked_at : (columns : TableKinds) (cs : List DeclaredCursor) (es : List Entry) (n : ℕ) (e : Entry) (s : BoundStatement) → slice_get es n ≡ Some e → e.1.statement ≡ Ok s
+    → ProceduresAreWellFormed columns (kinds_of_cursors cs) es → ProceduresOpen columns cs es → IsAsked columns cs (kinds_of_parameters e.1.parameters) s
+asked_at columns cs es n e s at is formed opened =
+    let one : ProcedureIsWellFormed columns (kinds_of_cursors cs) e.1 = held_at (λ (x : Entry). ProcedureIsWellFormed columns (kinds_of_cursors cs) x.1) es n e formed at in
+    let two : ProcedureOpens columns cs e.1 = held_at (λ (x : Entry). ProcedureOpens columns cs x.1) es n e opened at in
+    (rw is at one, rw is at two)
+
+-- one with a fault is of no kind
+pub no_kind_is : (cs : List DeclaredCursor) (es : List Entry) (n : ℕ) (e : Entry) (f : BindFault) → slice_get es n ≡ Some e → e.1.statement ≡ Err f → kind_at (procedures_of cs es) n ≡ None
+no_kind_is cs [] n e f h k = cc
+no_kind_is cs (x ∷ es) zero e f h k = grind (arith, h, k)
+no_kind_is cs (x ∷ es) (suc n) e f h k = no_kind_is cs es n e f h k
