@@ -13,13 +13,14 @@ use Rattle.sq_meaning.proofs.AnswerLaws.{all_appended}
 use Rattle.sq_meaning.specs.Kind.{common_kind, common_kinds}
 use Rattle.sq_meaning.specs.Status.{Outcome, ◌>>=◌, not_well_formed}
 use Rattle.sq_bound.proofs.JoinedLaws.{joined_kinds-out, specifications_of-out, term_kinds-Bracketed, term_kinds-Specification, term_specifications-Bracketed, term_specifications-Specification, union_kinds-out, union_specifications-out}
-use Rattle.sq_bound.specs.Joined.{Kinds, kept_kinds, specifications_of, term_kinds, term_specifications, union_kinds, union_specifications}
+use Rattle.sq_bound.specs.Joined.{Kinds, joined_kinds, kept_kinds, specifications_of, term_kinds, term_specifications, union_kinds, union_specifications}
 use Rattle.sq_bound.specs.Names.{same_kind}
-use Rattle.sq_bound.specs.WellFormed.{IsCursor, IsCursorBody, IsQuery, IsSelect, IsUpdatable, TableKinds, kinds_of_query, kinds_of_results}
+use Rattle.sq_bound.specs.WellFormed.{IsCursor, IsCursorBody, IsQuery, IsSelect, IsUpdatable, TableKinds, kinds_of_query, kinds_of_results, kinds_of_select}
 use Rattle.sq_bound.specs.declared.condition.BoundSpecification.{BoundSpecification, out-BoundSpecification}
 use Rattle.sq_bound.specs.declared.condition.ResultColumn.{ResultColumn}
 use Rattle.sq_bound.specs.declared.query.BoundCursor.{BoundCursor}
 use Rattle.sq_bound.specs.declared.query.BoundQuery.{BoundQuery, out-BoundQuery}
+use Rattle.sq_bound.specs.declared.query.BoundTerm.{BoundTerm}
 use Rattle.sq_bound.specs.declared.query.BoundTerm.TheVariants as bound
 use Rattle.sq_bound.specs.declared.query.BoundUnion.{BoundUnion}
 use Rattle.sq_bound.specs.declared.query.CursorBody.TheVariants.{Rows, Updatable}
@@ -123,7 +124,7 @@ of_further columns parameters before q u t first rest same side common b h =
 
 -- ---- common columns, one after the other
 
-goes_on : {A B : Type 0} (o : Outcome A) (f : A → Outcome B) (y : B) → (o >>= f) ≡ Ok y → (x : A) × (o ≡ Ok x) × (f x ≡ Ok y)
+pub goes_on : {A B : Type 0} (o : Outcome A) (f : A → Outcome B) (y : B) → (o >>= f) ≡ Ok y → (x : A) × (o ≡ Ok x) × (f x ≡ Ok y)
 goes_on (Ok x) f y e = (x, refl, e)
 goes_on (Err status) f y e = cc
 
@@ -178,3 +179,29 @@ pub on_kept : {A B E F : Type 0} (P : A → Type 0) (kept : Result A E) (part : 
     → (is_ok test ≡ true → P part) → IfOk kept P
 on_kept P (Ok x) part test same passed f = subst P (sym same) (f passed)
 on_kept P (Err e) part test same passed f = same
+
+-- ---- the only query specification
+
+-- a query expression of one term is that term
+pub of_only : (columns : TableKinds) (parameters kinds : List Kind) (q : BoundQuery) → (out-BoundQuery q).rest ≡ [] → AllByRecursion (IsSelect columns parameters []) (specifications_of q) → joined_kinds q ≡ Ok kinds
+    → AllByRecursion (IsSelect columns parameters []) (term_specifications (out-BoundQuery q).first) × (term_kinds (out-BoundQuery q).first ≡ Ok kinds)
+unfolding joined_from
+of_only columns parameters kinds q none h k =
+    let o = out-BoundQuery q in
+    let made : specifications_of q ≡ term_specifications o.first =
+    specifications_of-out q ∙ ap (λ rest. term_specifications o.first ++ flat_map union_specifications rest) none ∙ append-nil (term_specifications o.first) in
+    let joined : (term_kinds o.first >>= kept_kinds o.columns) ≡ Ok kinds =
+    sym (joined_kinds-out q ∙ ap (λ rest. joined_from (term_kinds o.first) rest >>= kept_kinds o.columns) none) ∙ k in
+    (subst (AllByRecursion (IsSelect columns parameters [])) made h, kept_from o.columns (term_kinds o.first) kinds joined)
+
+pub only_specification : (columns : TableKinds) (parameters kinds : List Kind) (t : BoundTerm) (s : BoundSpecification) → t ≡ bound.Specification s → AllByRecursion (IsSelect columns parameters []) (term_specifications t)
+    → term_kinds t ≡ Ok kinds → IsSelect columns parameters [] s × (kinds_of_select s ≡ kinds)
+only_specification columns parameters kinds t s e h k =
+    let there : AllByRecursion (IsSelect columns parameters []) (s ∷ []) = subst (AllByRecursion (IsSelect columns parameters [])) (ap term_specifications e ∙ term_specifications-Specification s) h in
+    let same : Ok (kinds_of_select s) ≡ Ok kinds = sym (ap term_kinds e ∙ term_kinds-Specification s) ∙ k in
+    (there.0, cc (same))
+
+pub only_bracketed : (columns : TableKinds) (parameters kinds : List Kind) (t : BoundTerm) (q : BoundQuery) → t ≡ bound.Bracketed q → AllByRecursion (IsSelect columns parameters []) (term_specifications t)
+    → term_kinds t ≡ Ok kinds → AllByRecursion (IsSelect columns parameters []) (specifications_of q) × (joined_kinds q ≡ Ok kinds)
+only_bracketed columns parameters kinds t q e h k =
+    (subst (AllByRecursion (IsSelect columns parameters [])) (ap term_specifications e ∙ term_specifications-Bracketed q) h, sym (ap term_kinds e ∙ term_kinds-Bracketed q) ∙ k)

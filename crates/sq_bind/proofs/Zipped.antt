@@ -64,3 +64,10 @@ pub both_more : {A B : Type 0} (R : A → B → Type 0) (xs : List A) (ys : List
     → AllZip R (take n xs) (take n ys) → R x y → AllZip R (take m xs) (take m ys)
 both_more R xs ys n m x y more_left more_right h r =
     subst (λ l. AllZip R l (take m ys)) (sym more_left) (subst (λ l. AllZip R (take n xs ++ x ∷ []) l) (sym more_right) (all_zipped_more R (take n xs) (take n ys) x y h r))
+
+-- what follows from what holds of each pair
+pub zipped_weaker : {A B : Type 0} (R S : A → B → Type 0) → ((x : A) (y : B) → R x y → S x y) → (xs : List A) (ys : List B) → AllZip R xs ys → AllZip S xs ys
+zipped_weaker R S f [] [] h = tt
+zipped_weaker R S f [] (y ∷ ys) h = absurd h
+zipped_weaker R S f (x ∷ xs) [] h = absurd h
+zipped_weaker R S f (x ∷ xs) (y ∷ ys) h = (f x y h.0, zipped_weaker R S f xs ys h.1)

@@ -1,17 +1,19 @@
 //! Query expressions and cursors (ISO/IEC 9075:1992, 7.10, 13.1).
 
-ghost use Rattle.std.specs.Prelude.{◌≡◌, [], List, IfOk, IfSome, MatchOption};
+ghost use Rattle.std.specs.Prelude.{◌≡◌, [], List, IfOk, IfSome, MatchOption, Ok};
+ghost use Rattle.std.specs.List.{AllByRecursion};
 ghost use Rattle.sq_value.specs.declared.domain.Kind.{Kind};
 ghost use Rattle.sq_bind.specs.WellFormed.{AreCommon, IsJoined, IsOutermost, IsTerm};
 ghost use Rattle.sq_bound.specs.Fits.{FitsCursor, FitsQuery};
-ghost use Rattle.sq_bound.specs.WellFormed.{IsCursor, IsSelect, IsUpdatable, TableKinds, kinds_of_parameters, kinds_of_results};
+ghost use Rattle.sq_bound.specs.Joined.{joined_kinds, specifications_of, term_kinds, term_specifications};
+ghost use Rattle.sq_bound.specs.WellFormed.{IsCursor, IsQuery, IsSelect, IsUpdatable, TableKinds, kinds_of_parameters, kinds_of_query, kinds_of_select};
 ghost use Rattle.sq_bound.specs.declared.query.BoundQuery.{out-BoundQuery};
 ghost use Rattle.sq_bound.specs.declared.query.CursorBody.TheVariants.{Rows, Updatable};
 
 use crate::updatable::bind_updatable;
 use sq_bound::{
-    BindFault, BoundCursor, BoundQuery, BoundTerm, BoundUnion, CursorBody, Names, ResultColumn,
-    SortColumn, UpdatableQuery,
+    BindFault, BoundCursor, BoundQuery, BoundSpecification, BoundTerm, BoundUnion, CursorBody,
+    Names, ResultColumn, SortColumn, UpdatableQuery,
 };
 use sq_items::{Boxed, Items};
 use sq_lex::{Name, Number};
@@ -319,25 +321,48 @@ fn sole_term(term: &QueryTerm) -> Option<&QuerySpecification> {
     }
 }
 
+/// The query specification that a bound query expression is, if there is no UNION.
+#[cycle(sole_bound)]
+fn sole_bound(query: &BoundQuery) -> Option<&BoundSpecification>
+    ensures { (tables : TableKinds) (parameters kinds : List Kind) → AllByRecursion (IsSelect tables parameters []) (specifications_of query.now) → joined_kinds query.now ≡ Ok kinds → IfSome result (λ only. IsSelect tables parameters [] only.now × (kinds_of_select only.now ≡ kinds)) }
+{
+    if query.rest.is_empty() {
+        sole_bound_term(&query.first)
+    } else {
+        None
+    }
+}
+
+#[cycle(sole_bound)]
+fn sole_bound_term(term: &BoundTerm) -> Option<&BoundSpecification>
+    ensures { (tables : TableKinds) (parameters kinds : List Kind) → AllByRecursion (IsSelect tables parameters []) (term_specifications term.now) → term_kinds term.now ≡ Ok kinds → IfSome result (λ only. IsSelect tables parameters [] only.now × (kinds_of_select only.now ≡ kinds)) }
+{
+    match term {
+        BoundTerm::Specification(query) => Some(query),
+        BoundTerm::Bracketed(query) => sole_bound(query.get()),
+    }
+}
+
 /// What an updatable cursor is over, if the cursor is updatable (13.1; own rule): its query is, and neither ORDER BY nor
-/// SCROLL nor INSENSITIVE is written. The query shows columns of these kinds.
+/// SCROLL nor INSENSITIVE is written.
 fn updatable_cursor<N: Names>(
     cursor: &Cursor,
-    shown: &[ResultColumn],
+    bound: &BoundQuery,
     names: &N,
     environment: &Environment<'_>,
     numbers: &mut SubqueryNumbers,
 ) -> Result<Option<((Name, Name), UpdatableQuery)>, BindFault>
-    requires { IsOutermost environment.now }
+    requires outermost { IsOutermost environment.now }
+    requires bound { IsQuery (N.column_kinds names.now) (kinds_of_parameters environment.now.parameters.now) bound.now }
     ensures fits { IfOk result (λ found. IfSome found (λ query. FitsQuery (N.base_tables names.now) query.1)) }
-    ensures well_formed { IfOk result (λ found. IfSome found (λ query. IsUpdatable (N.column_kinds names.now) (kinds_of_parameters environment.now.parameters.now) (kinds_of_results shown.now) query.1)) }
+    ensures well_formed { IfOk result (λ found. IfSome found (λ query. IsUpdatable (N.column_kinds names.now) (kinds_of_parameters environment.now.parameters.now) (kinds_of_query bound.now) query.1)) }
 {
     if cursor.insensitive || cursor.scroll || cursor.order_by.is_some() {
         return Ok(None);
     }
-    match sole_specification(&cursor.query) {
-        Some(query) => bind_updatable(query, shown, names, environment, numbers),
-        None => Ok(None),
+    match (sole_specification(&cursor.query), sole_bound(bound)) {
+        (Some(query), Some(bound)) => bind_updatable(query, bound, names, environment, numbers),
+        _ => Ok(None),
     }
 }
 
@@ -366,8 +391,7 @@ pub(crate) fn cursor_of<N: Names>(
         drop(query);
         return Err(BindFault::PrivilegeMissing);
     }
-    let shown = query.columns.as_slice();
-    let updatable = updatable_cursor(cursor, shown, names, environment, numbers);
+    let updatable = updatable_cursor(cursor, &query, names, environment, numbers);
     let columns = copied(environment.alloc, &query.columns);
     let ((query, columns), updatable) = both(both(Ok(query), columns), updatable)?;
     Ok(whole_cursor(cursor, query, sorts, columns, updatable))

@@ -85,8 +85,7 @@ pub fn bind_view<N: Names>(
         &environment,
         &mut numbers,
     )?;
-    let shown = bound.part.columns.as_slice();
-    let updatable = bind_updatable(query, shown, names, &environment, &mut numbers);
+    let updatable = bind_updatable(query, &bound.part, names, &environment, &mut numbers);
     let (Found { part, findings }, updatable) = both(Ok(bound), updatable)?;
     Ok(BoundView {
         query: part,
@@ -130,6 +129,7 @@ impl Names for OwnColumns<'_> {
         None
     }
 
+    #[tactic(auto, using(crate::proofs::OwnColumns::none_known))]
     fn at(&self, _place: TablePlace) -> Option<&TableDesc> {
         None
     }

@@ -1,65 +1,59 @@
 //! Updatable queries and targets (ISO/IEC 9075:1992, 7.9, 13.6 to 13.10).
 
-ghost use Rattle.std.specs.Prelude.{◌≡◌, ◌<◌, nat_lt, length, map, slice_get, true, Some, IfOk, IfSome};
-ghost use Rattle.std.specs.List.{list_all};
+ghost use Rattle.std.specs.Prelude.{◌≡◌, ◌∷◌, [], nat_lt, length, true, Ok, Some, IfOk, IfSome};
+ghost use Rattle.std.specs.List.{AllByRecursion, list_all};
 ghost use Rattle.sq_bound.specs.Fits.{FitsQuery, IsBase};
 ghost use Rattle.sq_bound.specs.Names.{is_kind_at, option_all};
-ghost use Rattle.sq_bound.specs.WellFormed.{IsLeaf, IsTarget, IsUpdatable, base_kinds, kinds_of_parameters, kinds_of_results};
-ghost use Rattle.sq_value.specs.Domain.{kind_of};
+ghost use Rattle.sq_bound.specs.Quiet.{is_sure};
+ghost use Rattle.sq_bound.specs.WellFormed.{IsLeaf, IsSelect, IsTarget, IsUpdatable, base_kinds, kinds_of_columns, kinds_of_parameters, kinds_of_select};
+ghost use Rattle.sq_bound.specs.declared.condition.BoundSpecification.{out-BoundSpecification};
+ghost use Rattle.sq_bound.specs.declared.condition.TablePlace.{TablePlace as AnyPlace};
 ghost use Rattle.sq_bound.specs.declared.condition.TablePlace.TheVariants.{Base};
 ghost use Rattle.sq_scope.specs.WellFormed.{IsItemOver};
 ghost use Rattle.sq_bind.specs.WellFormed.{IsOutermost};
-ghost use Rattle.sq_bind.specs.Updatable.{AreOf, HaveKinds, IsPositionOf};
+ghost use Rattle.sq_bind.specs.Updatable.{AreLeaves, IsAmong, IsLeafOf};
 
 use sq_bound::{
-    BaseColumn, BaseTable, BindFault, BoundCond, BoundConj, BoundExpr, BoundTest, Leaf, Names,
-    Predicate, ResultColumn, Shared, TableBody, TableDesc, Target, UpdatableQuery,
+    BindFault, BoundCond, BoundConj, BoundExpr, BoundSpecification, BoundTest, Column, Leaf, Names,
+    Predicate, Shared, TableBody, TableDesc, Target, UpdatableQuery, is_sure,
 };
 use sq_items::Items;
 use sq_lex::Name;
 use sq_scope::{Environment, Findings, Found, FromItem, SetFunctions, both, item_over};
-use sq_select::{SubqueryNumbers, bind_cond, correlation_of, named_table, reference_of};
-use sq_tree::{CommaList, Comparison, Cond, Expr, QuerySpecification, SelectList, SetQuantifier};
-use sq_value::Kind;
+use sq_select::{SubqueryNumbers, bind_cond, correlation_of, reference_of};
+use sq_tree::{Comparison, Cond, QuerySpecification, SelectList};
 use std::alloc::Global;
 use std::slice::from_ref;
 
-/// The table of the only FROM item of a query without DISTINCT, GROUP BY and HAVING, if the table has rows of a base table
-/// under it.
-fn only_table<'a, N: Names>(
-    query: &QuerySpecification,
-    names: &'a N,
-    user: Name,
-) -> Result<Option<Under<'a>>, BindFault>
-    ensures base { IfOk result (λ found. IfSome found (λ under. IsBase (N.base_tables names.now) under.leaf.now.table)) }
-    ensures leaf { IfOk result (λ found. IfSome found (λ under. IsLeaf (N.column_kinds names.now) under.leaf.now)) }
+/// The table of the only FROM item of a query without DISTINCT, GROUP BY, HAVING and set functions, if the table has rows of a
+/// base table under it.
+fn only_table<'a, N: Names>(bound: &BoundSpecification, names: &'a N) -> Option<Under<'a>>
+    ensures base { IfSome result (λ under. IsBase (N.base_tables names.now) under.leaf.now.table) }
+    ensures leaf { IfSome result (λ under. IsLeaf (N.column_kinds names.now) under.leaf.now) }
+    ensures from { IfSome result (λ under. (t : AnyPlace) × ((out-BoundSpecification bound.now).from ≡ t ∷ []) × (N.column_kinds names.now t ≡ Ok (kinds_of_columns under.table.now.columns))) }
 {
-    let is_plain = !matches!(query.quantifier, Some(SetQuantifier::Distinct))
-        && query.table.group_by.is_none()
-        && query.table.having.is_none()
-        && query.table.from.rest.is_empty();
-    if !is_plain {
-        return Ok(None);
+    match bound.from.as_slice() {
+        [place] if !bound.distinct && bound.grouping.is_none() => { under_table(names.at(*place)?) }
+        _ => None,
     }
-    let table = named_table(names, user, query.table.from.first.table)?;
-    Ok(under_table(table))
 }
 
 /// What an updatable query is over, its table's owner and name, and the columns that it selects, if the query is updatable
-/// (own rule). The query shows columns of these kinds.
+/// (own rule).
 pub(crate) fn bind_updatable<N: Names>(
     query: &QuerySpecification,
-    shown: &[ResultColumn],
+    bound: &BoundSpecification,
     names: &N,
     environment: &Environment<'_>,
     numbers: &mut SubqueryNumbers,
 ) -> Result<Option<((Name, Name), UpdatableQuery)>, BindFault>
-    requires { IsOutermost environment.now }
+    requires outermost { IsOutermost environment.now }
+    requires bound { IsSelect (N.column_kinds names.now) (kinds_of_parameters environment.now.parameters.now) [] bound.now }
     ensures fits { IfOk result (λ found. IfSome found (λ query. FitsQuery (N.base_tables names.now) query.1)) }
-    ensures well_formed { IfOk result (λ found. IfSome found (λ query. IsUpdatable (N.column_kinds names.now) (kinds_of_parameters environment.now.parameters.now) (kinds_of_results shown.now) query.1)) }
+    ensures well_formed { IfOk result (λ found. IfSome found (λ query. IsUpdatable (N.column_kinds names.now) (kinds_of_parameters environment.now.parameters.now) (kinds_of_select bound.now) query.1)) }
 {
-    match only_table(query, names, environment.user)? {
-        Some(under) => updatable_over(under, query, shown, names, environment, numbers),
+    match only_table(bound, names) {
+        Some(under) => updatable_over(under, query, bound, names, environment, numbers),
         None => Ok(None),
     }
 }
@@ -67,25 +61,28 @@ pub(crate) fn bind_updatable<N: Names>(
 fn updatable_over<N: Names>(
     under: Under<'_>,
     query: &QuerySpecification,
-    shown: &[ResultColumn],
+    bound: &BoundSpecification,
     names: &N,
     environment: &Environment<'_>,
     numbers: &mut SubqueryNumbers,
 ) -> Result<Option<((Name, Name), UpdatableQuery)>, BindFault>
     requires base { IsBase (N.base_tables names.now) under.leaf.now.table }
     requires leaf { IsLeaf (N.column_kinds names.now) under.leaf.now }
+    requires from { (t : AnyPlace) × ((out-BoundSpecification bound.now).from ≡ t ∷ []) × (N.column_kinds names.now t ≡ Ok (kinds_of_columns under.table.now.columns)) }
     requires outermost { IsOutermost environment.now }
+    requires bound { IsSelect (N.column_kinds names.now) (kinds_of_parameters environment.now.parameters.now) [] bound.now }
     ensures fits { IfOk result (λ found. IfSome found (λ query. FitsQuery (N.base_tables names.now) query.1)) }
-    ensures well_formed { IfOk result (λ found. IfSome found (λ query. IsUpdatable (N.column_kinds names.now) (kinds_of_parameters environment.now.parameters.now) (kinds_of_results shown.now) query.1)) }
+    ensures well_formed { IfOk result (λ found. IfSome found (λ query. IsUpdatable (N.column_kinds names.now) (kinds_of_parameters environment.now.parameters.now) (kinds_of_select bound.now) query.1)) }
 {
     let correlation = correlation_of(&query.table.from.first);
     let item = item_over(environment.alloc, under.table, correlation, true)?;
-    let columns = plain_columns(environment.alloc, &query.list, &item);
+    let own = under.table.columns.as_slice();
+    let columns = plain_columns(environment.alloc, &query.list, bound.list.as_slice(), own);
     let cond = query.table.where_clause.as_ref();
     let target = bind_target(cond, names, &item, &*environment, under, numbers);
     drop(item);
     let (columns, target) = both(columns, target)?;
-    Ok(updatable(under, columns, target, shown))
+    Ok(updatable(under, columns, target))
 }
 
 /// A table that may be changed, and what is under it.
@@ -108,7 +105,8 @@ impl Under<'_> {
 
 /// What is under a table, if it may be changed.
 pub(crate) fn under_table<'a>(table: &'a TableDesc) -> Option<Under<'a>>
-    ensures { IfSome result (λ under. table.now.leaf ≡ Some under.leaf.now) }
+    ensures leaf { IfSome result (λ under. table.now.leaf ≡ Some under.leaf.now) }
+    ensures table { IfSome result (λ under. under.table.now ≡ table.now) }
 {
     match &table.leaf {
         Some(leaf) => Some(Under { table, leaf }),
@@ -116,20 +114,16 @@ pub(crate) fn under_table<'a>(table: &'a TableDesc) -> Option<Under<'a>>
     }
 }
 
-/// An updatable query has columns each named once, and no subquery in its condition. Each column that it shows has the kind of
-/// the base table's column that it is.
+/// An updatable query has columns each named once, and no subquery in its condition.
 fn updatable(
     under: Under<'_>,
     columns: Option<Items<usize>>,
     target: Found<Target>,
-    shown: &[ResultColumn],
 ) -> Option<((Name, Name), UpdatableQuery)>
-    ensures made { IfSome result (λ found. (columns ≡ Some found.1.columns) × (target.part ≡ found.1.target)) }
-    ensures kinds { IfSome result (λ found. HaveKinds (base_kinds under.entry.leaf.now.table) found.1.columns (kinds_of_results shown.now)) }
+    ensures { IfSome result (λ found. (columns ≡ Some found.1.columns) × (target.part ≡ found.1.target)) }
 {
-    let base = under.leaf.get().table.get();
     match (columns, target.findings.has_subquery) {
-        (Some(columns), false) if have_kinds(base, columns.as_slice(), shown) => Some((
+        (Some(columns), false) => Some((
             under.table.full_name(),
             UpdatableQuery {
                 target: target.part,
@@ -144,98 +138,65 @@ fn updatable(
     }
 }
 
-/// Whether the columns of a base table at these positions have the kinds of the columns that are shown.
-fn have_kinds(base: &BaseTable, positions: &[usize], shown: &[ResultColumn]) -> bool
-    ensures { result ≡ true → HaveKinds (base_kinds base.now) positions.now (kinds_of_results shown.now) }
-{
-    if positions.len() != shown.len() {
-        return false;
-    }
-    for (position, column) in positions.iter().zip(shown) {
-        if !has_kind(base.columns.as_slice(), *position, column.kind) {
-            return false;
-        }
-    }
-    true
-}
-
-/// Whether the column at this position has this kind.
-fn has_kind(columns: &[BaseColumn], position: usize, kind: Kind) -> bool
-    ensures { result ≡ true → slice_get (map (λ c. kind_of c.domain) columns.now) position ≡ Some kind }
-{
-    match columns.get(position) {
-        Some(column) => column.domain.kind() == kind,
-        None => false,
-    }
-}
-
-/// The columns of the base table that a select list names, if it is columns of the item alone, each named once.
+/// The columns of the base table that a select list names, if it is columns of the table alone, each named once and without
+/// brackets or a sign.
 fn plain_columns(
     alloc: Global,
     list: &SelectList,
-    item: &FromItem,
+    exprs: &[BoundExpr],
+    own: &[Column],
 ) -> Result<Option<Items<usize>>, BindFault>
-    ensures { IfOk result (λ found. IfSome found (AreOf item.now)) }
+    requires { AllByRecursion (IsAmong own.now) exprs.now }
+    ensures { IfOk result (λ found. IfSome found (AreLeaves own.now exprs.now)) }
 {
-    let columns = match list {
-        SelectList::Star => all_positions(alloc, item),
-        SelectList::Items(list) => named_positions(alloc, list, item),
-    };
-    Ok(distinct(columns?))
+    let columns = leaf_columns(alloc, exprs, own)?;
+    Ok(if is_plain(list) {
+        distinct(columns)
+    } else {
+        None
+    })
 }
 
-/// The positions of all columns of an item.
-fn all_positions(alloc: Global, item: &FromItem) -> Result<Option<Items<usize>>, BindFault>
-    ensures { IfOk result (λ found. IfSome found (AreOf item.now)) }
+/// Whether a select list is column references, without brackets or a sign.
+fn is_plain(list: &SelectList) -> bool {
+    match list {
+        SelectList::Star => true,
+        SelectList::Items(list) => {
+            let rest = list.rest.as_slice();
+            reference_of(&list.first).is_some()
+                && rest.iter().all(|expr| reference_of(expr).is_some())
+        }
+    }
+}
+
+/// The columns of the base table that expressions over a table are, if each is a column.
+fn leaf_columns(
+    alloc: Global,
+    exprs: &[BoundExpr],
+    own: &[Column],
+) -> Result<Option<Items<usize>>, BindFault>
+    requires { AllByRecursion (IsAmong own.now) exprs.now }
+    ensures { IfOk result (λ found. IfSome found (AreLeaves own.now exprs.now)) }
 {
     let mut columns = Items::new(alloc);
-    for column in item.columns.as_slice() {
-        columns.push(column.position)?;
+    for expr in exprs {
+        match leaf_column(expr, own) {
+            Some(position) => columns.push(position)?,
+            None => return Ok(None),
+        }
     }
     Ok(Some(columns))
 }
 
-/// The positions of the columns of an item that a list names, if it names columns of it alone.
-fn named_positions(
-    alloc: Global,
-    list: &CommaList<Expr>,
-    item: &FromItem,
-) -> Result<Option<Items<usize>>, BindFault>
-    ensures { IfOk result (λ found. IfSome found (AreOf item.now)) }
+/// The column of the base table that an expression over a table is, if it is a column.
+fn leaf_column(expr: &BoundExpr, own: &[Column]) -> Option<usize>
+    requires { IsAmong own.now expr.now }
+    ensures { IfSome result (IsLeafOf own.now expr.now) }
 {
-    let mut columns = Items::new(alloc);
-    let mut is_plain = push_position(&mut columns, &list.first, item)?;
-    for expr in list.rest.as_slice() {
-        is_plain = push_position(&mut columns, expr, item)? && is_plain;
+    match expr {
+        BoundExpr::Column(place) => Some(own[place.column].leaf_column),
+        _ => None,
     }
-    Ok(if is_plain { Some(columns) } else { None })
-}
-
-/// Adds the position of the column of an item that an expression is, if it is one.
-fn push_position(
-    columns: &mut Items<usize>,
-    expr: &Expr,
-    item: &FromItem,
-) -> Result<bool, BindFault>
-    requires { AreOf item.now columns.old }
-    ensures { AreOf item.now columns.new }
-{
-    match position_of(expr, item) {
-        Some(position) => {
-            columns.push(position)?;
-            Ok(true)
-        }
-        None => Ok(false),
-    }
-}
-
-/// The position of the column of an item that an expression is, if it is one.
-fn position_of(expr: &Expr, item: &FromItem) -> Option<usize>
-    ensures { IfSome result (IsPositionOf item.now) }
-{
-    let reference = reference_of(expr)?;
-    let column = item.column(reference)?;
-    Some(column.position)
 }
 
 /// The columns, if none of them is there twice.
@@ -304,17 +265,28 @@ fn whole_target(
     ensures condition { IfOk result (λ found. found.part.condition ≡ condition) }
 {
     let (condition, leaf) = both(Ok(condition), under.leaf.share())?;
+    let is_quiet = is_sure_where(&condition) && leaf.get().is_quiet;
     Ok(Found {
         part: Target {
             table: under.table.place(),
             base: under.base(),
-            is_quiet: leaf.get().is_quiet && !findings.can_fail && !findings.has_subquery,
+            is_quiet,
             leaf,
             condition,
             key,
         },
         findings,
     })
+}
+
+/// Whether the truth of a condition, if there is one, is never a fault.
+fn is_sure_where(condition: &Option<BoundCond>) -> bool
+    ensures { result ≡ option_all is_sure condition.now }
+{
+    match condition {
+        Some(condition) => is_sure(condition),
+        None => true,
+    }
 }
 
 /// The first key of a base table that a condition compares: the condition is one term, and its first tests say

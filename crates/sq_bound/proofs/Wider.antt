@@ -1,10 +1,10 @@
 -- What is well formed stays so where more tables are there, and more parameters.
 use Rattle.std.proofs.Common.{◌≡◌, ℕ, Bool, List, [], ◌∷◌, Option, Some, None, refl, ap, sym, subst, Ok, Err}
-use Rattle.std.specs.Prelude.{⊤, IsTrue, slice_get}
+use Rattle.std.specs.Prelude.{⊤, IsTrue, true, false, nat_lt, if◌then◌else◌, slice_get}
 use Rattle.std.specs.List.{AllByRecursion, flat_map}
 use Rattle.std.proofs.lemmas.Option.{IfSome_then}
 use Rattle.sq_value.specs.declared.domain.Kind.{Kind}
-use Rattle.sq_meaning.specs.Status.{Outcome, and_then, each, well_formed}
+use Rattle.sq_meaning.specs.Status.{Outcome, and_then, each, well_formed, not_well_formed}
 use Rattle.sq_meaning.specs.Syntax.{Expr, literal, parameter, user, column, count_rows, set_function, signed, added, scaled, bracketed, SelectList, all_columns, expressions, Cond, Conds, Clause, Select, compare, compare_subquery, compare_quantified, between, in_subquery, in_list, like, is_null, exists, negated, conjunction, disjunction, no_cond, a_cond, absent, present, select}
 use Rattle.sq_meaning.specs.Environment.{Row, Place}
 use Rattle.sq_meaning.specs.Kind.{Kinds, kind, signed_kind, sum_kind, product_kind, function_kind, list_kinds, select_kinds}
@@ -13,11 +13,11 @@ use Rattle.sq_meaning.specs.Query.{is_grouped}
 use Rattle.sq_meaning.specs.WellFormed.{Has, HasValue, froms, of_lines, inside_function, shown_level, is_comparable, is_text, IsOnlyKind, kind_there, MayStand, WellFormedExpr, WellFormedColumn, WellFormedPair, WellFormedText, WellFormedEscape, IsBeside, WellFormedTable, WellFormedList, WellFormedCond, WellFormedConds, WellFormedClause, WellFormedSelect, kinds_by_place, IsThere, IsDeclaredAt}
 use Rattle.sq_meaning.proofs.AnswerLaws.{all_weaker}
 use Rattle.sq_bound.specs.Condition.{select_of}
-use Rattle.sq_bound.specs.WellFormed.{TableKinds, Extends, Levels, IsExpr, IsCond, IsSelect, IsCondOn, IsLeaf, IsBody, IsTable, kinds_of_select, base_kinds, kinds_of_columns, of_base, place_of}
+use Rattle.sq_bound.specs.WellFormed.{TableKinds, before_view, Extends, Levels, IsExpr, IsCond, IsSelect, IsCondOn, IsLeaf, IsBody, IsTable, kinds_of_select, base_kinds, kinds_of_columns, of_base, place_of}
 use Rattle.sq_bound.specs.declared.condition.BoundCond.{BoundCond}
 use Rattle.sq_bound.specs.declared.condition.BoundSpecification.{BoundSpecification}
 use Rattle.sq_bound.specs.declared.condition.TablePlace.{TablePlace}
-use Rattle.sq_bound.specs.declared.condition.TablePlace.TheVariants.{Base}
+use Rattle.sq_bound.specs.declared.condition.TablePlace.TheVariants.{Base, View}
 use Rattle.sq_bound.specs.declared.expression.BoundExpr.{BoundExpr}
 use Rattle.sq_bound.specs.declared.expression.SetFunctionCall.{SetFunctionCall}
 use Rattle.sq_bound.specs.declared.names.BaseTable.{BaseTable}
@@ -256,9 +256,20 @@ module _ (before after : TableKinds) (extends : Extends before after) where
     checks = conditions_wider l.table l.table.checks h.checks;
   }
 
+  if_wider : (b : Bool) (x y : Outcome (List Kind)) (kinds : List Kind) → ((k : List Kind) → x ≡ Ok k → y ≡ Ok k)
+      → (if b then x else not_well_formed) ≡ Ok kinds → (if b then y else not_well_formed) ≡ Ok kinds
+  if_wider true x y kinds h e = h kinds e
+  if_wider false x y kinds h e = absurd cc
+
+  -- the views before one, too
+  pub before_wider : (n : ℕ) → Extends (before_view n before) (before_view n after)
+  before_wider n (Base p) kinds e = extends (Base p) kinds e
+  before_wider n (View p) kinds e = if_wider (nat_lt p n) (before (View p)) (after (View p)) kinds (extends (View p)) e
+
   pub is_body_wider : (kinds : List Kind) (b : TableBody) → IsBody before kinds b → IsBody after kinds b
   is_body_wider kinds (body.Base b) h = tt
-  is_body_wider kinds (body.View v) h = (is_select_wider before after [] [] extends (λ n k e. e) [] v.query h.0, h.1)
+  is_body_wider kinds (body.View v) h =
+      (is_select_wider (before_view v.place before) (before_view v.place after) [] [] (before_wider v.place) (λ n k e. e) [] v.query h.0, h.1)
 
   pub is_table_wider : (t : TableDesc) → IsTable before t → IsTable after t
   is_table_wider t h = record {
@@ -266,3 +277,13 @@ module _ (before after : TableKinds) (extends : Extends before after) where
     leaf = IfSome_then t.leaf {P = IsLeaf before} {Q = IsLeaf after} h.leaf is_leaf_wider;
     body = is_body_wider (kinds_of_columns t.columns) t.body h.body;
   }
+
+-- ---- what is known before a view is known afterwards
+
+known_before : (b : Bool) (o : Outcome (List Kind)) (kinds : List Kind) → (if b then o else not_well_formed) ≡ Ok kinds → o ≡ Ok kinds
+known_before true o kinds e = e
+known_before false o kinds e = absurd cc
+
+pub before_extends : (columns : TableKinds) (n : ℕ) → Extends (before_view n columns) columns
+before_extends columns n (Base p) kinds e = e
+before_extends columns n (View p) kinds e = known_before (nat_lt p n) (columns (View p)) kinds e

@@ -6,5 +6,6 @@ pub mod Joined
 pub mod Names
 pub mod Parameter
 pub mod Query
+pub mod Quiet
 pub mod SetFunction
 pub mod WellFormed

@@ -1,6 +1,6 @@
 -- Which bound trees are well formed (ISO/IEC 9075:1992, 6.3 to 6.5, 6.11, 7.3 to 7.11, clauses 8 and 13): their trees by
 -- place are, and what is known of their columns beforehand is what the definitions give.
-use Rattle.std.specs.Prelude.{⊤, ◌≡◌, ◌⊎◌, ℕ, nat_eq, if◌then◌else◌, IsTrue, List, [], ◌∷◌, ◌++◌, map, slice_get, Some, IfSome, Ok}
+use Rattle.std.specs.Prelude.{⊤, ◌≡◌, ◌<◌, ◌⊎◌, ℕ, length, nat_eq, nat_lt, if◌then◌else◌, IsTrue, List, [], ◌∷◌, ◌++◌, map, slice_get, Some, IfSome, Ok}
 use Rattle.std.specs.List.{AllByRecursion, AllZip}
 use Rattle.sq_value.specs.Domain.{kind_of}
 use Rattle.sq_value.specs.declared.domain.Kind.{Kind}
@@ -10,7 +10,7 @@ use Rattle.sq_meaning.specs.Status.{Outcome, well_formed, not_well_formed}
 use Rattle.sq_meaning.specs.Environment.{Row}
 use Rattle.sq_meaning.specs.Kind.{kind, select_kinds}
 use Rattle.sq_meaning.specs.Placed.{Placed, by_place}
-use Rattle.sq_meaning.specs.WellFormed.{Has, Level, froms, of_lines, is_comparable, MayStand, WellFormedCond, WellFormedSelect, kinds_by_place, IsDeclaredAt}
+use Rattle.sq_meaning.specs.WellFormed.{Has, HasValue, Level, froms, of_lines, is_comparable, MayStand, WellFormedCond, WellFormedSelect, kinds_by_place, IsDeclaredAt}
 use Rattle.sq_bound.specs.Condition.{PlacedCond, cond_of, select_of}
 use Rattle.sq_bound.specs.Expression.{PlacedExpr, expr_of}
 use Rattle.sq_bound.specs.Fits.{IsColumnOf, under}
@@ -61,6 +61,15 @@ TableKinds = TablePlace → Outcome (List Kind)
 abbrev pub only : ℕ → List Kind → TableKinds
 only place kinds (Base n) = if nat_eq n place then Ok kinds else not_well_formed
 only place kinds (View n) = not_well_formed
+
+-- each base table that is known is one of these
+abbrev pub BasesAreThere : List BaseTable → TableKinds → Type 0
+BasesAreThere bases columns = (place : ℕ) → HasValue (columns (Base place)) → place < length bases
+
+-- the base tables, and the views before one
+abbrev pub before_view : ℕ → TableKinds → TableKinds
+before_view place columns (Base n) = columns (Base n)
+before_view place columns (View n) = if nat_lt n place then columns (View n) else not_well_formed
 
 -- what is there is still there
 abbrev pub Extends : TableKinds → TableKinds → Type 0
@@ -137,10 +146,10 @@ pub record IsLeaf (columns : TableKinds) (l : Leaf) : Type 0 where
   pub conditions : AllByRecursion (IsCondOn columns l.table) l.conditions
   pub checks : AllByRecursion (IsCondOn columns l.table) l.table.checks
 
--- a view has the columns of its query (11.19)
+-- a view has the columns of its query, which reads earlier views alone (11.19)
 abbrev pub IsBody : TableKinds → List Kind → TableBody → Type 0
 IsBody columns kinds (body.Base b) = ⊤
-IsBody columns kinds (body.View v) = IsSelect columns [] [] v.query × (kinds ≡ kinds_of_select v.query)
+IsBody columns kinds (body.View v) = IsSelect (before_view v.place columns) [] [] v.query × (kinds ≡ kinds_of_select v.query)
 
 -- a base table or a view: its columns, what is under it, and the query of a view
 pub record IsTable (columns : TableKinds) (t : TableDesc) : Type 0 where

@@ -3,11 +3,11 @@
 #![tactic(auto)]
 
 mod condition;
-mod domain;
 mod expression;
 mod fault;
 mod names;
 mod query;
+mod quiet;
 mod shared;
 mod statement;
 
@@ -15,7 +15,6 @@ pub use condition::{
     BoundCond, BoundConj, BoundSpecification, BoundTest, Compared, Grouping, Predicate,
     ResultColumn, TablePlace,
 };
-pub use domain::domain_of;
 pub use expression::{Aggregate, BoundExpr, Input, Operation, Operator, Place, SetFunctionCall};
 pub use fault::BindFault;
 pub use names::{
@@ -25,6 +24,7 @@ pub use names::{
 pub use query::{
     BoundCursor, BoundQuery, BoundTerm, BoundUnion, CursorBody, SortColumn, Target, UpdatableQuery,
 };
+pub use quiet::is_sure;
 pub use shared::Shared;
 pub use statement::{
     BoundAssignment, BoundFetch, BoundInsert, BoundSelect, BoundStatement, BoundUpdate,

@@ -6,6 +6,7 @@ ghost use Rattle.sq_value.specs.Domain.{IsDomain, kind_of};
 ghost use Rattle.sq_bound.specs.Default.{DefaultIsIn, DefaultIsIn-prop};
 ghost use Rattle.sq_bound.specs.Names.{are_positions, is_kind_at, option_all};
 ghost use Rattle.sq_bound.specs.Parameter.{IsDomain-prop};
+ghost use Rattle.sq_bound.specs.Quiet.{are_sure};
 
 use crate::condition::{BoundCond, BoundSpecification, TablePlace};
 use crate::query::BoundCursor;
@@ -26,11 +27,12 @@ pub enum Action {
 
 /// The tables, views and privileges that a user's texts may name.
 pub trait Names {
-    ghost use Rattle.std.specs.Prelude.{ℕ, Ok};
+    ghost use Rattle.std.specs.Prelude.{ℕ, IsSome, Ok};
     ghost use Rattle.sq_bound.specs.declared.condition.TablePlace.TheVariants as at_place;
     ghost use Rattle.sq_bound.specs.declared.names.BaseTable.{BaseTable};
     ghost use Rattle.sq_bound.specs.Fits.{IsOver, all_refer};
-    ghost use Rattle.sq_bound.specs.WellFormed.{IsTable, TableKinds, base_kinds, kinds_of_columns};
+    ghost use Rattle.sq_meaning.specs.WellFormed.{HasValue};
+    ghost use Rattle.sq_bound.specs.WellFormed.{BasesAreThere, IsTable, TableKinds, base_kinds, place_of};
 
     ghost base_tables: { Self → List BaseTable };
 
@@ -50,7 +52,8 @@ pub trait Names {
     fn at(&self, place: TablePlace) -> Option<&TableDesc>
         ensures over { IfSome result (λ t. IsOver (base_tables self.now) t.now) }
         ensures well_formed { IfSome result (λ t. IsTable (column_kinds self.now) t.now) }
-        ensures kinds { IfSome result (λ t. column_kinds self.now place ≡ Ok (kinds_of_columns t.now.columns)) };
+        ensures place { IfSome result (λ t. place_of t.now.body ≡ place) }
+        ensures there { BasesAreThere (base_tables self.now) (column_kinds self.now) → HasValue (column_kinds self.now place) → IsSome result };
 
     /// Whether the user holds the action on the table of this owner and name, or on the column at a position of it.
     fn may(&self, user: Name, action: Action, table: (Name, Name), column: Option<usize>) -> bool;
@@ -202,9 +205,10 @@ pub struct Leaf {
     pub conditions: Items<Shared<BoundCond>>,
     /// How many of them, from inside out, new and changed rows have to meet.
     pub demanded: usize,
-    /// Whether none of them may answer a status.
+    /// Whether the truth of none of them is ever a fault.
     pub is_quiet: bool,
     ghost are_conditions: { demanded ≤ length conditions },
+    ghost quiet: { is_quiet ≡ are_sure conditions },
 }
 
 impl BaseTable {

@@ -1,7 +1,8 @@
 //! Query expressions and cursors with their names as places.
 
-ghost use Rattle.std.specs.Prelude.{◌≡◌, nat_lt, length, true};
+ghost use Rattle.std.specs.Prelude.{◌≡◌, ◌&&◌, nat_lt, length, true};
 ghost use Rattle.sq_bound.specs.Names.{option_all};
+ghost use Rattle.sq_bound.specs.Quiet.{are_sure, is_sure};
 
 use crate::condition::{BoundCond, BoundSpecification, ResultColumn, TablePlace};
 use crate::names::Leaf;
@@ -55,10 +56,11 @@ pub struct Target {
     pub condition: Option<BoundCond>,
     /// The key of the base table whose columns the condition's first tests compare, each with a literal or a parameter.
     pub key: Option<usize>,
-    /// Whether no condition, those of the views included, may answer a status.
+    /// Whether the truth of no condition, those of the views included, is ever a fault.
     pub is_quiet: bool,
     ghost is_under: { base ≡ leaf.table.place },
     ghost keyed: { option_all (λ k. nat_lt k (length leaf.table.keys)) key ≡ true },
+    ghost quiet: { is_quiet ≡ (are_sure leaf.conditions && option_all is_sure condition) },
 }
 
 /// What an updatable query is over, and the columns of the base table that its select list names.

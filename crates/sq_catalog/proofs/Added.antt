@@ -1,20 +1,22 @@
--- A base table that was added with the table as names see it, or neither; and the kinds of tables that are read by place.
-use Rattle.std.proofs.Common.{◌≡◌, ℕ, zero, suc, true, List, [], ◌∷◌, ◌++◌, Option, Some, None, Result, Ok, Err, refl, ap, sym, subst, ◌∙◌}
-use Rattle.std.specs.List.{All, AllZip, slice_get}
-use Rattle.std.specs.Option.{IfSome, option_map}
+-- A base table that was added with the table as names see it, or neither; and tables that are read by place.
+use Rattle.std.proofs.Common.{◌≡◌, ℕ, zero, suc, ◌+◌, ◌<◌, true, length, List, [], ◌∷◌, ◌++◌, Option, Some, None, Result, Ok, Err, refl, ap, sym, subst, ◌∙◌, arith}
+use Rattle.std.specs.List.{slice_get}
+use Rattle.std.specs.Option.{IfSome, IsSome}
 use Rattle.std.specs.Result.{OnErr, OnOk}
 use Rattle.std.specs.Borrow.{Bor}
-use Rattle.std.proofs.lemmas.Option.{slice_get-map}
+use Rattle.std.proofs.lemmas.List.{length-map}
+use Rattle.std.proofs.lemmas.Option.{some_pair_parts}
 use Rattle.indexmap.proofs.SetLemmas.{AllZip-push}
 use Rattle.sq_value.specs.declared.domain.Kind.{Kind}
-use Rattle.sq_meaning.specs.Status.{well_formed}
+use Rattle.sq_meaning.specs.WellFormed.{HasValue}
 use Rattle.sq_bound.specs.Fits.{all_refer}
-use Rattle.sq_bound.specs.WellFormed.{IsTable, base_kinds, kinds_of_columns}
+use Rattle.sq_bound.specs.WellFormed.{IsTable, base_kinds, kinds_of_columns, place_of}
+use Rattle.sq_bound.specs.declared.condition.TablePlace.{TablePlace}
 use Rattle.sq_bound.specs.declared.condition.TablePlace.TheVariants.{Base, View}
 use Rattle.sq_bound.specs.declared.names.BaseTable.{BaseTable}
 use Rattle.sq_bound.specs.declared.names.TableDesc.{TableDesc}
-use Rattle.sq_catalog.specs.Catalog.{Catalog, column_kinds, kinds_at}
-use Rattle.sq_catalog.specs.Stored.{AreDescribed, AreStored, AreTables, IsNext, IsStored, StandsAt, kinds_of_views}
+use Rattle.sq_catalog.specs.Catalog.{Catalog, bases_there, column_kinds, kinds_at, there_within}
+use Rattle.sq_catalog.specs.Stored.{AreDescribed, AreStored, AreTables, IsNext, IsNextView, IsStored, StandFrom, StandsAt, kinds_of_views}
 use Rattle.sq_catalog.specs.declared.catalog.FullName.{FullName}
 use Rattle.sq_catalog.proofs.Extending.{tables_more}
 use Rattle.sq_catalog.proofs.Listed.{all_with}
@@ -26,10 +28,61 @@ both_added : {F : Type 0} (P : List BaseTable → List (FullName × TableDesc) �
 both_added P (Ok u) bs bs' es es' b e entries bases same more old = subst (λ xs. P xs es') (sym bases) (subst (P (bs ++ b ∷ [])) (sym entries) more)
 both_added P (Err f) bs bs' es es' b e entries bases same more old = subst (λ xs. P xs es') (sym same.1) (subst (P bs) (sym same.0) old)
 
+-- ---- places
+
+-- one more behind the others
+stand_more : (at : ℕ → TablePlace) (n : ℕ) (es : List (FullName × TableDesc)) (e : FullName × TableDesc) → StandFrom at n es → place_of e.1.body ≡ at (n + length es) → StandFrom at n (es ++ e ∷ [])
+stand_more at n [] e h p = let same : n + 0 ≡ n = omega arith in (p ∙ ap at same, tt)
+stand_more at n (x ∷ es) e h p = let same : n + length (x ∷ es) ≡ suc n + length es = omega arith in (h.0, stand_more at (suc n) es e h.1 (p ∙ ap at same))
+
+stand_behind : (at : ℕ → TablePlace) (es : List (FullName × TableDesc)) (e : FullName × TableDesc) → StandFrom at 0 es → place_of e.1.body ≡ at (length es) → StandFrom at 0 (es ++ e ∷ [])
+stand_behind at es e h p = let same : length es ≡ 0 + length es = omega arith in stand_more at 0 es e h (p ∙ ap at same)
+
+-- a view more, or none
+pub stand_added : {F : Type 0} (r : Result (Unit {0}) F) (c : Catalog) (old new : List (FullName × TableDesc)) (name : FullName) (t : TableDesc)
+    → OnOk r (new ≡ old ++ (name, t) ∷ []) → OnErr r (new ≡ old) → kinds_of_views old ≡ c.views → IsNextView c t → StandFrom View 0 old → StandFrom View 0 new
+stand_added (Ok u) c old new name t added same v h all =
+    let count : length c.views ≡ length old = ap length (sym v) ∙ length-map old (λ (e : FullName × TableDesc). kinds_of_columns e.1.columns) in
+    subst (StandFrom View 0) (sym added) (stand_behind View old (name, t) all (h.place ∙ ap View count))
+stand_added (Err f) c old new name t added same v h all = subst (StandFrom View 0) (sym same) all
+
+-- the one that is read stands at its place
+stands_from : (at : ℕ → TablePlace) (n : ℕ) (es : List (FullName × TableDesc)) (place : ℕ) (name : FullName) (t : TableDesc) → StandFrom at n es → slice_get es place ≡ Some (name, t) → place_of t.body ≡ at (n + place)
+stands_from at n [] place name t h there = absurd cc
+stands_from at n (x ∷ es) zero name t h there =
+    let same : n ≡ n + 0 = omega arith in
+    ap (λ (d : TableDesc). place_of d.body) (sym (some_pair_parts x.0 name x.1 t there).1) ∙ h.0 ∙ ap at same
+stands_from at n (x ∷ es) (suc place) name t h there = let same : suc n + place ≡ n + suc place = omega arith in stands_from at (suc n) es place name t h.1 there ∙ ap at same
+
+pub place_read : (at : ℕ → TablePlace) (o : Option (Bor TableDesc)) (es : List (FullName × TableDesc)) (place : ℕ) → StandFrom at 0 es → IfSome o (λ t. StandsAt es place t.now) → IfSome o (λ t. place_of t.now.body ≡ at place)
+place_read at None es place h there = tt
+place_read at (Some t) es place h there = let same : 0 + place ≡ place = omega arith in stands_from at 0 es place there.0 t.now h there.1 ∙ ap at same
+
+-- as many base tables as entries
+described_long : (bs : List BaseTable) (es : List (FullName × TableDesc)) → AreDescribed bs es → length bs ≡ length es
+described_long [] [] h = refl
+described_long [] (x ∷ es) h = absurd h
+described_long (b ∷ bs) [] h = absurd h
+described_long (b ∷ bs) (x ∷ es) h = ap suc (described_long bs es h.1)
+
+-- a table whose columns are known is found
+pub base_found : (c d : Catalog) (o : Option (Bor TableDesc)) (es : List (FullName × TableDesc)) (place : ℕ) → c ≡ d → AreDescribed c.bases es → (place < length es → IsSome o) → HasValue (column_kinds d (Base place)) → IsSome o
+base_found c d o es place e h found known =
+    let here : place < length c.bases = bases_there c place (subst (λ (s : Catalog). HasValue (column_kinds s (Base place))) (sym e) known) in
+    found (subst (λ n. place < n) (described_long c.bases es h) here)
+
+pub view_found : (c d : Catalog) (o : Option (Bor TableDesc)) (es : List (FullName × TableDesc)) (place : ℕ) → c ≡ d → c.views ≡ kinds_of_views es → (place < length es → IsSome o) → HasValue (column_kinds d (View place)) → IsSome o
+view_found c d o es place e own found known =
+    let here : place < length c.views = there_within c.views place (subst (λ (s : Catalog). HasValue (column_kinds s (View place))) (sym e) known) in
+    let count : length c.views ≡ length es = ap length own ∙ length-map es (λ (x : FullName × TableDesc). kinds_of_columns x.1.columns) in
+    found (subst (λ n. place < n) count here)
+
+-- ---- a base table with its entry
+
 -- what the catalog says of its base tables, where its views are these
 abbrev pub AreWhole : List (FullName × TableDesc) → List BaseTable → List (FullName × TableDesc) → Type 0
 AreWhole views bs es =
-    AreStored bs es × AreStored bs views × AreTables (kinds_at bs (kinds_of_views views)) es × AreTables (kinds_at bs (kinds_of_views views)) views × AreDescribed bs es
+    AreStored bs es × AreStored bs views × AreTables (kinds_at bs (kinds_of_views views)) es × AreTables (kinds_at bs (kinds_of_views views)) views × AreDescribed bs es × StandFrom Base 0 es × StandFrom View 0 views
 
 whole_more : (views : List (FullName × TableDesc)) (bs : List BaseTable) (es : List (FullName × TableDesc)) (name : FullName) (t : TableDesc) (b : BaseTable)
     → IsNext bs t b → AreWhole views bs es → AreWhole views (bs ++ b ∷ []) (es ++ (name, t) ∷ [])
@@ -40,6 +93,8 @@ whole_more views bs es name t b next h =
       all_with (λ (e : FullName × TableDesc). IsTable (kinds_at (bs ++ b ∷ []) kinds) e.1) es (name, t) (tables_more bs (bs ++ b ∷ []) b kinds es refl h.2) (next.table kinds),
       tables_more bs (bs ++ b ∷ []) b kinds views refl h.3,
       AllZip-push (λ (x : BaseTable) (e : FullName × TableDesc). base_kinds x ≡ kinds_of_columns e.1.columns) bs es b (name, t) h.4 next.kinds,
+      stand_behind Base es (name, t) h.5 (next.place ∙ ap Base (described_long bs es h.4)),
+      h.6,
     )
 
 pub whole_added : {F : Type 0} (r : Result (Unit {0}) F) (views : List (FullName × TableDesc)) (was bs bs' : List BaseTable) (es es' : List (FullName × TableDesc)) (name : FullName) (t : TableDesc) (b : BaseTable)
@@ -52,29 +107,3 @@ pub refer_whole : {F : Type 0} (r : Result (Unit {0}) F) (was bs bs' : List Base
 refer_whole r was bs bs' es es' name t b entries bases unchanged same next h =
     let here : IsNext bs t b = subst (λ (xs : List BaseTable). IsNext xs t b) (sym same) next in
     both_added (λ xs ys. all_refer xs ≡ true) r bs bs' es es' b (name, t) entries bases unchanged (refer_more bs b h here.refer) h
-
--- ---- a table that is read
-
-described_at : (bs : List BaseTable) (es : List (FullName × TableDesc)) (place : ℕ) (name : FullName) (t : TableDesc) → AreDescribed bs es → slice_get es place ≡ Some (name, t)
-    → option_map base_kinds (slice_get bs place) ≡ Some (kinds_of_columns t.columns)
-described_at [] [] place name t h there = cc
-described_at [] (x ∷ es) place name t h there = absurd h
-described_at (b ∷ bs) [] place name t h there = absurd h
-described_at (b ∷ bs) (x ∷ es) zero name t h there =
-    let same : x ≡ (name, t) = cc in
-    ap Some (h.0 ∙ ap (λ (e : FullName × TableDesc). kinds_of_columns e.1.columns) same)
-described_at (b ∷ bs) (x ∷ es) (suc place) name t h there = described_at bs es place name t h.1 there
-
-pub base_read : (c d : Catalog) (o : Option (Bor TableDesc)) (es : List (FullName × TableDesc)) (place : ℕ) → c ≡ d → AreDescribed c.bases es → IfSome o (λ t. StandsAt es place t.now)
-    → IfSome o (λ t. column_kinds d (Base place) ≡ Ok (kinds_of_columns t.now.columns))
-base_read c d None es place e h there = tt
-base_read c d (Some t) es place e h there =
-    subst (λ (s : Catalog). column_kinds s (Base place) ≡ Ok (kinds_of_columns t.now.columns)) e (ap well_formed (described_at c.bases es place there.0 t.now h there.1))
-
-pub view_read : (c d : Catalog) (o : Option (Bor TableDesc)) (es : List (FullName × TableDesc)) (place : ℕ) → c ≡ d → c.views ≡ kinds_of_views es → IfSome o (λ t. StandsAt es place t.now)
-    → IfSome o (λ t. column_kinds d (View place) ≡ Ok (kinds_of_columns t.now.columns))
-view_read c d None es place e own there = tt
-view_read c d (Some t) es place e own there =
-    let kinds : FullName × TableDesc → List Kind = λ x. kinds_of_columns x.1.columns in
-    subst (λ (s : Catalog). column_kinds s (View place) ≡ Ok (kinds_of_columns t.now.columns)) e
-    (ap (λ (vs : List (List Kind)). well_formed (slice_get vs place)) own ∙ ap well_formed (slice_get-map kinds es place ∙ ap (option_map kinds) there.1))

@@ -1,5 +1,5 @@
 -- Kinds of columns as base tables and views are added: what is well formed stays so.
-use Rattle.std.proofs.Common.{◌≡◌, ℕ, Bool, true, false, length, if◌then◌else◌, nat_eq, List, [], ◌∷◌, ◌++◌, Option, Some, None, Result, Ok, Err, refl, ap, sym, subst, ◌∙◌}
+use Rattle.std.proofs.Common.{◌≡◌, ℕ, ◌<◌, Bool, true, false, length, if◌then◌else◌, nat_eq, nat_lt, List, [], ◌∷◌, ◌++◌, Option, Some, None, Result, Ok, Err, refl, ap, sym, subst, ◌∙◌}
 use Rattle.std.specs.List.{AllByRecursion, slice_get}
 use Rattle.std.specs.Option.{IfSome, option_map}
 use Rattle.std.specs.Result.{OnErr, OnOk}
@@ -7,8 +7,10 @@ use Rattle.std.proofs.lemmas.List.{map-append}
 use Rattle.std.proofs.lemmas.List.Elements.{All-get_or, All-weaker}
 use Rattle.sq_value.specs.declared.domain.Kind.{Kind}
 use Rattle.sq_meaning.specs.Status.{Outcome, not_well_formed, well_formed}
+use Rattle.sq_meaning.specs.WellFormed.{HasValue}
 use Rattle.sq_meaning.proofs.AnswerLaws.{all_weaker}
-use Rattle.sq_bound.specs.WellFormed.{Extends, IsBody as IsBodyOver, IsCond, IsCondOn, IsLeaf, IsTable, TableKinds, base_kinds, kinds_of_columns, of_base, only, place_of}
+use Rattle.sq_bound.specs.WellFormed.{Extends, IsBody as IsBodyOver, IsCond, IsCondOn, IsLeaf, IsSelect, IsTable, TableKinds, base_kinds, before_view, kinds_of_columns, of_base, only, place_of}
+use Rattle.sq_bound.specs.declared.condition.TablePlace.{TablePlace}
 use Rattle.sq_bound.specs.declared.condition.TablePlace.TheVariants.{Base, View}
 use Rattle.sq_bound.specs.declared.names.BaseTable.{BaseTable}
 use Rattle.sq_bound.specs.declared.names.Column.{Column}
@@ -19,11 +21,11 @@ use Rattle.sq_bound.specs.declared.names.TableDesc.{TableDesc}
 use Rattle.sq_bound.specs.declared.condition.BoundCond.{BoundCond}
 use Rattle.std.proofs.lemmas.Option.{IfSome_then, get_or_from_slice_get, slice_get_within}
 use Rattle.std.specs.Borrow.{Bor}
-use Rattle.sq_bound.proofs.Wider.{Keeps, kept_value, there_keeps, is_body_wider, is_cond_wider, is_leaf_wider, is_table_wider}
-use Rattle.sq_catalog.specs.Catalog.{Catalog, column_kinds, kinds_at}
-use Rattle.sq_catalog.specs.Stored.{AreChecksAt, AreTables, IsDescribed, IsNextView, IsTableOf, kinds_of_views}
+use Rattle.sq_bound.proofs.Wider.{Keeps, before_wider, kept_value, there_keeps, is_cond_wider, is_leaf_wider, is_select_wider, is_table_wider}
+use Rattle.sq_catalog.specs.Catalog.{Catalog, column_kinds, kinds_at, there_within}
+use Rattle.sq_catalog.specs.Stored.{AreChecksAt, AreTables, IsDescribed, IsNextView, IsTableOf, IsViewOver, kinds_of_views}
 use Rattle.sq_catalog.specs.declared.catalog.FullName.{FullName}
-use Rattle.sq_catalog.proofs.Listed.{all_with, get_behind, get_more, same_number}
+use Rattle.sq_catalog.proofs.Listed.{all_with, below, get_behind, get_more, same_number}
 
 found_keeps : {A B : Type 0} (f : A → B) (o u : Option A) → ((x : A) → o ≡ Some x → u ≡ Some x) → Keeps (well_formed (option_map f o)) (well_formed (option_map f u))
 found_keeps f (Some x) u h = ap (λ v. well_formed (option_map f v)) (h x refl)
@@ -116,6 +118,35 @@ table_made bases b columns views t h place kinds checks =
 
 -- ---- the view that is the last
 
+value_there : {A : Type 0} (r : Outcome A) (x : A) → r ≡ Ok x → HasValue r
+value_there r x h = subst HasValue (sym h) tt
+
+if_below : {A : Type 0} (test : Bool) (r : Outcome A) (x : A) → test ≡ true → r ≡ Ok x → (if test then r else not_well_formed) ≡ Ok x
+if_below true r x t h = h
+if_below false r x t h = absurd cc
+
+-- the views that are there are before the next one
+all_before : (c : Catalog) → Extends (column_kinds c) (before_view (length c.views) (column_kinds c))
+all_before c (Base n) kinds h = h
+all_before c (View n) kinds h =
+    let within : n < length c.views = there_within c.views n (value_there (well_formed (slice_get c.views n)) kinds h) in
+    if_below (nat_lt n (length c.views)) (well_formed (slice_get c.views n)) kinds (below n (length c.views) within) h
+
+abbrev view_number : TablePlace → ℕ → ℕ
+view_number (Base n) m = m
+view_number (View n) m = n
+
+-- its query reads those alone
+view_body : (c : Catalog) (after : TableKinds) (kinds : List Kind) (t : TableBody) → Extends (column_kinds c) after → place_of t ≡ View (length c.views) → IsViewOver (column_kinds c) kinds t → IsBodyOver after kinds t
+view_body c after kinds (body.Base b) extends place h = absurd h
+view_body c after kinds (body.View v) extends place h =
+    let n : ℕ = length c.views in
+    let here : v.place ≡ n = ap (λ p. view_number p n) place in
+    let earlier : Extends (column_kinds c) (before_view n after) = λ t ks e. before_wider (column_kinds c) after extends n t ks (all_before c t ks e) in (
+      subst (λ m. IsSelect (before_view m after) [] [] v.query) (sym here) (is_select_wider (column_kinds c) (before_view n after) [] [] earlier (λ m k e. e) [] v.query h.0),
+      h.1,
+    )
+
 pub view_made : (c : Catalog) (t : TableDesc) → IsNextView c t → IsTable (kinds_at c.bases (c.views ++ kinds_of_columns t.columns ∷ [])) t
 view_made c t h =
     let extends : Extends (column_kinds c) (kinds_at c.bases (c.views ++ kinds_of_columns t.columns ∷ [])) = views_extend c.bases c.views (kinds_of_columns t.columns) in
@@ -123,7 +154,7 @@ view_made c t h =
       kinds_are = ap (kinds_at c.bases (c.views ++ kinds_of_columns t.columns ∷ [])) h.place ∙ ap well_formed (get_behind c.views (kinds_of_columns t.columns) (length c.views) refl);
       leaf = IfSome_then t.leaf {P = IsLeaf (column_kinds c)} {Q = IsLeaf (kinds_at c.bases (c.views ++ kinds_of_columns t.columns ∷ []))} h.leaf
           (is_leaf_wider (column_kinds c) (kinds_at c.bases (c.views ++ kinds_of_columns t.columns ∷ [])) extends);
-      body = is_body_wider (column_kinds c) (kinds_at c.bases (c.views ++ kinds_of_columns t.columns ∷ [])) extends (kinds_of_columns t.columns) t.body h.body;
+      body = view_body c (kinds_at c.bases (c.views ++ kinds_of_columns t.columns ∷ [])) (kinds_of_columns t.columns) t.body extends h.place h.body;
     }
 
 -- the view that was added stands among the others

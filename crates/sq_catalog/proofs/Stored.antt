@@ -8,7 +8,8 @@ use Rattle.std.proofs.lemmas.Option.{IfSome_then, slice_get_within, get_or_from_
 use Rattle.sq_store.specs.Keys.{Keys, keys_at}
 use Rattle.sq_bound.specs.Fits.{IsBase, all_refer, keys_of_bases, refers}
 use Rattle.sq_bound.specs.Names.{are_positions}
-use Rattle.sq_bound.specs.WellFormed.{base_kinds, kinds_of_columns}
+use Rattle.sq_bound.specs.WellFormed.{base_kinds, kinds_of_columns, place_of}
+use Rattle.sq_bound.specs.declared.condition.TablePlace.TheVariants.{Base}
 use Rattle.sq_bound.specs.declared.names.BaseColumn.{BaseColumn}
 use Rattle.sq_value.specs.Domain.{kind_of}
 use Rattle.sq_bound.specs.declared.names.BaseTable.{BaseTable}
@@ -104,6 +105,10 @@ body_made : (bases : List BaseTable) (b : BaseTable) (columns : ℕ) (t : TableB
 body_made bases b columns (body.Base x) there count h = (subst (λ (y : BaseTable). IsBase bases y) (sym h) there, count ∙ ap (λ (y : BaseTable). length y.columns) (sym h))
 body_made bases b columns (body.View v) there count h = absurd h
 
+place_made : (b : BaseTable) (t : TableBody) → IsTableOf b t → place_of t ≡ Base b.place
+place_made b (body.Base own) h = ap (λ (y : BaseTable). Base y.place) h
+place_made b (body.View v) h = absurd h
+
 pub next_made : (bases : List BaseTable) (b : BaseTable) (columns : List Column) (width : ℕ) (t : TableDesc) → IsDescribed b columns t → b.place ≡ length bases → kinds_of_columns columns ≡ base_kinds b
     → AreChecksAt (length bases) (kinds_of_columns columns) b.checks → list_all (is_to (keys_with bases b.keys) width) b.references ≡ true → IsNext bases t b
 next_made bases b columns width t h place kinds checks refer =
@@ -114,6 +119,7 @@ next_made bases b columns width t h place kinds checks refer =
             (λ l same. subst (λ (y : BaseTable). IsBase (bases ++ b ∷ []) y) (sym same.0) (base_behind bases b place));
         body = body_made (bases ++ b ∷ []) b (length t.columns) t.body (base_behind bases b place) (ap length h.columns ∙ count) h.body;
       };
+      place = place_made b t.body h.body ∙ ap Base place;
       table = λ views. table_made bases b columns views t h place kinds checks;
       kinds = sym kinds ∙ ap kinds_of_columns (sym h.columns);
       refer = refer_made bases b width b.references refer;

@@ -1,6 +1,6 @@
 -- What a catalog defines, and what schema texts declare (ISO/IEC 9075:1992, 11.1 and 11.3).
-use Rattle.std.proofs.Common.{ap}
-use Rattle.std.specs.Prelude.{◌≡◌, ℕ, ◌+◌, Bool, true, ◌&&◌, List, [], ◌∷◌, ◌++◌, length, flat_map, Ok, Option, None, Some, unwrap_or, nat_eq, position, slice_get}
+use Rattle.std.proofs.Common.{zero, suc, ap, arith}
+use Rattle.std.specs.Prelude.{◌≡◌, ℕ, ◌+◌, ◌<◌, Bool, true, ◌&&◌, List, [], ◌∷◌, ◌++◌, length, flat_map, Ok, Option, None, Some, unwrap_or, nat_eq, position, slice_get}
 use Rattle.std.specs.Option.{option_map}
 use Rattle.std.specs.Cmp.Lexicographic.{pointwise}
 use Rattle.sq_lex.specs.declared.name.Name.{Name}
@@ -11,8 +11,9 @@ use Rattle.sq_tree.specs.declared.schema.SchemaElement.TheVariants as element
 use Rattle.sq_tree.specs.declared.schema.SchemaText.{SchemaText}
 use Rattle.sq_value.specs.declared.domain.Kind.{Kind}
 use Rattle.sq_meaning.specs.Status.{well_formed}
+use Rattle.sq_meaning.specs.WellFormed.{HasValue}
 use Rattle.sq_bound.specs.Fits.{all_refer}
-use Rattle.sq_bound.specs.WellFormed.{TableKinds, base_kinds}
+use Rattle.sq_bound.specs.WellFormed.{BasesAreThere, TableKinds, base_kinds}
 use Rattle.sq_bound.specs.declared.condition.TablePlace.TheVariants.{Base, View}
 use Rattle.sq_bound.specs.declared.names.BaseTable.{BaseTable}
 use Rattle.sq_catalog.specs.declared.catalog.FullName.{FullName}
@@ -38,6 +39,20 @@ base_there c place b there = ap (λ found. well_formed (option_map base_kinds fo
 -- the kinds of the columns of each table and view
 abbrev pub column_kinds : Catalog → TableKinds
 column_kinds c = kinds_at c.bases c.views
+
+-- what is there at a place is one of so many
+pub there_within : {A : Type 0} (xs : List A) (place : ℕ) → HasValue (well_formed (slice_get xs place)) → place < length xs
+there_within [] place h = absurd h
+there_within (x ∷ xs) zero h = omega arith
+there_within (x ∷ xs) (suc place) h = omega (arith, there_within xs place h)
+
+known_there : (o : Option BaseTable) → HasValue (well_formed (option_map base_kinds o)) → HasValue (well_formed o)
+known_there None h = absurd h
+known_there (Some b) h = tt
+
+-- each base table whose columns are known is one of the catalog's
+pub bases_there : (c : Catalog) → BasesAreThere c.bases (column_kinds c)
+bases_there c place h = there_within c.bases place (known_there (slice_get c.bases place) h)
 
 abbrev pub is_table : Name → Name → FullName → Bool
 is_table user name t = pointwise nat_eq user t.user && pointwise nat_eq name t.name

@@ -1,15 +1,16 @@
 -- Tables and views over the base tables of a catalog. (Own notion: they are found by places.)
-use Rattle.std.specs.Prelude.{⊤, ◌≡◌, ℕ, true, List, [], ◌∷◌, ◌++◌, length, map, slice_get, Option, Some, IfSome}
+use Rattle.std.specs.Prelude.{⊤, ◌≡◌, ℕ, suc, true, List, [], ◌∷◌, ◌++◌, length, map, slice_get, Option, Some, IfSome}
 use Rattle.std.specs.List.{All, AllByRecursion, AllZip, list_all}
 use Rattle.sq_lex.specs.declared.name.Name.{Name}
 use Rattle.sq_value.specs.declared.domain.Kind.{Kind}
 use Rattle.sq_bound.specs.Fits.{FitsQuery, IsBase, IsOver, refers}
 use Rattle.sq_bound.specs.Names.{is_kind_at}
-use Rattle.sq_bound.specs.WellFormed.{IsBody as IsBodyOver, IsCond, IsLeaf, IsSelect, IsTable, IsUpdatable, TableKinds, base_kinds, kinds_of_columns, kinds_of_select, of_base_at, only, place_of}
+use Rattle.sq_bound.specs.WellFormed.{IsCond, IsLeaf, IsSelect, IsTable, IsUpdatable, TableKinds, base_kinds, kinds_of_columns, kinds_of_select, of_base_at, only, place_of}
 use Rattle.sq_bound.specs.declared.condition.BoundCond.{BoundCond}
 use Rattle.sq_bound.specs.declared.condition.BoundSpecification.{BoundSpecification}
 use Rattle.sq_bound.specs.declared.query.UpdatableQuery.{UpdatableQuery}
-use Rattle.sq_bound.specs.declared.condition.TablePlace.TheVariants.{View}
+use Rattle.sq_bound.specs.declared.condition.TablePlace.{TablePlace}
+use Rattle.sq_bound.specs.declared.condition.TablePlace.TheVariants.{Base, View}
 use Rattle.sq_bound.specs.declared.names.BaseTable.{BaseTable}
 use Rattle.sq_bound.specs.declared.names.Column.{Column}
 use Rattle.sq_bound.specs.declared.names.TableBody.{TableBody}
@@ -39,6 +40,11 @@ AreTables columns entries = All (λ e. IsTable columns e.1) entries
 -- each base table, in the order of the places, stands under a name with columns of its kinds
 abbrev pub AreDescribed : List BaseTable → List (FullName × TableDesc) → Type 0
 AreDescribed = AllZip (λ b e. base_kinds b ≡ kinds_of_columns e.1.columns)
+
+-- they stand at the places from one on
+abbrev pub StandFrom : (ℕ → TablePlace) → ℕ → List (FullName × TableDesc) → Type 0
+StandFrom at place [] = ⊤
+StandFrom at place (e ∷ entries) = (place_of e.1.body ≡ at place) × StandFrom at (suc place) entries
 
 -- a table is the one at a place, under some name
 abbrev pub StandsAt : List (FullName × TableDesc) → ℕ → TableDesc → Type 0
@@ -72,16 +78,22 @@ pub record IsDescribed (b : BaseTable) (described : List Column) (t : TableDesc)
 -- a base table that can be stored behind these, and the table as names see it
 pub record IsNext (bases : List BaseTable) (t : TableDesc) (b : BaseTable) : Type 0 where
   pub stored : IsStored (bases ++ b ∷ []) t
+  pub place : place_of t.body ≡ Base (length bases)
   pub table : (views : List (List Kind)) → IsTable (kinds_at (bases ++ b ∷ []) views) t
   pub kinds : base_kinds b ≡ kinds_of_columns t.columns
   pub refer : list_all (refers (bases ++ b ∷ [])) b.references ≡ true
+
+-- a view has the columns of its query, which reads tables and views that are there
+abbrev pub IsViewOver : TableKinds → List Kind → TableBody → Type 0
+IsViewOver columns kinds (body.Base b) = ⊥
+IsViewOver columns kinds (body.View v) = IsSelect columns [] [] v.query × (kinds ≡ kinds_of_select v.query)
 
 -- a view that can be stored behind those of a catalog
 pub record IsNextView (c : Catalog) (t : TableDesc) : Type 0 where
   pub stored : IsStored c.bases t
   pub place : place_of t.body ≡ View (length c.views)
   pub leaf : IfSome t.leaf (IsLeaf (column_kinds c))
-  pub body : IsBodyOver (column_kinds c) (kinds_of_columns t.columns) t.body
+  pub body : IsViewOver (column_kinds c) (kinds_of_columns t.columns) t.body
 
 -- a view's query, bound over the tables and views of a catalog, and what it is where it is updatable
 pub record IsBoundOver (c : Catalog) (q : BoundSpecification) (updatable : Option ((Name × Name) × UpdatableQuery)) : Type 0 where

@@ -1,10 +1,11 @@
 //! The catalog, built element by element (ISO/IEC 9075:1992, 11.1).
 
-ghost use Rattle.std.specs.Prelude.{◌≡◌, List, [], ◌∷◌, ◌++◌, true, IfErr, IfOk, IfSome, None, Ok, OnErr, OnOk, is_none, length, map};
+ghost use Rattle.std.specs.Prelude.{◌≡◌, ◌<◌, List, [], ◌∷◌, ◌++◌, true, IfErr, IfOk, IfSome, IsSome, None, OnErr, OnOk, is_none, length, map};
 ghost use Rattle.std.specs.Map.{keys_of};
 ghost use Rattle.sq_store.specs.Keys.{keys_of as keys_given};
 ghost use Rattle.sq_bound.specs.Fits.{all_refer, keys_of_bases};
-ghost use Rattle.sq_bound.specs.WellFormed.{IsTable, TableKinds, kinds_of_columns};
+ghost use Rattle.sq_meaning.specs.WellFormed.{HasValue};
+ghost use Rattle.sq_bound.specs.WellFormed.{IsTable, TableKinds, place_of};
 ghost use Rattle.sq_bound.specs.declared.names.BaseTable.{BaseTable as Base};
 ghost use Rattle.sq_catalog.specs.Catalog.{Gains, IsNewName, base_there, column_kinds, declared_tables, named_by, schema_tables, table_in, table_number, text_tables};
 ghost use Rattle.sq_catalog.specs.Fault.{IsOfSomeText, IsOfText};
@@ -59,8 +60,9 @@ impl Model for Catalog {
     ghost use Rattle.sq_bound.specs.contracts.expression.BoundExpr as expression;
     ghost use Rattle.sq_bound.specs.contracts.names.BaseColumn as column;
     ghost use Rattle.sq_bound.specs.contracts.names.BaseTable as base;
+    ghost use Rattle.sq_bound.specs.declared.condition.TablePlace.TheVariants.{Base, View};
     ghost use Rattle.sq_catalog.specs.Catalog.{Catalog, kinds_at};
-    ghost use Rattle.sq_catalog.specs.Stored.{AreDescribed, AreStored, AreTables, kinds_of_views};
+    ghost use Rattle.sq_catalog.specs.Stored.{AreDescribed, AreStored, AreTables, StandFrom, kinds_of_views};
 
     ghost Value = { Catalog };
 
@@ -68,7 +70,7 @@ impl Model for Catalog {
 
     ghost view = { λ c. record { tables = keys_of c.bases.entries; bases = c.base_tables.items; view_names = keys_of c.views.entries; views = kinds_of_views c.views.entries; refer = c.refer } };
 
-    ghost invariant = { λ c. AreStored c.base_tables.items c.bases.entries × AreStored c.base_tables.items c.views.entries × AreTables (kinds_at c.base_tables.items (kinds_of_views c.views.entries)) c.bases.entries × AreTables (kinds_at c.base_tables.items (kinds_of_views c.views.entries)) c.views.entries × AreDescribed c.base_tables.items c.bases.entries };
+    ghost invariant = { λ c. AreStored c.base_tables.items c.bases.entries × AreStored c.base_tables.items c.views.entries × AreTables (kinds_at c.base_tables.items (kinds_of_views c.views.entries)) c.bases.entries × AreTables (kinds_at c.base_tables.items (kinds_of_views c.views.entries)) c.views.entries × AreDescribed c.base_tables.items c.bases.entries × StandFrom Base 0 c.bases.entries × StandFrom View 0 c.views.entries };
 }
 
 impl Catalog {
@@ -246,7 +248,8 @@ impl Catalog {
     fn table_at(&self, place: TablePlace) -> Option<&TableDesc>
         ensures stored { IfSome result (λ table. IsStored self.now.bases table.now) }
         ensures well_formed { IfSome result (λ table. IsTable (column_kinds self.now) table.now) }
-        ensures kinds { IfSome result (λ table. column_kinds self.now place ≡ Ok (kinds_of_columns table.now.columns)) }
+        ensures place { IfSome result (λ table. place_of table.now.body ≡ place) }
+        ensures there { HasValue (column_kinds self.now place) → IsSome result }
     {
         match place {
             TablePlace::Base(place) => value_at(&self.bases, place),
@@ -330,6 +333,7 @@ fn value_at(tables: &IndexMap<FullName, TableDesc>, place: usize) -> Option<&Tab
     ensures stored { IfSome result (λ table. (bases : List Base) → AreStored bases tables.now.entries → IsStored bases table.now) }
     ensures well_formed { IfSome result (λ table. (columns : TableKinds) → AreTables columns tables.now.entries → IsTable columns table.now) }
     ensures there { IfSome result (λ table. StandsAt tables.now.entries place table.now) }
+    ensures found { place < length tables.now.entries → IsSome result }
 {
     let (_, table) = tables.get_index(place)?;
     Some(table)

@@ -1,9 +1,11 @@
 //! CREATE VIEW (ISO/IEC 9075:1992, 11.19).
 
-ghost use Rattle.std.specs.Prelude.{◌≡◌, ◌≤◌, [], length, IfOk, List, OnOk, Some, slice_get};
+ghost use Rattle.std.specs.Prelude.{◌≡◌, ◌≤◌, ◌&&◌, [], length, IfOk, List, OnOk, Some, slice_get};
 ghost use Rattle.std.specs.List.{AllZip};
 ghost use Rattle.sq_value.specs.declared.domain.Kind.{Kind};
 ghost use Rattle.sq_bound.specs.Fits.{IsBase};
+ghost use Rattle.sq_bound.specs.Names.{option_all};
+ghost use Rattle.sq_bound.specs.Quiet.{are_sure, is_sure};
 ghost use Rattle.sq_bound.specs.WellFormed.{IsLeaf, IsSelect, IsTarget, IsUpdatable, TableKinds, base_kinds, kinds_of_columns, kinds_of_results, kinds_of_select};
 ghost use Rattle.sq_catalog.specs.Catalog.{Gains, column_kinds};
 ghost use Rattle.sq_catalog.specs.Stored.{AreColumnsOver, IsBoundOver, IsNextView};
@@ -381,6 +383,7 @@ fn view_leaf(
 }
 
 /// What is under a view over a table that has this under it, and a condition where the view has one.
+#[tactic(auto, using(crate::proofs::Quiet::sure_with))]
 fn leaf_above(
     alloc: Global,
     below: &Leaf,
@@ -388,6 +391,7 @@ fn leaf_above(
     is_quiet: bool,
     condition: Option<BoundCond>,
 ) -> Result<Leaf, ElementFault>
+    requires { is_quiet ≡ (are_sure below.now.conditions && option_all is_sure condition) }
     ensures base { IfOk result (λ leaf. leaf.table ≡ below.now.table) }
     ensures conditions { IfOk result (λ leaf. leaf.conditions ≡ conditions_with below.now.conditions condition) }
 {

@@ -8,9 +8,9 @@ ghost use Rattle.sq_catalog.specs.Written.{column_count};
 
 use crate::fault::{ElementFault, RefusalName, refused_if};
 use indexmap::{IndexMap, IndexSet};
-use sq_bound::domain_of;
 use sq_items::Items;
 use sq_lex::Name;
+use sq_scope::domain_of;
 use sq_tree::{
     ColumnConstraint, ColumnDefinition, CommaList, Cond, ForeignKey, References, TableDefinition,
     TableElement,

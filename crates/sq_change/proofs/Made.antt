@@ -1,5 +1,7 @@
 -- What the changes of a statement do to the tables.
-use Rattle.std.proofs.Common.{◌≡◌, ◌<◌, ℕ, true, List, [], ◌∷◌, length, Option, map, refl, arith}
+use Rattle.std.proofs.Common.{◌≡◌, ◌<◌, ℕ, true, List, [], ◌∷◌, length, Option, Result, Ok, Err, map, refl, subst, arith}
+use Rattle.std.specs.Prelude.{IfOk, Vec}
+use Rattle.std.specs.declared.alloc.Global.{Global}
 use Rattle.std.proofs.lemmas.Grind.{common_steps}
 use Rattle.sq_store.specs.declared.change.Change.{Change}
 use Rattle.sq_store.specs.declared.change.Change.TheVariants.{Insert, Replace, Remove}
@@ -8,9 +10,11 @@ use Rattle.sq_store.specs.declared.table.Table.{Table}
 use Rattle.sq_store.specs.Change.{rows_put}
 use Rattle.sq_store.specs.Content.{Content, changed_by, inserted, removed, replaced, table_at, with_table}
 use Rattle.sq_bound.specs.Fits.{under}
+use Rattle.sq_query.specs.declared.fault.Fault.{Fault}
 use Rattle.sq_bound.specs.declared.statement.ChangeTarget.{ChangeTarget}
 use Rattle.sq_change.specs.Changed.{Removals, Replacements, are_insertions, are_replacements}
-use Rattle.sq_change.specs.Statement.{Deletes, Inserts, Updates, are_numbered, with_replaced, with_rows, without}
+use Rattle.sq_change.specs.declared.complete.Changed.{Changed}
+use Rattle.sq_change.specs.Statement.{Chosen, Deletes, Inserts, Updates, are_numbered, with_replaced, with_rows, without}
 use Rattle.sq_change.proofs.Applied.{base_under}
 
 -- ---- INSERT
@@ -78,4 +82,14 @@ deletes t on before after changes h made = record {
   numbers = h.numbers;
   chosen = h.chosen;
   done = rw (base_under t) (rw (← (all_removed (table_at before (under t).table.place) h.numbers)) (rw h.all at made));
+}
+
+-- changes of the chosen rows, whatever else comes of them
+pub replacements_kept : (t : ChangeTarget) (on : Option ℕ) (numbers : List ℕ) (changes : Result (Vec Change Global) Fault) (r : Result Changed Fault) → Chosen t on numbers
+    → IfOk changes (λ cs. are_replacements numbers cs.items ≡ true) → IfOk r (λ changed. changes ≡ Ok changed.changes) → IfOk r (λ changed. Replacements t on changed.changes.items)
+replacements_kept t on numbers changes (Err f) chosen all same = tt
+replacements_kept t on numbers changes (Ok changed) chosen all same = record {
+  numbers = numbers;
+  chosen = chosen;
+  all = subst (λ (o : Result (Vec Change Global) Fault). IfOk o (λ cs. are_replacements numbers cs.items ≡ true)) same all;
 }

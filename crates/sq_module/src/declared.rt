@@ -5,9 +5,10 @@ ghost use Rattle.std.specs.List.{list_any};
 ghost use Rattle.sq_module.specs.Program.{same_name};
 
 use indexmap::IndexSet;
-use sq_bound::{ParameterDesc, domain_of};
+use sq_bound::ParameterDesc;
 use sq_items::Items;
 use sq_lex::Name;
+use sq_scope::domain_of;
 use sq_tree::{BareDeclaration, DataType, Declaration, Declarations};
 use std::alloc::{AllocError, Global};
 

@@ -1,3 +1,4 @@
+pub mod Added
 pub mod Alike
 pub mod AlikeConds
 pub mod AnyTables
@@ -44,6 +45,7 @@ pub mod Unions
 pub mod UserText
 pub mod ValuesFound
 pub mod Views
+pub mod ViewsThere
 pub mod Walk
 pub mod Wanted
 pub mod Wholes

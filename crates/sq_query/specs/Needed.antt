@@ -1,6 +1,12 @@
 -- Which tables a statement reads.
-use Rattle.std.specs.Prelude.{◌≡◌, ℕ, nat_eq, if◌then◌else◌, List, [], ◌∷◌, ◌++◌}
-use Rattle.std.specs.List.{list_any}
+use Rattle.std.specs.Prelude.{⊤, ◌≡◌, ℕ, true, nat_eq, if◌then◌else◌, List, [], ◌∷◌, ◌++◌, flat_map, fold}
+use Rattle.std.specs.List.{AllByRecursion, list_any}
+use Rattle.sq_meaning.specs.Syntax.{Conds, compare, compare_subquery, compare_quantified, between, in_subquery, in_list, like, is_null, exists, negated, conjunction, disjunction, no_cond, a_cond, absent, present, select}
+use Rattle.sq_meaning.specs.Placed.{Placed}
+use Rattle.sq_meaning.specs.WellFormed.{HasValue}
+use Rattle.sq_bound.specs.Condition.{PlacedCond, PlacedClause, PlacedSelect, select_of}
+use Rattle.sq_bound.specs.WellFormed.{TableKinds}
+use Rattle.sq_bound.specs.declared.condition.BoundSpecification.{BoundSpecification}
 use Rattle.sq_bound.specs.declared.condition.TablePlace.{TablePlace}
 use Rattle.sq_bound.specs.declared.condition.TablePlace.TheVariants.{Base, View}
 use Rattle.sq_query.specs.declared.needed.Needed.{Needed}
@@ -24,3 +30,84 @@ with_place places place = if list_any (λ other. nat_eq other place) places then
 abbrev pub with_table : List ℕ × List ℕ → TablePlace → List ℕ × List ℕ
 with_table places (Base place) = (with_place places.0 place, places.1)
 with_table places (View place) = (places.0, with_place places.1 place)
+
+-- ---- the tables that a tree reads, subqueries included
+
+module _ (P : TablePlace → Type 0) where
+  -- of each table that stands in a FROM clause P holds
+  abbrev mutual
+    pub ReadsCond : PlacedCond → Type 0
+    ReadsCond (compare op a b) = ⊤
+    ReadsCond (compare_subquery op a q) = ReadsSelect q
+    ReadsCond (compare_quantified op quantifier a q) = ReadsSelect q
+    ReadsCond (between a low high) = ⊤
+    ReadsCond (in_subquery a q) = ReadsSelect q
+    ReadsCond (in_list a es) = ⊤
+    ReadsCond (like text pattern escape) = ⊤
+    ReadsCond (is_null a) = ⊤
+    ReadsCond (exists q) = ReadsSelect q
+    ReadsCond (negated c) = ReadsCond c
+    ReadsCond (conjunction cs) = ReadsConds cs
+    ReadsCond (disjunction cs) = ReadsConds cs
+
+    pub ReadsConds : Conds (Placed TablePlace) → Type 0
+    ReadsConds no_cond = ⊤
+    ReadsConds (a_cond c cs) = ReadsCond c × ReadsConds cs
+
+    pub ReadsClause : PlacedClause → Type 0
+    ReadsClause absent = ⊤
+    ReadsClause (present c) = ReadsCond c
+
+    pub ReadsSelect : PlacedSelect → Type 0
+    ReadsSelect (select distinct list from filter by having) = AllByRecursion P from × ReadsClause filter × ReadsClause having
+
+-- a table is among them
+abbrev pub IsNeeded : Needed → TablePlace → Type 0
+IsNeeded needed (Base place) = list_any (λ other. nat_eq other place) needed.bases.items ≡ true
+IsNeeded needed (View place) = list_any (λ other. nat_eq other place) needed.views.items ≡ true
+
+-- each of them is there
+abbrev pub AreKnown : TableKinds → Needed → Type 0
+AreKnown columns needed = (t : TablePlace) → IsNeeded needed t → HasValue (columns t)
+
+-- those of the one are among those of the other
+abbrev pub NeedsMore : Needed → Needed → Type 0
+NeedsMore before after = (t : TablePlace) → IsNeeded before t → IsNeeded after t
+
+-- ---- the tables of a tree, in the order in which they are added
+
+abbrev mutual
+  pub cond_tables : PlacedCond → List TablePlace
+  cond_tables (compare op a b) = []
+  cond_tables (compare_subquery op a q) = select_tables q
+  cond_tables (compare_quantified op quantifier a q) = select_tables q
+  cond_tables (between a low high) = []
+  cond_tables (in_subquery a q) = select_tables q
+  cond_tables (in_list a es) = []
+  cond_tables (like text pattern escape) = []
+  cond_tables (is_null a) = []
+  cond_tables (exists q) = select_tables q
+  cond_tables (negated c) = cond_tables c
+  cond_tables (conjunction cs) = conds_tables cs
+  cond_tables (disjunction cs) = conds_tables cs
+
+  pub conds_tables : Conds (Placed TablePlace) → List TablePlace
+  conds_tables no_cond = []
+  conds_tables (a_cond c cs) = cond_tables c ++ conds_tables cs
+
+  pub clause_tables : PlacedClause → List TablePlace
+  clause_tables absent = []
+  clause_tables (present c) = cond_tables c
+
+  pub select_tables : PlacedSelect → List TablePlace
+  select_tables (select distinct list from filter by having) = from ++ (clause_tables filter ++ clause_tables having)
+
+abbrev pub specification_tables : BoundSpecification → List TablePlace
+specification_tables s = select_tables (select_of s)
+
+abbrev pub specifications_tables : List BoundSpecification → List TablePlace
+specifications_tables specifications = flat_map specification_tables specifications
+
+-- these tables are added, each where it isn't there yet
+abbrev pub Adds : Needed → List TablePlace → Needed → Type 0
+Adds before tables after = places_in after ≡ fold with_table (places_in before) tables

@@ -11,7 +11,7 @@ use Rattle.sq_meaning.specs.Environment.{Row}
 use Rattle.sq_meaning.specs.Status.{Outcome, ◌>>=◌, well_formed, not_well_formed}
 use Rattle.sq_meaning.specs.Tables.{rows_in}
 use Rattle.sq_meaning.specs.WellFormed.{AreRowsOf}
-use Rattle.sq_bound.specs.WellFormed.{TableKinds, IsSelect, kinds_of_select}
+use Rattle.sq_bound.specs.WellFormed.{TableKinds, before_view, IsSelect, kinds_of_select}
 use Rattle.sq_bound.specs.declared.condition.TablePlace.{TablePlace}
 use Rattle.sq_bound.specs.declared.condition.TablePlace.TheVariants.{Base, View}
 use Rattle.sq_bound.specs.declared.names.View.{View as BoundView}
@@ -94,6 +94,6 @@ AreViewsOf columns views = AllByRecursion (IsViewOf columns) views
 abbrev pub AreTablesOf : TableKinds → Tables → Type 0
 AreTablesOf columns tables = AreBasesOf columns tables.bases.items × AreViewsOf columns tables.views.items
 
--- a view at its place has the columns of its query (11.19)
+-- a view at its place has the columns of its query, which reads earlier views alone (11.19)
 abbrev pub IsViewAt : TableKinds → ℕ → BoundView → Type 0
-IsViewAt columns place view = IsSelect columns [] [] view.query × (columns (View place) ≡ Ok (kinds_of_select view.query))
+IsViewAt columns place view = IsSelect (before_view place columns) [] [] view.query × (columns (View place) ≡ Ok (kinds_of_select view.query))

@@ -1,18 +1,23 @@
 //! Which tables a statement reads.
 
-ghost use Rattle.std.specs.Prelude.{◌≡◌, [], false, fold, nat_eq, IfOk, IfSome, OnOk};
-ghost use Rattle.std.specs.List.{list_any};
-ghost use Rattle.sq_bound.specs.Condition.{cond_of, conj_of, predicate_of, clause_of};
+ghost use Rattle.std.specs.Prelude.{◌≡◌, List, [], false, fold, nat_eq, IfOk, IfSome, IsSome, OnOk};
+ghost use Rattle.std.specs.List.{AllByRecursion, list_any};
+ghost use Rattle.sq_meaning.specs.WellFormed.{HasValue};
+ghost use Rattle.sq_bound.specs.Condition.{cond_of, conj_of, predicate_of, clause_of, select_of};
+ghost use Rattle.sq_bound.specs.Expression.{PlacedExpr};
+ghost use Rattle.sq_bound.specs.Joined.{specifications_of, term_specifications};
+ghost use Rattle.sq_bound.specs.WellFormed.{BasesAreThere, TableKinds};
 ghost use Rattle.sq_meaning.specs.Target.{has_subquery, clause_has_subquery};
-ghost use Rattle.sq_query.specs.Needed.{NeedsNone, places_in, with_place, with_table};
+ghost use Rattle.sq_query.specs.Needed.{Adds, AreKnown, IsNeeded, ReadsCond, ReadsSelect, NeedsNone, clause_tables, cond_tables, places_in, specification_tables, specifications_tables, with_place, with_table};
 ghost use Rattle.sq_query.specs.Specification.{items_in, IsPlainQuery};
 ghost use Rattle.sq_query.specs.Table.{IsViewAt};
 ghost use Rattle.sq_query.specs.Union.{IsSpecification, IsOnly};
 ghost use Rattle.sq_bound.specs.declared.condition.BoundSpecification.{BoundSpecification as AnySpecification};
+ghost use Rattle.sq_bound.specs.declared.condition.TablePlace.TheVariants as at_place;
 
 use sq_bound::{
-    BoundCond, BoundConj, BoundQuery, BoundSpecification, BoundTerm, Grouping, Names, Predicate,
-    TableBody, TablePlace, View,
+    BoundCond, BoundConj, BoundQuery, BoundSpecification, BoundTerm, Names, Predicate, TableBody,
+    TablePlace, View,
 };
 use std::alloc::{AllocError, Global};
 
@@ -38,7 +43,9 @@ impl Needed {
         alloc: Global,
         query: &BoundSpecification,
     ) -> Result<Needed, AllocError>
-        ensures { IsPlainQuery query.now → IfOk result (λ needed. places_in needed ≡ fold with_table ([], []) (items_in query.now)) }
+        ensures plain { IsPlainQuery query.now → IfOk result (λ needed. places_in needed ≡ fold with_table ([], []) (items_in query.now)) }
+        ensures reads { IfOk result (λ needed. ReadsSelect (IsNeeded needed) (select_of query.now)) }
+        ensures known { (columns : TableKinds) → ReadsSelect (λ t. HasValue (columns t)) (select_of query.now) → IfOk result (AreKnown columns) }
     {
         let mut needed = Needed::new(alloc);
         needed.add_of_specification(query)?;
@@ -47,7 +54,9 @@ impl Needed {
 
     /// The tables in the FROM clauses of a query expression.
     pub(crate) fn of_query(alloc: Global, query: &BoundQuery) -> Result<Needed, AllocError>
-        ensures { (s : AnySpecification) → IsOnly query.now s → IsPlainQuery s → IfOk result (λ needed. places_in needed ≡ fold with_table ([], []) (items_in s)) }
+        ensures plain { (s : AnySpecification) → IsOnly query.now s → IsPlainQuery s → IfOk result (λ needed. places_in needed ≡ fold with_table ([], []) (items_in s)) }
+        ensures reads { IfOk result (λ needed. AllByRecursion (λ s. ReadsSelect (IsNeeded needed) (select_of s)) (specifications_of query.now)) }
+        ensures known { (columns : TableKinds) → AllByRecursion (λ s. ReadsSelect (λ t. HasValue (columns t)) (select_of s)) (specifications_of query.now) → IfOk result (AreKnown columns) }
     {
         let mut needed = Needed::new(alloc);
         needed.add_of_query(query)?;
@@ -56,7 +65,9 @@ impl Needed {
 
     /// The tables in the FROM clauses of a condition's subqueries.
     pub(crate) fn of_condition(alloc: Global, condition: &BoundCond) -> Result<Needed, AllocError>
-        ensures { has_subquery (cond_of [] condition.now) ≡ false → IfOk result NeedsNone }
+        ensures plain { has_subquery (cond_of [] condition.now) ≡ false → IfOk result NeedsNone }
+        ensures reads { IfOk result (λ needed. (functions : List PlacedExpr) → ReadsCond (IsNeeded needed) (cond_of functions condition.now)) }
+        ensures known { (columns : TableKinds) (functions : List PlacedExpr) → ReadsCond (λ t. HasValue (columns t)) (cond_of functions condition.now) → IfOk result (AreKnown columns) }
     {
         let mut needed = Needed::new(alloc);
         needed.add_of_condition(condition)?;
@@ -102,7 +113,8 @@ impl Needed {
 
     #[cycle(needed_of_query)]
     pub(crate) fn add_of_query(&mut self, query: &BoundQuery) -> Result<(), AllocError>
-        ensures { (s : AnySpecification) → IsOnly query.now s → IsPlainQuery s → OnOk result (places_in self.new ≡ fold with_table (places_in self.old) (items_in s)) }
+        ensures plain { (s : AnySpecification) → IsOnly query.now s → IsPlainQuery s → OnOk result (places_in self.new ≡ fold with_table (places_in self.old) (items_in s)) }
+        ensures adds { OnOk result (Adds self.old (specifications_tables (specifications_of query.now)) self.new) }
     {
         self.add_of_term(&query.first)?;
         for union in query.rest.as_slice() {
@@ -113,7 +125,8 @@ impl Needed {
 
     #[cycle(needed_of_query)]
     fn add_of_term(&mut self, term: &BoundTerm) -> Result<(), AllocError>
-        ensures { (s : AnySpecification) → IsSpecification term.now s → IsPlainQuery s → OnOk result (places_in self.new ≡ fold with_table (places_in self.old) (items_in s)) }
+        ensures plain { (s : AnySpecification) → IsSpecification term.now s → IsPlainQuery s → OnOk result (places_in self.new ≡ fold with_table (places_in self.old) (items_in s)) }
+        ensures adds { OnOk result (Adds self.old (specifications_tables (term_specifications term.now)) self.new) }
     {
         match term {
             BoundTerm::Specification(specification) => self.add_of_specification(specification),
@@ -126,14 +139,15 @@ impl Needed {
         &mut self,
         query: &BoundSpecification,
     ) -> Result<(), AllocError>
-        ensures { IsPlainQuery query.now → OnOk result (places_in self.new ≡ fold with_table (places_in self.old) (items_in query.now)) }
+        ensures plain { IsPlainQuery query.now → OnOk result (places_in self.new ≡ fold with_table (places_in self.old) (items_in query.now)) }
+        ensures adds { OnOk result (Adds self.old (specification_tables query.now) self.new) }
     {
         for table in query.from.as_slice() {
             self.add(*table)?;
         }
         self.add_of_optional(&query.condition)?;
         match &query.grouping {
-            Some(Grouping { having, .. }) => self.add_of_optional(having),
+            Some(grouping) => self.add_of_optional(&grouping.having),
             None => Ok(()),
         }
     }
@@ -143,7 +157,8 @@ impl Needed {
         &mut self,
         condition: &Option<BoundCond>,
     ) -> Result<(), AllocError>
-        ensures { clause_has_subquery (clause_of [] condition.now) ≡ false → OnOk result (self.new ≡ self.old) }
+        ensures plain { clause_has_subquery (clause_of [] condition.now) ≡ false → OnOk result (self.new ≡ self.old) }
+        ensures adds { (functions : List PlacedExpr) → OnOk result (Adds self.old (clause_tables (clause_of functions condition.now)) self.new) }
     {
         match condition {
             Some(condition) => self.add_of_condition(condition),
@@ -153,7 +168,8 @@ impl Needed {
 
     #[cycle(needed_of_cond)]
     pub(crate) fn add_of_condition(&mut self, condition: &BoundCond) -> Result<(), AllocError>
-        ensures { has_subquery (cond_of [] condition.now) ≡ false → OnOk result (self.new ≡ self.old) }
+        ensures plain { has_subquery (cond_of [] condition.now) ≡ false → OnOk result (self.new ≡ self.old) }
+        ensures adds { (functions : List PlacedExpr) → OnOk result (Adds self.old (cond_tables (cond_of functions condition.now)) self.new) }
     {
         for term in condition.terms.as_slice() {
             self.add_of_tests(term)?;
@@ -163,7 +179,8 @@ impl Needed {
 
     #[cycle(needed_of_cond)]
     fn add_of_tests(&mut self, term: &BoundConj) -> Result<(), AllocError>
-        ensures { has_subquery (conj_of [] term.now) ≡ false → OnOk result (self.new ≡ self.old) }
+        ensures plain { has_subquery (conj_of [] term.now) ≡ false → OnOk result (self.new ≡ self.old) }
+        ensures adds { (functions : List PlacedExpr) → OnOk result (Adds self.old (cond_tables (conj_of functions term.now)) self.new) }
     {
         for test in term.tests.as_slice() {
             self.add_of_predicate(&test.predicate)?;
@@ -173,7 +190,8 @@ impl Needed {
 
     #[cycle(needed_of_cond)]
     fn add_of_predicate(&mut self, predicate: &Predicate) -> Result<(), AllocError>
-        ensures { has_subquery (predicate_of [] predicate.now) ≡ false → OnOk result (self.new ≡ self.old) }
+        ensures plain { has_subquery (predicate_of [] predicate.now) ≡ false → OnOk result (self.new ≡ self.old) }
+        ensures adds { (functions : List PlacedExpr) → OnOk result (Adds self.old (cond_tables (predicate_of functions predicate.now)) self.new) }
     {
         match predicate {
             Predicate::CompareQuery(_, _, _, query) => self.add_of_specification(query.get()),
@@ -203,7 +221,8 @@ pub(crate) fn is_among(place: usize, places: &[usize]) -> bool
 
 /// The view at a place.
 pub(crate) fn view_at<N: Names>(names: &N, place: usize) -> Option<&View>
-    ensures { IfSome result (λ view. IsViewAt (N.column_kinds names.now) place view.now) }
+    ensures is { IfSome result (λ view. IsViewAt (N.column_kinds names.now) place view.now) }
+    ensures there { BasesAreThere (N.base_tables names.now) (N.column_kinds names.now) → HasValue (N.column_kinds names.now (at_place.View place)) → IsSome result }
 {
     match names.at(TablePlace::View(place)) {
         Some(table) => match &table.body {

@@ -187,13 +187,12 @@ fn primary_value(
         Primary::Parameter(parameter) => parameter_value(environment.parameters, *parameter),
         Primary::User => Ok(user_value(findings)),
         Primary::Column(reference) => column_value(environment, reference, findings),
-        Primary::CountRows => count_rows(functions, findings),
+        Primary::CountRows => count_rows(functions),
         Primary::SetFunction(function, quantifier, expr) => {
             let mut inner = SetFunctions::forbidden(environment.alloc);
             let mut inside = Findings::NONE;
             let operand = expr_value(expr.get(), environment, &mut inner, &mut inside);
             drop(inner);
-            findings.has_set_function = true;
             set_function(*function, *quantifier, operand, inside, functions)
         }
         Primary::Bracketed(expr) => expr_value(expr.get(), environment, functions, findings),
@@ -458,14 +457,12 @@ fn numbered(functions: &mut SetFunctions, call: SetFunctionCall, kind: Kind) -> 
     })
 }
 
-fn count_rows(functions: &mut SetFunctions, findings: &mut Findings) -> TypedResult
+fn count_rows(functions: &mut SetFunctions) -> TypedResult
     ensures tree { IfOk result (λ typed. IsTreeAmong functions.new.calls count_rows_tree typed.expr) }
     ensures kind { IfOk result (λ typed. typed.kind ≡ kind.Num 0) }
     ensures allowed { IfOk result (λ typed. functions.old.allowed ≡ true) }
     ensures grows { Grows functions.old functions.new }
-    ensures finds { Finds findings.old findings.new }
 {
-    findings.has_set_function = true;
     if !functions.allowed {
         return Err(BindFault::MisplacedSetFunction);
     }

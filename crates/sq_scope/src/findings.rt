@@ -17,8 +17,6 @@ pub struct Findings {
     pub can_fail: bool,
     /// Whether there is a subquery.
     pub has_subquery: bool,
-    /// Whether there is a set function of this query.
-    pub has_set_function: bool,
     /// Whether a column of this query that is no grouping column stands outside set functions.
     pub has_ungrouped: bool,
     /// Whether there is USER.
@@ -38,7 +36,6 @@ impl Findings {
         reads_outermost: false,
         can_fail: false,
         has_subquery: false,
-        has_set_function: false,
         has_ungrouped: false,
         has_user: false,
         lacks_privilege: false,
@@ -56,7 +53,6 @@ impl Findings {
             reads_outermost: self.reads_outermost || other.reads_outermost,
             can_fail: self.can_fail || other.can_fail,
             has_subquery: self.has_subquery || other.has_subquery,
-            has_set_function: self.has_set_function || other.has_set_function,
             has_ungrouped: self.has_ungrouped || other.has_ungrouped,
             has_user: self.has_user || other.has_user,
             lacks_privilege: self.lacks_privilege || other.lacks_privilege,
@@ -83,7 +79,6 @@ impl Findings {
             outer_items: if self.reach > 1 { usize::MAX } else { 0 },
             reach: self.reach.saturating_sub(1),
             has_subquery: true,
-            has_set_function: false,
             has_ungrouped: false,
             ..self
         }

@@ -2,6 +2,7 @@
 //! (ISO/IEC 9075:1992, 6.2 to 6.5, 6.11 to 6.13).
 #![tactic(auto)]
 
+mod domain;
 mod expression;
 mod findings;
 mod kinds;
@@ -9,6 +10,7 @@ mod literal;
 mod parts;
 mod scope;
 
+pub use domain::domain_of;
 pub use expression::{
     ExprResult, SetFunctions, Typed, bind_expr, column_findings, indicator_of, parameter_of,
 };

@@ -1,6 +1,7 @@
 //! Literals as values.
 
-ghost use Rattle.std.specs.Prelude.{◌≡◌, IfOk, Ok};
+ghost use Rattle.std.specs.Prelude.{◌≡◌, IfOk, Ok, not};
+ghost use Rattle.sq_meaning.specs.Spelled.{has_point, signed_number};
 ghost use Rattle.sq_value.specs.Spelling.{read};
 ghost use Rattle.sq_value.specs.declared.value.Value.TheVariants as value;
 
@@ -18,7 +19,9 @@ pub fn number_value(number: Number) -> Decimal
 }
 
 /// The number of a numeric literal with or without a sign.
-pub fn signed_value(signed: SignedNumber) -> Decimal {
+pub fn signed_value(signed: SignedNumber) -> Decimal
+    ensures { result ≡ signed_number signed }
+{
     let value = number_value(signed.number);
     match signed.sign {
         Some(Sign::Minus) => value.neg(),
@@ -34,6 +37,8 @@ pub fn text_value(alloc: Global, characters: &Characters) -> Result<Value, Alloc
 }
 
 /// Whether a number is written without a point.
-pub fn is_whole(number: Number) -> bool {
-    number.codes().iter().all(|code| code.is_ascii_digit())
+pub fn is_whole(number: Number) -> bool
+    ensures { result ≡ not (has_point number) }
+{
+    !number.codes().contains(&b'.')
 }

@@ -1,9 +1,8 @@
-use Rattle.std.proofs.Common.{◌≡◌, List, Option, rules, subst}
+use Rattle.std.proofs.Common.{◌≡◌, Option, rules, subst}
 use Rattle.std.specs.Prelude.{IfSome}
 use Rattle.sq_lex.specs.declared.name.Name.{Name}
-use Rattle.sq_bound.specs.WellFormed.{IsQuery, IsUpdatable, kinds_of_parameters, kinds_of_results}
-use Rattle.sq_bound.specs.declared.condition.ResultColumn.{ResultColumn}
-use Rattle.sq_bound.specs.declared.query.BoundQuery.{out-BoundQuery}
+use Rattle.sq_bound.specs.WellFormed.{IsQuery, IsUpdatable, kinds_of_parameters, kinds_of_query}
+use Rattle.sq_bound.specs.declared.query.BoundQuery.{BoundQuery, out-BoundQuery}
 use Rattle.sq_bound.specs.declared.query.UpdatableQuery.{UpdatableQuery}
 use Rattle.sq_bind.proofs.Joins.{cursor_is, on_value}
 use Rattle.sq_bind.proofs.query.cursor_of.Goals as goal
@@ -15,9 +14,10 @@ returns-clause-well_formed g c =
     let query = c.in_ok-query-3.query in
     let same : c.in_ok-query.field-0.query ≡ query = search rules in
     let columns : c.in_ok-query-3.columns ≡ (out-BoundQuery query).columns = search rules in
-    let shown : c.as_slice-shown.result.now ≡ (out-BoundQuery query).columns = search rules in
-    let over : IfSome c.in_ok-query-3.updatable (λ over. IsUpdatable tables parameters (kinds_of_results c.as_slice-shown.result.now) over.1) =
-    on_value (λ (found : Option ((Name × Name) × UpdatableQuery)). IfSome found (λ over. IsUpdatable tables parameters (kinds_of_results c.as_slice-shown.result.now) over.1)) c.updatable_cursor-updatable.result c.in_ok-query-3.updatable c.in_ok-query-3.ensures.1 c.updatable_cursor-updatable.ensures.well_formed in
+    let before = c.in_ok-query-2.query in
+    let kept : before ≡ query = search rules in
+    let over : IfSome c.in_ok-query-3.updatable (λ over. IsUpdatable tables parameters (kinds_of_query before) over.1) =
+    on_value (λ (found : Option ((Name × Name) × UpdatableQuery)). IfSome found (λ over. IsUpdatable tables parameters (kinds_of_query before) over.1)) c.updatable_cursor-updatable.result c.in_ok-query-3.updatable c.in_ok-query-3.ensures.1 c.updatable_cursor-updatable.ensures.well_formed in
     cursor_is tables parameters query c.in_ok-query-2.sorts c.in_ok-query-3.columns c.in_ok-query-3.updatable c.whole_cursor.result (subst (IsQuery tables parameters) same c.in_ok-query.ensures) columns
-    (subst (λ (cs : List ResultColumn). IfSome c.in_ok-query-3.updatable (λ over. IsUpdatable tables parameters (kinds_of_results cs) over.1)) shown over)
+    (subst (λ (q : BoundQuery). IfSome c.in_ok-query-3.updatable (λ over. IsUpdatable tables parameters (kinds_of_query q) over.1)) kept over)
     c.whole_cursor.ensures.body c.whole_cursor.ensures.columns

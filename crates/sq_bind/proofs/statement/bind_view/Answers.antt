@@ -4,6 +4,10 @@ use Rattle.sq_bound.specs.declared.names.ParameterDesc.{ParameterDesc}
 use Rattle.sq_bind.proofs.Outermost.{no_levels}
 use Rattle.sq_bind.proofs.statement.bind_view.Goals as goal
 
+pub bind_updatable-updatable-requires-clause-bound : goal.bind_updatable-updatable-requires-clause-bound
+bind_updatable-updatable-requires-clause-bound g c =
+    c.in_ok-bound.ensures.well_formed [] (no_levels (g.N.Names.column_kinds c.args.names.now) c.new-environment.result (c.new-environment.ensures.scopes, c.new-environment.ensures.groupings))
+
 pub returns-clause-well_formed : goal.returns-clause-well_formed
 returns-clause-well_formed g c =
     let columns = g.N.Names.column_kinds c.args.names.now in

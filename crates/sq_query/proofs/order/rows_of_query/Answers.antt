@@ -15,7 +15,7 @@ pub returns-in-Ok-clause-rows : goal.returns-in-Ok-clause-rows
 returns-in-Ok-clause-rows g c = λ s only over plain tables are kinds.
     let content = g.S.Store.content_now c.args.store.now in
     let p = over.0 in
-    let needs = needs_base c.of_query-needed.result _ p over.1 (c.of_query-needed.ensures s only plain) in
+    let needs = needs_base c.of_query-needed.result _ p over.1 (c.of_query-needed.ensures.plain s only plain) in
     let same = ap (found_rows p) c.as_slice.ensures.value ∙ base_there content p c.in-Ok.tables.bases.items (c.in-Ok.ensures.bases (p ∷ []) needs) in
     let context : Context = record c.args.call.now { bases = c.as_slice.result; views = c.as_slice-in-Ok.result } in
     meets_as_same rows_in c.outermost_query_rows-rows.result _ _
@@ -27,7 +27,7 @@ pub returns-in-Err-clause-rows : goal.returns-in-Err-clause-rows
 returns-in-Err-clause-rows g c = λ s only over plain tables are kinds.
     let content = g.S.Store.content_now c.args.store.now in
     let p = over.0 in
-    let needs = needs_base c.of_query-needed.result _ p over.1 (c.of_query-needed.ensures s only plain) in
+    let needs = needs_base c.of_query-needed.result _ p over.1 (c.of_query-needed.ensures.plain s only plain) in
     let same = ap (λ q. query_rows (by_place tables) kinds q (env_around None c.args.call.now)) (query_is c.args.query.now s only) in
     meets_as_same rows_in (Err c.in-Err.fault) _ _ same
     (rows_fail s p over.1 tables _ content bases_of rows_in c.in-Err.fault are (c.in-Err.ensures.bases (p ∷ []) needs))

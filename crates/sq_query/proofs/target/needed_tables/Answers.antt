@@ -9,5 +9,5 @@ use Rattle.sq_query.proofs.target.needed_tables.Goals as goal
 pub loop-condition-preserved : goal.loop-condition-preserved
 loop-condition-preserved c = λ none.
     subst NeedsNone
-    (sym (c.in_ok-add_of_condition.ensures (none_at (λ (d : BoundCond). has_subquery (cond_of [] d)) c.args.conditions.now c.loop-condition.condition-index c.condition-item.result c.loop-condition-test.true c.condition-item.is none)))
+    (sym (c.in_ok-add_of_condition.ensures.plain (none_at (λ (d : BoundCond). has_subquery (cond_of [] d)) c.args.conditions.now c.loop-condition.condition-index c.condition-item.result c.loop-condition-test.true c.condition-item.is none)))
     (c.loop-condition.invariant none)

@@ -216,7 +216,7 @@ primary_value-returns-in-Column-clause-typed t c =
 
 pub primary_value-returns-in-CountRows-clause-typed : goal.primary_value-returns-in-CountRows-clause-typed
 primary_value-returns-in-CountRows-clause-typed t c =
-    typings.count_typed c.args.environment.now c.args.functions.now.allowed c.count_rows.new.findings.has_ungrouped c.count_rows.new.functions.calls c.count_rows.result
+    typings.count_typed c.args.environment.now c.args.functions.now.allowed c.args.findings.now.has_ungrouped c.count_rows.new.functions.calls c.count_rows.result
     c.count_rows.ensures.tree c.count_rows.ensures.kind c.count_rows.ensures.allowed
 
 pub primary_value-returns-in-SetFunction-clause-typed : goal.primary_value-returns-in-SetFunction-clause-typed

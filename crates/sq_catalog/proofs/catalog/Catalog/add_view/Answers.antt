@@ -2,6 +2,7 @@ use Rattle.std.proofs.Common.{List, ap, subst, sym}
 use Rattle.sq_bound.specs.declared.names.BaseTable.{BaseTable}
 use Rattle.sq_catalog.specs.Catalog.{Catalog}
 use Rattle.sq_catalog.specs.Stored.{IsStored}
+use Rattle.sq_catalog.proofs.Added.{stand_added}
 use Rattle.sq_catalog.proofs.Extending.{tables_beside, view_beside}
 use Rattle.sq_catalog.proofs.Listed.{all_inserted}
 use Rattle.sq_catalog.proofs.catalog.Catalog.add_view.Goals as goal
@@ -17,4 +18,7 @@ invariant_of-self c =
       view_beside c.insert_table.result c.args.self.now c.self.inside.base_tables.items c.self.inside.views.entries c.insert_table.new.tables.entries c.args.name c.args.table
           c.insert_table.ensures.added c.insert_table.ensures.unchanged same (ap (λ (s : Catalog). s.views) c.self.view_is) c.requires.next c.self.invariant.3,
       c.self.invariant.4,
+      c.self.invariant.5,
+      stand_added c.insert_table.result c.args.self.now c.self.inside.views.entries c.insert_table.new.tables.entries c.args.name c.args.table
+          c.insert_table.ensures.added c.insert_table.ensures.unchanged (ap (λ (s : Catalog). s.views) c.self.view_is) c.requires.next c.self.invariant.6,
     )

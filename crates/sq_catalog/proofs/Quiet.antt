@@ -1,0 +1,15 @@
+-- Whether the truth of no condition is ever a fault, where a view adds its own.
+use Rattle.std.proofs.Common.{◌≡◌, ◌∙◌, Bool, true, false, ◌&&◌, List, [], ◌∷◌, Option, Some, None, refl, ap, sym}
+use Rattle.std.proofs.lemmas.List.Folds.{list_all-append}
+use Rattle.sq_bound.specs.Names.{option_all}
+use Rattle.sq_bound.specs.Quiet.{are_sure, is_sure}
+use Rattle.sq_bound.specs.declared.condition.BoundCond.{BoundCond}
+use Rattle.sq_catalog.specs.View.{conditions_with}
+
+and_true : (a : Bool) → (a && true) ≡ a
+and_true true = refl
+and_true false = refl
+
+pub sure_with : (below : List BoundCond) (own : Option BoundCond) → are_sure (conditions_with below own) ≡ (are_sure below && option_all is_sure own)
+sure_with below None = sym (and_true (are_sure below))
+sure_with below (Some c) = list_all-append is_sure below (c ∷ []) ∙ ap (λ b. are_sure below && b) (and_true (is_sure c))
