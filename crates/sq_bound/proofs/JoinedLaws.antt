@@ -3,7 +3,7 @@ use Rattle.std.proofs.Common.{◌≡◌, refl, sym, ◌∙◌, ap}
 use Rattle.std.specs.Prelude.{List, [], ◌∷◌, ◌++◌, flat_map, fold, map, Ok}
 use Rattle.sq_meaning.specs.Status.{◌>>=◌}
 use Rattle.sq_meaning.specs.Kind.{common_kinds}
-use Rattle.sq_bound.specs.Joined.{S, Kinds, kept_kinds, specifications_of, term_specifications, union_specifications, joined_kinds, term_kinds, union_kinds}
+use Rattle.sq_bound.specs.Joined.{Kinds, kept_kinds, specifications_of, term_specifications, union_specifications, joined_kinds, term_kinds, union_kinds}
 use Rattle.sq_bound.proofs.ExpressionLaws.{fold_mapped}
 use Rattle.sq_bound.specs.declared.condition.BoundSpecification.{BoundSpecification, out-BoundSpecification}
 use Rattle.sq_bound.specs.declared.query.BoundQuery.{BoundQuery, out-BoundQuery, fold_out-BoundQuery}

@@ -10,7 +10,7 @@ use Rattle.sq_tree.specs.declared.cond.Comparison.{Comparison}
 use Rattle.sq_meaning.specs.Syntax.{conds}
 use Rattle.sq_meaning.specs.Quiet.{has_no_escape, is_quiet, are_quiet, is_quiet_expr}
 use Rattle.sq_bound.specs.Condition.{PlacedCond, PlacedSelect, cond_of, conj_of, test_of, predicate_of, select_of, not_if, compared_with}
-use Rattle.sq_bound.specs.Expression.{PlacedExpr, expr_of, operation_of, operated, missing}
+use Rattle.sq_bound.specs.Expression.{PlacedExpr, expr_of, operation_of, operated}
 use Rattle.sq_bound.specs.declared.condition.Compared.{Compared}
 use Rattle.sq_bound.specs.declared.condition.Compared.TheVariants.{Scalar, All, Any}
 use Rattle.sq_bound.specs.declared.condition.BoundCond.{BoundCond, out-BoundCond}

@@ -5,7 +5,6 @@ use Rattle.std.specs.List.{list_all}
 use Rattle.sq_value.specs.Pattern.{liked, pattern_items, cut_as_read, plain, with_item}
 use Rattle.sq_value.specs.SetFunctions.{is_null as is_null_value}
 use Rattle.sq_value.specs.Truth.{negation, known as known_truth, both, either}
-use Rattle.sq_value.specs.declared.domain.Kind.{Kind}
 use Rattle.sq_value.specs.declared.fault.LikeFault.{LikeFault}
 use Rattle.sq_value.specs.declared.pattern.Item.{Item}
 use Rattle.sq_value.specs.declared.truth.Truth.{Truth}
@@ -20,7 +19,7 @@ use Rattle.sq_meaning.specs.Status.{Outcome, and_then, well_formed, with_status,
 use Rattle.sq_meaning.specs.declared.status.Status.{Status}
 use Rattle.sq_meaning.specs.declared.status.Status.TheVariants as status
 use Rattle.sq_meaning.specs.Syntax.{Naming, Expr, literal, parameter, user, column, count_rows, set_function, signed, added, scaled, bracketed, Cond, Conds, compare, compare_subquery, compare_quantified, between, in_subquery, in_list, like, is_null, exists, negated, conjunction, disjunction, no_cond, a_cond}
-use Rattle.sq_meaning.specs.Environment.{Row, Env, with_indicator, is_below_zero, value_at}
+use Rattle.sq_meaning.specs.Environment.{Row, Env, with_indicator, is_below_zero}
 use Rattle.sq_meaning.specs.Expression.{value, with_sign}
 use Rattle.sq_meaning.specs.Kind.{Kinds}
 use Rattle.sq_meaning.specs.Placed.{Placed, PlacedParameter, input_at, by_place}

@@ -2,6 +2,7 @@ pub mod Condition
 pub mod Default
 pub mod Expression
 pub mod Fits
+pub mod Groups
 pub mod Joined
 pub mod Names
 pub mod Parameter

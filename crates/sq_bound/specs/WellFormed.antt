@@ -14,6 +14,7 @@ use Rattle.sq_meaning.specs.WellFormed.{Has, HasValue, Level, froms, of_lines, i
 use Rattle.sq_bound.specs.Condition.{PlacedCond, cond_of, select_of}
 use Rattle.sq_bound.specs.Expression.{PlacedExpr, expr_of}
 use Rattle.sq_bound.specs.Fits.{IsColumnOf, under}
+use Rattle.sq_bound.specs.Groups.{HasGroups}
 use Rattle.sq_bound.specs.Joined.{joined_kinds, specifications_of}
 use Rattle.sq_bound.specs.SetFunction.{call_of}
 use Rattle.sq_bound.specs.declared.condition.BoundCond.{BoundCond}
@@ -120,10 +121,11 @@ pub record IsCond (columns : TableKinds) (parameters : List Kind) (levels : Leve
   pub is_tree : (later : List SetFunctionCall) → cond_of (map call_of (calls ++ later)) c ≡ tree
   pub stands : (rows_of : TablePlace → Outcome (List Row)) → WellFormedCond (by_place rows_of) (kinds_by_place columns parameters) (IsDeclaredAt parameters) levels tree
 
--- a bound query specification, whose columns are known beforehand
+-- a bound query specification, whose columns are known beforehand, with its groups as they are noted
 pub record IsSelect (columns : TableKinds) (parameters : List Kind) (levels : Levels) (q : BoundSpecification) : Type 0 where
   pub stands : (rows_of : TablePlace → Outcome (List Row)) → WellFormedSelect (by_place rows_of) (kinds_by_place columns parameters) (IsDeclaredAt parameters) levels (select_of q)
   pub kinds_are : select_kinds (kinds_by_place columns parameters) (froms levels) (select_of q) ≡ Ok (kinds_of_select q)
+  pub groups : HasGroups q
 
 -- a bound query expression outside every query: its query specifications are, and its columns are known beforehand
 pub record IsQuery (columns : TableKinds) (parameters : List Kind) (q : BoundQuery) : Type 0 where

@@ -36,7 +36,7 @@ pub struct BoundTest {
     pub predicate: Predicate,
     /// How many items of the FROM clause, from the left, hold all columns that the test reads.
     pub items: usize,
-    /// Whether it may answer a status in the stead of a truth.
+    /// Whether it may answer a status instead of a truth.
     pub can_fail: bool,
 }
 
@@ -78,7 +78,7 @@ pub struct BoundSpecification {
     /// For a grouped query, its groups.
     pub grouping: Option<Grouping>,
     pub columns: Items<ResultColumn>,
-    /// Whether evaluating it may answer a status in the stead of rows.
+    /// Whether evaluating it may answer a status instead of rows.
     pub can_fail: bool,
     /// The number of a subquery that reads no column of a query around it, which is evaluated at most once a statement. No other
     /// subquery of the statement has it.

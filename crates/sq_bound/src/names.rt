@@ -238,7 +238,7 @@ impl TableDesc {
         }
     }
 
-    /// Whether reading its rows may answer a status in the stead of rows.
+    /// Whether reading its rows may answer a status instead of rows.
     pub fn can_fail(&self) -> bool {
         match &self.body {
             TableBody::Base(_) => false,

@@ -7,7 +7,8 @@ use std::alloc::AllocError;
 use std::{error, fmt};
 use thiserror::Error;
 
-/// What is wrong with a schema definition or one of its elements. The least that holds is answered.
+/// What is wrong with a schema definition or one of its elements. Where several hold, the first in this order is
+/// answered.
 #[derive(Clone, Copy, Debug, PartialEq, Eq)]
 pub enum RefusalName {
     /// A user's second schema, a table or view name of the schema that is used, or a column name twice in one table or view.

@@ -89,7 +89,7 @@ impl Held {
 }
 
 impl Held {
-    /// Adds the privileges that a grant names, and with the grant option that.
+    /// Adds the privileges that a grant names, and their grant options where it says so.
     fn add_named(
         &mut self,
         table: TablePlace,
@@ -134,7 +134,7 @@ impl Held {
     }
 }
 
-/// An action, on one column where it is one on columns.
+/// An action on a table, or on one column of it.
 #[derive(Clone, Copy)]
 pub(crate) struct Privilege {
     pub action: Action,

@@ -471,7 +471,7 @@ fn check_distinct(alloc: Global, names: &[Name]) -> Result<(), ElementFault> {
     Ok(())
 }
 
-/// The names, if there are so many.
+/// The names, if there are `count` of them; else `BadView`.
 fn as_many(names: Items<Name>, count: usize) -> Result<Items<Name>, ElementFault>
     ensures { IfOk result (λ names. length names ≡ count) }
 {

@@ -162,7 +162,7 @@ impl<'t> Written<'t> {
     }
 }
 
-/// Whether a push found room.
+/// Out of memory, unless a push found room.
 pub(crate) fn pushed(found_room: bool) -> Result<(), ElementFault>
     ensures { OnOk result (found_room ≡ true) }
 {

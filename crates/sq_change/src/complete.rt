@@ -23,7 +23,7 @@ use std::alloc::Global;
 #[derive(Drop)]
 pub(crate) struct Changed {
     pub(crate) changes: Vec<Change>,
-    /// The keys whose values rows may lose by it.
+    /// The keys in which rows may lose their values.
     pub(crate) lost_keys: Vec<usize>,
 }
 
@@ -78,7 +78,8 @@ pub(crate) fn complete<N: Names, S: Store>(
     satisfied
 }
 
-/// Whether the rows that are put in a table may be there, and the rows to which they refer.
+/// Tests the rows that are put in a table against check options and constraints on one row, and gives the rows to
+/// which they refer.
 fn rows_admitted<N: Names, S: Store>(
     setting: &Setting<'_, N, S>,
     leaf: &Leaf,

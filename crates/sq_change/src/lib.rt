@@ -1,9 +1,9 @@
 //! INSERT, UPDATE and DELETE, over whatever store keeps the tables (ISO/IEC 9075:1992, 13.6 to 13.10).
 //!
-//! A bound statement holds what is under the table that it names. It is asked for that the store keeps the tables of the
-//! names and their keys, that the statement is over one of these tables, that set clauses are for columns of it, and that
-//! the source of an insert statement and set clauses are well formed: so each value that they give may be stored in its
-//! column.
+//! A bound statement holds what is under the table that it names. Callers ensure that the store keeps the tables of
+//! the names and their keys, that the statement is over one of these tables, that set clauses are for columns of it,
+//! and that the source of an insert statement and set clauses are well formed: so each value is null, or a number or
+//! text as its column asks.
 #![tactic(auto)]
 
 mod complete;

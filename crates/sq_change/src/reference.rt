@@ -25,7 +25,7 @@ pub(crate) struct Referenced {
     values: Key,
 }
 
-/// The rows to which those refer that are put in a table.
+/// The rows that are referred to by the rows put in a table.
 pub(crate) fn referenced_by<N: Names, S: Store>(
     setting: &Setting<'_, N, S>,
     table: &BaseTable,
@@ -127,7 +127,7 @@ fn is_there<S: Store>(store: &S, referenced: &Referenced) -> Result<(), Fault>
     }
 }
 
-/// Whether those references of the base table at a place hold that are to one of the keys of another.
+/// Whether the references hold that the base table at a place has to these keys of another.
 fn references_to<S: Store>(
     alloc: Global,
     store: &S,

@@ -18,8 +18,8 @@ use sq_query::{Failure, Fault, Inputs};
 use sq_store::{Change, Meter, Store};
 use std::alloc::Global;
 
-/// Performs an insert statement (ISO/IEC 9075:1992, 13.8). The store keeps the tables of the names and their keys, the
-/// statement is over one of these tables, and its source is well formed.
+/// Performs an insert statement (ISO/IEC 9075:1992, 13.8). All new rows are made before any is tested: row numbers
+/// first, then check options, NOT NULL and CHECK, keys, references.
 #[tactic(auto, using(crate::proofs::Made::inserts))]
 pub fn insert<N: Names, S: Store>(
     alloc: Global,

@@ -15,7 +15,7 @@ use sq_store::Store;
 use sq_value::{Domain, Row, Value, store};
 use std::alloc::Global;
 
-/// The value of an expression as a column stores it. It is asked for that the column may store it.
+/// The value of an expression as a column stores it.
 pub(crate) fn stored_value<N: Names, S: Store>(
     setting: &Setting<'_, N, S>,
     column: ObjectColumn,
@@ -29,8 +29,7 @@ pub(crate) fn stored_value<N: Names, S: Store>(
     assigned(setting.alloc, column.domain, &value)
 }
 
-/// A value as a domain stores it. It is asked for that the value is null, a number for a domain of numbers, or a text for
-/// one of texts.
+/// A value as a domain stores it, or the status for which it can't be stored.
 #[tactic(auto, using(crate::proofs::Stored::ok_meets, crate::proofs::Stored::err_meets))]
 pub fn assigned(alloc: Global, domain: Domain, value: &Value) -> Result<Value, Fault>
     requires domain { IsDomain domain }

@@ -146,7 +146,7 @@ pub(crate) fn removed(alloc: Global, numbers: &[u64]) -> Result<Vec<Change>, Fau
     )
 }
 
-/// The keys of which rows lose their values where a set clause assigns a column of them.
+/// The keys that have a column which a set clause assigns.
 pub(crate) fn keys_assigned(
     alloc: Global,
     table: &BaseTable,

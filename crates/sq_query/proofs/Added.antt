@@ -38,7 +38,7 @@ use Rattle.sq_bound.specs.declared.condition.BoundSpecification.{BoundSpecificat
 use Rattle.sq_bound.specs.declared.condition.Grouping.{Grouping, out-Grouping}
 use Rattle.sq_bound.specs.declared.condition.TablePlace.{TablePlace}
 use Rattle.sq_bound.specs.declared.condition.TablePlace.TheVariants.{Base, View}
-use Rattle.sq_query.specs.Needed.{ReadsCond, ReadsConds, ReadsClause, ReadsSelect, IsNeeded, AreKnown, NeedsMore, NeedsNone, places_in, with_place, with_table, cond_tables, conds_tables, clause_tables, select_tables, specification_tables, specifications_tables, Adds}
+use Rattle.sq_query.specs.Needed.{ReadsCond, ReadsConds, ReadsClause, ReadsSelect, IsNeeded, AreKnown, NeedsMore, NeedsNone, places_in, with_table, cond_tables, conds_tables, clause_tables, select_tables, specification_tables, specifications_tables, Adds}
 use Rattle.sq_query.specs.declared.needed.Needed.{Needed}
 
 abbrev Places : Type 0

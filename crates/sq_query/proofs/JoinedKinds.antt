@@ -35,7 +35,7 @@ anything (Ok x) = tt
 anything (Err s) = tt
 
 -- one and the others
-paired : {A : Type 0} (P : A → Type 0) (Q R : List A → Type 0) → ((x : A) (xs : List A) → P x → Q xs → R (x ∷ xs)) → (o : Outcome A) (p : Outcome (List A)) → IfOk o P → IfOk p Q
+pub paired : {A : Type 0} (P : A → Type 0) (Q R : List A → Type 0) → ((x : A) (xs : List A) → P x → Q xs → R (x ∷ xs)) → (o : Outcome A) (p : Outcome (List A)) → IfOk o P → IfOk p Q
     → IfOk (and_then o (λ x. and_then p (λ xs. Ok (x ∷ xs)))) R
 paired P Q R f (Err s) p h k = tt
 paired P Q R f (Ok x) (Err s) h k = tt

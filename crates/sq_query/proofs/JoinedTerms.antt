@@ -32,7 +32,7 @@ use Rattle.sq_query.proofs.JoinedKinds.{joined_of_kinds}
 use Rattle.sq_query.proofs.Kept.{ok_same}
 
 -- what was made of something that is there
-opened : {A B : Type 0} (o : Outcome A) (f : A → Outcome B) (y : B) → and_then o f ≡ Ok y → (x : A) × (o ≡ Ok x) × (f x ≡ Ok y)
+pub opened : {A B : Type 0} (o : Outcome A) (f : A → Outcome B) (y : B) → and_then o f ≡ Ok y → (x : A) × (o ≡ Ok x) × (f x ≡ Ok y)
 opened (Ok x) f y h = (x, refl, h)
 opened (Err s) f y h = absurd cc
 
@@ -62,7 +62,7 @@ all_kinds (k ∷ ks) (l ∷ ls) h = let b = both_true (same_kind k l) (pointwise
 abbrev kept_if : Bool → List Kind → Kinds
 kept_if b ks = if b then Ok ks else not_well_formed
 
-kept_are : (columns : List ResultColumn) (ks kinds : List Kind) → kept_kinds columns ks ≡ Ok kinds → (ks ≡ kinds) × (kinds ≡ kinds_of_results columns)
+pub kept_are : (columns : List ResultColumn) (ks kinds : List Kind) → kept_kinds columns ks ≡ Ok kinds → (ks ≡ kinds) × (kinds ≡ kinds_of_results columns)
 kept_are columns ks kinds h = by (pointwise same_kind ks (kinds_of_results columns)) refl h
   where
     by : (b : Bool) → pointwise same_kind ks (kinds_of_results columns) ≡ b → kept_if b ks ≡ Ok kinds → (ks ≡ kinds) × (kinds ≡ kinds_of_results columns)
@@ -70,6 +70,22 @@ kept_are columns ks kinds h = by (pointwise same_kind ks (kinds_of_results colum
     by false e h = absurd cc
 
 -- ---- terms
+
+-- a query expression in brackets has the kinds that were noted
+bracketed_are : (q : BoundQuery) (kinds : List Kind) → term_kinds (Bracketed q) ≡ Ok kinds → (joined_kinds q ≡ Ok kinds) × (kinds ≡ kinds_of_query q)
+bracketed_are q kinds is =
+    let of_query : joined_kinds q ≡ Ok kinds = sym (term_kinds-Bracketed q) ∙ is in
+    let o = out-BoundQuery q in
+    let found = opened (fold (λ left union. union_kinds union left) (term_kinds o.first) o.rest) (kept_kinds o.columns) kinds (sym (joined_kinds-out q) ∙ of_query) in
+    (of_query, (kept_are o.columns found.0 kinds found.2).1)
+
+pub query_of_term : (columns : TableKinds) (parameters : List Kind) (q : BoundQuery) → AllByRecursion (IsSelect columns parameters []) (term_specifications (Bracketed q)) → (kinds : List Kind) → term_kinds (Bracketed q) ≡ Ok kinds → IsQuery columns parameters q
+query_of_term columns parameters q all kinds is =
+    let noted = bracketed_are q kinds is in
+    record {
+      specifications = subst (AllByRecursion (IsSelect columns parameters [])) (term_specifications-Bracketed q) all;
+      kinds_are = noted.0 ∙ ap Ok noted.1;
+    }
 
 module _ (result : Result (Vec (List Value) Global) Fault) (context : Context) where
   specification_kinds : (s : BoundSpecification) → HasKinds result s context → HasTermKinds result (Specification s) context
@@ -82,30 +98,22 @@ module _ (result : Result (Vec (List Value) Global) Fault) (context : Context) w
 
   bracketed_kinds : (q : BoundQuery) → HasQueryKinds result q context → HasTermKinds result (Bracketed q) context
   bracketed_kinds q h columns parameters have are all kinds is =
-      let of_query : joined_kinds q ≡ Ok kinds = sym (term_kinds-Bracketed q) ∙ is in
-      let o = out-BoundQuery q in
-      let found = opened (fold (λ left union. union_kinds union left) (term_kinds o.first) o.rest) (kept_kinds o.columns) kinds (sym (joined_kinds-out q) ∙ of_query) in
-      let kept = kept_are o.columns found.0 kinds found.2 in
-      let well : IsQuery columns parameters q = record {
-        specifications = subst (AllByRecursion (IsSelect columns parameters [])) (term_specifications-Bracketed q) all;
-        kinds_are = of_query ∙ ap Ok kept.1;
-      } in
-      subst (λ (ks : List Kind). IfOk result (λ rows. AreRowsOf ks rows.items)) (sym kept.1) (h columns parameters have are well)
+      subst (λ (ks : List Kind). IfOk result (λ rows. AreRowsOf ks rows.items)) (sym (bracketed_are q kinds is).1) (h columns parameters have are (query_of_term columns parameters q all kinds is))
 
   pub of_bracketed : (term : BoundTerm) (q : BoundQuery) → term ≡ Bracketed q → HasQueryKinds result q context → HasTermKinds result term context
   of_bracketed term q is h = subst (λ (t : BoundTerm). HasTermKinds result t context) (sym is) (bracketed_kinds q h)
 
 -- ---- both sides of UNION
 
-record IsJoined (u : BoundUnion) (left : Kinds) (kinds : List Kind) : Type 0 where
-  ls : List Kind
-  rs : List Kind
-  lefts : left ≡ Ok ls
-  rights : term_kinds u.term ≡ Ok rs
-  common : common_kinds ls rs ≡ Ok kinds
-  noted : kinds ≡ kinds_of_results u.columns
+pub record IsJoined (u : BoundUnion) (left : Kinds) (kinds : List Kind) : Type 0 where
+  pub ls : List Kind
+  pub rs : List Kind
+  pub lefts : left ≡ Ok ls
+  pub rights : term_kinds u.term ≡ Ok rs
+  pub common : common_kinds ls rs ≡ Ok kinds
+  pub noted : kinds ≡ kinds_of_results u.columns
 
-sides : (u : BoundUnion) (left : Kinds) (kinds : List Kind) → union_kinds u left ≡ Ok kinds → IsJoined u left kinds
+pub sides : (u : BoundUnion) (left : Kinds) (kinds : List Kind) → union_kinds u left ≡ Ok kinds → IsJoined u left kinds
 sides u left kinds h =
     let a = opened left (λ ls. and_then (term_kinds u.term) (λ rs. and_then (common_kinds ls rs) (kept_kinds u.columns))) kinds (sym (union_kinds-out u left) ∙ h) in
     let b = opened (term_kinds u.term) (λ rs. and_then (common_kinds a.0 rs) (kept_kinds u.columns)) kinds a.2 in
@@ -124,15 +132,15 @@ AreSoFar q context i rows =
     (columns : TableKinds) (parameters : List Kind) → HaveKinds columns context → IsRowOf parameters context.parameters.now → IsQuery columns parameters q
     → (kinds : List Kind) → kinds_so_far q i ≡ Ok kinds → AreRowsOf kinds rows
 
-all_left : {A : Type 0} (P : A → Type 0) (xs ys : List A) → AllByRecursion P (xs ++ ys) → AllByRecursion P xs
+pub all_left : {A : Type 0} (P : A → Type 0) (xs ys : List A) → AllByRecursion P (xs ++ ys) → AllByRecursion P xs
 all_left P [] ys h = tt
 all_left P (x ∷ xs) ys h = (h.0, all_left P xs ys h.1)
 
-all_right : {A : Type 0} (P : A → Type 0) (xs ys : List A) → AllByRecursion P (xs ++ ys) → AllByRecursion P ys
+pub all_right : {A : Type 0} (P : A → Type 0) (xs ys : List A) → AllByRecursion P (xs ++ ys) → AllByRecursion P ys
 all_right P [] ys h = h
 all_right P (x ∷ xs) ys h = all_right P xs ys h.1
 
-all_within : {A B : Type 0} (P : B → Type 0) (f : A → List B) (xs : List A) (i : ℕ) (x : A) → AllByRecursion P (flat_map f xs) → i < length xs → x ≡ get_or xs i x → AllByRecursion P (f x)
+pub all_within : {A B : Type 0} (P : B → Type 0) (f : A → List B) (xs : List A) (i : ℕ) (x : A) → AllByRecursion P (flat_map f xs) → i < length xs → x ≡ get_or xs i x → AllByRecursion P (f x)
 all_within P f [] i x h lt is = absurd (omega arith)
 all_within P f (y ∷ ys) zero x h lt is = subst (λ z. AllByRecursion P (f z)) (sym is) (all_left P (f y) (flat_map f ys) h)
 all_within P f (y ∷ ys) (suc i) x h lt is = all_within P f ys i x (all_right P (f y) (flat_map f ys) h) (omega arith) is

@@ -92,6 +92,10 @@ module _ (columns : TableKinds) (bases : List BaseTable) (content : Content) (ki
       subst (λ (x : Table). AreRowsAt columns (Base place) (rows_in x)) is (rows_at place (stored_at bases content place h (ltb-true place (length content) lt)))
   there_at place t false lt e = let no = rw lt at e in absurd cc
 
+  -- the rows of a table that is there
+  pub stored_kinds : (place : ℕ) → place < length content → AreRowsAt columns (Base place) (rows_in (table_at content place))
+  stored_kinds place within = rows_at place (stored_at bases content place h within)
+
   one_base : (q : ℕ) (t : Table) (b : BaseRows) → table_there content q ≡ Ok t → base_seen b ≡ (q, rows_in t) → IsBaseOf columns b
   one_base q t b is same =
       subst (λ (x : ℕ × List Row). AreRowsAt columns (Base x.0) x.1) (sym same) (there_at q t (nat_lt q (length content)) refl is)

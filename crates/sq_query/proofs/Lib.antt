@@ -3,8 +3,10 @@ pub mod Alike
 pub mod AlikeConds
 pub mod AnyTables
 pub mod Bases
+pub mod Bounded
 pub mod ByKeys
 pub mod Chosen
+pub mod ChosenRows
 pub mod Classes
 pub mod Conditions
 pub mod Depths
@@ -19,6 +21,8 @@ pub mod Joined
 pub mod JoinedKinds
 pub mod JoinedTerms
 pub mod Kept
+pub mod KeyTests
+pub mod KeyedRows
 pub mod KindsOfTables
 pub mod Levels
 pub mod LineKinds
@@ -28,6 +32,7 @@ pub mod Longer
 pub mod Membership
 pub mod NoFunctions
 pub mod OnAnswers
+pub mod OnlyOne
 pub mod Phases
 pub mod Predicates
 pub mod Products
@@ -39,8 +44,11 @@ pub mod Ruling
 pub mod Sorting
 pub mod StableSort
 pub mod Stored
+pub mod StoredUnions
 pub mod Tables
+pub mod Terms
 pub mod Turns
+pub mod UnionRows
 pub mod Unions
 pub mod UserText
 pub mod ValuesFound

@@ -110,17 +110,17 @@ needs_base (Err e) from p is h = tt
 
 -- ---- the parts of a query specification
 
-from_is : (q : BoundSpecification) → from_clause (select_of q) ≡ items_in q
+pub from_is : (q : BoundSpecification) → from_clause (select_of q) ≡ items_in q
 from_is q = ap from_clause (select_of-out q)
 
-plain_where : (q : BoundSpecification) → IsPlainQuery q → clause_has_subquery (where_clause (select_of q)) ≡ false
+pub plain_where : (q : BoundSpecification) → IsPlainQuery q → clause_has_subquery (where_clause (select_of q)) ≡ false
 plain_where q plain = ap (λ (s : PlacedSelect). clause_has_subquery (where_clause s)) (select_of-out q) ∙ plain.0
 
 plain_groups : (list : List BoundExpr) (grouping : Option Grouping) → AreGroupsIfAny list grouping → clause_has_subquery (groups_if (option_map groups_of grouping)).having ≡ false
 plain_groups list None are = refl
 plain_groups list (Some g) are = ap (λ (x : Groups). clause_has_subquery x.having) (groups_of-out g) ∙ are.plain (map call_of (out-Grouping g).set_functions)
 
-plain_having : (q : BoundSpecification) → IsPlainQuery q → clause_has_subquery (having_clause (select_of q)) ≡ false
+pub plain_having : (q : BoundSpecification) → IsPlainQuery q → clause_has_subquery (having_clause (select_of q)) ≡ false
 plain_having q plain =
     ap (λ (s : PlacedSelect). clause_has_subquery (having_clause s)) (select_of-out q)
     ∙ plain_groups (out-BoundSpecification q).list (out-BoundSpecification q).grouping plain.1

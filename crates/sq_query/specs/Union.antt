@@ -1,5 +1,5 @@
 -- Query expressions (ISO/IEC 9075:1992, 7.10).
-use Rattle.std.specs.Prelude.{◌≡◌, ◌≤◌, ⊤, ℕ, Bool, if◌then◌else◌, List, [], length, Result, Vec, Ok, IfOk}
+use Rattle.std.specs.Prelude.{◌≡◌, ◌≤◌, ⊤, ℕ, Bool, if◌then◌else◌, List, [], length, None, Result, Vec, Ok, IfOk}
 use Rattle.std.specs.List.{AllByRecursion, zip}
 use Rattle.std.specs.declared.alloc.Global.{Global}
 use Rattle.sq_lex.specs.declared.name.Name.{Name}
@@ -14,18 +14,21 @@ use Rattle.sq_meaning.specs.Kind.{Kinds}
 use Rattle.sq_meaning.specs.Placed.{Placed, by_place}
 use Rattle.sq_meaning.specs.QueryExpression.{row_brought_to, query_rows}
 use Rattle.sq_meaning.specs.Rows.{firsts, same_row}
-use Rattle.sq_meaning.specs.WellFormed.{IsRowOf, AreRowsOf}
-use Rattle.sq_bound.specs.Joined.{term_specifications, term_kinds}
-use Rattle.sq_bound.specs.Query.{query_of}
-use Rattle.sq_bound.specs.WellFormed.{TableKinds, IsSelect}
+use Rattle.sq_meaning.specs.WellFormed.{IsRowOf, AreRowsOf, kinds_by_place}
+use Rattle.sq_bound.specs.Fits.{AreInDomains}
+use Rattle.sq_bound.specs.Joined.{specifications_of, term_specifications, term_kinds}
+use Rattle.sq_bound.specs.Query.{query_of, term_of}
+use Rattle.sq_bound.specs.WellFormed.{TableKinds, BasesAreThere, IsSelect, IsQuery, kinds_of_select}
 use Rattle.sq_bound.specs.declared.condition.BoundSpecification.{BoundSpecification}
 use Rattle.sq_bound.specs.declared.condition.TablePlace.{TablePlace}
+use Rattle.sq_bound.specs.declared.names.BaseTable.{BaseTable}
 use Rattle.sq_bound.specs.declared.query.BoundQuery.{BoundQuery, out-BoundQuery}
 use Rattle.sq_bound.specs.declared.query.BoundTerm.{BoundTerm}
 use Rattle.sq_bound.specs.declared.query.BoundTerm.TheVariants.{Specification}
 use Rattle.sq_query.specs.Fault.{HasRows}
-use Rattle.sq_query.specs.Frame.{inputs_of}
+use Rattle.sq_query.specs.Frame.{inputs_of, reading}
 use Rattle.sq_query.specs.Kinds.{HaveKinds}
+use Rattle.sq_query.specs.Lines.{env_around}
 use Rattle.sq_query.specs.Specification.{IsPlainQuery, IsOverBase}
 use Rattle.sq_query.specs.Table.{AreOfStore}
 use Rattle.sq_query.specs.declared.context.Context.{Context}
@@ -57,6 +60,48 @@ HasTermKinds result term context =
     (columns : TableKinds) (parameters : List Kind) → HaveKinds columns context → IsRowOf parameters context.parameters.now
     → AllByRecursion (IsSelect columns parameters []) (term_specifications term) → (kinds : List Kind) → term_kinds term ≡ Ok kinds
     → IfOk result (λ rows. AreRowsOf kinds rows.items)
+
+-- ---- several query specifications
+
+-- numbers of a scale of at most 18, or texts of a fixed length of at most 240 (own rules), or varying texts
+abbrev pub IsBounded : Kind → Type 0
+IsBounded (kind.Num s) = s ≤ 18
+IsBounded (kind.Chars n) = n ≤ 240
+IsBounded (kind.Vary n) = ⊤
+
+abbrev pub AreBounded : List Kind → Type 0
+AreBounded = AllByRecursion IsBounded
+
+-- over one base table, without subqueries, and with columns of bounded kinds
+pub record IsSimple (s : BoundSpecification) : Type 0 where
+  pub over : IsOverBase s
+  pub plain : IsPlainQuery s
+  pub bounded : AreBounded (kinds_of_select s)
+
+-- the rows of a well-formed query expression whose query specifications are simple, outside every query, where tables and
+-- parameters have values of their kinds
+abbrev pub HasUnionRows : Result (Vec (List Value) Global) Fault → BoundQuery → Context → Type 0
+HasUnionRows result query context =
+    (columns : TableKinds) (parameters : List Kind) → HaveKinds columns context → IsRowOf parameters context.parameters.now
+    → IsQuery columns parameters query → AllByRecursion IsSimple (specifications_of query)
+    → HasRows result (query_rows (reading context) (kinds_by_place columns parameters) (query_of query) (env_around None context))
+
+-- those of a term
+abbrev pub HasTermRows : Result (Vec (List Value) Global) Fault → BoundTerm → Context → Type 0
+HasTermRows result term context =
+    (columns : TableKinds) (parameters : List Kind) → HaveKinds columns context → IsRowOf parameters context.parameters.now
+    → AllByRecursion (IsSelect columns parameters []) (term_specifications term) → (kinds : List Kind) → term_kinds term ≡ Ok kinds
+    → AllByRecursion IsSimple (term_specifications term)
+    → HasRows result (query_rows (reading context) (kinds_by_place columns parameters) (term_of term) (env_around None context))
+
+-- Of a well-formed query expression whose query specifications are simple: something of its rows, where base tables have the
+-- rows of the store, in the domains of their columns. Views are not read, so they may have any.
+abbrev pub OfUnionRows : (Outcome (List Row) → Type 0) → List BaseTable → TableKinds → BoundQuery → Content → List Value → Name → Type 0
+OfUnionRows P bases columns query content values user =
+    (parameters : List Kind) → IsRowOf parameters values → BasesAreThere bases columns → AreInDomains bases content
+    → IsQuery columns parameters query → AllByRecursion IsSimple (specifications_of query)
+    → (tables : TablePlace → Outcome (List Row)) → AreOfStore content tables
+    → P (query_rows (by_place tables) (kinds_by_place columns parameters) (query_of query) (outermost (inputs_of values) user))
 
 -- ---- both sides of UNION
 

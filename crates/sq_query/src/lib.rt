@@ -1,9 +1,9 @@
-//! Queries and search conditions over any store: what value expressions are worth, when conditions are true, and which
-//! rows queries have (ISO/IEC 9075:1992, clauses 6 to 8 and 13.1).
+//! Queries and search conditions over any store: the values of expressions, the truth of conditions, and the rows
+//! that queries have (ISO/IEC 9075:1992, clauses 6 to 8 and 13.1).
 //!
-//! A bound tree could, as far as its type says, name a place, a parameter, a table or a set function that isn't there,
-//! or a number where a text must stand. Such a tree ends with the status of a rule that is broken, 42000; binding makes
-//! none.
+//! As far as its type says, a bound tree could name a place, a parameter, a table or a set function that isn't there,
+//! or have a number where a text must stand. Such a tree ends with 42000. Binding makes none (`specs/WellFormed.antt`
+//! of `sq_bound`).
 #![tactic(auto)]
 
 mod arithmetic;

@@ -29,7 +29,7 @@ pub(crate) fn negated_if(is_negated: bool, truth: Result<Truth, Fault>) -> Resul
     }
 }
 
-/// Whether it is true, or the status in its stead.
+/// Whether it is true, or the status that it ended with.
 pub(crate) fn is_true(truth: Result<Truth, Fault>) -> Result<bool, Fault>
     ensures { (outcome : Outcome Truth) → Meets truth outcome → Meets result (meaning.is_true outcome) }
 {

@@ -11,7 +11,7 @@ ghost use Rattle.sq_bound.specs.declared.condition.BoundSpecification.{BoundSpec
 ghost use Rattle.sq_query.specs.Fault.{Meets, HasRows};
 ghost use Rattle.sq_query.specs.Kinds.{HasQueryKinds};
 ghost use Rattle.sq_query.specs.Specification.{items_in, IsPlainQuery, rows_meant};
-ghost use Rattle.sq_query.specs.Union.{HasTermKinds, IsSpecification, IsOnly, MayBeBrought, IsBringable, AreBringable, IsTextOf, joined_rows};
+ghost use Rattle.sq_query.specs.Union.{HasTermKinds, HasUnionRows, HasTermRows, IsSpecification, IsOnly, MayBeBrought, IsBringable, AreBringable, IsTextOf, joined_rows};
 
 use crate::arithmetic::{GREATEST_SCALE, made};
 use crate::condition::rows;
@@ -35,6 +35,7 @@ pub(crate) fn query_rows<'a, 'm>(
 ) -> Result<Vec<Row>, Fault>
     ensures kinds { HasQueryKinds result query.now context.now }
     ensures rows { (s : AnySpecification) → IsOnly query.now s → length (items_in s) ≡ 1 → IsPlainQuery s → HasRows result (rows_meant s None context.now) }
+    ensures unions { HasUnionRows result query.now context.now }
 {
     let mut so_far = term_rows(&query.first, context, memo)?;
     for union in query.rest.as_slice() {
@@ -54,6 +55,7 @@ fn term_rows<'a, 'm>(
 ) -> Result<Vec<Row>, Fault>
     ensures kinds { HasTermKinds result term.now context.now }
     ensures rows { (s : AnySpecification) → IsSpecification term.now s → length (items_in s) ≡ 1 → IsPlainQuery s → HasRows result (rows_meant s None context.now) }
+    ensures unions { HasTermRows result term.now context.now }
 {
     match term {
         BoundTerm::Specification(query) => rows(query, context, memo),

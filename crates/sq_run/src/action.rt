@@ -10,7 +10,7 @@ pub(crate) enum Action {
     Show(ShowAction),
 }
 
-/// A call of a procedure, which has this number in its session.
+/// A call; `procedure` is the number of the procedure in the session.
 #[derive(Debug, Drop)]
 pub(crate) struct CallAction {
     pub module: Name,
@@ -19,7 +19,7 @@ pub(crate) struct CallAction {
     pub values: Items<Value>,
 }
 
-/// The showing of a base table, which stands at this place.
+/// A request to show the base table at the place `table`.
 #[derive(Clone, Copy, Debug)]
 pub(crate) struct ShowAction {
     pub user: Name,

@@ -40,7 +40,9 @@ pub fn run<S: Store, W: Out>(
     ensures failed { IfErr result (λ fault. W.failed out.new ≡ is_write fault) }
 
     // A text is refused for its tokens with the first fault of its reading, and for its grammar only where no tree of
-    // depth at most 32 spells it; a module only where the schemas are read, the script only where both are.
+    // depth at most 32 spells it; it is the first such of its kind. For its meaning the script is refused at its
+    // first item that the session does not take. A module is refused only where all schemas spell trees, the script
+    // only where all modules do, too.
     ensures refused { IfErr result (RefusedText (texts schemas.now) (texts modules.now) script.now) }
     ensures order { IfErr result (InOrder (texts schemas.now) (texts modules.now)) }
 {

@@ -54,7 +54,7 @@ pub enum RefusalName {
     /// A schema or one of its elements can't be defined.
     #[error("{0}")]
     Schema(sq_catalog::RefusalName),
-    /// A module, a cursor or a procedure breaks a rule that doesn't wait for its call.
+    /// A module, or one of its cursors or procedures, breaks a rule for which the text is refused and not just the call.
     #[error("{0}")]
     Module(ModuleRefusalName),
     /// A call of a procedure that no module has.

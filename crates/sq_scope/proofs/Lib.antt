@@ -1,4 +1,5 @@
 pub mod Bindings
+pub mod InOrder
 pub mod Levels
 pub mod Literals
 pub mod Meanings

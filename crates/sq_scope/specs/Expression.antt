@@ -14,6 +14,7 @@ use Rattle.sq_tree.specs.declared.expr.Sign.TheVariants.{Plus, Minus}
 use Rattle.sq_tree.specs.declared.expr.TimesSign.{TimesSign}
 use Rattle.sq_tree.specs.declared.expr.TimesSign.TheVariants.{Times, Over}
 use Rattle.sq_meaning.specs.Environment.{Place, place_of, same_name}
+use Rattle.sq_meaning.specs.Expression.{set_functions}
 use Rattle.sq_meaning.specs.Kind.{Kinds, kind, signed_kind}
 use Rattle.sq_meaning.specs.Placed.{PlacedParameter}
 use Rattle.sq_meaning.specs.Spelled.{Named}
@@ -111,6 +112,19 @@ Adds before after = (more : List SetFunctionCall) × (after ≡ before ++ more)
 -- where none may stand, none is added
 abbrev pub Grows : SetFunctions → SetFunctions → Type 0
 Grows before after = Adds before.calls after.calls × (after.allowed ≡ before.allowed) × (before.allowed ≡ false → after.calls ≡ before.calls)
+
+-- the set functions of a bound expression, where the query has these
+abbrev pub expr_functions : BoundExpr → List PlacedExpr → List PlacedExpr
+expr_functions expr functions = set_functions (expr_of functions expr)
+
+-- behind those that were there stand the set functions of a part of the text, in its order
+abbrev pub AddsInOrder : (List PlacedExpr → List PlacedExpr) → List SetFunctionCall → List SetFunctionCall → Type 0
+AddsInOrder of before after =
+    (added : List SetFunctionCall) × (after ≡ before ++ added) × ((later : List SetFunctionCall) → of (map call_of (after ++ later)) ≡ map call_of added)
+
+-- those of an expression
+abbrev pub AddsExpr : List SetFunctionCall → List SetFunctionCall → Typed → Type 0
+AddsExpr before after typed = AddsInOrder (expr_functions typed.expr) before after
 
 -- a tree, where the query has these set functions, and maybe more behind them
 abbrev pub IsTreeAmong : List SetFunctionCall → PlacedExpr → BoundExpr → Type 0

@@ -15,7 +15,7 @@ ghost use Rattle.sq_tree.specs.declared.expr.Sign.TheVariants.{Minus};
 ghost use Rattle.sq_value.specs.Spelling.{read};
 ghost use Rattle.sq_value.specs.declared.value.Value.TheVariants as value;
 ghost use Rattle.sq_value.specs.declared.domain.Kind.TheVariants as kind;
-ghost use Rattle.sq_scope.specs.Expression.{Adds, Grows, IsBound, IsOperation, IsSigned, IsTree, IsTreeAmong, IsTypedOperation, indicator_named, parameter_kind, parameter_named, placed_parameter, product_operator, sum_operator, with_sign};
+ghost use Rattle.sq_scope.specs.Expression.{Adds, AddsExpr, Grows, IsBound, IsOperation, IsSigned, IsTree, IsTreeAmong, IsTypedOperation, indicator_named, parameter_kind, parameter_named, placed_parameter, product_operator, sum_operator, with_sign};
 ghost use Rattle.sq_scope.specs.Scope.{scopes_in};
 ghost use Rattle.sq_scope.specs.WellFormed.{Finds, IsColumn, IsTyped};
 ghost use Rattle.sq_scope.specs.declared.expression.Typed.{Typed as TypedExpr};
@@ -96,6 +96,7 @@ pub fn bind_expr(
     ensures bound { IfOk result (λ found. IsBound (scopes_in environment.now) environment.now.parameters.now functions.new.calls (spelled_expr expr.now) found.part) }
     ensures typed { IfOk result (λ found. IsTyped environment.now functions.old.allowed found.findings.has_ungrouped functions.new.calls found.part) }
     ensures grows { Grows functions.old functions.new }
+    ensures in_order { IfOk result (λ found. AddsExpr functions.old.calls functions.new.calls found.part) }
 {
     let mut findings = Findings::NONE;
     let part = expr_value(expr, environment, functions, &mut findings)?;
@@ -113,6 +114,7 @@ fn expr_value(
     ensures bound { IfOk result (IsBound (scopes_in environment.now) environment.now.parameters.now functions.new.calls (spelled_expr expr.now)) }
     ensures typed { IfOk result (IsTyped environment.now functions.old.allowed findings.new.has_ungrouped functions.new.calls) }
     ensures grows { Grows functions.old functions.new }
+    ensures in_order { IfOk result (AddsExpr functions.old.calls functions.new.calls) }
     ensures finds { Finds findings.old findings.new }
 {
     let mut bound = term_value(&expr.first, environment, functions, findings);
@@ -134,6 +136,7 @@ fn term_value(
     ensures bound { IfOk result (IsBound (scopes_in environment.now) environment.now.parameters.now functions.new.calls (term_of term.now)) }
     ensures typed { IfOk result (IsTyped environment.now functions.old.allowed findings.new.has_ungrouped functions.new.calls) }
     ensures grows { Grows functions.old functions.new }
+    ensures in_order { IfOk result (AddsExpr functions.old.calls functions.new.calls) }
     ensures finds { Finds findings.old findings.new }
 {
     let mut bound = factor_value(&term.first, environment, functions, findings);
@@ -160,6 +163,7 @@ fn factor_value(
     ensures bound { IfOk result (IsBound (scopes_in environment.now) environment.now.parameters.now functions.new.calls (factor_of factor.now)) }
     ensures typed { IfOk result (IsTyped environment.now functions.old.allowed findings.new.has_ungrouped functions.new.calls) }
     ensures grows { Grows functions.old functions.new }
+    ensures in_order { IfOk result (AddsExpr functions.old.calls functions.new.calls) }
     ensures finds { Finds findings.old findings.new }
 {
     let bound = primary_value(&factor.primary, environment, functions, findings);
@@ -179,6 +183,7 @@ fn primary_value(
     ensures bound { IfOk result (IsBound (scopes_in environment.now) environment.now.parameters.now functions.new.calls (primary_of primary.now)) }
     ensures typed { IfOk result (IsTyped environment.now functions.old.allowed findings.new.has_ungrouped functions.new.calls) }
     ensures grows { Grows functions.old functions.new }
+    ensures in_order { IfOk result (AddsExpr functions.old.calls functions.new.calls) }
     ensures finds { Finds findings.old findings.new }
 {
     match primary {
@@ -447,6 +452,7 @@ fn numbered(functions: &mut SetFunctions, call: SetFunctionCall, kind: Kind) -> 
     ensures tree { IfOk result (λ typed. IsTreeAmong functions.new.calls (call_of call) typed.expr) }
     ensures kind { IfOk result (λ typed. typed.kind ≡ kind) }
     ensures adds { Adds functions.old.calls functions.new.calls }
+    ensures in_order { IfOk result (AddsExpr functions.old.calls functions.new.calls) }
     ensures allowed { functions.new.allowed ≡ functions.old.allowed }
 {
     let number = functions.calls.len();
@@ -462,6 +468,7 @@ fn count_rows(functions: &mut SetFunctions) -> TypedResult
     ensures kind { IfOk result (λ typed. typed.kind ≡ kind.Num 0) }
     ensures allowed { IfOk result (λ typed. functions.old.allowed ≡ true) }
     ensures grows { Grows functions.old functions.new }
+    ensures in_order { IfOk result (AddsExpr functions.old.calls functions.new.calls) }
 {
     if !functions.allowed {
         return Err(BindFault::MisplacedSetFunction);
@@ -487,6 +494,7 @@ fn set_function(
     ensures value { IfOk result (λ typed. (e : TypedExpr) × (operand ≡ Ok e) × IsTreeAmong functions.new.calls (set_function_tree function (is_distinct_word quantifier) (expr_of [] e.expr)) typed.expr × (function_kind function e.kind ≡ Ok typed.kind)) }
     ensures allowed { IfOk result (λ typed. functions.old.allowed ≡ true) }
     ensures grows { Grows functions.old functions.new }
+    ensures in_order { IfOk result (AddsExpr functions.old.calls functions.new.calls) }
 {
     let Typed { expr, kind } = operand?;
     if !functions.allowed || findings.reach > 0 {

@@ -1,3 +1,4 @@
+pub mod InOrder
 pub mod Trees
 pub mod Contexts
 pub mod Columns

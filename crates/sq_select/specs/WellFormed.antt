@@ -26,6 +26,7 @@ use Rattle.sq_scope.specs.WellFormed.{AreLevelsIn, MayStandAt, is_no_column}
 use Rattle.sq_scope.specs.declared.expression.Typed.{Typed}
 use Rattle.sq_scope.specs.declared.findings.Found.{Found}
 use Rattle.sq_scope.specs.declared.scope.Environment.{Environment}
+use Rattle.sq_select.specs.InOrder.{AddAll}
 use Rattle.sq_select.specs.declared.select.Parts.{Parts}
 use Rattle.sq_select.specs.declared.select.Selected.{Selected}
 use Rattle.sq_select.specs.declared.select.SelectedList.{SelectedList}
@@ -169,6 +170,8 @@ pub record AreSelected (columns : TableKinds) (parameters : List Kind) (levels :
   pub groups : IfOk s.groups (λ found. AreGroupingColumns columns parameters (of_lines s.tables ∷ levels) found.part)
   pub list : IfOk s.groups (λ groups. IfOk s.selected (IsListAt columns parameters s.tables levels (is_no_column groups.part) s.functions.calls))
   pub having : IfOk s.groups (λ groups. IfOk s.having (IsHavingAt columns parameters s.tables levels (is_no_column groups.part) s.functions.calls))
+  pub by_columns : IfOk s.groups (λ groups. s.by_columns ≡ true → is_no_column groups.part ≡ false)
+  pub in_order : IfOk s.selected (λ list. IfOk s.having (λ having. AddAll list having s.functions.calls))
 
 -- and without a fault
 pub record AreParts (columns : TableKinds) (parameters : List Kind) (levels : Levels) (s : Parts) : Type 0 where
@@ -177,6 +180,8 @@ pub record AreParts (columns : TableKinds) (parameters : List Kind) (levels : Le
   pub groups : AreGroupingColumns columns parameters (of_lines s.tables ∷ levels) s.groups
   pub list : IsListAt columns parameters s.tables levels (is_no_column s.groups) s.functions.calls s.selected
   pub having : IsHavingAt columns parameters s.tables levels (is_no_column s.groups) s.functions.calls s.having
+  pub by_columns : s.by_columns ≡ true → is_no_column s.groups ≡ false
+  pub in_order : AddAll s.selected s.having s.functions.calls
 
 -- a grouped query has no `*` and reads no column that is no grouping column; one that is not grouped has no HAVING and no set
 -- function

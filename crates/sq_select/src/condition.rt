@@ -9,6 +9,7 @@ ghost use Rattle.sq_bound.specs.declared.expression.SetFunctionCall.{SetFunction
 ghost use Rattle.sq_scope.specs.Expression.{Grows};
 ghost use Rattle.sq_scope.specs.WellFormed.{AreLevelsIn, IsItemOver, allows_none};
 ghost use Rattle.sq_scope.specs.declared.scope.Environment.{Environment as AnyEnvironment};
+ghost use Rattle.sq_select.specs.InOrder.{Adding, bound_functions, conj_functions, in_turn, optional_functions, predicate_functions, test_functions};
 ghost use Rattle.sq_select.specs.WellFormed.{Context, Each, Everywhere, IsClauseAt, IsClauseIn, IsCondAt, IsCondIn, IsConjAt, IsConjIn, IsHavingAt, IsPredicateAt, IsPredicateIn, IsSelectIn, IsTestAt, IsTestIn};
 
 use crate::gathered::{Gathered, gathered, none};
@@ -42,6 +43,7 @@ pub fn bind_cond<N: Names>(
 ) -> CondResult
     ensures well_formed { IfOk result (λ found. IsCondIn (N.column_kinds names.now) environment.now functions.old.allowed found.findings.has_ungrouped functions.new.calls found.part) }
     ensures grows { Grows functions.old functions.new }
+    ensures in_order { IfOk result (Adding bound_functions functions.old.calls functions.new.calls) }
 {
     let first = bind_conj(&cond.first, names, environment, functions, numbers);
     let mut terms = gathered(none(environment.alloc), first);
@@ -53,7 +55,8 @@ pub fn bind_cond<N: Names>(
 }
 
 fn whole_cond(terms: Gathered<BoundConj>) -> CondResult
-    ensures { (x : Context) (calls : List SetFunctionCall) → IfOk terms (Everywhere x (Each (IsConjAt x calls))) → IfOk result (Everywhere x (IsCondAt x calls)) }
+    ensures well_formed { (x : Context) (calls : List SetFunctionCall) → IfOk terms (Everywhere x (Each (IsConjAt x calls))) → IfOk result (Everywhere x (IsCondAt x calls)) }
+    ensures in_order { (a b : List SetFunctionCall) → IfOk terms (Adding (in_turn conj_functions) a b) → IfOk result (Adding bound_functions a b) }
 {
     let Found { part, findings } = terms?;
     Ok(Found {
@@ -72,6 +75,7 @@ fn bind_conj<N: Names>(
 ) -> Result<Found<BoundConj>, BindFault>
     ensures well_formed { IfOk result (IsConjIn (N.column_kinds names.now) environment.now functions.old.allowed functions.new.calls) }
     ensures grows { Grows functions.old functions.new }
+    ensures in_order { IfOk result (Adding conj_functions functions.old.calls functions.new.calls) }
 {
     let first = bind_test(&conj.first, names, environment, functions, numbers);
     let mut tests = gathered(none(environment.alloc), first);
@@ -83,7 +87,8 @@ fn bind_conj<N: Names>(
 }
 
 fn whole_conj(tests: Gathered<BoundTest>) -> Result<Found<BoundConj>, BindFault>
-    ensures { (x : Context) (calls : List SetFunctionCall) → IfOk tests (Everywhere x (Each (IsTestAt x calls))) → IfOk result (Everywhere x (IsConjAt x calls)) }
+    ensures well_formed { (x : Context) (calls : List SetFunctionCall) → IfOk tests (Everywhere x (Each (IsTestAt x calls))) → IfOk result (Everywhere x (IsConjAt x calls)) }
+    ensures in_order { (a b : List SetFunctionCall) → IfOk tests (Adding (in_turn test_functions) a b) → IfOk result (Adding conj_functions a b) }
 {
     let Found { part, findings } = tests?;
     Ok(Found {
@@ -102,13 +107,15 @@ fn bind_test<N: Names>(
 ) -> Result<Found<BoundTest>, BindFault>
     ensures well_formed { IfOk result (IsTestIn (N.column_kinds names.now) environment.now functions.old.allowed functions.new.calls) }
     ensures grows { Grows functions.old functions.new }
+    ensures in_order { IfOk result (Adding test_functions functions.old.calls functions.new.calls) }
 {
     let predicate = bind_body(&test.body, names, environment, functions, numbers);
     whole_test(test.negated, predicate)
 }
 
 fn whole_test(negated: bool, predicate: PredicateResult) -> Result<Found<BoundTest>, BindFault>
-    ensures { (x : Context) (calls : List SetFunctionCall) → IfOk predicate (Everywhere x (IsPredicateAt x calls)) → IfOk result (Everywhere x (IsTestAt x calls)) }
+    ensures well_formed { (x : Context) (calls : List SetFunctionCall) → IfOk predicate (Everywhere x (IsPredicateAt x calls)) → IfOk result (Everywhere x (IsTestAt x calls)) }
+    ensures in_order { (a b : List SetFunctionCall) → IfOk predicate (Adding predicate_functions a b) → IfOk result (Adding test_functions a b) }
 {
     let Found { part, findings } = predicate?;
     Ok(Found {
@@ -132,6 +139,7 @@ fn bind_body<N: Names>(
 ) -> PredicateResult
     ensures well_formed { IfOk result (IsPredicateIn (N.column_kinds names.now) environment.now functions.old.allowed functions.new.calls) }
     ensures grows { Grows functions.old functions.new }
+    ensures in_order { IfOk result (Adding predicate_functions functions.old.calls functions.new.calls) }
 {
     match body {
         Body::Predicate(left, tail) => bind_tail(
@@ -154,7 +162,8 @@ fn bind_body<N: Names>(
 }
 
 fn bracketed(alloc: Global, cond: CondResult) -> PredicateResult
-    ensures { (x : Context) (calls : List SetFunctionCall) → IfOk cond (Everywhere x (IsCondAt x calls)) → IfOk result (Everywhere x (IsPredicateAt x calls)) }
+    ensures well_formed { (x : Context) (calls : List SetFunctionCall) → IfOk cond (Everywhere x (IsCondAt x calls)) → IfOk result (Everywhere x (IsPredicateAt x calls)) }
+    ensures in_order { (a b : List SetFunctionCall) → IfOk cond (Adding bound_functions a b) → IfOk result (Adding predicate_functions a b) }
 {
     let Found { part, findings } = cond?;
     Ok(Found {
@@ -174,6 +183,7 @@ fn bind_tail<N: Names>(
 ) -> PredicateResult
     ensures well_formed { IfOk result (IsPredicateIn (N.column_kinds names.now) environment.now functions.old.allowed functions.new.calls) }
     ensures grows { Grows functions.old functions.new }
+    ensures in_order { IfOk result (Adding predicate_functions functions.old.calls functions.new.calls) }
 {
     let left = bind_expr(left, environment, functions);
     match tail {
@@ -323,6 +333,7 @@ fn bind_having<'s, N: Names>(
 ) -> Result<Found<Option<BoundCond>>, BindFault>
     ensures well_formed { (tables : List TablePlace) (levels : Levels) → AllZip (IsItemOver (N.column_kinds names.now)) tables items.now → AreLevelsIn (N.column_kinds names.now) levels environment.now → IfOk result (IsHavingAt (N.column_kinds names.now) (kinds_of_parameters environment.now.parameters.now) tables levels (allows_none grouping.entry) functions.new.calls) }
     ensures grows { Grows functions.old functions.new }
+    ensures in_order { IfOk result (Adding optional_functions functions.old.calls functions.new.calls) }
 {
     bind_optional(
         cond,
@@ -348,6 +359,7 @@ fn bind_optional<N: Names>(
 ) -> Result<Found<Option<BoundCond>>, BindFault>
     ensures well_formed { IfOk result (IsClauseIn (N.column_kinds names.now) environment.now functions.old.allowed functions.new.calls) }
     ensures grows { Grows functions.old functions.new }
+    ensures in_order { IfOk result (Adding optional_functions functions.old.calls functions.new.calls) }
 {
     match cond {
         None => Ok(Found {
@@ -359,7 +371,8 @@ fn bind_optional<N: Names>(
 }
 
 fn optional(cond: CondResult) -> Result<Found<Option<BoundCond>>, BindFault>
-    ensures { (columns : TableKinds) (environment : AnyEnvironment) (allowed : Bool) (calls : List SetFunctionCall) → IfOk cond (λ found. IsCondIn columns environment allowed found.findings.has_ungrouped calls found.part) → IfOk result (IsClauseIn columns environment allowed calls) }
+    ensures well_formed { (columns : TableKinds) (environment : AnyEnvironment) (allowed : Bool) (calls : List SetFunctionCall) → IfOk cond (λ found. IsCondIn columns environment allowed found.findings.has_ungrouped calls found.part) → IfOk result (IsClauseIn columns environment allowed calls) }
+    ensures in_order { (a b : List SetFunctionCall) → IfOk cond (Adding bound_functions a b) → IfOk result (Adding optional_functions a b) }
 {
     let Found { part, findings } = cond?;
     Ok(Found {

@@ -4,7 +4,8 @@ ghost use Rattle.std.specs.Prelude.{◌≡◌, ◌∷◌, [], IfOk, IsTrue, List
 ghost use Rattle.sq_bound.specs.WellFormed.{TableKinds, kinds_of_select};
 ghost use Rattle.sq_bound.specs.declared.expression.SetFunctionCall.{SetFunctionCall};
 ghost use Rattle.sq_meaning.specs.WellFormed.{is_comparable, is_text};
-ghost use Rattle.sq_scope.specs.Expression.{Grows};
+ghost use Rattle.sq_scope.specs.Expression.{Grows, expr_functions};
+ghost use Rattle.sq_select.specs.InOrder.{Adding, beside_functions, in_turn, predicate_functions, typed_functions};
 ghost use Rattle.sq_select.specs.WellFormed.{AgreesAt, AreBesideAt, Context, Each, Everywhere, IsPredicateAt, IsSelectIn, IsTypedAt, here};
 
 use crate::gathered::{Gathered, gathered, none};
@@ -36,7 +37,8 @@ fn agreeing(left: ExprResult, right: ExprResult) -> Result<(Found<Typed>, Found<
 
 /// `left op right`.
 pub fn compared(comparison: Comparison, left: ExprResult, right: ExprResult) -> PredicateResult
-    ensures { (x : Context) (calls : List SetFunctionCall) → IfOk left (Everywhere x (IsTypedAt x calls)) → IfOk right (Everywhere x (IsTypedAt x calls)) → IfOk result (Everywhere x (IsPredicateAt x calls)) }
+    ensures well_formed { (x : Context) (calls : List SetFunctionCall) → IfOk left (Everywhere x (IsTypedAt x calls)) → IfOk right (Everywhere x (IsTypedAt x calls)) → IfOk result (Everywhere x (IsPredicateAt x calls)) }
+    ensures in_order { (a b c : List SetFunctionCall) → IfOk left (Adding typed_functions a b) → IfOk right (Adding typed_functions b c) → IfOk result (Adding predicate_functions a c) }
 {
     let (left, right) = agreeing(left, right)?;
     let findings = left.findings.and(right.findings);
@@ -62,7 +64,8 @@ fn with_subquery(
     left: ExprResult,
     query: SubqueryResult,
 ) -> Result<Found<(BoundExpr, Boxed<BoundSpecification>)>, BindFault>
-    ensures { (x : Context) (calls : List SetFunctionCall) → IfOk left (Everywhere x (IsTypedAt x calls)) → IfOk query (λ found. IsSelectIn x.columns x.environment found.part) → IfOk result (Everywhere x (AreBesideAt x calls)) }
+    ensures well_formed { (x : Context) (calls : List SetFunctionCall) → IfOk left (Everywhere x (IsTypedAt x calls)) → IfOk query (λ found. IsSelectIn x.columns x.environment found.part) → IfOk result (Everywhere x (AreBesideAt x calls)) }
+    ensures in_order { (a b : List SetFunctionCall) → IfOk left (Adding typed_functions a b) → IfOk result (Adding beside_functions a b) }
 {
     let (left, query) = both(left, query)?;
     let test = match column_of(&query.part) {
@@ -102,7 +105,8 @@ pub fn compared_query(
     left: ExprResult,
     query: SubqueryResult,
 ) -> PredicateResult
-    ensures { (x : Context) (calls : List SetFunctionCall) → IfOk left (Everywhere x (IsTypedAt x calls)) → IfOk query (λ found. IsSelectIn x.columns x.environment found.part) → IfOk result (Everywhere x (IsPredicateAt x calls)) }
+    ensures well_formed { (x : Context) (calls : List SetFunctionCall) → IfOk left (Everywhere x (IsTypedAt x calls)) → IfOk query (λ found. IsSelectIn x.columns x.environment found.part) → IfOk result (Everywhere x (IsPredicateAt x calls)) }
+    ensures in_order { (a b : List SetFunctionCall) → IfOk left (Adding typed_functions a b) → IfOk result (Adding predicate_functions a b) }
 {
     let Found { part, findings } = with_subquery(alloc, left, query)?;
     let (left, query) = part;
@@ -128,7 +132,8 @@ pub fn in_query(
     left: ExprResult,
     query: SubqueryResult,
 ) -> PredicateResult
-    ensures { (x : Context) (calls : List SetFunctionCall) → IfOk left (Everywhere x (IsTypedAt x calls)) → IfOk query (λ found. IsSelectIn x.columns x.environment found.part) → IfOk result (Everywhere x (IsPredicateAt x calls)) }
+    ensures well_formed { (x : Context) (calls : List SetFunctionCall) → IfOk left (Everywhere x (IsTypedAt x calls)) → IfOk query (λ found. IsSelectIn x.columns x.environment found.part) → IfOk result (Everywhere x (IsPredicateAt x calls)) }
+    ensures in_order { (a b : List SetFunctionCall) → IfOk left (Adding typed_functions a b) → IfOk result (Adding predicate_functions a b) }
 {
     let Found { part, findings } = with_subquery(alloc, left, query)?;
     let (left, query) = part;
@@ -140,7 +145,8 @@ pub fn in_query(
 
 /// `EXISTS (query)`.
 pub fn exists(alloc: Global, query: SubqueryResult) -> PredicateResult
-    ensures { (x : Context) (calls : List SetFunctionCall) → IfOk query (λ found. IsSelectIn x.columns x.environment found.part) → IfOk result (Everywhere x (IsPredicateAt x calls)) }
+    ensures well_formed { (x : Context) (calls : List SetFunctionCall) → IfOk query (λ found. IsSelectIn x.columns x.environment found.part) → IfOk result (Everywhere x (IsPredicateAt x calls)) }
+    ensures in_order { (a : List SetFunctionCall) → IfOk result (Adding predicate_functions a a) }
 {
     let Found { part, findings } = query?;
     Ok(Found {
@@ -160,6 +166,7 @@ pub fn between(
 ) -> PredicateResult
     ensures well_formed { (columns : TableKinds) → let x = here columns environment.now functions.old.allowed in IfOk left (Everywhere x (IsTypedAt x functions.old.calls)) → IfOk result (Everywhere x (IsPredicateAt x functions.new.calls)) }
     ensures grows { Grows functions.old functions.new }
+    ensures in_order { (a : List SetFunctionCall) → IfOk left (Adding typed_functions a functions.old.calls) → IfOk result (Adding predicate_functions a functions.new.calls) }
 {
     let low = bind_expr(low, environment, functions);
     let high = bind_expr(high, environment, functions);
@@ -172,7 +179,8 @@ fn between_bounds(
     low: ExprResult,
     high: ExprResult,
 ) -> PredicateResult
-    ensures { (x : Context) (calls : List SetFunctionCall) → IfOk left (Everywhere x (IsTypedAt x calls)) → IfOk low (Everywhere x (IsTypedAt x calls)) → IfOk high (Everywhere x (IsTypedAt x calls)) → IfOk result (Everywhere x (IsPredicateAt x calls)) }
+    ensures well_formed { (x : Context) (calls : List SetFunctionCall) → IfOk left (Everywhere x (IsTypedAt x calls)) → IfOk low (Everywhere x (IsTypedAt x calls)) → IfOk high (Everywhere x (IsTypedAt x calls)) → IfOk result (Everywhere x (IsPredicateAt x calls)) }
+    ensures in_order { (a b c d : List SetFunctionCall) → IfOk left (Adding typed_functions a b) → IfOk low (Adding typed_functions b c) → IfOk high (Adding typed_functions c d) → IfOk result (Adding predicate_functions a d) }
 {
     let ((left, low), high) = both(agreeing(left, low), high)?;
     let test = must_agree(left.part.kind, high.part.kind);
@@ -186,7 +194,8 @@ fn between_bounds(
 
 /// An expression whose kind agrees with that of one before it.
 fn agreed(kind: Kind, item: ExprResult) -> Result<Found<BoundExpr>, BindFault>
-    ensures { (x : Context) (calls : List SetFunctionCall) → IfOk item (Everywhere x (IsTypedAt x calls)) → IfOk result (Everywhere x (AgreesAt x calls kind)) }
+    ensures well_formed { (x : Context) (calls : List SetFunctionCall) → IfOk item (Everywhere x (IsTypedAt x calls)) → IfOk result (Everywhere x (AgreesAt x calls kind)) }
+    ensures in_order { (a b : List SetFunctionCall) → IfOk item (Adding typed_functions a b) → IfOk result (Adding expr_functions a b) }
 {
     let item = item?;
     let test = must_agree(kind, item.part.kind);
@@ -206,6 +215,7 @@ fn list_exprs(
 ) -> Gathered<BoundExpr>
     ensures well_formed { (columns : TableKinds) → let x = here columns environment.now functions.old.allowed in IfOk result (Everywhere x (Each (AgreesAt x functions.new.calls kind))) }
     ensures grows { Grows functions.old functions.new }
+    ensures in_order { IfOk result (Adding (in_turn expr_functions) functions.old.calls functions.new.calls) }
 {
     let first = bind_expr(&list.first, environment, functions);
     let mut bound = gathered(none(environment.alloc), agreed(kind, first));
@@ -226,6 +236,7 @@ pub fn in_list(
 ) -> PredicateResult
     ensures well_formed { (columns : TableKinds) → let x = here columns environment.now functions.old.allowed in IfOk left (Everywhere x (IsTypedAt x functions.old.calls)) → IfOk result (Everywhere x (IsPredicateAt x functions.new.calls)) }
     ensures grows { Grows functions.old functions.new }
+    ensures in_order { (a : List SetFunctionCall) → IfOk left (Adding typed_functions a functions.old.calls) → IfOk result (Adding predicate_functions a functions.new.calls) }
 {
     let left = left?;
     let list = list_exprs(left.part.kind, list, environment, functions);
@@ -233,7 +244,8 @@ pub fn in_list(
 }
 
 fn listed(negated: bool, left: Found<Typed>, list: Gathered<BoundExpr>) -> PredicateResult
-    ensures { (x : Context) (calls : List SetFunctionCall) → Everywhere x (IsTypedAt x calls) left → IfOk list (Everywhere x (Each (AgreesAt x calls left.part.kind))) → IfOk result (Everywhere x (IsPredicateAt x calls)) }
+    ensures well_formed { (x : Context) (calls : List SetFunctionCall) → Everywhere x (IsTypedAt x calls) left → IfOk list (Everywhere x (Each (AgreesAt x calls left.part.kind))) → IfOk result (Everywhere x (IsPredicateAt x calls)) }
+    ensures in_order { (a b c : List SetFunctionCall) → Adding typed_functions a b left → IfOk list (Adding (in_turn expr_functions) b c) → IfOk result (Adding predicate_functions a c) }
 {
     let (left, list) = both(Ok(left), list)?;
     Ok(Found {
@@ -262,6 +274,7 @@ pub fn like(
 ) -> PredicateResult
     ensures well_formed { (columns : TableKinds) → let x = here columns environment.now functions.old.allowed in IfOk left (Everywhere x (IsTypedAt x functions.old.calls)) → IfOk result (Everywhere x (IsPredicateAt x functions.new.calls)) }
     ensures grows { Grows functions.old functions.new }
+    ensures in_order { (a : List SetFunctionCall) → IfOk left (Adding typed_functions a functions.old.calls) → IfOk result (Adding predicate_functions a functions.new.calls) }
 {
     let pattern = bind_expr(pattern, environment, functions);
     match escape {
@@ -274,7 +287,8 @@ pub fn like(
 }
 
 fn like_plain(negated: bool, left: ExprResult, pattern: ExprResult) -> PredicateResult
-    ensures { (x : Context) (calls : List SetFunctionCall) → IfOk left (Everywhere x (IsTypedAt x calls)) → IfOk pattern (Everywhere x (IsTypedAt x calls)) → IfOk result (Everywhere x (IsPredicateAt x calls)) }
+    ensures well_formed { (x : Context) (calls : List SetFunctionCall) → IfOk left (Everywhere x (IsTypedAt x calls)) → IfOk pattern (Everywhere x (IsTypedAt x calls)) → IfOk result (Everywhere x (IsPredicateAt x calls)) }
+    ensures in_order { (a b c : List SetFunctionCall) → IfOk left (Adding typed_functions a b) → IfOk pattern (Adding typed_functions b c) → IfOk result (Adding predicate_functions a c) }
 {
     let (left, pattern) = both(text(left), text(pattern))?;
     Ok(Found {
@@ -290,7 +304,8 @@ fn like_escape(
     pattern: ExprResult,
     escape: ExprResult,
 ) -> PredicateResult
-    ensures { (x : Context) (calls : List SetFunctionCall) → IfOk left (Everywhere x (IsTypedAt x calls)) → IfOk pattern (Everywhere x (IsTypedAt x calls)) → IfOk escape (Everywhere x (IsTypedAt x calls)) → IfOk result (Everywhere x (IsPredicateAt x calls)) }
+    ensures well_formed { (x : Context) (calls : List SetFunctionCall) → IfOk left (Everywhere x (IsTypedAt x calls)) → IfOk pattern (Everywhere x (IsTypedAt x calls)) → IfOk escape (Everywhere x (IsTypedAt x calls)) → IfOk result (Everywhere x (IsPredicateAt x calls)) }
+    ensures in_order { (a b c d : List SetFunctionCall) → IfOk left (Adding typed_functions a b) → IfOk pattern (Adding typed_functions b c) → IfOk escape (Adding typed_functions c d) → IfOk result (Adding predicate_functions a d) }
 {
     let ((left, pattern), escape) = both(both(text(left), text(pattern)), text(escape))?;
     let findings = left.findings.and(pattern.findings).and(escape.findings);
@@ -307,7 +322,8 @@ fn like_escape(
 
 /// `left IS [ NOT ] NULL`.
 pub fn null_test(negated: bool, left: ExprResult) -> PredicateResult
-    ensures { (x : Context) (calls : List SetFunctionCall) → IfOk left (Everywhere x (IsTypedAt x calls)) → IfOk result (Everywhere x (IsPredicateAt x calls)) }
+    ensures well_formed { (x : Context) (calls : List SetFunctionCall) → IfOk left (Everywhere x (IsTypedAt x calls)) → IfOk result (Everywhere x (IsPredicateAt x calls)) }
+    ensures in_order { (a b : List SetFunctionCall) → IfOk left (Adding typed_functions a b) → IfOk result (Adding predicate_functions a b) }
 {
     let Found { part, findings } = left?;
     Ok(Found {

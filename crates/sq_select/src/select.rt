@@ -1,6 +1,6 @@
 //! The parts of a query specification: FROM items, grouping columns, select lists (ISO/IEC 9075:1992, 7.4, 7.7, 7.9).
 
-ghost use Rattle.std.specs.Prelude.{◌≡◌, ◌||◌, ◌++◌, ◌∷◌, [], IfOk, List, None, Some, false, if◌then◌else◌, slice_get, true};
+ghost use Rattle.std.specs.Prelude.{◌≡◌, ◌||◌, ◌++◌, ◌∷◌, [], IfOk, List, None, Some, false, if◌then◌else◌, is_some, slice_get, true};
 ghost use Rattle.std.specs.List.{AllZip};
 ghost use Rattle.sq_meaning.specs.WellFormed.{of_lines};
 ghost use Rattle.sq_bound.specs.Fits.{IsOver};
@@ -10,6 +10,7 @@ ghost use Rattle.sq_bound.specs.declared.expression.Place.{Place as ColumnPlace}
 ghost use Rattle.sq_bound.specs.declared.expression.SetFunctionCall.{SetFunctionCall};
 ghost use Rattle.sq_scope.specs.Expression.{Grows};
 ghost use Rattle.sq_scope.specs.WellFormed.{AreLevelsIn, IsItemOver, allows_none, is_no_column};
+ghost use Rattle.sq_select.specs.InOrder.{Adding, AddsList, is_grouped_by, typed_functions};
 ghost use Rattle.sq_select.specs.WellFormed.{AreColumns, AreGroupingColumns, AreParts, AreSelected, Context, Everywhere, IsGroupedRightly, IsGroupingColumn, IsListAt, IsListIn, IsTypedAt, level_over};
 ghost use Rattle.sq_value.specs.declared.domain.Kind.{Kind as AnyKind};
 
@@ -147,7 +148,8 @@ pub fn group_by<'s>(
     environment: &'s Environment<'s>,
     list: &Option<CommaList<ColumnReference>>,
 ) -> GroupsResult
-    ensures { (kinds : TableKinds) (tables : List AnyPlace) (levels : Levels) → AllZip (IsItemOver kinds) tables items.now → AreLevelsIn kinds levels environment.now → IfOk result (λ found. AreGroupingColumns kinds (kinds_of_parameters environment.now.parameters.now) (of_lines tables ∷ levels) found.part) }
+    ensures well_formed { (kinds : TableKinds) (tables : List AnyPlace) (levels : Levels) → AllZip (IsItemOver kinds) tables items.now → AreLevelsIn kinds levels environment.now → IfOk result (λ found. AreGroupingColumns kinds (kinds_of_parameters environment.now.parameters.now) (of_lines tables ∷ levels) found.part) }
+    ensures some { is_some list.now ≡ true → IfOk result (λ found. is_no_column found.part ≡ false) }
 {
     grouping_columns(
         &environment.within(environment.scope_over(items, None)),
@@ -159,7 +161,8 @@ fn grouping_columns(
     environment: &Environment<'_>,
     list: &Option<CommaList<ColumnReference>>,
 ) -> GroupsResult
-    ensures { (kinds : TableKinds) (levels : Levels) → AreLevelsIn kinds levels environment.now → IfOk result (λ found. AreGroupingColumns kinds (kinds_of_parameters environment.now.parameters.now) levels found.part) }
+    ensures well_formed { (kinds : TableKinds) (levels : Levels) → AreLevelsIn kinds levels environment.now → IfOk result (λ found. AreGroupingColumns kinds (kinds_of_parameters environment.now.parameters.now) levels found.part) }
+    ensures some { is_some list.now ≡ true → IfOk result (λ found. is_no_column found.part ≡ false) }
 {
     let mut columns = Items::new(environment.alloc);
     let mut findings = Findings::NONE;
@@ -232,6 +235,7 @@ pub fn select_list<'s>(
 ) -> Result<SelectedList, BindFault>
     ensures well_formed { (kinds : TableKinds) (tables : List AnyPlace) (levels : Levels) → AllZip (IsItemOver kinds) tables items.now → AreLevelsIn kinds levels environment.now → IfOk result (IsListAt kinds (kinds_of_parameters environment.now.parameters.now) tables levels (allows_none grouping.entry) functions.new.calls) }
     ensures grows { Grows functions.old functions.new }
+    ensures in_order { IfOk result (λ s. s.is_star ≡ false → AddsList functions.old.calls functions.new.calls s) }
 {
     match list {
         SelectList::Star => all_columns(environment.alloc, items),
@@ -263,6 +267,7 @@ fn listed_columns(
 ) -> Result<SelectedList, BindFault>
     ensures well_formed { (kinds : TableKinds) → IfOk result (IsListIn kinds environment.now functions.old.allowed functions.new.calls) }
     ensures grows { Grows functions.old functions.new }
+    ensures in_order { IfOk result (AddsList functions.old.calls functions.new.calls) }
 {
     let mut selected = Ok(no_columns(environment.alloc, false));
     let first = bind_expr(&list.first, environment, functions);
@@ -287,7 +292,8 @@ fn with_column(
     name: Option<Name>,
     item: ExprResult,
 ) -> Result<SelectedList, BindFault>
-    ensures { (x : Context) (calls : List SetFunctionCall) → IfOk selected (IsListIn x.columns x.environment x.allowed calls) → IfOk item (Everywhere x (IsTypedAt x calls)) → IfOk result (IsListIn x.columns x.environment x.allowed calls) }
+    ensures well_formed { (x : Context) (calls : List SetFunctionCall) → IfOk selected (IsListIn x.columns x.environment x.allowed calls) → IfOk item (Everywhere x (IsTypedAt x calls)) → IfOk result (IsListIn x.columns x.environment x.allowed calls) }
+    ensures in_order { (a b c : List SetFunctionCall) → IfOk selected (AddsList a b) → IfOk item (Adding typed_functions b c) → IfOk result (AddsList a c) }
 {
     let (mut selected, item) = both(selected, item)?;
     let Found { part, findings } = item;
@@ -421,7 +427,8 @@ pub fn make_specification(parts: Selected) -> SubqueryResult
 impl Parts {
     /// Whether the query is grouped (7.9): by GROUP BY, by HAVING, or by a set function in its select list.
     fn is_grouped(&self) -> bool
-        ensures { result ≡ false → IsGroupedRightly self.now false }
+        ensures not_grouped { result ≡ false → IsGroupedRightly self.now false }
+        ensures grouped_by { result ≡ is_grouped_by self.now }
     {
         self.by_columns || self.having.part.is_some() || !self.functions.calls.is_empty()
     }
@@ -441,7 +448,8 @@ impl Parts {
 
     /// Whether the query is grouped, and rightly so.
     fn grouped(&self) -> Result<bool, BindFault>
-        ensures { IfOk result (IsGroupedRightly self.now) }
+        ensures rightly { IfOk result (IsGroupedRightly self.now) }
+        ensures grouped_by { IfOk result (λ is_grouped. is_grouped ≡ is_grouped_by self.now) }
     {
         if self.is_grouped() {
             self.check_grouping()?;

@@ -1,9 +1,11 @@
 -- After each call the session is whole.
-use Rattle.std.proofs.Common.{◌≡◌, ◌∙◌, ℕ, Bool, true, false, nat_eq, List, slice_set, Result, Ok, Err, IfSome, OnErr, refl, ap, sym, subst, arith}
+use Rattle.std.proofs.Common.{◌≡◌, ◌∙◌, ℕ, Bool, true, false, nat_eq, List, slice_set, None, Result, Ok, Err, IfSome, OnErr, refl, ap, sym, subst, arith}
 use Rattle.std.proofs.lemmas.Grind.{common_steps}
+use Rattle.sq_lex.specs.declared.name.Name.{Name}
 use Rattle.sq_value.specs.declared.value.Value.{Value}
 use Rattle.sq_store.specs.Content.{Content, table_at}
 use Rattle.sq_bound.specs.Fits.{AreInDomains, holds, keys_of_bases}
+use Rattle.sq_bound.specs.WellFormed.{TableKinds}
 use Rattle.sq_bound.specs.declared.names.BaseTable.{BaseTable}
 use Rattle.sq_bound.specs.declared.names.ParameterDesc.{ParameterDesc}
 use Rattle.sq_bound.specs.declared.statement.BoundStatement.{BoundStatement}
@@ -12,22 +14,24 @@ use Rattle.sq_bound.specs.declared.statement.ChangeTarget.{ChangeTarget}
 use Rattle.sq_bound.specs.declared.statement.ChangeTarget.TheVariants as target
 use Rattle.sq_meaning.specs.Status.{Outcome}
 use Rattle.sq_model.proofs.Bind.{bind_ok}
+use Rattle.sq_bound.specs.declared.statement.PositionedTarget.{PositionedTarget}
+use Rattle.sq_change.specs.Statement.{Deletes, Inserts, Updates}
 use Rattle.sq_module.specs.declared.program.DeclaredCursor.{DeclaredCursor}
 use Rattle.sq_query.specs.declared.fault.Fault.{Fault}
-use Rattle.sq_session.specs.Cursors.{IsWhole, OpenHasKinds, are_over, is_over, is_over_numbers, is_over_table}
-use Rattle.sq_session.specs.Fetch.{come_to_number, come_to_row, over_numbers, over_rows, row_on, shown_fetched}
-use Rattle.sq_session.specs.Kind.{Fetching, Over, delete_kind, fetching, kind_of, over_at, update_kind}
+use Rattle.sq_session.specs.Cursors.{IsWhole, OpenHaveKept, are_over, is_over, is_over_numbers, is_over_table}
+use Rattle.sq_session.specs.Fetch.{come_to_number, come_to_row, come_to_walk, over_numbers, over_rows, over_walk, row_on, shown_fetched}
+use Rattle.sq_session.specs.Kind.{Fetching, Over, delete_kind, fetching, kind_of, opening, over_at, update_kind}
 use Rattle.sq_session.specs.Open.{IsOpenOver, before_numbers, before_rows, numbers_opened, rows_opened, walk_before}
 use Rattle.sq_session.specs.State.{State, committed_state, cursor_at, is_open, next_number, off_row, rolled_back, with_cursor}
-use Rattle.sq_session.specs.Step.{ChangesIf, ChangesTo, Comes, DeletesIf, MayCloseIf, MayDeleteAt, MayFetchFrom, MayOpenIf, MayStep, MayUpdateAt, OpensAs, UpdatesIf, WalksIf, ending, is_on_row, is_success}
-use Rattle.sq_session.specs.Target.{is_refused}
+use Rattle.sq_session.specs.Step.{ChangesIf, ChangesTo, Comes, DeletesIf, MayCloseIf, MayDeleteAt, MayFetchFrom, MayOpenIf, MayStep, MayUpdateAt, OpensAs, UpdatesIf, ending, is_on_row, is_success, on_row}
 use Rattle.sq_session.specs.declared.cursor.CursorState.{CursorState}
 use Rattle.sq_session.specs.declared.cursor.CursorState.TheVariants as cursor
 use Rattle.sq_session.specs.declared.cursor.NumbersCursor.{NumbersCursor}
 use Rattle.sq_session.specs.declared.cursor.RowsCursor.{RowsCursor}
 use Rattle.sq_session.specs.declared.reply.Done.{Done}
 use Rattle.sq_session.specs.declared.walk.WalkingCursor.{WalkingCursor}
-use Rattle.sq_session.proofs.Listed.{kinds_after}
+use Rattle.sq_session.proofs.Kept.{kept_after}
+use Rattle.sq_session.proofs.Reached.{walk_kept}
 use Rattle.sq_session.proofs.Over.{closed_over, go_on_over, put_closed, put_like, put_off, put_over}
 
 -- the session is whole but for the tables now, of which a statement says itself that they hold rows for the base tables, with
@@ -71,10 +75,10 @@ opens_as : (bases : List BaseTable) (ds : List DeclaredCursor) (opened : Outcome
 opens_as bases ds (Ok c) n vs b d a has is h = with_one bases ds b n c a has (put_over ds b.cursors n c has.2 (opened_over (over_at ds n) vs b.tables c is)) h.1
 opens_as bases ds (Err st) n vs b d a has is h = same bases ds b a has h.1
 
-open_if : (bases : List BaseTable) (ds : List DeclaredCursor) (ps : List ParameterDesc) (is : Bool) (n : ℕ) (vs : List Value) (b : State) (d : Done) (a : State) → Others bases ds b
-    → MayOpenIf is (record { cursor = n; over = over_at ds n; parameters = ps }) vs b d a → Others bases ds a
-open_if bases ds ps true n vs b d a has h = same bases ds b a has h.1
-open_if bases ds ps false n vs b d a has h = opens_as bases ds h.0 n vs b d a has h.1 h.2
+open_if : (bases : List BaseTable) (ds : List DeclaredCursor) (user : Name) (ps : List ParameterDesc) (is : Bool) (n : ℕ) (vs : List Value) (b : State) (d : Done) (a : State) → Others bases ds b
+    → MayOpenIf is (opening ds user ps n) vs b d a → Others bases ds a
+open_if bases ds user ps true n vs b d a has h = same bases ds b a has h.1
+open_if bases ds user ps false n vs b d a has h = opens_as bases ds h.0 n vs b d a has h.1 h.3
 
 -- ---- FETCH
 
@@ -97,20 +101,20 @@ come_numbers bases ds f c (Ok come) b d a at e has h =
     (put_like ds b.cursors f.cursor (cursor.Numbers c) (cursor.Numbers come.0) has.2 at (λ o is. subst (λ (x : ℕ). is_over_numbers o x ≡ true) (sym table) is)) h.1
 come_numbers bases ds f c (Err st) b d a at e has h = same bases ds b a has h.1
 
-walks_if : (bases : List BaseTable) (ds : List DeclaredCursor) (r : Bool) (f : Fetching) (c : WalkingCursor) (b : State) (d : Done) (a : State) → cursor_at b f.cursor ≡ cursor.Walking c → Others bases ds b
-    → WalksIf r f c b d a → Others bases ds a
-walks_if bases ds true f c b d a at has h = same bases ds b a has h.1
-walks_if bases ds false f c b d a at has h =
-    let table : h.0.table ≡ c.table = ap (λ w. w.table) h.1.0 in
-    with_one bases ds b f.cursor (cursor.Walking h.0) a has
-    (put_like ds b.cursors f.cursor (cursor.Walking c) (cursor.Walking h.0) has.2 at (λ o is. subst (λ (x : ℕ). is_over_table o x ≡ true) (sym table) is)) h.2
+come_walk : (bases : List BaseTable) (ds : List DeclaredCursor) (f : Fetching) (c : WalkingCursor) (o : Outcome (WalkingCursor × Done)) (b : State) (d : Done) (a : State)
+    → cursor_at b f.cursor ≡ cursor.Walking c → come_to_walk f b.tables c ≡ o → Others bases ds b → Comes (over_walk o) f.cursor b d a → Others bases ds a
+come_walk bases ds f c (Ok come) b d a at e has h =
+    let table = ap (λ (w : WalkingCursor). w.table) (walk_kept f b.tables c come e) in
+    with_one bases ds b f.cursor (cursor.Walking come.0) a has
+    (put_like ds b.cursors f.cursor (cursor.Walking c) (cursor.Walking come.0) has.2 at (λ o is. subst (λ (x : ℕ). is_over_table o x ≡ true) (sym table) is)) h.1
+come_walk bases ds f c (Err st) b d a at e has h = same bases ds b a has h.1
 
 fetch_from : (bases : List BaseTable) (ds : List DeclaredCursor) (c : CursorState) (f : Fetching) (vs : List Value) (b : State) (d : Done) (a : State) → cursor_at b f.cursor ≡ c → Others bases ds b
     → MayFetchFrom c f vs b d a → Others bases ds a
 fetch_from bases ds cursor.Closed f vs b d a at has h = same bases ds b a has h.1
 fetch_from bases ds (cursor.Rows c) f vs b d a at has h = come_rows bases ds c (come_to_row f vs c) f.cursor b d a at has h
 fetch_from bases ds (cursor.Numbers c) f vs b d a at has h = come_numbers bases ds f c (come_to_number f b.tables c) b d a at refl has h
-fetch_from bases ds (cursor.Walking c) f vs b d a at has h = walks_if bases ds (is_refused d.status) f c b d a at has h
+fetch_from bases ds (cursor.Walking c) f vs b d a at has h = come_walk bases ds f c (come_to_walk f b.tables c) b d a at refl has h
 
 -- ---- CLOSE
 
@@ -120,8 +124,8 @@ close_if bases ds false n b d a has h = same bases ds b a has h.1
 
 -- ---- changes
 
-changes_to : (bases : List BaseTable) (ds : List DeclaredCursor) (w a : State) → Others bases ds w → ChangesTo w a → Others bases ds a
-changes_to bases ds w a has h =
+changes_to : (bases : List BaseTable) (ds : List DeclaredCursor) (Changes : Content → Content → Type 0) (w a : State) → Others bases ds w → ChangesTo Changes w a → Others bases ds a
+changes_to bases ds Changes w a has h =
     let committed : a.committed ≡ w.committed = ap (λ s. s.committed) h.0 in
     let keys : a.keys ≡ w.keys = ap (λ s. s.keys) h.0 in
     let cursors : a.cursors ≡ w.cursors = ap (λ s. s.cursors) h.0 in (
@@ -131,12 +135,12 @@ changes_to bases ds w a has h =
       subst (λ (c : Content). AreInDomains bases c) (sym committed) has.3,
     )
 
-changes_if : (bases : List BaseTable) (ds : List DeclaredCursor) (s : Bool) (b a : State) → Others bases ds b → ChangesIf s b a → Others bases ds a
-changes_if bases ds true b a has h = changes_to bases ds b a has h
-changes_if bases ds false b a has h = same bases ds b a has h
+changes_if : (bases : List BaseTable) (ds : List DeclaredCursor) (s : Bool) (Changes : Content → Content → Type 0) (b a : State) → Others bases ds b → ChangesIf s Changes b a → Others bases ds a
+changes_if bases ds true Changes b a has h = changes_to bases ds Changes b a has h
+changes_if bases ds false Changes b a has h = same bases ds b a has h
 
-updates_if : (bases : List BaseTable) (ds : List DeclaredCursor) (s : Bool) (b a : State) → Others bases ds b → UpdatesIf s b a → Others bases ds a
-updates_if bases ds true b a has h =
+updates_if : (bases : List BaseTable) (ds : List DeclaredCursor) (s : Bool) (Changes : Content → Content → Type 0) (b a : State) → Others bases ds b → UpdatesIf s Changes b a → Others bases ds a
+updates_if bases ds true Changes b a has h =
     let committed : a.committed ≡ b.committed = ap (λ s. s.committed) h.0 in
     let keys : a.keys ≡ b.keys = ap (λ s. s.keys) h.0 in (
       subst (λ (c : Content). holds bases c ≡ true) (sym committed) has.0,
@@ -144,46 +148,47 @@ updates_if bases ds true b a has h =
       go_on_over ds b.cursors a.cursors h.2 has.2,
       subst (λ (c : Content). AreInDomains bases c) (sym committed) has.3,
     )
-updates_if bases ds false b a has h = same bases ds b a has h
+updates_if bases ds false Changes b a has h = same bases ds b a has h
 
-deletes_if : (bases : List BaseTable) (ds : List DeclaredCursor) (s : Bool) (n : ℕ) (b a : State) → Others bases ds b → DeletesIf s n b a → Others bases ds a
-deletes_if bases ds true n b a has h = changes_to bases ds (with_cursor b n (off_row (cursor_at b n))) a (has.0, has.1, put_off ds b.cursors n has.2, has.3) h
-deletes_if bases ds false n b a has h = same bases ds b a has h
+deletes_if : (bases : List BaseTable) (ds : List DeclaredCursor) (s : Bool) (p : PositionedTarget) (b a : State) → Others bases ds b → DeletesIf s p b a → Others bases ds a
+deletes_if bases ds true p b a has h =
+    changes_to bases ds (Deletes (target.Positioned p) (on_row b p)) (with_cursor b p.cursor (off_row (cursor_at b p.cursor))) a (has.0, has.1, put_off ds b.cursors p.cursor has.2, has.3) h
+deletes_if bases ds false p b a has h = same bases ds b a has h
 
-update_at : (bases : List BaseTable) (ds : List DeclaredCursor) (r : Bool) (b : State) (d : Done) (a : State) → Others bases ds b → MayUpdateAt r b d a → Others bases ds a
-update_at bases ds true b d a has h = updates_if bases ds (is_success d.status) b a has h.1
-update_at bases ds false b d a has h = same bases ds b a has h.1
+update_at : (bases : List BaseTable) (ds : List DeclaredCursor) (r : Bool) (p : PositionedTarget) (b : State) (d : Done) (a : State) → Others bases ds b → MayUpdateAt r p b d a → Others bases ds a
+update_at bases ds true p b d a has h = updates_if bases ds (is_success d.status) (Updates (target.Positioned p) (on_row b p)) b a has h.1
+update_at bases ds false p b d a has h = same bases ds b a has h.1
 
-delete_at : (bases : List BaseTable) (ds : List DeclaredCursor) (r : Bool) (n : ℕ) (b : State) (d : Done) (a : State) → Others bases ds b → MayDeleteAt r n b d a → Others bases ds a
-delete_at bases ds true n b d a has h = deletes_if bases ds (is_success d.status) n b a has h.1
-delete_at bases ds false n b d a has h = same bases ds b a has h.1
+delete_at : (bases : List BaseTable) (ds : List DeclaredCursor) (r : Bool) (p : PositionedTarget) (b : State) (d : Done) (a : State) → Others bases ds b → MayDeleteAt r p b d a → Others bases ds a
+delete_at bases ds true p b d a has h = deletes_if bases ds (is_success d.status) p b a has h.1
+delete_at bases ds false p b d a has h = same bases ds b a has h.1
 
 of_update : (bases : List BaseTable) (ds : List DeclaredCursor) (t : ChangeTarget) (vs : List Value) (b : State) (d : Done) (a : State) → Others bases ds b → MayStep (update_kind t) vs b d a → Others bases ds a
-of_update bases ds (target.Searched t) vs b d a has h = updates_if bases ds (is_success d.status) b a has h.1
-of_update bases ds (target.Positioned p) vs b d a has h = update_at bases ds (is_on_row b p) b d a has h
+of_update bases ds (target.Searched t) vs b d a has h = updates_if bases ds (is_success d.status) (Updates (target.Searched t) None) b a has h.1
+of_update bases ds (target.Positioned p) vs b d a has h = update_at bases ds (is_on_row b p) p b d a has h
 
 of_delete : (bases : List BaseTable) (ds : List DeclaredCursor) (t : ChangeTarget) (vs : List Value) (b : State) (d : Done) (a : State) → Others bases ds b → MayStep (delete_kind t) vs b d a → Others bases ds a
-of_delete bases ds (target.Searched t) vs b d a has h = changes_if bases ds (is_success d.status) b a has h.1
-of_delete bases ds (target.Positioned p) vs b d a has h = delete_at bases ds (is_on_row b p) p.cursor b d a has h
+of_delete bases ds (target.Searched t) vs b d a has h = changes_if bases ds (is_success d.status) (Deletes (target.Searched t) None) b a has h.1
+of_delete bases ds (target.Positioned p) vs b d a has h = delete_at bases ds (is_on_row b p) p b d a has h
 
 -- ---- a statement
 
-after_statement : (bases : List BaseTable) (ds : List DeclaredCursor) (ps : List ParameterDesc) (s : BoundStatement) (vs : List Value) (b : State) (d : Done) (a : State) → IsWhole bases ds b
-    → MayStep (kind_of ds ps s) vs b d a → Others bases ds a
-after_statement bases ds ps (statement.Open n) vs b d a has h = open_if bases ds ps (is_open (cursor_at b n)) n vs b d a (has.1, has.2, has.3, has.5) h
-after_statement bases ds ps (statement.Fetch f) vs b d a has h = fetch_from bases ds (cursor_at b f.cursor) (fetching ds ps f) vs b d a refl (has.1, has.2, has.3, has.5) h
-after_statement bases ds ps (statement.Close n) vs b d a has h = close_if bases ds (is_open (cursor_at b n)) n b d a (has.1, has.2, has.3, has.5) h
-after_statement bases ds ps (statement.Select s) vs b d a has h = same bases ds b a (has.1, has.2, has.3, has.5) h.0
-after_statement bases ds ps (statement.Insert i) vs b d a has h = changes_if bases ds (is_success d.status) b a (has.1, has.2, has.3, has.5) h.1
-after_statement bases ds ps (statement.Update u) vs b d a has h = of_update bases ds u.target vs b d a (has.1, has.2, has.3, has.5) h
-after_statement bases ds ps (statement.Delete t) vs b d a has h = of_delete bases ds t vs b d a (has.1, has.2, has.3, has.5) h
-after_statement bases ds ps statement.Commit vs b d a has h = same bases ds (committed_state b) a (has.0, has.2, closed_over ds b.cursors has.3, has.4) h.1
-after_statement bases ds ps statement.Rollback vs b d a has h = same bases ds (rolled_back b) a (has.1, has.2, closed_over ds b.cursors has.3, has.5) h.1
+after_statement : (columns : TableKinds) (bases : List BaseTable) (ds : List DeclaredCursor) (user : Name) (ps : List ParameterDesc) (s : BoundStatement) (vs : List Value) (b : State) (d : Done) (a : State) → IsWhole columns bases ds b
+    → MayStep (kind_of ds user ps s) vs b d a → Others bases ds a
+after_statement columns bases ds user ps (statement.Open n) vs b d a has h = open_if bases ds user ps (is_open (cursor_at b n)) n vs b d a (has.1, has.2, has.3, has.5) h
+after_statement columns bases ds user ps (statement.Fetch f) vs b d a has h = fetch_from bases ds (cursor_at b f.cursor) (fetching ds user ps f) vs b d a refl (has.1, has.2, has.3, has.5) h
+after_statement columns bases ds user ps (statement.Close n) vs b d a has h = close_if bases ds (is_open (cursor_at b n)) n b d a (has.1, has.2, has.3, has.5) h
+after_statement columns bases ds user ps (statement.Select s) vs b d a has h = same bases ds b a (has.1, has.2, has.3, has.5) h.0
+after_statement columns bases ds user ps (statement.Insert i) vs b d a has h = changes_if bases ds (is_success d.status) (Inserts i.base) b a (has.1, has.2, has.3, has.5) h.1
+after_statement columns bases ds user ps (statement.Update u) vs b d a has h = of_update bases ds u.target vs b d a (has.1, has.2, has.3, has.5) h
+after_statement columns bases ds user ps (statement.Delete t) vs b d a has h = of_delete bases ds t vs b d a (has.1, has.2, has.3, has.5) h
+after_statement columns bases ds user ps statement.Commit vs b d a has h = same bases ds (committed_state b) a (has.0, has.2, closed_over ds b.cursors has.3, has.4) h.1
+after_statement columns bases ds user ps statement.Rollback vs b d a has h = same bases ds (rolled_back b) a (has.1, has.2, closed_over ds b.cursors has.3, has.5) h.1
 
 -- a statement that is refused changes nothing
-pub after : (bases : List BaseTable) (ds : List DeclaredCursor) (ps : List ParameterDesc) (s : BoundStatement) (vs : List Value) (b : State) (r : Result Done Fault) (a : State) → IsWhole bases ds b
-    → holds bases a.tables ≡ true → AreInDomains bases a.tables → OpenHasKinds ds s a.cursors → IfSome (ending r) (λ d. MayStep (kind_of ds ps s) vs b d a) → OnErr r (a ≡ b) → IsWhole bases ds a
-after bases ds ps s vs b (Ok d) a has rows domains opened h unchanged =
-    let o = after_statement bases ds ps s vs b d a has h in
-    (rows, o.0, o.1, o.2, domains, o.3, kinds_after ds ps s vs b d a has.6 opened h)
-after bases ds ps s vs b (Err f) a has rows domains opened h unchanged = subst (λ s. IsWhole bases ds s) (sym unchanged) has
+pub after : (columns : TableKinds) (bases : List BaseTable) (ds : List DeclaredCursor) (user : Name) (ps : List ParameterDesc) (s : BoundStatement) (vs : List Value) (b : State) (r : Result Done Fault) (a : State) → IsWhole columns bases ds b
+    → holds bases a.tables ≡ true → AreInDomains bases a.tables → OpenHaveKept columns ds s a.cursors → IfSome (ending r) (λ d. MayStep (kind_of ds user ps s) vs b d a) → OnErr r (a ≡ b) → IsWhole columns bases ds a
+after columns bases ds user ps s vs b (Ok d) a has rows domains opened h unchanged =
+    let o = after_statement columns bases ds user ps s vs b d a has h in
+    (rows, o.0, o.1, o.2, domains, o.3, kept_after columns ds user ps s vs b d a has.6 opened h)
+after columns bases ds user ps s vs b (Err f) a has rows domains opened h unchanged = subst (λ s. IsWhole columns bases ds s) (sym unchanged) has

@@ -1,11 +1,14 @@
 -- What the parts of a statement ask for, where the statement is well formed and its parameters have values of their kinds.
-use Rattle.std.proofs.Common.{◌≡◌, ◌<◌, ℕ, zero, suc, Bool, true, false, if◌then◌else◌, List, [], ◌∷◌, length, get_or, None, Result, Ok, Err, IfOk, sym, ◌∙◌, subst, arith}
+use Rattle.std.proofs.Common.{◌≡◌, ◌<◌, ℕ, zero, suc, Bool, true, false, if◌then◌else◌, List, [], ◌∷◌, length, get_or, None, Result, Ok, Err, IfOk, sym, subst, arith}
+use Rattle.sq_lex.specs.declared.name.Name.{Name}
 use Rattle.sq_value.specs.declared.domain.Kind.{Kind}
 use Rattle.sq_value.specs.declared.value.Value.{Value}
 use Rattle.sq_store.specs.Content.{Content}
 use Rattle.sq_meaning.specs.Status.{Outcome}
 use Rattle.sq_bound.specs.Fits.{under}
-use Rattle.sq_bound.specs.WellFormed.{IsCursor, IsStatement, TableKinds, kinds_of_query}
+use Rattle.sq_meaning.specs.WellFormed.{AreRowsOf}
+use Rattle.sq_bound.specs.WellFormed.{IsCursor, IsStatement, TableKinds, kinds_of_query, kinds_of_results}
+use Rattle.sq_bound.specs.declared.query.BoundCursor.{BoundCursor}
 use Rattle.sq_bound.specs.declared.query.BoundQuery.{BoundQuery}
 use Rattle.sq_bound.specs.declared.query.Target.{Target}
 use Rattle.sq_bound.specs.declared.statement.BoundInsert.{BoundInsert}
@@ -14,11 +17,10 @@ use Rattle.sq_bound.specs.declared.statement.BoundUpdate.{BoundUpdate}
 use Rattle.sq_change.specs.Given.{MayAssign, MayGive}
 use Rattle.sq_module.specs.Program.{OpensWellFormed}
 use Rattle.sq_module.specs.declared.program.DeclaredCursor.{DeclaredCursor}
-use Rattle.sq_query.specs.Fault.{Meets}
 use Rattle.sq_query.specs.declared.fault.Fault.{Fault}
-use Rattle.sq_session.specs.Cursors.{HasListed}
+use Rattle.sq_session.specs.Cursors.{HasKept, HasListed, MayKeep}
 use Rattle.sq_session.specs.Kind.{Over, over_target}
-use Rattle.sq_session.specs.Open.{HasOpened, numbers_opened, walk_before}
+use Rattle.sq_session.specs.Open.{HasOpened, IsOpenOver, TargetIsMeant, numbers_opened, walk_before}
 use Rattle.sq_session.specs.Parameter.{AreGiven}
 use Rattle.sq_session.specs.declared.cursor.CursorState.{CursorState}
 use Rattle.sq_session.specs.declared.cursor.CursorState.TheVariants as cursor
@@ -43,34 +45,34 @@ cursor_there columns kinds [] n d h lt = absurd (omega (arith, lt))
 cursor_there columns kinds (x ∷ ds) zero d h lt = h
 cursor_there columns kinds (x ∷ ds) (suc n) d h lt = cursor_there columns kinds ds n d h (omega (arith, lt))
 
--- what has listed rows of the kinds of a query has listed them of its cursor's
-pub listed_as : (kinds : List Kind) (q : BoundQuery) (r : Result CursorState Fault) → kinds ≡ kinds_of_query q → IfOk r (HasListed (kinds_of_query q)) → IfOk r (HasListed kinds)
-listed_as kinds q r e h = rw e h
+-- what has listed rows of the kinds of its query keeps them
+pub rows_kept : (columns : TableKinds) (d : BoundCursor) (q : BoundQuery) (r : Result CursorState Fault) → kinds_of_results d.columns ≡ kinds_of_query q → IfOk r (HasListed (kinds_of_query q)) → IfOk r (HasKept columns d)
+rows_kept columns d q (Err f) e h = tt
+rows_kept columns d q (Ok cursor.Closed) e h = tt
+rows_kept columns d q (Ok (cursor.Rows c)) e h = subst (λ (kinds : List Kind). AreRowsOf kinds c.rows) (sym e) h
+rows_kept columns d q (Ok (cursor.Numbers c)) e h = tt
+rows_kept columns d q (Ok (cursor.Walking c)) e h = absurd h
 
--- an updatable cursor has listed no rows
-walk_lists : (kinds : List Kind) (values : List Value) (tables : Content) (table : ℕ) (r : Result CursorState Fault) → HasOpened (Over.walk table) values tables r → IfOk r (HasListed kinds)
-walk_lists kinds values tables table (Err f) h = tt
-walk_lists kinds values tables table (Ok c) h =
-    let walks : Outcome CursorState = Ok (cursor.Walking (walk_before tables table values)) in
-    let first : h.0 ≡ walks = h.1 in
-    let met : h.0 ≡ Ok c = h.2 in
-    let same : cursor.Walking (walk_before tables table values) ≡ c = cc in
-    subst (λ (x : CursorState). HasListed kinds x) same tt
+-- an updatable cursor keeps no rows, and one that walks the values of the parameters
+walk_kept : (columns : TableKinds) (d : BoundCursor) (values : List Value) (tables : Content) (table : ℕ) (c : CursorState) → MayKeep columns d values
+    → (◌≡◌ {A = Outcome CursorState} (Ok c) (Ok (cursor.Walking (walk_before tables table values)))) → HasKept columns d c
+walk_kept columns d values tables table c may h =
+    let same : c ≡ cursor.Walking (walk_before tables table values) = cc in
+    subst (λ (x : CursorState). HasKept columns d x) (sym same) may
 
-numbers_found : (kinds : List Kind) (table : ℕ) (found : Outcome (List ℕ)) (c : CursorState) → numbers_opened table found ≡ Ok c → HasListed kinds c
-numbers_found kinds table (Ok numbers) c e =
-    let same : cursor.Numbers (record { table = table; numbers = numbers; passed = 0; on = None }) ≡ c = cc in
-    subst (λ (x : CursorState). HasListed kinds x) same tt
-numbers_found kinds table (Err st) c e = cc
+numbers_kept : (columns : TableKinds) (d : BoundCursor) (table : ℕ) (found : Outcome (List ℕ)) (c : CursorState) → Ok c ≡ numbers_opened table found → HasKept columns d c
+numbers_kept columns d table (Ok numbers) c e =
+    let same : c ≡ cursor.Numbers (record { table = table; numbers = numbers; passed = 0; on = None }) = cc in
+    subst (λ (x : CursorState). HasKept columns d x) (sym same) tt
+numbers_kept columns d table (Err st) c e = cc
 
-numbers_lists : (kinds : List Kind) (values : List Value) (tables : Content) (table : ℕ) (r : Result CursorState Fault) → HasOpened (Over.numbers table) values tables r → IfOk r (HasListed kinds)
-numbers_lists kinds values tables table (Err f) h = tt
-numbers_lists kinds values tables table (Ok c) h = numbers_found kinds table h.1.0 c (sym h.1.1 ∙ h.2)
+by_quiet : (columns : TableKinds) (d : BoundCursor) (values : List Value) (tables : Content) (quiet : Bool) (base : ℕ) (c : CursorState) → MayKeep columns d values
+    → IsOpenOver (if quiet then Over.walk base else Over.numbers base) values tables (Ok c) → HasKept columns d c
+by_quiet columns d values tables true base c may h = walk_kept columns d values tables base c may h
+by_quiet columns d values tables false base c may h = numbers_kept columns d base h.0 c h.1
 
-by_quiet : (kinds : List Kind) (values : List Value) (tables : Content) (quiet : Bool) (base : ℕ) (r : Result CursorState Fault)
-    → HasOpened (if quiet then Over.walk base else Over.numbers base) values tables r → IfOk r (HasListed kinds)
-by_quiet kinds values tables true base r h = walk_lists kinds values tables base r h
-by_quiet kinds values tables false base r h = numbers_lists kinds values tables base r h
-
-pub updatable_lists : (kinds : List Kind) (t : Target) (values : List Value) (tables : Content) (r : Result CursorState Fault) → HasOpened (over_target t) values tables r → IfOk r (HasListed kinds)
-updatable_lists kinds t values tables r h = by_quiet kinds values tables t.is_quiet t.base r h
+pub updatable_kept : (columns : TableKinds) (d : BoundCursor) (parameters : List Kind) (t : Target) (user : Name) (values : List Value) (tables : Content) (r : Result CursorState Fault)
+    → IsCursor columns parameters d → AreGiven parameters values → HasOpened (over_target t) (TargetIsMeant t user values tables) values tables r → IfOk r (HasKept columns d)
+updatable_kept columns d parameters t user values tables (Err f) is given h = tt
+updatable_kept columns d parameters t user values tables (Ok c) is given h =
+    by_quiet columns d values tables t.is_quiet t.base c (record { parameters = parameters; is_cursor = is; given = given_row parameters values given }) h.0

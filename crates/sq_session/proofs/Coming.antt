@@ -2,6 +2,7 @@
 use Rattle.std.proofs.Common.{◌≡◌, ◌<◌, ℕ, zero, suc, Bool, true, false, List, [], ◌∷◌, length, map, nat_eq, find, get_or, slice_get, slice_index_or, Option, Some, None, refl, sym, ◌∙◌, subst, arith}
 use Rattle.std.specs.List.{AllByRecursion, AllZip}
 use Rattle.std.specs.Option.{option_map}
+use Rattle.sq_lex.specs.declared.name.Name.{Name}
 use Rattle.sq_value.specs.Domain.{IsOfKind, kind_of}
 use Rattle.sq_value.specs.Key.{in_columns}
 use Rattle.sq_value.specs.declared.domain.Kind.{Kind}
@@ -17,6 +18,7 @@ use Rattle.sq_model.proofs.KindLaws.{of_its_kind}
 use Rattle.sq_model.specs.Cursor.{row_at as row_of}
 use Rattle.sq_bound.specs.Fits.{AreInDomains, AreRowsIn, FitsBody, IsRowIn}
 use Rattle.sq_bound.specs.WellFormed.{IsCursor, IsCursorBody, IsDistance, IsOrientation, TableKinds, TakeKinds, kinds_of_parameters, kinds_of_results}
+use Rattle.sq_bound.specs.declared.condition.BoundCond.{BoundCond}
 use Rattle.sq_bound.specs.declared.names.BaseColumn.{BaseColumn}
 use Rattle.sq_bound.specs.declared.names.BaseTable.{BaseTable}
 use Rattle.sq_bound.specs.declared.names.ParameterDesc.{ParameterDesc}
@@ -31,9 +33,9 @@ use Rattle.sq_bound.specs.declared.statement.FetchOrientation.TheVariants as ori
 use Rattle.sq_bound.specs.declared.statement.Output.{Output as Target}
 use Rattle.sq_module.specs.Program.{CursorsAreWellFormed, CursorsFit, kinds_of_cursors}
 use Rattle.sq_module.specs.declared.program.DeclaredCursor.{DeclaredCursor}
-use Rattle.sq_session.specs.Cursors.{HasListed, HaveKinds, are_over, is_over, is_over_numbers}
+use Rattle.sq_session.specs.Cursors.{HasKept, HaveKept, are_over, is_over, is_over_numbers}
 use Rattle.sq_session.specs.Fetch.{HasNumber, IsFetch, MayTakeFrom, MayTakeShown, MeansPlace, row_on, whole_number}
-use Rattle.sq_session.specs.Kind.{Fetching, columns_at, columns_of, fetching, over_of}
+use Rattle.sq_session.specs.Kind.{Fetching, columns_at, columns_of, conditions_at, fetching, over_of}
 use Rattle.sq_session.specs.Parameter.{AreGiven, IsGiven}
 use Rattle.sq_session.specs.Target.{MayTake, MayTakeRows}
 use Rattle.sq_session.specs.declared.cursor.CursorState.{CursorState}
@@ -70,7 +72,7 @@ place_meant ks vs (orientation.Relative d) g h = distance_given ks vs d g h
 
 -- ---- a row of a base table
 
-row_kinds : (columns : List BaseColumn) (row : List Value) → IsRowIn columns row → IsRowOf (map (λ (c : BaseColumn). kind_of c.domain) columns) row
+pub row_kinds : (columns : List BaseColumn) (row : List Value) → IsRowIn columns row → IsRowOf (map (λ (c : BaseColumn). kind_of c.domain) columns) row
 row_kinds [] [] h = tt
 row_kinds [] (v ∷ row) h = absurd h
 row_kinds (c ∷ columns) [] h = absurd h
@@ -88,7 +90,7 @@ columns_kinds ks row [] (k ∷ kinds) h at = absurd at
 columns_kinds ks row (p ∷ columns) [] h at = absurd at
 columns_kinds ks row (p ∷ columns) (k ∷ kinds) h at = (kind_there ks row p k h at.0, columns_kinds ks row columns kinds h at.1)
 
-rows_in : (bases : List BaseTable) (tables : Content) (p : ℕ) (b : BaseTable) → AreInDomains bases tables → slice_get bases p ≡ Some b → AreRowsIn b.columns (table_at tables p).rows
+pub rows_in : (bases : List BaseTable) (tables : Content) (p : ℕ) (b : BaseTable) → AreInDomains bases tables → slice_get bases p ≡ Some b → AreRowsIn b.columns (table_at tables p).rows
 rows_in [] tables p b h at = cc
 rows_in (x ∷ bases) [] p b h at = absurd h
 rows_in (x ∷ bases) (t ∷ ts) zero b h at = let same : x ≡ b = cc in subst (λ (y : BaseTable). AreRowsIn y.columns t.rows) same h.0
@@ -120,34 +122,34 @@ body_taken columns bases tables parameters kinds (body.Updatable u) table ps ts 
     query_taken columns bases tables parameters kinds u table ps ts in_domains fits is takes (over_quiet u.target.is_quiet u.target.base table over)
 
 -- those of a cursor
-cursor_taken : (columns : TableKinds) (bases : List BaseTable) (tables : Content) (parameters : List Kind) (d : DeclaredCursor) (c : CursorState) (n : ℕ) (o : FetchOrientation) (ps : List ParameterDesc)
-    (ts : List Target) → AreInDomains bases tables → FitsBody bases d.cursor.body → IsCursor columns parameters d.cursor → TakeKinds (kinds_of_parameters ps) ts (kinds_of_results d.cursor.columns)
-    → is_over (over_of d.cursor.body) c ≡ true → HasListed (kinds_of_results d.cursor.columns) c
-    → MayTakeFrom (record { cursor = n; orientation = o; columns = columns_of d.cursor.body; parameters = ps; targets = ts }) tables c
-cursor_taken columns bases tables parameters d cursor.Closed n o ps ts in_domains fits is takes over has = tt
-cursor_taken columns bases tables parameters d (cursor.Rows c) n o ps ts in_domains fits is takes over has = rows_taken ps ts (kinds_of_results d.cursor.columns) c.rows takes has
-cursor_taken columns bases tables parameters d (cursor.Numbers c) n o ps ts in_domains fits is takes over has =
+cursor_taken : (columns : TableKinds) (bases : List BaseTable) (tables : Content) (parameters : List Kind) (d : DeclaredCursor) (c : CursorState) (n : ℕ) (o : FetchOrientation) (conditions : List BoundCond) (user : Name)
+    (ps : List ParameterDesc) (ts : List Target) → AreInDomains bases tables → FitsBody bases d.cursor.body → IsCursor columns parameters d.cursor → TakeKinds (kinds_of_parameters ps) ts (kinds_of_results d.cursor.columns)
+    → is_over (over_of d.cursor.body) c ≡ true → HasKept columns d.cursor c
+    → MayTakeFrom (record { cursor = n; orientation = o; columns = columns_of d.cursor.body; conditions = conditions; user = user; parameters = ps; targets = ts }) tables c
+cursor_taken columns bases tables parameters d cursor.Closed n o conditions user ps ts in_domains fits is takes over has = tt
+cursor_taken columns bases tables parameters d (cursor.Rows c) n o conditions user ps ts in_domains fits is takes over has = rows_taken ps ts (kinds_of_results d.cursor.columns) c.rows takes has
+cursor_taken columns bases tables parameters d (cursor.Numbers c) n o conditions user ps ts in_domains fits is takes over has =
     body_taken columns bases tables parameters (kinds_of_results d.cursor.columns) d.cursor.body c.table ps ts in_domains fits is takes over
-cursor_taken columns bases tables parameters d (cursor.Walking c) n o ps ts in_domains fits is takes over has =
+cursor_taken columns bases tables parameters d (cursor.Walking c) n o conditions user ps ts in_domains fits is takes over has =
     body_taken columns bases tables parameters (kinds_of_results d.cursor.columns) d.cursor.body c.table ps ts in_domains fits is takes (as_numbers (over_of d.cursor.body) c.table over)
 
-at_taken : (columns : TableKinds) (bases : List BaseTable) (tables : Content) (ds : List DeclaredCursor) (cs : List CursorState) (i n : ℕ) (o : FetchOrientation) (ps : List ParameterDesc) (ts : List Target)
-    (c : CursorState) → AreInDomains bases tables → CursorsFit bases ds → CursorsAreWellFormed columns ds → are_over ds cs ≡ true → HaveKinds ds cs
+at_taken : (columns : TableKinds) (bases : List BaseTable) (tables : Content) (ds : List DeclaredCursor) (cs : List CursorState) (i n : ℕ) (o : FetchOrientation) (conditions : List BoundCond) (user : Name)
+    (ps : List ParameterDesc) (ts : List Target) (c : CursorState) → AreInDomains bases tables → CursorsFit bases ds → CursorsAreWellFormed columns ds → are_over ds cs ≡ true → HaveKept columns ds cs
     → Has (TakeKinds (kinds_of_parameters ps) ts) (well_formed (slice_get (kinds_of_cursors ds) i)) → i < length cs
-    → MayTakeFrom (record { cursor = n; orientation = o; columns = columns_at ds i; parameters = ps; targets = ts }) tables (get_or cs i c)
-at_taken columns bases tables [] cs i n o ps ts c in_domains fit are over have takes lt = absurd takes
-at_taken columns bases tables (d ∷ ds) [] i n o ps ts c in_domains fit are over have takes lt = absurd have
-at_taken columns bases tables (d ∷ ds) (x ∷ cs) zero n o ps ts c in_domains fit are over have takes lt =
-    cursor_taken columns bases tables are.0.0 d x n o ps ts in_domains fit.0 are.0.1 takes (both (is_over (over_of d.cursor.body) x) (are_over ds cs) over).0 have.0
-at_taken columns bases tables (d ∷ ds) (x ∷ cs) (suc i) n o ps ts c in_domains fit are over have takes lt =
-    at_taken columns bases tables ds cs i n o ps ts c in_domains fit.1 are.1 (both (is_over (over_of d.cursor.body) x) (are_over ds cs) over).1 have.1 takes (omega (arith, lt))
+    → MayTakeFrom (record { cursor = n; orientation = o; columns = columns_at ds i; conditions = conditions; user = user; parameters = ps; targets = ts }) tables (get_or cs i c)
+at_taken columns bases tables [] cs i n o conditions user ps ts c in_domains fit are over have takes lt = absurd takes
+at_taken columns bases tables (d ∷ ds) [] i n o conditions user ps ts c in_domains fit are over have takes lt = absurd have
+at_taken columns bases tables (d ∷ ds) (x ∷ cs) zero n o conditions user ps ts c in_domains fit are over have takes lt =
+    cursor_taken columns bases tables are.0.0 d x n o conditions user ps ts in_domains fit.0 are.0.1 takes (both (is_over (over_of d.cursor.body) x) (are_over ds cs) over).0 have.0
+at_taken columns bases tables (d ∷ ds) (x ∷ cs) (suc i) n o conditions user ps ts c in_domains fit are over have takes lt =
+    at_taken columns bases tables ds cs i n o conditions user ps ts c in_domains fit.1 are.1 (both (is_over (over_of d.cursor.body) x) (are_over ds cs) over).1 have.1 takes (omega (arith, lt))
 
 -- those of the cursor that a FETCH names
-pub fetched_taken : (columns : TableKinds) (bases : List BaseTable) (tables : Content) (ds : List DeclaredCursor) (cs : List CursorState) (ps : List ParameterDesc) (f : BoundFetch) (c : CursorState)
-    → AreInDomains bases tables → CursorsFit bases ds → CursorsAreWellFormed columns ds → are_over ds cs ≡ true → HaveKinds ds cs
-    → IsFetch (kinds_of_cursors ds) (kinds_of_parameters ps) f → f.cursor < length cs → MayTakeFrom (fetching ds ps f) tables (get_or cs f.cursor c)
-fetched_taken columns bases tables ds cs ps f c in_domains fit are over have asked lt =
-    at_taken columns bases tables ds cs f.cursor f.cursor f.orientation ps f.outputs c in_domains fit are over have asked.1 lt
+pub fetched_taken : (columns : TableKinds) (bases : List BaseTable) (tables : Content) (ds : List DeclaredCursor) (cs : List CursorState) (user : Name) (ps : List ParameterDesc) (f : BoundFetch) (c : CursorState)
+    → AreInDomains bases tables → CursorsFit bases ds → CursorsAreWellFormed columns ds → are_over ds cs ≡ true → HaveKept columns ds cs
+    → IsFetch (kinds_of_cursors ds) (kinds_of_parameters ps) f → f.cursor < length cs → MayTakeFrom (fetching ds user ps f) tables (get_or cs f.cursor c)
+fetched_taken columns bases tables ds cs user ps f c in_domains fit are over have asked lt =
+    at_taken columns bases tables ds cs f.cursor f.cursor f.orientation (conditions_at ds f.cursor) user ps f.outputs c in_domains fit are over have asked.1 lt
 
 -- ---- a row that it comes to
 

@@ -7,15 +7,13 @@ use Rattle.sq_store.specs.Content.{Content}
 use Rattle.sq_store.specs.Keys.{Keys}
 use Rattle.sq_query.specs.declared.fault.Fault.{Fault}
 use Rattle.sq_query.specs.declared.fault.Fault.TheVariants as fault
-use Rattle.sq_session.specs.Fetch.{HasCome, HasFetched, HasWalked}
+use Rattle.sq_session.specs.Fetch.{HasCome, HasFetched}
 use Rattle.sq_session.specs.Kind.{Fetching}
 use Rattle.sq_session.specs.State.{State, cursor_at, with_cursor}
-use Rattle.sq_session.specs.Step.{Comes, MayFetch, MayFetchFrom, WalksIf, ending}
-use Rattle.sq_session.specs.Target.{is_refused}
+use Rattle.sq_session.specs.Step.{Comes, MayFetch, MayFetchFrom, ending}
 use Rattle.sq_session.specs.declared.cursor.CursorState.{CursorState}
 use Rattle.sq_session.specs.declared.cursor.CursorState.TheVariants as cursor
 use Rattle.sq_session.specs.declared.reply.Done.{Done}
-use Rattle.sq_session.specs.declared.walk.WalkingCursor.{WalkingCursor}
 
 come : (r : Result Done Fault) (now : CursorState) (wanted : Outcome (CursorState × Done)) (n : ℕ) (b a : State)
     → HasCome r now wanted → OnErr r (a ≡ b) → a ≡ with_cursor b n now → IfSome (ending r) (λ d. Comes wanted n b d a)
@@ -23,23 +21,14 @@ come (Ok d) now wanted n b a h same put = rw h (refl, put)
 come (Err (fault.Status f)) now wanted n b a h same put = rw h (refl, same)
 come (Err fault.NoMemory) now wanted n b a h same put = tt
 
-walked : (f : Fetching) (c e : WalkingCursor) (r : Result Done Fault) (b a : State)
-    → HasWalked f b.tables c r e → OnErr r (a ≡ b) → a ≡ with_cursor b f.cursor (cursor.Walking e) → IfSome (ending r) (λ d. WalksIf (is_refused d.status) f c b d a)
-walked f c e (Ok d) b a h same put = rw h.0 (e, h.1, put)
-walked f c e (Err (fault.Status s)) b a h same put = rw h (refl, same)
-walked f c e (Err fault.NoMemory) b a h same put = tt
-
 may_fetch_from : (c now : CursorState) (f : Fetching) (values : List Value) (r : Result Done Fault) (b a : State)
     → HasFetched f values b.tables c r now → OnErr r (a ≡ b) → a ≡ with_cursor b f.cursor now → IfSome (ending r) (λ d. MayFetchFrom c f values b d a)
 may_fetch_from cursor.Closed now f values r b a h same put = let P : Result Done Fault → Type 0 = λ x. OnErr x (a ≡ b) in rw h (refl, subst P h same)
 may_fetch_from (cursor.Rows c) now f values r b a h same put = come r now _ f.cursor b a h same put
 may_fetch_from (cursor.Numbers c) now f values r b a h same put = come r now _ f.cursor b a h same put
-may_fetch_from (cursor.Walking c) (cursor.Walking e) f values r b a h same put = walked f c e r b a h same put
-may_fetch_from (cursor.Walking c) cursor.Closed f values r b a h same put = absurd h
-may_fetch_from (cursor.Walking c) (cursor.Rows e) f values r b a h same put = absurd h
-may_fetch_from (cursor.Walking c) (cursor.Numbers e) f values r b a h same put = absurd h
+may_fetch_from (cursor.Walking c) now f values r b a h same put = come r now _ f.cursor b a h same put
 
--- where the cursors are those before with one put in its stead
+-- where the cursors are those before with one put in its place
 pub may_fetch : (f : Fetching) (values : List Value) (tables committed : Content) (keys : List Keys) (cs : List CursorState) (old now : CursorState) (r : Result Done Fault)
     → f.cursor < length cs → old ≡ get_or cs f.cursor old → HasFetched f values tables old r now → OnErr r (now ≡ old)
     → IfSome (ending r) (λ d. MayFetch f values (record { tables = tables; committed = committed; keys = keys; cursors = cs }) d

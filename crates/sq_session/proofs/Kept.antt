@@ -1,91 +1,204 @@
--- A call that ends with another status than success leaves the tables as they were.
-use Rattle.std.proofs.Common.{◌≡◌, ℕ, Bool, true, false, List, Option, Some, None, Ok, Err, ap, subst}
+-- Open cursors keep the rows that they have listed, and the values with which they were opened.
+use Rattle.std.proofs.Common.{◌≡◌, ℕ, zero, suc, Bool, true, false, List, [], ◌∷◌, length, get_or, None, replicate, slice_index_or, slice_set, Ok, Err, refl, ap, sym, subst}
+use Rattle.sq_lex.specs.declared.name.Name.{Name}
 use Rattle.sq_value.specs.declared.value.Value.{Value}
+use Rattle.sq_store.specs.Content.{Content}
 use Rattle.sq_meaning.specs.Status.{Outcome}
-use Rattle.sq_session.specs.Fetch.{come_to_number, come_to_row, over_numbers, over_rows}
-use Rattle.sq_session.specs.Kind.{Fetching, Kind, Opening, read_parameters}
-use Rattle.sq_session.specs.Parameter.{started_values}
-use Rattle.sq_session.specs.State.{State, committed_state, cursor_at, is_open, rolled_back}
-use Rattle.sq_session.specs.Step.{ChangesIf, Comes, DeletesIf, Ends, MayCall, MayCloseIf, MayDeleteAt, MayFetchFrom, MayOpenIf, MayStep, MayUpdateAt, OpensAs, UpdatesIf, WalksIf, is_on_row, is_success}
-use Rattle.sq_session.specs.Target.{is_refused}
+use Rattle.sq_meaning.specs.WellFormed.{AreRowsOf}
+use Rattle.sq_model.proofs.Bind.{bind_ok}
+use Rattle.sq_model.specs.Cursor.{row_at as row_of}
+use Rattle.sq_bound.specs.WellFormed.{TableKinds, kinds_of_results}
+use Rattle.sq_bound.specs.declared.names.ParameterDesc.{ParameterDesc}
+use Rattle.sq_bound.specs.declared.query.BoundCursor.{BoundCursor}
+use Rattle.sq_bound.specs.declared.statement.BoundStatement.{BoundStatement}
+use Rattle.sq_bound.specs.declared.statement.BoundStatement.TheVariants as statement
+use Rattle.sq_bound.specs.declared.statement.ChangeTarget.{ChangeTarget}
+use Rattle.sq_bound.specs.declared.statement.ChangeTarget.TheVariants as target
+use Rattle.sq_bound.specs.declared.statement.PositionedTarget.{PositionedTarget}
+use Rattle.sq_change.specs.Statement.{Deletes, Inserts, Updates}
+use Rattle.sq_module.specs.declared.program.DeclaredCursor.{DeclaredCursor}
+use Rattle.sq_session.specs.Cursors.{GoOn, GoesOn, HasKept, HaveKept, MayKeep, OpenHaveKept, WalksOn}
+use Rattle.sq_session.specs.Fetch.{come_to_number, come_to_row, come_to_walk, over_numbers, over_rows, over_walk, place_reached, row_come_to, row_fetched}
+use Rattle.sq_session.specs.Kind.{Fetching, delete_kind, fetching, kind_of, update_kind}
+use Rattle.sq_session.specs.State.{State, all_closed, committed_state, cursor_at, is_open, off_row, rolled_back, with_cursor}
+use Rattle.sq_session.specs.Step.{ChangesIf, ChangesTo, Comes, DeletesIf, MayCloseIf, MayDeleteAt, MayFetchFrom, MayStep, MayUpdateAt, UpdatesIf, is_on_row, is_success, on_row}
 use Rattle.sq_session.specs.declared.cursor.CursorState.{CursorState}
 use Rattle.sq_session.specs.declared.cursor.CursorState.TheVariants as cursor
+use Rattle.sq_session.specs.declared.cursor.NumbersCursor.{NumbersCursor}
+use Rattle.sq_session.specs.declared.cursor.RowsCursor.{RowsCursor}
 use Rattle.sq_session.specs.declared.reply.Done.{Done}
 use Rattle.sq_session.specs.declared.walk.WalkingCursor.{WalkingCursor}
+use Rattle.sq_session.proofs.Reached.{walk_kept}
 
-abbrev Kept : State → State → Type 0
-Kept b a = a.tables ≡ b.tables
+module _ (columns : TableKinds) where
+  -- ---- a cursor that is put in place of another
 
-same : (b a : State) → a ≡ b → Kept b a
-same b a h = ap (λ s. s.tables) h
+  -- one that has listed what the other had, or nothing
+  pub put_like : (ds : List DeclaredCursor) (cs : List CursorState) (n : ℕ) (c e : CursorState) → HaveKept columns ds cs → slice_index_or cs n cursor.Closed ≡ c
+      → ((k : BoundCursor) → HasKept columns k c → HasKept columns k e) → HaveKept columns ds (slice_set cs n e)
+  put_like [] [] n c e h at like = h
+  put_like [] (x ∷ xs) n c e h at like = absurd h
+  put_like (d ∷ ds) [] n c e h at like = h
+  put_like (d ∷ ds) (x ∷ xs) zero c e h at like =
+      (like d.cursor (subst (λ (y : CursorState). HasKept columns d.cursor y) at h.0), h.1)
+  put_like (d ∷ ds) (x ∷ xs) (suc n) c e h at like = (h.0, put_like ds xs n c e h.1 at like)
 
--- ---- cursors
+  -- one that has listed rows of its columns' kinds
+  pub put_kept : (ds : List DeclaredCursor) (cs : List CursorState) (n : ℕ) (d : DeclaredCursor) (e : CursorState) → HaveKept columns ds cs
+      → HasKept columns (get_or ds n d).cursor e → HaveKept columns ds (slice_set cs n e)
+  put_kept [] [] n d e h is = h
+  put_kept [] (x ∷ xs) n d e h is = absurd h
+  put_kept (y ∷ ds) [] n d e h is = h
+  put_kept (y ∷ ds) (x ∷ xs) zero d e h is = (is, h.1)
+  put_kept (y ∷ ds) (x ∷ xs) (suc n) d e h is = (h.0, put_kept ds xs n d e h.1 is)
 
-opens_as : (o : Outcome CursorState) (n : ℕ) (b : State) (d : Done) (a : State) → OpensAs o n b d a → Kept b a
-opens_as (Ok c) n b d a h = ap (λ s. s.tables) h.1
-opens_as (Err st) n b d a h = same b a h.1
+  -- ---- all of them
 
-open_if : (is : Bool) (o : Opening) (vs : List Value) (b : State) (d : Done) (a : State) → MayOpenIf is o vs b d a → Kept b a
-open_if true o vs b d a h = same b a h.1
-open_if false o vs b d a h = opens_as h.0 o.cursor b d a h.2
+  pub start_kept : (ds : List DeclaredCursor) → HaveKept columns ds (replicate (length ds) cursor.Closed)
+  start_kept [] = tt
+  start_kept (d ∷ ds) = (tt, start_kept ds)
 
-comes : (o : Outcome (CursorState × Done)) (n : ℕ) (b : State) (d : Done) (a : State) → Comes o n b d a → Kept b a
-comes (Ok come) n b d a h = ap (λ s. s.tables) h.1
-comes (Err st) n b d a h = same b a h.1
+  closed_kept : (ds : List DeclaredCursor) (cs : List CursorState) → HaveKept columns ds cs → HaveKept columns ds (all_closed cs)
+  closed_kept [] [] h = tt
+  closed_kept [] (x ∷ xs) h = absurd h
+  closed_kept (d ∷ ds) [] h = absurd h
+  closed_kept (d ∷ ds) (x ∷ xs) h = (tt, closed_kept ds xs h.1)
 
-walks_if : (r : Bool) (f : Fetching) (c : WalkingCursor) (b : State) (d : Done) (a : State) → WalksIf r f c b d a → Kept b a
-walks_if true f c b d a h = same b a h.1
-walks_if false f c b d a h = ap (λ s. s.tables) h.2
+  walks_on : (k : BoundCursor) (w : WalkingCursor) (a : CursorState) → WalksOn w a → HasKept columns k (cursor.Walking w) → HasKept columns k a
+  walks_on k w cursor.Closed g h = tt
+  walks_on k w (cursor.Rows c) g h = absurd g
+  walks_on k w (cursor.Numbers c) g h = tt
+  walks_on k w (cursor.Walking c) g h = rw g h
 
-fetch_from : (c : CursorState) (f : Fetching) (vs : List Value) (b : State) (d : Done) (a : State) → MayFetchFrom c f vs b d a → Kept b a
-fetch_from cursor.Closed f vs b d a h = same b a h.1
-fetch_from (cursor.Rows c) f vs b d a h = comes (over_rows (come_to_row f vs c)) f.cursor b d a h
-fetch_from (cursor.Numbers c) f vs b d a h = comes (over_numbers (come_to_number f b.tables c)) f.cursor b d a h
-fetch_from (cursor.Walking c) f vs b d a h = walks_if (is_refused d.status) f c b d a h
+  goes_on : (k : BoundCursor) (b a : CursorState) → GoesOn b a → HasKept columns k b → HasKept columns k a
+  goes_on k cursor.Closed a g h = rw g h
+  goes_on k (cursor.Rows c) a g h = rw g h
+  goes_on k (cursor.Numbers c) a g h = rw g h
+  goes_on k (cursor.Walking c) a g h = walks_on k c a g h
 
-close_if : (o : Bool) (n : ℕ) (b : State) (d : Done) (a : State) → MayCloseIf o n b d a → Kept b a
-close_if true n b d a h = ap (λ s. s.tables) h.1
-close_if false n b d a h = same b a h.1
+  go_on : (ds : List DeclaredCursor) (xs ys : List CursorState) → GoOn xs ys → HaveKept columns ds xs → HaveKept columns ds ys
+  go_on ds [] [] g h = h
+  go_on ds [] (y ∷ ys) g h = absurd g
+  go_on ds (x ∷ xs) [] g h = absurd g
+  go_on [] (x ∷ xs) (y ∷ ys) g h = absurd h
+  go_on (d ∷ ds) (x ∷ xs) (y ∷ ys) g h = (goes_on d.cursor x y g.0 h.0, go_on ds xs ys g.1 h.1)
 
--- ---- changes
+  off_kept : (k : BoundCursor) (c : CursorState) → HasKept columns k c → HasKept columns k (off_row c)
+  off_kept k cursor.Closed h = h
+  off_kept k (cursor.Rows c) h = h
+  off_kept k (cursor.Numbers c) h = h
+  off_kept k (cursor.Walking c) h = h
 
-changes_if : (s : Bool) (b a : State) → ChangesIf s b a → s ≡ false → Kept b a
-changes_if true b a h e = cc
-changes_if false b a h e = same b a h
+  -- ---- a state
 
-updates_if : (s : Bool) (b a : State) → UpdatesIf s b a → s ≡ false → Kept b a
-updates_if true b a h e = cc
-updates_if false b a h e = same b a h
+  same : (ds : List DeclaredCursor) (b a : State) → HaveKept columns ds b.cursors → a ≡ b → HaveKept columns ds a.cursors
+  same ds b a h e = subst (λ (s : State). HaveKept columns ds s.cursors) (sym e) h
 
-deletes_if : (s : Bool) (n : ℕ) (b a : State) → DeletesIf s n b a → s ≡ false → Kept b a
-deletes_if true n b a h e = cc
-deletes_if false n b a h e = same b a h
+  -- ---- FETCH
 
-update_at : (r : Bool) (b : State) (d : Done) (a : State) → MayUpdateAt r b d a → is_success d.status ≡ false → Kept b a
-update_at true b d a h e = updates_if (is_success d.status) b a h.1 e
-update_at false b d a h e = same b a h.1
+  ok_same : {A : Type 0} (x y : A) (o : Outcome A) → o ≡ Ok x → o ≡ Ok y → x ≡ y
+  ok_same x y o h k = cc
 
-delete_at : (r : Bool) (n : ℕ) (b : State) (d : Done) (a : State) → MayDeleteAt r n b d a → is_success d.status ≡ false → Kept b a
-delete_at true n b d a h e = deletes_if (is_success d.status) n b a h.1 e
-delete_at false n b d a h e = same b a h.1
+  row_listed : (f : Fetching) (vs : List Value) (c : RowsCursor) (come : RowsCursor × Done) → come_to_row f vs c ≡ Ok come → come.0.rows ≡ c.rows
+  row_listed f vs c come e =
+      let reached = bind_ok (place_reached vs f.orientation (length c.rows) c.place) (row_come_to f c) come e in
+      let moved : RowsCursor = record c { place = reached.0 } in
+      let shown = bind_ok (row_fetched f (row_of c.rows reached.0)) (λ d. Ok (moved, d)) come reached.2 in
+      sym (ap (λ x. x.0.rows) (ok_same (moved, shown.0) come (Ok (moved, shown.0)) refl shown.2))
 
--- ---- a statement, and a call
+  come_rows : (ds : List DeclaredCursor) (f : Fetching) (vs : List Value) (c : RowsCursor) (o : Outcome (RowsCursor × Done)) (b : State) (d : Done) (a : State)
+      → cursor_at b f.cursor ≡ cursor.Rows c → come_to_row f vs c ≡ o → HaveKept columns ds b.cursors → Comes (over_rows o) f.cursor b d a → HaveKept columns ds a.cursors
+  come_rows ds f vs c (Ok come) b d a at e has h =
+      let rows = row_listed f vs c come e in
+      same ds (with_cursor b f.cursor (cursor.Rows come.0)) a
+      (put_like ds b.cursors f.cursor (cursor.Rows c) (cursor.Rows come.0) has at (λ k is. subst (λ (rs : List (List Value)). AreRowsOf (kinds_of_results k.columns) rs) (sym rows) is)) h.1
+  come_rows ds f vs c (Err st) b d a at e has h = same ds b a has h.1
 
-ends : (w b : State) (d : Done) (a : State) → Ends w d a → is_success d.status ≡ false → Kept b a
-ends w b d a h e = let k : true ≡ false = subst (λ x. is_success x.status ≡ false) h.0 e in cc
+  come_numbers : (ds : List DeclaredCursor) (o : Outcome (NumbersCursor × Done)) (n : ℕ) (b : State) (d : Done) (a : State) → HaveKept columns ds b.cursors → Comes (over_numbers o) n b d a → HaveKept columns ds a.cursors
+  come_numbers ds (Ok come) n b d a has h =
+      same ds (with_cursor b n (cursor.Numbers come.0)) a (put_like ds b.cursors n (cursor_at b n) (cursor.Numbers come.0) has refl (λ k is. tt)) h.1
+  come_numbers ds (Err st) n b d a has h = same ds b a has h.1
 
-step : (k : Kind) (vs : List Value) (b : State) (d : Done) (a : State) → MayStep k vs b d a → is_success d.status ≡ false → Kept b a
-step (Kind.opens o) vs b d a h e = open_if (is_open (cursor_at b o.cursor)) o vs b d a h
-step (Kind.fetches f) vs b d a h e = fetch_from (cursor_at b f.cursor) f vs b d a h
-step (Kind.closes n) vs b d a h e = close_if (is_open (cursor_at b n)) n b d a h
-step (Kind.selects s) vs b d a h e = same b a h.0
-step Kind.changes vs b d a h e = changes_if (is_success d.status) b a h.1 e
-step Kind.updates vs b d a h e = updates_if (is_success d.status) b a h.1 e
-step (Kind.updates_at p) vs b d a h e = update_at (is_on_row b p) b d a h e
-step (Kind.deletes_at p) vs b d a h e = delete_at (is_on_row b p) p.cursor b d a h e
-step Kind.commits vs b d a h e = ends (committed_state b) b d a h e
-step Kind.rolls_back vs b d a h e = ends (rolled_back b) b d a h e
+  come_walk : (ds : List DeclaredCursor) (f : Fetching) (c : WalkingCursor) (o : Outcome (WalkingCursor × Done)) (b : State) (d : Done) (a : State)
+      → cursor_at b f.cursor ≡ cursor.Walking c → come_to_walk f b.tables c ≡ o → HaveKept columns ds b.cursors → Comes (over_walk o) f.cursor b d a → HaveKept columns ds a.cursors
+  come_walk ds f c (Ok come) b d a at e has h =
+      let values = ap (λ (w : WalkingCursor). w.values) (walk_kept f b.tables c come e) in
+      same ds (with_cursor b f.cursor (cursor.Walking come.0)) a
+      (put_like ds b.cursors f.cursor (cursor.Walking c) (cursor.Walking come.0) has at (λ k is. subst (λ (vs : List Value). MayKeep columns k vs) (sym values) is)) h.1
+  come_walk ds f c (Err st) b d a at e has h = same ds b a has h.1
 
-pub kept_by_failure : (k : Option Kind) (vs : List Value) (b : State) (d : Done) (a : State) → MayCall k vs b d a → is_success d.status ≡ false → a.tables ≡ b.tables
-kept_by_failure None vs b d a h e = same b a h.1
-kept_by_failure (Some k) vs b d a h e = step k (started_values (read_parameters k) vs) b d a h e
+  fetch_from : (ds : List DeclaredCursor) (c : CursorState) (f : Fetching) (vs : List Value) (b : State) (d : Done) (a : State) → cursor_at b f.cursor ≡ c → HaveKept columns ds b.cursors
+      → MayFetchFrom c f vs b d a → HaveKept columns ds a.cursors
+  fetch_from ds cursor.Closed f vs b d a at has h = same ds b a has h.1
+  fetch_from ds (cursor.Rows c) f vs b d a at has h = come_rows ds f vs c (come_to_row f vs c) b d a at refl has h
+  fetch_from ds (cursor.Numbers c) f vs b d a at has h = come_numbers ds (come_to_number f b.tables c) f.cursor b d a has h
+  fetch_from ds (cursor.Walking c) f vs b d a at has h = come_walk ds f c (come_to_walk f b.tables c) b d a at refl has h
+
+  -- ---- CLOSE
+
+  close_if : (ds : List DeclaredCursor) (o : Bool) (n : ℕ) (b : State) (d : Done) (a : State) → HaveKept columns ds b.cursors → MayCloseIf o n b d a → HaveKept columns ds a.cursors
+  close_if ds true n b d a has h = same ds (with_cursor b n cursor.Closed) a (put_like ds b.cursors n (cursor_at b n) cursor.Closed has refl (λ k is. tt)) h.1
+  close_if ds false n b d a has h = same ds b a has h.1
+
+  -- ---- changes
+
+  changes_to : (ds : List DeclaredCursor) (Changes : Content → Content → Type 0) (w a : State) → HaveKept columns ds w.cursors → ChangesTo Changes w a → HaveKept columns ds a.cursors
+  changes_to ds Changes w a has h =
+      let cursors : a.cursors ≡ w.cursors = ap (λ s. s.cursors) h.0 in
+      subst (λ (cs : List CursorState). HaveKept columns ds cs) (sym cursors) has
+
+  changes_if : (ds : List DeclaredCursor) (s : Bool) (Changes : Content → Content → Type 0) (b a : State) → HaveKept columns ds b.cursors → ChangesIf s Changes b a → HaveKept columns ds a.cursors
+  changes_if ds true Changes b a has h = changes_to ds Changes b a has h
+  changes_if ds false Changes b a has h = same ds b a has h
+
+  updates_if : (ds : List DeclaredCursor) (s : Bool) (Changes : Content → Content → Type 0) (b a : State) → HaveKept columns ds b.cursors → UpdatesIf s Changes b a → HaveKept columns ds a.cursors
+  updates_if ds true Changes b a has h = go_on ds b.cursors a.cursors h.2 has
+  updates_if ds false Changes b a has h = same ds b a has h
+
+  deletes_if : (ds : List DeclaredCursor) (s : Bool) (p : PositionedTarget) (b a : State) → HaveKept columns ds b.cursors → DeletesIf s p b a → HaveKept columns ds a.cursors
+  deletes_if ds true p b a has h =
+      changes_to ds (Deletes (target.Positioned p) (on_row b p)) (with_cursor b p.cursor (off_row (cursor_at b p.cursor))) a
+      (put_like ds b.cursors p.cursor (cursor_at b p.cursor) (off_row (cursor_at b p.cursor)) has refl (λ k is. off_kept k (cursor_at b p.cursor) is)) h
+  deletes_if ds false p b a has h = same ds b a has h
+
+  update_at : (ds : List DeclaredCursor) (r : Bool) (p : PositionedTarget) (b : State) (d : Done) (a : State) → HaveKept columns ds b.cursors → MayUpdateAt r p b d a → HaveKept columns ds a.cursors
+  update_at ds true p b d a has h = updates_if ds (is_success d.status) (Updates (target.Positioned p) (on_row b p)) b a has h.1
+  update_at ds false p b d a has h = same ds b a has h.1
+
+  delete_at : (ds : List DeclaredCursor) (r : Bool) (p : PositionedTarget) (b : State) (d : Done) (a : State) → HaveKept columns ds b.cursors → MayDeleteAt r p b d a → HaveKept columns ds a.cursors
+  delete_at ds true p b d a has h = deletes_if ds (is_success d.status) p b a has h.1
+  delete_at ds false p b d a has h = same ds b a has h.1
+
+  of_update : (ds : List DeclaredCursor) (t : ChangeTarget) (vs : List Value) (b : State) (d : Done) (a : State) → HaveKept columns ds b.cursors → MayStep (update_kind t) vs b d a → HaveKept columns ds a.cursors
+  of_update ds (target.Searched t) vs b d a has h = updates_if ds (is_success d.status) (Updates (target.Searched t) None) b a has h.1
+  of_update ds (target.Positioned p) vs b d a has h = update_at ds (is_on_row b p) p b d a has h
+
+  of_delete : (ds : List DeclaredCursor) (t : ChangeTarget) (vs : List Value) (b : State) (d : Done) (a : State) → HaveKept columns ds b.cursors → MayStep (delete_kind t) vs b d a → HaveKept columns ds a.cursors
+  of_delete ds (target.Searched t) vs b d a has h = changes_if ds (is_success d.status) (Deletes (target.Searched t) None) b a has h.1
+  of_delete ds (target.Positioned p) vs b d a has h = delete_at ds (is_on_row b p) p b d a has h
+
+  -- ---- a statement
+
+  pub open_kept : (ds : List DeclaredCursor) (s : BoundStatement) (cs : List CursorState) → HaveKept columns ds cs → OpenHaveKept columns ds s cs
+  open_kept ds (statement.Open n) cs h = h
+  open_kept ds (statement.Fetch f) cs h = tt
+  open_kept ds (statement.Close n) cs h = tt
+  open_kept ds (statement.Select s) cs h = tt
+  open_kept ds (statement.Insert i) cs h = tt
+  open_kept ds (statement.Update u) cs h = tt
+  open_kept ds (statement.Delete t) cs h = tt
+  open_kept ds statement.Commit cs h = tt
+  open_kept ds statement.Rollback cs h = tt
+
+  -- after an OPEN they have listed rows of their kinds, and after any other statement they still do
+  pub kept_after : (ds : List DeclaredCursor) (user : Name) (ps : List ParameterDesc) (s : BoundStatement) (vs : List Value) (b : State) (d : Done) (a : State) → HaveKept columns ds b.cursors
+      → OpenHaveKept columns ds s a.cursors → MayStep (kind_of ds user ps s) vs b d a → HaveKept columns ds a.cursors
+  kept_after ds user ps (statement.Open n) vs b d a has opened h = opened
+  kept_after ds user ps (statement.Fetch f) vs b d a has opened h = fetch_from ds (cursor_at b f.cursor) (fetching ds user ps f) vs b d a refl has h
+  kept_after ds user ps (statement.Close n) vs b d a has opened h = close_if ds (is_open (cursor_at b n)) n b d a has h
+  kept_after ds user ps (statement.Select s) vs b d a has opened h = same ds b a has h.0
+  kept_after ds user ps (statement.Insert i) vs b d a has opened h = changes_if ds (is_success d.status) (Inserts i.base) b a has h.1
+  kept_after ds user ps (statement.Update u) vs b d a has opened h = of_update ds u.target vs b d a has h
+  kept_after ds user ps (statement.Delete t) vs b d a has opened h = of_delete ds t vs b d a has h
+  kept_after ds user ps statement.Commit vs b d a has opened h = same ds (committed_state b) a (closed_kept ds b.cursors has) h.1
+  kept_after ds user ps statement.Rollback vs b d a has opened h = same ds (rolled_back b) a (closed_kept ds b.cursors has) h.1

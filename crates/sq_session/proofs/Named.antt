@@ -34,7 +34,7 @@ pub number_is : (cs : List DeclaredCursor) («module» name : Name) (es : List E
 number_is cs «module» name es = ap₂ (λ n m. cond (nat_lt n m) (Some n) None) (same_place cs «module» name es) (same_length cs es)
 
 -- what its statement is, is so of its entry's
-pub kind_is : (cs : List DeclaredCursor) (es : List Entry) (n : ℕ) (e : Entry) (s : BoundStatement) → slice_get es n ≡ Some e → e.1.statement ≡ Ok s → kind_at (procedures_of cs es) n ≡ Some (kind_of cs e.1.parameters s)
+pub kind_is : (cs : List DeclaredCursor) (es : List Entry) (n : ℕ) (e : Entry) (s : BoundStatement) → slice_get es n ≡ Some e → e.1.statement ≡ Ok s → kind_at (procedures_of cs es) n ≡ Some (kind_of cs e.1.user e.1.parameters s)
 kind_is cs [] n e s h k = cc
 kind_is cs (x ∷ es) zero e s h k = grind (arith, h, k)
 kind_is cs (x ∷ es) (suc n) e s h k = kind_is cs es n e s h k

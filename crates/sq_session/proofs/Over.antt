@@ -73,7 +73,7 @@ over_here (y ∷ ds) [] i d c h lt = none_over y ds h
 over_here (y ∷ ds) (x ∷ xs) zero d c h lt = (first_over y ds x xs h).0
 over_here (y ∷ ds) (x ∷ xs) (suc i) d c h lt = over_here ds xs i d c (first_over y ds x xs h).1 (omega (arith, lt))
 
--- ---- a cursor that is put in the stead of another
+-- ---- a cursor that is put in place of another
 
 -- over what the other was
 pub put_like : (ds : List DeclaredCursor) (cs : List CursorState) (i : ℕ) (c e : CursorState) → are_over ds cs ≡ true → slice_index_or cs i cursor.Closed ≡ c

@@ -1,4 +1,4 @@
--- A cursor that is put in the stead of another.
+-- A cursor that is put in place of another.
 use Rattle.std.proofs.Common.{◌≡◌, ◌≤◌, ℕ, zero, suc, List, [], ◌∷◌, length, slice_set, slice_index_or, refl, ap, arith}
 use Rattle.std.proofs.lemmas.List.{set-get_or}
 use Rattle.sq_session.specs.declared.cursor.CursorState.{CursorState}

@@ -1,5 +1,6 @@
 -- A statement reads the values of those parameters that its kind names.
 use Rattle.std.proofs.Common.{List, Option, Some, None, IfSome}
+use Rattle.sq_lex.specs.declared.name.Name.{Name}
 use Rattle.sq_value.specs.declared.value.Value.{Value}
 use Rattle.sq_bound.specs.declared.names.ParameterDesc.{ParameterDesc}
 use Rattle.sq_bound.specs.declared.statement.BoundStatement.{BoundStatement}
@@ -21,19 +22,19 @@ of_delete : (t : ChangeTarget) (vs ws : List Value) (b : State) (d : Done) (a : 
 of_delete (target.Searched t) vs ws b d a h = h
 of_delete (target.Positioned p) vs ws b d a h = h
 
-done_as_read : (cs : List DeclaredCursor) (ps : List ParameterDesc) (s : BoundStatement) (vs : List Value) (b : State) (d : Done) (a : State)
-    → MayStep (kind_of cs ps s) (started_values ps vs) b d a → MayStep (kind_of cs ps s) (started_values (read_parameters (kind_of cs ps s)) vs) b d a
-done_as_read cs ps (statement.Open n) vs b d a h = h
-done_as_read cs ps (statement.Fetch f) vs b d a h = h
-done_as_read cs ps (statement.Close n) vs b d a h = h
-done_as_read cs ps (statement.Select s) vs b d a h = h
-done_as_read cs ps (statement.Insert i) vs b d a h = h
-done_as_read cs ps (statement.Update u) vs b d a h = of_update u.target _ _ b d a h
-done_as_read cs ps (statement.Delete t) vs b d a h = of_delete t _ _ b d a h
-done_as_read cs ps statement.Commit vs b d a h = h
-done_as_read cs ps statement.Rollback vs b d a h = h
+done_as_read : (cs : List DeclaredCursor) (user : Name) (ps : List ParameterDesc) (s : BoundStatement) (vs : List Value) (b : State) (d : Done) (a : State)
+    → MayStep (kind_of cs user ps s) (started_values ps vs) b d a → MayStep (kind_of cs user ps s) (started_values (read_parameters (kind_of cs user ps s)) vs) b d a
+done_as_read cs user ps (statement.Open n) vs b d a h = h
+done_as_read cs user ps (statement.Fetch f) vs b d a h = h
+done_as_read cs user ps (statement.Close n) vs b d a h = h
+done_as_read cs user ps (statement.Select s) vs b d a h = h
+done_as_read cs user ps (statement.Insert i) vs b d a h = h
+done_as_read cs user ps (statement.Update u) vs b d a h = of_update u.target _ _ b d a h
+done_as_read cs user ps (statement.Delete t) vs b d a h = of_delete t _ _ b d a h
+done_as_read cs user ps statement.Commit vs b d a h = h
+done_as_read cs user ps statement.Rollback vs b d a h = h
 
-pub as_read : (cs : List DeclaredCursor) (ps : List ParameterDesc) (s : BoundStatement) (vs : List Value) (b : State) (o : Option Done) (a : State)
-    → IfSome o (λ d. MayStep (kind_of cs ps s) (started_values ps vs) b d a) → IfSome o (λ d. MayStep (kind_of cs ps s) (started_values (read_parameters (kind_of cs ps s)) vs) b d a)
-as_read cs ps s vs b None a h = tt
-as_read cs ps s vs b (Some d) a h = done_as_read cs ps s vs b d a h
+pub as_read : (cs : List DeclaredCursor) (user : Name) (ps : List ParameterDesc) (s : BoundStatement) (vs : List Value) (b : State) (o : Option Done) (a : State)
+    → IfSome o (λ d. MayStep (kind_of cs user ps s) (started_values ps vs) b d a) → IfSome o (λ d. MayStep (kind_of cs user ps s) (started_values (read_parameters (kind_of cs user ps s)) vs) b d a)
+as_read cs user ps s vs b None a h = tt
+as_read cs user ps s vs b (Some d) a h = done_as_read cs user ps s vs b d a h

@@ -1,16 +1,13 @@
 -- A walk over a table by rising numbers.
-use Rattle.std.proofs.Common.{◌≡◌, ℕ, ◌+◌, ◌<◌, ◌≤◌, Bool, true, false, nat_eq, nat_le, List, [], ◌∷◌, arith, refl, Some, None, find, filter, subst, ap}
+use Rattle.std.proofs.Common.{◌≡◌, ℕ, ◌+◌, ◌<◌, ◌≤◌, Bool, true, false, nat_eq, nat_le, nat_lt, List, [], ◌∷◌, arith, refl, Some, None, find, filter, subst, ap}
 use Rattle.std.specs.Option.{option_map}
 use Rattle.std.proofs.lemmas.Grind.{common_steps}
 use Rattle.sq_store.specs.declared.table.Numbered.{Numbered}
 use Rattle.sq_store.specs.Content.{Content, first_from, table_at}
 use Rattle.sq_store.specs.Rising.{rising_between, all_rising}
 use Rattle.sq_session.specs.Fetch.{row_on}
+use Rattle.sq_session.specs.Walk.{rows_between, rows_from}
 use Rattle.sq_store.proofs.Rises.{rows_rise_at, next_at}
-
--- the rows at or after a number
-abbrev pub rows_from : ℕ → List Numbered → List Numbered
-rows_from number rows = filter (λ r. nat_le number r.number) rows
 
 -- below all numbers, these are all rows
 rows_from_low : (low number : ℕ) (rs : List Numbered) (next : ℕ) → rising_between low rs next ≡ true → number ≤ low → rows_from number rs ≡ rs
@@ -93,3 +90,37 @@ found_row content table number f e = ap (λ o. option_map (λ (r : Numbered). r.
 -- what is found from a number is not before it
 pub found_behind : (content : Content) (table number : ℕ) (f : Numbered) → first_from (table_at content table) number ≡ Some f → number ≤ f.number
 found_behind content table number f e = found_from number (table_at content table).rows f e
+
+-- ---- before a mark
+
+none_before : (number mark : ℕ) (rs : List Numbered) → mark ≤ number → rows_between number mark rs ≡ []
+none_before number mark [] le = refl
+none_before number mark (r ∷ rs) le = grind (arith, common_steps, none_before number mark rs)
+
+-- the row found from a number is the first of those, and the others come after it
+pub between_next : (row_numbers : ℕ) (content : Content) (table number mark : ℕ) (f : Numbered) → all_rising row_numbers content ≡ true → first_from (table_at content table) number ≡ Some f → f.number < mark
+    → rows_between number mark (table_at content table).rows ≡ f ∷ rows_between (f.number + 1) mark (table_at content table).rows
+between_next row_numbers content table number mark f h e lt =
+    let next = walked row_numbers content table number f h e in
+    let below : nat_lt f.number mark ≡ true = grind (arith, common_steps) in
+    rw (next, below) refl
+
+-- where it isn't before the mark there are none
+pub between_past : (row_numbers : ℕ) (content : Content) (table number mark : ℕ) (f : Numbered) → all_rising row_numbers content ≡ true → first_from (table_at content table) number ≡ Some f → mark ≤ f.number
+    → rows_between number mark (table_at content table).rows ≡ []
+between_past row_numbers content table number mark f h e le =
+    let next = walked row_numbers content table number f h e in
+    let beyond : nat_lt f.number mark ≡ false = grind (arith, common_steps) in
+    let others : rows_between (f.number + 1) mark (table_at content table).rows ≡ [] = none_before (f.number + 1) mark (table_at content table).rows (omega (arith, le)) in
+    rw (next, beyond) others
+
+pub between_end : (content : Content) (table number mark : ℕ) → first_from (table_at content table) number ≡ None → rows_between number mark (table_at content table).rows ≡ []
+between_end content table number mark e = ap (λ rows. filter (λ (r : Numbered). nat_lt r.number mark) rows) (rows_from_none number (table_at content table).rows e)
+
+-- ---- the first that passes a test
+
+pub find_first : (test : Numbered → Bool) (r : Numbered) (rs : List Numbered) → test r ≡ true → find test (r ∷ rs) ≡ Some r
+find_first test r rs h = rw h refl
+
+pub find_later : (test : Numbered → Bool) (r : Numbered) (rs : List Numbered) → test r ≡ false → find test (r ∷ rs) ≡ find test rs
+find_later test r rs h = rw h refl

@@ -21,7 +21,7 @@ use Rattle.sq_query.specs.declared.fault.Failure.{Failure}
 use Rattle.sq_bound.specs.WellFormed.{TakeKinds, TakesKind, kinds_of_parameters}
 use Rattle.sq_bound.specs.declared.names.ParameterDesc.{ParameterDesc}
 use Rattle.sq_bound.specs.declared.statement.Output.{Output as Target}
-use Rattle.sq_session.specs.Target.{MayTake, MayTakeRows, domain_at, each_set, ended, fits, is_refused, null_set, reply_of, row_reply, row_set, set_behind, set_in, target_set, target_set_in, value_set}
+use Rattle.sq_session.specs.Target.{MayTake, MayTakeRows, domain_at, each_set, ended, fits, is_refused, null_set, row_reply, row_set, set_behind, set_in, target_set, target_set_in, value_set}
 use Rattle.sq_session.specs.declared.reply.Done.{Done}
 use Rattle.sq_session.specs.declared.target.Assignments.{Assignments}
 

@@ -1,12 +1,14 @@
 -- The cursors of a session: one for each that a module declares, closed or over what that one goes over (ISO/IEC 9075:1992,
 -- 4.21).
-use Rattle.std.specs.Prelude.{◌≡◌, ⊤, ℕ, Bool, true, false, ◌&&◌, nat_eq, List, [], ◌∷◌}
+use Rattle.std.specs.Prelude.{◌≡◌, ⊤, ℕ, Bool, true, false, ◌&&◌, nat_eq, List, [], ◌∷◌, slice_get, IfSome}
 use Rattle.std.specs.List.{AllZip}
 use Rattle.sq_value.specs.declared.domain.Kind.{Kind}
-use Rattle.sq_meaning.specs.WellFormed.{AreRowsOf}
+use Rattle.sq_value.specs.declared.value.Value.{Value}
+use Rattle.sq_meaning.specs.WellFormed.{AreRowsOf, IsRowOf}
 use Rattle.sq_bound.specs.Fits.{AreInDomains, holds, keys_of_bases}
-use Rattle.sq_bound.specs.WellFormed.{kinds_of_results}
+use Rattle.sq_bound.specs.WellFormed.{IsCursor, TableKinds, kinds_of_results}
 use Rattle.sq_bound.specs.declared.names.BaseTable.{BaseTable}
+use Rattle.sq_bound.specs.declared.query.BoundCursor.{BoundCursor}
 use Rattle.sq_bound.specs.declared.statement.BoundStatement.{BoundStatement}
 use Rattle.sq_bound.specs.declared.statement.BoundStatement.TheVariants as statement
 use Rattle.sq_module.specs.declared.program.DeclaredCursor.{DeclaredCursor}
@@ -55,33 +57,47 @@ are_over [] (c ∷ cs) = false
 are_over (d ∷ ds) [] = false
 are_over (d ∷ ds) (c ∷ cs) = is_over (over_of d.cursor.body) c && are_over ds cs
 
--- ---- the rows that cursors have listed
+-- ---- what open cursors keep
 
--- one over rows has listed rows of these kinds
+-- rows of these kinds
 abbrev pub HasListed : List Kind → CursorState → Type 0
-HasListed kinds cursor.Closed = ⊤
 HasListed kinds (cursor.Rows c) = AreRowsOf kinds c.rows
-HasListed kinds (cursor.Numbers c) = ⊤
-HasListed kinds (cursor.Walking c) = ⊤
+HasListed kinds _ = ⊥
 
--- each has listed rows of the kinds of its columns
-abbrev pub HaveKinds : List DeclaredCursor → List CursorState → Type 0
-HaveKinds = AllZip (λ d c. HasListed (kinds_of_results d.cursor.columns) c)
+-- values of parameters with which a cursor is well formed
+pub record MayKeep (columns : TableKinds) (declared : BoundCursor) (values : List Value) : Type 0 where
+  pub parameters : List Kind
+  pub is_cursor : IsCursor columns parameters declared
+  pub given : IsRowOf parameters values
+
+-- one over rows has listed rows of the kinds of its columns; one that walks keeps the values of the parameters it was opened with
+abbrev pub HasKept : TableKinds → BoundCursor → CursorState → Type 0
+HasKept columns declared cursor.Closed = ⊤
+HasKept columns declared (cursor.Rows c) = AreRowsOf (kinds_of_results declared.columns) c.rows
+HasKept columns declared (cursor.Numbers c) = ⊤
+HasKept columns declared (cursor.Walking c) = MayKeep columns declared c.values
+
+-- where the cursor is the one that is declared with a number
+abbrev pub HasKeptAt : TableKinds → List DeclaredCursor → ℕ → CursorState → Type 0
+HasKeptAt columns declared number c = IfSome (slice_get declared number) (λ d. HasKept columns d.cursor c)
+
+abbrev pub HaveKept : TableKinds → List DeclaredCursor → List CursorState → Type 0
+HaveKept columns = AllZip (λ d c. HasKept columns d.cursor c)
 
 -- after an OPEN they have
-abbrev pub OpenHasKinds : List DeclaredCursor → BoundStatement → List CursorState → Type 0
-OpenHasKinds declared (statement.Open n) cursors = HaveKinds declared cursors
-OpenHasKinds declared _ cursors = ⊤
+abbrev pub OpenHaveKept : TableKinds → List DeclaredCursor → BoundStatement → List CursorState → Type 0
+OpenHaveKept columns declared (statement.Open n) cursors = HaveKept columns declared cursors
+OpenHaveKept columns declared _ cursors = ⊤
 
 -- ---- a session
 
 -- The tables as they are now and as they were committed are those of the base tables, with their keys, each cursor is over
--- what is declared, every value in the tables, now and as committed, is in the domain of its column, and the rows that cursors
--- have listed are of the kinds of their columns.
-abbrev pub IsWhole : List BaseTable → List DeclaredCursor → State → Type 0
-IsWhole bases declared s =
+-- what is declared, every value in the tables, now and as committed, is in the domain of its column, and what open cursors keep
+-- is of the kinds of their columns and parameters.
+abbrev pub IsWhole : TableKinds → List BaseTable → List DeclaredCursor → State → Type 0
+IsWhole columns bases declared s =
     (holds bases s.tables ≡ true) × (holds bases s.committed ≡ true) × (s.keys ≡ keys_of_bases bases) × (are_over declared s.cursors ≡ true)
-    × AreInDomains bases s.tables × AreInDomains bases s.committed × HaveKinds declared s.cursors
+    × AreInDomains bases s.tables × AreInDomains bases s.committed × HaveKept columns declared s.cursors
 
 -- ---- an UPDATE
 

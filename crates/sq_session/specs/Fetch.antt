@@ -1,6 +1,6 @@
 -- FETCH (ISO/IEC 9075:1992, 13.3): where a cursor comes, and how the statement ends then. Where a rule of the language is
 -- broken it ends with 42000, and the cursor stays where it is.
-use Rattle.std.specs.Prelude.{◌≡◌, ◌≤◌, ◌<◌, ◌+◌, ⊤, ℕ, ℤ, true, false, List, length, slice_get, Option, None, Some, Result, Ok, Err}
+use Rattle.std.specs.Prelude.{◌≡◌, ◌+◌, ⊤, ℕ, ℤ, List, length, slice_get, Option, None, Some, Result, Ok, Err}
 use Rattle.std.specs.List.{AllByRecursion}
 use Rattle.std.specs.Option.{option_and_then, option_map}
 use Rattle.sq_value.specs.Key.{in_columns}
@@ -8,6 +8,7 @@ use Rattle.sq_value.specs.declared.domain.Kind.{Kind}
 use Rattle.sq_value.specs.declared.value.Value.{Value}
 use Rattle.sq_value.specs.declared.value.Value.TheVariants as value
 use Rattle.sq_store.specs.Content.{Content, row_at, table_at}
+use Rattle.sq_store.specs.declared.table.Numbered.{Numbered}
 use Rattle.sq_store.specs.declared.table.Table.{Table}
 use Rattle.sq_bound.specs.WellFormed.{IsOrientation, TakeKinds}
 use Rattle.sq_bound.specs.declared.statement.BoundFetch.{BoundFetch}
@@ -24,8 +25,9 @@ use Rattle.sq_query.specs.declared.fault.Failure.TheVariants as failure
 use Rattle.sq_query.specs.declared.fault.Fault.{Fault}
 use Rattle.sq_query.specs.declared.fault.Fault.TheVariants as fault
 use Rattle.sq_session.specs.Kind.{Fetching}
-use Rattle.sq_session.specs.State.{is_there, next_number}
-use Rattle.sq_session.specs.Target.{MayTake, MayTakeRows, ended, is_refused, row_reply}
+use Rattle.sq_session.specs.State.{next_number}
+use Rattle.sq_session.specs.Target.{MayTake, MayTakeRows, ended, row_reply}
+use Rattle.sq_session.specs.Walk.{first_meant}
 use Rattle.sq_session.specs.declared.cursor.CursorState.{CursorState}
 use Rattle.sq_session.specs.declared.cursor.CursorState.TheVariants as cursor
 use Rattle.sq_session.specs.declared.cursor.NumbersCursor.{NumbersCursor}
@@ -118,15 +120,19 @@ number_come_to f t c = and_then (shown_fetched f (row_on t c.on)) (λ d. Ok (c, 
 abbrev pub come_to_number : Fetching → Content → NumbersCursor → Outcome (NumbersCursor × Done)
 come_to_number f tables c = number_come_to f (table_at tables c.table) (next_number (table_at tables c.table) c)
 
--- one that walks goes on to a row that is there, from where it stood on and before its mark, or to its end
-abbrev pub WalksTo : Table → WalkingCursor → Option ℕ → ℕ → Type 0
-WalksTo t c None next = next ≡ c.mark
-WalksTo t c (Some n) next = (is_there t n ≡ true) × (c.next ≤ n) × (n < c.mark) × (next ≡ n + 1)
+-- one that walks comes to the next row before its mark that its query means, or to its end
+abbrev pub next_walked : Fetching → Table → WalkingCursor → Option Numbered
+next_walked f t c = first_meant f.conditions c.values f.user c.next c.mark t.rows
 
-abbrev pub ComesOn : Fetching → Content → WalkingCursor → Done → WalkingCursor → Type 0
-ComesOn f tables c d e =
-    (e ≡ record c { next = e.next; on = e.on }) × WalksTo (table_at tables c.table) c e.on e.next
-    × (shown_fetched f (row_on (table_at tables c.table) e.on) ≡ Ok d)
+abbrev pub walked_to : WalkingCursor → Option Numbered → WalkingCursor
+walked_to c None = record c { next = c.mark; on = None }
+walked_to c (Some r) = record c { next = r.number + 1; on = Some r.number }
+
+abbrev pub walk_come_to : Fetching → WalkingCursor → Option Numbered → Outcome (WalkingCursor × Done)
+walk_come_to f c reached = and_then (shown_fetched f (option_map (λ r. r.row) reached)) (λ d. Ok (walked_to c reached, d))
+
+abbrev pub come_to_walk : Fetching → Content → WalkingCursor → Outcome (WalkingCursor × Done)
+come_to_walk f tables c = walk_come_to f c (next_walked f (table_at tables c.table) c)
 
 -- ---- of any cursor
 
@@ -136,12 +142,10 @@ over_rows o = and_then o (λ come. Ok (cursor.Rows come.0, come.1))
 abbrev pub over_numbers : Outcome (NumbersCursor × Done) → Outcome (CursorState × Done)
 over_numbers o = and_then o (λ come. Ok (cursor.Numbers come.0, come.1))
 
--- ---- while the statement runs
+abbrev pub over_walk : Outcome (WalkingCursor × Done) → Outcome (CursorState × Done)
+over_walk o = and_then o (λ come. Ok (cursor.Walking come.0, come.1))
 
--- a broken rule, or want of memory
-abbrev pub Refusal : Fault → Type 0
-Refusal (fault.Status f) = f ≡ failure.SyntaxErrorOrAccessRuleViolation
-Refusal fault.NoMemory = ⊤
+-- ---- while the statement runs
 
 -- the cursor has come where it is to come, and the statement ends so, or with a status; want of memory is no outcome of a definition
 abbrev pub HasCome : {C : Type 0} → Result Done Fault → C → Outcome (C × Done) → Type 0
@@ -149,16 +153,8 @@ HasCome (Ok d) now wanted = wanted ≡ Ok (now, d)
 HasCome (Err (fault.Status f)) now wanted = wanted ≡ Err (status_of f)
 HasCome (Err fault.NoMemory) now wanted = ⊤
 
-abbrev pub HasWalked : Fetching → Content → WalkingCursor → Result Done Fault → WalkingCursor → Type 0
-HasWalked f tables c (Ok d) now = (is_refused d.status ≡ false) × ComesOn f tables c d now
-HasWalked f tables c (Err e) now = Refusal e
-
-abbrev pub IsWalking : (WalkingCursor → Type 0) → CursorState → Type 0
-IsWalking P (cursor.Walking c) = P c
-IsWalking P _ = ⊥
-
 abbrev pub HasFetched : Fetching → List Value → Content → CursorState → Result Done Fault → CursorState → Type 0
 HasFetched f values tables cursor.Closed r now = r ≡ Err (fault.Status failure.InvalidCursorState)
 HasFetched f values tables (cursor.Rows c) r now = HasCome r now (over_rows (come_to_row f values c))
 HasFetched f values tables (cursor.Numbers c) r now = HasCome r now (over_numbers (come_to_number f tables c))
-HasFetched f values tables (cursor.Walking c) r now = IsWalking (HasWalked f tables c r) now
+HasFetched f values tables (cursor.Walking c) r now = HasCome r now (over_walk (come_to_walk f tables c))

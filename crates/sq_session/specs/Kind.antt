@@ -1,17 +1,20 @@
 -- What a statement is to the tables, the cursors and the parameters: which cursor it works on, whether it may change rows,
 -- and which parameters it sets.
-use Rattle.std.specs.Prelude.{ℕ, Bool, true, false, if◌then◌else◌, List, [], slice_get, option_and_then, Option, None, Some, Result}
-use Rattle.std.specs.Option.{option_map_or}
+use Rattle.std.specs.Prelude.{◌≡◌, ℕ, Bool, true, false, if◌then◌else◌, List, [], slice_get, option_and_then, Option, None, Some, Result}
+use Rattle.std.specs.Option.{option_map, option_map_or}
 use Rattle.std.specs.Result.{result_err, result_ok}
 use Rattle.sq_lex.specs.declared.name.Name.{Name}
 use Rattle.sq_value.specs.declared.value.Value.{Value}
 use Rattle.sq_meaning.specs.Tables.{Declared}
 use Rattle.sq_model.specs.Script.{fit}
+use Rattle.sq_bound.specs.declared.condition.BoundCond.{BoundCond}
+use Rattle.sq_bound.specs.declared.condition.BoundSpecification.{BoundSpecification}
 use Rattle.sq_bound.specs.declared.fault.BindFault.{BindFault}
 use Rattle.sq_bound.specs.declared.names.ParameterDesc.{ParameterDesc}
 use Rattle.sq_bound.specs.declared.query.CursorBody.{CursorBody}
 use Rattle.sq_bound.specs.declared.query.CursorBody.TheVariants as body
 use Rattle.sq_bound.specs.declared.query.Target.{Target}
+use Rattle.sq_bound.specs.declared.query.UpdatableQuery.{UpdatableQuery}
 use Rattle.sq_bound.specs.declared.statement.BoundFetch.{BoundFetch}
 use Rattle.sq_bound.specs.declared.statement.BoundSelect.{BoundSelect}
 use Rattle.sq_bound.specs.declared.statement.BoundStatement.{BoundStatement}
@@ -22,6 +25,7 @@ use Rattle.sq_bound.specs.declared.statement.FetchOrientation.{FetchOrientation}
 use Rattle.sq_bound.specs.declared.statement.Output.{Output}
 use Rattle.sq_bound.specs.declared.statement.PositionedTarget.{PositionedTarget}
 use Rattle.sq_module.specs.declared.program.DeclaredCursor.{DeclaredCursor}
+use Rattle.sq_query.specs.Target.{conditions_of}
 
 -- ---- cursors (13.1)
 
@@ -30,8 +34,25 @@ abbrev pub columns_of : CursorBody → List ℕ
 columns_of (body.Rows query order) = []
 columns_of (body.Updatable u) = u.columns
 
+-- the conditions on a row of the base table that an updatable query means
+abbrev pub conditions_in : CursorBody → List BoundCond
+conditions_in (body.Rows query order) = []
+conditions_in (body.Updatable u) = conditions_of u.target
+
+abbrev pub conditions_at : List DeclaredCursor → ℕ → List BoundCond
+conditions_at cursors number = option_map_or (λ c. conditions_in c.cursor.body) (slice_get cursors number) []
+
+abbrev pub body_at : List DeclaredCursor → ℕ → Option CursorBody
+body_at cursors number = option_map (λ c. c.cursor.body) (slice_get cursors number)
+
 abbrev pub columns_at : List DeclaredCursor → ℕ → List ℕ
 columns_at cursors number = option_map_or (λ c. columns_of c.cursor.body) (slice_get cursors number) []
+
+-- the body of the cursor that is declared with a number is this updatable query
+pub record IsDeclaredAt (cursors : List DeclaredCursor) (number : ℕ) (query : UpdatableQuery) : Type 0 where
+  pub declared : DeclaredCursor
+  pub at : slice_get cursors number ≡ Some declared
+  pub body_is : declared.cursor.body ≡ body.Updatable query
 
 -- what an open cursor goes over: the rows of its query, numbers of rows of a base table, or, where no condition may answer
 -- a status, the base table itself
@@ -50,81 +71,97 @@ over_of (body.Updatable u) = over_target u.target
 abbrev pub over_at : List DeclaredCursor → ℕ → Over
 over_at cursors number = option_map_or (λ c. over_of c.cursor.body) (slice_get cursors number) Over.rows
 
--- ---- statements with parameters
+-- ---- statements with parameters; the user is that of the procedure's module
 
 -- OPEN (13.2)
 pub record Opening : Type 0 where
   pub cursor : ℕ
   pub over : Over
+  pub body : Option CursorBody
+  pub user : Name
   pub parameters : List ParameterDesc
 
-abbrev pub opening : List DeclaredCursor → List ParameterDesc → ℕ → Opening
-opening cursors parameters number = record { cursor = number; over = over_at cursors number; parameters = parameters }
+abbrev pub opening : List DeclaredCursor → Name → List ParameterDesc → ℕ → Opening
+opening cursors user parameters number = record {
+  cursor = number;
+  over = over_at cursors number;
+  body = body_at cursors number;
+  user = user;
+  parameters = parameters;
+}
 
--- FETCH (13.3); the columns are those of an updatable cursor
+-- FETCH (13.3); the columns and the conditions are those of an updatable cursor
 pub record Fetching : Type 0 where
   pub cursor : ℕ
   pub orientation : FetchOrientation
   pub columns : List ℕ
+  pub conditions : List BoundCond
+  pub user : Name
   pub parameters : List ParameterDesc
   pub targets : List Output
 
-abbrev pub fetching : List DeclaredCursor → List ParameterDesc → BoundFetch → Fetching
-fetching cursors parameters f = record {
+abbrev pub fetching : List DeclaredCursor → Name → List ParameterDesc → BoundFetch → Fetching
+fetching cursors user parameters f = record {
   cursor = f.cursor;
   orientation = f.orientation;
   columns = columns_at cursors f.cursor;
+  conditions = conditions_at cursors f.cursor;
+  user = user;
   parameters = parameters;
   targets = f.outputs;
 }
 
 -- SELECT INTO (13.5)
 pub record Selecting : Type 0 where
+  pub query : BoundSpecification
+  pub user : Name
   pub parameters : List ParameterDesc
   pub targets : List Output
 
-abbrev pub selecting : List ParameterDesc → BoundSelect → Selecting
-selecting parameters s = record { parameters = parameters; targets = s.outputs }
+abbrev pub selecting : Name → List ParameterDesc → BoundSelect → Selecting
+selecting user parameters s = record { query = s.query; user = user; parameters = parameters; targets = s.outputs }
 
 -- ---- statements
 
--- CLOSE names a cursor by its number; INSERT and a searched DELETE change rows, a searched UPDATE updates them
+-- CLOSE names a cursor by its number, and INSERT a base table by its place
 pub data Kind : Type 0 where
   opens : Opening → Kind
   fetches : Fetching → Kind
   closes : ℕ → Kind
   selects : Selecting → Kind
-  changes : Kind
-  updates : Kind
+  inserts : ℕ → Kind
+  updates : Target → Kind
+  deletes : Target → Kind
   updates_at : PositionedTarget → Kind
   deletes_at : PositionedTarget → Kind
   commits : Kind
   rolls_back : Kind
 
 abbrev pub update_kind : ChangeTarget → Kind
-update_kind (target.Searched t) = Kind.updates
+update_kind (target.Searched t) = Kind.updates t
 update_kind (target.Positioned p) = Kind.updates_at p
 
 abbrev pub delete_kind : ChangeTarget → Kind
-delete_kind (target.Searched t) = Kind.changes
+delete_kind (target.Searched t) = Kind.deletes t
 delete_kind (target.Positioned p) = Kind.deletes_at p
 
--- a statement of a procedure with these parameters, where modules declare these cursors
-abbrev pub kind_of : List DeclaredCursor → List ParameterDesc → BoundStatement → Kind
-kind_of cursors parameters (statement.Open number) = Kind.opens (opening cursors parameters number)
-kind_of cursors parameters (statement.Fetch f) = Kind.fetches (fetching cursors parameters f)
-kind_of cursors parameters (statement.Close number) = Kind.closes number
-kind_of cursors parameters (statement.Select s) = Kind.selects (selecting parameters s)
-kind_of cursors parameters (statement.Insert i) = Kind.changes
-kind_of cursors parameters (statement.Update u) = update_kind u.target
-kind_of cursors parameters (statement.Delete t) = delete_kind t
-kind_of cursors parameters statement.Commit = Kind.commits
-kind_of cursors parameters statement.Rollback = Kind.rolls_back
+-- a statement of a user's procedure with these parameters, where modules declare these cursors
+abbrev pub kind_of : List DeclaredCursor → Name → List ParameterDesc → BoundStatement → Kind
+kind_of cursors user parameters (statement.Open number) = Kind.opens (opening cursors user parameters number)
+kind_of cursors user parameters (statement.Fetch f) = Kind.fetches (fetching cursors user parameters f)
+kind_of cursors user parameters (statement.Close number) = Kind.closes number
+kind_of cursors user parameters (statement.Select s) = Kind.selects (selecting user parameters s)
+kind_of cursors user parameters (statement.Insert i) = Kind.inserts i.base
+kind_of cursors user parameters (statement.Update u) = update_kind u.target
+kind_of cursors user parameters (statement.Delete t) = delete_kind t
+kind_of cursors user parameters statement.Commit = Kind.commits
+kind_of cursors user parameters statement.Rollback = Kind.rolls_back
 
 -- the parameters of the procedure, where the statement reads their values itself
 abbrev pub read_parameters : Kind → List ParameterDesc
 read_parameters (Kind.opens o) = o.parameters
 read_parameters (Kind.fetches f) = f.parameters
+read_parameters (Kind.selects s) = s.parameters
 read_parameters _ = []
 
 -- ---- what takes memory: every statement but CLOSE, COMMIT and ROLLBACK

@@ -9,3 +9,4 @@ pub mod Session
 pub mod State
 pub mod Step
 pub mod Target
+pub mod Walk

@@ -1,10 +1,34 @@
 -- OPEN (ISO/IEC 9075:1992, 13.2): a cursor before its first row, by what it goes over.
-use Rattle.std.specs.Prelude.{◌≡◌, ℕ, List, None, Result, Ok}
+use Rattle.std.specs.Prelude.{◌≡◌, ⊤, ℕ, false, List, [], Option, None, Some, Result, Ok, Err}
+use Rattle.std.specs.List.{list_any}
+use Rattle.sq_lex.specs.declared.name.Name.{Name}
 use Rattle.sq_value.specs.declared.value.Value.{Value}
 use Rattle.sq_store.specs.Content.{Content, table_at}
+use Rattle.sq_meaning.specs.Environment.{Row, outermost}
+use Rattle.sq_meaning.specs.Kind.{Kinds}
+use Rattle.sq_meaning.specs.Placed.{Placed, by_place}
+use Rattle.sq_meaning.specs.QueryExpression.{query_rows}
+use Rattle.sq_meaning.specs.Rows.{by_columns, sorted}
 use Rattle.sq_meaning.specs.Status.{Outcome, and_then}
-use Rattle.sq_query.specs.Fault.{Meets}
+use Rattle.sq_meaning.specs.Target.{has_subquery}
+use Rattle.sq_bound.specs.Condition.{cond_of}
+use Rattle.sq_bound.specs.Query.{query_of}
+use Rattle.sq_bound.specs.declared.condition.BoundSpecification.{BoundSpecification}
+use Rattle.sq_bound.specs.declared.condition.TablePlace.{TablePlace}
+use Rattle.sq_bound.specs.declared.query.BoundQuery.{BoundQuery}
+use Rattle.sq_bound.specs.declared.query.CursorBody.{CursorBody}
+use Rattle.sq_bound.specs.declared.query.CursorBody.TheVariants as body
+use Rattle.sq_bound.specs.declared.query.SortColumn.{SortColumn}
+use Rattle.sq_bound.specs.declared.query.Target.{Target}
+use Rattle.sq_query.specs.Fault.{status_of}
+use Rattle.sq_query.specs.Order.{sort_columns}
+use Rattle.sq_query.specs.Frame.{inputs_of}
+use Rattle.sq_query.specs.Specification.{HasNoSubquery, IsOverBase}
+use Rattle.sq_query.specs.Table.{AreOfStore, stored_numbered}
+use Rattle.sq_query.specs.Target.{conditions_of, is_true_of, numbers_chosen}
+use Rattle.sq_query.specs.Union.{IsOnly}
 use Rattle.sq_query.specs.declared.fault.Fault.{Fault}
+use Rattle.sq_query.specs.declared.fault.Fault.TheVariants as fault
 use Rattle.sq_session.specs.Kind.{Over}
 use Rattle.sq_session.specs.declared.cursor.CursorState.{CursorState}
 use Rattle.sq_session.specs.declared.cursor.CursorState.TheVariants as cursor
@@ -32,14 +56,46 @@ rows_opened found = and_then found (λ rows. Ok (before_rows rows))
 abbrev pub numbers_opened : ℕ → Outcome (List ℕ) → Outcome CursorState
 numbers_opened table found = and_then found (λ numbers. Ok (before_numbers table numbers))
 
--- A cursor that goes over this is opened so. Which rows its query has, or which numbers are chosen, is not said here.
+-- A cursor that goes over this is opened so, whatever rows its query has, or numbers are chosen.
 abbrev pub IsOpenOver : Over → List Value → Content → Outcome CursorState → Type 0
 IsOpenOver Over.rows values tables opened = (found : Outcome (List (List Value))) × (opened ≡ rows_opened found)
 IsOpenOver (Over.numbers table) values tables opened = (found : Outcome (List ℕ)) × (opened ≡ numbers_opened table found)
 IsOpenOver (Over.walk table) values tables opened = opened ≡ Ok (cursor.Walking (walk_before tables table values))
 
+-- ---- the rows and numbers, where this is said
+
+-- of a query expression over one base table, without UNION and subqueries: those that it has, in order, or the status of finding them
+abbrev pub RowsAreMeant : BoundQuery → List SortColumn → Name → List Value → Content → Outcome CursorState → Type 0
+RowsAreMeant query order user values tables opened =
+    (s : BoundSpecification) → IsOnly query s → IsOverBase s → HasNoSubquery s → (shown : TablePlace → Outcome (List Row)) → AreOfStore tables shown → (kinds : Kinds (Placed TablePlace))
+    → opened ≡ rows_opened (and_then (query_rows (by_place shown) kinds (query_of query) (outermost (inputs_of values) user)) (λ rows. Ok (sorted (by_columns (sort_columns order)) rows)))
+
+-- of a target that names no row by a key, and whose conditions have no subquery: those of the rows of which they are true, or the
+-- status of choosing them
+abbrev pub NumbersAreMeant : Target → Name → List Value → Content → Outcome CursorState → Type 0
+NumbersAreMeant t user values tables opened =
+    t.key ≡ None → list_any (λ c. has_subquery (cond_of [] c)) (conditions_of t) ≡ false
+    → (shown : TablePlace → Outcome (List Row)) → opened ≡ numbers_opened t.base (and_then (stored_numbered tables t.base) (numbers_chosen (is_true_of shown values user) (conditions_of t)))
+
+-- a quiet target is walked
+abbrev pub TargetIsMeant : Target → Name → List Value → Content → Outcome CursorState → Type 0
+TargetIsMeant t user values tables opened = t.is_quiet ≡ false → NumbersAreMeant t user values tables opened
+
+abbrev pub IsMeant : CursorBody → Name → List Value → Content → Outcome CursorState → Type 0
+IsMeant (body.Rows query order) user values tables opened = RowsAreMeant query order user values tables opened
+IsMeant (body.Updatable u) user values tables opened = TargetIsMeant u.target user values tables opened
+
+abbrev pub IsMeantIfAny : Option CursorBody → Name → List Value → Content → Outcome CursorState → Type 0
+IsMeantIfAny None user values tables opened = ⊤
+IsMeantIfAny (Some b) user values tables opened = IsMeant b user values tables opened
+
 -- ---- while the statement runs
 
 -- want of memory is no outcome of a definition
-abbrev pub HasOpened : Over → List Value → Content → Result CursorState Fault → Type 0
-HasOpened over values tables answer = (opened : Outcome CursorState) × IsOpenOver over values tables opened × Meets answer opened
+abbrev pub IfAnswered : (Outcome CursorState → Type 0) → Result CursorState Fault → Type 0
+IfAnswered P (Ok c) = P (Ok c)
+IfAnswered P (Err (fault.Status f)) = P (Err (status_of f))
+IfAnswered P (Err fault.NoMemory) = ⊤
+
+abbrev pub HasOpened : Over → (Outcome CursorState → Type 0) → List Value → Content → Result CursorState Fault → Type 0
+HasOpened over IsSo values tables answer = IfAnswered (λ opened. IsOpenOver over values tables opened × IsSo opened) answer

@@ -35,7 +35,7 @@ procedure_of cursors p = record {
   «module» = p.0.«module»;
   name = p.0.name;
   parameters = map declared p.1.parameters;
-  statement = result_map_both (kind_of cursors p.1.parameters) (λ f. f) p.1.statement;
+  statement = result_map_both (kind_of cursors p.1.user p.1.parameters) (λ f. f) p.1.statement;
 }
 
 abbrev pub procedures_of : List DeclaredCursor → List (ProcedureName × BoundProcedure) → List Procedure

@@ -1,30 +1,38 @@
 -- What one call may do to the tables and the cursors, and what it answers (ISO/IEC 9075:1992, 13.2 to 13.10, 14.3 and 14.4).
--- FETCH, CLOSE, COMMIT, ROLLBACK and every statement on a cursor that is not in the state that it needs are said whole, but
--- for the row that a cursor comes to that walks; of SELECT INTO and OPEN, what the rows of their queries do; of the others,
--- what they leave as it was.
-use Rattle.std.specs.Prelude.{◌≡◌, ℕ, Bool, true, false, List, [], length, is_some, option_and_then, Option, Some, None, Result, Ok, Err}
+-- FETCH, CLOSE, COMMIT, ROLLBACK and every statement on a cursor that is not in the state that it needs are said whole; of
+-- SELECT INTO and OPEN, what the rows of their queries do; of INSERT, UPDATE and DELETE, which base table changes and how, but
+-- not which values are stored or which rows a search condition keeps.
+use Rattle.std.specs.Prelude.{◌≡◌, ℕ, Bool, true, false, List, [], is_some, option_and_then, Option, Some, None, Result, Ok, Err}
 use Rattle.sq_value.specs.declared.value.Value.{Value}
-use Rattle.sq_store.specs.Content.{row_at, table_at}
+use Rattle.sq_store.specs.Content.{Content, row_at, table_at}
+use Rattle.sq_bound.specs.Condition.{select_of}
+use Rattle.sq_bound.specs.declared.condition.TablePlace.{TablePlace}
 use Rattle.sq_bound.specs.declared.statement.ChangeTarget.{ChangeTarget}
 use Rattle.sq_bound.specs.declared.statement.ChangeTarget.TheVariants as target
 use Rattle.sq_bound.specs.declared.statement.PositionedTarget.{PositionedTarget}
+use Rattle.sq_meaning.specs.Environment.{Row, outermost}
+use Rattle.sq_meaning.specs.Placed.{by_place}
+use Rattle.sq_meaning.specs.Query.{rows}
 use Rattle.sq_meaning.specs.Status.{Outcome, and_then}
 use Rattle.sq_meaning.specs.declared.status.Status.{Status}
 use Rattle.sq_meaning.specs.declared.status.Status.TheVariants as status
+use Rattle.sq_change.specs.Statement.{Deletes, Inserts, Updates}
 use Rattle.sq_query.specs.Fault.{status_of}
+use Rattle.sq_query.specs.Frame.{inputs_of}
+use Rattle.sq_query.specs.Specification.{HasNoSubquery, IsOverBase}
+use Rattle.sq_query.specs.Table.{AreOfStore}
 use Rattle.sq_query.specs.declared.fault.Fault.{Fault}
 use Rattle.sq_query.specs.declared.fault.Fault.TheVariants as fault
 use Rattle.sq_model.specs.Machine.{single_row}
 use Rattle.sq_session.specs.Cursors.{GoOn}
-use Rattle.sq_session.specs.Fetch.{ComesOn, come_to_number, come_to_row, over_numbers, over_rows}
-use Rattle.sq_session.specs.Kind.{Fetching, Kind, Opening, Over, Selecting, read_parameters}
-use Rattle.sq_session.specs.Open.{IsOpenOver}
+use Rattle.sq_session.specs.Fetch.{come_to_number, come_to_row, come_to_walk, over_numbers, over_rows, over_walk}
+use Rattle.sq_session.specs.Kind.{Fetching, Kind, Opening, Selecting, read_parameters}
+use Rattle.sq_session.specs.Open.{IsMeantIfAny, IsOpenOver}
 use Rattle.sq_session.specs.Parameter.{started_values}
 use Rattle.sq_session.specs.State.{State, committed_state, cursor_at, is_open, number_on, off_row, rolled_back, with_cursor}
-use Rattle.sq_session.specs.Target.{ended, is_refused, row_reply}
+use Rattle.sq_session.specs.Target.{ended, row_reply}
 use Rattle.sq_session.specs.declared.cursor.CursorState.{CursorState}
 use Rattle.sq_session.specs.declared.cursor.CursorState.TheVariants as cursor
-use Rattle.sq_session.specs.declared.walk.WalkingCursor.{WalkingCursor}
 use Rattle.sq_session.specs.declared.reply.Done.{Done}
 
 -- ---- how a statement ends
@@ -54,13 +62,14 @@ abbrev pub OpensAs : Outcome CursorState → ℕ → State → Done → State �
 OpensAs (Ok c) number before d after = (d ≡ ended status.SuccessfulCompletion) × (after ≡ with_cursor before number c)
 OpensAs (Err st) number before d after = Refuses st before d after
 
-abbrev pub MayOpenOver : Over → ℕ → List Value → State → Done → State → Type 0
-MayOpenOver over number values before d after = (opened : Outcome CursorState) × IsOpenOver over values before.tables opened × OpensAs opened number before d after
+abbrev pub MayOpenClosed : Opening → List Value → State → Done → State → Type 0
+MayOpenClosed o values before d after =
+    (opened : Outcome CursorState) × IsOpenOver o.over values before.tables opened × IsMeantIfAny o.body o.user values before.tables opened × OpensAs opened o.cursor before d after
 
 -- a cursor that is open already is left alone
 abbrev pub MayOpenIf : Bool → Opening → List Value → State → Done → State → Type 0
 MayOpenIf true o values before d after = Refuses status.InvalidCursorState before d after
-MayOpenIf false o values before d after = MayOpenOver o.over o.cursor values before d after
+MayOpenIf false o values before d after = MayOpenClosed o values before d after
 
 abbrev pub MayOpen : Opening → List Value → State → Done → State → Type 0
 MayOpen o values before d after = MayOpenIf (is_open (cursor_at before o.cursor)) o values before d after
@@ -72,16 +81,11 @@ abbrev pub Comes : Outcome (CursorState × Done) → ℕ → State → Done → 
 Comes (Ok come) number before d after = (d ≡ come.1) × (after ≡ with_cursor before number come.0)
 Comes (Err st) number before d after = Refuses st before d after
 
--- 42000 leaves a cursor that walks where it is; with any other status, one of retrieving among them, it has moved
-abbrev pub WalksIf : Bool → Fetching → WalkingCursor → State → Done → State → Type 0
-WalksIf true f c before d after = Refuses status.SyntaxErrorOrAccessRuleViolation before d after
-WalksIf false f c before d after = (e : WalkingCursor) × ComesOn f before.tables c d e × (after ≡ with_cursor before f.cursor (cursor.Walking e))
-
 abbrev pub MayFetchFrom : CursorState → Fetching → List Value → State → Done → State → Type 0
 MayFetchFrom cursor.Closed f values before d after = Refuses status.InvalidCursorState before d after
 MayFetchFrom (cursor.Rows c) f values before d after = Comes (over_rows (come_to_row f values c)) f.cursor before d after
 MayFetchFrom (cursor.Numbers c) f values before d after = Comes (over_numbers (come_to_number f before.tables c)) f.cursor before d after
-MayFetchFrom (cursor.Walking c) f values before d after = WalksIf (is_refused d.status) f c before d after
+MayFetchFrom (cursor.Walking c) f values before d after = Comes (over_walk (come_to_walk f before.tables c)) f.cursor before d after
 
 abbrev pub MayFetch : Fetching → List Value → State → Done → State → Type 0
 MayFetch f values before d after = MayFetchFrom (cursor_at before f.cursor) f values before d after
@@ -97,31 +101,39 @@ MayClose number before d after = MayCloseIf (is_open (cursor_at before number)) 
 
 -- ---- SELECT INTO (13.5)
 
--- the query has these rows, or ends with a status: the targets are set from the only row. Which rows it has is not said here.
-pub record Selects (s : Selecting) (d : Done) : Type 0 where
+-- of a query over one base table without subqueries: the rows that it has, or the status of finding them
+abbrev pub SelectIsMeant : Selecting → List Value → Content → Outcome (List (List Value)) → Type 0
+SelectIsMeant s values tables found =
+    IsOverBase s.query → HasNoSubquery s.query → (shown : TablePlace → Outcome (List Row)) → AreOfStore tables shown
+    → found ≡ rows (by_place shown) (select_of s.query) (outermost (inputs_of values) s.user)
+
+-- the query has these rows, or ends with a status: the targets are set from the only row
+pub record Selects (s : Selecting) (values : List Value) (tables : Content) (d : Done) : Type 0 where
   pub found : Outcome (List (List Value))
+  pub meant : SelectIsMeant s values tables found
   pub ends : d ≡ ended_by (and_then (and_then found single_row) (row_reply s.parameters s.targets))
 
 -- ---- INSERT, UPDATE and DELETE (13.6 to 13.10)
 
--- the tables now change with success alone, and are as many as before
-abbrev pub ChangesTo : State → State → Type 0
-ChangesTo wanted after = (after ≡ record wanted { tables = after.tables }) × (length after.tables ≡ length wanted.tables)
+-- with success the tables now change so, and nothing else does
+abbrev pub ChangesTo : (Content → Content → Type 0) → State → State → Type 0
+ChangesTo Changes wanted after = (after ≡ record wanted { tables = after.tables }) × Changes wanted.tables after.tables
 
-abbrev pub ChangesIf : Bool → State → State → Type 0
-ChangesIf true before after = ChangesTo before after
-ChangesIf false before after = after ≡ before
+-- with any other status nothing changes
+abbrev pub ChangesIf : Bool → (Content → Content → Type 0) → State → State → Type 0
+ChangesIf true Changes before after = ChangesTo Changes before after
+ChangesIf false Changes before after = after ≡ before
 
-abbrev pub MayChange : State → Done → State → Type 0
-MayChange before d after = (d.outputs ≡ []) × ChangesIf (is_success d.status) before after
+abbrev pub MayChange : (Content → Content → Type 0) → State → Done → State → Type 0
+MayChange Changes before d after = (d.outputs ≡ []) × ChangesIf (is_success d.status) Changes before after
 
 -- an UPDATE may also let cursors that walk go on over numbers
-abbrev pub UpdatesIf : Bool → State → State → Type 0
-UpdatesIf true before after = (after ≡ record before { tables = after.tables; cursors = after.cursors }) × (length after.tables ≡ length before.tables) × GoOn before.cursors after.cursors
-UpdatesIf false before after = after ≡ before
+abbrev pub UpdatesIf : Bool → (Content → Content → Type 0) → State → State → Type 0
+UpdatesIf true Changes before after = (after ≡ record before { tables = after.tables; cursors = after.cursors }) × Changes before.tables after.tables × GoOn before.cursors after.cursors
+UpdatesIf false Changes before after = after ≡ before
 
-abbrev pub MayUpdate : State → Done → State → Type 0
-MayUpdate before d after = (d.outputs ≡ []) × UpdatesIf (is_success d.status) before after
+abbrev pub MayUpdate : (Content → Content → Type 0) → State → Done → State → Type 0
+MayUpdate Changes before d after = (d.outputs ≡ []) × UpdatesIf (is_success d.status) Changes before after
 
 -- whether the cursor is on a row that is there
 abbrev pub is_on_row : State → PositionedTarget → Bool
@@ -132,18 +144,27 @@ abbrev pub is_ready : State → ChangeTarget → Bool
 is_ready s (target.Searched t) = true
 is_ready s (target.Positioned p) = is_on_row s p
 
-abbrev pub MayUpdateAt : Bool → State → Done → State → Type 0
-MayUpdateAt true before d after = MayUpdate before d after
-MayUpdateAt false before d after = Refuses status.InvalidCursorState before d after
+-- the number of that row
+abbrev pub on_row : State → PositionedTarget → Option ℕ
+on_row s p = number_on (cursor_at s p.cursor)
+
+-- none where the statement is searched
+abbrev pub number_meant : State → ChangeTarget → Option ℕ
+number_meant s (target.Searched t) = None
+number_meant s (target.Positioned p) = on_row s p
+
+abbrev pub MayUpdateAt : Bool → PositionedTarget → State → Done → State → Type 0
+MayUpdateAt true p before d after = MayUpdate (Updates (target.Positioned p) (on_row before p)) before d after
+MayUpdateAt false p before d after = Refuses status.InvalidCursorState before d after
 
 -- a positioned DELETE takes its cursor off the row
-abbrev pub DeletesIf : Bool → ℕ → State → State → Type 0
-DeletesIf true number before after = ChangesTo (with_cursor before number (off_row (cursor_at before number))) after
-DeletesIf false number before after = after ≡ before
+abbrev pub DeletesIf : Bool → PositionedTarget → State → State → Type 0
+DeletesIf true p before after = ChangesTo (Deletes (target.Positioned p) (on_row before p)) (with_cursor before p.cursor (off_row (cursor_at before p.cursor))) after
+DeletesIf false p before after = after ≡ before
 
-abbrev pub MayDeleteAt : Bool → ℕ → State → Done → State → Type 0
-MayDeleteAt true number before d after = (d.outputs ≡ []) × DeletesIf (is_success d.status) number before after
-MayDeleteAt false number before d after = Refuses status.InvalidCursorState before d after
+abbrev pub MayDeleteAt : Bool → PositionedTarget → State → Done → State → Type 0
+MayDeleteAt true p before d after = (d.outputs ≡ []) × DeletesIf (is_success d.status) p before after
+MayDeleteAt false p before d after = Refuses status.InvalidCursorState before d after
 
 -- ---- a statement, and a call
 
@@ -155,11 +176,12 @@ abbrev pub MayStep : Kind → List Value → State → Done → State → Type 0
 MayStep (Kind.opens o) values before d after = MayOpen o values before d after
 MayStep (Kind.fetches f) values before d after = MayFetch f values before d after
 MayStep (Kind.closes number) values before d after = MayClose number before d after
-MayStep (Kind.selects s) values before d after = (after ≡ before) × Selects s d
-MayStep Kind.changes values before d after = MayChange before d after
-MayStep Kind.updates values before d after = MayUpdate before d after
-MayStep (Kind.updates_at p) values before d after = MayUpdateAt (is_on_row before p) before d after
-MayStep (Kind.deletes_at p) values before d after = MayDeleteAt (is_on_row before p) p.cursor before d after
+MayStep (Kind.selects s) values before d after = (after ≡ before) × Selects s values before.tables d
+MayStep (Kind.inserts base) values before d after = MayChange (Inserts base) before d after
+MayStep (Kind.updates t) values before d after = MayUpdate (Updates (target.Searched t) None) before d after
+MayStep (Kind.deletes t) values before d after = MayChange (Deletes (target.Searched t) None) before d after
+MayStep (Kind.updates_at p) values before d after = MayUpdateAt (is_on_row before p) p before d after
+MayStep (Kind.deletes_at p) values before d after = MayDeleteAt (is_on_row before p) p before d after
 MayStep Kind.commits values before d after = Ends (committed_state before) d after
 MayStep Kind.rolls_back values before d after = Ends (rolled_back before) d after
 

@@ -131,7 +131,7 @@ row_reply parameters targets row = reply_of parameters (row_set parameters targe
 
 -- ---- while the targets are set one after the other
 
--- one more is set, or a status stands in its stead; want of memory is no outcome of a definition
+-- one more is set, or a status stands in its place; want of memory is no outcome of a definition
 abbrev pub IsSet : Result (Unit {0}) Fault → Outcome Assignments → Assignments → Type 0
 IsSet (Ok done) wanted now = wanted ≡ Ok now
 IsSet (Err (fault.Status f)) wanted now = wanted ≡ Err (status_of f)

@@ -7,7 +7,7 @@ ghost use Rattle.sq_catalog.specs.Catalog.{column_kinds};
 ghost use Rattle.sq_module.specs.Program.{CursorsAreWellFormed, CursorsFit, FitsProgram, ProgramIsWellFormed};
 ghost use Rattle.sq_query.specs.declared.fault.Fault.TheVariants as fault;
 ghost use Rattle.sq_session.specs.Asked.{IsAsked};
-ghost use Rattle.sq_session.specs.Cursors.{IsWhole, OpenHasKinds};
+ghost use Rattle.sq_session.specs.Cursors.{IsWhole, OpenHaveKept};
 ghost use Rattle.sq_session.specs.Kind.{kind_at, kind_of, needs_memory, takes_memory};
 ghost use Rattle.sq_session.specs.Parameter.{AreGiven, started_values};
 ghost use Rattle.sq_session.specs.Session.{procedures_of};
@@ -37,10 +37,10 @@ pub(crate) fn call<S: Store>(
 ) -> Result<Done, Fault>
     requires fits { FitsProgram catalog.now.bases program.now }
     requires well_formed { ProgramIsWellFormed (column_kinds catalog.now) program.now }
-    requires whole { IsWhole catalog.now.bases program.now.cursors.items machine.old }
+    requires whole { IsWhole (column_kinds catalog.now) catalog.now.bases program.now.cursors.items machine.old }
     ensures step { IfSome (ending result) (λ d.
         MayCall (kind_at (procedures_of program.now.cursors.items program.now.procedures.entries) procedure) values.now machine.old d machine.new) }
-    ensures whole { IsWhole catalog.now.bases program.now.cursors.items machine.new }
+    ensures whole { IsWhole (column_kinds catalog.now) catalog.now.bases program.now.cursors.items machine.new }
     ensures err { OnErr result (machine.new ≡ machine.old) }
     ensures memory { needs_memory (kind_at (procedures_of program.now.cursors.items program.now.procedures.entries) procedure) ≡ false → IsSome (ending result) }
 {
@@ -70,14 +70,14 @@ fn performed<S: Store>(
     requires asked { IsAsked (column_kinds catalog.now) program.now.cursors.items (kinds_of_parameters procedure.now.parameters) statement.now }
     requires fit { CursorsFit catalog.now.bases program.now.cursors.items }
     requires well_formed { CursorsAreWellFormed (column_kinds catalog.now) program.now.cursors.items }
-    requires whole { IsWhole catalog.now.bases program.now.cursors.items machine.old }
+    requires whole { IsWhole (column_kinds catalog.now) catalog.now.bases program.now.cursors.items machine.old }
     ensures rows { holds catalog.now.bases machine.new.tables ≡ true }
     ensures in_domains { AreInDomains catalog.now.bases machine.new.tables }
-    ensures opened { OpenHasKinds program.now.cursors.items statement.now machine.new.cursors }
-    ensures step { IfSome (ending result) (λ d. MayStep (kind_of program.now.cursors.items procedure.now.parameters statement.now)
+    ensures opened { OpenHaveKept (column_kinds catalog.now) program.now.cursors.items statement.now machine.new.cursors }
+    ensures step { IfSome (ending result) (λ d. MayStep (kind_of program.now.cursors.items procedure.now.user procedure.now.parameters statement.now)
         (started_values procedure.now.parameters values.now) machine.old d machine.new) }
     ensures err { OnErr result (machine.new ≡ machine.old) }
-    ensures memory { takes_memory (kind_of program.now.cursors.items procedure.now.parameters statement.now) ≡ false → IsSome (ending result) }
+    ensures memory { takes_memory (kind_of program.now.cursors.items procedure.now.user procedure.now.parameters statement.now) ≡ false → IsSome (ending result) }
 {
     match statement {
         BoundStatement::Close(cursor) => machine.close(alloc, *cursor),
@@ -90,7 +90,7 @@ fn performed<S: Store>(
 }
 
 /// Stores the values in the parameters, and performs a statement that may read them.
-#[tactic(auto, using(crate::proofs::Listed::open_kinds))]
+#[tactic(auto, using(crate::proofs::Kept::open_kept))]
 fn with_values<S: Store>(
     alloc: Global,
     catalog: &Catalog,
@@ -105,12 +105,12 @@ fn with_values<S: Store>(
     requires asked { IsAsked (column_kinds catalog.now) program.now.cursors.items (kinds_of_parameters procedure.now.parameters) statement.now }
     requires fit { CursorsFit catalog.now.bases program.now.cursors.items }
     requires well_formed { CursorsAreWellFormed (column_kinds catalog.now) program.now.cursors.items }
-    requires whole { IsWhole catalog.now.bases program.now.cursors.items machine.old }
-    requires memory { takes_memory (kind_of program.now.cursors.items procedure.now.parameters statement.now) ≡ true }
+    requires whole { IsWhole (column_kinds catalog.now) catalog.now.bases program.now.cursors.items machine.old }
+    requires memory { takes_memory (kind_of program.now.cursors.items procedure.now.user procedure.now.parameters statement.now) ≡ true }
     ensures rows { holds catalog.now.bases machine.new.tables ≡ true }
     ensures in_domains { AreInDomains catalog.now.bases machine.new.tables }
-    ensures opened { OpenHasKinds program.now.cursors.items statement.now machine.new.cursors }
-    ensures step { IfSome (ending result) (λ d. MayStep (kind_of program.now.cursors.items procedure.now.parameters statement.now)
+    ensures opened { OpenHaveKept (column_kinds catalog.now) program.now.cursors.items statement.now machine.new.cursors }
+    ensures step { IfSome (ending result) (λ d. MayStep (kind_of program.now.cursors.items procedure.now.user procedure.now.parameters statement.now)
         (started_values procedure.now.parameters values.now) machine.old d machine.new) }
     ensures err { OnErr result (machine.new ≡ machine.old) }
 {
@@ -139,12 +139,12 @@ fn performed_with<S: Store>(
     requires given { AreGiven (kinds_of_parameters called.now.procedure.now.parameters) called.now.values.now }
     requires fit { CursorsFit called.now.catalog.now.bases called.now.cursors.now }
     requires well_formed { CursorsAreWellFormed (column_kinds called.now.catalog.now) called.now.cursors.now }
-    requires whole { IsWhole called.now.catalog.now.bases called.now.cursors.now machine.old }
-    requires memory { takes_memory (kind_of called.now.cursors.now called.now.procedure.now.parameters statement.now) ≡ true }
+    requires whole { IsWhole (column_kinds called.now.catalog.now) called.now.catalog.now.bases called.now.cursors.now machine.old }
+    requires memory { takes_memory (kind_of called.now.cursors.now called.now.procedure.now.user called.now.procedure.now.parameters statement.now) ≡ true }
     ensures rows { holds called.now.catalog.now.bases machine.new.tables ≡ true }
     ensures in_domains { AreInDomains called.now.catalog.now.bases machine.new.tables }
-    ensures opened { OpenHasKinds called.now.cursors.now statement.now machine.new.cursors }
-    ensures step { IfSome (ending result) (λ d. MayStep (kind_of called.now.cursors.now called.now.procedure.now.parameters statement.now)
+    ensures opened { OpenHaveKept (column_kinds called.now.catalog.now) called.now.cursors.now statement.now machine.new.cursors }
+    ensures step { IfSome (ending result) (λ d. MayStep (kind_of called.now.cursors.now called.now.procedure.now.user called.now.procedure.now.parameters statement.now)
         called.now.values.now machine.old d machine.new) }
     ensures err { OnErr result (machine.new ≡ machine.old) }
 {

@@ -21,7 +21,8 @@ pub(crate) struct Called<'a> {
 impl<'a> Called<'a> {
     /// The user and the values, as queries read them.
     pub(crate) fn inputs(&self) -> Inputs<'_>
-        ensures { result.parameters.now ≡ self.now.values.now }
+        ensures parameters { result.parameters.now ≡ self.now.values.now }
+        ensures user { result.user ≡ self.now.procedure.now.user }
     {
         Inputs {
             user: self.procedure.user,

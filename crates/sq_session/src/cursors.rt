@@ -47,7 +47,7 @@ fn off_row(cursor: &mut CursorState)
     }
 }
 
-/// Lets cursors go on over lists.
+/// Turns walks into cursors over the lists of numbers that were made of them.
 #[tactic(auto, using(crate::proofs::GoOn::go_on_none, crate::proofs::GoOn::go_on_then))]
 pub(crate) fn put_lists(cursors: &mut [CursorState], listed: Vec<ListedCursor>)
     ensures { GoOn cursors.old cursors.new }

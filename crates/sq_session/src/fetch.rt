@@ -9,9 +9,9 @@ ghost use Rattle.sq_catalog.specs.Catalog.{column_kinds};
 ghost use Rattle.sq_module.specs.Program.{CursorsAreWellFormed, CursorsFit, kinds_of_cursors};
 ghost use Rattle.sq_query.specs.Fault.{Meets};
 ghost use Rattle.sq_store.specs.Content.{table_at};
-ghost use Rattle.sq_session.specs.Cursors.{HaveKinds, are_over, is_over, is_updatable};
-ghost use Rattle.sq_session.specs.Fetch.{HasCome, HasFetched, HasWalked, IsFetch, MayTakeFrom, MayTakeShown, MeansPlace, come_to_number, come_to_row};
-ghost use Rattle.sq_session.specs.Kind.{columns_at, fetching, over_at};
+ghost use Rattle.sq_session.specs.Cursors.{HasKeptAt, HaveKept, are_over, is_over, is_updatable};
+ghost use Rattle.sq_session.specs.Fetch.{HasCome, HasFetched, IsFetch, MayTakeFrom, MayTakeShown, MeansPlace, come_to_number, come_to_row, come_to_walk};
+ghost use Rattle.sq_session.specs.Kind.{IsDeclaredAt, fetching, over_at};
 ghost use Rattle.sq_session.specs.Parameter.{AreGiven};
 ghost use Rattle.sq_session.specs.Step.{MayFetch, ending};
 ghost use Rattle.sq_session.specs.Target.{MayTake, MayTakeRows, row_reply};
@@ -29,7 +29,8 @@ use sq_store::{Meter, Store};
 use sq_value::{Row, Value};
 use std::alloc::{AllocError, Global};
 
-/// FETCH of the cursor of a number. A status of retrieving leaves it where it came.
+/// FETCH of the cursor with this number. Where retrieving ends with a status, the cursor stays on the row that it
+/// reached.
 #[tactic(auto, using(crate::proofs::Put::put_same, crate::proofs::Over::as_many, crate::proofs::Over::over_there, crate::proofs::Coming::place_meant))]
 pub(crate) fn fetch_at<S: Store>(
     called: &Called<'_>,
@@ -47,8 +48,8 @@ pub(crate) fn fetch_at<S: Store>(
     requires given { AreGiven (kinds_of_parameters called.now.procedure.now.parameters) called.now.values.now }
     requires well_formed { CursorsAreWellFormed (column_kinds called.now.catalog.now) called.now.cursors.now }
     requires in_domains { AreInDomains called.now.catalog.now.bases (S.content_now store.now) }
-    requires kinds { HaveKinds called.now.cursors.now cursors.old }
-    ensures step { IfSome (ending result) (λ d. MayFetch (fetching called.now.cursors.now called.now.procedure.now.parameters fetch.now) called.now.values.now
+    requires kept { HaveKept (column_kinds called.now.catalog.now) called.now.cursors.now cursors.old }
+    ensures step { IfSome (ending result) (λ d. MayFetch (fetching called.now.cursors.now called.now.procedure.now.user called.now.procedure.now.parameters fetch.now) called.now.values.now
         (record { tables = S.content_now store.now; committed = S.committed store.now; keys = S.key_columns store.now; cursors = cursors.old }) d
         (record { tables = S.content_now store.now; committed = S.committed store.now; keys = S.key_columns store.now; cursors = cursors.new })) }
     ensures err { OnErr result (cursors.new ≡ cursors.old) }
@@ -69,8 +70,10 @@ fn fetch_cursor<S: Store>(
     requires fit { CursorsFit called.now.catalog.now.bases called.now.cursors.now }
     requires rows { holds called.now.catalog.now.bases (S.content_now store.now) ≡ true }
     requires place { MeansPlace called.now.values.now fetch.now.orientation }
-    requires taken { MayTakeFrom (fetching called.now.cursors.now called.now.procedure.now.parameters fetch.now) (S.content_now store.now) cursor.old }
-    ensures fetched { HasFetched (fetching called.now.cursors.now called.now.procedure.now.parameters fetch.now) called.now.values.now (S.content_now store.now)
+    requires taken { MayTakeFrom (fetching called.now.cursors.now called.now.procedure.now.user called.now.procedure.now.parameters fetch.now) (S.content_now store.now) cursor.old }
+    requires kept { HasKeptAt (column_kinds called.now.catalog.now) called.now.cursors.now fetch.now.cursor cursor.old }
+    requires domains { AreInDomains called.now.catalog.now.bases (S.content_now store.now) }
+    ensures fetched { HasFetched (fetching called.now.cursors.now called.now.procedure.now.user called.now.procedure.now.parameters fetch.now) called.now.values.now (S.content_now store.now)
         cursor.old result cursor.new }
     ensures err { OnErr result (cursor.new ≡ cursor.old) }
 {
@@ -92,7 +95,7 @@ fn fetch_row(
     requires targets { are_parameters (length called.now.procedure.now.parameters) fetch.now.outputs ≡ true }
     requires place { MeansPlace called.now.values.now fetch.now.orientation }
     requires taken { MayTakeRows called.now.procedure.now.parameters fetch.now.outputs cursor.old.rows }
-    ensures comes { HasCome result cursor.new (come_to_row (fetching called.now.cursors.now called.now.procedure.now.parameters fetch.now) called.now.values.now cursor.old) }
+    ensures comes { HasCome result cursor.new (come_to_row (fetching called.now.cursors.now called.now.procedure.now.user called.now.procedure.now.parameters fetch.now) called.now.values.now cursor.old) }
     ensures err { OnErr result (cursor.new ≡ cursor.old) }
 {
     let rows = cursor.rows.as_slice();
@@ -118,8 +121,8 @@ fn fetch_number<S: Store>(
     requires targets { are_parameters (length called.now.procedure.now.parameters) fetch.now.outputs ≡ true }
     requires fit { CursorsFit called.now.catalog.now.bases called.now.cursors.now }
     requires rows { holds called.now.catalog.now.bases (S.content_now store.now) ≡ true }
-    requires taken { MayTakeShown (fetching called.now.cursors.now called.now.procedure.now.parameters fetch.now) (table_at (S.content_now store.now) cursor.old.table) }
-    ensures comes { HasCome result cursor.new (come_to_number (fetching called.now.cursors.now called.now.procedure.now.parameters fetch.now) (S.content_now store.now) cursor.old) }
+    requires taken { MayTakeShown (fetching called.now.cursors.now called.now.procedure.now.user called.now.procedure.now.parameters fetch.now) (table_at (S.content_now store.now) cursor.old.table) }
+    ensures comes { HasCome result cursor.new (come_to_number (fetching called.now.cursors.now called.now.procedure.now.user called.now.procedure.now.parameters fetch.now) (S.content_now store.now) cursor.old) }
     ensures err { OnErr result (cursor.new ≡ cursor.old) }
 {
     let query = updatable_query(called, fetch.cursor);
@@ -151,8 +154,10 @@ fn fetch_walk<S: Store>(
     requires targets { are_parameters (length called.now.procedure.now.parameters) fetch.now.outputs ≡ true }
     requires fit { CursorsFit called.now.catalog.now.bases called.now.cursors.now }
     requires rows { holds called.now.catalog.now.bases (S.content_now store.now) ≡ true }
-    requires taken { MayTakeShown (fetching called.now.cursors.now called.now.procedure.now.parameters fetch.now) (table_at (S.content_now store.now) walk.old.table) }
-    ensures walked { HasWalked (fetching called.now.cursors.now called.now.procedure.now.parameters fetch.now) (S.content_now store.now) walk.old result walk.new }
+    requires taken { MayTakeShown (fetching called.now.cursors.now called.now.procedure.now.user called.now.procedure.now.parameters fetch.now) (table_at (S.content_now store.now) walk.old.table) }
+    requires kept { HasKeptAt (column_kinds called.now.catalog.now) called.now.cursors.now fetch.now.cursor (CursorState.Walking walk.old) }
+    requires domains { AreInDomains called.now.catalog.now.bases (S.content_now store.now) }
+    ensures comes { HasCome result walk.new (come_to_walk (fetching called.now.cursors.now called.now.procedure.now.user called.now.procedure.now.parameters fetch.now) (S.content_now store.now) walk.old) }
     ensures err { OnErr result (walk.new ≡ walk.old) }
 {
     let query = updatable_query(called, fetch.cursor);
@@ -174,7 +179,7 @@ fn fetch_walk<S: Store>(
 /// The query of an updatable cursor.
 fn updatable_query<'a>(called: &Called<'a>, cursor: usize) -> &'a UpdatableQuery
     requires { is_updatable (over_at called.now.cursors.now cursor) ≡ true }
-    ensures { columns_at called.now.cursors.now cursor ≡ result.now.columns }
+    ensures { IsDeclaredAt called.now.cursors.now cursor result.now }
 {
     match called.cursors.get(cursor) {
         Some(declared) => match &declared.cursor.body {

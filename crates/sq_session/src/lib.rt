@@ -5,8 +5,8 @@
 //! Cursors, targets, base tables and columns of them that a bound statement names are there: the procedures of a session fit
 //! its catalog, and its tables have rows for the base tables. Its cursors and statements are well formed, each of its parameters
 //! has a value of its kind while a call runs, and the rows that an open cursor has listed are of the kinds of its columns. So no
-//! statement sets a parameter of texts from a number, has other than as many targets as a row has values, or goes by a parameter
-//! that is no number: binding makes none.
+//! statement sets a text parameter from a number, has more or fewer targets than a row has values, or fetches by a
+//! parameter that is no number.
 #![tactic(auto)]
 
 mod call;

@@ -7,17 +7,17 @@ ghost use Rattle.sq_bound.specs.WellFormed.{IsSelect, TakeKinds, kinds_of_parame
 ghost use Rattle.sq_bound.specs.declared.statement.BoundStatement.TheVariants.{Open};
 ghost use Rattle.sq_catalog.specs.Catalog.{column_kinds};
 ghost use Rattle.sq_change.specs.Given.{MayAssign, MayGive};
-ghost use Rattle.sq_change.specs.Statement.{IsGiven};
+ghost use Rattle.sq_change.specs.Statement.{Inserts, IsGiven};
 ghost use Rattle.sq_meaning.specs.declared.status.Status.TheVariants as status;
 ghost use Rattle.sq_module.specs.Program.{CursorsAreWellFormed, CursorsFit, OpensWellFormed, kinds_of_cursors};
 ghost use Rattle.sq_query.specs.declared.fault.Failure.TheVariants as failure;
 ghost use Rattle.sq_query.specs.declared.fault.Fault.TheVariants as fault;
-ghost use Rattle.sq_session.specs.Cursors.{HaveKinds, IsWhole};
+ghost use Rattle.sq_session.specs.Cursors.{HaveKept, IsWhole};
 ghost use Rattle.sq_session.specs.Fetch.{IsFetch};
-ghost use Rattle.sq_session.specs.Kind.{delete_kind, fetching, opening, over_at, selecting, update_kind};
+ghost use Rattle.sq_session.specs.Kind.{delete_kind, fetching, opening, selecting, update_kind};
 ghost use Rattle.sq_session.specs.Parameter.{AreGiven};
 ghost use Rattle.sq_session.specs.State.{committed_state, rolled_back};
-ghost use Rattle.sq_session.specs.Step.{MayChange, MayClose, MayFetch, MayOpen, MayOpenOver, MayStep, Selects, ending, is_on_row, is_ready};
+ghost use Rattle.sq_session.specs.Step.{MayChange, MayClose, MayFetch, MayOpen, MayOpenClosed, MayStep, Selects, ending, is_on_row, is_ready, number_meant, on_row};
 ghost use Rattle.sq_session.specs.Target.{ended};
 
 use crate::called::Called;
@@ -75,11 +75,11 @@ impl<S: Store> Machine<S> {
     ) -> Result<Done, Fault>
         requires there { number < length called.now.cursors.now }
         requires fit { CursorsFit called.now.catalog.now.bases called.now.cursors.now }
-        requires whole { IsWhole called.now.catalog.now.bases called.now.cursors.now self.old }
+        requires whole { IsWhole (column_kinds called.now.catalog.now) called.now.catalog.now.bases called.now.cursors.now self.old }
         requires asked { OpensWellFormed (column_kinds called.now.catalog.now) called.now.cursors.now (kinds_of_parameters called.now.procedure.now.parameters) (Open number) }
         requires given { AreGiven (kinds_of_parameters called.now.procedure.now.parameters) called.now.values.now }
-        ensures kinds { HaveKinds called.now.cursors.now self.new.cursors }
-        ensures step { IfSome (ending result) (λ d. MayOpen (opening called.now.cursors.now called.now.procedure.now.parameters number)
+        ensures kept { HaveKept (column_kinds called.now.catalog.now) called.now.cursors.now self.new.cursors }
+        ensures step { IfSome (ending result) (λ d. MayOpen (opening called.now.cursors.now called.now.procedure.now.user called.now.procedure.now.parameters number)
             called.now.values.now self.old d self.new) }
         ensures tables { self.new.tables ≡ self.old.tables }
         ensures err { OnErr result (self.new ≡ self.old) }
@@ -99,11 +99,11 @@ impl<S: Store> Machine<S> {
     ) -> Result<Done, Fault>
         requires there { number < length called.now.cursors.now }
         requires fit { CursorsFit called.now.catalog.now.bases called.now.cursors.now }
-        requires whole { IsWhole called.now.catalog.now.bases called.now.cursors.now self.old }
+        requires whole { IsWhole (column_kinds called.now.catalog.now) called.now.catalog.now.bases called.now.cursors.now self.old }
         requires asked { OpensWellFormed (column_kinds called.now.catalog.now) called.now.cursors.now (kinds_of_parameters called.now.procedure.now.parameters) (Open number) }
         requires given { AreGiven (kinds_of_parameters called.now.procedure.now.parameters) called.now.values.now }
-        ensures kinds { HaveKinds called.now.cursors.now self.new.cursors }
-        ensures step { IfSome (ending result) (λ d. MayOpenOver (over_at called.now.cursors.now number) number called.now.values.now self.old d self.new) }
+        ensures kept { HaveKept (column_kinds called.now.catalog.now) called.now.cursors.now self.new.cursors }
+        ensures step { IfSome (ending result) (λ d. MayOpenClosed (opening called.now.cursors.now called.now.procedure.now.user called.now.procedure.now.parameters number) called.now.values.now self.old d self.new) }
         ensures tables { self.new.tables ≡ self.old.tables }
         ensures err { OnErr result (self.new ≡ self.old) }
     {
@@ -126,11 +126,11 @@ impl<S: Store> Machine<S> {
         requires there { fetch.now.cursor < length called.now.cursors.now }
         requires targets { are_parameters (length called.now.procedure.now.parameters) fetch.now.outputs ≡ true }
         requires fit { CursorsFit called.now.catalog.now.bases called.now.cursors.now }
-        requires whole { IsWhole called.now.catalog.now.bases called.now.cursors.now self.old }
+        requires whole { IsWhole (column_kinds called.now.catalog.now) called.now.catalog.now.bases called.now.cursors.now self.old }
         requires asked { IsFetch (kinds_of_cursors called.now.cursors.now) (kinds_of_parameters called.now.procedure.now.parameters) fetch.now }
         requires given { AreGiven (kinds_of_parameters called.now.procedure.now.parameters) called.now.values.now }
         requires well_formed { CursorsAreWellFormed (column_kinds called.now.catalog.now) called.now.cursors.now }
-        ensures step { IfSome (ending result) (λ d. MayFetch (fetching called.now.cursors.now called.now.procedure.now.parameters fetch.now)
+        ensures step { IfSome (ending result) (λ d. MayFetch (fetching called.now.cursors.now called.now.procedure.now.user called.now.procedure.now.parameters fetch.now)
             called.now.values.now self.old d self.new) }
         ensures tables { self.new.tables ≡ self.old.tables }
         ensures err { OnErr result (self.new ≡ self.old) }
@@ -162,7 +162,6 @@ impl<S: Store> Machine<S> {
     }
 
     /// A select statement of one row (13.5).
-    #[tactic(auto, using(crate::proofs::Selected::selects_from, crate::proofs::Selected::selects_none))]
     pub(crate) fn select(
         &self,
         called: &Called<'_>,
@@ -174,7 +173,7 @@ impl<S: Store> Machine<S> {
         requires taken { TakeKinds (kinds_of_parameters called.now.procedure.now.parameters) select.now.outputs (kinds_of_select select.now.query) }
         requires given { AreGiven (kinds_of_parameters called.now.procedure.now.parameters) called.now.values.now }
         requires in_domains { AreInDomains called.now.catalog.now.bases self.now.tables }
-        ensures { IfSome (ending result) (Selects (selecting called.now.procedure.now.parameters select.now)) }
+        ensures { IfSome (ending result) (Selects (selecting called.now.procedure.now.user called.now.procedure.now.parameters select.now) called.now.values.now self.now.tables) }
     {
         let found = specification_rows(
             called.alloc,
@@ -195,7 +194,6 @@ impl<S: Store> Machine<S> {
     }
 
     /// INSERT (13.8).
-    #[tactic(auto, using(crate::proofs::Counted::inserts_count))]
     pub(crate) fn insert(
         &mut self,
         called: &Called<'_>,
@@ -205,8 +203,8 @@ impl<S: Store> Machine<S> {
         requires fits { IsBase called.now.catalog.now.bases statement.now.leaf.table }
         requires columns { AllByRecursion (IsColumnOf statement.now.leaf.table) statement.now.columns }
         requires given { MayGive (column_kinds called.now.catalog.now) called.now.values.now statement.now.columns statement.now.source }
-        requires whole { IsWhole called.now.catalog.now.bases called.now.cursors.now self.old }
-        ensures step { IfSome (ending result) (λ d. MayChange self.old d self.new) }
+        requires whole { IsWhole (column_kinds called.now.catalog.now) called.now.catalog.now.bases called.now.cursors.now self.old }
+        ensures step { IfSome (ending result) (λ d. MayChange (Inserts statement.now.base) self.old d self.new) }
         ensures rows { holds called.now.catalog.now.bases self.new.tables ≡ true }
         ensures in_domains { AreInDomains called.now.catalog.now.bases self.new.tables }
         ensures err { OnErr result (self.new ≡ self.old) }
@@ -223,7 +221,6 @@ impl<S: Store> Machine<S> {
     }
 
     /// UPDATE (13.9, 13.10).
-    #[tactic(auto, using(crate::proofs::Counted::updates_count))]
     pub(crate) fn update(
         &mut self,
         called: &Called<'_>,
@@ -235,7 +232,7 @@ impl<S: Store> Machine<S> {
         requires domains { AllByRecursion (λ a. IsColumnOf (under statement.now.target).table a.column) statement.now.assignments }
         requires assigned { MayAssign (column_kinds called.now.catalog.now) called.now.values.now (under statement.now.target).table statement.now.assignments }
         requires fit { CursorsFit called.now.catalog.now.bases called.now.cursors.now }
-        requires whole { IsWhole called.now.catalog.now.bases called.now.cursors.now self.old }
+        requires whole { IsWhole (column_kinds called.now.catalog.now) called.now.catalog.now.bases called.now.cursors.now self.old }
         ensures rows { holds called.now.catalog.now.bases self.new.tables ≡ true }
         ensures in_domains { AreInDomains called.now.catalog.now.bases self.new.tables }
         ensures step { IfSome (ending result) (λ d. MayStep (update_kind statement.now.target) called.now.values.now self.old d self.new) }
@@ -265,7 +262,6 @@ impl<S: Store> Machine<S> {
     }
 
     /// DELETE (13.6, 13.7). After a positioned one the cursor is before the next row.
-    #[tactic(auto, using(crate::proofs::Counted::deletes_count))]
     pub(crate) fn delete(
         &mut self,
         called: &Called<'_>,
@@ -273,7 +269,7 @@ impl<S: Store> Machine<S> {
         meter: &mut Meter,
     ) -> Result<Done, Fault>
         requires target { FitsTarget called.now.catalog.now.bases (length called.now.cursors.now) target.now }
-        requires whole { IsWhole called.now.catalog.now.bases called.now.cursors.now self.old }
+        requires whole { IsWhole (column_kinds called.now.catalog.now) called.now.catalog.now.bases called.now.cursors.now self.old }
         ensures rows { holds called.now.catalog.now.bases self.new.tables ≡ true }
         ensures in_domains { AreInDomains called.now.catalog.now.bases self.new.tables }
         ensures step { IfSome (ending result) (λ d. MayStep (delete_kind target.now) called.now.values.now self.old d self.new) }
@@ -315,12 +311,13 @@ impl<S: Store> Machine<S> {
         Done::successful(alloc)
     }
 
-    /// The number that a positioned statement changes; none for a searched one.
+    /// The number of the row that a positioned statement changes; none for a searched one.
     fn current(&self, called: &Called<'_>, target: &ChangeTarget) -> Result<Option<u64>, Fault>
         requires target { FitsTarget called.now.catalog.now.bases (length called.now.cursors.now) target.now }
-        requires whole { IsWhole called.now.catalog.now.bases called.now.cursors.now self.now }
+        requires whole { IsWhole (column_kinds called.now.catalog.now) called.now.catalog.now.bases called.now.cursors.now self.now }
         ensures ready { is_ok result ≡ is_ready self.now target.now }
         ensures given { IfOk result (IsGiven target.now) }
+        ensures on { IfOk result (λ on. on ≡ number_meant self.now target.now) }
         ensures refused { IfErr result (λ f. f ≡ fault.Status failure.InvalidCursorState) }
     {
         match target {
@@ -336,7 +333,8 @@ impl<S: Store> Machine<S> {
     fn number_there(&self, positioned: &PositionedTarget) -> Option<u64>
         requires cursor { positioned.now.cursor < length self.now.cursors }
         requires table { positioned.now.base < length self.now.tables }
-        ensures { is_some result ≡ is_on_row self.now positioned.now }
+        ensures there { is_some result ≡ is_on_row self.now positioned.now }
+        ensures on { IfSome result (λ number. on_row self.now positioned.now ≡ Some number) }
     {
         let number = number_on(&self.cursors[positioned.cursor])?;
         match self.store.row(positioned.base, number, &mut Meter::new()) {

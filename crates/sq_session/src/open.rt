@@ -1,16 +1,16 @@
 //! OPEN (ISO/IEC 9075:1992, 13.2).
 
-ghost use Rattle.std.specs.Prelude.{◌≡◌, ◌<◌, length, true, IfOk, IfSome, OnErr};
+ghost use Rattle.std.specs.Prelude.{◌≡◌, ◌<◌, ⊤, length, true, IfOk, IfSome, OnErr};
 ghost use Rattle.sq_bound.specs.Fits.{AreInDomains, FitsCursor, holds};
-ghost use Rattle.sq_bound.specs.WellFormed.{IsCursor, IsQuery, kinds_of_parameters, kinds_of_query, kinds_of_results};
+ghost use Rattle.sq_bound.specs.WellFormed.{IsCursor, IsQuery, kinds_of_parameters, kinds_of_query};
 ghost use Rattle.sq_bound.specs.declared.statement.BoundStatement.TheVariants.{Open};
 ghost use Rattle.sq_catalog.specs.Catalog.{column_kinds};
 ghost use Rattle.sq_module.specs.Program.{CursorsFit, OpensWellFormed};
-ghost use Rattle.sq_session.specs.Cursors.{HasListed, HaveKinds, are_over};
-ghost use Rattle.sq_session.specs.Kind.{Over, over_at, over_of, over_target};
-ghost use Rattle.sq_session.specs.Open.{HasOpened};
+ghost use Rattle.sq_session.specs.Cursors.{HasKept, HasListed, HaveKept, are_over};
+ghost use Rattle.sq_session.specs.Kind.{Over, opening, over_of, over_target};
+ghost use Rattle.sq_session.specs.Open.{HasOpened, IsMeant, NumbersAreMeant, RowsAreMeant, TargetIsMeant};
 ghost use Rattle.sq_session.specs.Parameter.{AreGiven};
-ghost use Rattle.sq_session.specs.Step.{MayOpenOver, ending};
+ghost use Rattle.sq_session.specs.Step.{MayOpenClosed, ending};
 
 use crate::called::Called;
 use crate::cursor::{CursorState, NumbersCursor, RowsCursor};
@@ -21,7 +21,7 @@ use sq_items::Items;
 use sq_query::{Fault, numbers_of, ordered_rows};
 use sq_store::{Meter, Store};
 
-/// OPEN of the cursor of a number, which is closed.
+/// OPEN of the cursor with this number, which is closed.
 #[tactic(auto, using(crate::proofs::Over::as_many))]
 pub(crate) fn open_closed<S: Store>(
     called: &Called<'_>,
@@ -34,12 +34,12 @@ pub(crate) fn open_closed<S: Store>(
     requires fit { CursorsFit called.now.catalog.now.bases called.now.cursors.now }
     requires cursors { are_over called.now.cursors.now cursors.old ≡ true }
     requires rows { holds called.now.catalog.now.bases (S.content_now store.now) ≡ true }
-    requires kinds { HaveKinds called.now.cursors.now cursors.old }
+    requires kept { HaveKept (column_kinds called.now.catalog.now) called.now.cursors.now cursors.old }
     requires asked { OpensWellFormed (column_kinds called.now.catalog.now) called.now.cursors.now (kinds_of_parameters called.now.procedure.now.parameters) (Open number) }
     requires given { AreGiven (kinds_of_parameters called.now.procedure.now.parameters) called.now.values.now }
     requires domains { AreInDomains called.now.catalog.now.bases (S.content_now store.now) }
-    ensures kinds { HaveKinds called.now.cursors.now cursors.new }
-    ensures step { IfSome (ending result) (λ d. MayOpenOver (over_at called.now.cursors.now number) number called.now.values.now
+    ensures kept { HaveKept (column_kinds called.now.catalog.now) called.now.cursors.now cursors.new }
+    ensures step { IfSome (ending result) (λ d. MayOpenClosed (opening called.now.cursors.now called.now.procedure.now.user called.now.procedure.now.parameters number) called.now.values.now
         (record { tables = S.content_now store.now; committed = S.committed store.now; keys = S.key_columns store.now; cursors = cursors.old }) d
         (record { tables = S.content_now store.now; committed = S.committed store.now; keys = S.key_columns store.now; cursors = cursors.new })) }
     ensures err { OnErr result (cursors.new ≡ cursors.old) }
@@ -55,7 +55,6 @@ pub(crate) fn open_closed<S: Store>(
 }
 
 /// An open cursor, before its first row.
-#[tactic(auto, using(crate::proofs::Asking::updatable_lists))]
 fn opened<S: Store>(
     called: &Called<'_>,
     cursor: &BoundCursor,
@@ -67,8 +66,8 @@ fn opened<S: Store>(
     requires asked { IsCursor (column_kinds called.now.catalog.now) (kinds_of_parameters called.now.procedure.now.parameters) cursor.now }
     requires given { AreGiven (kinds_of_parameters called.now.procedure.now.parameters) called.now.values.now }
     requires domains { AreInDomains called.now.catalog.now.bases (S.content_now store.now) }
-    ensures opened { HasOpened (over_of cursor.now.body) called.now.values.now (S.content_now store.now) result }
-    ensures kinds { IfOk result (HasListed (kinds_of_results cursor.now.columns)) }
+    ensures opened { HasOpened (over_of cursor.now.body) (IsMeant cursor.now.body called.now.procedure.now.user called.now.values.now (S.content_now store.now)) called.now.values.now (S.content_now store.now) result }
+    ensures kept { IfOk result (HasKept (column_kinds called.now.catalog.now) cursor.now) }
 {
     match &cursor.body {
         CursorBody::Rows(query, order) => {
@@ -89,8 +88,8 @@ fn opened_over_rows<S: Store>(
     requires asked { IsQuery (column_kinds called.now.catalog.now) (kinds_of_parameters called.now.procedure.now.parameters) query.now }
     requires given { AreGiven (kinds_of_parameters called.now.procedure.now.parameters) called.now.values.now }
     requires domains { AreInDomains called.now.catalog.now.bases (S.content_now store.now) }
-    ensures opened { HasOpened Over.rows called.now.values.now (S.content_now store.now) result }
-    ensures kinds { IfOk result (HasListed (kinds_of_query query.now)) }
+    ensures opened { HasOpened Over.rows (RowsAreMeant query.now order.now called.now.procedure.now.user called.now.values.now (S.content_now store.now)) called.now.values.now (S.content_now store.now) result }
+    ensures rows { IfOk result (HasListed (kinds_of_query query.now)) }
 {
     let found = ordered_rows(
         called.alloc,
@@ -110,7 +109,8 @@ fn opened_over_rows<S: Store>(
     }
 }
 
-/// An updatable cursor.
+/// An updatable cursor: a walk where its conditions are quiet, else the numbers of its rows.
+#[tactic(auto, using(crate::proofs::Opened::target_walked, crate::proofs::Opened::target_listed))]
 fn opened_over<S: Store>(
     called: &Called<'_>,
     target: &Target,
@@ -118,7 +118,7 @@ fn opened_over<S: Store>(
     meter: &mut Meter,
 ) -> Result<CursorState, Fault>
     requires { target.now.base < length (S.content_now store.now) }
-    ensures { HasOpened (over_target target.now) called.now.values.now (S.content_now store.now) result }
+    ensures { HasOpened (over_target target.now) (TargetIsMeant target.now called.now.procedure.now.user called.now.values.now (S.content_now store.now)) called.now.values.now (S.content_now store.now) result }
 {
     if target.is_quiet {
         opened_walk(called, target.base, store)
@@ -128,10 +128,10 @@ fn opened_over<S: Store>(
 }
 
 /// A walk of a base table.
-#[tactic(auto, using(crate::proofs::Opened::over_walk, crate::proofs::Opened::over_no_walk))]
+#[tactic(auto, using(crate::proofs::Opened::over_walk))]
 fn opened_walk<S: Store>(called: &Called<'_>, table: usize, store: &S) -> Result<CursorState, Fault>
     requires { table < length (S.content_now store.now) }
-    ensures { HasOpened (Over.walk table) called.now.values.now (S.content_now store.now) result }
+    ensures { HasOpened (Over.walk table) (λ opened. ⊤) called.now.values.now (S.content_now store.now) result }
 {
     match started_walk(called, table, store) {
         Ok(walk) => Ok(CursorState::Walking(walk)),
@@ -146,7 +146,7 @@ fn opened_over_numbers<S: Store>(
     store: &S,
     meter: &mut Meter,
 ) -> Result<CursorState, Fault>
-    ensures { HasOpened (Over.numbers target.now.base) called.now.values.now (S.content_now store.now) result }
+    ensures { HasOpened (Over.numbers target.now.base) (NumbersAreMeant target.now called.now.procedure.now.user called.now.values.now (S.content_now store.now)) called.now.values.now (S.content_now store.now) result }
 {
     let found = numbers_of(
         called.alloc,

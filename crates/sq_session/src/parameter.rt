@@ -57,7 +57,7 @@ fn number_fits(alloc: Global, parameter: ParameterDesc, number: &Value) -> bool
     fits_kind(parameter.domain, number) && store(alloc, number, parameter.domain).is_ok()
 }
 
-/// Whether no other code than blanks stands past the first `length`.
+/// Whether only blanks come after the first `length` codes.
 fn has_only_blanks_past(codes: &[u8], length: usize) -> bool
     ensures { result ≡ only_blanks_past length codes.now }
 {

@@ -43,7 +43,7 @@ fn term_reads(term: &BoundConj, assignments: &[BoundAssignment]) -> bool {
     false
 }
 
-/// A subquery may read any column.
+/// Whether a predicate reads such a column; of one with a subquery it is assumed.
 #[cycle(condition_reads)]
 fn predicate_reads(predicate: &Predicate, assignments: &[BoundAssignment]) -> bool {
     match predicate {

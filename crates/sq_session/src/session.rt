@@ -40,11 +40,14 @@ pub struct Session<S: Store> {
 impl<S: Store> Model for Session<S> {
     ghost use Rattle.std.specs.Coded.{codes};
     ghost use Rattle.sq_bound.specs.contracts.condition.BoundCond as condition;
+    ghost use Rattle.sq_bound.specs.contracts.condition.BoundSpecification as specification;
     ghost use Rattle.sq_bound.specs.contracts.condition.Predicate as predicate;
     ghost use Rattle.sq_bound.specs.contracts.expression.BoundExpr as expression;
     ghost use Rattle.sq_bound.specs.contracts.names.BaseColumn as column;
     ghost use Rattle.sq_bound.specs.contracts.names.BaseTable as base;
     ghost use Rattle.sq_bound.specs.contracts.names.ParameterDesc as parameter;
+    ghost use Rattle.sq_bound.specs.contracts.query.BoundQuery as query;
+    ghost use Rattle.sq_bound.specs.contracts.query.BoundTerm as term;
     ghost use Rattle.sq_catalog.specs.Catalog.{column_kinds};
     ghost use Rattle.sq_module.specs.Program.{FitsProgram, ProgramIsWellFormed};
     ghost use Rattle.sq_session.specs.Cursors.{IsWhole};
@@ -52,11 +55,11 @@ impl<S: Store> Model for Session<S> {
 
     ghost Value = { Session };
 
-    ghost coded = { Prim.hlevel (codes, base.the_row.coded, parameter.the_row.coded, column.the_row.coded, condition.the_row.coded, predicate.the_row.coded, expression.the_row.coded) };
+    ghost coded = { Prim.hlevel (codes, base.the_row.coded, parameter.the_row.coded, column.the_row.coded, condition.the_row.coded, predicate.the_row.coded, specification.the_row.coded, expression.the_row.coded, query.the_row.coded, term.the_row.coded) };
 
     ghost view = { λ s. record { procedures = procedures_of s.program.cursors.items s.program.procedures.entries; tables = s.catalog.tables; bases = s.catalog.bases; state = s.machine } };
 
-    ghost invariant = { λ s. FitsProgram s.catalog.bases s.program × ProgramIsWellFormed (column_kinds s.catalog) s.program × IsWhole s.catalog.bases s.program.cursors.items s.machine };
+    ghost invariant = { λ s. FitsProgram s.catalog.bases s.program × ProgramIsWellFormed (column_kinds s.catalog) s.program × IsWhole (column_kinds s.catalog) s.catalog.bases s.program.cursors.items s.machine };
 }
 
 impl<S: Store> Session<S> {
@@ -88,7 +91,7 @@ impl<S: Store> Session<S> {
     }
 
     /// A session of bound modules.
-    #[tactic(auto, using(crate::proofs::Closed::replicated_closed, crate::proofs::Named::names_are, crate::proofs::Over::start_over, crate::proofs::Listed::start_kinds, crate::proofs::Holding::wide_where_in))]
+    #[tactic(auto, using(crate::proofs::Closed::replicated_closed, crate::proofs::Named::names_are, crate::proofs::Over::start_over, crate::proofs::Kept::start_kept, crate::proofs::Holding::wide_where_in))]
     fn with_program(
         alloc: Global,
         catalog: Catalog,
@@ -149,9 +152,9 @@ impl<S: Store> Session<S> {
         }
     }
 
-    /// Makes one call. Running out of memory changes nothing, and a call that ends with another status than success leaves
-    /// the tables as they were. Each value of each row, now and as committed, is in the domain of its column.
-    #[tactic(auto, using(crate::proofs::Kept::kept_by_failure))]
+    /// Makes one call of the procedure with this number, with these values for its named parameters in the order in
+    /// which they are declared.
+    #[tactic(auto, using(crate::proofs::Failed::kept_by_failure))]
     pub fn call(
         &mut self,
         alloc: Global,

@@ -32,7 +32,7 @@ struct Assignments {
     is_cut: bool,
 }
 
-/// Sets the targets from a row, from left to right. A status in the stead of a value sets none.
+/// Sets the targets from a row, from left to right. Where one ends with a status, none is set.
 pub(crate) fn row_retrieved(
     called: &Called<'_>,
     targets: &[sq_bound::Output],

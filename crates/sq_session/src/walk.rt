@@ -3,14 +3,20 @@
 //! Such a cursor means the same rows as a list of their numbers made at OPEN, as long as no UPDATE changes what its
 //! conditions read. So the rows that are left are listed before an UPDATE of a column that they read.
 
-ghost use Rattle.std.specs.Prelude.{◌≡◌, ◌≤◌, ◌<◌, length, true, Some, IfErr, IfOk, IfSome};
-ghost use Rattle.sq_bound.specs.Fits.{holds};
+ghost use Rattle.std.specs.Prelude.{◌≡◌, ◌≤◌, ◌<◌, ℕ, length, true, Some, IfOk, IfSome, option_map};
+ghost use Rattle.sq_bound.specs.Fits.{AreInDomains, FitsBody, holds};
+ghost use Rattle.sq_bound.specs.WellFormed.{base_kinds};
+ghost use Rattle.sq_catalog.specs.Catalog.{column_kinds};
+ghost use Rattle.sq_meaning.specs.WellFormed.{IsRowOf};
+ghost use Rattle.sq_query.specs.Table.{numbered_row};
+ghost use Rattle.sq_query.specs.Target.{conditions_of};
 ghost use Rattle.sq_module.specs.Program.{CursorsFit};
 ghost use Rattle.sq_session.specs.Kind.{over_of};
 ghost use Rattle.sq_store.specs.Content.{table_at};
-ghost use Rattle.sq_session.specs.Cursors.{GoesOn, are_over, is_over};
-ghost use Rattle.sq_session.specs.Fetch.{Refusal, row_on};
+ghost use Rattle.sq_session.specs.Cursors.{GoesOn, HaveKept, MayKeep, are_over, is_over};
+ghost use Rattle.sq_session.specs.Fetch.{row_on};
 ghost use Rattle.sq_session.specs.Open.{walk_before};
+ghost use Rattle.sq_session.specs.Walk.{AreRowsUnder, IsQuietWith, first_meant, is_meant};
 
 use crate::called::Called;
 use crate::cursor::{CursorState, NumbersCursor};
@@ -58,7 +64,8 @@ pub(crate) fn started_walk<S: Store>(
     })
 }
 
-/// A walk of a user's cursor, and what it walks over.
+/// What a walk reads: the base table, the target with its conditions, and the user and values for which they are
+/// evaluated.
 #[derive(Clone, Copy)]
 struct Walk<'a> {
     alloc: Global,
@@ -70,17 +77,20 @@ struct Walk<'a> {
 }
 
 impl<'a> Walk<'a> {
-    /// Whether the target means a row. Its conditions answer no status; where one does, the target is not well formed.
-    fn is_chosen<S: Store>(&self, row: &Row, store: &S) -> Result<bool, Fault>
-        ensures { IfErr result Refusal }
+    /// Whether the target means a row. Its conditions answer no status.
+    fn is_chosen<S: Store>(&self, row: &Row, store: &S) -> Result<bool, AllocError>
+        requires quiet { IsQuietWith (column_kinds self.now.catalog.now) self.now.target.now self.now.values.now }
+        requires row { IsRowOf (base_kinds self.now.target.now.leaf.table) row.now }
+        ensures { (number : ℕ) → IfOk result (λ chosen. is_meant (conditions_of self.now.target.now) self.now.values.now self.now.user (record { number = number; row = row.now }) ≡ chosen) }
     {
         let inputs = Inputs {
             user: self.user,
             parameters: self.values,
         };
         match is_chosen(self.alloc, self.catalog, self.target, row, store, inputs) {
-            Err(Fault::Status(_)) => Err(Fault::NOT_WELL_FORMED),
-            answer => answer,
+            Ok(chosen) => Ok(chosen),
+            Err(Fault::NoMemory) => Err(AllocError),
+            Err(Fault::Status(_)) => unreachable!(),
         }
     }
 }
@@ -93,11 +103,13 @@ fn next_chosen<'s, S: Store>(
     from: u64,
     mark: u64,
     meter: &mut Meter,
-) -> Result<Option<(u64, &'s Row)>, Fault>
-    requires { walk.now.table < length (S.content_now store.now) }
+) -> Result<Option<(u64, &'s Row)>, AllocError>
+    requires there { walk.now.table < length (S.content_now store.now) }
+    requires quiet { IsQuietWith (column_kinds walk.now.catalog.now) walk.now.target.now walk.now.values.now }
+    requires rows { AreRowsUnder walk.now.target.now (table_at (S.content_now store.now) walk.now.table).rows }
+    ensures meant { IfOk result (λ found. option_map numbered_row found ≡ first_meant (conditions_of walk.now.target.now) walk.now.values.now walk.now.user from mark (table_at (S.content_now store.now) walk.now.table).rows) }
     ensures found { IfOk result (λ found. IfSome found (λ r. (from ≤ r.0) × (r.0 < mark))) }
     ensures there { IfOk result (λ found. IfSome found (λ r. row_on (table_at (S.content_now store.now) walk.now.table) (Some r.0) ≡ Some r.1.now)) }
-    ensures refused { IfErr result Refusal }
 {
     let mut number = from;
     while let Some((found, row)) = store.next_from(walk.table, number, meter) {
@@ -112,18 +124,20 @@ fn next_chosen<'s, S: Store>(
     Ok(None)
 }
 
-/// The next row of a walk of the procedure's module.
+/// The next row of a walk, with the user of the procedure that fetches.
 pub(crate) fn next_of_walk<'s, S: Store>(
     called: &Called<'_>,
     target: &Target,
     store: &'s S,
     cursor: &WalkingCursor,
     meter: &mut Meter,
-) -> Result<Option<(u64, &'s Row)>, Fault>
-    requires { cursor.now.table < length (S.content_now store.now) }
+) -> Result<Option<(u64, &'s Row)>, AllocError>
+    requires there { cursor.now.table < length (S.content_now store.now) }
+    requires quiet { IsQuietWith (column_kinds called.now.catalog.now) target.now cursor.now.values }
+    requires rows { AreRowsUnder target.now (table_at (S.content_now store.now) cursor.now.table).rows }
+    ensures meant { IfOk result (λ found. option_map numbered_row found ≡ first_meant (conditions_of target.now) cursor.now.values called.now.procedure.now.user cursor.now.next cursor.now.mark (table_at (S.content_now store.now) cursor.now.table).rows) }
     ensures found { IfOk result (λ found. IfSome found (λ r. (cursor.now.next ≤ r.0) × (r.0 < cursor.now.mark))) }
     ensures there { IfOk result (λ found. IfSome found (λ r. row_on (table_at (S.content_now store.now) cursor.now.table) (Some r.0) ≡ Some r.1.now)) }
-    ensures refused { IfErr result Refusal }
 {
     let walk = Walk {
         alloc: called.alloc,
@@ -151,10 +165,12 @@ pub(crate) fn listed_walks<S: Store>(
     statement: &BoundUpdate,
     cursors: &[CursorState],
     store: &S,
-) -> Result<Vec<ListedCursor>, Fault>
+) -> Result<Vec<ListedCursor>, AllocError>
     requires fit { CursorsFit called.now.catalog.now.bases called.now.cursors.now }
     requires cursors { are_over called.now.cursors.now cursors.now ≡ true }
     requires rows { holds called.now.catalog.now.bases (S.content_now store.now) ≡ true }
+    requires kept { HaveKept (column_kinds called.now.catalog.now) called.now.cursors.now cursors.now }
+    requires domains { AreInDomains called.now.catalog.now.bases (S.content_now store.now) }
 {
     let mut listed = Vec::new(called.alloc);
     for (number, cursor) in cursors.iter().enumerate() {
@@ -176,9 +192,12 @@ fn listed_walk<S: Store>(
     statement: &BoundUpdate,
     store: &S,
     walk: &WalkingCursor,
-) -> Result<Option<Items<u64>>, Fault>
+) -> Result<Option<Items<u64>>, AllocError>
     requires over { is_over (over_of declared.now.cursor.body) (CursorState.Walking walk.now) ≡ true }
     requires there { walk.now.table < length (S.content_now store.now) }
+    requires fit { FitsBody called.now.catalog.now.bases declared.now.cursor.body }
+    requires kept { MayKeep (column_kinds called.now.catalog.now) declared.now.cursor walk.now.values }
+    requires domains { AreInDomains called.now.catalog.now.bases (S.content_now store.now) }
 {
     let query = match &declared.cursor.body {
         CursorBody::Updatable(query) => query,
@@ -208,8 +227,10 @@ fn rest_of_walk<S: Store>(
     target: &Target,
     store: &S,
     cursor: &WalkingCursor,
-) -> Result<Items<u64>, Fault>
-    requires { cursor.now.table < length (S.content_now store.now) }
+) -> Result<Items<u64>, AllocError>
+    requires there { cursor.now.table < length (S.content_now store.now) }
+    requires quiet { IsQuietWith (column_kinds called.now.catalog.now) target.now cursor.now.values }
+    requires rows { AreRowsUnder target.now (table_at (S.content_now store.now) cursor.now.table).rows }
 {
     let walk = Walk {
         alloc: called.alloc,
@@ -228,8 +249,10 @@ fn numbers_from<S: Store>(
     store: &S,
     from: u64,
     mark: u64,
-) -> Result<Items<u64>, Fault>
-    requires { walk.now.table < length (S.content_now store.now) }
+) -> Result<Items<u64>, AllocError>
+    requires there { walk.now.table < length (S.content_now store.now) }
+    requires quiet { IsQuietWith (column_kinds walk.now.catalog.now) walk.now.target.now walk.now.values.now }
+    requires rows { AreRowsUnder walk.now.target.now (table_at (S.content_now store.now) walk.now.table).rows }
 {
     let mut numbers = Items::new(walk.alloc);
     let mut meter = Meter::new();

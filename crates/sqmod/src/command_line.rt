@@ -74,7 +74,7 @@ fn row_numbers(matches: &ArgMatches<'_>) -> u64
     ensures limited { result ≤ MOST_ROW_NUMBERS }
     ensures usual { one_text (found_of matches.now) (codes "rows") ≡ None → result ≡ USUAL_ROW_NUMBERS }
 {
-    // No greater number comes, since the option's range ends here; but that range is not known to the proof.
+    // The option's range already ends here; `min` is for the proof, which doesn't know that range.
     matches
         .get_one::<u64>("rows")
         .unwrap_or(USUAL_ROW_NUMBERS)

@@ -1,13 +1,12 @@
-use Rattle.std.proofs.Common.{◌≡◌, ◌∙◌, ◌&&◌, Bool, List, [], true, false, length, take, refl, sym, ap, arith}
+use Rattle.std.proofs.Common.{◌≡◌, ◌∙◌, ◌&&◌, Bool, List, [], false, refl, sym, ap}
 use Rattle.std.proofs.lemmas.List.Folds.{list_all_at}
 use Rattle.std.specs.List.{list_all}
-use Rattle.sq_meaning.specs.Quiet.{has_no_escape, is_quiet, is_quiet_expr}
+use Rattle.sq_meaning.specs.Quiet.{is_quiet, is_quiet_expr}
 use Rattle.sq_bound.specs.Condition.{conj_of, predicate_of}
 use Rattle.sq_bound.specs.Expression.{expr_of}
 use Rattle.sq_bound.specs.declared.condition.BoundConj.{BoundConj}
 use Rattle.sq_bound.specs.declared.condition.BoundTest.{BoundTest}
 use Rattle.sq_bound.specs.declared.condition.Predicate.{Predicate}
-use Rattle.sq_bound.specs.declared.condition.BoundCond.{BoundCond}
 use Rattle.sq_bound.specs.Quiet.{is_sure}
 use Rattle.sq_bound.specs.declared.expression.BoundExpr.{BoundExpr}
 use Rattle.sq_bound.proofs.QuietLaws.{quiet-Compare, quiet-Between, quiet-InList, quiet-Like, quiet-Null, is_none_so, quiet-Bracketed, quiet_terms, quiet_tests, with_subquery, all_taken, both_first, not_first}

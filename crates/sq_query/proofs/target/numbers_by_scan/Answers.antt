@@ -11,7 +11,7 @@ use Rattle.sq_query.specs.Target.{is_true_of, numbers_chosen, numbers_in}
 use Rattle.sq_query.proofs.target.numbers_by_scan.Goals as goal
 
 pub returns : goal.returns
-returns g c = λ key none tables.
+returns g c = λ none tables.
     let same = ap (map (λ (b : Bor BoundCond). b.now)) c.as_slice.ensures.value ∙ c.in_ok-levels.ensures in
     let P : List BoundCond → Type 0 = λ cs.
     list_any (λ d. has_subquery (cond_of [] d)) cs ≡ false

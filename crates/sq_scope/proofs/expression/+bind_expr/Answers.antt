@@ -10,6 +10,7 @@ use Rattle.sq_scope.specs.Expression.{IsBound}
 use Rattle.sq_scope.specs.Scope.{scopes_in}
 use Rattle.sq_scope.specs.WellFormed.{IsTyped}
 use Rattle.sq_scope.proofs.Bindings as bindings
+use Rattle.sq_scope.proofs.InOrder as ordered
 use Rattle.sq_scope.proofs.Typings as typings
 use Rattle.sq_scope.proofs.Bindings.{grows_further, product_first, product_next, product_so_far, product_whole, sum_first, sum_next, sum_so_far, sum_whole}
 use Rattle.sq_scope.proofs.expression.+bind_expr.Goals as goal
@@ -21,6 +22,7 @@ expr_value-loop-added-init t c = (
   c.term_value-bound.ensures.typed,
   c.term_value-bound.ensures.grows,
   c.term_value-bound.ensures.finds,
+  c.term_value-bound.ensures.in_order,
 )
 
 pub expr_value-loop-added-preserved : goal.expr_value-loop-added-preserved
@@ -39,6 +41,8 @@ expr_value-loop-added-preserved t c =
           c.loop-added.invariant.2.1 c.term_value-term.ensures.finds c.term_value-term.ensures.grows.0 c.loop-added.invariant.1 c.term_value-term.ensures.typed c.operation-bound.ensures,
       grows_further c.args.functions.now c.loop-added.functions c.term_value-term.new.functions c.loop-added.invariant.2 c.term_value-term.ensures.grows,
       (λ h. c.term_value-term.ensures.finds (c.loop-added.invariant.3 h)),
+      ordered.operation_in_order c.args.functions.now.calls c.loop-added.functions.calls c.term_value-term.new.functions.calls c.sum_operator.result c.loop-added.bound c.term_value-term.result c.operation-bound.result
+          c.loop-added.invariant.4 c.term_value-term.ensures.in_order c.operation-bound.ensures,
     )
 
 pub expr_value-returns-clause-bound : goal.expr_value-returns-clause-bound
@@ -62,6 +66,7 @@ term_value-loop-scaled-init t c = (
   c.factor_value-bound.ensures.typed,
   c.factor_value-bound.ensures.grows,
   c.factor_value-bound.ensures.finds,
+  c.factor_value-bound.ensures.in_order,
 )
 
 pub term_value-loop-scaled-preserved : goal.term_value-loop-scaled-preserved
@@ -80,6 +85,8 @@ term_value-loop-scaled-preserved t c =
           c.loop-scaled.invariant.2.1 c.factor_value-factor.ensures.finds c.factor_value-factor.ensures.grows.0 c.loop-scaled.invariant.1 c.factor_value-factor.ensures.typed c.operation-bound.ensures,
       grows_further c.args.functions.now c.loop-scaled.functions c.factor_value-factor.new.functions c.loop-scaled.invariant.2 c.factor_value-factor.ensures.grows,
       (λ h. c.factor_value-factor.ensures.finds (c.loop-scaled.invariant.3 h)),
+      ordered.operation_in_order c.args.functions.now.calls c.loop-scaled.functions.calls c.factor_value-factor.new.functions.calls c.product_operator.result c.loop-scaled.bound c.factor_value-factor.result c.operation-bound.result
+          c.loop-scaled.invariant.4 c.factor_value-factor.ensures.in_order c.operation-bound.ensures,
     )
 
 pub term_value-returns-clause-bound : goal.term_value-returns-clause-bound
@@ -229,3 +236,32 @@ primary_value-returns-in-SetFunction-clause-typed t c =
     c.in-SetFunction.function (is_distinct_word c.in-SetFunction.quantifier) c.expr_value-operand.result c.set_function.result none
     (subst (λ allowed. IfOk c.expr_value-operand.result (IsTyped environment allowed inside inner)) c.forbidden-inner.ensures.allowed c.expr_value-operand.ensures.typed)
     c.set_function.ensures.value c.set_function.ensures.allowed
+
+-- ---- set functions in the order of the text
+
+pub expr_value-returns-clause-in_order : goal.expr_value-returns-clause-in_order
+expr_value-returns-clause-in_order t c = c.loop-added.invariant.4
+
+pub term_value-returns-clause-in_order : goal.term_value-returns-clause-in_order
+term_value-returns-clause-in_order t c = c.loop-scaled.invariant.4
+
+pub factor_value-returns-in-Some-clause-in_order : goal.factor_value-returns-in-Some-clause-in_order
+factor_value-returns-in-Some-clause-in_order t c =
+    ordered.signed_in_order c.args.functions.now.calls c.primary_value-bound.new.functions.calls c.in-Some.sign c.primary_value-bound.result c.signed.result c.primary_value-bound.ensures.in_order c.signed.ensures
+
+pub primary_value-returns-in-Number-clause-in_order : goal.primary_value-returns-in-Number-clause-in_order
+primary_value-returns-in-Number-clause-in_order t c = ordered.number_in_order c.args.functions.now.calls c.in-Number.number c.number_literal.result c.number_literal.ensures
+
+pub primary_value-returns-in-Text-clause-in_order : goal.primary_value-returns-in-Text-clause-in_order
+primary_value-returns-in-Text-clause-in_order t c = ordered.text_in_order c.args.functions.now.calls c.in-Text.characters c.text_literal.result c.text_literal.ensures
+
+pub primary_value-returns-in-Parameter-clause-in_order : goal.primary_value-returns-in-Parameter-clause-in_order
+primary_value-returns-in-Parameter-clause-in_order t c =
+    ordered.parameter_in_order c.args.functions.now.calls c.args.environment.now.parameters.now c.in-Parameter.parameter c.parameter_value.result c.parameter_value.ensures
+
+pub primary_value-returns-in-User-clause-in_order : goal.primary_value-returns-in-User-clause-in_order
+primary_value-returns-in-User-clause-in_order t c = ordered.none_in_order c.args.functions.now.calls user c.user_value.result refl c.user_value.ensures.tree
+
+pub primary_value-returns-in-Column-clause-in_order : goal.primary_value-returns-in-Column-clause-in_order
+primary_value-returns-in-Column-clause-in_order t c =
+    ordered.column_in_order c.args.functions.now.calls c.args.environment.now c.column_value.new.findings.has_ungrouped c.in-Column.reference c.column_value.result c.column_value.ensures.column

@@ -1,6 +1,6 @@
 use Rattle.std.proofs.Common.{take}
 use Rattle.std.specs.Prelude.{IfOk}
-use Rattle.sq_scope.specs.Expression.{Grows, IsBound}
+use Rattle.sq_scope.specs.Expression.{AddsExpr, Grows, IsBound}
 use Rattle.sq_scope.specs.Scope.{scopes_in}
 use Rattle.sq_scope.specs.WellFormed.{Finds, IsTyped}
 use Rattle.sq_scope.proofs.Bindings.{product_so_far, sum_so_far}
@@ -12,6 +12,7 @@ invariant-expr_value-loop-added l =
     × IfOk l.bound (IsTyped l.environment l.fn.functions.allowed l.findings.has_ungrouped l.functions.calls)
     × Grows l.fn.functions l.functions
     × Finds l.fn.findings l.findings
+    × IfOk l.bound (AddsExpr l.fn.functions.calls l.functions.calls)
 
 abbrev pub invariant-term_value-loop-scaled : goal.invariant-term_value-loop-scaled
 invariant-term_value-loop-scaled l =
@@ -19,3 +20,4 @@ invariant-term_value-loop-scaled l =
     × IfOk l.bound (IsTyped l.environment l.fn.functions.allowed l.findings.has_ungrouped l.functions.calls)
     × Grows l.fn.functions l.functions
     × Finds l.fn.findings l.findings
+    × IfOk l.bound (AddsExpr l.fn.functions.calls l.functions.calls)

@@ -1,5 +1,5 @@
 use Rattle.sq_scope.specs.declared.scope.FromItem.{FromItem}
-use Rattle.std.proofs.Common.{◌≡◌, List, refl, sym, subst}
+use Rattle.std.proofs.Common.{◌≡◌, true, false, List, refl, sym, subst, ◌∙◌}
 use Rattle.std.proofs.lemmas.Result.{IfOk-weaker}
 use Rattle.std.specs.List.{AllZip}
 use Rattle.std.specs.Prelude.{IfOk}
@@ -9,7 +9,9 @@ use Rattle.sq_scope.proofs.Bindings.{grows_further}
 use Rattle.sq_scope.specs.WellFormed.{IsItemOver, allows_none, is_no_column}
 use Rattle.sq_select.proofs.Columns.{list_at_more, select_in, tables_there}
 use Rattle.sq_select.proofs.Contexts.{each_everywhere, gathered_all, gathered_none, typed_in, typed_more}
+use Rattle.sq_select.proofs.InOrder.{all_added, gathered_next, gathered_nothing, under}
 use Rattle.sq_select.proofs.Trees.{part_more}
+use Rattle.sq_select.specs.InOrder.{conj_functions, test_functions}
 use Rattle.sq_select.specs.WellFormed.{IsConjAt, IsConjIn, IsHavingAt, IsListAt, IsTestAt, IsTestIn, here, parameters_in}
 use Rattle.sq_select.proofs.condition.+bind_cond.Goals as goal
 
@@ -19,6 +21,8 @@ bind_cond-loop-conj-init g t c =
     let P = IsConjAt x c.bind_conj-first.new.functions.calls in (
       gathered_all x P c.none.result c.bind_conj-first.result c.gathered-terms.result c.gathered-terms.ensures (gathered_none x P c.none.result c.none.ensures) c.bind_conj-first.ensures.well_formed,
       c.bind_conj-first.ensures.grows,
+      (let before = c.args.functions.now.calls in
+          gathered_next conj_functions before before c.bind_conj-first.new.functions.calls c.none.result c.bind_conj-first.result c.gathered-terms.result c.gathered-terms.ensures (gathered_nothing conj_functions before c.none.result c.none.ensures) c.bind_conj-first.ensures.in_order),
     )
 
 pub bind_cond-loop-conj-preserved : goal.bind_cond-loop-conj-preserved
@@ -33,11 +37,12 @@ bind_cond-loop-conj-preserved g t c =
           (each_everywhere x (IsConjAt x before.calls) (IsConjAt x calls) c.loop-conj.terms (λ levels y. part_more kinds (parameters_in x) levels before.calls calls (λ functions. conj_of functions y) adds) c.loop-conj.invariant.0)
           (subst (λ a. IfOk c.bind_conj-term.result (IsConjIn kinds environment a calls)) c.loop-conj.invariant.1.1 c.bind_conj-term.ensures.well_formed),
       grows_further c.args.functions.now before c.bind_conj-term.new.functions c.loop-conj.invariant.1 c.bind_conj-term.ensures.grows,
+      gathered_next conj_functions c.args.functions.now.calls before.calls calls c.loop-conj.terms c.bind_conj-term.result c.gathered-terms-in-loop-conj.result c.gathered-terms-in-loop-conj.ensures c.loop-conj.invariant.2 c.bind_conj-term.ensures.in_order,
     )
 
 pub bind_cond-returns-clause-well_formed : goal.bind_cond-returns-clause-well_formed
 bind_cond-returns-clause-well_formed g t c =
-    c.whole_cond.ensures (here (g.N.Names.column_kinds c.args.names.now) c.args.environment.now c.args.functions.now.allowed) c.loop-conj.functions.calls c.loop-conj.invariant.0
+    c.whole_cond.ensures.well_formed (here (g.N.Names.column_kinds c.args.names.now) c.args.environment.now c.args.functions.now.allowed) c.loop-conj.functions.calls c.loop-conj.invariant.0
 
 pub bind_cond-returns-clause-grows : goal.bind_cond-returns-clause-grows
 bind_cond-returns-clause-grows g t c = c.loop-conj.invariant.1
@@ -48,6 +53,8 @@ bind_conj-loop-test-init g t c =
     let P = IsTestAt x c.bind_test-first.new.functions.calls in (
       gathered_all x P c.none.result c.bind_test-first.result c.gathered-tests.result c.gathered-tests.ensures (gathered_none x P c.none.result c.none.ensures) c.bind_test-first.ensures.well_formed,
       c.bind_test-first.ensures.grows,
+      (let before = c.args.functions.now.calls in
+          gathered_next test_functions before before c.bind_test-first.new.functions.calls c.none.result c.bind_test-first.result c.gathered-tests.result c.gathered-tests.ensures (gathered_nothing test_functions before c.none.result c.none.ensures) c.bind_test-first.ensures.in_order),
     )
 
 pub bind_conj-loop-test-preserved : goal.bind_conj-loop-test-preserved
@@ -62,11 +69,12 @@ bind_conj-loop-test-preserved g t c =
           (each_everywhere x (IsTestAt x before.calls) (IsTestAt x calls) c.loop-test.tests (λ levels y. part_more kinds (parameters_in x) levels before.calls calls (λ functions. test_of functions y) adds) c.loop-test.invariant.0)
           (subst (λ a. IfOk c.bind_test-factor.result (IsTestIn kinds environment a calls)) c.loop-test.invariant.1.1 c.bind_test-factor.ensures.well_formed),
       grows_further c.args.functions.now before c.bind_test-factor.new.functions c.loop-test.invariant.1 c.bind_test-factor.ensures.grows,
+      gathered_next test_functions c.args.functions.now.calls before.calls calls c.loop-test.tests c.bind_test-factor.result c.gathered-tests-in-loop-test.result c.gathered-tests-in-loop-test.ensures c.loop-test.invariant.2 c.bind_test-factor.ensures.in_order,
     )
 
 pub bind_conj-returns-clause-well_formed : goal.bind_conj-returns-clause-well_formed
 bind_conj-returns-clause-well_formed g t c =
-    c.whole_conj.ensures (here (g.N.Names.column_kinds c.args.names.now) c.args.environment.now c.args.functions.now.allowed) c.loop-test.functions.calls c.loop-test.invariant.0
+    c.whole_conj.ensures.well_formed (here (g.N.Names.column_kinds c.args.names.now) c.args.environment.now c.args.functions.now.allowed) c.loop-test.functions.calls c.loop-test.invariant.0
 
 pub bind_conj-returns-clause-grows : goal.bind_conj-returns-clause-grows
 bind_conj-returns-clause-grows g t c = c.loop-test.invariant.1
@@ -84,7 +92,7 @@ bind_select-returns g t c =
       well_formed = select_in kinds environment c.make_specification.result (λ levels are. c.make_specification.ensures kinds parameters levels (record {
         tables = tables_there kinds clause.tables clause.items c.in_ok-items.ensures;
         condition = c.bind_where-condition.ensures clause.tables levels (over c.as_slice.result.now c.as_slice.ensures) are;
-        groups = c.group_by-groups.ensures kinds clause.tables levels (over c.as_slice-2.result.now c.as_slice-2.ensures) are;
+        groups = c.group_by-groups.ensures.well_formed kinds clause.tables levels (over c.as_slice-2.result.now c.as_slice-2.ensures) are;
         list = IfOk-weaker groups (λ found. allows_none c.grouping_of.result ≡ is_no_column found.part)
             (λ found. IfOk c.select_list-selected.result (IsListAt kinds parameters clause.tables levels (is_no_column found.part) calls))
             (λ found e. subst (λ b. IfOk c.select_list-selected.result (IsListAt kinds parameters clause.tables levels b calls)) e
@@ -96,6 +104,9 @@ bind_select-returns g t c =
             (λ found e. subst (λ b. IfOk c.bind_having-having.result (IsHavingAt kinds parameters clause.tables levels b calls)) e
             (c.bind_having-having.ensures.well_formed clause.tables levels (over c.as_slice-4.result.now c.as_slice-4.ensures) are))
             c.grouping_of-2.ensures;
+        by_columns = under (c.is_some.result ≡ true) (λ found. is_no_column found.part ≡ false) groups (λ h. c.group_by-groups.ensures.some (sym c.is_some.ensures ∙ h));
+        in_order = all_added c.allowed-functions.result.calls c.select_list-selected.new.functions.calls calls c.select_list-selected.result c.bind_having-having.result c.allowed-functions.ensures
+            c.select_list-selected.ensures.in_order c.bind_having-having.ensures.in_order;
       }));
     }
 
@@ -107,7 +118,7 @@ bind_tail-returns-in-Compare-clause-well_formed g t c =
     let x = here kinds environment allowed in
     let left = c.bind_expr-left.new.functions in
     let right = c.bind_expr-right.new.functions in
-    c.compared.ensures x right.calls
+    c.compared.ensures.well_formed x right.calls
     (typed_more x left.calls right.calls c.bind_expr-left.result c.bind_expr-right.ensures.grows.0 (typed_in kinds environment allowed allowed left.calls c.bind_expr-left.result refl c.bind_expr-left.ensures.typed))
     (typed_in kinds environment left.allowed allowed right.calls c.bind_expr-right.result c.bind_expr-left.ensures.grows.1 c.bind_expr-right.ensures.typed)
 
@@ -117,7 +128,7 @@ bind_tail-returns-in-CompareQuery-clause-well_formed g t c =
     let environment = c.args.environment.now in
     let allowed = c.args.functions.now.allowed in
     let calls = c.bind_expr-left.new.functions.calls in
-    c.compared_query.ensures (here kinds environment allowed) calls (typed_in kinds environment allowed allowed calls c.bind_expr-left.result refl c.bind_expr-left.ensures.typed) c.bind_subquery-query.ensures
+    c.compared_query.ensures.well_formed (here kinds environment allowed) calls (typed_in kinds environment allowed allowed calls c.bind_expr-left.result refl c.bind_expr-left.ensures.typed) c.bind_subquery-query.ensures
 
 pub bind_tail-returns-in-InQuery-clause-well_formed : goal.bind_tail-returns-in-InQuery-clause-well_formed
 bind_tail-returns-in-InQuery-clause-well_formed g t c =
@@ -125,4 +136,16 @@ bind_tail-returns-in-InQuery-clause-well_formed g t c =
     let environment = c.args.environment.now in
     let allowed = c.args.functions.now.allowed in
     let calls = c.bind_expr-left.new.functions.calls in
-    c.in_query.ensures (here kinds environment allowed) calls (typed_in kinds environment allowed allowed calls c.bind_expr-left.result refl c.bind_expr-left.ensures.typed) c.bind_subquery-query-in-InQuery.ensures
+    c.in_query.ensures.well_formed (here kinds environment allowed) calls (typed_in kinds environment allowed allowed calls c.bind_expr-left.result refl c.bind_expr-left.ensures.typed) c.bind_subquery-query-in-InQuery.ensures
+
+-- ---- set functions in the order of the text
+
+pub bind_cond-returns-clause-in_order : goal.bind_cond-returns-clause-in_order
+bind_cond-returns-clause-in_order g t c = c.whole_cond.ensures.in_order c.args.functions.now.calls c.loop-conj.functions.calls c.loop-conj.invariant.2
+
+pub bind_conj-returns-clause-in_order : goal.bind_conj-returns-clause-in_order
+bind_conj-returns-clause-in_order g t c = c.whole_conj.ensures.in_order c.args.functions.now.calls c.loop-test.functions.calls c.loop-test.invariant.2
+
+pub bind_tail-returns-in-Compare-clause-in_order : goal.bind_tail-returns-in-Compare-clause-in_order
+bind_tail-returns-in-Compare-clause-in_order g t c =
+    c.compared.ensures.in_order c.args.functions.now.calls c.bind_expr-left.new.functions.calls c.bind_expr-right.new.functions.calls c.bind_expr-left.ensures.in_order c.bind_expr-right.ensures.in_order

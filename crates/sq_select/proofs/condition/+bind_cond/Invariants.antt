@@ -1,12 +1,13 @@
 use Rattle.std.specs.Prelude.{IfOk}
 use Rattle.sq_scope.specs.Expression.{Grows}
+use Rattle.sq_select.specs.InOrder.{Adding, conj_functions, in_turn, test_functions}
 use Rattle.sq_select.specs.WellFormed.{Each, Everywhere, IsConjAt, IsTestAt, here}
 use Rattle.sq_select.proofs.condition.+bind_cond.Given as goal
 
 abbrev pub invariant-bind_cond-loop-conj : goal.invariant-bind_cond-loop-conj
 invariant-bind_cond-loop-conj g l =
-    (let x = here (g.N.Names.column_kinds l.names) l.environment l.fn.functions.allowed in IfOk l.terms (Everywhere x (Each (IsConjAt x l.functions.calls)))) × Grows l.fn.functions l.functions
+    (let x = here (g.N.Names.column_kinds l.names) l.environment l.fn.functions.allowed in IfOk l.terms (Everywhere x (Each (IsConjAt x l.functions.calls)))) × Grows l.fn.functions l.functions × IfOk l.terms (Adding (in_turn conj_functions) l.fn.functions.calls l.functions.calls)
 
 abbrev pub invariant-bind_conj-loop-test : goal.invariant-bind_conj-loop-test
 invariant-bind_conj-loop-test g l =
-    (let x = here (g.N.Names.column_kinds l.names) l.environment l.fn.functions.allowed in IfOk l.tests (Everywhere x (Each (IsTestAt x l.functions.calls)))) × Grows l.fn.functions l.functions
+    (let x = here (g.N.Names.column_kinds l.names) l.environment l.fn.functions.allowed in IfOk l.tests (Everywhere x (Each (IsTestAt x l.functions.calls)))) × Grows l.fn.functions l.functions × IfOk l.tests (Adding (in_turn test_functions) l.fn.functions.calls l.functions.calls)

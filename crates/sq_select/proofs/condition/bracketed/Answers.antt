@@ -1,3 +1,6 @@
+use Rattle.sq_select.proofs.InOrder.{adds_bracketed}
+use Rattle.sq_scope.specs.Expression.{AddsInOrder}
+use Rattle.sq_select.specs.InOrder.{Adding, bound_functions, predicate_functions}
 use Rattle.std.proofs.Common.{sym, subst}
 use Rattle.std.proofs.lemmas.Result.{IfOk-at_ok}
 use Rattle.sq_bound.specs.declared.condition.Predicate.TheVariants as bound
@@ -5,7 +8,12 @@ use Rattle.sq_select.specs.WellFormed.{Everywhere, IsCondAt, IsPredicateAt, para
 use Rattle.sq_select.proofs.Trees.{bracketed_is}
 use Rattle.sq_select.proofs.condition.bracketed.Goals as goal
 
-pub returns : goal.returns
-returns c = λ x calls h levels m.
+pub returns-clause-well_formed : goal.returns-clause-well_formed
+returns-clause-well_formed c = λ x calls h levels m.
     subst (λ q. IsPredicateAt x calls levels (bound.Bracketed q)) (sym c.in_ok-new.ensures)
     (bracketed_is x.columns (parameters_in x) levels calls c.in_ok-part.field-0.part (IfOk-at_ok (Everywhere x (IsCondAt x calls)) c.in_ok-part.was h levels m))
+
+pub returns-clause-in_order : goal.returns-clause-in_order
+returns-clause-in_order c = λ a b h.
+    subst (λ q. AddsInOrder (predicate_functions (bound.Bracketed q)) a b) (sym c.in_ok-new.ensures)
+    (adds_bracketed c.in_ok-part.field-0.part a b (IfOk-at_ok (Adding bound_functions a b) c.in_ok-part.was h))

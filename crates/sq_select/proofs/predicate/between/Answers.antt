@@ -12,7 +12,11 @@ returns-clause-well_formed c = λ columns h.
     let before = c.args.functions.now.calls in
     let low = c.bind_expr-low.new.functions in
     let high = c.bind_expr-high.new.functions in
-    c.between_bounds.ensures x high.calls
+    c.between_bounds.ensures.well_formed x high.calls
     (typed_more x before high.calls c.args.left (adds_more before low.calls high.calls c.bind_expr-low.ensures.grows.0 c.bind_expr-high.ensures.grows.0) h)
     (typed_more x low.calls high.calls c.bind_expr-low.result c.bind_expr-high.ensures.grows.0 (typed_in columns environment allowed allowed low.calls c.bind_expr-low.result refl c.bind_expr-low.ensures.typed))
     (typed_in columns environment low.allowed allowed high.calls c.bind_expr-high.result c.bind_expr-low.ensures.grows.1 c.bind_expr-high.ensures.typed)
+
+pub returns-clause-in_order : goal.returns-clause-in_order
+returns-clause-in_order c = λ a h.
+    c.between_bounds.ensures.in_order a c.args.functions.now.calls c.bind_expr-low.new.functions.calls c.bind_expr-high.new.functions.calls h c.bind_expr-low.ensures.in_order c.bind_expr-high.ensures.in_order

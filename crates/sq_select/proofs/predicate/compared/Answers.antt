@@ -1,10 +1,13 @@
+use Rattle.sq_select.proofs.InOrder.{adds_compare}
+use Rattle.sq_select.specs.InOrder.{Adding, typed_functions}
+use Rattle.std.proofs.lemmas.Result.{IfOk-at_ok}
 use Rattle.sq_select.specs.WellFormed.{parameters_in}
 use Rattle.sq_select.proofs.Trees.{compare_is}
 use Rattle.sq_select.proofs.Contexts.{may_first, may_second, operand}
 use Rattle.sq_select.proofs.predicate.compared.Goals as goal
 
-pub returns : goal.returns
-returns c = λ x calls h k levels m.
+pub returns-clause-well_formed : goal.returns-clause-well_formed
+returns-clause-well_formed c = λ x calls h k levels m.
     let l = c.in_ok-left.left in
     let r = c.in_ok-left.right in
     let both = c.and-findings.ensures.ungrouped in
@@ -13,3 +16,8 @@ returns c = λ x calls h k levels m.
     (operand x calls c.args.left l levels c.in_ok-left.ensures.parts.0 h (may_first x levels found l.findings.has_ungrouped r.findings.has_ungrouped both m))
     (operand x calls c.args.right r levels c.in_ok-left.ensures.parts.1 k (may_second x levels found l.findings.has_ungrouped r.findings.has_ungrouped both m))
     c.in_ok-left.ensures.agree
+
+pub returns-clause-in_order : goal.returns-clause-in_order
+returns-clause-in_order c = λ a b d h k.
+    adds_compare c.args.comparison c.in_ok-left.left.part.expr c.in_ok-left.right.part.expr a b d
+    (IfOk-at_ok (Adding typed_functions a b) c.in_ok-left.ensures.parts.0 h) (IfOk-at_ok (Adding typed_functions b d) c.in_ok-left.ensures.parts.1 k)

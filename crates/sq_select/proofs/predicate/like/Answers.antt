@@ -10,7 +10,7 @@ returns-in-None-clause-well_formed c = λ columns h.
     let allowed = c.args.functions.now.allowed in
     let x = here columns environment allowed in
     let pattern = c.bind_expr-pattern.new.functions in
-    c.like_plain.ensures x pattern.calls
+    c.like_plain.ensures.well_formed x pattern.calls
     (typed_more x c.args.functions.now.calls pattern.calls c.args.left c.bind_expr-pattern.ensures.grows.0 h)
     (typed_in columns environment allowed allowed pattern.calls c.bind_expr-pattern.result refl c.bind_expr-pattern.ensures.typed)
 
@@ -22,7 +22,14 @@ returns-in-Some-clause-well_formed c = λ columns h.
     let before = c.args.functions.now.calls in
     let pattern = c.bind_expr-pattern.new.functions in
     let escape = c.bind_expr-escape.new.functions in
-    c.like_escape.ensures x escape.calls
+    c.like_escape.ensures.well_formed x escape.calls
     (typed_more x before escape.calls c.args.left (adds_more before pattern.calls escape.calls c.bind_expr-pattern.ensures.grows.0 c.bind_expr-escape.ensures.grows.0) h)
     (typed_more x pattern.calls escape.calls c.bind_expr-pattern.result c.bind_expr-escape.ensures.grows.0 (typed_in columns environment allowed allowed pattern.calls c.bind_expr-pattern.result refl c.bind_expr-pattern.ensures.typed))
     (typed_in columns environment pattern.allowed allowed escape.calls c.bind_expr-escape.result c.bind_expr-pattern.ensures.grows.1 c.bind_expr-escape.ensures.typed)
+
+pub returns-in-None-clause-in_order : goal.returns-in-None-clause-in_order
+returns-in-None-clause-in_order c = λ a h. c.like_plain.ensures.in_order a c.args.functions.now.calls c.bind_expr-pattern.new.functions.calls h c.bind_expr-pattern.ensures.in_order
+
+pub returns-in-Some-clause-in_order : goal.returns-in-Some-clause-in_order
+returns-in-Some-clause-in_order c = λ a h.
+    c.like_escape.ensures.in_order a c.args.functions.now.calls c.bind_expr-pattern.new.functions.calls c.bind_expr-escape.new.functions.calls h c.bind_expr-pattern.ensures.in_order c.bind_expr-escape.ensures.in_order

@@ -1,3 +1,5 @@
+use Rattle.sq_select.proofs.InOrder.{adds_like_escape}
+use Rattle.sq_select.specs.InOrder.{Adding, typed_functions}
 use Rattle.std.proofs.Common.{◌≡◌, Ok}
 use Rattle.std.proofs.lemmas.Result.{IfOk-at_ok}
 use Rattle.sq_select.specs.WellFormed.{parameters_in}
@@ -5,8 +7,8 @@ use Rattle.sq_select.proofs.Trees.{like_escape_is}
 use Rattle.sq_select.proofs.Contexts.{may_first, may_second, may_same, operand, text_is}
 use Rattle.sq_select.proofs.predicate.like_escape.Goals as goal
 
-pub returns : goal.returns
-returns c = λ x calls h k j levels m.
+pub returns-clause-well_formed : goal.returns-clause-well_formed
+returns-clause-well_formed c = λ x calls h k j levels m.
     let l = c.in_ok-left.left in
     let p = c.in_ok-left.pattern in
     let e = c.in_ok-left.escape in
@@ -25,3 +27,15 @@ returns c = λ x calls h k j levels m.
     is_left.1
     is_pattern.1
     is_escape.1
+
+pub returns-clause-in_order : goal.returns-clause-in_order
+returns-clause-in_order c = λ a b d i h k j.
+    let l = c.in_ok-left.left in
+    let p = c.in_ok-left.pattern in
+    let e = c.in_ok-left.escape in
+    let two = IfOk-at_ok (λ parts. (c.text.result ≡ Ok parts.0) × (c.text-2.result ≡ Ok parts.1)) c.in_ok-left.ensures.0 c.both.ensures in
+    let is_left = text_is c.args.left c.text.result l two.0 c.text.ensures in
+    let is_pattern = text_is c.args.pattern c.text-2.result p two.1 c.text-2.ensures in
+    let is_escape = text_is c.args.escape c.text-3.result e c.in_ok-left.ensures.1 c.text-3.ensures in
+    adds_like_escape c.args.negated l.part.expr p.part.expr e.part.expr a b d i
+    (IfOk-at_ok (Adding typed_functions a b) is_left.0 h) (IfOk-at_ok (Adding typed_functions b d) is_pattern.0 k) (IfOk-at_ok (Adding typed_functions d i) is_escape.0 j)

@@ -1,3 +1,5 @@
+use Rattle.sq_select.proofs.InOrder.{gathered_next, gathered_nothing}
+use Rattle.sq_scope.specs.Expression.{expr_functions}
 use Rattle.std.proofs.Common.{refl}
 use Rattle.sq_scope.proofs.Bindings.{grows_further}
 use Rattle.sq_select.specs.WellFormed.{AgreesAt, here}
@@ -13,8 +15,12 @@ loop-expr-init c = (
       let calls = c.bind_expr-first.new.functions.calls in
       gathered_all x (AgreesAt x calls c.args.kind) c.none.result c.agreed.result c.gathered-bound.result c.gathered-bound.ensures
       (gathered_none x (AgreesAt x calls c.args.kind) c.none.result c.none.ensures)
-      (c.agreed.ensures x calls (typed_in columns environment allowed allowed calls c.bind_expr-first.result refl c.bind_expr-first.ensures.typed))),
+      (c.agreed.ensures.well_formed x calls (typed_in columns environment allowed allowed calls c.bind_expr-first.result refl c.bind_expr-first.ensures.typed))),
   c.bind_expr-first.ensures.grows,
+  (let before = c.args.functions.now.calls in
+      let after = c.bind_expr-first.new.functions.calls in
+      gathered_next expr_functions before before after c.none.result c.agreed.result c.gathered-bound.result c.gathered-bound.ensures
+      (gathered_nothing expr_functions before c.none.result c.none.ensures) (c.agreed.ensures.in_order before after c.bind_expr-first.ensures.in_order)),
 )
 
 pub loop-expr-preserved : goal.loop-expr-preserved
@@ -28,8 +34,10 @@ loop-expr-preserved c = (
       let k = c.args.kind in
       gathered_all x (AgreesAt x calls k) c.loop-expr.bound c.agreed-in-loop-expr.result c.gathered-bound-in-loop-expr.result c.gathered-bound-in-loop-expr.ensures
       (each_everywhere x (AgreesAt x before.calls k) (AgreesAt x calls k) c.loop-expr.bound (λ levels e. agrees_more x before.calls calls k levels e c.bind_expr-item.ensures.grows.0) (c.loop-expr.invariant.0 columns))
-      (c.agreed-in-loop-expr.ensures x calls (typed_in columns environment before.allowed allowed calls c.bind_expr-item.result c.loop-expr.invariant.1.1 c.bind_expr-item.ensures.typed))),
+      (c.agreed-in-loop-expr.ensures.well_formed x calls (typed_in columns environment before.allowed allowed calls c.bind_expr-item.result c.loop-expr.invariant.1.1 c.bind_expr-item.ensures.typed))),
   grows_further c.args.functions.now c.loop-expr.functions c.bind_expr-item.new.functions c.loop-expr.invariant.1 c.bind_expr-item.ensures.grows,
+  gathered_next expr_functions c.args.functions.now.calls c.loop-expr.functions.calls c.bind_expr-item.new.functions.calls c.loop-expr.bound c.agreed-in-loop-expr.result c.gathered-bound-in-loop-expr.result c.gathered-bound-in-loop-expr.ensures
+      c.loop-expr.invariant.2 (c.agreed-in-loop-expr.ensures.in_order c.loop-expr.functions.calls c.bind_expr-item.new.functions.calls c.bind_expr-item.ensures.in_order),
 )
 
 pub returns-clause-well_formed : goal.returns-clause-well_formed
@@ -37,3 +45,6 @@ returns-clause-well_formed c = c.loop-expr.invariant.0
 
 pub returns-clause-grows : goal.returns-clause-grows
 returns-clause-grows c = c.loop-expr.invariant.1
+
+pub returns-clause-in_order : goal.returns-clause-in_order
+returns-clause-in_order c = c.loop-expr.invariant.2

@@ -1,6 +1,7 @@
 use Rattle.std.specs.Prelude.{IfOk}
 use Rattle.sq_bound.specs.WellFormed.{TableKinds}
-use Rattle.sq_scope.specs.Expression.{Grows}
+use Rattle.sq_scope.specs.Expression.{Grows, expr_functions}
+use Rattle.sq_select.specs.InOrder.{Adding, in_turn}
 use Rattle.sq_select.specs.WellFormed.{AgreesAt, Each, Everywhere, here}
 use Rattle.sq_select.proofs.predicate.list_exprs.Given as goal
 
@@ -8,3 +9,4 @@ abbrev pub invariant-loop-expr : goal.invariant-loop-expr
 invariant-loop-expr l =
     ((columns : TableKinds) → let x = here columns l.environment l.fn.functions.allowed in IfOk l.bound (Everywhere x (Each (AgreesAt x l.functions.calls l.kind))))
     × Grows l.fn.functions l.functions
+    × IfOk l.bound (Adding (in_turn expr_functions) l.fn.functions.calls l.functions.calls)

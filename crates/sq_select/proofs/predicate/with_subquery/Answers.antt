@@ -1,3 +1,6 @@
+use Rattle.sq_select.proofs.InOrder.{adds_beside}
+use Rattle.sq_select.specs.InOrder.{Adding, typed_functions}
+use Rattle.std.proofs.lemmas.Result.{IfOk-at_ok}
 use Rattle.std.proofs.Common.{◌≡◌, Ok, sym, ap, subst, ◌∙◌}
 use Rattle.std.specs.Prelude.{is_ok}
 use Rattle.sq_meaning.specs.WellFormed.{IsOnlyKind}
@@ -9,8 +12,8 @@ use Rattle.sq_bound.specs.declared.condition.BoundSpecification.{BoundSpecificat
 use Rattle.sq_scope.specs.declared.expression.Typed.{Typed}
 use Rattle.sq_scope.specs.declared.findings.Found.{Found}
 
-pub returns : goal.returns
-returns c = λ x calls h k.
+pub returns-clause-well_formed : goal.returns-clause-well_formed
+returns-clause-well_formed c = λ x calls h k.
     let l = c.in_ok-left-2.left in
     let q = c.in_ok-left-2.query in
     let findings = c.and-findings.result in
@@ -24,3 +27,10 @@ returns c = λ x calls h k.
     (λ levels m. operand x calls c.args.left l levels there.0 h (may_first x levels findings.has_ungrouped l.findings.has_ungrouped c.of_subquery.result.has_ungrouped c.and-findings.ensures.ungrouped m))
     (λ levels m. subquery x c.args.query q levels findings.has_ungrouped there.1 k m)
     only
+
+pub returns-clause-in_order : goal.returns-clause-in_order
+returns-clause-in_order c = λ a b h.
+    let l = c.in_ok-left-2.left in
+    let q = c.in_ok-left-2.query in
+    let there : c.args.left ≡ Ok l = subst (λ (t : Found Typed × Found BoundSpecification). c.args.left ≡ Ok t.0) (sym c.in_ok-left-2.ensures.part) c.in_ok-left.ensures.0 in
+    adds_beside a b l.part.expr q.part c.and-findings.result c.boxed_beside.result c.boxed_beside.ensures (IfOk-at_ok (Adding typed_functions a b) there h)

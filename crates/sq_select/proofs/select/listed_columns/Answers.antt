@@ -1,3 +1,5 @@
+use Rattle.sq_select.proofs.InOrder.{adds_none}
+use Rattle.sq_scope.specs.Expression.{expr_functions}
 use Rattle.std.proofs.Common.{refl}
 use Rattle.sq_bound.specs.WellFormed.{IsExpr}
 use Rattle.sq_scope.proofs.Bindings.{grows_further}
@@ -13,10 +15,12 @@ loop-expr-init c = (
       let allowed = c.args.functions.now.allowed in
       let x = here kinds environment allowed in
       let calls = c.bind_expr-first.new.functions.calls in
-      c.with_column-selected.ensures x calls
+      c.with_column-selected.ensures.well_formed x calls
       (λ levels m. zip_none (λ e r. IsExpr kinds (parameters_in x) levels calls r.kind e) c.no_columns.result.exprs c.no_columns.result.columns c.no_columns.ensures.exprs c.no_columns.ensures.columns)
       (typed_in kinds environment allowed allowed calls c.bind_expr-first.result refl c.bind_expr-first.ensures.typed)),
   c.bind_expr-first.ensures.grows,
+  (let before = c.args.functions.now.calls in
+      c.with_column-selected.ensures.in_order before before c.bind_expr-first.new.functions.calls (adds_none expr_functions c.no_columns.result.exprs before c.no_columns.ensures.exprs) c.bind_expr-first.ensures.in_order),
 )
 
 pub loop-expr-preserved : goal.loop-expr-preserved
@@ -27,10 +31,11 @@ loop-expr-preserved c = (
       let x = here kinds environment allowed in
       let before = c.loop-expr.functions in
       let calls = c.bind_expr-item.new.functions.calls in
-      c.with_column-selected-in-loop-expr.ensures x calls
+      c.with_column-selected-in-loop-expr.ensures.well_formed x calls
       (list_more x before.calls calls c.loop-expr.selected c.bind_expr-item.ensures.grows.0 (c.loop-expr.invariant.0 kinds))
       (typed_in kinds environment before.allowed allowed calls c.bind_expr-item.result c.loop-expr.invariant.1.1 c.bind_expr-item.ensures.typed)),
   grows_further c.args.functions.now c.loop-expr.functions c.bind_expr-item.new.functions c.loop-expr.invariant.1 c.bind_expr-item.ensures.grows,
+  c.with_column-selected-in-loop-expr.ensures.in_order c.args.functions.now.calls c.loop-expr.functions.calls c.bind_expr-item.new.functions.calls c.loop-expr.invariant.2 c.bind_expr-item.ensures.in_order,
 )
 
 pub returns-clause-well_formed : goal.returns-clause-well_formed
@@ -38,3 +43,6 @@ returns-clause-well_formed c = c.loop-expr.invariant.0
 
 pub returns-clause-grows : goal.returns-clause-grows
 returns-clause-grows c = c.loop-expr.invariant.1
+
+pub returns-clause-in_order : goal.returns-clause-in_order
+returns-clause-in_order c = c.loop-expr.invariant.2

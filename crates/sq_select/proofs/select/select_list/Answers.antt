@@ -1,3 +1,5 @@
+use Rattle.sq_select.proofs.InOrder.{listed_all, not_star}
+use Rattle.sq_select.specs.InOrder.{AddsList}
 use Rattle.std.proofs.Common.{ap, ◌∙◌}
 use Rattle.sq_bound.specs.WellFormed.{kinds_of_parameters}
 use Rattle.sq_scope.specs.WellFormed.{allows_none}
@@ -20,3 +22,9 @@ returns-in-Items-clause-well_formed c = λ kinds tables levels over are.
     (λ line read. levels_within kinds (level_over tables line) levels environment inner c.args.items.now c.args.grouping
     (c.within.ensures.scopes ∙ c.scope_over.ensures.scopes) (c.within.ensures.groupings ∙ c.scope_over.ensures.groupings) (record { over = over; is_read = read }) are)
     (c.listed_columns.ensures.well_formed kinds)
+
+pub returns-in-Star-clause-in_order : goal.returns-in-Star-clause-in_order
+returns-in-Star-clause-in_order c = not_star (AddsList c.args.functions.now.calls c.args.functions.now.calls) c.all_columns.result c.all_columns.ensures.star
+
+pub returns-in-Items-clause-in_order : goal.returns-in-Items-clause-in_order
+returns-in-Items-clause-in_order c = listed_all (AddsList c.args.functions.now.calls c.listed_columns.new.functions.calls) c.listed_columns.result c.listed_columns.ensures.in_order

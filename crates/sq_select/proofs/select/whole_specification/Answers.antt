@@ -8,4 +8,4 @@ pub returns : goal.returns
 returns c = λ kinds parameters levels h.
     let s = c.args.parts in
     subst (λ groups. IsSelect kinds parameters levels (roll-BoundSpecification (record { distinct = s.is_distinct; list = s.selected.exprs; from = s.tables; condition = s.condition.part; grouping = groups; columns = s.selected.columns; can_fail = c.can_fail-can_fail.result; number = None })))
-    (sym c.grouping_if-grouping.ensures) (specification_is kinds parameters levels s h c.in-Ok.is_grouped c.can_fail-can_fail.result c.in-Ok.ensures)
+    (sym c.grouping_if-grouping.ensures) (specification_is kinds parameters levels s h c.in-Ok.is_grouped c.can_fail-can_fail.result c.in-Ok.ensures.rightly c.in-Ok.ensures.grouped_by)

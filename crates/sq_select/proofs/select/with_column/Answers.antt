@@ -1,10 +1,12 @@
+use Rattle.sq_select.proofs.InOrder.{list_further}
+use Rattle.sq_select.specs.InOrder.{Adding, AddsList, typed_functions}
 use Rattle.std.proofs.lemmas.Result.{IfOk-at_ok}
 use Rattle.sq_select.specs.WellFormed.{Everywhere, IsListIn, IsTypedAt}
 use Rattle.sq_select.proofs.Columns.{kept_with, list_next}
 use Rattle.sq_select.proofs.select.with_column.Goals as goal
 
-pub returns : goal.returns
-returns c = λ x calls h k.
+pub returns-clause-well_formed : goal.returns-clause-well_formed
+returns-clause-well_formed c = λ x calls h k.
     let P = IsListIn x.columns x.environment x.allowed calls in
     let before = c.in_ok-selected.selected in
     let found = c.in_ok-selected.item in
@@ -12,3 +14,12 @@ returns c = λ x calls h k.
     kept_with P after c.push_column-pushed.result c.kept.result c.kept.ensures.part c.kept.ensures.test
     (list_next x calls before after found c.args.name c.push_column-pushed.result c.push_column-pushed.ensures.exprs c.push_column-pushed.ensures.columns c.push_column-pushed.ensures.ungrouped
     (IfOk-at_ok P c.in_ok-selected.ensures.0 h) (IfOk-at_ok (Everywhere x (IsTypedAt x calls)) c.in_ok-selected.ensures.1 k))
+
+pub returns-clause-in_order : goal.returns-clause-in_order
+returns-clause-in_order c = λ a b d h k.
+    let before = c.in_ok-selected.selected in
+    let found = c.in_ok-selected.item in
+    let after = c.push_column-pushed.new.selected in
+    kept_with (AddsList a d) after c.push_column-pushed.result c.kept.result c.kept.ensures.part c.kept.ensures.test
+    (list_further a b d before after found.part.expr c.push_column-pushed.result c.push_column-pushed.ensures.exprs
+    (IfOk-at_ok (AddsList a b) c.in_ok-selected.ensures.0 h) (IfOk-at_ok (Adding typed_functions b d) c.in_ok-selected.ensures.1 k))

@@ -15,8 +15,8 @@ returns-in-Ok g c =
     let entry : ProcedureName × BoundProcedure = (c.in-Some.field-0-0.now, c.in-Some.procedure.now) in
     let cursors = c.args.program.now.cursors.items in
     let kind = kind_is cursors entries c.args.procedure entry c.in-Ok.statement (sym c.in-Some.ensures.entry) c.in-Ok.is in
-    let read = as_read cursors entry.1.parameters c.in-Ok.statement c.args.values.now c.args.machine.now (ending c.performed.result) _ c.performed.ensures.step in
-    let kept = after c.args.catalog.now.bases cursors entry.1.parameters c.in-Ok.statement _ c.args.machine.now c.performed.result c.performed.new.machine c.requires.whole c.performed.ensures.rows c.performed.ensures.in_domains c.performed.ensures.opened c.performed.ensures.step c.performed.ensures.err in
+    let read = as_read cursors entry.1.user entry.1.parameters c.in-Ok.statement c.args.values.now c.args.machine.now (ending c.performed.result) _ c.performed.ensures.step in
+    let kept = after (column_kinds c.args.catalog.now) c.args.catalog.now.bases cursors entry.1.user entry.1.parameters c.in-Ok.statement _ c.args.machine.now c.performed.result c.performed.new.machine c.requires.whole c.performed.ensures.rows c.performed.ensures.in_domains c.performed.ensures.opened c.performed.ensures.step c.performed.ensures.err in
     record { step = rw kind read; whole = kept; err = c.performed.ensures.err; memory = rw kind c.performed.ensures.memory }
 
 pub performed-requires-clause-asked : goal.performed-requires-clause-asked

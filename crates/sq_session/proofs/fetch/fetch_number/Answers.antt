@@ -4,6 +4,7 @@ use Rattle.sq_session.specs.Kind.{fetching}
 use Rattle.sq_session.proofs.Coming.{shown_taken_on}
 use Rattle.sq_session.proofs.Holding.{HasColumns}
 use Rattle.sq_session.proofs.Over.{numbers_over}
+use Rattle.sq_session.proofs.QuietWalks.{columns_are}
 use Rattle.sq_session.proofs.Reached.{comes_to_fault, comes_to_none, comes_to_row}
 use Rattle.sq_session.proofs.Shown.{columns_there}
 use Rattle.sq_session.proofs.fetch.fetch_number.Goals as goal
@@ -15,32 +16,32 @@ shown_row_retrieved-requires-clause-columns g c =
     let cursor = c.args.cursor.now in
     let reached = c.in-Some.reached in
     let over = numbers_over bases called.cursors.now c.args.fetch.now.cursor cursor c.requires.fit c.requires.over in
-    let query = subst (HasColumns bases cursor.table) c.updatable_query-query.ensures over in
+    let query = subst (HasColumns bases cursor.table) (columns_are called.cursors.now c.args.fetch.now.cursor c.updatable_query-query.result.now c.updatable_query-query.ensures) over in
     columns_there bases (g.S.Store.content_now c.args.store.now) cursor.table reached.number c.updatable_query-query.result.now.columns reached.row.now c.requires.rows query c.in-Some.ensures.row
 
 pub shown_row_retrieved-requires-clause-taken : goal.shown_row_retrieved-requires-clause-taken
 shown_row_retrieved-requires-clause-taken g c =
     let called = c.args.called.now in
     let reached = c.in-Some.reached in
-    shown_taken_on (fetching called.cursors.now called.procedure.now.parameters c.args.fetch.now) (table_at (g.S.Store.content_now c.args.store.now) c.args.cursor.now.table) reached.number
-    c.updatable_query-query.result.now.columns reached.row.now c.requires.taken c.updatable_query-query.ensures c.in-Some.ensures.row
+    shown_taken_on (fetching called.cursors.now called.procedure.now.user called.procedure.now.parameters c.args.fetch.now) (table_at (g.S.Store.content_now c.args.store.now) c.args.cursor.now.table) reached.number
+    c.updatable_query-query.result.now.columns reached.row.now c.requires.taken (columns_are called.cursors.now c.args.fetch.now.cursor c.updatable_query-query.result.now c.updatable_query-query.ensures) c.in-Some.ensures.row
 
 pub returns-in_default-clause-comes : goal.returns-in_default-clause-comes
 returns-in_default-clause-comes g c =
     let called = c.args.called.now in
-    comes_to_none (fetching called.cursors.now called.procedure.now.parameters c.args.fetch.now) (g.S.Store.content_now c.args.store.now) c.args.cursor.now c.len-cursor.result c.without_outputs.result
+    comes_to_none (fetching called.cursors.now called.procedure.now.user called.procedure.now.parameters c.args.fetch.now) (g.S.Store.content_now c.args.store.now) c.args.cursor.now c.len-cursor.result c.without_outputs.result
     c.in_default.ensures.next.0 (c.in_default.ensures.next.1 ∙ sym c.len-cursor.ensures) c.without_outputs.ensures
 
 pub returns-in-Ok-clause-comes : goal.returns-in-Ok-clause-comes
 returns-in-Ok-clause-comes g c =
     let called = c.args.called.now in
     let reached = c.in-Some.reached in
-    comes_to_row (fetching called.cursors.now called.procedure.now.parameters c.args.fetch.now) (g.S.Store.content_now c.args.store.now) c.args.cursor.now c.updatable_query-query.result.now.columns
-    reached.passed reached.number reached.row.now c.in-Ok.done c.updatable_query-query.ensures c.in-Some.ensures.next.0 c.in-Some.ensures.next.1 c.in-Some.ensures.row c.in-Ok.ensures
+    comes_to_row (fetching called.cursors.now called.procedure.now.user called.procedure.now.parameters c.args.fetch.now) (g.S.Store.content_now c.args.store.now) c.args.cursor.now c.updatable_query-query.result.now.columns
+    reached.passed reached.number reached.row.now c.in-Ok.done (columns_are called.cursors.now c.args.fetch.now.cursor c.updatable_query-query.result.now c.updatable_query-query.ensures) c.in-Some.ensures.next.0 c.in-Some.ensures.next.1 c.in-Some.ensures.row c.in-Ok.ensures
 
 pub returns-in-Err-clause-comes : goal.returns-in-Err-clause-comes
 returns-in-Err-clause-comes g c =
     let called = c.args.called.now in
     let reached = c.in-Some.reached in
-    comes_to_fault (fetching called.cursors.now called.procedure.now.parameters c.args.fetch.now) (g.S.Store.content_now c.args.store.now) c.args.cursor.now c.updatable_query-query.result.now.columns
-    reached.passed reached.number reached.row.now c.in-Err.fault c.updatable_query-query.ensures c.in-Some.ensures.next.0 c.in-Some.ensures.next.1 c.in-Some.ensures.row c.in-Err.ensures
+    comes_to_fault (fetching called.cursors.now called.procedure.now.user called.procedure.now.parameters c.args.fetch.now) (g.S.Store.content_now c.args.store.now) c.args.cursor.now c.updatable_query-query.result.now.columns
+    reached.passed reached.number reached.row.now c.in-Err.fault (columns_are called.cursors.now c.args.fetch.now.cursor c.updatable_query-query.result.now c.updatable_query-query.ensures) c.in-Some.ensures.next.0 c.in-Some.ensures.next.1 c.in-Some.ensures.row c.in-Err.ensures

@@ -1,40 +1,78 @@
-use Rattle.std.proofs.Common.{subst}
-use Rattle.sq_value.specs.Key.{in_columns}
+use Rattle.std.proofs.Common.{None, Some, subst}
+use Rattle.sq_catalog.specs.Catalog.{column_kinds}
 use Rattle.sq_store.specs.Content.{table_at}
+use Rattle.sq_store.specs.declared.table.Numbered.{Numbered}
+use Rattle.sq_query.specs.Target.{conditions_of}
 use Rattle.sq_session.specs.Kind.{fetching}
 use Rattle.sq_session.proofs.Coming.{shown_taken_on}
 use Rattle.sq_session.proofs.Holding.{HasColumns}
 use Rattle.sq_session.proofs.Over.{walk_over}
-use Rattle.sq_session.proofs.Reached.{shown_refused, walks_on}
+use Rattle.sq_session.proofs.QuietWalks.{columns_are, conditions_are, quiet_at, under_at}
+use Rattle.sq_session.proofs.Reached.{next_is, walks_not, walks_on, walks_to_end}
 use Rattle.sq_session.proofs.Shown.{columns_there}
 use Rattle.sq_session.proofs.fetch.fetch_walk.Goals as goal
+
+pub next_of_walk-requires-clause-quiet : goal.next_of_walk-requires-clause-quiet
+next_of_walk-requires-clause-quiet g c =
+    let called = c.args.called.now in
+    quiet_at (column_kinds called.catalog.now) called.cursors.now c.args.fetch.now.cursor c.updatable_query-query.result.now c.args.walk.now c.updatable_query-query.ensures c.requires.kept c.requires.over
+
+pub next_of_walk-requires-clause-rows : goal.next_of_walk-requires-clause-rows
+next_of_walk-requires-clause-rows g c =
+    let called = c.args.called.now in
+    under_at called.catalog.now.bases (g.S.Store.content_now c.args.store.now) called.cursors.now c.args.fetch.now.cursor c.updatable_query-query.result.now c.args.walk.now c.requires.domains c.requires.fit
+    c.updatable_query-query.ensures c.requires.over
 
 pub shown_row_retrieved-requires-clause-columns : goal.shown_row_retrieved-requires-clause-columns
 shown_row_retrieved-requires-clause-columns g c =
     let called = c.args.called.now in
     let bases = called.catalog.now.bases in
     let walk = c.args.walk.now in
+    let query = c.updatable_query-query.result.now in
     let over = walk_over bases called.cursors.now c.args.fetch.now.cursor walk c.requires.fit c.requires.over in
-    let query = subst (HasColumns bases walk.table) c.updatable_query-query.ensures over in
+    let shows = subst (HasColumns bases walk.table) (columns_are called.cursors.now c.args.fetch.now.cursor query c.updatable_query-query.ensures) over in
     let there = rw c.in-Some.is at c.in_ok-number.ensures.there in
-    columns_there bases (g.S.Store.content_now c.args.store.now) walk.table c.in-Some.number c.updatable_query-query.result.now.columns c.in-Some.row.now c.requires.rows query there
+    columns_there bases (g.S.Store.content_now c.args.store.now) walk.table c.in-Some.number query.columns c.in-Some.row.now c.requires.rows shows there
 
 pub shown_row_retrieved-requires-clause-taken : goal.shown_row_retrieved-requires-clause-taken
 shown_row_retrieved-requires-clause-taken g c =
     let called = c.args.called.now in
+    let query = c.updatable_query-query.result.now in
     let there = rw c.in-Some.is at c.in_ok-number.ensures.there in
-    shown_taken_on (fetching called.cursors.now called.procedure.now.parameters c.args.fetch.now) (table_at (g.S.Store.content_now c.args.store.now) c.args.walk.now.table) c.in-Some.number
-    c.updatable_query-query.result.now.columns c.in-Some.row.now c.requires.taken c.updatable_query-query.ensures there
+    shown_taken_on (fetching called.cursors.now called.procedure.now.user called.procedure.now.parameters c.args.fetch.now) (table_at (g.S.Store.content_now c.args.store.now) c.args.walk.now.table) c.in-Some.number
+    query.columns c.in-Some.row.now c.requires.taken (columns_are called.cursors.now c.args.fetch.now.cursor query c.updatable_query-query.ensures) there
 
-pub returns-in-Ok-clause-walked : goal.returns-in-Ok-clause-walked
-returns-in-Ok-clause-walked g c =
+pub returns-in_default-clause-comes : goal.returns-in_default-clause-comes
+returns-in_default-clause-comes g c =
     let called = c.args.called.now in
-    let found = rw c.in-Some.is at c.in_ok-number.ensures.found in
-    let there = rw c.in-Some.is at c.in_ok-number.ensures.there in
-    walks_on (fetching called.cursors.now called.procedure.now.parameters c.args.fetch.now) (g.S.Store.content_now c.args.store.now) c.args.walk.now c.updatable_query-query.result.now.columns
-    c.in-Some.number c.in-Some.row.now c.in-Ok.done c.updatable_query-query.ensures found.0 found.1 there c.in-Ok.ensures
+    let tables = g.S.Store.content_now c.args.store.now in
+    let query = c.updatable_query-query.result.now in
+    let fetch = fetching called.cursors.now called.procedure.now.user called.procedure.now.parameters c.args.fetch.now in
+    let meant = rw c.in_default.is at c.in_ok-number.ensures.meant in
+    let none = next_is fetch (table_at tables c.args.walk.now.table) c.args.walk.now (conditions_of query.target) None
+    (conditions_are called.cursors.now c.args.fetch.now.cursor query c.updatable_query-query.ensures) meant in
+    walks_to_end fetch tables c.args.walk.now c.without_outputs.result none c.without_outputs.ensures
 
-pub returns-in-Err-clause-walked : goal.returns-in-Err-clause-walked
-returns-in-Err-clause-walked g c =
+pub returns-in-Ok-clause-comes : goal.returns-in-Ok-clause-comes
+returns-in-Ok-clause-comes g c =
     let called = c.args.called.now in
-    shown_refused (fetching called.cursors.now called.procedure.now.parameters c.args.fetch.now) (in_columns c.in-Some.row.now c.updatable_query-query.result.now.columns) c.in-Err.fault c.in-Err.ensures
+    let tables = g.S.Store.content_now c.args.store.now in
+    let query = c.updatable_query-query.result.now in
+    let fetch = fetching called.cursors.now called.procedure.now.user called.procedure.now.parameters c.args.fetch.now in
+    let row : Numbered = record { number = c.in-Some.number; row = c.in-Some.row.now } in
+    let meant = rw c.in-Some.is at c.in_ok-number.ensures.meant in
+    let next = next_is fetch (table_at tables c.args.walk.now.table) c.args.walk.now (conditions_of query.target) (Some row)
+    (conditions_are called.cursors.now c.args.fetch.now.cursor query c.updatable_query-query.ensures) meant in
+    walks_on fetch tables c.args.walk.now query.columns row _ (columns_are called.cursors.now c.args.fetch.now.cursor query c.updatable_query-query.ensures) next c.in-Ok.ensures
+
+pub returns-in-Err-clause-comes : goal.returns-in-Err-clause-comes
+returns-in-Err-clause-comes g c =
+    let called = c.args.called.now in
+    let tables = g.S.Store.content_now c.args.store.now in
+    let query = c.updatable_query-query.result.now in
+    let fetch = fetching called.cursors.now called.procedure.now.user called.procedure.now.parameters c.args.fetch.now in
+    let row : Numbered = record { number = c.in-Some.number; row = c.in-Some.row.now } in
+    let meant = rw c.in-Some.is at c.in_ok-number.ensures.meant in
+    let next = next_is fetch (table_at tables c.args.walk.now.table) c.args.walk.now (conditions_of query.target) (Some row)
+    (conditions_are called.cursors.now c.args.fetch.now.cursor query c.updatable_query-query.ensures) meant in
+    walks_not fetch tables c.args.walk.now query.columns row c.in-Err.fault (columns_are called.cursors.now c.args.fetch.now.cursor query c.updatable_query-query.ensures) next c.in-Err.ensures

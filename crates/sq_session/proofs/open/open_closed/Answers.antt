@@ -1,12 +1,12 @@
 use Rattle.std.proofs.Common.{◌≡◌, Some, ap, get_or, refl, slice_get}
-use Rattle.std.specs.Option.{option_map_or}
+use Rattle.std.specs.Option.{option_map, option_map_or}
 use Rattle.std.proofs.lemmas.Option.{slice_get-get_or}
 use Rattle.sq_bound.specs.WellFormed.{kinds_of_parameters}
 use Rattle.sq_catalog.specs.Catalog.{column_kinds}
-use Rattle.sq_session.specs.Kind.{Over, over_at, over_of}
+use Rattle.sq_session.specs.Kind.{Over, opening, over_of}
 use Rattle.sq_session.specs.State.{State}
 use Rattle.sq_session.proofs.Asking.{cursor_there}
-use Rattle.sq_session.proofs.Listed.{put_listed}
+use Rattle.sq_session.proofs.Kept.{put_kept}
 use Rattle.sq_session.proofs.Opened.{opens, opens_not}
 use Rattle.sq_session.proofs.open.open_closed.Goals as goal
 
@@ -17,8 +17,8 @@ returns-in-Ok-clause-step g c =
     let declared = get_or called.cursors.now number c.index-called-number.result in
     let found : slice_get called.cursors.now number ≡ Some declared = slice_get-get_or called.cursors.now number c.index-called-number.result c.requires.there in
     let before : State = record { tables = g.S.Store.content_now c.args.store.now; committed = g.S.Store.committed c.args.store.now; keys = g.S.Store.key_columns c.args.store.now; cursors = c.args.cursors.now } in
-    opens (over_at called.cursors.now number) (over_of declared.cursor.body) number called.values.now before _ c.in-Ok.cursor c.successful.result
-    (ap (λ o. option_map_or (λ d. over_of d.cursor.body) o Over.rows) found) c.in-Ok.ensures.opened c.successful.ensures refl
+    opens (opening called.cursors.now called.procedure.now.user called.procedure.now.parameters number) (over_of declared.cursor.body) declared.cursor.body called.values.now before _ c.in-Ok.cursor c.successful.result
+    (ap (λ o. option_map_or (λ d. over_of d.cursor.body) o Over.rows) found) (ap (λ o. option_map (λ d. d.cursor.body) o) found) c.in-Ok.ensures.opened c.successful.ensures refl
 
 pub returns-in-Err-clause-step : goal.returns-in-Err-clause-step
 returns-in-Err-clause-step g c =
@@ -27,14 +27,14 @@ returns-in-Err-clause-step g c =
     let declared = get_or called.cursors.now number c.index-called-number.result in
     let found : slice_get called.cursors.now number ≡ Some declared = slice_get-get_or called.cursors.now number c.index-called-number.result c.requires.there in
     let before : State = record { tables = g.S.Store.content_now c.args.store.now; committed = g.S.Store.committed c.args.store.now; keys = g.S.Store.key_columns c.args.store.now; cursors = c.args.cursors.now } in
-    opens_not (over_at called.cursors.now number) (over_of declared.cursor.body) number called.values.now before c.in-Err.fault
-    (ap (λ o. option_map_or (λ d. over_of d.cursor.body) o Over.rows) found) c.in-Err.ensures.opened
+    opens_not (opening called.cursors.now called.procedure.now.user called.procedure.now.parameters number) (over_of declared.cursor.body) declared.cursor.body called.values.now before c.in-Err.fault
+    (ap (λ o. option_map_or (λ d. over_of d.cursor.body) o Over.rows) found) (ap (λ o. option_map (λ d. d.cursor.body) o) found) c.in-Err.ensures.opened
 
 pub opened-requires-clause-asked : goal.opened-requires-clause-asked
 opened-requires-clause-asked g c =
     let called = c.args.called.now in
     cursor_there (column_kinds called.catalog.now) (kinds_of_parameters called.procedure.now.parameters) called.cursors.now c.args.number c.index-called-number.result c.requires.asked c.requires.there
 
-pub returns-in-Ok-clause-kinds : goal.returns-in-Ok-clause-kinds
-returns-in-Ok-clause-kinds g c =
-    put_listed c.args.called.now.cursors.now c.args.cursors.now c.args.number c.index-called-number.result c.in-Ok.cursor c.requires.kinds c.in-Ok.ensures.kinds
+pub returns-in-Ok-clause-kept : goal.returns-in-Ok-clause-kept
+returns-in-Ok-clause-kept g c =
+    put_kept (column_kinds c.args.called.now.catalog.now) c.args.called.now.cursors.now c.args.cursors.now c.args.number c.index-called-number.result c.in-Ok.cursor c.requires.kept c.in-Ok.ensures.kept

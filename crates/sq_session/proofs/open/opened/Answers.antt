@@ -1,5 +1,6 @@
-use Rattle.sq_bound.specs.WellFormed.{kinds_of_results}
-use Rattle.sq_session.proofs.Asking.{listed_as}
+use Rattle.sq_bound.specs.WellFormed.{kinds_of_parameters}
+use Rattle.sq_catalog.specs.Catalog.{column_kinds}
+use Rattle.sq_session.proofs.Asking.{rows_kept, updatable_kept}
 use Rattle.sq_session.proofs.Holding.{query_there}
 use Rattle.sq_session.proofs.open.opened.Goals as goal
 
@@ -7,7 +8,13 @@ pub opened_over-requires : goal.opened_over-requires
 opened_over-requires g c =
     query_there c.args.called.now.catalog.now.bases (g.S.Store.content_now c.args.store.now) c.in-Updatable.updatable c.requires.rows (rw c.in-Updatable.is at c.requires.fits)
 
-pub returns-in-Rows-clause-kinds : goal.returns-in-Rows-clause-kinds
-returns-in-Rows-clause-kinds g c =
+pub returns-in-Rows-clause-kept : goal.returns-in-Rows-clause-kept
+returns-in-Rows-clause-kept g c =
     let asked = rw c.in-Rows.is at c.requires.asked in
-    listed_as (kinds_of_results c.args.cursor.now.columns) c.in-Rows.query c.opened_over_rows.result asked.1 c.opened_over_rows.ensures.kinds
+    rows_kept (column_kinds c.args.called.now.catalog.now) c.args.cursor.now c.in-Rows.query c.opened_over_rows.result asked.1 c.opened_over_rows.ensures.rows
+
+pub returns-in-Updatable-clause-kept : goal.returns-in-Updatable-clause-kept
+returns-in-Updatable-clause-kept g c =
+    let called = c.args.called.now in
+    updatable_kept (column_kinds called.catalog.now) c.args.cursor.now (kinds_of_parameters called.procedure.now.parameters) c.in-Updatable.updatable.target called.procedure.now.user called.values.now (g.S.Store.content_now c.args.store.now)
+    c.opened_over.result c.requires.asked c.requires.given c.opened_over.ensures

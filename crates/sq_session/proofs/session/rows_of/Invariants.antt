@@ -1,7 +1,7 @@
 use Rattle.std.proofs.Common.{◌≡◌, ◌++◌, length, map}
 use Rattle.sq_store.specs.Content.{table_at}
 use Rattle.sq_session.specs.Lent.{lent}
-use Rattle.sq_session.proofs.TableWalk.{rows_from}
+use Rattle.sq_session.specs.Walk.{rows_from}
 use Rattle.sq_session.proofs.session.rows_of.Given as goal
 
 -- the rows so far, and those from the number on, are all

@@ -1,6 +1,6 @@
 use Rattle.std.proofs.Common.{◌≡◌, ◌∙◌, List, ap, arith, fold, length, sym}
 use Rattle.std.specs.Prelude.{flat_map}
-use Rattle.sq_bound.specs.Joined.{specifications_of, term_specifications, union_specifications}
+use Rattle.sq_bound.specs.Joined.{specifications_of, union_specifications}
 use Rattle.sq_bound.specs.declared.query.BoundUnion.{BoundUnion}
 use Rattle.sq_query.specs.Needed.{places_in, specification_tables, specifications_tables, with_table}
 use Rattle.sq_query.proofs.Added.{added_more, adds_same, tables_of_bracketed_term, tables_of_query, tables_of_term, tables_of_union, union_more}

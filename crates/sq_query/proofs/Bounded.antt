@@ -1,0 +1,103 @@
+-- Values of bounded kinds may be brought to the common kinds of UNION (ISO/IEC 9075:1992, 7.10).
+use Rattle.std.proofs.Common.{◌≡◌, max, List, [], ◌∷◌, ◌++◌, arith, refl, ap, ◌∙◌, Ok, Err}
+use Rattle.std.specs.Prelude.{IfOk}
+use Rattle.sq_value.specs.Domain.{IsOfKind}
+use Rattle.sq_value.specs.declared.domain.Kind.{Kind}
+use Rattle.sq_value.specs.declared.domain.Kind.TheVariants as kind
+use Rattle.sq_value.specs.declared.value.Value.{Value}
+use Rattle.sq_value.specs.declared.value.Value.TheVariants.{Null, Num, Chars}
+use Rattle.sq_meaning.specs.Status.{Outcome, and_then}
+use Rattle.sq_meaning.specs.Environment.{Row}
+use Rattle.sq_meaning.specs.Kind.{common_kind, common_kinds}
+use Rattle.sq_meaning.specs.WellFormed.{IsRowOf, AreRowsOf}
+use Rattle.sq_meaning.proofs.AnswerLaws.{all_weaker, all_appended}
+use Rattle.sq_query.specs.Union.{IsBounded, AreBounded, MayBeBrought, IsBringable, AreBringable}
+use Rattle.sq_query.proofs.JoinedKinds.{if_there, paired}
+
+-- ---- the common kinds are bounded
+
+common_bounded : (x y : Kind) → IsBounded x → IsBounded y → IfOk (common_kind x y) IsBounded
+common_bounded (kind.Num s) (kind.Num t) h k = omega arith
+common_bounded (kind.Num s) (kind.Chars l) h k = tt
+common_bounded (kind.Num s) (kind.Vary l) h k = tt
+common_bounded (kind.Chars m) (kind.Num t) h k = tt
+common_bounded (kind.Chars m) (kind.Chars l) h k = omega arith
+common_bounded (kind.Chars m) (kind.Vary l) h k = tt
+common_bounded (kind.Vary m) (kind.Num t) h k = tt
+common_bounded (kind.Vary m) (kind.Chars l) h k = tt
+common_bounded (kind.Vary m) (kind.Vary l) h k = tt
+
+all_bounded : (ks ls : List Kind) → AreBounded ks → AreBounded ls → IfOk (common_kinds ks ls) AreBounded
+all_bounded [] [] h b = tt
+all_bounded [] (l ∷ ls) h b = tt
+all_bounded (k ∷ ks) [] h b = tt
+all_bounded (k ∷ ks) (l ∷ ls) h b = paired IsBounded AreBounded AreBounded (λ c cs p q. (p, q)) (common_kind k l) (common_kinds ks ls) (common_bounded k l h.0 b.0) (all_bounded ks ls h.1 b.1)
+
+pub common_are_bounded : (ks ls cs : List Kind) → AreBounded ks → AreBounded ls → common_kinds ks ls ≡ Ok cs → AreBounded cs
+common_are_bounded ks ls cs h b is = if_there AreBounded (common_kinds ks ls) cs is (all_bounded ks ls h b)
+
+-- ---- the sides of UNION are alike
+
+one_turned : (x y : Kind) → common_kind x y ≡ common_kind y x
+one_turned (kind.Num s) (kind.Num t) = let e : max s t ≡ max t s = omega arith in ap (λ n. Ok (kind.Num n)) e
+one_turned (kind.Num s) (kind.Chars l) = refl
+one_turned (kind.Num s) (kind.Vary l) = refl
+one_turned (kind.Chars m) (kind.Num t) = refl
+one_turned (kind.Chars m) (kind.Chars l) = let e : max m l ≡ max l m = omega arith in ap (λ n. Ok (kind.Chars n)) e
+one_turned (kind.Chars m) (kind.Vary l) = let e : max m l ≡ max l m = omega arith in ap (λ n. Ok (kind.Vary n)) e
+one_turned (kind.Vary m) (kind.Num t) = refl
+one_turned (kind.Vary m) (kind.Chars l) = let e : max m l ≡ max l m = omega arith in ap (λ n. Ok (kind.Vary n)) e
+one_turned (kind.Vary m) (kind.Vary l) = let e : max m l ≡ max l m = omega arith in ap (λ n. Ok (kind.Vary n)) e
+
+turned : (ks ls : List Kind) → common_kinds ks ls ≡ common_kinds ls ks
+turned [] [] = refl
+turned [] (l ∷ ls) = refl
+turned (k ∷ ks) [] = refl
+turned (k ∷ ks) (l ∷ ls) = λ i. and_then (one_turned k l i) (λ c. and_then (turned ks ls i) (λ cs. Ok (c ∷ cs)))
+
+-- ---- values of a side
+
+abbrev May : Value → Kind → Type 0
+May v c = IsBounded c → MayBeBrought c v
+
+null_may : (o : Outcome Kind) → IfOk o (May Null)
+null_may (Ok (kind.Num s)) = λ b. tt
+null_may (Ok (kind.Chars n)) = λ b. tt
+null_may (Ok (kind.Vary n)) = λ b. tt
+null_may (Err s) = tt
+
+value_may : (x y : Kind) (v : Value) → IsOfKind x v → IfOk (common_kind x y) (May v)
+value_may x y Null h = null_may (common_kind x y)
+value_may (kind.Num s) (kind.Num t) (Num n) h = λ b. (omega (arith, h), b)
+value_may (kind.Num s) (kind.Chars l) (Num n) h = tt
+value_may (kind.Num s) (kind.Vary l) (Num n) h = tt
+value_may (kind.Chars k) y (Num n) h = absurd h
+value_may (kind.Vary k) y (Num n) h = absurd h
+value_may (kind.Num s) y (Chars t) h = absurd h
+value_may (kind.Chars k) (kind.Num s) (Chars t) h = tt
+value_may (kind.Chars k) (kind.Chars l) (Chars t) h = λ b. b
+value_may (kind.Chars k) (kind.Vary l) (Chars t) h = λ b. tt
+value_may (kind.Vary k) (kind.Num s) (Chars t) h = tt
+value_may (kind.Vary k) (kind.Chars l) (Chars t) h = λ b. tt
+value_may (kind.Vary k) (kind.Vary l) (Chars t) h = λ b. tt
+
+abbrev MayAll : Row → List Kind → Type 0
+MayAll row cs = AreBounded cs → IsBringable cs row
+
+row_may : (ks ls : List Kind) (row : Row) → IsRowOf ks row → IfOk (common_kinds ks ls) (MayAll row)
+row_may [] [] [] h = λ b. tt
+row_may [] [] (v ∷ row) h = absurd h
+row_may [] (l ∷ ls) row h = tt
+row_may (k ∷ ks) [] row h = tt
+row_may (k ∷ ks) (l ∷ ls) [] h = absurd h
+row_may (k ∷ ks) (l ∷ ls) (v ∷ row) h =
+    paired (May v) (MayAll row) (MayAll (v ∷ row)) (λ c cs p q b. (p b.0, q b.1)) (common_kind k l) (common_kinds ks ls) (value_may k l v h.0) (row_may ks ls row h.1)
+
+rows_may : (ks ls cs : List Kind) (rows : List Row) → AreRowsOf ks rows → common_kinds ks ls ≡ Ok cs → AreBounded cs → AreBringable cs rows
+rows_may ks ls cs rows h is bounded =
+    all_weaker (IsRowOf ks) (IsBringable cs) (λ row p. if_there (MayAll row) (common_kinds ks ls) cs is (row_may ks ls row p) bounded) rows h
+
+-- the rows of both sides, where the common kinds are bounded
+pub both_bringable : (ls rs cs : List Kind) (left right : List Row) → AreRowsOf ls left → AreRowsOf rs right → common_kinds ls rs ≡ Ok cs → AreBounded cs → AreBringable cs (left ++ right)
+both_bringable ls rs cs left right h k is bounded =
+    all_appended (IsBringable cs) left right (rows_may ls rs cs left h is bounded) (rows_may rs ls cs right k (turned rs ls ∙ is) bounded)

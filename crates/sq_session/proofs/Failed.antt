@@ -1,0 +1,90 @@
+-- A call that ends with another status than success leaves the tables as they were.
+use Rattle.std.proofs.Common.{◌≡◌, ℕ, Bool, true, false, List, Option, Some, None, Ok, Err, ap, subst}
+use Rattle.sq_value.specs.declared.value.Value.{Value}
+use Rattle.sq_store.specs.Content.{Content}
+use Rattle.sq_bound.specs.declared.statement.ChangeTarget.TheVariants as target
+use Rattle.sq_bound.specs.declared.statement.PositionedTarget.{PositionedTarget}
+use Rattle.sq_change.specs.Statement.{Deletes, Inserts, Updates}
+use Rattle.sq_meaning.specs.Status.{Outcome}
+use Rattle.sq_session.specs.Fetch.{come_to_number, come_to_row, come_to_walk, over_numbers, over_rows, over_walk}
+use Rattle.sq_session.specs.Kind.{Fetching, Kind, Opening, read_parameters}
+use Rattle.sq_session.specs.Parameter.{started_values}
+use Rattle.sq_session.specs.State.{State, committed_state, cursor_at, is_open, rolled_back}
+use Rattle.sq_session.specs.Step.{ChangesIf, Comes, DeletesIf, Ends, MayCall, MayCloseIf, MayDeleteAt, MayFetchFrom, MayOpenIf, MayStep, MayUpdateAt, OpensAs, UpdatesIf, is_on_row, is_success, on_row}
+use Rattle.sq_session.specs.declared.cursor.CursorState.{CursorState}
+use Rattle.sq_session.specs.declared.cursor.CursorState.TheVariants as cursor
+use Rattle.sq_session.specs.declared.reply.Done.{Done}
+
+abbrev Kept : State → State → Type 0
+Kept b a = a.tables ≡ b.tables
+
+same : (b a : State) → a ≡ b → Kept b a
+same b a h = ap (λ s. s.tables) h
+
+-- ---- cursors
+
+opens_as : (o : Outcome CursorState) (n : ℕ) (b : State) (d : Done) (a : State) → OpensAs o n b d a → Kept b a
+opens_as (Ok c) n b d a h = ap (λ s. s.tables) h.1
+opens_as (Err st) n b d a h = same b a h.1
+
+open_if : (is : Bool) (o : Opening) (vs : List Value) (b : State) (d : Done) (a : State) → MayOpenIf is o vs b d a → Kept b a
+open_if true o vs b d a h = same b a h.1
+open_if false o vs b d a h = opens_as h.0 o.cursor b d a h.3
+
+comes : (o : Outcome (CursorState × Done)) (n : ℕ) (b : State) (d : Done) (a : State) → Comes o n b d a → Kept b a
+comes (Ok come) n b d a h = ap (λ s. s.tables) h.1
+comes (Err st) n b d a h = same b a h.1
+
+fetch_from : (c : CursorState) (f : Fetching) (vs : List Value) (b : State) (d : Done) (a : State) → MayFetchFrom c f vs b d a → Kept b a
+fetch_from cursor.Closed f vs b d a h = same b a h.1
+fetch_from (cursor.Rows c) f vs b d a h = comes (over_rows (come_to_row f vs c)) f.cursor b d a h
+fetch_from (cursor.Numbers c) f vs b d a h = comes (over_numbers (come_to_number f b.tables c)) f.cursor b d a h
+fetch_from (cursor.Walking c) f vs b d a h = comes (over_walk (come_to_walk f b.tables c)) f.cursor b d a h
+
+close_if : (o : Bool) (n : ℕ) (b : State) (d : Done) (a : State) → MayCloseIf o n b d a → Kept b a
+close_if true n b d a h = ap (λ s. s.tables) h.1
+close_if false n b d a h = same b a h.1
+
+-- ---- changes
+
+changes_if : (s : Bool) (Changes : Content → Content → Type 0) (b a : State) → ChangesIf s Changes b a → s ≡ false → Kept b a
+changes_if true Changes b a h e = cc
+changes_if false Changes b a h e = same b a h
+
+updates_if : (s : Bool) (Changes : Content → Content → Type 0) (b a : State) → UpdatesIf s Changes b a → s ≡ false → Kept b a
+updates_if true Changes b a h e = cc
+updates_if false Changes b a h e = same b a h
+
+deletes_if : (s : Bool) (p : PositionedTarget) (b a : State) → DeletesIf s p b a → s ≡ false → Kept b a
+deletes_if true p b a h e = cc
+deletes_if false p b a h e = same b a h
+
+update_at : (r : Bool) (p : PositionedTarget) (b : State) (d : Done) (a : State) → MayUpdateAt r p b d a → is_success d.status ≡ false → Kept b a
+update_at true p b d a h e = updates_if (is_success d.status) (Updates (target.Positioned p) (on_row b p)) b a h.1 e
+update_at false p b d a h e = same b a h.1
+
+delete_at : (r : Bool) (p : PositionedTarget) (b : State) (d : Done) (a : State) → MayDeleteAt r p b d a → is_success d.status ≡ false → Kept b a
+delete_at true p b d a h e = deletes_if (is_success d.status) p b a h.1 e
+delete_at false p b d a h e = same b a h.1
+
+-- ---- a statement, and a call
+
+ends : (w b : State) (d : Done) (a : State) → Ends w d a → is_success d.status ≡ false → Kept b a
+ends w b d a h e = let k : true ≡ false = subst (λ x. is_success x.status ≡ false) h.0 e in cc
+
+step : (k : Kind) (vs : List Value) (b : State) (d : Done) (a : State) → MayStep k vs b d a → is_success d.status ≡ false → Kept b a
+step (Kind.opens o) vs b d a h e = open_if (is_open (cursor_at b o.cursor)) o vs b d a h
+step (Kind.fetches f) vs b d a h e = fetch_from (cursor_at b f.cursor) f vs b d a h
+step (Kind.closes n) vs b d a h e = close_if (is_open (cursor_at b n)) n b d a h
+step (Kind.selects s) vs b d a h e = same b a h.0
+step (Kind.inserts base) vs b d a h e = changes_if (is_success d.status) (Inserts base) b a h.1 e
+step (Kind.updates t) vs b d a h e = updates_if (is_success d.status) (Updates (target.Searched t) None) b a h.1 e
+step (Kind.deletes t) vs b d a h e = changes_if (is_success d.status) (Deletes (target.Searched t) None) b a h.1 e
+step (Kind.updates_at p) vs b d a h e = update_at (is_on_row b p) p b d a h e
+step (Kind.deletes_at p) vs b d a h e = delete_at (is_on_row b p) p b d a h e
+step Kind.commits vs b d a h e = ends (committed_state b) b d a h e
+step Kind.rolls_back vs b d a h e = ends (rolled_back b) b d a h e
+
+pub kept_by_failure : (k : Option Kind) (vs : List Value) (b : State) (d : Done) (a : State) → MayCall k vs b d a → is_success d.status ≡ false → a.tables ≡ b.tables
+kept_by_failure None vs b d a h e = same b a h.1
+kept_by_failure (Some k) vs b d a h e = step k (started_values (read_parameters k) vs) b d a h e
