@@ -63,7 +63,7 @@ each_kind f g (x ∷ xs) ks h =
     subst (AllZip (λ x k. f (g x) ≡ Ok k) (x ∷ xs)) whole (first.1, each_kind f g xs rest.0 rest.1)
 
 -- each expression of a select list over one table
-list_shown : (columns : TableKinds) (parameters : List Kind) (t : TablePlace) (own : List Column) (q : BoundSpecification) → IsSelect columns parameters [] q → (out-BoundSpecification q).from ≡ t ∷ []
+list_shown : (columns : TableKinds) (parameters : List Kind) (t : TablePlace) (own : List Column) (q : BoundSpecification) → IsSelect columns parameters [] q → (out-BoundSpecification q).from.tables ≡ t ∷ []
     → columns t ≡ Ok (kinds_of_columns own) → AllZip (IsShown own) (out-BoundSpecification q).list (kinds_of_select q)
 list_shown columns parameters t own q h from there =
     let o = out-BoundSpecification q in
@@ -86,7 +86,7 @@ shown_among own (e ∷ es) [] h = absurd h
 shown_among own (e ∷ es) (k ∷ ks) h = (λ p is. within own p.column k (h.0 p is), shown_among own es ks h.1)
 
 pub list_among : (columns : TableKinds) (parameters : List Kind) (t : TablePlace) (own seen : List Column) (q : BoundSpecification) (es : List BoundExpr) → IsSelect columns parameters [] q
-    → (out-BoundSpecification q).from ≡ t ∷ [] → columns t ≡ Ok (kinds_of_columns own) → seen ≡ own → es ≡ (out-BoundSpecification q).list → AllByRecursion (IsAmong seen) es
+    → (out-BoundSpecification q).from.tables ≡ t ∷ [] → columns t ≡ Ok (kinds_of_columns own) → seen ≡ own → es ≡ (out-BoundSpecification q).list → AllByRecursion (IsAmong seen) es
 list_among columns parameters t own seen q es h from there same is =
     let among : AllByRecursion (IsAmong own) (out-BoundSpecification q).list = shown_among own (out-BoundSpecification q).list (kinds_of_select q) (list_shown columns parameters t own q h from there) in
     subst (λ (cs : List Column). AllByRecursion (IsAmong cs) es) (sym same) (subst (AllByRecursion (IsAmong own)) (sym is) among)
@@ -120,7 +120,7 @@ leaf_kinds own columns all (e ∷ es) (p ∷ ps) (k ∷ ks) h l =
 
 -- the columns of the base table that a query shows have the kinds of its columns
 pub named_kinds : (columns : TableKinds) (parameters : List Kind) (t : TablePlace) (own seen : List Column) (q : BoundSpecification) (es : List BoundExpr) (leaf : Leaf) (named : Result (Option (List ℕ)) BindFault)
-    → IsSelect columns parameters [] q → (out-BoundSpecification q).from ≡ t ∷ [] → columns t ≡ Ok (kinds_of_columns own) → seen ≡ own → es ≡ (out-BoundSpecification q).list
+    → IsSelect columns parameters [] q → (out-BoundSpecification q).from.tables ≡ t ∷ [] → columns t ≡ Ok (kinds_of_columns own) → seen ≡ own → es ≡ (out-BoundSpecification q).list
     → list_all (λ c. is_kind_at (base_kinds leaf.table) c.leaf_column c.kind) own ≡ true → IfOk named (λ o. IfSome o (AreLeaves seen es)) → IfOk named (λ o. IfSome o (λ ps. HaveKinds (base_kinds leaf.table) ps (kinds_of_select q)))
 named_kinds columns parameters t own seen q es leaf (Err fault) h from there same is all are = tt {0}
 named_kinds columns parameters t own seen q es leaf (Ok None) h from there same is all are = tt {0}

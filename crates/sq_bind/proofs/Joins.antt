@@ -1,6 +1,7 @@
 -- Query expressions, term by term: what they are made of, and the kinds of their columns.
-use Rattle.std.proofs.Common.{◌≡◌, Bool, true, false, ◌&&◌, List, [], ◌∷◌, ◌++◌, Option, Some, None, Ok, Err, refl, sym, ap, subst, ◌∙◌, eq-eqb}
+use Rattle.std.proofs.Common.{◌≡◌, Bool, true, false, ◌&&◌, List, [], ◌∷◌, ◌++◌, take, Option, Some, None, Ok, Err, refl, sym, ap, subst, ◌∙◌, eq-eqb}
 use Rattle.std.proofs.lemmas.Grind.{fold-append}
+use Rattle.std.proofs.lemmas.List.Folds.{list_all-append}
 use Rattle.std.proofs.lemmas.List.{append-nil, flat_map_more, map-append}
 use Rattle.std.specs.Prelude.{IfOk, IfSome, Result, is_ok, MatchOption, if◌then◌else◌, flat_map, fold}
 use Rattle.std.specs.Cmp.Lexicographic.{pointwise}
@@ -13,7 +14,7 @@ use Rattle.sq_meaning.proofs.AnswerLaws.{all_appended}
 use Rattle.sq_meaning.specs.Kind.{common_kind, common_kinds}
 use Rattle.sq_meaning.specs.Status.{Outcome, ◌>>=◌, not_well_formed}
 use Rattle.sq_bound.proofs.JoinedLaws.{joined_kinds-out, specifications_of-out, term_kinds-Bracketed, term_kinds-Specification, term_specifications-Bracketed, term_specifications-Specification, union_kinds-out, union_specifications-out}
-use Rattle.sq_bound.specs.Joined.{Kinds, joined_kinds, kept_kinds, specifications_of, term_kinds, term_specifications, union_kinds, union_specifications}
+use Rattle.sq_bound.specs.Joined.{Kinds, are_bounded, brought_kinds, is_bounded, joined_kinds, kept_kinds, specifications_of, term_kinds, term_specifications, union_kinds, union_specifications}
 use Rattle.sq_bound.specs.Names.{same_kind}
 use Rattle.sq_bound.specs.WellFormed.{IsCursor, IsCursorBody, IsQuery, IsSelect, IsUpdatable, TableKinds, kinds_of_query, kinds_of_results, kinds_of_select}
 use Rattle.sq_bound.specs.declared.condition.BoundSpecification.{BoundSpecification, out-BoundSpecification}
@@ -96,10 +97,11 @@ of_first columns parameters q t first rest same h =
 
 -- the kinds of a UNION
 of_sides : (u : BoundUnion) (t : Term) (left : List Kind) → u.term ≡ t.term → term_kinds t.term ≡ Ok (kinds_of_results t.columns)
-    → common_kinds left (kinds_of_results t.columns) ≡ Ok (kinds_of_results u.columns) → union_kinds u (Ok left) ≡ Ok (kinds_of_results u.columns)
-of_sides u t left same right common =
-    union_kinds-out u (Ok left) ∙ ap (λ ks. ks >>= λ rs. common_kinds left rs >>= kept_kinds u.columns) (ap term_kinds same ∙ right)
-    ∙ kept_along u.columns (common_kinds left (kinds_of_results t.columns)) common
+    → common_kinds left (kinds_of_results t.columns) ≡ Ok (kinds_of_results u.columns) → are_bounded (kinds_of_results u.columns) ≡ true → union_kinds u (Ok left) ≡ Ok (kinds_of_results u.columns)
+of_sides u t left same right common bounded =
+    union_kinds-out u (Ok left) ∙ ap (λ ks. ks >>= λ rs. common_kinds left rs >>= brought_kinds u.columns) (ap term_kinds same ∙ right)
+    ∙ ap (λ ks. ks >>= brought_kinds u.columns) common
+    ∙ ap (λ b. if b then kept_kinds u.columns (kinds_of_results u.columns) else not_well_formed) bounded ∙ kept_same u.columns
 
 -- a query expression with a further term
 pub of_further : (columns : TableKinds) (parameters : List Kind) (before q : BoundQuery) (u : BoundUnion) (t : Term) → (out-BoundQuery q).first ≡ (out-BoundQuery before).first
@@ -116,7 +118,7 @@ of_further columns parameters before q u t first rest same side common b h =
     kept_from p.columns (joined_from (term_kinds p.first) p.rest) (kinds_of_query before) (sym (joined_kinds-out before) ∙ b.kinds_are) in
     let kinds : joined_from (term_kinds o.first) o.rest ≡ Ok (kinds_of_query q) =
     (λ i. joined_from (term_kinds (first i)) (rest i)) ∙ fold-append (λ left union. union_kinds union left) (term_kinds p.first) p.rest (u ∷ []) ∙ ap (union_kinds u) left
-    ∙ of_sides u t (kinds_of_query before) side h.kinds_are common ∙ ap (λ cs. Ok (kinds_of_results cs)) (sym same) in
+    ∙ of_sides u t (kinds_of_query before) side h.kinds_are common.kinds_are common.bounded ∙ ap (λ cs. Ok (kinds_of_results cs)) (sym same) in
     record {
       specifications = subst (AllByRecursion (IsSelect columns parameters [])) (sym made) (all_appended (IsSelect columns parameters []) (specifications_of before) (term_specifications t.term) b.specifications h.specifications);
       kinds_are = joined_kinds-out q ∙ kept_along o.columns (joined_from (term_kinds o.first) o.rest) kinds;
@@ -146,17 +148,28 @@ told (Ok y) x e = cc
 told (Err status) x e = cc
 
 pub columns_more : (left right new_left new_right columns : List ResultColumn) (a b c : ResultColumn) → new_left ≡ left ++ a ∷ [] → new_right ≡ right ++ b ∷ []
-    → AreCommon left right columns → Some c.kind ≡ result_ok (common_kind a.kind b.kind) → AreCommon new_left new_right (columns ++ c ∷ [])
-columns_more left right new_left new_right columns a b c l r h k =
+    → AreCommon left right columns → Some c.kind ≡ result_ok (common_kind a.kind b.kind) → is_bounded c.kind ≡ true → AreCommon new_left new_right (columns ++ c ∷ [])
+columns_more left right new_left new_right columns a b c l r h k bounded =
     let one : kinds_of_results new_left ≡ kinds_of_results left ++ a.kind ∷ [] = ap kinds_of_results l ∙ map-append (λ (x : ResultColumn). x.kind) left (a ∷ []) in
     let other : kinds_of_results new_right ≡ kinds_of_results right ++ b.kind ∷ [] = ap kinds_of_results r ∙ map-append (λ (x : ResultColumn). x.kind) right (b ∷ []) in
-    (λ i. common_kinds (one i) (other i)) ∙ common_more (kinds_of_results left) (kinds_of_results right) (kinds_of_results columns) a.kind b.kind c.kind h (told (common_kind a.kind b.kind) c.kind k)
-    ∙ ap (λ ks. Ok ks) (sym (map-append (λ (x : ResultColumn). x.kind) columns (c ∷ [])))
+    let more : kinds_of_results (columns ++ c ∷ []) ≡ kinds_of_results columns ++ c.kind ∷ [] = map-append (λ (x : ResultColumn). x.kind) columns (c ∷ []) in
+    record {
+      kinds_are =
+          (λ i. common_kinds (one i) (other i)) ∙ common_more (kinds_of_results left) (kinds_of_results right) (kinds_of_results columns) a.kind b.kind c.kind h.kinds_are (told (common_kind a.kind b.kind) c.kind k)
+          ∙ ap (λ ks. Ok ks) (sym more);
+      bounded = ap are_bounded more ∙ list_all-append is_bounded (kinds_of_results columns) (c.kind ∷ []) ∙ (λ i. h.bounded i && (bounded i && true));
+    }
+
+-- no columns beside none
+pub columns_begun : (left right columns : List ResultColumn) → columns ≡ [] → AreCommon (take 0 left) (take 0 right) columns
+columns_begun left right columns none = subst (AreCommon [] []) (sym none) (record { kinds_are = refl; bounded = refl })
 
 pub common_along : (j k : Joined) (t u : Term) (columns same : List ResultColumn) → j ≡ k → t ≡ u → columns ≡ same
     → AreCommon (out-BoundQuery j.query).columns t.columns columns → AreCommon (out-BoundQuery k.query).columns u.columns same
-common_along j k t u columns same e f g h =
-    sym (λ i. common_kinds (kinds_of_results (out-BoundQuery (e i).query).columns) (kinds_of_results (f i).columns)) ∙ h ∙ ap (λ cs. Ok (kinds_of_results cs)) g
+common_along j k t u columns same e f g h = record {
+  kinds_are = sym (λ i. common_kinds (kinds_of_results (out-BoundQuery (e i).query).columns) (kinds_of_results (f i).columns)) ∙ h.kinds_are ∙ ap (λ cs. Ok (kinds_of_results cs)) g;
+  bounded = ap (λ cs. are_bounded (kinds_of_results cs)) (sym g) ∙ h.bounded;
+}
 
 -- ---- cursors
 

@@ -1,9 +1,9 @@
 -- Where bound statements, cursors and views are well formed (ISO/IEC 9075:1992, clauses 11 and 13).
-use Rattle.std.specs.Prelude.{◌≡◌, Bool, false, List, [], map, Ok, Result}
+use Rattle.std.specs.Prelude.{◌≡◌, Bool, false, true, List, [], map, Ok, Result}
 use Rattle.std.specs.List.{AllByRecursion, AllZip}
 use Rattle.sq_meaning.specs.Kind.{common_kinds}
 use Rattle.sq_bound.specs.Fits.{IsColumnOf}
-use Rattle.sq_bound.specs.Joined.{term_kinds, term_specifications}
+use Rattle.sq_bound.specs.Joined.{are_bounded, term_kinds, term_specifications}
 use Rattle.sq_bound.specs.WellFormed.{IsNewValue, IsQuery, IsSelect, Levels, MayStore, TableKinds, kinds_of_parameters, kinds_of_results, kinds_of_select}
 use Rattle.sq_bound.specs.declared.condition.BoundSpecification.{BoundSpecification}
 use Rattle.sq_bound.specs.declared.condition.ResultColumn.{ResultColumn}
@@ -54,9 +54,10 @@ pub record IsTerm (columns : TableKinds) (parameters : List Kind) (t : Term) : T
   pub specifications : AllByRecursion (IsSelect columns parameters []) (term_specifications t.term)
   pub kinds_are : term_kinds t.term ≡ Ok (kinds_of_results t.columns)
 
--- both sides of a UNION have as many columns as it, and it has the common kinds of theirs (7.10)
-abbrev pub AreCommon : List ResultColumn → List ResultColumn → List ResultColumn → Type 0
-AreCommon left right columns = common_kinds (kinds_of_results left) (kinds_of_results right) ≡ Ok (kinds_of_results columns)
+-- both sides of a UNION have as many columns as it, and it has the common kinds of theirs, which are bounded (7.10)
+pub record AreCommon (left right columns : List ResultColumn) : Type 0 where
+  pub kinds_are : common_kinds (kinds_of_results left) (kinds_of_results right) ≡ Ok (kinds_of_results columns)
+  pub bounded : are_bounded (kinds_of_results columns) ≡ true
 
 -- a query expression that is bound so far
 abbrev pub IsJoined : TableKinds → List Kind → Joined → Type 0

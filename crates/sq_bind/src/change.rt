@@ -1,21 +1,26 @@
 //! INSERT, UPDATE and DELETE (ISO/IEC 9075:1992, 13.6 to 13.10).
 
-ghost use Rattle.std.specs.Prelude.{◌≡◌, ◌∷◌, ◌++◌, ◌<◌, [], length, true, IfOk, List, Ok, OnOk};
+ghost use Rattle.std.specs.Prelude.{◌≡◌, ◌∷◌, ◌++◌, ◌<◌, [], length, true, IfOk, List, Ok, OnOk, Some};
 ghost use Rattle.std.specs.List.{AllByRecursion, AllZip};
 ghost use Rattle.sq_bound.specs.declared.condition.TablePlace.TheVariants.{Base};
 ghost use Rattle.sq_bound.specs.declared.expression.BoundExpr.{BoundExpr as BoundTree};
+ghost use Rattle.sq_tree.specs.declared.statement.Where.TheVariants.{CurrentOf};
 ghost use Rattle.sq_bound.specs.declared.statement.ChangeTarget.TheVariants.{Searched};
 ghost use Rattle.sq_bound.specs.Fits.{FitsTarget, IsBase, IsColumnOf, are_columns, is_cursor, under as leaf_of};
 ghost use Rattle.sq_bound.specs.WellFormed.{IsAssignment, IsChangeTarget, IsLeaf, IsSource, MayStore, TableKinds, kinds_of_parameters, kinds_of_results, of_base};
 ghost use Rattle.sq_scope.specs.WellFormed.{AreLevelsIn, IsItemOver};
 ghost use Rattle.sq_scope.specs.declared.findings.Found.{Found as FoundPart};
 ghost use Rattle.sq_value.specs.declared.domain.Kind.{Kind as KindOf};
+ghost use Rattle.sq_meaning.specs.Environment.{same_table};
+ghost use Rattle.sq_meaning.specs.Spelled.{table_of};
+ghost use Rattle.sq_bind.specs.Written.{IsTargetOf, IsUnder};
 ghost use Rattle.sq_bind.specs.WellFormed.{AreReceivers, IsInsertedQuery, IsNewValueIn, IsOutermost, IsStoredIn, objects_of};
 
+use crate::cursors::Cursors;
 use crate::updatable::{Under, bind_target, under_table};
 use sq_bound::{
-    Action, BindFault, BoundAssignment, BoundExpr, BoundInsert, BoundUpdate, ChangeTarget, Cursors,
-    InsertedRows, Names, ObjectColumn, PositionedTarget, ResultColumn, Target,
+    Action, BindFault, BoundAssignment, BoundExpr, BoundInsert, BoundUpdate, ChangeTarget,
+    InsertedRows, Names, ObjectColumn, PositionedTarget, ResultColumn, TableDesc, Target,
 };
 use sq_items::Items;
 use sq_lex::Name;
@@ -39,12 +44,39 @@ fn changed_table<N: Names>(
 ) -> Result<Under<'_>, BindFault>
     ensures base { IfOk result (λ under. IsBase (N.base_tables names.now) under.leaf.now.table) }
     ensures leaf { IfOk result (λ under. IsLeaf (N.column_kinds names.now) under.leaf.now) }
+    ensures named { IfOk result (λ under. IsUnder user written under.leaf.now) }
 {
-    let table = named_table(names, user, written)?;
+    named_under(named_table(names, user, written)?, &user, &written)
+}
+
+/// What is under a table that has the name that is written in a text of the user.
+fn named_under<'a>(
+    table: &'a TableDesc,
+    user: &Name,
+    written: &TableName,
+) -> Result<Under<'a>, BindFault>
+    ensures leaf { IfOk result (λ under. table.now.leaf ≡ Some under.leaf.now) }
+    ensures table { IfOk result (λ under. under.table.now ≡ table.now) }
+    ensures named { IfOk result (λ under. IsUnder user.now written.now under.leaf.now) }
+{
+    if !is_of_name(table, user, written) {
+        return Err(BindFault::UnknownTable);
+    }
     match under_table(table) {
         Some(under) => Ok(under),
         None => Err(BindFault::NotUpdatable),
     }
+}
+
+/// Whether a table has the name that is written in a text of the user.
+fn is_of_name(table: &TableDesc, user: &Name, written: &TableName) -> bool
+    ensures { result ≡ same_table (table_of user.now written.now) (record { user = table.now.user; name = table.now.name }) }
+{
+    let owner = match &written.schema {
+        Some(owner) => owner,
+        None => user,
+    };
+    *owner == table.user && written.table == table.name
 }
 
 /// A column that gets values: its position in the table that is named, and the column of the base table that it is.
@@ -189,6 +221,7 @@ pub(crate) fn bind_insert<N: Names>(
     requires { IsOutermost environment.now }
     ensures base { IfOk result (λ found. IsBase (N.base_tables names.now) found.part.leaf.table) }
     ensures leaf { IfOk result (λ found. IsLeaf (N.column_kinds names.now) found.part.leaf) }
+    ensures table { IfOk result (λ found. IsUnder environment.now.user insert.now.table found.part.leaf) }
     ensures columns { IfOk result (λ found. AllByRecursion (IsColumnOf found.part.leaf.table) found.part.columns) }
     ensures source { IfOk result (λ found. IsSource (N.column_kinds names.now) (kinds_of_parameters environment.now.parameters.now) found.part.columns found.part.source) }
 {
@@ -365,6 +398,7 @@ fn change_target<'s, N: Names, C: Cursors>(
     ensures leaf { IfOk result (λ found. leaf_of found.part ≡ under.entry.leaf.now) }
     ensures cursor { IfOk result (λ found. is_cursor (C.cursor_count cursors.now) found.part ≡ true) }
     ensures well_formed { IfOk result (λ found. IsChangeTarget (N.column_kinds names.now) (kinds_of_parameters environment.now.parameters.now) found.part) }
+    ensures written { IfOk result (λ found. IsTargetOf (λ name number. C.number_of cursors.now name ≡ Some number) target.now found.part) }
 {
     match target {
         Some(Where::CurrentOf(name)) => positioned(*name, cursors, under),
@@ -398,6 +432,7 @@ fn positioned<C: Cursors>(
     ensures leaf { IfOk result (λ found. leaf_of found.part ≡ under.entry.leaf.now) }
     ensures cursor { IfOk result (λ found. is_cursor (C.cursor_count cursors.now) found.part ≡ true) }
     ensures well_formed { (columns : TableKinds) (parameters : List KindOf) → IsLeaf columns under.entry.leaf.now → IfOk result (λ found. IsChangeTarget columns parameters found.part) }
+    ensures written { IfOk result (λ found. IsTargetOf (λ name number. C.number_of cursors.now name ≡ Some number) (Some (CurrentOf name)) found.part) }
 {
     let Some(known) = cursors.cursor(name) else {
         return Err(BindFault::UnknownCursor);
@@ -435,7 +470,9 @@ pub(crate) fn bind_delete<N: Names, C: Cursors>(
 ) -> Result<Found<ChangeTarget>, BindFault>
     requires { IsOutermost environment.now }
     ensures fits { IfOk result (λ found. FitsTarget (N.base_tables names.now) (C.cursor_count cursors.now) found.part) }
+    ensures table { IfOk result (λ found. IsUnder environment.now.user delete.now.table (leaf_of found.part)) }
     ensures well_formed { IfOk result (λ found. IsChangeTarget (N.column_kinds names.now) (kinds_of_parameters environment.now.parameters.now) found.part) }
+    ensures written { IfOk result (λ found. IsTargetOf (λ name number. C.number_of cursors.now name ≡ Some number) delete.now.target found.part) }
 {
     let under = changed_table(names, environment.user, delete.table)?;
     let item = item_over(environment.alloc, under.table, None, true)?;
@@ -479,6 +516,8 @@ pub(crate) fn bind_update<N: Names, C: Cursors>(
 ) -> Result<Found<BoundUpdate>, BindFault>
     requires { IsOutermost environment.now }
     ensures target { IfOk result (λ found. FitsTarget (N.base_tables names.now) (C.cursor_count cursors.now) found.part.target) }
+    ensures table { IfOk result (λ found. IsUnder environment.now.user update.now.table (leaf_of found.part.target)) }
+    ensures written { IfOk result (λ found. IsTargetOf (λ name number. C.number_of cursors.now name ≡ Some number) update.now.target found.part.target) }
     ensures columns { IfOk result (λ found. are_columns (length (leaf_of found.part.target).table.columns) found.part.assignments ≡ true) }
     ensures well_formed { IfOk result (λ found. IsChangeTarget (N.column_kinds names.now) (kinds_of_parameters environment.now.parameters.now) found.part.target) }
     ensures assigned { IfOk result (λ found. AllByRecursion (IsAssignment (N.column_kinds names.now) (kinds_of_parameters environment.now.parameters.now) (leaf_of found.part.target).table) found.part.assignments) }

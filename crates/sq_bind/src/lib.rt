@@ -3,9 +3,11 @@
 #![tactic(auto)]
 
 mod change;
+mod cursors;
 mod output;
 mod query;
 mod statement;
 mod updatable;
 
+pub use cursors::Cursors;
 pub use statement::{BoundView, bind_check, bind_cursor, bind_statement, bind_view};

@@ -2,7 +2,9 @@
 
 ghost use Rattle.std.specs.Prelude.{◌≡◌, length, true, IfOk};
 ghost use Rattle.sq_bind.specs.Output.{is_output};
+ghost use Rattle.sq_bind.specs.Written.{AreOutputsOf, IsOutputOf};
 ghost use Rattle.sq_bound.specs.Fits.{are_parameters};
+ghost use Rattle.sq_meaning.specs.Spelled.{listed};
 ghost use Rattle.sq_bound.specs.WellFormed.{TakeKinds, TakesKind, kinds_of_parameters, kinds_of_results};
 
 use sq_bound::{BindFault, Output, ParameterDesc, ResultColumn};
@@ -20,6 +22,7 @@ pub(crate) fn bind_outputs(
 ) -> Result<Items<Output>, BindFault>
     ensures parameters { IfOk result (λ outputs. are_parameters (length parameters.now) outputs ≡ true) }
     ensures kinds { IfOk result (λ outputs. TakeKinds (kinds_of_parameters parameters.now) outputs (kinds_of_results columns.now)) }
+    ensures written { IfOk result (λ outputs. AreOutputsOf parameters.now outputs (listed targets.now)) }
 {
     let outputs = listed_outputs(alloc, parameters, targets, columns)?;
     check_distinct(outputs.as_slice())?;
@@ -34,6 +37,7 @@ fn listed_outputs(
 ) -> Result<Items<Output>, BindFault>
     ensures parameters { IfOk result (λ outputs. are_parameters (length parameters.now) outputs ≡ true) }
     ensures kinds { IfOk result (λ outputs. TakeKinds (kinds_of_parameters parameters.now) outputs (kinds_of_results columns.now)) }
+    ensures written { IfOk result (λ outputs. AreOutputsOf parameters.now outputs (listed targets.now)) }
 {
     let Some((first, others)) = columns.split_first() else {
         return Err(BindFault::CountMismatch);
@@ -56,6 +60,7 @@ fn output_of(
 ) -> Result<Output, BindFault>
     ensures parameters { IfOk result (λ output. is_output (length parameters.now) output ≡ true) }
     ensures kind { IfOk result (λ output. TakesKind (kinds_of_parameters parameters.now) output column.now.kind) }
+    ensures written { IfOk result (λ output. IsOutputOf parameters.now output target.now) }
 {
     let (parameter, domain) = parameter_of(parameters, target.name)?;
     let indicator = indicator_of(parameters, target.indicator)?;

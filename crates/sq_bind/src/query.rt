@@ -1,11 +1,14 @@
 //! Query expressions and cursors (ISO/IEC 9075:1992, 7.10, 13.1).
 
-ghost use Rattle.std.specs.Prelude.{◌≡◌, [], List, IfOk, IfSome, MatchOption, Ok};
+ghost use Rattle.std.specs.Prelude.{◌≡◌, [], List, IfOk, IfSome, MatchOption, Ok, Some, true};
+ghost use Rattle.std.specs.Result.{result_ok};
 ghost use Rattle.std.specs.List.{AllByRecursion};
-ghost use Rattle.sq_value.specs.declared.domain.Kind.{Kind};
+ghost use Rattle.sq_value.specs.declared.domain.Kind.{Kind as AnyKind};
+ghost use Rattle.sq_meaning.specs.Kind.{common_kind};
 ghost use Rattle.sq_bind.specs.WellFormed.{AreCommon, IsJoined, IsOutermost, IsTerm};
+ghost use Rattle.sq_bind.specs.Written.{IsCursorOf};
 ghost use Rattle.sq_bound.specs.Fits.{FitsCursor, FitsQuery};
-ghost use Rattle.sq_bound.specs.Joined.{joined_kinds, specifications_of, term_kinds, term_specifications};
+ghost use Rattle.sq_bound.specs.Joined.{is_bounded, joined_kinds, specifications_of, term_kinds, term_specifications};
 ghost use Rattle.sq_bound.specs.WellFormed.{IsCursor, IsQuery, IsSelect, IsUpdatable, TableKinds, kinds_of_parameters, kinds_of_query, kinds_of_select};
 ghost use Rattle.sq_bound.specs.declared.query.BoundQuery.{out-BoundQuery};
 ghost use Rattle.sq_bound.specs.declared.query.CursorBody.TheVariants.{Rows, Updatable};
@@ -23,6 +26,7 @@ use sq_tree::{
     CommaList, Cursor, Query, QuerySpecification, QueryTerm, SortDirection, SortKey,
     SortSpecification,
 };
+use sq_value::Kind;
 use std::alloc::Global;
 
 /// A query expression that is bound so far, and whether a privilege is missing.
@@ -100,7 +104,7 @@ fn copied(alloc: Global, columns: &Items<ResultColumn>) -> Result<Items<ResultCo
 }
 
 fn specification_term(alloc: Global, query: SubqueryResult) -> TermResult
-    ensures { (tables : TableKinds) (parameters : List Kind) → IfOk query (λ found. IsSelect tables parameters [] found.part) → IfOk result (IsTerm tables parameters) }
+    ensures { (tables : TableKinds) (parameters : List AnyKind) → IfOk query (λ found. IsSelect tables parameters [] found.part) → IfOk result (IsTerm tables parameters) }
 {
     let found = query?;
     let lacks_privilege = found.findings.lacks_privilege;
@@ -114,7 +118,7 @@ fn specification_term(alloc: Global, query: SubqueryResult) -> TermResult
 }
 
 fn bracketed_term(alloc: Global, query: JoinedResult) -> TermResult
-    ensures { (tables : TableKinds) (parameters : List Kind) → IfOk query (IsJoined tables parameters) → IfOk result (IsTerm tables parameters) }
+    ensures { (tables : TableKinds) (parameters : List AnyKind) → IfOk query (IsJoined tables parameters) → IfOk result (IsTerm tables parameters) }
 {
     let Joined {
         query,
@@ -136,7 +140,7 @@ fn boxed_query(alloc: Global, query: BoundQuery) -> Result<Boxed<BoundQuery>, Bi
 }
 
 fn started(alloc: Global, term: TermResult) -> JoinedResult
-    ensures { (tables : TableKinds) (parameters : List Kind) → IfOk term (IsTerm tables parameters) → IfOk result (IsJoined tables parameters) }
+    ensures { (tables : TableKinds) (parameters : List AnyKind) → IfOk term (IsTerm tables parameters) → IfOk result (IsJoined tables parameters) }
 {
     let Term {
         term,
@@ -155,7 +159,7 @@ fn started(alloc: Global, term: TermResult) -> JoinedResult
 
 /// The query expression with a further term.
 fn with_union(alloc: Global, joined: JoinedResult, all: bool, term: TermResult) -> JoinedResult
-    ensures { (tables : TableKinds) (parameters : List Kind) → IfOk joined (IsJoined tables parameters) → IfOk term (IsTerm tables parameters) → IfOk result (IsJoined tables parameters) }
+    ensures { (tables : TableKinds) (parameters : List AnyKind) → IfOk joined (IsJoined tables parameters) → IfOk term (IsTerm tables parameters) → IfOk result (IsJoined tables parameters) }
 {
     let (joined, term) = both(joined, term)?;
     let columns = common_columns(
@@ -176,7 +180,7 @@ fn push_union(
     columns: Items<ResultColumn>,
     copy: Items<ResultColumn>,
 ) -> JoinedResult
-    ensures { (tables : TableKinds) (parameters : List Kind) → AreCommon (out-BoundQuery joined.query).columns term.columns columns → copy ≡ columns → IsJoined tables parameters joined → IsTerm tables parameters term → IfOk result (IsJoined tables parameters) }
+    ensures { (tables : TableKinds) (parameters : List AnyKind) → AreCommon (out-BoundQuery joined.query).columns term.columns columns → copy ≡ columns → IsJoined tables parameters joined → IsTerm tables parameters term → IfOk result (IsJoined tables parameters) }
 {
     let BoundQuery {
         first,
@@ -221,13 +225,36 @@ fn common_columns(
     }
     let mut columns = Items::new(alloc);
     for (column, beside) in left.iter().zip(right) {
-        let kind = union_kind(column.kind, beside.kind)?;
+        let kind = common_kind(column.kind, beside.kind)?;
         columns.push(ResultColumn {
             name: common_name(column.name, beside.name),
             kind,
         })?;
     }
     Ok(columns)
+}
+
+/// The kind to which both sides of a column are brought.
+fn common_kind(left: Kind, right: Kind) -> Result<Kind, BindFault>
+    ensures kind { IfOk result (λ kind. Some kind ≡ result_ok (common_kind left right)) }
+    ensures bounded { IfOk result (λ kind. is_bounded kind ≡ true) }
+{
+    let kind = union_kind(left, right)?;
+    if is_bounded(kind) {
+        Ok(kind)
+    } else {
+        Err(BindFault::LimitExceeded)
+    }
+}
+
+/// Whether there are values of the kind: a scale of at most 18, or a length of at most 240 (own rules).
+fn is_bounded(kind: Kind) -> bool
+    ensures { result ≡ is_bounded kind }
+{
+    match kind {
+        Kind::Num(scale) => scale <= 18,
+        Kind::Chars(length) | Kind::Vary(length) => length <= 240,
+    }
 }
 
 fn common_name(left: Option<Name>, right: Option<Name>) -> Option<Name> {
@@ -324,7 +351,7 @@ fn sole_term(term: &QueryTerm) -> Option<&QuerySpecification> {
 /// The query specification that a bound query expression is, if there is no UNION.
 #[cycle(sole_bound)]
 fn sole_bound(query: &BoundQuery) -> Option<&BoundSpecification>
-    ensures { (tables : TableKinds) (parameters kinds : List Kind) → AllByRecursion (IsSelect tables parameters []) (specifications_of query.now) → joined_kinds query.now ≡ Ok kinds → IfSome result (λ only. IsSelect tables parameters [] only.now × (kinds_of_select only.now ≡ kinds)) }
+    ensures { (tables : TableKinds) (parameters kinds : List AnyKind) → AllByRecursion (IsSelect tables parameters []) (specifications_of query.now) → joined_kinds query.now ≡ Ok kinds → IfSome result (λ only. IsSelect tables parameters [] only.now × (kinds_of_select only.now ≡ kinds)) }
 {
     if query.rest.is_empty() {
         sole_bound_term(&query.first)
@@ -335,7 +362,7 @@ fn sole_bound(query: &BoundQuery) -> Option<&BoundSpecification>
 
 #[cycle(sole_bound)]
 fn sole_bound_term(term: &BoundTerm) -> Option<&BoundSpecification>
-    ensures { (tables : TableKinds) (parameters kinds : List Kind) → AllByRecursion (IsSelect tables parameters []) (term_specifications term.now) → term_kinds term.now ≡ Ok kinds → IfSome result (λ only. IsSelect tables parameters [] only.now × (kinds_of_select only.now ≡ kinds)) }
+    ensures { (tables : TableKinds) (parameters kinds : List AnyKind) → AllByRecursion (IsSelect tables parameters []) (term_specifications term.now) → term_kinds term.now ≡ Ok kinds → IfSome result (λ only. IsSelect tables parameters [] only.now × (kinds_of_select only.now ≡ kinds)) }
 {
     match term {
         BoundTerm::Specification(query) => Some(query),
@@ -376,6 +403,7 @@ pub(crate) fn cursor_of<N: Names>(
     requires { IsOutermost environment.now }
     ensures fits { IfOk result (FitsCursor (N.base_tables names.now)) }
     ensures well_formed { IfOk result (IsCursor (N.column_kinds names.now) (kinds_of_parameters environment.now.parameters.now)) }
+    ensures written { IfOk result (IsCursorOf cursor.now) }
 {
     let Joined {
         query,
@@ -406,6 +434,7 @@ fn whole_cursor(
 ) -> BoundCursor
     ensures body { MatchOption updatable (result.body ≡ Rows query sorts) (λ over. result.body ≡ Updatable over.1) }
     ensures columns { result.columns ≡ columns }
+    ensures written { IsCursorOf cursor.now result }
 {
     let (table, body) = match updatable {
         None => (None, CursorBody::Rows(query, sorts)),

@@ -1,6 +1,6 @@
 //! Statements of procedures, cursors, views and CHECK conditions.
 
-ghost use Rattle.std.specs.Prelude.{◌≡◌, ◌<◌, [], length, refl, slice_get, true, IfOk, IfSome, Ok, Some};
+ghost use Rattle.std.specs.Prelude.{◌≡◌, ◌<◌, [], length, refl, slice_get, true, IfOk, IfSome, Ok, Some, false};
 ghost use Rattle.sq_bound.specs.Fits.{FitsCursor, FitsQuery, FitsStatement, are_parameters};
 ghost use Rattle.sq_bound.specs.WellFormed.{IsCond, IsCursor, IsDistance, IsOrientation, IsSelect, IsStatement, IsUpdatable, TakeKinds, kinds_of_columns, kinds_of_parameters, kinds_of_results, kinds_of_select, of_base_at, only};
 ghost use Rattle.sq_bound.specs.declared.condition.BoundCond.{BoundCond as BoundTree};
@@ -11,15 +11,18 @@ ghost use Rattle.sq_scope.specs.WellFormed.{IsItemOver};
 ghost use Rattle.sq_scope.specs.declared.findings.Found.{Found as FoundPart};
 ghost use Rattle.sq_bind.specs.NoBases.{no_base};
 ghost use Rattle.sq_bind.specs.WellFormed.{IsOutermost};
+ghost use Rattle.sq_bind.specs.Written.{AreOutputsOf, IsCursorOf, IsDistanceOf, IsFetchOf, IsOrientationOf, IsStatementOf, orientation_of};
+ghost use Rattle.sq_meaning.specs.Spelled.{has_point, listed, signed_number};
 ghost use Rattle.sq_bound.specs.declared.statement.BoundStatement.TheVariants.{Delete, Insert, Update};
 
 use crate::change::{bind_delete, bind_insert, bind_update};
+use crate::cursors::Cursors;
 use crate::output::bind_outputs;
 use crate::query::cursor_of;
 use crate::updatable::bind_updatable;
 use sq_bound::{
     Action, BaseTable, BindFault, BoundCond, BoundCursor, BoundFetch, BoundInsert, BoundSelect,
-    BoundSpecification, BoundStatement, BoundUpdate, ChangeTarget, Column, Cursors, Distance,
+    BoundSpecification, BoundStatement, BoundUpdate, ChangeTarget, Column, Distance,
     FetchOrientation, KnownCursor, Names, ParameterDesc, Shared, TableDesc, TablePlace,
     UpdatableQuery,
 };
@@ -47,6 +50,7 @@ pub fn bind_cursor<N: Names>(
 ) -> Result<BoundCursor, BindFault>
     ensures fits { IfOk result (FitsCursor (N.base_tables names.now)) }
     ensures well_formed { IfOk result (IsCursor (N.column_kinds names.now) (kinds_of_parameters parameters.now)) }
+    ensures written { IfOk result (IsCursorOf cursor.now) }
 {
     let environment = Environment::new(alloc, user, parameters);
     cursor_of(cursor, names, &environment, &mut SubqueryNumbers::new())
@@ -222,6 +226,7 @@ pub fn bind_statement<N: Names, C: Cursors>(
 ) -> Result<BoundStatement, BindFault>
     ensures fits { IfOk result (FitsStatement (N.base_tables names.now) (C.cursor_count cursors.now) (length parameters.now)) }
     ensures well_formed { IfOk result (IsStatement (N.column_kinds names.now) (C.cursor_kinds cursors.now) (kinds_of_parameters parameters.now)) }
+    ensures written { IfOk result (IsStatementOf (λ name number. C.number_of cursors.now name ≡ Some number) user parameters.now statement.now) }
 {
     let environment = Environment::new(alloc, user, parameters);
     let mut numbers = SubqueryNumbers::new();
@@ -238,6 +243,7 @@ fn statement_of<N: Names, C: Cursors>(
     requires { IsOutermost environment.now }
     ensures fits { IfOk result (FitsStatement (N.base_tables names.now) (C.cursor_count cursors.now) (length environment.now.parameters.now)) }
     ensures well_formed { IfOk result (IsStatement (N.column_kinds names.now) (C.cursor_kinds cursors.now) (kinds_of_parameters environment.now.parameters.now)) }
+    ensures written { IfOk result (IsStatementOf (λ name number. C.number_of cursors.now name ≡ Some number) environment.now.user environment.now.parameters.now statement.now) }
 {
     match statement {
         Statement::Open(name) => Ok(BoundStatement::Open(known(cursors, *name)?.number)),
@@ -295,6 +301,7 @@ fn deleting(delete: Found<ChangeTarget>) -> Result<BoundStatement, BindFault>
 
 /// The cursor of this name.
 fn known<C: Cursors>(cursors: &C, name: Name) -> Result<KnownCursor<'_>, BindFault>
+    ensures named { IfOk result (λ known. C.number_of cursors.now name ≡ Some known.number) }
     ensures number { IfOk result (λ known. known.number < C.cursor_count cursors.now) }
     ensures columns { IfOk result (λ known. slice_get (C.cursor_kinds cursors.now) known.number ≡ Some (kinds_of_results known.cursor.now.columns)) }
 {
@@ -315,6 +322,7 @@ fn bind_row<N: Names>(
     ensures parameters { IfOk result (λ row. are_parameters (length environment.now.parameters.now) row.outputs ≡ true) }
     ensures query { IfOk result (λ row. IsSelect (N.column_kinds names.now) (kinds_of_parameters environment.now.parameters.now) [] row.query) }
     ensures kinds { IfOk result (λ row. TakeKinds (kinds_of_parameters environment.now.parameters.now) row.outputs (kinds_of_select row.query)) }
+    ensures written { IfOk result (λ row. AreOutputsOf environment.now.parameters.now row.outputs (listed select.now.targets)) }
 {
     let query = bind_select(
         &select.table,
@@ -345,6 +353,7 @@ fn bind_fetch<C: Cursors>(
     ensures outputs { IfOk result (λ bound. are_parameters (length environment.now.parameters.now) bound.outputs ≡ true) }
     ensures orientation { IfOk result (λ bound. IsOrientation (kinds_of_parameters environment.now.parameters.now) bound.orientation) }
     ensures kinds { IfOk result (λ bound. Has (TakeKinds (kinds_of_parameters environment.now.parameters.now) bound.outputs) (well_formed (slice_get (C.cursor_kinds cursors.now) bound.cursor))) }
+    ensures written { IfOk result (IsFetchOf (λ name number. C.number_of cursors.now name ≡ Some number) environment.now.parameters.now fetch.now) }
 {
     let known = known(cursors, fetch.cursor)?;
     let parameters = environment.parameters;
@@ -365,7 +374,8 @@ fn fetch_orientation(
     from: &Option<FetchFrom>,
     parameters: &[ParameterDesc],
 ) -> Result<FetchOrientation, BindFault>
-    ensures { IfOk result (IsOrientation (kinds_of_parameters parameters.now)) }
+    ensures well_formed { IfOk result (IsOrientation (kinds_of_parameters parameters.now)) }
+    ensures written { IfOk result (IsOrientationOf parameters.now (orientation_of from.now)) }
 {
     match from {
         None => Ok(FetchOrientation::Next),
@@ -380,7 +390,8 @@ fn bound_orientation(
     orientation: &Orientation,
     parameters: &[ParameterDesc],
 ) -> Result<FetchOrientation, BindFault>
-    ensures { IfOk result (IsOrientation (kinds_of_parameters parameters.now)) }
+    ensures well_formed { IfOk result (IsOrientation (kinds_of_parameters parameters.now)) }
+    ensures written { IfOk result (IsOrientationOf parameters.now orientation.now) }
 {
     match orientation {
         Orientation::Next => Ok(FetchOrientation::Next),
@@ -398,10 +409,11 @@ fn bound_orientation(
 
 /// The number of an orientation: written without a point, or a parameter of scale 0.
 fn distance(position: &Position, parameters: &[ParameterDesc]) -> Result<Distance, BindFault>
-    ensures { IfOk result (IsDistance (kinds_of_parameters parameters.now)) }
+    ensures well_formed { IfOk result (IsDistance (kinds_of_parameters parameters.now)) }
+    ensures written { IfOk result (IsDistanceOf parameters.now position.now) }
 {
     match position {
-        Position::Number(signed) => whole_distance(signed),
+        Position::Number(signed) => Ok(Distance::Number(whole_distance(signed)?)),
         Position::Parameter(name) => {
             let (parameter, domain) = parameter_of(parameters, *name)?;
             match domain.kind() {
@@ -412,11 +424,13 @@ fn distance(position: &Position, parameters: &[ParameterDesc]) -> Result<Distanc
     }
 }
 
-fn whole_distance(signed: &SignedNumber) -> Result<Distance, BindFault>
-    ensures { IfOk result (IsDistance []) }
+/// The whole number that is written.
+fn whole_distance(signed: &SignedNumber) -> Result<i64, BindFault>
+    ensures whole { IfOk result (λ _. has_point signed.now.number ≡ false) }
+    ensures value { IfOk result (λ n. n ≡ (signed_number signed.now).unscaled) }
 {
     if !is_whole(signed.number) {
         return Err(BindFault::BadOrientation);
     }
-    Ok(Distance::Number(signed_value(*signed).unscaled()))
+    Ok(signed_value(*signed).unscaled())
 }

@@ -1,6 +1,6 @@
 //! Updatable queries and targets (ISO/IEC 9075:1992, 7.9, 13.6 to 13.10).
 
-ghost use Rattle.std.specs.Prelude.{◌≡◌, ◌∷◌, [], nat_lt, length, true, Ok, Some, IfOk, IfSome};
+ghost use Rattle.std.specs.Prelude.{◌≡◌, ◌∷◌, [], is_some, nat_lt, length, true, Ok, Some, IfOk, IfSome};
 ghost use Rattle.std.specs.List.{AllByRecursion, list_all};
 ghost use Rattle.sq_bound.specs.Fits.{FitsQuery, IsBase};
 ghost use Rattle.sq_bound.specs.Names.{is_kind_at, option_all};
@@ -30,9 +30,9 @@ use std::slice::from_ref;
 fn only_table<'a, N: Names>(bound: &BoundSpecification, names: &'a N) -> Option<Under<'a>>
     ensures base { IfSome result (λ under. IsBase (N.base_tables names.now) under.leaf.now.table) }
     ensures leaf { IfSome result (λ under. IsLeaf (N.column_kinds names.now) under.leaf.now) }
-    ensures from { IfSome result (λ under. (t : AnyPlace) × ((out-BoundSpecification bound.now).from ≡ t ∷ []) × (N.column_kinds names.now t ≡ Ok (kinds_of_columns under.table.now.columns))) }
+    ensures from { IfSome result (λ under. (t : AnyPlace) × ((out-BoundSpecification bound.now).from.tables ≡ t ∷ []) × (N.column_kinds names.now t ≡ Ok (kinds_of_columns under.table.now.columns))) }
 {
-    match bound.from.as_slice() {
+    match bound.from.tables.as_slice() {
         [place] if !bound.distinct && bound.grouping.is_none() => { under_table(names.at(*place)?) }
         _ => None,
     }
@@ -68,7 +68,7 @@ fn updatable_over<N: Names>(
 ) -> Result<Option<((Name, Name), UpdatableQuery)>, BindFault>
     requires base { IsBase (N.base_tables names.now) under.leaf.now.table }
     requires leaf { IsLeaf (N.column_kinds names.now) under.leaf.now }
-    requires from { (t : AnyPlace) × ((out-BoundSpecification bound.now).from ≡ t ∷ []) × (N.column_kinds names.now t ≡ Ok (kinds_of_columns under.table.now.columns)) }
+    requires from { (t : AnyPlace) × ((out-BoundSpecification bound.now).from.tables ≡ t ∷ []) × (N.column_kinds names.now t ≡ Ok (kinds_of_columns under.table.now.columns)) }
     requires outermost { IsOutermost environment.now }
     requires bound { IsSelect (N.column_kinds names.now) (kinds_of_parameters environment.now.parameters.now) [] bound.now }
     ensures fits { IfOk result (λ found. IfSome found (λ query. FitsQuery (N.base_tables names.now) query.1)) }
@@ -232,6 +232,7 @@ pub(crate) fn bind_target<'s, N: Names>(
     requires outermost { IsOutermost environment.now }
     ensures leaf { IfOk result (λ found. found.part.leaf ≡ under.entry.leaf.now) }
     ensures well_formed { IfOk result (λ found. IsTarget (N.column_kinds names.now) (kinds_of_parameters environment.now.parameters.now) found.part) }
+    ensures condition { IfOk result (λ found. is_some found.part.condition ≡ is_some cond.entry) }
 {
     let Some(cond) = cond else {
         return whole_target(None, Findings::NONE, None, under);

@@ -1,4 +1,5 @@
 -- What bound conditions and query specifications mean, level by level.
+use Rattle.sq_bound.specs.declared.condition.BoundFrom.{BoundFrom}
 use Rattle.std.proofs.Common.{◌≡◌, ℕ, Bool, List, [], Option, Some, None, sym, ◌∙◌, ap, map}
 use Rattle.std.specs.Option.{option_map}
 use Rattle.std.proofs.lemmas.Simd.{map-map}
@@ -85,9 +86,9 @@ pub groups_of-out : (g : Grouping)
     → groups_of g ≡ groups_by (out-Grouping g).columns (map call_of (out-Grouping g).set_functions) (clause_of (map call_of (out-Grouping g).set_functions) (out-Grouping g).having)
 groups_of-out g = ap groups_of (sym (roll-out-Grouping g)) ∙ groups_of-roll (out-Grouping g).columns (out-Grouping g).set_functions (out-Grouping g).having
 
-pub select_of-roll : (d : Bool) (list : List BoundExpr) (from : List TablePlace) (condition : Option BoundCond) (grouping : Option Grouping) (columns : List ResultColumn) (can_fail : Bool) (number : Option ℕ)
+pub select_of-roll : (d : Bool) (list : List BoundExpr) (from : BoundFrom) (condition : Option BoundCond) (grouping : Option Grouping) (columns : List ResultColumn) (can_fail : Bool) (number : Option ℕ)
     → select_of (roll-BoundSpecification (record { distinct = d; list = list; from = from; condition = condition; grouping = grouping; columns = columns; can_fail = can_fail; number = number }))
-    ≡ select_by d list from (clause_of [] condition) (groups_if (option_map groups_of grouping))
+    ≡ select_by d list from.tables (clause_of [] condition) (groups_if (option_map groups_of grouping))
 unfolding select_of groups_of cond_of
 select_of-roll d list from None None columns can_fail number = fold-roll-BoundSpecification _ _ _ _ _ _ _ _ _ _ _ _ _
 select_of-roll d list from None (Some g) columns can_fail number = fold-roll-BoundSpecification _ _ _ _ _ _ _ _ _ _ _ _ _
@@ -95,7 +96,7 @@ select_of-roll d list from (Some c) None columns can_fail number = fold-roll-Bou
 select_of-roll d list from (Some c) (Some g) columns can_fail number = fold-roll-BoundSpecification _ _ _ _ _ _ _ _ _ _ _ _ _
 
 pub select_of-out : (s : BoundSpecification)
-    → select_of s ≡ select_by (out-BoundSpecification s).distinct (out-BoundSpecification s).list (out-BoundSpecification s).from (clause_of [] (out-BoundSpecification s).condition) (groups_if (option_map groups_of (out-BoundSpecification s).grouping))
+    → select_of s ≡ select_by (out-BoundSpecification s).distinct (out-BoundSpecification s).list (out-BoundSpecification s).from.tables (clause_of [] (out-BoundSpecification s).condition) (groups_if (option_map groups_of (out-BoundSpecification s).grouping))
 select_of-out s =
     let o = out-BoundSpecification s in
     ap select_of (sym (roll-out-BoundSpecification s)) ∙ select_of-roll o.distinct o.list o.from o.condition o.grouping o.columns o.can_fail o.number

@@ -3,7 +3,7 @@ use Rattle.std.proofs.Common.{◌≡◌, refl, sym, ◌∙◌, ap}
 use Rattle.std.specs.Prelude.{List, [], ◌∷◌, ◌++◌, flat_map, fold, map, Ok}
 use Rattle.sq_meaning.specs.Status.{◌>>=◌}
 use Rattle.sq_meaning.specs.Kind.{common_kinds}
-use Rattle.sq_bound.specs.Joined.{Kinds, kept_kinds, specifications_of, term_specifications, union_specifications, joined_kinds, term_kinds, union_kinds}
+use Rattle.sq_bound.specs.Joined.{Kinds, brought_kinds, kept_kinds, specifications_of, term_specifications, union_specifications, joined_kinds, term_kinds, union_kinds}
 use Rattle.sq_bound.proofs.ExpressionLaws.{fold_mapped}
 use Rattle.sq_bound.specs.declared.condition.BoundSpecification.{BoundSpecification, out-BoundSpecification}
 use Rattle.sq_bound.specs.declared.query.BoundQuery.{BoundQuery, out-BoundQuery, fold_out-BoundQuery}
@@ -40,7 +40,7 @@ pub joined_kinds-out : (q : BoundQuery) → joined_kinds q ≡ (fold (λ left un
 unfolding joined_kinds term_kinds union_kinds
 joined_kinds-out q = fold_out-BoundQuery _ _ _ _ _ _ q ∙ ap (λ kinds. kinds >>= kept_kinds (out-BoundQuery q).columns) (fold_mapped (λ left union. union left) union_kinds (term_kinds (out-BoundQuery q).first) (out-BoundQuery q).rest)
 
-pub union_kinds-out : (u : BoundUnion) (left : Kinds) → union_kinds u left ≡ (left >>= λ ls. term_kinds u.term >>= λ rs. common_kinds ls rs >>= kept_kinds u.columns)
+pub union_kinds-out : (u : BoundUnion) (left : Kinds) → union_kinds u left ≡ (left >>= λ ls. term_kinds u.term >>= λ rs. common_kinds ls rs >>= brought_kinds u.columns)
 unfolding union_kinds term_kinds
 union_kinds-out u left = ap (λ (f : Kinds → Kinds). f left) (fold_out-BoundUnion _ _ _ _ _ _ u)
 

@@ -1,8 +1,15 @@
+pub mod ClosedQueries
+pub mod ColumnLaws
 pub mod ConditionLaws
 pub mod ExpressionLaws
+pub mod FirstRows
 pub mod JoinedLaws
+pub mod Nested
 pub mod QueryLaws
 pub mod QuietLaws
 pub mod QuietRows
 pub mod QuietTruths
+pub mod ReadColumns
+pub mod SameColumns
+pub mod SureTests
 pub mod Wider

@@ -242,6 +242,7 @@ module _ (before after : TableKinds) (ps qs : List Kind) (extends : Extends befo
     stands = λ rows_of. select_wider rows_of (select_of q) levels (h.stands rows_of);
     kinds_are = kept_value (select_kinds few (froms levels) (select_of q)) (select_kinds many (froms levels) (select_of q)) (kinds_of_select q) (select_keeps (froms levels) (select_of q)) h.kinds_are;
     groups = h.groups;
+    tests = h.tests;
   }
 
 -- ---- tables, which have no parameters

@@ -96,7 +96,7 @@ abbrev pub select_by : Bool → List BoundExpr → List TablePlace → PlacedCla
 select_by distinct list from filter groups = select distinct (expressions (map (expr_of groups.functions) list)) from filter groups.columns groups.having
 
 abbrev pub specification_layer : BoundSpecification-F C C C PlacedSelect C Groups → PlacedSelect
-specification_layer s = select_by s.distinct s.list s.from (clause [] s.condition) (groups_if s.grouping)
+specification_layer s = select_by s.distinct s.list s.from.tables (clause [] s.condition) (groups_if s.grouping)
 
 -- the search condition that a bound one is where the set functions of the group are these, and its parts
 unfoldable pub cond_of : List PlacedExpr → BoundCond → PlacedCond

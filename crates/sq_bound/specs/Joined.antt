@@ -1,8 +1,10 @@
 -- What a bound query expression is made of, and the kinds of its columns (ISO/IEC 9075:1992, 7.10): both sides of a UNION
 -- have as many columns, of common kinds, to which their rows are brought. UNION groups to the left.
-use Rattle.std.specs.Prelude.{List, [], ◌∷◌, ◌++◌, if◌then◌else◌, flat_map, fold, map, Ok}
+use Rattle.std.specs.Prelude.{Bool, nat_le, List, [], ◌∷◌, ◌++◌, if◌then◌else◌, flat_map, fold, map, Ok}
 use Rattle.std.specs.Cmp.Lexicographic.{pointwise}
+use Rattle.std.specs.List.{list_all}
 use Rattle.sq_value.specs.declared.domain.Kind.{Kind}
+use Rattle.sq_value.specs.declared.domain.Kind.TheVariants.{Num, Chars, Vary}
 use Rattle.sq_meaning.specs.Status.{Outcome, ◌>>=◌, not_well_formed}
 use Rattle.sq_meaning.specs.Kind.{common_kinds}
 use Rattle.sq_bound.specs.Names.{same_kind}
@@ -46,6 +48,19 @@ Kinds = Outcome (List Kind)
 abbrev pub kept_kinds : List ResultColumn → List Kind → Kinds
 kept_kinds columns kinds = if pointwise same_kind kinds (map (λ c. c.kind) columns) then Ok kinds else not_well_formed
 
+-- a scale of at most 18, or a length of at most 240 (own rules)
+abbrev pub is_bounded : Kind → Bool
+is_bounded (Num s) = nat_le s 18
+is_bounded (Chars n) = nat_le n 240
+is_bounded (Vary n) = nat_le n 240
+
+abbrev pub are_bounded : List Kind → Bool
+are_bounded kinds = list_all is_bounded kinds
+
+-- the kinds to which both sides of a UNION are brought: they are bounded, and were noted with its columns
+abbrev pub brought_kinds : List ResultColumn → List Kind → Kinds
+brought_kinds columns kinds = if are_bounded kinds then kept_kinds columns kinds else not_well_formed
+
 abbrev pub kinds_in_term : BoundTerm-F Kinds Kinds (Kinds → Kinds) → Kinds
 kinds_in_term (layer.Specification s) = Ok (map (λ c. c.kind) (out-BoundSpecification s).columns)
 kinds_in_term (layer.Bracketed q) = q
@@ -55,7 +70,7 @@ abbrev pub kinds_in_query : BoundQuery-F Kinds Kinds (Kinds → Kinds) → Kinds
 kinds_in_query q = fold (λ left union. union left) q.first q.rest >>= kept_kinds q.columns
 
 abbrev pub kinds_in_union : BoundUnion-F Kinds Kinds (Kinds → Kinds) → Kinds → Kinds
-kinds_in_union u left = left >>= λ ls. u.term >>= λ rs. common_kinds ls rs >>= kept_kinds u.columns
+kinds_in_union u left = left >>= λ ls. u.term >>= λ rs. common_kinds ls rs >>= brought_kinds u.columns
 
 unfoldable pub joined_kinds : BoundQuery → Kinds
 joined_kinds = fold-BoundQuery Kinds Kinds (Kinds → Kinds) kinds_in_term kinds_in_query kinds_in_union

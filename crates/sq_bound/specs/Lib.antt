@@ -1,3 +1,4 @@
+pub mod Columns
 pub mod Condition
 pub mod Default
 pub mod Expression
@@ -5,6 +6,8 @@ pub mod Fits
 pub mod Groups
 pub mod Joined
 pub mod Names
+pub mod Noted
+pub mod Numbered
 pub mod Parameter
 pub mod Query
 pub mod Quiet

@@ -1,5 +1,7 @@
 //! Search conditions and query specifications with their columns as places.
 
+ghost use Rattle.std.specs.Prelude.{◌≡◌, length, nat_lt, true};
+
 use crate::expression::{BoundExpr, Place, SetFunctionCall};
 use sq_items::{Boxed, Items};
 use sq_lex::Name;
@@ -73,7 +75,7 @@ pub enum Predicate {
 pub struct BoundSpecification {
     pub distinct: bool,
     pub list: Items<BoundExpr>,
-    pub from: Items<TablePlace>,
+    pub from: BoundFrom,
     pub condition: Option<BoundCond>,
     /// For a grouped query, its groups.
     pub grouping: Option<Grouping>,
@@ -83,6 +85,13 @@ pub struct BoundSpecification {
     /// The number of a subquery that reads no column of a query around it, which is evaluated at most once a statement. No other
     /// subquery of the statement has it.
     pub number: Option<usize>,
+}
+
+/// The tables of a FROM clause (7.4), one at least.
+#[derive(Drop)]
+pub struct BoundFrom {
+    pub tables: Items<TablePlace>,
+    pub ghost some: { nat_lt 0 (length tables) ≡ true },
 }
 
 /// The groups of a grouped query (7.7, 7.8).

@@ -12,7 +12,7 @@ mod shared;
 mod statement;
 
 pub use condition::{
-    BoundCond, BoundConj, BoundSpecification, BoundTest, Compared, Grouping, Predicate,
+    BoundCond, BoundConj, BoundFrom, BoundSpecification, BoundTest, Compared, Grouping, Predicate,
     ResultColumn, TablePlace,
 };
 pub use expression::{Aggregate, BoundExpr, Input, Operation, Operator, Place, SetFunctionCall};

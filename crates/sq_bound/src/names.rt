@@ -226,7 +226,9 @@ impl BaseTable {
 }
 
 impl TableDesc {
-    ghost use Rattle.sq_bound.specs.WellFormed.{place_of};
+    ghost use Rattle.std.specs.Prelude.{◌&&◌, position};
+    ghost use Rattle.sq_bound.specs.Names.{is_name};
+    ghost use Rattle.sq_bound.specs.WellFormed.{can_fail, place_of};
 
     /// Where the table stands.
     pub fn place(&self) -> TablePlace
@@ -238,8 +240,10 @@ impl TableDesc {
         }
     }
 
-    /// Whether reading its rows may answer a status instead of rows.
-    pub fn can_fail(&self) -> bool {
+    /// Whether reading its rows may end with a status.
+    pub fn can_fail(&self) -> bool
+        ensures { result ≡ can_fail self.now.body }
+    {
         match &self.body {
             TableBody::Base(_) => false,
             TableBody::View(view) => view.query.can_fail,
@@ -254,13 +258,16 @@ impl TableDesc {
     }
 
     /// Whether it has this owner and this name.
-    pub fn is(&self, user: Name, name: Name) -> bool {
+    pub fn is(&self, user: Name, name: Name) -> bool
+        ensures { result ≡ (is_name user self.now.user && is_name name self.now.name) }
+    {
         self.user == user && self.name == name
     }
 
     /// The position of the column of this name.
     pub fn column(&self, name: Name) -> Option<usize>
-        ensures { IfSome result (λ position. position < length self.now.columns) }
+        ensures there { IfSome result (λ position. position < length self.now.columns) }
+        ensures first { result ≡ position (λ column. is_name name column.name) self.now.columns }
     {
         self.columns
             .as_slice()

@@ -24,7 +24,7 @@ use Rattle.sq_module.proofs.Opening.{procedures_open_more}
 
 -- ---- elements of a list
 
-all_last : {X : Type 0} (P : X → Type 0) (xs : List X) (x : X) → AllByRecursion P xs → P x → AllByRecursion P (xs ++ x ∷ [])
+pub all_last : {X : Type 0} (P : X → Type 0) (xs : List X) (x : X) → AllByRecursion P xs → P x → AllByRecursion P (xs ++ x ∷ [])
 all_last P [] x all one = (one, tt)
 all_last P (y ∷ xs) x all one = (all.0, all_last P xs x all.1 one)
 
@@ -129,10 +129,10 @@ pub procedure_added : (P : BoundProcedure → Type 0) (procedures more : List (P
     → more ≡ insert_entry same_procedure procedures name p → AllByRecursion (λ e. P e.1) procedures → P p → AllByRecursion (λ e. P e.1) more
 procedure_added P procedures more name p is all one = rw is (all_inserted same_procedure P procedures name p all one)
 
--- what holds of a cursor that has no fault
+-- a cursor that has no fault, and what holds of it
+pub is_bound : (bound : Result BoundCursor BindFault) (part : Option BoundCursor) (c : BoundCursor) → IfSome part (λ x. bound ≡ Ok x) → part ≡ Some c → bound ≡ Ok c
+is_bound bound part c of some = rw some at of
+
 pub of_bound : (P : BoundCursor → Type 0) (bound : Result BoundCursor BindFault) (part : Option BoundCursor) (c : BoundCursor) → IfSome part (λ x. bound ≡ Ok x) → part ≡ Some c
     → IfOk bound P → P c
-of_bound P bound part c of some one = rw same at one
-  where
-    same : bound ≡ Ok c
-    same = rw some at of
+of_bound P bound part c of some one = rw (is_bound bound part c of some) at one

@@ -1,3 +1,4 @@
 pub mod Fitting
 pub mod Names
 pub mod Opening
+pub mod Written

@@ -38,7 +38,7 @@ fold_append : {X Y : Type 0} (f : Y → X → Y) (start : Y) (xs ys : List X) �
 fold_append f start [] ys = refl
 fold_append f start (x ∷ xs) ys = fold_append f (f start x) xs ys
 
-flat_more : {X Y : Type 0} (f : X → List Y) (parts : List X) (i : ℕ) (x : X) → i < length parts → x ≡ get_or parts i x → flat_map f (take (i + 1) parts) ≡ flat_map f (take i parts) ++ f x
+pub flat_more : {X Y : Type 0} (f : X → List Y) (parts : List X) (i : ℕ) (x : X) → i < length parts → x ≡ get_or parts i x → flat_map f (take (i + 1) parts) ≡ flat_map f (take i parts) ++ f x
 flat_more f parts i x lt e = grind (arith, take_more parts i x lt, e, flat_map-append f (take i parts) (x ∷ []), append-nil (f x))
 
 -- ---- names that differ

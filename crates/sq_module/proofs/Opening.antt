@@ -23,7 +23,7 @@ there_still P (x ∷ xs) more zero known = known
 there_still P (x ∷ xs) more (suc i) known = there_still P xs more i known
 
 -- the last is at the place that has as many before it
-last_there : {X : Type 0} (P : X → Type 0) (xs : List X) (x : X) → P x → Has P (well_formed (slice_get (xs ++ x ∷ []) (length xs)))
+pub last_there : {X : Type 0} (P : X → Type 0) (xs : List X) (x : X) → P x → Has P (well_formed (slice_get (xs ++ x ∷ []) (length xs)))
 last_there P [] x h = h
 last_there P (y ∷ xs) x h = last_there P xs x h
 

@@ -2,3 +2,4 @@ pub mod Admitted
 pub mod Opened
 pub mod Program
 pub mod Refusal
+pub mod Written

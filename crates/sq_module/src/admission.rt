@@ -1,10 +1,14 @@
 //! Which modules are refused (ISO/IEC 9075:1992, 12.1 to 12.3 and 13.1; that exactly one procedure opens each cursor is an
 //! own rule).
 
-ghost use Rattle.std.specs.Prelude.{◌≡◌, [], ◌∷◌, ◌++◌, true, false, IfErr, IfOk, None, OnOk, length};
-ghost use Rattle.std.specs.List.{AllByRecursion, list_any};
+ghost use Rattle.std.specs.Prelude.{◌≡◌, [], ◌∷◌, ◌++◌, true, false, IfErr, IfOk, List, None, OnOk, length};
+ghost use Rattle.std.specs.List.{AllByRecursion, IsAmong, list_any};
+ghost use Rattle.sq_tree.specs.declared.module.ModuleItem.TheVariants.{Cursor as CursorItem};
+ghost use Rattle.sq_tree.specs.declared.module.ModuleItem.{ModuleItem as AnyItem};
+ghost use Rattle.sq_module.specs.declared.admission.AdmittedModule.{AdmittedModule as Admitted};
 ghost use Rattle.sq_module.specs.Admitted.{admitted_procedures, module_keys, procedure_names};
 ghost use Rattle.sq_module.specs.Program.{AreNew, HaveNames, declared_procedures, module_procedures, name_in, names_in, same_name};
+ghost use Rattle.sq_module.specs.Written.{AreOfTexts, Declare, IsCursorIn, IsOfText, IsProcedureOf, declarations_of};
 ghost use Rattle.sq_module.specs.Refusal.{IsOfModule, IsOfSomeModule};
 
 use crate::declared::{has_bad_status, is_new, listed, parameters_of};
@@ -41,6 +45,7 @@ pub fn admit<'a>(
 ) -> Result<Vec<AdmittedModule<'a>>, SessionFault>
     ensures names { IfOk result (λ _. HaveNames [] modules.now) }
     ensures declared { IfOk result (λ admitted. admitted_procedures admitted.items ≡ declared_procedures modules.now) }
+    ensures written { IfOk result (λ admitted. AreOfTexts modules.now admitted.items) }
     ensures refused { IfErr result (IsOfSomeModule (length modules.now)) }
 {
     let mut names = IndexSet::new(alloc);
@@ -58,6 +63,7 @@ fn admit_all<'a>(
     requires { names.old.keys ≡ [] }
     ensures names { IfOk result (λ _. HaveNames [] modules.now) }
     ensures declared { IfOk result (λ admitted. admitted_procedures admitted.items ≡ declared_procedures modules.now) }
+    ensures written { IfOk result (λ admitted. AreOfTexts modules.now admitted.items) }
     ensures refused { IfErr result (IsOfSomeModule (length modules.now)) }
 {
     let mut admitted = Vec::new(alloc);
@@ -83,6 +89,7 @@ fn admit_next<'a>(
     ensures last { OnOk result (names.new.keys ≡ names.old.keys ++ «module».now.name ∷ []) }
     ensures names { OnOk result (AreNew [] (names_in «module».now.items)) }
     ensures declared { OnOk result (admitted_procedures admitted.new.items ≡ admitted_procedures admitted.old.items ++ module_procedures «module».now) }
+    ensures written { OnOk result ((one : Admitted) × (admitted.new.items ≡ admitted.old.items ++ one ∷ []) × IsOfText «module».now one) }
     ensures refused { IfErr result (IsOfModule text) }
 {
     if !is_new(names, module.name)? {
@@ -106,6 +113,7 @@ fn admit_module<'a>(
 ) -> Result<AdmittedModule<'a>, SessionFault>
     ensures names { IfOk result (λ _. AreNew [] (names_in «module».now.items)) }
     ensures declared { IfOk result (λ admitted. module_keys admitted ≡ module_procedures «module».now) }
+    ensures written { IfOk result (IsOfText «module».now) }
     ensures refused { IfErr result (IsOfModule text) }
 {
     let items = module.items.as_slice();
@@ -133,6 +141,7 @@ fn admit_procedures<'a>(
     items: &'a [ModuleItem],
 ) -> Result<Vec<AdmittedProcedure<'a>>, SessionFault>
     ensures declared { IfOk result (λ admitted. procedure_names admitted.items ≡ names_in items.now) }
+    ensures written { IfOk result (λ admitted. AllByRecursion (IsProcedureOf items.now) admitted.items) }
     ensures refused { IfErr result (IsOfModule text) }
 {
     let place = without_one_opener(alloc, items)?;
@@ -198,17 +207,32 @@ fn cursors_of<'a>(
     items: &'a [ModuleItem],
 ) -> Result<IndexMap<Name, &'a Cursor>, SessionFault>
     ensures refused { IfErr result (IsOfModule text) }
+    ensures written { IfOk result (λ cursors. AllByRecursion (IsCursorIn items.now) cursors.entries) }
 {
     let mut cursors = IndexMap::new(alloc);
     for (place, item) in items.iter().enumerate() {
-        if let ModuleItem::Cursor(cursor) = item {
-            if let Err(fault) = add_cursor(&mut cursors, text, place, cursor) {
-                drop(cursors);
-                return Err(fault);
-            }
+        if let Err(fault) = add_item(&mut cursors, text, place, item) {
+            drop(cursors);
+            return Err(fault);
         }
     }
     Ok(cursors)
+}
+
+/// Adds an item, if it is a cursor.
+fn add_item<'a>(
+    cursors: &mut IndexMap<Name, &'a Cursor>,
+    text: usize,
+    place: usize,
+    item: &'a ModuleItem,
+) -> Result<(), SessionFault>
+    ensures refused { IfErr result (IsOfModule text) }
+    ensures written { (items : List AnyItem) → IsAmong items item.now → AllByRecursion (IsCursorIn items) cursors.old.entries → OnOk result (AllByRecursion (IsCursorIn items) cursors.new.entries) }
+{
+    match item {
+        ModuleItem::Cursor(cursor) => add_cursor(cursors, text, place, cursor),
+        ModuleItem::Procedure(_) => Ok(()),
+    }
 }
 
 fn add_cursor<'a>(
@@ -218,6 +242,7 @@ fn add_cursor<'a>(
     cursor: &'a Cursor,
 ) -> Result<(), SessionFault>
     ensures refused { IfErr result (IsOfModule text) }
+    ensures written { (items : List AnyItem) → IsAmong items (CursorItem cursor.now) → AllByRecursion (IsCursorIn items) cursors.old.entries → OnOk result (AllByRecursion (IsCursorIn items) cursors.new.entries) }
 {
     match cursors.insert(cursor.name, cursor) {
         Ok(None) => Ok(()),
@@ -255,6 +280,7 @@ fn procedures_of<'a>(
     items: &'a [ModuleItem],
 ) -> Result<Vec<AdmittedProcedure<'a>>, SessionFault>
     ensures declared { IfOk result (λ admitted. procedure_names admitted.items ≡ names_in items.now) }
+    ensures written { IfOk result (λ admitted. AllByRecursion (IsProcedureOf items.now) admitted.items) }
     ensures refused { IfErr result (IsOfModule text) }
 {
     let mut procedures = Vec::new(alloc);
@@ -276,6 +302,7 @@ fn add_procedure<'a>(
     item: &'a ModuleItem,
 ) -> Result<(), SessionFault>
     ensures names { OnOk result (procedure_names procedures.new.items ≡ procedure_names procedures.old.items ++ name_in item.now) }
+    ensures written { (items : List AnyItem) → IsAmong items item.now → AllByRecursion (IsProcedureOf items) procedures.old.items → OnOk result (AllByRecursion (IsProcedureOf items) procedures.new.items) }
     ensures refused { IfErr result (IsOfModule text) }
 {
     match item {
@@ -295,6 +322,7 @@ fn admitted<'a>(
     procedure: &'a Procedure,
 ) -> Result<AdmittedProcedure<'a>, SessionFault>
     ensures same { IfOk result (λ admitted. admitted.procedure.now ≡ procedure.now) }
+    ensures parameters { IfOk result (λ admitted. Declare (declarations_of procedure.now.declarations) admitted.parameters) }
     ensures refused { IfErr result (IsOfModule text) }
 {
     let declarations = listed(alloc, &procedure.declarations)?;

@@ -1,8 +1,10 @@
 //! Declarations of parameters (ISO/IEC 9075:1992, 12.3).
 
-ghost use Rattle.std.specs.Prelude.{◌≡◌, [], ◌∷◌, ◌++◌, true, false, IfOk};
+ghost use Rattle.std.specs.Prelude.{◌≡◌, [], ◌∷◌, ◌++◌, flat_map, map, true, false, IfOk, IfSome, Some};
 ghost use Rattle.std.specs.List.{list_any};
+ghost use Rattle.sq_meaning.specs.Spelled.{domain_of as domain_meant};
 ghost use Rattle.sq_module.specs.Program.{same_name};
+ghost use Rattle.sq_module.specs.Written.{Declare, declarations_of, named_as, named_in};
 
 use indexmap::IndexSet;
 use sq_bound::ParameterDesc;
@@ -19,7 +21,9 @@ const MOST_PARAMETERS: usize = 64;
 pub(crate) fn listed(
     alloc: Global,
     declarations: &Declarations,
-) -> Result<Items<Declaration>, AllocError> {
+) -> Result<Items<Declaration>, AllocError>
+    ensures { IfOk result (λ list. list ≡ declarations_of declarations.now) }
+{
     match declarations {
         Declarations::Bracketed(list) => bracketed(alloc, &list.first, list.rest.as_slice()),
         Declarations::Bare(first, rest) => bare(alloc, first, rest.as_slice()),
@@ -30,7 +34,9 @@ fn bracketed(
     alloc: Global,
     first: &Declaration,
     rest: &[Declaration],
-) -> Result<Items<Declaration>, AllocError> {
+) -> Result<Items<Declaration>, AllocError>
+    ensures { IfOk result (λ list. list ≡ first.now ∷ rest.now) }
+{
     let mut list = Items::new(alloc);
     list.push(*first)?;
     for declaration in rest {
@@ -43,7 +49,9 @@ fn bare(
     alloc: Global,
     first: &Declaration,
     rest: &[BareDeclaration],
-) -> Result<Items<Declaration>, AllocError> {
+) -> Result<Items<Declaration>, AllocError>
+    ensures { IfOk result (λ list. list ≡ first.now ∷ map (λ d. d.declaration) rest.now) }
+{
     let mut list = Items::new(alloc);
     list.push(*first)?;
     for bare in rest {
@@ -81,7 +89,9 @@ pub(crate) fn is_new(names: &mut IndexSet<Name>, name: Name) -> Result<bool, All
 pub(crate) fn parameters_of(
     alloc: Global,
     declarations: &[Declaration],
-) -> Result<Option<Items<ParameterDesc>>, AllocError> {
+) -> Result<Option<Items<ParameterDesc>>, AllocError>
+    ensures { IfOk result (λ found. IfSome found (Declare declarations.now)) }
+{
     let mut names = IndexSet::new(alloc);
     let mut parameters = Items::new(alloc);
     let added = are_added(&mut names, &mut parameters, declarations);
@@ -106,15 +116,29 @@ fn are_added(
     names: &mut IndexSet<Name>,
     parameters: &mut Items<ParameterDesc>,
     declarations: &[Declaration],
-) -> Result<bool, AllocError> {
+) -> Result<bool, AllocError>
+    ensures { IfOk result (λ is. is ≡ true → map named_as parameters.new ≡ map named_as parameters.old ++ flat_map named_in declarations.now) }
+{
     for declaration in declarations {
-        if let Declaration::Parameter(name, data_type) = declaration {
-            if !is_added(names, parameters, *name, data_type)? {
-                return Ok(false);
-            }
+        if !is_taken(names, parameters, declaration)? {
+            return Ok(false);
         }
     }
     Ok(true)
+}
+
+/// Adds the parameter of a declaration, if it has a name; whether it is declared once and of a good type.
+fn is_taken(
+    names: &mut IndexSet<Name>,
+    parameters: &mut Items<ParameterDesc>,
+    declaration: &Declaration,
+) -> Result<bool, AllocError>
+    ensures { IfOk result (λ is. is ≡ true → map named_as parameters.new ≡ map named_as parameters.old ++ named_in declaration.now) }
+{
+    match declaration {
+        Declaration::Parameter(name, data_type) => is_added(names, parameters, *name, data_type),
+        Declaration::Sqlcode | Declaration::Sqlstate => Ok(true),
+    }
 }
 
 fn is_added(
@@ -122,7 +146,9 @@ fn is_added(
     parameters: &mut Items<ParameterDesc>,
     name: Name,
     data_type: &DataType,
-) -> Result<bool, AllocError> {
+) -> Result<bool, AllocError>
+    ensures { IfOk result (λ is. is ≡ true → map named_as parameters.new ≡ map named_as parameters.old ++ (name, domain_meant data_type.now) ∷ []) }
+{
     if !is_new(names, name)? {
         return Ok(false);
     }

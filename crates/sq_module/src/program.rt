@@ -1,8 +1,13 @@
 //! The procedures and cursors of all modules, with their names as places.
 
-ghost use Rattle.std.specs.Prelude.{◌≡◌, ◌<◌, ℕ, [], IfOk, IfSome, List, Ok, OnOk, length};
+ghost use Rattle.std.specs.Prelude.{◌≡◌, ◌<◌, ℕ, [], IfOk, IfSome, List, Ok, OnOk, length, true};
 ghost use Rattle.std.specs.Map.{keys_of};
-ghost use Rattle.indexmap.specs.IndexMap.{insert_entry};
+ghost use Rattle.indexmap.specs.IndexMap.{get_by, insert_entry};
+ghost use Rattle.std.specs.List.{IsAmong};
+ghost use Rattle.sq_tree.specs.declared.module.ModuleText.{ModuleText};
+ghost use Rattle.sq_tree.specs.declared.statement.Statement.{Statement as AnyStatement};
+ghost use Rattle.sq_module.specs.Written.{AreFromTexts, AreNumbers, AreOfTexts, IsBoundFrom, IsCursorNamed, IsNumberOf, IsOfText, IsOfTexts, IsProcedureOf, IsStatementIn, OpenNamed, OpensNamed};
+ghost use Rattle.sq_bound.specs.declared.names.ParameterDesc.{ParameterDesc as AnyParameter};
 ghost use Rattle.indexmap.specs.IndexSet.{insert_key};
 ghost use Rattle.sq_bound.specs.Fits.{FitsCursor, FitsStatement};
 ghost use Rattle.sq_bound.specs.WellFormed.{IsCursor, IsStatement, TableKinds};
@@ -10,15 +15,15 @@ ghost use Rattle.sq_bound.specs.declared.names.BaseTable.{BaseTable};
 ghost use Rattle.sq_catalog.specs.Catalog.{column_kinds};
 ghost use Rattle.sq_module.specs.Admitted.{admitted_procedures, module_keys, name_of};
 ghost use Rattle.sq_module.specs.Opened.{AreOpened, Grow, IsOpened};
-ghost use Rattle.sq_module.specs.Program.{FitsProcedure, FitsProgram, OpensWellFormed, ProcedureIsWellFormed, ProcedureOpens, ProgramIsWellFormed, kinds_of_cursors, same_procedure, with_procedures};
+ghost use Rattle.sq_module.specs.Program.{FitsProcedure, FitsProgram, OpensWellFormed, ProcedureIsWellFormed, ProcedureOpens, ProgramIsWellFormed, kinds_of_cursors, same_name, same_procedure, with_procedures};
 ghost use Rattle.sq_bound.specs.declared.statement.BoundStatement.TheVariants.{Open};
 ghost use Rattle.sq_module.specs.declared.program.DeclaredCursor.{DeclaredCursor as AnyCursor};
 ghost use Rattle.sq_value.specs.declared.domain.Kind.{Kind};
 
 use crate::admission::{AdmittedModule, AdmittedProcedure};
 use indexmap::IndexMap;
-use sq_bind::{bind_cursor, bind_statement};
-use sq_bound::{BindFault, BoundCursor, BoundStatement, Cursors, KnownCursor, ParameterDesc};
+use sq_bind::{Cursors, bind_cursor, bind_statement};
+use sq_bound::{BindFault, BoundCursor, BoundStatement, KnownCursor, ParameterDesc};
 use sq_catalog::Catalog;
 use sq_items::Items;
 use sq_lex::Name;
@@ -69,6 +74,8 @@ impl<'a> Cursors for ModuleCursors<'a> {
 
     ghost cursor_kinds = { λ c. kinds_of_cursors c.cursors.now };
 
+    ghost number_of = { λ c name. get_by (same_name name) c.numbers.now };
+
     fn cursor(&self, name: Name) -> Option<KnownCursor<'_>> {
         let number = self.numbers.get(&name).copied()?;
         match self.cursors.get(number) {
@@ -91,6 +98,7 @@ impl Program {
         ensures procedures { IfOk result (λ program. keys_of program.procedures.entries ≡ with_procedures [] (admitted_procedures modules.now)) }
         ensures fits { IfOk result (FitsProgram catalog.now.bases) }
         ensures well_formed { IfOk result (ProgramIsWellFormed (column_kinds catalog.now)) }
+        ensures written { (texts : List ModuleText) → AreOfTexts texts modules.now → IfOk result (IsOfTexts texts) }
     {
         let mut program = Program {
             procedures: IndexMap::new(alloc),
@@ -116,6 +124,7 @@ impl Program {
         ensures procedures { OnOk result (keys_of self.new.procedures.entries ≡ with_procedures (keys_of self.old.procedures.entries) (admitted_procedures modules.now)) }
         ensures fits { OnOk result (FitsProgram catalog.now.bases self.new) }
         ensures well_formed { OnOk result (ProgramIsWellFormed (column_kinds catalog.now) self.new) }
+        ensures written { (texts : List ModuleText) → AreOfTexts texts modules.now → IsOfTexts texts self.old → OnOk result (IsOfTexts texts self.new) }
     {
         for module in modules {
             self.add_module(alloc, catalog, module)?;
@@ -134,6 +143,7 @@ impl Program {
         ensures procedures { OnOk result (keys_of self.new.procedures.entries ≡ with_procedures (keys_of self.old.procedures.entries) (module_keys «module».now)) }
         ensures fits { OnOk result (FitsProgram catalog.now.bases self.new) }
         ensures well_formed { OnOk result (ProgramIsWellFormed (column_kinds catalog.now) self.new) }
+        ensures written { (texts : List ModuleText) (m : ModuleText) → IsAmong texts m → IsOfText m «module».now → IsOfTexts texts self.old → OnOk result (IsOfTexts texts self.new) }
     {
         let mut numbers = IndexMap::new(alloc);
         let added = self.add_parts(alloc, catalog, module, &mut numbers);
@@ -154,6 +164,7 @@ impl Program {
         ensures procedures { OnOk result (keys_of self.new.procedures.entries ≡ with_procedures (keys_of self.old.procedures.entries) (module_keys «module».now)) }
         ensures fits { OnOk result (FitsProgram catalog.now.bases self.new) }
         ensures well_formed { OnOk result (ProgramIsWellFormed (column_kinds catalog.now) self.new) }
+        ensures written { (texts : List ModuleText) (m : ModuleText) → IsAmong texts m → IsOfText m «module».now → AreNumbers m self.old.cursors.items numbers.old.entries → IsOfTexts texts self.old → OnOk result (IsOfTexts texts self.new) }
     {
         let opened = self.add_cursors(alloc, catalog, module, numbers)?;
         let added = self.add_procedures(alloc, catalog, module, numbers, opened.as_slice());
@@ -174,6 +185,8 @@ impl Program {
         ensures procedures { self.new.procedures ≡ self.old.procedures }
         ensures fits { OnOk result (FitsProgram catalog.now.bases self.new) }
         ensures well_formed { OnOk result (ProgramIsWellFormed (column_kinds catalog.now) self.new) }
+        ensures grows { OnOk result (Grow self.old.cursors.items self.new.cursors.items) }
+        ensures written { (m : ModuleText) → IsOfText m «module».now → AreNumbers m self.old.cursors.items numbers.old.entries → IfOk result (λ opened. AreNumbers m self.new.cursors.items numbers.new.entries × OpenNamed m self.new.cursors.items «module».now.procedures.items opened.items) }
         ensures opened { IfOk result (λ opened. AreOpened (column_kinds catalog.now) self.new.cursors.items «module».now.procedures.items opened.items) }
     {
         let mut opened = Vec::new(alloc);
@@ -198,6 +211,7 @@ impl Program {
         ensures procedures { self.new.procedures ≡ self.old.procedures }
         ensures fits { OnOk result (FitsProgram catalog.now.bases self.new) }
         ensures well_formed { OnOk result (ProgramIsWellFormed (column_kinds catalog.now) self.new) }
+        ensures written { (m : ModuleText) → IsOfText m «module».now → AreNumbers m self.old.cursors.items numbers.old.entries → IfOk result (λ opened. AreNumbers m self.new.cursors.items numbers.new.entries × OpensNamed m self.new.cursors.items opener.now opened) }
         ensures grows { OnOk result (Grow self.old.cursors.items self.new.cursors.items) }
         ensures opened { IfOk result (IsOpened (column_kinds catalog.now) self.new.cursors.items opener.now) }
     {
@@ -226,6 +240,7 @@ impl Program {
         ensures procedures { self.new.procedures ≡ self.old.procedures }
         ensures fits { (bases : List BaseTable) → FitsProgram bases self.old → IfOk bound (FitsCursor bases) → OnOk result (FitsProgram bases self.new) }
         ensures well_formed { (columns : TableKinds) (parameters : List Kind) → ProgramIsWellFormed columns self.old → IfOk bound (IsCursor columns parameters) → OnOk result (ProgramIsWellFormed columns self.new) }
+        ensures written { (m : ModuleText) → IsCursorNamed m user name bound → AreNumbers m self.old.cursors.items numbers.old.entries → IfOk result (λ opened. AreNumbers m self.new.cursors.items numbers.new.entries × IfSome opened (IsNumberOf m self.new.cursors.items name)) }
         ensures grows { OnOk result (Grow self.old.cursors.items self.new.cursors.items) }
         ensures opened { (columns : TableKinds) (parameters : List Kind) → IfOk bound (IsCursor columns parameters) → IfOk result (λ opened. IfSome opened (λ number. OpensWellFormed columns self.new.cursors.items parameters (Open number))) }
     {
@@ -255,6 +270,7 @@ impl Program {
         ensures procedures { OnOk result (keys_of self.new.procedures.entries ≡ with_procedures (keys_of self.old.procedures.entries) (module_keys «module».now)) }
         ensures fits { OnOk result (FitsProgram catalog.now.bases self.new) }
         ensures well_formed { OnOk result (ProgramIsWellFormed (column_kinds catalog.now) self.new) }
+        ensures written { (texts : List ModuleText) (m : ModuleText) → IsAmong texts m → IsOfText m «module».now → AreNumbers m self.old.cursors.items numbers.now.entries → OpenNamed m self.old.cursors.items «module».now.procedures.items opened.now → IsOfTexts texts self.old → OnOk result (IsOfTexts texts self.new) }
     {
         for (place, admitted) in module.procedures.as_slice().iter().enumerate() {
             self.add_procedure(alloc, catalog, module, numbers, admitted, opened[place])?;
@@ -278,6 +294,7 @@ impl Program {
         ensures procedures { OnOk result (keys_of self.new.procedures.entries ≡ insert_key same_procedure (keys_of self.old.procedures.entries) (name_of «module».now.name admitted.now)) }
         ensures fits { OnOk result (FitsProgram catalog.now.bases self.new) }
         ensures well_formed { OnOk result (ProgramIsWellFormed (column_kinds catalog.now) self.new) }
+        ensures written { (texts : List ModuleText) (m : ModuleText) → IsAmong texts m → IsOfText m «module».now → IsProcedureOf m.items admitted.now → AreNumbers m self.old.cursors.items numbers.now.entries → OpensNamed m self.old.cursors.items admitted.now opened → IsOfTexts texts self.old → OnOk result (IsOfTexts texts self.new) }
     {
         let cursors = ModuleCursors {
             numbers,
@@ -305,6 +322,7 @@ fn bound_procedure(
     ensures fits { IfOk result (FitsProcedure catalog.now.bases (length cursors.now.cursors.now)) }
     ensures well_formed { IfOk result (ProcedureIsWellFormed (column_kinds catalog.now) (kinds_of_cursors cursors.now.cursors.now)) }
     ensures opens { IfOk result (ProcedureOpens (column_kinds catalog.now) cursors.now.cursors.now) }
+    ensures written { (m : ModuleText) → user ≡ m.authorization → IsProcedureOf m.items admitted.now → AreNumbers m cursors.now.cursors.now cursors.now.numbers.now.entries → OpensNamed m cursors.now.cursors.now admitted.now opened → IfOk result (IsBoundFrom m cursors.now.cursors.now admitted.now.procedure.now) }
 {
     let parameters = admitted.parameters.as_slice();
     let written = &admitted.procedure.statement;
@@ -331,6 +349,7 @@ fn with_opened(
     ensures fits { (bases : List BaseTable) (cursors parameters : ℕ) → IfSome opened (λ number. number < cursors) → IfOk bound (FitsStatement bases cursors parameters) → IfOk result (FitsStatement bases cursors parameters) }
     ensures well_formed { (columns : TableKinds) (cursors : List (List Kind)) (parameters : List Kind) → IfOk bound (IsStatement columns cursors parameters) → IfOk result (IsStatement columns cursors parameters) }
     ensures opens { (columns : TableKinds) (cursors : List AnyCursor) (parameters : List Kind) → IfSome opened (λ number. OpensWellFormed columns cursors parameters (Open number)) → IfOk result (OpensWellFormed columns cursors parameters) }
+    ensures written { (m : ModuleText) (cursors : List AnyCursor) (parameters : List AnyParameter) (s : AnyStatement) → IfOk bound (IsStatementIn m cursors parameters s) → IfSome opened (λ n. IsStatementIn m cursors parameters s (Open n)) → IfOk result (IsStatementIn m cursors parameters s) }
 {
     match bound {
         Ok(BoundStatement::Open(_)) => match opened {
@@ -374,7 +393,9 @@ fn unless_no_memory<T: Drop>(
     }
 }
 
-fn named(is_kept: bool) -> Result<(), AllocError> {
+fn named(is_kept: bool) -> Result<(), AllocError>
+    ensures { OnOk result (is_kept ≡ true) }
+{
     if is_kept { Ok(()) } else { Err(AllocError) }
 }
 

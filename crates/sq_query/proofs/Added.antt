@@ -330,17 +330,17 @@ module _ (functions : List PlacedExpr) where
 -- ---- query specifications
 
 tables_by : (s : BoundSpecification) (groups : Groups) → groups_if (option_map groups_of (out-BoundSpecification s).grouping) ≡ groups
-    → specification_tables s ≡ (out-BoundSpecification s).from ++ (clause_tables (clause_of [] (out-BoundSpecification s).condition) ++ clause_tables groups.having)
+    → specification_tables s ≡ (out-BoundSpecification s).from.tables ++ (clause_tables (clause_of [] (out-BoundSpecification s).condition) ++ clause_tables groups.having)
 tables_by s groups is =
     let o = out-BoundSpecification s in
-    ap select_tables (select_of-out s) ∙ ap (λ (g : Groups). o.from ++ (clause_tables (clause_of [] o.condition) ++ clause_tables g.having)) is
+    ap select_tables (select_of-out s) ∙ ap (λ (g : Groups). o.from.tables ++ (clause_tables (clause_of [] o.condition) ++ clause_tables g.having)) is
 
 pub tables_of_ungrouped : (s : BoundSpecification) → (out-BoundSpecification s).grouping ≡ None
-    → specification_tables s ≡ (out-BoundSpecification s).from ++ (clause_tables (clause_of [] (out-BoundSpecification s).condition) ++ [])
+    → specification_tables s ≡ (out-BoundSpecification s).from.tables ++ (clause_tables (clause_of [] (out-BoundSpecification s).condition) ++ [])
 tables_of_ungrouped s is = tables_by s no_groups (ap (λ (g : Option Grouping). groups_if (option_map groups_of g)) is)
 
 pub tables_of_grouped : (s : BoundSpecification) (g : Grouping) → (out-BoundSpecification s).grouping ≡ Some g
-    → specification_tables s ≡ (out-BoundSpecification s).from ++ (clause_tables (clause_of [] (out-BoundSpecification s).condition) ++ clause_tables (clause_of (map call_of (out-Grouping g).set_functions) (out-Grouping g).having))
+    → specification_tables s ≡ (out-BoundSpecification s).from.tables ++ (clause_tables (clause_of [] (out-BoundSpecification s).condition) ++ clause_tables (clause_of (map call_of (out-Grouping g).set_functions) (out-Grouping g).having))
 tables_of_grouped s g is =
     tables_by s (groups_by (out-Grouping g).columns (map call_of (out-Grouping g).set_functions) (clause_of (map call_of (out-Grouping g).set_functions) (out-Grouping g).having))
     (ap (λ (h : Option Grouping). groups_if (option_map groups_of h)) is ∙ groups_of-out g)

@@ -1,6 +1,8 @@
 -- Values of bounded kinds may be brought to the common kinds of UNION (ISO/IEC 9075:1992, 7.10).
-use Rattle.std.proofs.Common.{◌≡◌, max, List, [], ◌∷◌, ◌++◌, arith, refl, ap, ◌∙◌, Ok, Err}
+use Rattle.std.proofs.Common.{◌≡◌, ◌≤◌, max, true, List, [], ◌∷◌, ◌++◌, arith, refl, ap, ◌∙◌, Ok, Err}
+use Rattle.std.proofs.lemmas.Bool.{leb-true}
 use Rattle.std.specs.Prelude.{IfOk}
+use Rattle.std.specs.List.{AllByRecursion}
 use Rattle.sq_value.specs.Domain.{IsOfKind}
 use Rattle.sq_value.specs.declared.domain.Kind.{Kind}
 use Rattle.sq_value.specs.declared.domain.Kind.TheVariants as kind
@@ -11,30 +13,29 @@ use Rattle.sq_meaning.specs.Environment.{Row}
 use Rattle.sq_meaning.specs.Kind.{common_kind, common_kinds}
 use Rattle.sq_meaning.specs.WellFormed.{IsRowOf, AreRowsOf}
 use Rattle.sq_meaning.proofs.AnswerLaws.{all_weaker, all_appended}
-use Rattle.sq_query.specs.Union.{IsBounded, AreBounded, MayBeBrought, IsBringable, AreBringable}
+use Rattle.sq_bound.specs.Joined.{is_bounded, are_bounded}
+use Rattle.sq_query.specs.Union.{MayBeBrought, IsBringable, AreBringable}
 use Rattle.sq_query.proofs.JoinedKinds.{if_there, paired}
+use Rattle.sq_query.proofs.JoinedTerms.{both_true}
 
--- ---- the common kinds are bounded
+-- ---- bounded kinds
 
-common_bounded : (x y : Kind) → IsBounded x → IsBounded y → IfOk (common_kind x y) IsBounded
-common_bounded (kind.Num s) (kind.Num t) h k = omega arith
-common_bounded (kind.Num s) (kind.Chars l) h k = tt
-common_bounded (kind.Num s) (kind.Vary l) h k = tt
-common_bounded (kind.Chars m) (kind.Num t) h k = tt
-common_bounded (kind.Chars m) (kind.Chars l) h k = omega arith
-common_bounded (kind.Chars m) (kind.Vary l) h k = tt
-common_bounded (kind.Vary m) (kind.Num t) h k = tt
-common_bounded (kind.Vary m) (kind.Chars l) h k = tt
-common_bounded (kind.Vary m) (kind.Vary l) h k = tt
+abbrev IsBounded : Kind → Type 0
+IsBounded (kind.Num s) = s ≤ 18
+IsBounded (kind.Chars n) = n ≤ 240
+IsBounded (kind.Vary n) = n ≤ 240
 
-all_bounded : (ks ls : List Kind) → AreBounded ks → AreBounded ls → IfOk (common_kinds ks ls) AreBounded
-all_bounded [] [] h b = tt
-all_bounded [] (l ∷ ls) h b = tt
-all_bounded (k ∷ ks) [] h b = tt
-all_bounded (k ∷ ks) (l ∷ ls) h b = paired IsBounded AreBounded AreBounded (λ c cs p q. (p, q)) (common_kind k l) (common_kinds ks ls) (common_bounded k l h.0 b.0) (all_bounded ks ls h.1 b.1)
+abbrev pub AreBounded : List Kind → Type 0
+AreBounded = AllByRecursion IsBounded
 
-pub common_are_bounded : (ks ls cs : List Kind) → AreBounded ks → AreBounded ls → common_kinds ks ls ≡ Ok cs → AreBounded cs
-common_are_bounded ks ls cs h b is = if_there AreBounded (common_kinds ks ls) cs is (all_bounded ks ls h b)
+one_bounded : (k : Kind) → is_bounded k ≡ true → IsBounded k
+one_bounded (kind.Num s) h = leb-true s 18 h
+one_bounded (kind.Chars n) h = leb-true n 240 h
+one_bounded (kind.Vary n) h = leb-true n 240 h
+
+pub all_bounded : (ks : List Kind) → are_bounded ks ≡ true → AreBounded ks
+all_bounded [] h = tt
+all_bounded (k ∷ ks) h = let b = both_true (is_bounded k) (are_bounded ks) h in (one_bounded k b.0, all_bounded ks b.1)
 
 -- ---- the sides of UNION are alike
 

@@ -73,7 +73,7 @@ module _ {A : Type 0} (same : A → A → Bool) (laws : IsEquivalence same) wher
           ap (λ n. with_element (filter (same f) xs ∷ map (λ g. filter (same g) xs) fs) n e) (one-add (position_or_len (same e) fs))
           ∙ (λ i. sym (stays xs e f is) i ∷ later k i)
 
-  any_firsts : (e : A) (xs : List A) → list_any (same e) (firsts same xs) ≡ list_any (same e) xs
+  pub any_firsts : (e : A) (xs : List A) → list_any (same e) (firsts same xs) ≡ list_any (same e) xs
   any_firsts e [] = refl
   any_firsts e (y ∷ ys) = split (same e y) refl (any_firsts e ys)
     where

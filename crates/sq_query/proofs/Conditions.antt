@@ -51,19 +51,22 @@ neither_right true b h = not_both h
 pub same_plain : (c tree : PlacedCond) → c ≡ tree → has_subquery c ≡ false → has_subquery tree ≡ false
 same_plain c tree is plain = subst (λ (x : PlacedCond). has_subquery x ≡ false) is plain
 
+pub meets_tree : (r : Result Truth Fault) (frame : Frame) (context : Context) (c tree : PlacedCond) → c ≡ tree → Meets r (truth_in frame context tree) → Meets r (truth_in frame context c)
+meets_tree r frame context c tree is has = meets_by r (truth_in frame context c) (truth_in frame context tree) (ap (truth_in frame context) is) has
+
 pub has_same : (r : Result Truth Fault) (frame : Frame) (context : Context) (c tree : PlacedCond)
     → c ≡ tree → HasTruth r frame context tree → HasTruth r frame context c
-has_same r frame context c tree is has plain =
-    meets_by r (truth_in frame context c) (truth_in frame context tree) (ap (truth_in frame context) is) (has (same_plain c tree is plain))
+has_same r frame context c tree is has plain = meets_tree r frame context c tree is (has (same_plain c tree is plain))
+
+pub meets_not : (r inner : Result Truth Fault) (frame : Frame) (context : Context) (written : Bool) (c tree : PlacedCond)
+    → c ≡ not_if written tree → ((o : Outcome Truth) → Meets inner o → Meets r (with_not written o)) → Meets inner (truth_in frame context tree) → Meets r (truth_in frame context c)
+meets_not r inner frame context true c tree is negates has = meets_tree r frame context c (not_if true tree) is (negates (truth_in frame context tree) has)
+meets_not r inner frame context false c tree is negates has = meets_tree r frame context c tree is (negates (truth_in frame context tree) has)
 
 pub has_not : (r inner : Result Truth Fault) (frame : Frame) (context : Context) (written : Bool) (c tree : PlacedCond)
     → c ≡ not_if written tree → ((o : Outcome Truth) → Meets inner o → Meets r (with_not written o)) → HasTruth inner frame context tree → HasTruth r frame context c
-has_not r inner frame context true c tree is negates has plain =
-    meets_by r (truth_in frame context c) (truth_in frame context (not_if true tree)) (ap (truth_in frame context) is)
-    (negates (truth_in frame context tree) (has (same_plain c (not_if true tree) is plain)))
-has_not r inner frame context false c tree is negates has plain =
-    meets_by r (truth_in frame context c) (truth_in frame context tree) (ap (truth_in frame context) is)
-    (negates (truth_in frame context tree) (has (same_plain c tree is plain)))
+has_not r inner frame context true c tree is negates has plain = meets_not r inner frame context true c tree is negates (has (same_plain c (not_if true tree) is plain))
+has_not r inner frame context false c tree is negates has plain = meets_not r inner frame context false c tree is negates (has (same_plain c tree is plain))
 
 pub under_not : (written : Bool) (tree : PlacedCond) → has_subquery (not_if written tree) ≡ false → has_subquery tree ≡ false
 under_not true tree plain = plain

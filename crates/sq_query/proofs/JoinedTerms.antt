@@ -14,7 +14,7 @@ use Rattle.sq_meaning.specs.Status.{Outcome, and_then, not_well_formed}
 use Rattle.sq_meaning.specs.Environment.{Row}
 use Rattle.sq_meaning.specs.Kind.{common_kinds}
 use Rattle.sq_meaning.specs.WellFormed.{IsRowOf, AreRowsOf}
-use Rattle.sq_bound.specs.Joined.{Kinds, kept_kinds, term_specifications, union_specifications, joined_kinds, term_kinds, union_kinds}
+use Rattle.sq_bound.specs.Joined.{Kinds, are_bounded, brought_kinds, kept_kinds, term_specifications, union_specifications, joined_kinds, term_kinds, union_kinds}
 use Rattle.sq_bound.specs.Names.{same_kind}
 use Rattle.sq_bound.specs.WellFormed.{TableKinds, IsSelect, IsQuery, kinds_of_results, kinds_of_select, kinds_of_query}
 use Rattle.sq_bound.specs.declared.condition.BoundSpecification.{BoundSpecification}
@@ -49,7 +49,7 @@ one_kind (kind.Vary m) (kind.Num t) h = absurd cc
 one_kind (kind.Vary m) (kind.Chars n) h = absurd cc
 one_kind (kind.Vary m) (kind.Vary n) h = ap kind.Vary (eqb-true m n h)
 
-both_true : (a b : Bool) → (a && b) ≡ true → (a ≡ true) × (b ≡ true)
+pub both_true : (a b : Bool) → (a && b) ≡ true → (a ≡ true) × (b ≡ true)
 both_true true b h = (refl, h)
 both_true false b h = absurd cc
 
@@ -67,6 +67,16 @@ kept_are columns ks kinds h = by (pointwise same_kind ks (kinds_of_results colum
   where
     by : (b : Bool) → pointwise same_kind ks (kinds_of_results columns) ≡ b → kept_if b ks ≡ Ok kinds → (ks ≡ kinds) × (kinds ≡ kinds_of_results columns)
     by true e h = let same = ok_same ks kinds h in (same, sym same ∙ all_kinds ks (kinds_of_results columns) e)
+    by false e h = absurd cc
+
+abbrev brought_if : Bool → List ResultColumn → List Kind → Kinds
+brought_if b columns ks = if b then kept_kinds columns ks else not_well_formed
+
+brought_are : (columns : List ResultColumn) (ks kinds : List Kind) → brought_kinds columns ks ≡ Ok kinds → (are_bounded ks ≡ true) × (ks ≡ kinds) × (kinds ≡ kinds_of_results columns)
+brought_are columns ks kinds h = by (are_bounded ks) refl h
+  where
+    by : (b : Bool) → are_bounded ks ≡ b → brought_if b columns ks ≡ Ok kinds → (are_bounded ks ≡ true) × (ks ≡ kinds) × (kinds ≡ kinds_of_results columns)
+    by true e h = let kept = kept_are columns ks kinds h in (e, kept.0, kept.1)
     by false e h = absurd cc
 
 -- ---- terms
@@ -112,14 +122,23 @@ pub record IsJoined (u : BoundUnion) (left : Kinds) (kinds : List Kind) : Type 0
   pub rights : term_kinds u.term ≡ Ok rs
   pub common : common_kinds ls rs ≡ Ok kinds
   pub noted : kinds ≡ kinds_of_results u.columns
+  pub bounded : are_bounded kinds ≡ true
 
 pub sides : (u : BoundUnion) (left : Kinds) (kinds : List Kind) → union_kinds u left ≡ Ok kinds → IsJoined u left kinds
 sides u left kinds h =
-    let a = opened left (λ ls. and_then (term_kinds u.term) (λ rs. and_then (common_kinds ls rs) (kept_kinds u.columns))) kinds (sym (union_kinds-out u left) ∙ h) in
-    let b = opened (term_kinds u.term) (λ rs. and_then (common_kinds a.0 rs) (kept_kinds u.columns)) kinds a.2 in
-    let d = opened (common_kinds a.0 b.0) (kept_kinds u.columns) kinds b.2 in
-    let kept = kept_are u.columns d.0 kinds d.2 in
-    record { ls = a.0; rs = b.0; lefts = a.1; rights = b.1; common = d.1 ∙ ap Ok kept.0; noted = kept.1 }
+    let a = opened left (λ ls. and_then (term_kinds u.term) (λ rs. and_then (common_kinds ls rs) (brought_kinds u.columns))) kinds (sym (union_kinds-out u left) ∙ h) in
+    let b = opened (term_kinds u.term) (λ rs. and_then (common_kinds a.0 rs) (brought_kinds u.columns)) kinds a.2 in
+    let d = opened (common_kinds a.0 b.0) (brought_kinds u.columns) kinds b.2 in
+    let brought = brought_are u.columns d.0 kinds d.2 in
+    record {
+      ls = a.0;
+      rs = b.0;
+      lefts = a.1;
+      rights = b.1;
+      common = d.1 ∙ ap Ok brought.1;
+      noted = brought.2;
+      bounded = subst (λ ks. are_bounded ks ≡ true) brought.1 brought.0;
+    }
 
 -- ---- the terms so far
 

@@ -45,7 +45,7 @@ use Rattle.sq_query.proofs.KeyTests.{key_same}
 use Rattle.sq_query.proofs.KindsOfTables.{stored_kinds}
 use Rattle.sq_query.proofs.OnlyOne.{found_if, one_passes, found_is, at_most_one, distinct_at}
 
-inputs_are : (kinds : List Kind) (values : List Value) → IsRowOf kinds values → AreInputsOf kinds (inputs_of values)
+pub inputs_are : (kinds : List Kind) (values : List Value) → IsRowOf kinds values → AreInputsOf kinds (inputs_of values)
 inputs_are [] [] h = tt
 inputs_are [] (v ∷ values) h = absurd h
 inputs_are (k ∷ kinds) [] h = absurd h

@@ -106,7 +106,7 @@ pub kinds_listed : (columns : TableKinds) (parameters : List Kind) (query : Boun
     → select_kinds (kinds_by_place columns parameters) [] (select_of query) ≡ Ok kinds → listed_kinds columns parameters (items_in query) groups.functions (out-BoundSpecification query).list ≡ Ok kinds
 kinds_listed columns parameters query groups kinds are h =
     let o = out-BoundSpecification query in
-    sym (ap (λ (q : PlacedSelect). select_kinds (kinds_by_place columns parameters) [] q) (select_of-out query ∙ ap (select_by o.distinct o.list o.from (clause_of [] o.condition)) are)) ∙ h
+    sym (ap (λ (q : PlacedSelect). select_kinds (kinds_by_place columns parameters) [] q) (select_of-out query ∙ ap (select_by o.distinct o.list o.from.tables (clause_of [] o.condition)) are)) ∙ h
 
 -- its tables are there
 pub tables_there : (columns : TableKinds) (parameters : List Kind) (query : BoundSpecification) (rows_of : TablePlace → Outcome (List Row))

@@ -1,7 +1,7 @@
 -- Query expressions over base tables of a store (ISO/IEC 9075:1992, 7.10).
 use Rattle.std.proofs.Common.{◌≡◌, ℕ, suc, ◌<◌, nat_eq, ◌||◌, Bool, true, false, List, [], ◌∷◌, ◌++◌, length, map, refl, sym, ap, subst, ◌∙◌, Result, Ok, Err, IfOk}
 use Rattle.std.proofs.lemmas.Bool.{eq-eqb, lt-ltb}
-use Rattle.std.specs.Prelude.{if◌then◌else◌}
+use Rattle.std.specs.Prelude.{⊤, if◌then◌else◌}
 use Rattle.std.specs.List.{AllByRecursion, list_any}
 use Rattle.sq_store.specs.Content.{Content, table_at}
 use Rattle.sq_store.specs.declared.table.Table.{Table}
@@ -16,6 +16,7 @@ use Rattle.sq_meaning.specs.Query.{rows}
 use Rattle.sq_meaning.specs.QueryExpression.{query_rows}
 use Rattle.sq_meaning.specs.Target.{has_subquery, have_subquery, clause_has_subquery}
 use Rattle.sq_meaning.specs.WellFormed.{HasValue}
+use Rattle.sq_meaning.proofs.AnswerLaws.{all_true, all_weaker}
 use Rattle.sq_bound.specs.Condition.{PlacedCond, PlacedClause, PlacedSelect, select_of}
 use Rattle.sq_bound.specs.Fits.{AreInDomains}
 use Rattle.sq_bound.specs.Joined.{specifications_of}
@@ -28,17 +29,18 @@ use Rattle.sq_bound.specs.declared.names.BaseTable.{BaseTable}
 use Rattle.sq_bound.specs.declared.query.BoundQuery.{BoundQuery}
 use Rattle.sq_query.specs.Fault.{MeetsAs}
 use Rattle.sq_query.specs.Needed.{ReadsCond, ReadsConds, ReadsClause, ReadsSelect, IsNeeded, AreKnown, NeedsBases}
-use Rattle.sq_query.specs.Specification.{items_in}
+use Rattle.sq_query.specs.Specification.{items_in, IsBase}
 use Rattle.sq_query.specs.Table.{table_there, stored_rows, stored_base, base_seen, AreOfStore}
 use Rattle.sq_query.specs.Union.{IsSimple, joined_rows}
 use Rattle.sq_query.specs.declared.fault.Fault.{Fault}
 use Rattle.sq_query.specs.declared.fault.Fault.TheVariants as fault
 use Rattle.sq_query.specs.declared.needed.Needed.{Needed}
 use Rattle.sq_query.specs.declared.table.BaseRows.{BaseRows}
+use Rattle.sq_query.proofs.AnyTables.{rows_over}
 use Rattle.sq_query.proofs.Bases.{stored_by}
 use Rattle.sq_query.proofs.Conditions.{not_both, neither_left, neither_right}
 use Rattle.sq_query.proofs.RowsFound.{tables_there}
-use Rattle.sq_query.proofs.Stored.{found_rows, bases_there, base_there, from_is, plain_where, plain_having, rows_over_base}
+use Rattle.sq_query.proofs.Stored.{found_rows, bases_there, base_there, from_is, plain_where, plain_having}
 use Rattle.sq_query.proofs.Terms.{AllSelects, all_selects}
 
 -- ---- without subqueries only the items of FROM are read
@@ -73,12 +75,11 @@ module _ (P : TablePlace → Type 0) where
   select_items : (q : PlacedSelect) → ReadsSelect P q → AllByRecursion P (from_clause q)
   select_items (select distinct list from filter by having) h = h.0
 
-  reads_base : (s : BoundSpecification) (simple : IsSimple s) → P (Base simple.over.0) → ReadsSelect P (select_of s)
-  reads_base s simple h =
-      select_plain (select_of s) (subst (AllByRecursion P) (sym (from_is s ∙ simple.over.1)) (h, tt)) (plain_where s simple.plain) (plain_having s simple.plain)
+  reads_items : (s : BoundSpecification) → IsSimple s → AllByRecursion P (items_in s) → ReadsSelect P (select_of s)
+  reads_items s simple h = select_plain (select_of s) (subst (AllByRecursion P) (sym (from_is s)) h) (plain_where s simple.plain) (plain_having s simple.plain)
 
-  base_read : (s : BoundSpecification) (p : ℕ) → items_in s ≡ Base p ∷ [] → ReadsSelect P (select_of s) → P (Base p)
-  base_read s p over h = (subst (AllByRecursion P) (from_is s ∙ over) (select_items (select_of s) h)).0
+  items_read : (s : BoundSpecification) → ReadsSelect P (select_of s) → AllByRecursion P (items_in s)
+  items_read s h = subst (AllByRecursion P) (from_is s) (select_items (select_of s) h)
 
 -- ---- the base tables are there
 
@@ -99,11 +100,19 @@ module _ (bases : List BaseTable) (columns : TableKinds) (content : Content) (th
       let lt = subst (λ n. p < n) (as_many bases content in_domains) (there p h) in
       subst (λ (o : Outcome Table). HasValue (and_then o (λ t. let none : Outcome (List Kind) = Ok [] in none))) (sym (ap (λ b. if b then Ok (table_at content p) else not_well_formed) (lt-ltb p (length content) lt))) tt
 
+  places_there : (from : List TablePlace) → AllByRecursion IsBase from → AllByRecursion (λ t. HasValue (columns t)) from → AllByRecursion (λ t. HasValue (bases_in content t)) from
+  places_there [] over h = tt
+  places_there (Base p ∷ from) over h = (place_there p h.0, places_there from over.1 h.1)
+  places_there (View p ∷ from) over h = absurd over.0
+
+  pub base_known : (parameters : List Kind) (s : BoundSpecification) → IsSelect columns parameters [] s → IsSimple s → ReadsSelect (λ t. HasValue (bases_in content t)) (select_of s)
+  base_known parameters s well simple =
+      reads_items (λ t. HasValue (bases_in content t)) s simple
+      (places_there (items_in s) simple.over (tables_there columns parameters s (λ t. not_well_formed) (well.stands (λ t. not_well_formed))))
+
   all_there : (parameters : List Kind) (ss : List BoundSpecification) → AllByRecursion (IsSelect columns parameters []) ss → AllByRecursion IsSimple ss → AllByRecursion (λ s. ReadsSelect (λ t. HasValue (bases_in content t)) (select_of s)) ss
   all_there parameters [] h simple = tt
-  all_there parameters (s ∷ ss) h simple =
-      let items = subst (AllByRecursion (λ t. HasValue (columns t))) simple.0.over.1 (tables_there columns parameters s (λ t. not_well_formed) (h.0.stands (λ t. not_well_formed))) in
-      (reads_base (λ t. HasValue (bases_in content t)) s simple.0 (place_there simple.0.over.0 items.0), all_there parameters ss h.1 simple.1)
+  all_there parameters (s ∷ ss) h simple = (base_known parameters s h.0 simple.0, all_there parameters ss h.1 simple.1)
 
   pub bases_known : (parameters : List Kind) (q : BoundQuery) → IsQuery columns parameters q → AllByRecursion IsSimple (specifications_of q) → AllByRecursion (λ s. ReadsSelect (λ t. HasValue (bases_in content t)) (select_of s)) (specifications_of q)
   bases_known parameters q well simple = all_there parameters (specifications_of q) well.specifications simple
@@ -137,9 +146,14 @@ module _ (content : Content) where
   memory_alone view shown fault.NoMemory o all found is h = tt
   memory_alone view shown (fault.Status s) o all found is h = let no = sym is ∙ h in absurd cc
 
-  -- what is found at the place of a query specification
+  -- what is found of a base table
+  abbrev IsFoundAt : List BaseRows → TablePlace → Type 0
+  IsFoundAt bases (Base p) = found_rows p bases ≡ stored_rows content p
+  IsFoundAt bases (View p) = ⊤
+
+  -- of those of a query specification
   abbrev pub IsFound : List BaseRows → BoundSpecification → Type 0
-  IsFound bases s = (p : ℕ) → items_in s ≡ Base p ∷ [] → found_rows p bases ≡ stored_rows content p
+  IsFound bases s = AllByRecursion (IsFoundAt bases) (items_in s)
 
   module _ {E : Type 0} where
     pub never_fails : {A B C : Type 0} (view : A → List (ℕ × List Row)) (shown : B → C) (e : Fault) (o : Outcome C) (r : Result Needed E) → IfOk r (AreKnown (bases_in content))
@@ -149,15 +163,24 @@ module _ (content : Content) where
         memory_alone view shown e o (each (stored_base content) n.bases.items) found.0 found.1 (h n.bases.items (refl, no_views n.views.items (λ p among. known (View p) among)))
     never_fails view shown e o (Err f) known h = memory_alone view shown e o (Ok []) [] refl (h [] tt)
 
+    pub one_found : (bases : List BaseRows) (r : Result Needed E) → IfOk r (AreKnown (bases_in content)) → ((places : List ℕ) → IfOk r (NeedsBases places) → each (stored_base content) places ≡ Ok (map base_seen bases))
+        → (s : BoundSpecification) → IfOk r (λ n. ReadsSelect (IsNeeded n) (select_of s)) → IsFound bases s
+    one_found bases (Ok n) known h s reads = all_weaker (IsNeeded n) (IsFoundAt bases) found (items_in s) (items_read (IsNeeded n) s reads)
+      where
+        found : (t : TablePlace) → IsNeeded n t → IsFoundAt bases t
+        found (Base p) among = bases_there content p n.bases.items bases (h n.bases.items (refl, no_views n.views.items (λ v is. known (View v) is))) among
+        found (View p) among = tt
+    one_found bases (Err f) known h s reads = all_weaker (λ t. ⊤) (IsFoundAt bases) (λ t any. found t) (items_in s) (all_true (items_in s))
+      where
+        found : (t : TablePlace) → IsFoundAt bases t
+        found (Base p) = base_there content p bases (h (p ∷ []) tt)
+        found (View p) = tt
+
     all_found : (bases : List BaseRows) (r : Result Needed E) → IfOk r (AreKnown (bases_in content)) → ((places : List ℕ) → IfOk r (NeedsBases places) → each (stored_base content) places ≡ Ok (map base_seen bases))
         → (ss : List BoundSpecification) → IfOk r (λ n. AllByRecursion (λ s. ReadsSelect (IsNeeded n) (select_of s)) ss) → AllByRecursion (IsFound bases) ss
-    all_found bases (Ok n) known h [] reads = tt
-    all_found bases (Ok n) known h (s ∷ ss) reads = (
-      (λ p over. bases_there content p n.bases.items bases (h n.bases.items (refl, no_views n.views.items (λ v among. known (View v) among))) (base_read (IsNeeded n) s p over reads.0)),
-      all_found bases (Ok n) known h ss reads.1,
-    )
-    all_found bases (Err f) known h [] reads = tt
-    all_found bases (Err f) known h (s ∷ ss) reads = ((λ p over. base_there content p bases (h (p ∷ []) tt)), all_found bases (Err f) known h ss tt)
+    all_found bases r known h [] reads = tt
+    all_found bases (Ok n) known h (s ∷ ss) reads = (one_found bases (Ok n) known h s reads.0, all_found bases (Ok n) known h ss reads.1)
+    all_found bases (Err f) known h (s ∷ ss) reads = (one_found bases (Err f) known h s tt, all_found bases (Err f) known h ss tt)
 
 -- ---- the rows
 
@@ -171,11 +194,21 @@ module _ (content : Content) (tables there : TablePlace → Outcome (List Row)) 
   abbrev IsSame : PlacedSelect → Type 0
   IsSame s = rows (by_place tables) s env ≡ rows (by_place there) s env
 
+  each_same : (from : List TablePlace) → AllByRecursion IsBase from → AllByRecursion (IsFoundAt content bases) from → each tables from ≡ each there from
+  each_same [] over found = refl
+  each_same (Base p ∷ from) over found =
+      λ i. and_then ((are p ∙ sym (reads p ∙ found.0)) i) (λ y. and_then (each_same from over.1 found.1 i) (λ ys. Ok (y ∷ ys)))
+  each_same (View p ∷ from) over found = absurd over.0
+
+  pub one_same : (s : BoundSpecification) → IsSimple s → IsFound content bases s → IsSame (select_of s)
+  one_same s simple found =
+      rows_over tables there (select_of s) env
+      (ap (each tables) (from_is s) ∙ each_same (items_in s) simple.over found ∙ ap (each there) (sym (from_is s)))
+      (plain_where s simple.plain) (plain_having s simple.plain)
+
   all_same : (ss : List BoundSpecification) → AllByRecursion IsSimple ss → AllByRecursion (IsFound content bases) ss → AllByRecursion (λ s. IsSame (select_of s)) ss
   all_same [] simple found = tt
-  all_same (s ∷ ss) simple found =
-      let p = simple.0.over.0 in
-      (rows_over_base s p simple.0.over.1 tables there env simple.0.plain (are p ∙ sym (reads p ∙ found.0 p simple.0.over.1)), all_same ss simple.1 found.1)
+  all_same (s ∷ ss) simple found = (one_same s simple.0 found.0, all_same ss simple.1 found.1)
 
   pub union_same : {E : Type 0} (r : Result Needed E) → IfOk r (AreKnown (bases_in content)) → ((places : List ℕ) → IfOk r (NeedsBases places) → each (stored_base content) places ≡ Ok (map base_seen bases))
       → (q : BoundQuery) → AllByRecursion IsSimple (specifications_of q) → IfOk r (λ n. AllByRecursion (λ s. ReadsSelect (IsNeeded n) (select_of s)) (specifications_of q))

@@ -33,14 +33,16 @@ use Rattle.sq_query.specs.Fault.{MeetsAs, HasRows, rows_in}
 use Rattle.sq_query.specs.Frame.{reading}
 use Rattle.sq_query.specs.Kinds.{HaveKinds}
 use Rattle.sq_query.specs.Lines.{env_around}
-use Rattle.sq_query.specs.Specification.{items_in, IsPlainQuery, rows_meant}
-use Rattle.sq_query.specs.Union.{HasTermKinds, IsSimple, AreBounded, AreBringable, HasUnionRows, HasTermRows, joined_rows}
+use Rattle.sq_query.specs.Product.{HasSureTests}
+use Rattle.sq_query.specs.Specification.{IsPlainQuery, rows_meant}
+use Rattle.sq_query.specs.Union.{HasTermKinds, IsSimple, AreBringable, HasUnionRows, HasTermRows, joined_rows}
 use Rattle.sq_query.specs.declared.context.Context.{Context}
 use Rattle.sq_query.specs.declared.fault.Fault.{Fault}
 use Rattle.sq_query.specs.declared.fault.Fault.TheVariants as fault
-use Rattle.sq_query.proofs.Bounded.{common_are_bounded, both_bringable}
+use Rattle.sq_query.proofs.Bounded.{all_bounded, both_bringable}
 use Rattle.sq_query.proofs.JoinedTerms.{all_left, all_right, all_within, opened, kept_are, sides, kinds_so_far, AreSoFar, query_of_term}
 use Rattle.sq_query.proofs.Kept.{ok_same}
+use Rattle.sq_query.proofs.SureQueries.{has_sure_tests}
 use Rattle.sq_query.proofs.Terms.{HasParts, every_term}
 
 abbrev with_union : PlacedQuery → BoundUnion → PlacedQuery
@@ -49,18 +51,18 @@ with_union left u = union_of u left
 abbrev with_kinds : Kinds → BoundUnion → Kinds
 with_kinds left u = union_kinds u left
 
--- ---- columns are known beforehand, and bounded
+-- ---- columns are known beforehand
 
 module _ (columns : TableKinds) (parameters : List Kind) where
   abbrev IsKnown : BoundSpecification → Type 0
-  IsKnown s = (select_kinds (kinds_by_place columns parameters) [] (select_of s) ≡ Ok (kinds_of_select s)) × AreBounded (kinds_of_select s)
+  IsKnown s = select_kinds (kinds_by_place columns parameters) [] (select_of s) ≡ Ok (kinds_of_select s)
 
-  all_known : (ss : List BoundSpecification) → AllByRecursion (IsSelect columns parameters []) ss → AllByRecursion IsSimple ss → AllByRecursion IsKnown ss
-  all_known [] h b = tt
-  all_known (s ∷ ss) h b = ((h.0.kinds_are, b.0.bounded), all_known ss h.1 b.1)
+  all_known : (ss : List BoundSpecification) → AllByRecursion (IsSelect columns parameters []) ss → AllByRecursion IsKnown ss
+  all_known [] h = tt
+  all_known (s ∷ ss) h = (h.0.kinds_are, all_known ss h.1)
 
   abbrev AreKinds : PlacedQuery → List Kind → Type 0
-  AreKinds q ks = (query_kinds (kinds_by_place columns parameters) q ≡ Ok ks) × AreBounded ks
+  AreKinds q ks = query_kinds (kinds_by_place columns parameters) q ≡ Ok ks
 
   abbrev IsTermKnown : BoundTerm → Type 0
   IsTermKnown t = AllByRecursion IsKnown (term_specifications t) → (ks : List Kind) → term_kinds t ≡ Ok ks → AreKinds (term_of t) ks
@@ -69,7 +71,7 @@ module _ (columns : TableKinds) (parameters : List Kind) where
   one_known s all ks is =
       let known = subst (AllByRecursion IsKnown) (term_specifications-Specification s) all in
       subst (AreKinds (term_of (Specification s))) (ok_same (kinds_of_select s) ks (sym (term_kinds-Specification s) ∙ is))
-      (ap (query_kinds (kinds_by_place columns parameters)) (term_of-Specification s) ∙ known.0.0, known.0.1)
+      (ap (query_kinds (kinds_by_place columns parameters)) (term_of-Specification s) ∙ known.0)
 
   union_known : (u : BoundUnion) (left : Kinds) (q : PlacedQuery) → IsTermKnown u.term → ((ls : List Kind) → left ≡ Ok ls → AreKinds q ls) → AllByRecursion IsKnown (union_specifications u)
       → (ks : List Kind) → union_kinds u left ≡ Ok ks → AreKinds (union_of u q) ks
@@ -77,7 +79,7 @@ module _ (columns : TableKinds) (parameters : List Kind) where
       let s = sides u left ks is in
       let l = so_far s.ls s.lefts in
       let r = term (subst (AllByRecursion IsKnown) (union_specifications-out u) all) s.rs s.rights in
-      (ap (query_kinds (kinds_by_place columns parameters)) (union_of-out u q) ∙ (λ i. and_then (l.0 i) (λ ls. and_then (r.0 i) (common_kinds ls))) ∙ s.common, common_are_bounded s.ls s.rs ks l.1 r.1 s.common)
+      ap (query_kinds (kinds_by_place columns parameters)) (union_of-out u q) ∙ (λ i. and_then (l i) (λ ls. and_then (r i) (common_kinds ls))) ∙ s.common
 
   unions_known : (us : List BoundUnion) (left : Kinds) (q : PlacedQuery) → AllByRecursion (λ u. IsTermKnown u.term) us → ((ls : List Kind) → left ≡ Ok ls → AreKinds q ls)
       → AllByRecursion IsKnown (flat_map union_specifications us) → (ks : List Kind) → fold with_kinds left us ≡ Ok ks → AreKinds (fold with_union q us) ks
@@ -96,7 +98,7 @@ module _ (columns : TableKinds) (parameters : List Kind) where
       (all_right IsKnown (term_specifications o.first) (flat_map union_specifications o.rest) known) found.0 found.1 in
       let kept = kept_are o.columns found.0 ks found.2 in
       subst (AreKinds (term_of (Bracketed q))) kept.0
-      (ap (query_kinds (kinds_by_place columns parameters)) (term_of-Bracketed q ∙ query_of-out q) ∙ are.0, are.1)
+      (ap (query_kinds (kinds_by_place columns parameters)) (term_of-Bracketed q ∙ query_of-out q) ∙ are)
 
   term_known : (t : BoundTerm) → IsTermKnown t
   term_known t = every_term IsTermKnown one_known more_known t
@@ -155,14 +157,15 @@ union_handed_on (Err g) e q context is h = subst (λ (x : Fault). HasUnionRows (
 -- ---- terms
 
 module _ (result : Result (Vec (List Value) Global) Fault) (context : Context) where
-  pub rows_of_specification : (term : BoundTerm) (s : BoundSpecification) → term ≡ Specification s → (length (items_in s) ≡ 1 → IsPlainQuery s → HasRows result (rows_meant s None context)) → HasTermRows result term context
+  pub rows_of_specification : (term : BoundTerm) (s : BoundSpecification) → term ≡ Specification s → (IsPlainQuery s → HasSureTests s None context → HasRows result (rows_meant s None context)) → HasTermRows result term context
   rows_of_specification term s is h = subst (λ (t : BoundTerm). HasTermRows result t context) (sym is) by
     where
       by : HasTermRows result (Specification s) context
       by columns parameters have are all kinds known simple =
           let one = subst (AllByRecursion IsSimple) (term_specifications-Specification s) simple in
+          let well = subst (AllByRecursion (IsSelect columns parameters [])) (term_specifications-Specification s) all in
           subst (λ (q : PlacedQuery). HasRows result (query_rows (reading context) (kinds_by_place columns parameters) q (env_around None context))) (sym (term_of-Specification s))
-          (h (ap length one.0.over.1) one.0.plain)
+          (h one.0.plain (has_sure_tests s context columns parameters have are well.0 one.0.plain.0))
 
   pub rows_of_bracketed : (term : BoundTerm) (q : BoundQuery) → term ≡ Bracketed q → HasUnionRows result q context → HasTermRows result term context
   rows_of_bracketed term q is h = subst (λ (t : BoundTerm). HasTermRows result t context) (sym is) by
@@ -207,11 +210,10 @@ module _ (q : BoundQuery) where
       let found = opened (fold with_kinds (term_kinds o.first) o.rest) (kept_kinds o.columns) (kinds_of_query q) (sym (joined_kinds-out q) ∙ well.kinds_are) in
       first_known o.rest (term_kinds o.first) i found.0 found.1
 
-  are_kinds : (columns : TableKinds) (parameters : List Kind) → IsQuery columns parameters q → AllByRecursion IsSimple (specifications_of q) → (i : ℕ) (ks : List Kind) → kinds_so_far q i ≡ Ok ks
-      → AreKinds columns parameters (query_so_far q i) ks
-  are_kinds columns parameters well simple i ks is =
+  are_kinds : (columns : TableKinds) (parameters : List Kind) → IsQuery columns parameters q → (i : ℕ) (ks : List Kind) → kinds_so_far q i ≡ Ok ks → AreKinds columns parameters (query_so_far q i) ks
+  are_kinds columns parameters well i ks is =
       let o = out-BoundQuery q in
-      let known = all_known columns parameters (specifications_of q) well.specifications simple in
+      let known = all_known columns parameters (specifications_of q) well.specifications in
       unions_known columns parameters (take i o.rest) (term_kinds o.first) (term_of o.first) (terms (take i o.rest))
       (term_known columns parameters o.first (in_first (IsKnown columns parameters) known)) (of_first (IsKnown columns parameters) o.rest i (in_rest (IsKnown columns parameters) known)) ks is
     where
@@ -278,7 +280,7 @@ module _ (q : BoundQuery) where
           ∙ both_meant m k env u.all (query_so_far q i) (term_of u.term) left right.items (kinds_of_results u.columns)
           (so_far columns parameters have are well simple)
           (term columns parameters have are (in_term (IsSelect columns parameters []) well.specifications) s.rs s.rights (in_term IsSimple simple))
-          (ap (query_kinds k) (sym next_query) ∙ (are_kinds columns parameters well simple (i + 1) known.0 known.1).0 ∙ ap Ok s.noted)
+          (ap (query_kinds k) (sym next_query) ∙ are_kinds columns parameters well (i + 1) known.0 known.1 ∙ ap Ok s.noted)
 
       fails_at : (columns : TableKinds) (parameters : List Kind) (s : Status) → query_rows (reading context) (kinds_by_place columns parameters) (query_so_far q (i + 1)) (env_around None context) ≡ Err s
           → query_rows (reading context) (kinds_by_place columns parameters) (query_of q) (env_around None context) ≡ Err s
@@ -307,7 +309,7 @@ module _ (q : BoundQuery) where
       join_failed e right kinds right_kinds term join columns parameters have are well simple =
           let known = known_so_far columns parameters well (i + 1) in
           let s = sides u (kinds_so_far q i) known.0 (sym next_kinds ∙ known.1) in
-          let bounded = (are_kinds columns parameters well simple (i + 1) known.0 known.1).1 in
+          let bounded = all_bounded known.0 s.bounded in
           let selects = in_term (IsSelect columns parameters []) well.specifications in
           let bringable = both_bringable s.ls s.rs known.0 left right.items (kinds columns parameters have are well s.ls s.lefts) (right_kinds columns parameters have are selects s.rs s.rights) s.common bounded in
           passed_on rows_in rows_in e (joined_rows u.all (kinds_of_results u.columns) (left ++ right.items)) (query_rows (reading context) (kinds_by_place columns parameters) (query_of q) (env_around None context))

@@ -12,7 +12,10 @@ pub mod Item
 pub mod Kinds
 pub mod Lines
 pub mod Members
+pub mod Memo
+pub mod Named
 pub mod Needed
+pub mod Nested
 pub mod Nests
 pub mod Order
 pub mod Predicate
@@ -20,6 +23,7 @@ pub mod Product
 pub mod Row
 pub mod Select
 pub mod Specification
+pub mod Subquery
 pub mod Table
 pub mod Target
 pub mod Union

@@ -12,13 +12,15 @@ use Rattle.sq_meaning.specs.Status.{Outcome, ◌>>=◌, each}
 use Rattle.sq_meaning.specs.Environment.{Row, outermost}
 use Rattle.sq_meaning.specs.Kind.{Kinds}
 use Rattle.sq_meaning.specs.Placed.{Placed, by_place}
+use Rattle.sq_meaning.specs.Query.{rows}
 use Rattle.sq_meaning.specs.QueryExpression.{row_brought_to, query_rows}
 use Rattle.sq_meaning.specs.Rows.{firsts, same_row}
 use Rattle.sq_meaning.specs.WellFormed.{IsRowOf, AreRowsOf, kinds_by_place}
+use Rattle.sq_bound.specs.Condition.{select_of}
 use Rattle.sq_bound.specs.Fits.{AreInDomains}
 use Rattle.sq_bound.specs.Joined.{specifications_of, term_specifications, term_kinds}
 use Rattle.sq_bound.specs.Query.{query_of, term_of}
-use Rattle.sq_bound.specs.WellFormed.{TableKinds, BasesAreThere, IsSelect, IsQuery, kinds_of_select}
+use Rattle.sq_bound.specs.WellFormed.{TableKinds, BasesAreThere, IsSelect, IsQuery}
 use Rattle.sq_bound.specs.declared.condition.BoundSpecification.{BoundSpecification}
 use Rattle.sq_bound.specs.declared.condition.TablePlace.{TablePlace}
 use Rattle.sq_bound.specs.declared.names.BaseTable.{BaseTable}
@@ -29,7 +31,7 @@ use Rattle.sq_query.specs.Fault.{HasRows}
 use Rattle.sq_query.specs.Frame.{inputs_of, reading}
 use Rattle.sq_query.specs.Kinds.{HaveKinds}
 use Rattle.sq_query.specs.Lines.{env_around}
-use Rattle.sq_query.specs.Specification.{IsPlainQuery, IsOverBase}
+use Rattle.sq_query.specs.Specification.{HasNoSubquery, IsPlainQuery, IsOverBase, IsOverBases}
 use Rattle.sq_query.specs.Table.{AreOfStore}
 use Rattle.sq_query.specs.declared.context.Context.{Context}
 use Rattle.sq_query.specs.declared.fault.Fault.{Fault}
@@ -63,20 +65,14 @@ HasTermKinds result term context =
 
 -- ---- several query specifications
 
--- numbers of a scale of at most 18, or texts of a fixed length of at most 240 (own rules), or varying texts
-abbrev pub IsBounded : Kind → Type 0
-IsBounded (kind.Num s) = s ≤ 18
-IsBounded (kind.Chars n) = n ≤ 240
-IsBounded (kind.Vary n) = ⊤
-
-abbrev pub AreBounded : List Kind → Type 0
-AreBounded = AllByRecursion IsBounded
-
--- over one base table, without subqueries, and with columns of bounded kinds
+-- over base tables, and without subqueries
 pub record IsSimple (s : BoundSpecification) : Type 0 where
-  pub over : IsOverBase s
+  pub over : IsOverBases s
   pub plain : IsPlainQuery s
-  pub bounded : AreBounded (kinds_of_select s)
+
+-- the same of its tree, whatever is noted of its groups: it reads base tables alone
+abbrev pub ReadsBases : BoundSpecification → Type 0
+ReadsBases s = IsOverBases s × HasNoSubquery s
 
 -- the rows of a well-formed query expression whose query specifications are simple, outside every query, where tables and
 -- parameters have values of their kinds
@@ -94,14 +90,30 @@ HasTermRows result term context =
     → AllByRecursion IsSimple (term_specifications term)
     → HasRows result (query_rows (reading context) (kinds_by_place columns parameters) (term_of term) (env_around None context))
 
--- Of a well-formed query expression whose query specifications are simple: something of its rows, where base tables have the
--- rows of the store, in the domains of their columns. Views are not read, so they may have any.
+-- Of a query expression whose query specifications are simple: something of its rows, where base tables have the rows of the
+-- store. Views are not read, so they may have any.
+abbrev pub OfSimpleRows : (Outcome (List Row) → Type 0) → Kinds (Placed TablePlace) → BoundQuery → Content → List Value → Name → Type 0
+OfSimpleRows P kinds query content values user =
+    AllByRecursion IsSimple (specifications_of query) → (tables : TablePlace → Outcome (List Row)) → AreOfStore content tables
+    → P (query_rows (by_place tables) kinds (query_of query) (outermost (inputs_of values) user))
+
+-- where it is well formed, and the store's values are in the domains of their columns
 abbrev pub OfUnionRows : (Outcome (List Row) → Type 0) → List BaseTable → TableKinds → BoundQuery → Content → List Value → Name → Type 0
 OfUnionRows P bases columns query content values user =
     (parameters : List Kind) → IsRowOf parameters values → BasesAreThere bases columns → AreInDomains bases content
-    → IsQuery columns parameters query → AllByRecursion IsSimple (specifications_of query)
-    → (tables : TablePlace → Outcome (List Row)) → AreOfStore content tables
-    → P (query_rows (by_place tables) (kinds_by_place columns parameters) (query_of query) (outermost (inputs_of values) user))
+    → IsQuery columns parameters query → OfSimpleRows P (kinds_by_place columns parameters) query content values user
+
+-- the rows of a query specification that is simple
+abbrev pub HasSimpleRows : Result (Vec (List Value) Global) Fault → BoundSpecification → Content → List Value → Name → Type 0
+HasSimpleRows result query content values user =
+    IsSimple query → (tables : TablePlace → Outcome (List Row)) → AreOfStore content tables
+    → HasRows result (rows (by_place tables) (select_of query) (outermost (inputs_of values) user))
+
+-- where it is well formed, likewise
+abbrev pub HasJoinedRows : Result (Vec (List Value) Global) Fault → List BaseTable → TableKinds → BoundSpecification → Content → List Value → Name → Type 0
+HasJoinedRows result bases columns query content values user =
+    (parameters : List Kind) → IsRowOf parameters values → BasesAreThere bases columns → AreInDomains bases content
+    → IsSelect columns parameters [] query → HasSimpleRows result query content values user
 
 -- ---- both sides of UNION
 

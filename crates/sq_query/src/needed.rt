@@ -142,7 +142,7 @@ impl Needed {
         ensures plain { IsPlainQuery query.now → OnOk result (places_in self.new ≡ fold with_table (places_in self.old) (items_in query.now)) }
         ensures adds { OnOk result (Adds self.old (specification_tables query.now) self.new) }
     {
-        for table in query.from.as_slice() {
+        for table in query.from.tables.as_slice() {
             self.add(*table)?;
         }
         self.add_of_optional(&query.condition)?;

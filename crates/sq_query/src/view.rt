@@ -5,16 +5,17 @@ ghost use Rattle.sq_value.specs.declared.domain.Kind.{Kind};
 ghost use Rattle.sq_meaning.specs.Status.{each};
 ghost use Rattle.sq_meaning.specs.WellFormed.{AreRowsOf};
 ghost use Rattle.sq_bound.specs.Fits.{AreInDomains};
+ghost use Rattle.sq_bound.specs.WellFormed.{TableKinds};
 ghost use Rattle.sq_query.specs.Fault.{IsAnswered, MeetsAs};
 ghost use Rattle.sq_query.specs.Needed.{NeedsBases};
-ghost use Rattle.sq_query.specs.Table.{stored_base, bases_of, IsViewOf, AreBasesOf, AreViewsOf, AreTablesOf};
+ghost use Rattle.sq_query.specs.Table.{stored_base, bases_of, IsViewAt, IsViewOf, AreBasesOf, AreViewsOf, AreTablesOf};
 
 use crate::condition::outermost_rows;
 use crate::context::Context;
 use crate::fault::Fault;
 use crate::needed::{Needed, is_among, view_at};
 use crate::table::{BaseRows, ViewRows, base_tables};
-use sq_bound::Names;
+use sq_bound::{Names, View};
 use sq_lex::Name;
 use sq_store::{Meter, Store};
 use sq_value::Row;
@@ -64,7 +65,8 @@ fn tables_at<'a, N: Names, S: Store>(
 }
 
 /// The rows of the needed views. A view names only earlier ones, so they are evaluated by rising places. What a view
-/// shows depends on the tables and the user alone, and on no parameter and no query around.
+/// shows depends on the tables and the user alone, and on no parameter and no query around. A place without a view is
+/// no table that is read.
 fn view_tables<N: Names>(
     alloc: Global,
     names: &N,
@@ -78,27 +80,25 @@ fn view_tables<N: Names>(
     let mut views = Vec::new(alloc);
     for place in 0..needed.view_end() {
         if is_among(place, needed.views.as_slice()) {
-            let view = view_rows(alloc, names, place, user, &*bases, views.as_slice())?;
-            views.push(view)?;
+            if let Some(view) = view_at(names, place) {
+                views.push(view_rows(alloc, view, place, user, &*bases, views.as_slice())?)?;
+            }
         }
     }
     Ok(views)
 }
 
 /// The rows of a view, or the status that its query ends with. Only what a statement then reads delivers the status.
-fn view_rows<'a, N: Names>(
+fn view_rows<'a>(
     alloc: Global,
-    names: &'a N,
+    view: &'a View,
     place: usize,
     user: Name,
     bases: &'a [BaseRows<'a>],
     views: &'a [ViewRows],
 ) -> Result<ViewRows, Fault>
-    ensures { AreBasesOf (N.column_kinds names.now) bases.now → AreViewsOf (N.column_kinds names.now) views.now → IfOk result (IsViewOf (N.column_kinds names.now)) }
+    ensures { (columns : TableKinds) → IsViewAt columns place view.now → AreBasesOf columns bases.now → AreViewsOf columns views.now → IfOk result (IsViewOf columns) }
 {
-    let Some(view) = view_at(names, place) else {
-        return Err(Fault::NOT_WELL_FORMED);
-    };
     let context = Context {
         alloc,
         user,

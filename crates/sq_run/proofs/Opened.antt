@@ -9,7 +9,7 @@ use Rattle.sq_model.specs.Report.{Bytes}
 use Rattle.sq_catalog.specs.Catalog.{Catalog, declared_tables}
 use Rattle.sq_catalog.specs.declared.catalog.FullName.{FullName}
 use Rattle.sq_module.specs.Program.{declared_procedures}
-use Rattle.sq_session.specs.Session.{Session, names_of}
+use Rattle.sq_session.specs.Session.{AreOfModules, Session, names_of}
 use Rattle.sq_run.specs.Opened.{Defined, Holds, Opened}
 use Rattle.sq_run.specs.Run.{AllSpell, IsStart}
 use Rattle.sq_run.specs.declared.texts.TextFault.{TextFault}
@@ -20,9 +20,10 @@ defined_if schemas trees (Ok c) spelled tables bases = record { trees = trees; s
 defined_if schemas trees (Err fault) spelled tables bases = tables
 
 pub holds_if : (tables : List FullName) (modules : List Bytes) (trees : List ModuleText) (answer : Result Session TextFault) → AllSpell module_tokens modules trees
-    → IfOk answer (λ s. s.tables ≡ tables) → IfOk answer (λ s. names_of s.procedures ≡ declared_procedures trees) → IfOk answer IsStart → IfOk answer (Holds tables modules)
-holds_if tables modules trees (Ok s) spelled are procedures start = record { trees = trees; spelled = spelled; tables_are = are; procedures = procedures; start = start }
-holds_if tables modules trees (Err fault) spelled are procedures start = are
+    → IfOk answer (λ s. s.tables ≡ tables) → IfOk answer (λ s. names_of s.procedures ≡ declared_procedures trees) → IfOk answer (λ s. AreOfModules trees s.procedures) → IfOk answer IsStart
+    → IfOk answer (Holds tables modules)
+holds_if tables modules trees (Ok s) spelled are procedures written start = record { trees = trees; spelled = spelled; tables_are = are; procedures = procedures; written = written; start = start }
+holds_if tables modules trees (Err fault) spelled are procedures written start = are
 
 pub opened_by : (schemas modules : List Bytes) (c : Catalog) (s : Session) → Defined schemas c → Holds c.tables modules s → Opened schemas modules s
 opened_by schemas modules c s defined holds = record {
@@ -30,5 +31,5 @@ opened_by schemas modules c s defined holds = record {
   module_trees = holds.trees;
   schemas_spell = defined.spelled;
   modules_spell = holds.spelled;
-  is_opened = record { tables = holds.tables_are ∙ defined.tables; procedures = holds.procedures; start = holds.start };
+  is_opened = record { tables = holds.tables_are ∙ defined.tables; procedures = holds.procedures; written = holds.written; start = holds.start };
 }

@@ -8,7 +8,7 @@ use Rattle.sq_model.specs.Report.{Bytes}
 use Rattle.sq_catalog.specs.Catalog.{Catalog, declared_tables}
 use Rattle.sq_catalog.specs.declared.catalog.FullName.{FullName}
 use Rattle.sq_module.specs.Program.{declared_procedures}
-use Rattle.sq_session.specs.Session.{Session, names_of}
+use Rattle.sq_session.specs.Session.{AreOfModules, Session, names_of}
 use Rattle.sq_run.specs.Run.{AllSpell, IsOpened, IsStart}
 
 -- a catalog of trees that the schemas spell
@@ -24,6 +24,7 @@ pub record Holds (tables : List FullName) (modules : List Bytes) (s : Session) :
   pub spelled : AllSpell module_tokens modules trees
   pub tables_are : s.tables ≡ tables
   pub procedures : names_of s.procedures ≡ declared_procedures trees
+  pub written : AreOfModules trees s.procedures
   pub start : IsStart s
 
 -- a session of trees that the texts spell

@@ -17,7 +17,7 @@ use Rattle.sq_model.specs.Report.{Bytes}
 use Rattle.sq_model.specs.Run.{item_of_script}
 use Rattle.sq_catalog.specs.Catalog.{declared_tables}
 use Rattle.sq_module.specs.Program.{declared_procedures}
-use Rattle.sq_session.specs.Session.{Session, names_of}
+use Rattle.sq_session.specs.Session.{AreOfModules, Session, names_of}
 use Rattle.sq_session.specs.State.{AreClosed}
 use Rattle.sq_run.specs.Action.{item_of}
 use Rattle.sq_run.specs.Items.{IsTaken}
@@ -49,10 +49,12 @@ pub record IsStart (s : Session) : Type 0 where
   pub committed : s.state.committed ≡ no_rows (length s.tables)
   pub closed : AreClosed s.state.cursors
 
--- a session of these trees, as it is before the first call: its tables and procedures are those that they declare, in their order
+-- a session of these trees, as it is before the first call: its tables and procedures are those that they declare, in their order,
+-- and the procedures are bound as they are written
 pub record IsOpened (schemas : List SchemaText) (modules : List ModuleText) (s : Session) : Type 0 where
   pub tables : s.tables ≡ declared_tables schemas
   pub procedures : names_of s.procedures ≡ declared_procedures modules
+  pub written : AreOfModules modules s.procedures
   pub start : IsStart s
 
 -- Trees that the texts spell, a session of them as it is before the first call, which takes each item of the script, and what it is asked for: these

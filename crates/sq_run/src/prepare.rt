@@ -8,7 +8,7 @@ ghost use Rattle.sq_module.specs.Refusal.{IsOfSomeModule};
 ghost use Rattle.sq_run.specs.Fault.{IsOfItem, IsOpeningFault, IsScriptFault, IsScriptRefusal, IsUntaken, SomeRefused, run_fault};
 ghost use Rattle.sq_catalog.specs.Catalog.{declared_tables};
 ghost use Rattle.sq_module.specs.Program.{declared_procedures};
-ghost use Rattle.sq_session.specs.Session.{names_of};
+ghost use Rattle.sq_session.specs.Session.{AreOfModules, names_of};
 ghost use Rattle.sq_store.specs.Content.{no_rows};
 ghost use Rattle.sq_run.specs.Opened.{Defined, Holds, Opened};
 ghost use Rattle.sq_run.specs.Items.{IsTaken};
@@ -165,6 +165,7 @@ fn session_from<S: Store>(
     requires spelled { AllSpell module_tokens (texts modules.now) trees.now }
     ensures tables { IfOk result (λ s. s.tables ≡ catalog.tables) }
     ensures procedures { IfOk result (λ s. names_of s.procedures ≡ declared_procedures trees.now) }
+    ensures written { IfOk result (λ s. AreOfModules trees.now s.procedures) }
     ensures start { IfOk result IsStart }
     ensures refused { IfErr result (SomeRefused module_tokens module_depth (texts modules.now)) }
 {
@@ -187,6 +188,7 @@ fn session_over<S: Store>(
     requires bases { length catalog.bases ≡ length catalog.tables }
     ensures tables { IfOk result (λ s. s.tables ≡ catalog.tables) }
     ensures procedures { IfOk result (λ s. names_of s.procedures ≡ declared_procedures modules.now) }
+    ensures written { IfOk result (λ s. AreOfModules modules.now s.procedures) }
     ensures start { IfOk result IsStart }
     ensures refused { IfErr result (IsOfSomeModule (length modules.now)) }
 {

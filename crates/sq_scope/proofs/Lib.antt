@@ -1,8 +1,11 @@
 pub mod Bindings
 pub mod InOrder
+pub mod ItemsRead
 pub mod Levels
 pub mod Literals
 pub mod Meanings
 pub mod Operations
+pub mod Quiet
+pub mod Reaches
 pub mod Scopes
 pub mod Typings

@@ -1,5 +1,5 @@
 -- What bound expressions stand for: trees by place, and their kinds (ISO/IEC 9075:1992, 6.2 to 6.5, 6.11 to 6.13).
-use Rattle.std.specs.Prelude.{◌≡◌, ℕ, false, List, [], ◌++◌, map, slice_get, Option, None, Some, Ok}
+use Rattle.std.specs.Prelude.{◌≡◌, ℕ, Bool, false, List, [], ◌++◌, map, slice_get, Option, None, Some, Ok}
 use Rattle.std.specs.List.{position}
 use Rattle.std.specs.Option.{option_map, option_and_then}
 use Rattle.sq_lex.specs.declared.name.Name.{Name}
@@ -21,6 +21,7 @@ use Rattle.sq_meaning.specs.Spelled.{Named}
 use Rattle.sq_meaning.specs.Status.{Outcome, ◌>>=◌, well_formed, not_well_formed}
 use Rattle.sq_meaning.specs.Syntax.{Expr, literal, parameter, user, column, count_rows, set_function, signed, added, scaled, bracketed}
 use Rattle.sq_bound.specs.Expression.{PlacedExpr, expr_of, operated}
+use Rattle.sq_bound.specs.Noted.{IsQuietExpr, IsReadExpr}
 use Rattle.sq_bound.specs.SetFunction.{call_of}
 use Rattle.sq_bound.specs.declared.expression.BoundExpr.{BoundExpr}
 use Rattle.sq_bound.specs.declared.expression.Operator.{Operator}
@@ -125,6 +126,14 @@ AddsInOrder of before after =
 -- those of an expression
 abbrev pub AddsExpr : List SetFunctionCall → List SetFunctionCall → Typed → Type 0
 AddsExpr before after typed = AddsInOrder (expr_functions typed.expr) before after
+
+-- the value is no fault, unless it is found that it may be one
+abbrev pub IsQuietUnless : (can_fail : Bool) → Typed → Type 0
+IsQuietUnless can_fail typed = can_fail ≡ false → IsQuietExpr typed.expr
+
+-- the expression reads no more than so many items of FROM
+abbrev pub IsReadTyped : (items : ℕ) → Typed → Type 0
+IsReadTyped items typed = IsReadExpr items typed.expr
 
 -- a tree, where the query has these set functions, and maybe more behind them
 abbrev pub IsTreeAmong : List SetFunctionCall → PlacedExpr → BoundExpr → Type 0

@@ -1,6 +1,6 @@
 //! Value expressions: columns and parameters become places, and kinds are checked (ISO/IEC 9075:1992, 6.2 to 6.5, 6.11 to 6.13).
 
-ghost use Rattle.std.specs.Prelude.{◌≡◌, ◌<◌, ◌&&◌, ◌∷◌, ◌++◌, [], false, nat_eq, nat_lt, not, slice_get, true, IfOk, IfSome, Ok, Some, length};
+ghost use Rattle.std.specs.Prelude.{◌≡◌, ◌<◌, ◌≤◌, ◌+◌, ◌^◌, ◌&&◌, ◌∷◌, ◌++◌, [], false, nat_eq, nat_lt, not, slice_get, true, IfOk, IfSome, Ok, Some, length};
 ghost use Rattle.sq_bound.specs.Names.{option_all};
 ghost use Rattle.std.specs.List.{position};
 ghost use Rattle.sq_meaning.specs.Environment.{same_name};
@@ -9,13 +9,15 @@ ghost use Rattle.sq_meaning.specs.Placed.{PlacedParameter};
 ghost use Rattle.sq_meaning.specs.Spelled.{expr_of as spelled_expr, factor_of, is_distinct_word, primary_of, term_of};
 ghost use Rattle.sq_meaning.specs.Syntax.{count_rows as count_rows_tree, literal, parameter as parameter_tree, set_function as set_function_tree, signed, user as user_tree};
 ghost use Rattle.sq_bound.specs.Expression.{expr_of};
+ghost use Rattle.sq_bound.specs.Noted.{IsQuietExpr};
 ghost use Rattle.sq_bound.specs.SetFunction.{call_of};
 ghost use Rattle.sq_bound.specs.WellFormed.{kinds_of_parameters};
 ghost use Rattle.sq_tree.specs.declared.expr.Sign.TheVariants.{Minus};
 ghost use Rattle.sq_value.specs.Spelling.{read};
 ghost use Rattle.sq_value.specs.declared.value.Value.TheVariants as value;
 ghost use Rattle.sq_value.specs.declared.domain.Kind.TheVariants as kind;
-ghost use Rattle.sq_scope.specs.Expression.{Adds, AddsExpr, Grows, IsBound, IsOperation, IsSigned, IsTree, IsTreeAmong, IsTypedOperation, indicator_named, parameter_kind, parameter_named, placed_parameter, product_operator, sum_operator, with_sign};
+ghost use Rattle.sq_scope.specs.Expression.{Adds, AddsExpr, Grows, IsBound, IsOperation, IsQuietUnless, IsReadTyped, IsSigned, IsTree, IsTreeAmong, IsTypedOperation, indicator_named, parameter_kind, parameter_named, placed_parameter, product_operator, sum_operator, with_sign};
+ghost use Rattle.sq_scope.specs.Reach.{AreOwnCalls, MayReach, ReadsWithin};
 ghost use Rattle.sq_scope.specs.Scope.{scopes_in};
 ghost use Rattle.sq_scope.specs.WellFormed.{Finds, IsColumn, IsTyped};
 ghost use Rattle.sq_scope.specs.declared.expression.Typed.{Typed as TypedExpr};
@@ -97,6 +99,10 @@ pub fn bind_expr(
     ensures typed { IfOk result (λ found. IsTyped environment.now functions.old.allowed found.findings.has_ungrouped functions.new.calls found.part) }
     ensures grows { Grows functions.old functions.new }
     ensures in_order { IfOk result (λ found. AddsExpr functions.old.calls functions.new.calls found.part) }
+    ensures quiet { IfOk result (λ found. IsQuietUnless found.findings.can_fail found.part) }
+    ensures reads { IfOk result (λ found. IsReadTyped found.findings.items found.part) }
+    ensures reach { IfOk result (λ found. MayReach found.findings.reach found.part.expr) }
+    ensures own { AreOwnCalls functions.old.calls → AreOwnCalls functions.new.calls }
 {
     let mut findings = Findings::NONE;
     let part = expr_value(expr, environment, functions, &mut findings)?;
@@ -115,7 +121,13 @@ fn expr_value(
     ensures typed { IfOk result (IsTyped environment.now functions.old.allowed findings.new.has_ungrouped functions.new.calls) }
     ensures grows { Grows functions.old functions.new }
     ensures in_order { IfOk result (AddsExpr functions.old.calls functions.new.calls) }
+    ensures quiet { IfOk result (IsQuietUnless findings.new.can_fail) }
     ensures finds { Finds findings.old findings.new }
+    ensures reads { IfOk result (IsReadTyped findings.new.items) }
+    ensures further { findings.old.items ≤ findings.new.items }
+    ensures reach { IfOk result (λ typed. MayReach findings.new.reach typed.expr) }
+    ensures outward { findings.old.reach ≤ findings.new.reach }
+    ensures own { AreOwnCalls functions.old.calls → AreOwnCalls functions.new.calls }
 {
     let mut bound = term_value(&expr.first, environment, functions, findings);
     for added in expr.rest.as_slice() {
@@ -137,7 +149,13 @@ fn term_value(
     ensures typed { IfOk result (IsTyped environment.now functions.old.allowed findings.new.has_ungrouped functions.new.calls) }
     ensures grows { Grows functions.old functions.new }
     ensures in_order { IfOk result (AddsExpr functions.old.calls functions.new.calls) }
+    ensures quiet { IfOk result (IsQuietUnless findings.new.can_fail) }
     ensures finds { Finds findings.old findings.new }
+    ensures reads { IfOk result (IsReadTyped findings.new.items) }
+    ensures further { findings.old.items ≤ findings.new.items }
+    ensures reach { IfOk result (λ typed. MayReach findings.new.reach typed.expr) }
+    ensures outward { findings.old.reach ≤ findings.new.reach }
+    ensures own { AreOwnCalls functions.old.calls → AreOwnCalls functions.new.calls }
 {
     let mut bound = factor_value(&term.first, environment, functions, findings);
     for scaled in term.rest.as_slice() {
@@ -164,7 +182,13 @@ fn factor_value(
     ensures typed { IfOk result (IsTyped environment.now functions.old.allowed findings.new.has_ungrouped functions.new.calls) }
     ensures grows { Grows functions.old functions.new }
     ensures in_order { IfOk result (AddsExpr functions.old.calls functions.new.calls) }
+    ensures quiet { IfOk result (IsQuietUnless findings.new.can_fail) }
     ensures finds { Finds findings.old findings.new }
+    ensures reads { IfOk result (IsReadTyped findings.new.items) }
+    ensures further { findings.old.items ≤ findings.new.items }
+    ensures reach { IfOk result (λ typed. MayReach findings.new.reach typed.expr) }
+    ensures outward { findings.old.reach ≤ findings.new.reach }
+    ensures own { AreOwnCalls functions.old.calls → AreOwnCalls functions.new.calls }
 {
     let bound = primary_value(&factor.primary, environment, functions, findings);
     match factor.sign {
@@ -184,7 +208,13 @@ fn primary_value(
     ensures typed { IfOk result (IsTyped environment.now functions.old.allowed findings.new.has_ungrouped functions.new.calls) }
     ensures grows { Grows functions.old functions.new }
     ensures in_order { IfOk result (AddsExpr functions.old.calls functions.new.calls) }
+    ensures quiet { IfOk result (IsQuietUnless findings.new.can_fail) }
     ensures finds { Finds findings.old findings.new }
+    ensures reads { IfOk result (IsReadTyped findings.new.items) }
+    ensures further { findings.old.items ≤ findings.new.items }
+    ensures reach { IfOk result (λ typed. MayReach findings.new.reach typed.expr) }
+    ensures outward { findings.old.reach ≤ findings.new.reach }
+    ensures own { AreOwnCalls functions.old.calls → AreOwnCalls functions.new.calls }
 {
     match primary {
         Primary::Number(number) => number_literal(*number),
@@ -249,6 +279,8 @@ fn user_value(findings: &mut Findings) -> Typed
     ensures tree { IsTree (λ functions. user_tree) result.expr }
     ensures kind { result.kind ≡ kind.Chars 18 }
     ensures finds { Finds findings.old findings.new }
+    ensures further { findings.old.items ≤ findings.new.items }
+    ensures outward { findings.old.reach ≤ findings.new.reach }
 {
     findings.has_user = true;
     Typed {
@@ -320,6 +352,10 @@ fn column_value(
 ) -> TypedResult
     ensures column { IfOk result (IsColumn environment.now findings.new.has_ungrouped reference.now) }
     ensures finds { Finds findings.old findings.new }
+    ensures reads { IfOk result (IsReadTyped findings.new.items) }
+    ensures further { findings.old.items ≤ findings.new.items }
+    ensures reach { IfOk result (λ typed. MayReach findings.new.reach typed.expr) }
+    ensures outward { findings.old.reach ≤ findings.new.reach }
 {
     let found = environment.column(reference)?;
     let place = found.place;
@@ -336,6 +372,8 @@ fn column_value(
 /// What is found in a column reference.
 pub fn column_findings(found: FoundColumn) -> Findings
     ensures ungrouped { result.has_ungrouped ≡ (nat_eq found.place.depth 0 && not found.is_grouped) }
+    ensures items { found.place.item + 1 < 2 ^ 64 → found.place.depth ≡ 0 → found.place.item < result.items }
+    ensures reach { result.reach ≡ found.place.depth }
 {
     let Place { depth, item, .. } = found.place;
     let needed = item.saturating_add(1);
@@ -453,7 +491,11 @@ fn numbered(functions: &mut SetFunctions, call: SetFunctionCall, kind: Kind) -> 
     ensures kind { IfOk result (λ typed. typed.kind ≡ kind) }
     ensures adds { Adds functions.old.calls functions.new.calls }
     ensures in_order { IfOk result (AddsExpr functions.old.calls functions.new.calls) }
+    ensures quiet { IfOk result (λ typed. IsQuietExpr typed.expr) }
+    ensures reads { IfOk result (IsReadTyped 0) }
     ensures allowed { functions.new.allowed ≡ functions.old.allowed }
+    ensures reach { IfOk result (λ typed. MayReach 0 typed.expr) }
+    ensures own { ReadsWithin 0 (call_of call) → AreOwnCalls functions.old.calls → AreOwnCalls functions.new.calls }
 {
     let number = functions.calls.len();
     functions.calls.push(call)?;
@@ -469,6 +511,10 @@ fn count_rows(functions: &mut SetFunctions) -> TypedResult
     ensures allowed { IfOk result (λ typed. functions.old.allowed ≡ true) }
     ensures grows { Grows functions.old functions.new }
     ensures in_order { IfOk result (AddsExpr functions.old.calls functions.new.calls) }
+    ensures quiet { IfOk result (λ typed. IsQuietExpr typed.expr) }
+    ensures reads { IfOk result (IsReadTyped 0) }
+    ensures reach { IfOk result (λ typed. MayReach 0 typed.expr) }
+    ensures own { AreOwnCalls functions.old.calls → AreOwnCalls functions.new.calls }
 {
     if !functions.allowed {
         return Err(BindFault::MisplacedSetFunction);
@@ -495,6 +541,10 @@ fn set_function(
     ensures allowed { IfOk result (λ typed. functions.old.allowed ≡ true) }
     ensures grows { Grows functions.old functions.new }
     ensures in_order { IfOk result (AddsExpr functions.old.calls functions.new.calls) }
+    ensures quiet { IfOk result (λ typed. IsQuietExpr typed.expr) }
+    ensures reads { IfOk result (IsReadTyped 0) }
+    ensures reach { IfOk result (λ typed. MayReach 0 typed.expr) }
+    ensures own { IfOk operand (λ typed. MayReach findings.reach typed.expr) → AreOwnCalls functions.old.calls → AreOwnCalls functions.new.calls }
 {
     let Typed { expr, kind } = operand?;
     if !functions.allowed || findings.reach > 0 {

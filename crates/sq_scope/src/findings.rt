@@ -1,6 +1,6 @@
 //! What binding finds out about a part of a text besides its tree.
 
-ghost use Rattle.std.specs.Prelude.{◌≡◌, ◌||◌, false};
+ghost use Rattle.std.specs.Prelude.{◌≡◌, ◌≤◌, ◌+◌, ◌||◌, false, max, true};
 
 /// What binding finds out about a part.
 #[derive(Clone, Copy)]
@@ -45,6 +45,9 @@ impl Findings {
     /// What is found in two parts.
     pub fn and(self, other: Findings) -> Findings
         ensures ungrouped { result.has_ungrouped ≡ (self.has_ungrouped || other.has_ungrouped) }
+        ensures can_fail { result.can_fail ≡ (self.can_fail || other.can_fail) }
+        ensures items { result.items ≡ max self.items other.items }
+        ensures reach { (self.reach ≤ result.reach) × (other.reach ≤ result.reach) }
     {
         Findings {
             items: self.items.max(other.items),
@@ -63,6 +66,9 @@ impl Findings {
     /// The same, of a part that may answer a status.
     pub fn failing(self) -> Findings
         ensures ungrouped { result.has_ungrouped ≡ self.has_ungrouped }
+        ensures can_fail { result.can_fail ≡ true }
+        ensures items { result.items ≡ self.items }
+        ensures reach { result.reach ≡ self.reach }
     {
         Findings {
             can_fail: true,
@@ -73,6 +79,7 @@ impl Findings {
     /// What the query around a subquery finds in it.
     pub fn of_subquery(self) -> Findings
         ensures ungrouped { result.has_ungrouped ≡ false }
+        ensures reach { self.reach ≤ result.reach + 1 }
     {
         Findings {
             items: self.outer_items,

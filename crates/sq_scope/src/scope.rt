@@ -1,6 +1,6 @@
 //! What column references mean: FROM items in scopes, the nearest first (ISO/IEC 9075:1992, 6.3, 6.4).
 
-ghost use Rattle.std.specs.Prelude.{◌≡◌, ◌+◌, ◌&&◌, [], ◌∷◌, IfOk, IsFalse, MatchResult, find, nat_eq, true};
+ghost use Rattle.std.specs.Prelude.{◌≡◌, ◌+◌, ◌<◌, ◌^◌, ◌&&◌, [], ◌∷◌, IfOk, IsFalse, MatchResult, length, find, nat_eq, true};
 ghost use Rattle.sq_meaning.specs.Environment.{names_item, same_name};
 ghost use Rattle.sq_scope.specs.Scope.{FitsColumn, FitsMore, FitsOnly, Means, column_over, columns_over, fits, item_meant, items_in, scopes_at, scopes_in, scopes_of, with_fit};
 ghost use Rattle.sq_scope.specs.WellFormed.{AllowsAt, IsGroupedIn, allows_none, grouping_of, groupings_in, groupings_of, is_no_column};
@@ -199,12 +199,23 @@ impl Scope<'_> {
     fn column(&self, depth: usize, reference: &ColumnReference) -> Result<FoundColumn, BindFault>
         ensures means { IfOk result (Means reference.now (scopes_of self.now) depth) }
         ensures grouped { IfOk result (IsGroupedIn (groupings_of self.now) depth) }
+        ensures numbered { IfOk result (λ found. found.place.item + 1 < 2 ^ 64) }
     {
         match (self.fitting(reference)?, self.outer) {
-            (Some((item, column)), _) => Ok(self.found(depth, item, column)),
+            (Some((item, column)), _) => {
+                prove!(item < self.count());
+                Ok(self.found(depth, item, column))
+            }
             (None, Some(outer)) => outer.column(further_out(depth)?, reference),
             (None, None) => Err(BindFault::UnknownColumn),
         }
+    }
+
+    /// How many items there are.
+    fn count(&self) -> usize
+        ensures { result ≡ length (items_in self.now) }
+    {
+        self.items.len()
     }
 
     fn found(&self, depth: usize, item: usize, column: ItemColumn) -> FoundColumn
@@ -314,6 +325,7 @@ impl<'a> Environment<'a> {
     pub fn column(&self, reference: &ColumnReference) -> Result<FoundColumn, BindFault>
         ensures means { IfOk result (Means reference.now (scopes_in self.now) 0) }
         ensures grouped { IfOk result (λ found. found.is_grouped ≡ true → AllowsAt (groupings_in self.now) found.place.depth) }
+        ensures numbered { IfOk result (λ found. found.place.item + 1 < 2 ^ 64) }
     {
         match &self.scope {
             Some(scope) => scope.column(0, reference),

@@ -1,5 +1,5 @@
 -- What is found where a text stands: part by part, and with further set functions.
-use Rattle.std.proofs.Common.{◌≡◌, Bool, true, false, not, List, [], ◌∷◌, ◌++◌, Ok, Err, refl, sym, subst}
+use Rattle.std.proofs.Common.{◌≡◌, max, Bool, true, false, not, List, [], ◌∷◌, ◌++◌, Ok, Err, refl, sym, subst}
 use Rattle.std.specs.Prelude.{◌||◌, IsTrue, IfOk, Result, is_ok}
 use Rattle.std.specs.List.{AllByRecursion}
 use Rattle.std.proofs.lemmas.Result.{IfOk-at_ok}
@@ -124,9 +124,10 @@ gathered_all x P parts part (Ok all) g h k = λ levels m.
 -- parts with a further one
 pub gathers : {T : Type 0} (parts : Result (Found (List T)) BindFault) (part : Result (Found T) BindFault) (before : Found (List T)) (next : Found T) (result : Result (Found (List T)) BindFault) → parts ≡ Ok before → part ≡ Ok next
     → IfOk result (λ all. all.part ≡ before.part ++ next.part ∷ []) → IfOk result (λ all. all.findings.has_ungrouped ≡ (before.findings.has_ungrouped || next.findings.has_ungrouped))
+    → IfOk result (λ all. all.findings.can_fail ≡ (before.findings.can_fail || next.findings.can_fail)) → IfOk result (λ all. all.findings.items ≡ max before.findings.items next.findings.items)
     → IfOk result (Gathers parts part)
-gathers parts part before next (Ok all) e f g h = (before, next, e, f, g, h)
-gathers parts part before next (Err fault) e f g h = tt
+gathers parts part before next (Ok all) e f g h i j = (before, next, e, f, g, h, i, j)
+gathers parts part before next (Err fault) e f g h i j = tt
 
 -- ---- operands of a predicate
 

@@ -1,6 +1,9 @@
 pub mod InOrder
+pub mod Reaches
 pub mod Trees
 pub mod Contexts
 pub mod Columns
+pub mod ItemsRead
 pub mod NoFunctions
 pub mod Queries
+pub mod Quiet

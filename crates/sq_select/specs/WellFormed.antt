@@ -27,6 +27,7 @@ use Rattle.sq_scope.specs.declared.expression.Typed.{Typed}
 use Rattle.sq_scope.specs.declared.findings.Found.{Found}
 use Rattle.sq_scope.specs.declared.scope.Environment.{Environment}
 use Rattle.sq_select.specs.InOrder.{AddAll}
+use Rattle.sq_select.specs.Noted.{HasClauseNotes}
 use Rattle.sq_select.specs.declared.select.Parts.{Parts}
 use Rattle.sq_select.specs.declared.select.Selected.{Selected}
 use Rattle.sq_select.specs.declared.select.SelectedList.{SelectedList}
@@ -165,21 +166,23 @@ AreTables columns tables = AllByRecursion (λ t. HasValue (columns t)) tables
 
 -- the parts of a query specification, of which each may have a fault
 pub record AreSelected (columns : TableKinds) (parameters : List Kind) (levels : Levels) (s : Selected) : Type 0 where
-  pub tables : AreTables columns s.tables
-  pub condition : IfOk s.condition (λ found. IsClauseAt columns parameters (of_lines s.tables ∷ levels) [] found.part)
-  pub groups : IfOk s.groups (λ found. AreGroupingColumns columns parameters (of_lines s.tables ∷ levels) found.part)
-  pub list : IfOk s.groups (λ groups. IfOk s.selected (IsListAt columns parameters s.tables levels (is_no_column groups.part) s.functions.calls))
-  pub having : IfOk s.groups (λ groups. IfOk s.having (IsHavingAt columns parameters s.tables levels (is_no_column groups.part) s.functions.calls))
+  pub tables : AreTables columns s.from.tables
+  pub condition : IfOk s.condition (λ found. IsClauseAt columns parameters (of_lines s.from.tables ∷ levels) [] found.part)
+  pub groups : IfOk s.groups (λ found. AreGroupingColumns columns parameters (of_lines s.from.tables ∷ levels) found.part)
+  pub list : IfOk s.groups (λ groups. IfOk s.selected (IsListAt columns parameters s.from.tables levels (is_no_column groups.part) s.functions.calls))
+  pub having : IfOk s.groups (λ groups. IfOk s.having (IsHavingAt columns parameters s.from.tables levels (is_no_column groups.part) s.functions.calls))
+  pub noted : IfOk s.condition HasClauseNotes
   pub by_columns : IfOk s.groups (λ groups. s.by_columns ≡ true → is_no_column groups.part ≡ false)
   pub in_order : IfOk s.selected (λ list. IfOk s.having (λ having. AddAll list having s.functions.calls))
 
 -- and without a fault
 pub record AreParts (columns : TableKinds) (parameters : List Kind) (levels : Levels) (s : Parts) : Type 0 where
-  pub tables : AreTables columns s.tables
-  pub condition : IsClauseAt columns parameters (of_lines s.tables ∷ levels) [] s.condition.part
-  pub groups : AreGroupingColumns columns parameters (of_lines s.tables ∷ levels) s.groups
-  pub list : IsListAt columns parameters s.tables levels (is_no_column s.groups) s.functions.calls s.selected
-  pub having : IsHavingAt columns parameters s.tables levels (is_no_column s.groups) s.functions.calls s.having
+  pub tables : AreTables columns s.from.tables
+  pub condition : IsClauseAt columns parameters (of_lines s.from.tables ∷ levels) [] s.condition.part
+  pub groups : AreGroupingColumns columns parameters (of_lines s.from.tables ∷ levels) s.groups
+  pub list : IsListAt columns parameters s.from.tables levels (is_no_column s.groups) s.functions.calls s.selected
+  pub having : IsHavingAt columns parameters s.from.tables levels (is_no_column s.groups) s.functions.calls s.having
+  pub noted : HasClauseNotes s.condition
   pub by_columns : s.by_columns ≡ true → is_no_column s.groups ≡ false
   pub in_order : AddAll s.selected s.having s.functions.calls
 

@@ -1,6 +1,6 @@
 //! Parts of a text that are bound one after the other.
 
-ghost use Rattle.std.specs.Prelude.{◌≡◌, ◌++◌, ◌∷◌, ◌||◌, [], IfOk};
+ghost use Rattle.std.specs.Prelude.{◌≡◌, ◌++◌, ◌∷◌, ◌||◌, [], IfOk, max, ◌≤◌};
 ghost use Rattle.sq_select.specs.Gathered.{Gathers};
 
 use sq_bound::BindFault;
@@ -13,7 +13,8 @@ pub type Gathered<T> = Result<Found<Items<T>>, BindFault>;
 
 /// The parts with a further one. The fault of the first is answered first.
 pub fn gathered<T: Drop>(parts: Gathered<T>, part: Result<Found<T>, BindFault>) -> Gathered<T>
-    ensures { IfOk result (Gathers parts part) }
+    ensures gathers { IfOk result (Gathers parts part) }
+    ensures reach { IfOk result (λ all. IfOk parts (λ before. before.findings.reach ≤ all.findings.reach) × IfOk part (λ next. next.findings.reach ≤ all.findings.reach)) }
 {
     match (parts, part) {
         (Ok(parts), Ok(part)) => with_part(parts, part),
@@ -31,6 +32,9 @@ pub fn gathered<T: Drop>(parts: Gathered<T>, part: Result<Found<T>, BindFault>) 
 fn with_part<T: Drop>(parts: Found<Items<T>>, part: Found<T>) -> Gathered<T>
     ensures parts { IfOk result (λ all. all.part ≡ parts.part ++ part.part ∷ []) }
     ensures ungrouped { IfOk result (λ all. all.findings.has_ungrouped ≡ (parts.findings.has_ungrouped || part.findings.has_ungrouped)) }
+    ensures can_fail { IfOk result (λ all. all.findings.can_fail ≡ (parts.findings.can_fail || part.findings.can_fail)) }
+    ensures items { IfOk result (λ all. all.findings.items ≡ max parts.findings.items part.findings.items) }
+    ensures reach { IfOk result (λ all. (parts.findings.reach ≤ all.findings.reach) × (part.findings.reach ≤ all.findings.reach)) }
 {
     let Found {
         part: mut items,

@@ -1,6 +1,6 @@
 //! The parts of a query specification: FROM items, grouping columns, select lists (ISO/IEC 9075:1992, 7.4, 7.7, 7.9).
 
-ghost use Rattle.std.specs.Prelude.{◌≡◌, ◌||◌, ◌++◌, ◌∷◌, [], IfOk, List, None, Some, false, if◌then◌else◌, is_some, slice_get, true};
+ghost use Rattle.std.specs.Prelude.{◌≡◌, ◌≤◌, ◌||◌, ◌++◌, ◌∷◌, [], IfOk, List, None, Some, false, if◌then◌else◌, is_some, length, nat_lt, slice_get, true};
 ghost use Rattle.std.specs.List.{AllZip};
 ghost use Rattle.sq_meaning.specs.WellFormed.{of_lines};
 ghost use Rattle.sq_bound.specs.Fits.{IsOver};
@@ -9,14 +9,16 @@ ghost use Rattle.sq_bound.specs.declared.condition.TablePlace.{TablePlace as Any
 ghost use Rattle.sq_bound.specs.declared.expression.Place.{Place as ColumnPlace};
 ghost use Rattle.sq_bound.specs.declared.expression.SetFunctionCall.{SetFunctionCall};
 ghost use Rattle.sq_scope.specs.Expression.{Grows};
+ghost use Rattle.sq_scope.specs.Reach.{AreOwnCalls};
 ghost use Rattle.sq_scope.specs.WellFormed.{AreLevelsIn, IsItemOver, allows_none, is_no_column};
 ghost use Rattle.sq_select.specs.InOrder.{Adding, AddsList, is_grouped_by, typed_functions};
+ghost use Rattle.sq_select.specs.Reach.{AreReaching, ListReaching, PartsReach, PlacesReach, Reaching, SelectReaches, TypedReaches};
 ghost use Rattle.sq_select.specs.WellFormed.{AreColumns, AreGroupingColumns, AreParts, AreSelected, Context, Everywhere, IsGroupedRightly, IsGroupingColumn, IsListAt, IsListIn, IsTypedAt, level_over};
 ghost use Rattle.sq_value.specs.declared.domain.Kind.{Kind as AnyKind};
 
 use crate::predicate::SubqueryResult;
 use sq_bound::{
-    Action, BindFault, BoundCond, BoundExpr, BoundSpecification, Grouping, Names, Place,
+    Action, BindFault, BoundCond, BoundExpr, BoundFrom, BoundSpecification, Grouping, Names, Place,
     ResultColumn, TableDesc, TablePlace,
 };
 use sq_items::Items;
@@ -102,7 +104,8 @@ pub fn from_clause<N: Names>(
     environment: &Environment<'_>,
     list: &CommaList<TableReference>,
 ) -> Result<FromClause, BindFault>
-    ensures { IfOk result (λ clause. AllZip (IsItemOver (N.column_kinds names.now)) clause.tables clause.items) }
+    ensures over { IfOk result (λ clause. AllZip (IsItemOver (N.column_kinds names.now)) clause.tables clause.items) }
+    ensures some { IfOk result (λ clause. nat_lt 0 (length clause.tables) ≡ true) }
 {
     if list.rest.len() >= MOST_ITEMS {
         return Err(BindFault::LimitExceeded);
@@ -126,7 +129,8 @@ impl FromClause {
         environment: &Environment<'_>,
         reference: &TableReference,
     ) -> Result<(), BindFault>
-        ensures { IfOk result (λ u. AllZip (IsItemOver (N.column_kinds names.now)) self.old.tables self.old.items → AllZip (IsItemOver (N.column_kinds names.now)) self.new.tables self.new.items) }
+        ensures over { IfOk result (λ u. AllZip (IsItemOver (N.column_kinds names.now)) self.old.tables self.old.items → AllZip (IsItemOver (N.column_kinds names.now)) self.new.tables self.new.items) }
+        ensures some { IfOk result (λ u. nat_lt 0 (length self.new.tables) ≡ true) }
     {
         let table = named_table(names, environment.user, reference.table)?;
         self.tables.push(table.place())?;
@@ -150,6 +154,7 @@ pub fn group_by<'s>(
 ) -> GroupsResult
     ensures well_formed { (kinds : TableKinds) (tables : List AnyPlace) (levels : Levels) → AllZip (IsItemOver kinds) tables items.now → AreLevelsIn kinds levels environment.now → IfOk result (λ found. AreGroupingColumns kinds (kinds_of_parameters environment.now.parameters.now) (of_lines tables ∷ levels) found.part) }
     ensures some { is_some list.now ≡ true → IfOk result (λ found. is_no_column found.part ≡ false) }
+    ensures reach { IfOk result (Reaching PlacesReach) }
 {
     grouping_columns(
         &environment.within(environment.scope_over(items, None)),
@@ -163,6 +168,7 @@ fn grouping_columns(
 ) -> GroupsResult
     ensures well_formed { (kinds : TableKinds) (levels : Levels) → AreLevelsIn kinds levels environment.now → IfOk result (λ found. AreGroupingColumns kinds (kinds_of_parameters environment.now.parameters.now) levels found.part) }
     ensures some { is_some list.now ≡ true → IfOk result (λ found. is_no_column found.part ≡ false) }
+    ensures reach { IfOk result (Reaching PlacesReach) }
 {
     let mut columns = Items::new(environment.alloc);
     let mut findings = Findings::NONE;
@@ -194,7 +200,8 @@ fn push_grouping(
     environment: &Environment<'_>,
     findings: Findings,
 ) -> Result<Findings, BindFault>
-    ensures { IfOk result (λ more. (p : ColumnPlace) × (columns.new ≡ columns.old ++ p ∷ []) × ((kinds : TableKinds) (levels : Levels) → AreLevelsIn kinds levels environment.now → IsGroupingColumn kinds (kinds_of_parameters environment.now.parameters.now) levels p)) }
+    ensures well_formed { IfOk result (λ more. (p : ColumnPlace) × (columns.new ≡ columns.old ++ p ∷ []) × ((kinds : TableKinds) (levels : Levels) → AreLevelsIn kinds levels environment.now → IsGroupingColumn kinds (kinds_of_parameters environment.now.parameters.now) levels p)) }
+    ensures reach { IfOk result (λ more. PlacesReach findings.reach columns.old → PlacesReach more.reach columns.new) }
 {
     let found = environment.column(reference)?;
     if !found.is_grouped {
@@ -236,6 +243,8 @@ pub fn select_list<'s>(
     ensures well_formed { (kinds : TableKinds) (tables : List AnyPlace) (levels : Levels) → AllZip (IsItemOver kinds) tables items.now → AreLevelsIn kinds levels environment.now → IfOk result (IsListAt kinds (kinds_of_parameters environment.now.parameters.now) tables levels (allows_none grouping.entry) functions.new.calls) }
     ensures grows { Grows functions.old functions.new }
     ensures in_order { IfOk result (λ s. s.is_star ≡ false → AddsList functions.old.calls functions.new.calls s) }
+    ensures reach { IfOk result ListReaching }
+    ensures own { AreOwnCalls functions.old.calls → AreOwnCalls functions.new.calls }
 {
     match list {
         SelectList::Star => all_columns(environment.alloc, items),
@@ -268,6 +277,8 @@ fn listed_columns(
     ensures well_formed { (kinds : TableKinds) → IfOk result (IsListIn kinds environment.now functions.old.allowed functions.new.calls) }
     ensures grows { Grows functions.old functions.new }
     ensures in_order { IfOk result (AddsList functions.old.calls functions.new.calls) }
+    ensures reach { IfOk result ListReaching }
+    ensures own { AreOwnCalls functions.old.calls → AreOwnCalls functions.new.calls }
 {
     let mut selected = Ok(no_columns(environment.alloc, false));
     let first = bind_expr(&list.first, environment, functions);
@@ -294,6 +305,7 @@ fn with_column(
 ) -> Result<SelectedList, BindFault>
     ensures well_formed { (x : Context) (calls : List SetFunctionCall) → IfOk selected (IsListIn x.columns x.environment x.allowed calls) → IfOk item (Everywhere x (IsTypedAt x calls)) → IfOk result (IsListIn x.columns x.environment x.allowed calls) }
     ensures in_order { (a b c : List SetFunctionCall) → IfOk selected (AddsList a b) → IfOk item (Adding typed_functions b c) → IfOk result (AddsList a c) }
+    ensures reach { IfOk selected ListReaching → IfOk item (Reaching TypedReaches) → IfOk result ListReaching }
 {
     let (mut selected, item) = both(selected, item)?;
     let Found { part, findings } = item;
@@ -312,6 +324,7 @@ fn push_column(
     ensures columns { IfOk result (λ u. selected.new.columns ≡ selected.old.columns ++ record { name = name; kind = kind } ∷ []) }
     ensures ungrouped { IfOk result (λ u. selected.new.findings.has_ungrouped ≡ (selected.old.findings.has_ungrouped || findings.has_ungrouped)) }
     ensures star { selected.new.is_star ≡ selected.old.is_star }
+    ensures reach { IfOk result (λ u. (selected.old.findings.reach ≤ selected.new.findings.reach) × (findings.reach ≤ selected.new.findings.reach)) }
 {
     if selected.columns.len() >= MOST_COLUMNS {
         drop(expr);
@@ -326,6 +339,7 @@ fn push_column(
 fn all_columns(alloc: Global, items: &[FromItem]) -> Result<SelectedList, BindFault>
     ensures well_formed { (kinds : TableKinds) (parameters : List AnyKind) (tables : List AnyPlace) (levels : Levels) (calls : List SetFunctionCall) → AllZip (IsItemOver kinds) tables items.now → IfOk result (λ s. AreColumns kinds parameters (level_over tables true ∷ levels) calls s.exprs s.columns) }
     ensures star { IfOk result (λ s. s.is_star ≡ true) }
+    ensures reach { IfOk result ListReaching }
 {
     let mut selected = no_columns(alloc, true);
     let pushed = push_items(&mut selected, items);
@@ -335,6 +349,7 @@ fn all_columns(alloc: Global, items: &[FromItem]) -> Result<SelectedList, BindFa
 fn push_items(selected: &mut SelectedList, items: &[FromItem]) -> Result<(), BindFault>
     ensures well_formed { (kinds : TableKinds) (parameters : List AnyKind) (tables : List AnyPlace) (levels : Levels) (calls : List SetFunctionCall) → AllZip (IsItemOver kinds) tables items.now → AreColumns kinds parameters (level_over tables true ∷ levels) calls selected.old.exprs selected.old.columns → IfOk result (λ u. AreColumns kinds parameters (level_over tables true ∷ levels) calls selected.new.exprs selected.new.columns) }
     ensures star { selected.new.is_star ≡ selected.old.is_star }
+    ensures reach { IfOk result (λ u. ListReaching selected.old → ListReaching selected.new) }
 {
     for (number, item) in items.iter().enumerate() {
         push_table(selected, number, item)?;
@@ -346,6 +361,7 @@ fn push_items(selected: &mut SelectedList, items: &[FromItem]) -> Result<(), Bin
 fn push_table(selected: &mut SelectedList, number: usize, item: &FromItem) -> Result<(), BindFault>
     ensures well_formed { (kinds : TableKinds) (parameters : List AnyKind) (tables : List AnyPlace) (levels : Levels) (calls : List SetFunctionCall) → (t : AnyPlace) → slice_get tables number ≡ Some t → IsItemOver kinds t item.now → AreColumns kinds parameters (level_over tables true ∷ levels) calls selected.old.exprs selected.old.columns → IfOk result (λ u. AreColumns kinds parameters (level_over tables true ∷ levels) calls selected.new.exprs selected.new.columns) }
     ensures star { selected.new.is_star ≡ selected.old.is_star }
+    ensures reach { IfOk result (λ u. ListReaching selected.old → ListReaching selected.new) }
 {
     for column in item.columns.as_slice() {
         let place = Place {
@@ -364,7 +380,7 @@ fn push_table(selected: &mut SelectedList, number: usize, item: &FromItem) -> Re
 #[derive(Drop)]
 pub struct Selected {
     pub is_distinct: bool,
-    pub tables: Items<TablePlace>,
+    pub from: BoundFrom,
     pub named: Findings,
     pub condition: Result<Found<Option<BoundCond>>, BindFault>,
     pub by_columns: bool,
@@ -378,7 +394,7 @@ pub struct Selected {
 #[derive(Drop)]
 struct Parts {
     is_distinct: bool,
-    tables: Items<TablePlace>,
+    from: BoundFrom,
     condition: Found<Option<BoundCond>>,
     by_columns: bool,
     groups: Items<Place>,
@@ -390,11 +406,12 @@ struct Parts {
 
 /// The query specification of these parts.
 pub fn make_specification(parts: Selected) -> SubqueryResult
-    ensures { (kinds : TableKinds) (parameters : List AnyKind) (levels : Levels) → AreSelected kinds parameters levels parts → IfOk result (λ found. IsSelect kinds parameters levels found.part) }
+    ensures well_formed { (kinds : TableKinds) (parameters : List AnyKind) (levels : Levels) → AreSelected kinds parameters levels parts → IfOk result (λ found. IsSelect kinds parameters levels found.part) }
+    ensures reach { AreReaching parts → IfOk result (Reaching SelectReaches) }
 {
     let Selected {
         is_distinct,
-        tables,
+        from,
         named,
         condition,
         by_columns,
@@ -413,7 +430,7 @@ pub fn make_specification(parts: Selected) -> SubqueryResult
         .and(named);
     whole_specification(Parts {
         is_distinct,
-        tables,
+        from,
         condition,
         by_columns,
         groups: groups.part,
@@ -466,7 +483,8 @@ impl Parts {
 }
 
 fn whole_specification(parts: Parts) -> SubqueryResult
-    ensures { (kinds : TableKinds) (parameters : List AnyKind) (levels : Levels) → AreParts kinds parameters levels parts → IfOk result (λ found. IsSelect kinds parameters levels found.part) }
+    ensures well_formed { (kinds : TableKinds) (parameters : List AnyKind) (levels : Levels) → AreParts kinds parameters levels parts → IfOk result (λ found. IsSelect kinds parameters levels found.part) }
+    ensures reach { PartsReach parts → IfOk result (Reaching SelectReaches) }
 {
     let is_grouped = match parts.grouped() {
         Ok(is_grouped) => is_grouped,
@@ -478,7 +496,7 @@ fn whole_specification(parts: Parts) -> SubqueryResult
     let can_fail = parts.can_fail();
     let Parts {
         is_distinct,
-        tables,
+        from,
         condition,
         by_columns: _,
         groups,
@@ -501,7 +519,7 @@ fn whole_specification(parts: Parts) -> SubqueryResult
         part: BoundSpecification {
             distinct: is_distinct,
             list: selected.exprs,
-            from: tables,
+            from,
             condition: condition.part,
             grouping,
             columns: selected.columns,

@@ -5,15 +5,18 @@ use Rattle.std.specs.List.{position_or_len}
 use Rattle.std.specs.Map.{keys_of}
 use Rattle.sq_lex.specs.declared.name.Name.{Name}
 use Rattle.sq_value.specs.declared.value.Value.{Value}
+use Rattle.sq_tree.specs.declared.module.ModuleText.{ModuleText}
 use Rattle.sq_model.specs.Script.{fit}
 use Rattle.sq_bound.specs.declared.fault.BindFault.{BindFault}
 use Rattle.sq_bound.specs.declared.statement.BoundStatement.{BoundStatement}
 use Rattle.sq_module.specs.declared.program.BoundProcedure.{BoundProcedure}
 use Rattle.sq_module.specs.declared.program.DeclaredCursor.{DeclaredCursor}
 use Rattle.sq_module.specs.declared.program.ProcedureName.{ProcedureName}
-use Rattle.sq_session.specs.Kind.{fault_at, fits_at, kind_at, kind_of}
+use Rattle.sq_module.specs.declared.program.Program.{Program}
+use Rattle.sq_module.specs.Written.{IsOfTexts}
+use Rattle.sq_session.specs.Kind.{Procedure, fault_at, fits_at, kind_at, kind_of}
 use Rattle.sq_session.specs.Parameter.{declared}
-use Rattle.sq_session.specs.Session.{is_procedure, names_of, procedure_number, procedures_of}
+use Rattle.sq_session.specs.Session.{AreOfModules, is_procedure, names_of, procedure_number, procedures_of}
 
 abbrev Entry : Type 0
 Entry = ProcedureName × BoundProcedure
@@ -55,3 +58,8 @@ fits_are cs (x ∷ es) (suc n) e values h = fits_are cs es n e values h
 pub names_are : (cs : List DeclaredCursor) (es : List Entry) → names_of (procedures_of cs es) ≡ keys_of es
 names_are cs [] = refl
 names_are cs (e ∷ es) = ap (λ names. e.0 ∷ names) (names_are cs es)
+
+-- ---- procedures of module texts
+
+pub of_modules : (modules : List ModuleText) (p : Program) (procedures : List Procedure) → IsOfTexts modules p → procedures ≡ procedures_of p.cursors.items p.procedures.entries → AreOfModules modules procedures
+of_modules modules p procedures is_of are = record { program = p; is_of = is_of; are = are }

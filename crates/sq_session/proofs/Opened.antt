@@ -1,35 +1,29 @@
 -- OPEN, from the rows, the numbers or the walk that a cursor gets.
-use Rattle.std.proofs.Common.{◌≡◌, ℕ, true, false, true≢false, List, [], ◌∷◌, ◌++◌, Option, None, Some, Result, Ok, Err, refl, sym, ap, ◌∙◌, IfSome, subst}
-use Rattle.std.specs.List.{AllByRecursion}
+use Rattle.std.proofs.Common.{◌≡◌, ℕ, true, false, true≢false, List, None, Some, Result, Ok, Err, refl, sym, ap, ◌∙◌, IfSome, subst}
 use Rattle.std.specs.Prelude.{⊤, Vec}
 use Rattle.std.specs.declared.alloc.Global.{Global}
 use Rattle.sq_lex.specs.declared.name.Name.{Name}
 use Rattle.sq_value.specs.declared.value.Value.{Value}
 use Rattle.sq_store.specs.Content.{Content}
+use Rattle.sq_meaning.specs.Environment.{Row}
 use Rattle.sq_meaning.specs.Rows.{by_columns, sorted}
-use Rattle.sq_meaning.specs.Status.{and_then}
+use Rattle.sq_meaning.specs.Status.{Outcome, and_then}
+use Rattle.sq_meaning.specs.WellFormed.{kinds_by_place}
 use Rattle.sq_meaning.specs.declared.status.Status.TheVariants as status
 use Rattle.sq_value.specs.declared.domain.Kind.{Kind}
-use Rattle.sq_bound.proofs.JoinedLaws.{specifications_of-out, term_specifications-Specification}
-use Rattle.sq_bound.specs.Groups as groups
-use Rattle.sq_bound.specs.Groups.{HasGroups}
-use Rattle.sq_bound.specs.Joined.{specifications_of}
-use Rattle.sq_bound.specs.WellFormed.{IsQuery, IsSelect, TableKinds}
-use Rattle.sq_bound.specs.declared.condition.BoundSpecification.{BoundSpecification, out-BoundSpecification}
-use Rattle.sq_bound.specs.declared.condition.Grouping.{Grouping}
-use Rattle.sq_bound.specs.declared.expression.BoundExpr.{BoundExpr}
+use Rattle.sq_bound.specs.WellFormed.{IsQuery, TableKinds}
 use Rattle.sq_bound.specs.declared.query.BoundQuery.{BoundQuery}
 use Rattle.sq_bound.specs.declared.query.CursorBody.{CursorBody}
 use Rattle.sq_bound.specs.declared.query.SortColumn.{SortColumn}
 use Rattle.sq_bound.specs.declared.query.Target.{Target}
 use Rattle.sq_query.specs.Fault.{HasRows, status_of}
 use Rattle.sq_query.specs.Order.{sort_columns}
-use Rattle.sq_query.specs.Specification.{AreGroupsIfAny, HasNoSubquery, HavingIsPlainIfAny, IsPlainQuery}
 use Rattle.sq_query.specs.Target.{HasNumbers}
-use Rattle.sq_query.specs.Union.{IsOnly, OfStoredRows}
+use Rattle.sq_query.specs.Union.{OfSimpleRows}
 use Rattle.sq_query.specs.declared.fault.Failure.{Failure}
 use Rattle.sq_query.specs.declared.fault.Fault.{Fault}
 use Rattle.sq_query.specs.declared.fault.Fault.TheVariants as fault
+use Rattle.sq_query.proofs.KnownKinds.{of_all_rows, of_only_rows}
 use Rattle.sq_session.specs.Kind.{Opening, Over, over_target}
 use Rattle.sq_session.specs.Open.{HasOpened, IsMeant, NumbersAreMeant, RowsAreMeant, TargetIsMeant, before_numbers, before_rows, numbers_opened, rows_opened, walk_before}
 use Rattle.sq_session.specs.State.{State, with_cursor}
@@ -40,37 +34,33 @@ use Rattle.sq_session.specs.declared.cursor.CursorState.TheVariants as cursor
 use Rattle.sq_session.specs.declared.reply.Done.{Done}
 use Rattle.sq_session.specs.declared.walk.WalkingCursor.{WalkingCursor}
 
--- ---- queries without subqueries
-
--- the groups of a well-formed query are noted as they are
-plain_groups : (list : List BoundExpr) (grouping : Option Grouping) → groups.AreGroupsIfAny list grouping → HavingIsPlainIfAny grouping → AreGroupsIfAny list grouping
-plain_groups list None noted plain = tt
-plain_groups list (Some grouping) noted plain = record { noted = noted; plain = plain }
-
-pub plain_query : (q : BoundSpecification) → HasGroups q → HasNoSubquery q → IsPlainQuery q
-plain_query q noted plain = (plain.0, plain_groups (out-BoundSpecification q).list (out-BoundSpecification q).grouping noted plain.1)
-
-only_specification : (q : BoundQuery) (s : BoundSpecification) → IsOnly q s → specifications_of q ≡ s ∷ []
-only_specification q s is = specifications_of-out q ∙ rw (is.0, is.1) (ap (λ (l : List BoundSpecification). l ++ []) (term_specifications-Specification s))
-
-pub only_groups : (columns : TableKinds) (parameters : List Kind) (q : BoundQuery) (s : BoundSpecification) → IsQuery columns parameters q → IsOnly q s → HasGroups s
-only_groups columns parameters q s is only =
-    let alone = subst (λ (l : List BoundSpecification). AllByRecursion (IsSelect columns parameters []) l) (only_specification q s only) is.specifications in
-    alone.0.groups
-
 -- ---- what is answered is what is meant, where the query reads the values and the user of the call
 
-pub rows_answered : (q : BoundQuery) (order : List SortColumn) (given : Name) (user : Name) (inputs values : List Value) (tables : Content) (v : Vec (List Value) Global) (rows : List (List Value))
-    → given ≡ user → inputs ≡ values → rows ≡ v.items → ((s : BoundSpecification) → IsOnly q s → HasGroups s) → OfStoredRows (λ o. HasRows (Ok v) (and_then o (λ found. Ok (sorted (by_columns (sort_columns order)) found)))) q tables inputs given
-    → RowsAreMeant q order user values tables (Ok (before_rows rows))
-rows_answered q order given user inputs values tables v rows same_user same_values same_rows groups h =
-    rw (sym same_user, sym same_values, same_rows) (λ s only over plain shown are kinds. sym (ap rows_opened (h s only over (plain_query s (groups s only) plain) shown are kinds)))
+-- rows, or a status, that are those in the order of the sort keys
+abbrev pub IsSortedAs : Result (Vec (List Value) Global) Fault → List SortColumn → Outcome (List Row) → Type 0
+IsSortedAs result order o = HasRows result (and_then o (λ found. Ok (sorted (by_columns (sort_columns order)) found)))
 
-pub rows_refused : (q : BoundQuery) (order : List SortColumn) (given : Name) (user : Name) (inputs values : List Value) (tables : Content) (f : Failure)
-    → given ≡ user → inputs ≡ values → ((s : BoundSpecification) → IsOnly q s → HasGroups s) → OfStoredRows (λ o. HasRows (Err (fault.Status f)) (and_then o (λ found. Ok (sorted (by_columns (sort_columns order)) found)))) q tables inputs given
-    → RowsAreMeant q order user values tables (Err (status_of f))
-rows_refused q order given user inputs values tables f same_user same_values groups h =
-    rw (sym same_user, sym same_values) (λ s only over plain shown are kinds. sym (ap rows_opened (h s only over (plain_query s (groups s only) plain) shown are kinds)))
+module _ (columns : TableKinds) (parameters : List Kind) (q : BoundQuery) (well : IsQuery columns parameters q) where
+  abbrev pub IsAnswered : Result (Vec (List Value) Global) Fault → List SortColumn → Content → List Value → Name → Type 0
+  IsAnswered result order tables inputs given = OfSimpleRows (IsSortedAs result order) (kinds_by_place columns parameters) q tables inputs given
+
+  pub rows_answered : (order : List SortColumn) (given : Name) (user : Name) (inputs values : List Value) (tables : Content) (v : Vec (List Value) Global) (rows : List (List Value))
+      → given ≡ user → inputs ≡ values → rows ≡ v.items → IsAnswered (Ok v) order tables inputs given → RowsAreMeant q order user values tables (Ok (before_rows rows))
+  rows_answered order given user inputs values tables v rows same_user same_values same_rows h =
+      let P : Outcome (List Row) → Type 0 = IsSortedAs (Ok v) order in
+      rw (sym same_user, sym same_values, same_rows) (
+        (λ s only over plain shown are kinds. sym (ap rows_opened (of_only_rows P columns parameters q well tables inputs given h s only over plain shown are kinds))),
+        (λ others own is reads shown are. sym (ap rows_opened (of_all_rows P columns parameters q well tables inputs given h others own is reads shown are))),
+      )
+
+  pub rows_refused : (order : List SortColumn) (given : Name) (user : Name) (inputs values : List Value) (tables : Content) (f : Failure)
+      → given ≡ user → inputs ≡ values → IsAnswered (Err (fault.Status f)) order tables inputs given → RowsAreMeant q order user values tables (Err (status_of f))
+  rows_refused order given user inputs values tables f same_user same_values h =
+      let P : Outcome (List Row) → Type 0 = IsSortedAs (Err (fault.Status f)) order in
+      rw (sym same_user, sym same_values) (
+        (λ s only over plain shown are kinds. sym (ap rows_opened (of_only_rows P columns parameters q well tables inputs given h s only over plain shown are kinds))),
+        (λ others own is reads shown are. sym (ap rows_opened (of_all_rows P columns parameters q well tables inputs given h others own is reads shown are))),
+      )
 
 pub numbers_answered : (t : Target) (given : Name) (user : Name) (inputs values : List Value) (tables : Content) (v : Vec ℕ Global) (numbers : List ℕ)
     → given ≡ user → inputs ≡ values → numbers ≡ v.items → (t.key ≡ None → HasNumbers (Ok v) t tables inputs given) → NumbersAreMeant t user values tables (Ok (before_numbers t.base numbers))
@@ -102,12 +92,11 @@ pub over_no_numbers : (t : Target) (user : Name) (values : List Value) (tables :
 over_no_numbers t user values tables f h = ((Err (status_of f), refl), h)
 
 -- what is answered in place of rows or numbers: a status, or want of memory
-pub over_fault_of_rows : (q : BoundQuery) (order : List SortColumn) (given : Name) (user : Name) (inputs values : List Value) (tables : Content) (f : Fault) → given ≡ user → inputs ≡ values
-    → ((s : BoundSpecification) → IsOnly q s → HasGroups s) → OfStoredRows (λ o. HasRows (Err f) (and_then o (λ found. Ok (sorted (by_columns (sort_columns order)) found)))) q tables inputs given
-    → HasOpened Over.rows (RowsAreMeant q order user values tables) values tables (Err f)
-over_fault_of_rows q order given user inputs values tables (fault.Status f) same_user same_values groups h =
-    over_no_rows q order user values tables f (rows_refused q order given user inputs values tables f same_user same_values groups h)
-over_fault_of_rows q order given user inputs values tables fault.NoMemory same_user same_values groups h = tt
+pub over_fault_of_rows : (columns : TableKinds) (parameters : List Kind) (q : BoundQuery) (well : IsQuery columns parameters q) (order : List SortColumn) (given : Name) (user : Name) (inputs values : List Value) (tables : Content) (f : Fault)
+    → given ≡ user → inputs ≡ values → IsAnswered columns parameters q well (Err f) order tables inputs given → HasOpened Over.rows (RowsAreMeant q order user values tables) values tables (Err f)
+over_fault_of_rows columns parameters q well order given user inputs values tables (fault.Status f) same_user same_values h =
+    over_no_rows q order user values tables f (rows_refused columns parameters q well order given user inputs values tables f same_user same_values h)
+over_fault_of_rows columns parameters q well order given user inputs values tables fault.NoMemory same_user same_values h = tt
 
 pub over_fault_of_numbers : (t : Target) (given : Name) (user : Name) (inputs values : List Value) (tables : Content) (f : Fault) → given ≡ user → inputs ≡ values → (t.key ≡ None → HasNumbers (Err f) t tables inputs given)
     → HasOpened (Over.numbers t.base) (NumbersAreMeant t user values tables) values tables (Err f)

@@ -1,7 +1,8 @@
 -- OPEN (ISO/IEC 9075:1992, 13.2): a cursor before its first row, by what it goes over.
 use Rattle.std.specs.Prelude.{◌≡◌, ⊤, ℕ, false, List, [], Option, None, Some, Result, Ok, Err}
-use Rattle.std.specs.List.{list_any}
+use Rattle.std.specs.List.{AllByRecursion, list_any}
 use Rattle.sq_lex.specs.declared.name.Name.{Name}
+use Rattle.sq_value.specs.declared.domain.Kind.{Kind}
 use Rattle.sq_value.specs.declared.value.Value.{Value}
 use Rattle.sq_store.specs.Content.{Content, table_at}
 use Rattle.sq_meaning.specs.Environment.{Row, outermost}
@@ -11,8 +12,11 @@ use Rattle.sq_meaning.specs.QueryExpression.{query_rows}
 use Rattle.sq_meaning.specs.Rows.{by_columns, sorted}
 use Rattle.sq_meaning.specs.Status.{Outcome, and_then}
 use Rattle.sq_meaning.specs.Target.{has_subquery}
+use Rattle.sq_meaning.specs.WellFormed.{kinds_by_place}
 use Rattle.sq_bound.specs.Condition.{cond_of}
+use Rattle.sq_bound.specs.Joined.{specifications_of}
 use Rattle.sq_bound.specs.Query.{query_of}
+use Rattle.sq_bound.specs.WellFormed.{TableKinds, IsQuery}
 use Rattle.sq_bound.specs.declared.condition.BoundSpecification.{BoundSpecification}
 use Rattle.sq_bound.specs.declared.condition.TablePlace.{TablePlace}
 use Rattle.sq_bound.specs.declared.query.BoundQuery.{BoundQuery}
@@ -23,10 +27,10 @@ use Rattle.sq_bound.specs.declared.query.Target.{Target}
 use Rattle.sq_query.specs.Fault.{status_of}
 use Rattle.sq_query.specs.Order.{sort_columns}
 use Rattle.sq_query.specs.Frame.{inputs_of}
-use Rattle.sq_query.specs.Specification.{HasNoSubquery, IsOverBase}
+use Rattle.sq_query.specs.Specification.{HasNoSubquery, IsOverBases}
 use Rattle.sq_query.specs.Table.{AreOfStore, stored_numbered}
 use Rattle.sq_query.specs.Target.{conditions_of, is_true_of, numbers_chosen}
-use Rattle.sq_query.specs.Union.{IsOnly}
+use Rattle.sq_query.specs.Union.{IsOnly, ReadsBases}
 use Rattle.sq_query.specs.declared.fault.Fault.{Fault}
 use Rattle.sq_query.specs.declared.fault.Fault.TheVariants as fault
 use Rattle.sq_session.specs.Kind.{Over}
@@ -64,11 +68,25 @@ IsOpenOver (Over.walk table) values tables opened = opened ≡ Ok (cursor.Walkin
 
 -- ---- the rows and numbers, where this is said
 
--- of a query expression over one base table, without UNION and subqueries: those that it has, in order, or the status of finding them
+-- the rows of a query expression, in order, or the status of finding them
+abbrev pub opened_in_order : Kinds (Placed TablePlace) → BoundQuery → List SortColumn → Name → List Value → (TablePlace → Outcome (List Row)) → Outcome CursorState
+opened_in_order kinds query order user values shown =
+    rows_opened (and_then (query_rows (by_place shown) kinds (query_of query) (outermost (inputs_of values) user)) (λ rows. Ok (sorted (by_columns (sort_columns order)) rows)))
+
+-- those of a query expression over base tables, without UNION and subqueries, whatever is known of columns beforehand
+abbrev pub OnlyRowsAreMeant : BoundQuery → List SortColumn → Name → List Value → Content → Outcome CursorState → Type 0
+OnlyRowsAreMeant query order user values tables opened =
+    (s : BoundSpecification) → IsOnly query s → IsOverBases s → HasNoSubquery s → (shown : TablePlace → Outcome (List Row)) → AreOfStore tables shown → (kinds : Kinds (Placed TablePlace))
+    → opened ≡ opened_in_order kinds query order user values shown
+
+-- and with UNION, for the kinds of columns and parameters with which it is well formed
+abbrev pub UnionsAreMeant : BoundQuery → List SortColumn → Name → List Value → Content → Outcome CursorState → Type 0
+UnionsAreMeant query order user values tables opened =
+    (columns : TableKinds) (parameters : List Kind) → IsQuery columns parameters query → AllByRecursion ReadsBases (specifications_of query)
+    → (shown : TablePlace → Outcome (List Row)) → AreOfStore tables shown → opened ≡ opened_in_order (kinds_by_place columns parameters) query order user values shown
+
 abbrev pub RowsAreMeant : BoundQuery → List SortColumn → Name → List Value → Content → Outcome CursorState → Type 0
-RowsAreMeant query order user values tables opened =
-    (s : BoundSpecification) → IsOnly query s → IsOverBase s → HasNoSubquery s → (shown : TablePlace → Outcome (List Row)) → AreOfStore tables shown → (kinds : Kinds (Placed TablePlace))
-    → opened ≡ rows_opened (and_then (query_rows (by_place shown) kinds (query_of query) (outermost (inputs_of values) user)) (λ rows. Ok (sorted (by_columns (sort_columns order)) rows)))
+RowsAreMeant query order user values tables opened = OnlyRowsAreMeant query order user values tables opened × UnionsAreMeant query order user values tables opened
 
 -- of a target that names no row by a key, and whose conditions have no subquery: those of the rows of which they are true, or the
 -- status of choosing them

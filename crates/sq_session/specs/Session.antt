@@ -1,13 +1,16 @@
 -- A session.
-use Rattle.std.specs.Prelude.{ℕ, Bool, ◌&&◌, List, map, nat_eq, position, Option}
+use Rattle.std.specs.Prelude.{◌≡◌, ℕ, Bool, ◌&&◌, List, map, nat_eq, position, Option}
 use Rattle.std.specs.Cmp.Lexicographic.{pointwise}
 use Rattle.std.specs.Result.{result_map_both}
 use Rattle.sq_lex.specs.declared.name.Name.{Name}
+use Rattle.sq_tree.specs.declared.module.ModuleText.{ModuleText}
 use Rattle.sq_bound.specs.declared.names.BaseTable.{BaseTable}
 use Rattle.sq_catalog.specs.declared.catalog.FullName.{FullName}
 use Rattle.sq_module.specs.declared.program.BoundProcedure.{BoundProcedure}
 use Rattle.sq_module.specs.declared.program.DeclaredCursor.{DeclaredCursor}
 use Rattle.sq_module.specs.declared.program.ProcedureName.{ProcedureName}
+use Rattle.sq_module.specs.declared.program.Program.{Program}
+use Rattle.sq_module.specs.Written.{IsOfTexts}
 use Rattle.sq_session.specs.Kind.{Procedure, kind_of}
 use Rattle.sq_session.specs.Parameter.{declared}
 use Rattle.sq_session.specs.State.{State}
@@ -47,3 +50,9 @@ name_of p = record { «module» = p.«module»; name = p.name }
 
 abbrev pub names_of : List Procedure → List ProcedureName
 names_of procedures = map name_of procedures
+
+-- the procedures are those of a program that is bound from these modules (12.1 and 12.3)
+pub record AreOfModules (modules : List ModuleText) (procedures : List Procedure) : Type 0 where
+  pub program : Program
+  pub is_of : IsOfTexts modules program
+  pub are : procedures ≡ procedures_of program.cursors.items program.procedures.entries

@@ -19,7 +19,7 @@ use Rattle.sq_meaning.specs.declared.status.Status.TheVariants as status
 use Rattle.sq_change.specs.Statement.{Deletes, Inserts, Updates}
 use Rattle.sq_query.specs.Fault.{status_of}
 use Rattle.sq_query.specs.Frame.{inputs_of}
-use Rattle.sq_query.specs.Specification.{HasNoSubquery, IsOverBase}
+use Rattle.sq_query.specs.Specification.{HasNoSubquery, IsOverBases}
 use Rattle.sq_query.specs.Table.{AreOfStore}
 use Rattle.sq_query.specs.declared.fault.Fault.{Fault}
 use Rattle.sq_query.specs.declared.fault.Fault.TheVariants as fault
@@ -101,10 +101,10 @@ MayClose number before d after = MayCloseIf (is_open (cursor_at before number)) 
 
 -- ---- SELECT INTO (13.5)
 
--- of a query over one base table without subqueries: the rows that it has, or the status of finding them
+-- of a query over base tables without subqueries: the rows that it has, or the status of finding them
 abbrev pub SelectIsMeant : Selecting → List Value → Content → Outcome (List (List Value)) → Type 0
 SelectIsMeant s values tables found =
-    IsOverBase s.query → HasNoSubquery s.query → (shown : TablePlace → Outcome (List Row)) → AreOfStore tables shown
+    IsOverBases s.query → HasNoSubquery s.query → (shown : TablePlace → Outcome (List Row)) → AreOfStore tables shown
     → found ≡ rows (by_place shown) (select_of s.query) (outermost (inputs_of values) s.user)
 
 -- the query has these rows, or ends with a status: the targets are set from the only row

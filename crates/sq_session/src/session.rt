@@ -10,7 +10,8 @@ ghost use Rattle.std.specs.Map.{keys_of};
 ghost use Rattle.sq_bound.specs.Fits.{AreInDomains, keys_of_bases};
 ghost use Rattle.sq_catalog.specs.Catalog.{column_kinds};
 ghost use Rattle.sq_module.specs.Program.{FitsProgram, ProgramIsWellFormed, declared_procedures};
-ghost use Rattle.sq_session.specs.Session.{names_of, procedure_number};
+ghost use Rattle.sq_module.specs.Written.{IsOfTexts};
+ghost use Rattle.sq_session.specs.Session.{AreOfModules, names_of, procedure_number, procedures_of};
 ghost use Rattle.sq_session.specs.State.{AreClosed};
 ghost use Rattle.sq_session.specs.Step.{MayCall, is_success};
 
@@ -65,6 +66,7 @@ impl<S: Store> Model for Session<S> {
 impl<S: Store> Session<S> {
     /// A session of these modules over a store of the catalog's tables and keys, with all cursors closed; or the first refusal,
     /// module by module.
+    #[tactic(auto, using(crate::proofs::Named::of_modules))]
     pub fn new(
         alloc: Global,
         catalog: Catalog,
@@ -76,6 +78,7 @@ impl<S: Store> Session<S> {
         requires keys { S.key_columns store ≡ keys_of_bases catalog.bases }
         ensures start { IfOk result (λ s. (s.state.tables ≡ S.content_now store) × (s.state.committed ≡ S.committed store) × AreClosed s.state.cursors) }
         ensures procedures { IfOk result (λ s. names_of s.procedures ≡ declared_procedures modules.now) }
+        ensures written { IfOk result (λ s. AreOfModules modules.now s.procedures) }
         ensures tables { IfOk result (λ s. s.tables ≡ catalog.tables) }
         ensures bases { IfOk result (λ s. s.bases ≡ catalog.bases) }
         ensures refused { IfErr result (IsOfSomeModule (length modules.now)) }
@@ -105,6 +108,7 @@ impl<S: Store> Session<S> {
         requires keys { S.key_columns store ≡ keys_of_bases catalog.bases }
         ensures start { IfOk result (λ s. (s.state.tables ≡ S.content_now store) × (s.state.committed ≡ S.committed store) × AreClosed s.state.cursors) }
         ensures procedures { IfOk result (λ s. names_of s.procedures ≡ keys_of program.procedures.entries) }
+        ensures program { IfOk result (λ s. s.procedures ≡ procedures_of program.cursors.items program.procedures.entries) }
         ensures tables { IfOk result (λ s. s.tables ≡ catalog.tables) }
         ensures bases { IfOk result (λ s. s.bases ≡ catalog.bases) }
     {
@@ -211,6 +215,7 @@ fn program_of(
     modules: &[ModuleText],
 ) -> Result<Program, SessionFault>
     ensures procedures { IfOk result (λ program. keys_of program.procedures.entries ≡ declared_procedures modules.now) }
+    ensures written { IfOk result (IsOfTexts modules.now) }
     ensures fits { IfOk result (λ program. FitsProgram catalog.now.bases program) }
     ensures well_formed { IfOk result (ProgramIsWellFormed (column_kinds catalog.now)) }
     ensures refused { IfErr result (IsOfSomeModule (length modules.now)) }

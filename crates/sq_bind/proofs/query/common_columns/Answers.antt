@@ -1,8 +1,15 @@
 use Rattle.std.proofs.Common.{rules, length, take, subst}
 use Rattle.sq_bind.specs.WellFormed.{AreCommon}
-use Rattle.sq_bind.proofs.Joins.{columns_more}
+use Rattle.sq_bind.proofs.Joins.{columns_begun, columns_more}
 use Rattle.sq_bind.proofs.Zipped.{zipped_all, zipped_more}
 use Rattle.sq_bind.proofs.query.common_columns.Goals as goal
+
+pub loop-column-init : goal.loop-column-init
+loop-column-init c = record {
+  can_next = search rules;
+  is_finite = search rules;
+  kinds = columns_begun c.args.left.now c.args.right.now _ c.new-columns.ensures;
+}
 
 pub loop-column-preserved : goal.loop-column-preserved
 loop-column-preserved c =
@@ -10,7 +17,7 @@ loop-column-preserved c =
     record {
       can_next = search rules;
       is_finite = search rules;
-      kinds = rw c.in_ok-push.ensures.ok (columns_more _ _ _ _ c.loop-column.columns c.in-Some.column.now c.in-Some.beside.now _ more.0 more.1 c.loop-column.invariant.kinds c.in_ok-kind.ensures.kind);
+      kinds = rw c.in_ok-push.ensures.ok (columns_more _ _ _ _ c.loop-column.columns c.in-Some.column.now c.in-Some.beside.now _ more.0 more.1 c.loop-column.invariant.kinds c.in_ok-kind.ensures.kind c.in_ok-kind.ensures.bounded);
     }
 
 pub returns : goal.returns

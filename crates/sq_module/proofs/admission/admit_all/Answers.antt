@@ -1,5 +1,6 @@
 use Rattle.sq_module.specs.Admitted.{admitted_procedures}
 use Rattle.sq_module.proofs.Names.{declared_next, modules_next}
+use Rattle.sq_module.proofs.Written.{among_at, of_texts_next}
 use Rattle.sq_module.proofs.admission.admit_all.Goals as goal
 
 pub loop-text-preserved : goal.loop-text-preserved
@@ -12,4 +13,6 @@ loop-text-preserved c =
       names = next.1;
       declared = declared_next c.args.modules.now c.loop-text.text c.index-modules-text.result (admitted_procedures c.loop-text.admitted.items) (admitted_procedures c.admit_next.new.admitted.items)
           c.loop-text-test.true c.index-modules-text.is c.loop-text.invariant.declared c.in_default.ensures.declared;
+      written = of_texts_next c.args.modules.now c.index-modules-text.result c.loop-text.admitted.items c.admit_next.new.admitted.items
+          (among_at c.args.modules.now c.loop-text.text c.index-modules-text.result c.loop-text-test.true c.index-modules-text.is) c.in_default.ensures.written c.loop-text.invariant.written;
     }

@@ -1,7 +1,10 @@
 use Rattle.sq_module.proofs.Names.{procedures_next}
+use Rattle.sq_module.proofs.Written.{among_at}
 use Rattle.sq_module.proofs.admission.procedures_of.Goals as goal
 
 pub loop-place-preserved : goal.loop-place-preserved
-loop-place-preserved c =
-    procedures_next c.args.items.now c.loop-place.place c.index-items-place.result c.loop-place.procedures.items c.add_procedure.new.procedures.items
-    c.loop-place-test.true c.index-items-place.is c.loop-place.invariant c.in_default.ensures.names
+loop-place-preserved c = record {
+  names = procedures_next c.args.items.now c.loop-place.place c.index-items-place.result c.loop-place.procedures.items c.add_procedure.new.procedures.items
+      c.loop-place-test.true c.index-items-place.is c.loop-place.invariant.names c.in_default.ensures.names;
+  written = c.in_default.ensures.written c.args.items.now (among_at c.args.items.now c.loop-place.place c.index-items-place.result c.loop-place-test.true c.index-items-place.is) c.loop-place.invariant.written;
+}

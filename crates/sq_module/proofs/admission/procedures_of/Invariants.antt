@@ -1,7 +1,12 @@
 use Rattle.std.proofs.Common.{◌≡◌, take}
 use Rattle.sq_module.specs.Admitted.{procedure_names}
 use Rattle.sq_module.specs.Program.{names_in}
+use Rattle.sq_module.specs.Written.{IsProcedureOf}
+use Rattle.std.specs.List.{AllByRecursion}
 use Rattle.sq_module.proofs.admission.procedures_of.Given as goal
 
 abbrev pub invariant-loop-place : goal.invariant-loop-place
-invariant-loop-place l = procedure_names l.procedures.items ≡ names_in (take l.place l.items)
+invariant-loop-place l = record {
+  names : procedure_names l.procedures.items ≡ names_in (take l.place l.items);
+  written : AllByRecursion (IsProcedureOf l.items) l.procedures.items;
+}

@@ -41,7 +41,7 @@ query_rows-returns-clause-unions t c =
     all_meant c.args.query.now c.args.context.now c.as_slice-union-items.result.now c.loop-union.union-index c.loop-union.so_far c.as_slice-union-items.ensures c.loop-union-test.false c.loop-union.invariant.unions
 
 pub term_rows-returns-in-Specification-clause-unions : goal.term_rows-returns-in-Specification-clause-unions
-term_rows-returns-in-Specification-clause-unions t c = rows_of_specification c.rows.result c.args.context.now c.args.term.now _ c.in-Specification.is c.rows.ensures.rows
+term_rows-returns-in-Specification-clause-unions t c = rows_of_specification c.rows.result c.args.context.now c.args.term.now _ c.in-Specification.is c.rows.ensures.joined
 
 pub term_rows-returns-in-Bracketed-clause-unions : goal.term_rows-returns-in-Bracketed-clause-unions
 term_rows-returns-in-Bracketed-clause-unions t c =

@@ -6,10 +6,8 @@ use Rattle.sq_query.proofs.KindsOfTables.{have_kinds, view_of_kinds}
 use Rattle.sq_query.proofs.view.view_rows.Goals as goal
 
 pub returns : goal.returns
-returns g c = λ bases views.
-    let columns = g.N.Names.column_kinds c.args.names.now in
+returns c = λ columns view bases views.
     let context : Context = record { alloc = c.args.alloc; user = c.args.user; parameters = record { ref_ptr = (0, 0); now = [] }; bases = c.args.bases; views = c.args.views } in
-    let view = c.in-Some.ensures.is in
-    let kinds = kinds_of_select c.in-Some.view.now.query in
+    let kinds = kinds_of_select c.args.view.now.query in
     view_of_kinds columns c.args.place kinds c.outcome_of_view.result view.1 c.outcome_of_view.ensures.place
-    (c.outcome_of_view.ensures.kinds kinds (c.outermost_rows.ensures.kinds columns [] (have_kinds columns context bases views) tt (is_select_wider (before_view c.args.place columns) columns [] [] (before_extends columns c.args.place) (λ n k e. e) [] c.in-Some.view.now.query view.0)))
+    (c.outcome_of_view.ensures.kinds kinds (c.outermost_rows.ensures.kinds columns [] (have_kinds columns context bases views) tt (is_select_wider (before_view c.args.place columns) columns [] [] (before_extends columns c.args.place) (λ n k e. e) [] c.args.view.now.query view.0)))

@@ -1,4 +1,4 @@
-use Rattle.std.proofs.Common.{◌≡◌, [], Ok, take, refl, sym, subst, ◌∙◌}
+use Rattle.std.proofs.Common.{◌≡◌, [], Ok, take, refl, sym, subst, ◌∙◌, arith}
 use Rattle.std.specs.Prelude.{IfOk}
 use Rattle.sq_tree.specs.declared.expr.Added.{out-Added}
 use Rattle.sq_meaning.proofs.SpelledLevels.{factor_of-out, primary_of-Bracketed, primary_of-Column, primary_of-CountRows, primary_of-Number, primary_of-Parameter, primary_of-SetFunction, primary_of-Text, primary_of-User}
@@ -11,6 +11,9 @@ use Rattle.sq_scope.specs.Scope.{scopes_in}
 use Rattle.sq_scope.specs.WellFormed.{IsTyped}
 use Rattle.sq_scope.proofs.Bindings as bindings
 use Rattle.sq_scope.proofs.InOrder as ordered
+use Rattle.sq_scope.proofs.Quiet as quiet
+use Rattle.sq_scope.proofs.ItemsRead as reads
+use Rattle.sq_scope.proofs.Reaches as reaches
 use Rattle.sq_scope.proofs.Typings as typings
 use Rattle.sq_scope.proofs.Bindings.{grows_further, product_first, product_next, product_so_far, product_whole, sum_first, sum_next, sum_so_far, sum_whole}
 use Rattle.sq_scope.proofs.expression.+bind_expr.Goals as goal
@@ -23,6 +26,12 @@ expr_value-loop-added-init t c = (
   c.term_value-bound.ensures.grows,
   c.term_value-bound.ensures.finds,
   c.term_value-bound.ensures.in_order,
+  c.term_value-bound.ensures.quiet,
+  c.term_value-bound.ensures.reads,
+  c.term_value-bound.ensures.further,
+  c.term_value-bound.ensures.reach,
+  c.term_value-bound.ensures.outward,
+  c.term_value-bound.ensures.own,
 )
 
 pub expr_value-loop-added-preserved : goal.expr_value-loop-added-preserved
@@ -43,6 +52,13 @@ expr_value-loop-added-preserved t c =
       (λ h. c.term_value-term.ensures.finds (c.loop-added.invariant.3 h)),
       ordered.operation_in_order c.args.functions.now.calls c.loop-added.functions.calls c.term_value-term.new.functions.calls c.sum_operator.result c.loop-added.bound c.term_value-term.result c.operation-bound.result
           c.loop-added.invariant.4 c.term_value-term.ensures.in_order c.operation-bound.ensures,
+      quiet.noted_anyway c.operation-bound.result,
+      reads.operation_read c.loop-added.findings.items c.term_value-term.new.findings.items c.sum_operator.result c.loop-added.bound c.term_value-term.result c.operation-bound.result c.term_value-term.ensures.further c.loop-added.invariant.6 c.term_value-term.ensures.reads c.operation-bound.ensures,
+      omega (arith, c.loop-added.invariant.7, c.term_value-term.ensures.further),
+      reaches.operation_reaches c.loop-added.findings.reach c.term_value-term.new.findings.reach c.sum_operator.result c.loop-added.bound c.term_value-term.result c.operation-bound.result
+          c.term_value-term.ensures.outward c.loop-added.invariant.8 c.term_value-term.ensures.reach c.operation-bound.ensures,
+      omega (arith, c.loop-added.invariant.9, c.term_value-term.ensures.outward),
+      (λ own. c.term_value-term.ensures.own (c.loop-added.invariant.10 own)),
     )
 
 pub expr_value-returns-clause-bound : goal.expr_value-returns-clause-bound
@@ -67,6 +83,12 @@ term_value-loop-scaled-init t c = (
   c.factor_value-bound.ensures.grows,
   c.factor_value-bound.ensures.finds,
   c.factor_value-bound.ensures.in_order,
+  c.factor_value-bound.ensures.quiet,
+  c.factor_value-bound.ensures.reads,
+  c.factor_value-bound.ensures.further,
+  c.factor_value-bound.ensures.reach,
+  c.factor_value-bound.ensures.outward,
+  c.factor_value-bound.ensures.own,
 )
 
 pub term_value-loop-scaled-preserved : goal.term_value-loop-scaled-preserved
@@ -87,6 +109,13 @@ term_value-loop-scaled-preserved t c =
       (λ h. c.factor_value-factor.ensures.finds (c.loop-scaled.invariant.3 h)),
       ordered.operation_in_order c.args.functions.now.calls c.loop-scaled.functions.calls c.factor_value-factor.new.functions.calls c.product_operator.result c.loop-scaled.bound c.factor_value-factor.result c.operation-bound.result
           c.loop-scaled.invariant.4 c.factor_value-factor.ensures.in_order c.operation-bound.ensures,
+      quiet.noted_anyway c.operation-bound.result,
+      reads.operation_read c.loop-scaled.findings.items c.factor_value-factor.new.findings.items c.product_operator.result c.loop-scaled.bound c.factor_value-factor.result c.operation-bound.result c.factor_value-factor.ensures.further c.loop-scaled.invariant.6 c.factor_value-factor.ensures.reads c.operation-bound.ensures,
+      omega (arith, c.loop-scaled.invariant.7, c.factor_value-factor.ensures.further),
+      reaches.operation_reaches c.loop-scaled.findings.reach c.factor_value-factor.new.findings.reach c.product_operator.result c.loop-scaled.bound c.factor_value-factor.result c.operation-bound.result
+          c.factor_value-factor.ensures.outward c.loop-scaled.invariant.8 c.factor_value-factor.ensures.reach c.operation-bound.ensures,
+      omega (arith, c.loop-scaled.invariant.9, c.factor_value-factor.ensures.outward),
+      (λ own. c.factor_value-factor.ensures.own (c.loop-scaled.invariant.10 own)),
     )
 
 pub term_value-returns-clause-bound : goal.term_value-returns-clause-bound
@@ -265,3 +294,95 @@ primary_value-returns-in-User-clause-in_order t c = ordered.none_in_order c.args
 pub primary_value-returns-in-Column-clause-in_order : goal.primary_value-returns-in-Column-clause-in_order
 primary_value-returns-in-Column-clause-in_order t c =
     ordered.column_in_order c.args.functions.now.calls c.args.environment.now c.column_value.new.findings.has_ungrouped c.in-Column.reference c.column_value.result c.column_value.ensures.column
+
+-- ---- values that are no fault
+
+pub expr_value-returns-clause-quiet : goal.expr_value-returns-clause-quiet
+expr_value-returns-clause-quiet t c = c.loop-added.invariant.5
+
+pub term_value-returns-clause-quiet : goal.term_value-returns-clause-quiet
+term_value-returns-clause-quiet t c = c.loop-scaled.invariant.5
+
+pub factor_value-returns-in-Some-clause-quiet : goal.factor_value-returns-in-Some-clause-quiet
+factor_value-returns-in-Some-clause-quiet t c =
+    quiet.signed_quiet c.primary_value-bound.new.findings.can_fail c.in-Some.sign c.primary_value-bound.result c.signed.result c.primary_value-bound.ensures.quiet c.signed.ensures
+
+pub primary_value-returns-in-Number-clause-quiet : goal.primary_value-returns-in-Number-clause-quiet
+primary_value-returns-in-Number-clause-quiet t c = quiet.number_quiet c.args.findings.now.can_fail c.in-Number.number c.number_literal.result c.number_literal.ensures
+
+pub primary_value-returns-in-Text-clause-quiet : goal.primary_value-returns-in-Text-clause-quiet
+primary_value-returns-in-Text-clause-quiet t c = quiet.text_quiet c.args.findings.now.can_fail c.in-Text.characters c.text_literal.result c.text_literal.ensures
+
+pub primary_value-returns-in-Parameter-clause-quiet : goal.primary_value-returns-in-Parameter-clause-quiet
+primary_value-returns-in-Parameter-clause-quiet t c =
+    quiet.parameter_quiet c.args.findings.now.can_fail c.args.environment.now.parameters.now c.in-Parameter.parameter c.parameter_value.result c.parameter_value.ensures
+
+pub primary_value-returns-in-User-clause-quiet : goal.primary_value-returns-in-User-clause-quiet
+primary_value-returns-in-User-clause-quiet t c = λ no. quiet.leaf_quiet user c.user_value.result refl c.user_value.ensures.tree
+
+pub primary_value-returns-in-Column-clause-quiet : goal.primary_value-returns-in-Column-clause-quiet
+primary_value-returns-in-Column-clause-quiet t c =
+    quiet.column_quiet c.column_value.new.findings.can_fail c.args.environment.now c.column_value.new.findings.has_ungrouped c.in-Column.reference c.column_value.result c.column_value.ensures.column
+
+pub primary_value-returns-in-CountRows-clause-quiet : goal.primary_value-returns-in-CountRows-clause-quiet
+primary_value-returns-in-CountRows-clause-quiet t c = quiet.quiet_anyway c.args.findings.now.can_fail c.count_rows.result c.count_rows.ensures.quiet
+
+pub primary_value-returns-in-SetFunction-clause-quiet : goal.primary_value-returns-in-SetFunction-clause-quiet
+primary_value-returns-in-SetFunction-clause-quiet t c = quiet.quiet_anyway c.args.findings.now.can_fail c.set_function.result c.set_function.ensures.quiet
+
+-- ---- the items that are read
+
+pub expr_value-returns-clause-reads : goal.expr_value-returns-clause-reads
+expr_value-returns-clause-reads t c = c.loop-added.invariant.6
+
+pub term_value-returns-clause-reads : goal.term_value-returns-clause-reads
+term_value-returns-clause-reads t c = c.loop-scaled.invariant.6
+
+pub factor_value-returns-in-Some-clause-reads : goal.factor_value-returns-in-Some-clause-reads
+factor_value-returns-in-Some-clause-reads t c =
+    reads.signed_read c.primary_value-bound.new.findings.items c.in-Some.sign c.primary_value-bound.result c.signed.result c.primary_value-bound.ensures.reads c.signed.ensures
+
+pub primary_value-returns-in-Number-clause-reads : goal.primary_value-returns-in-Number-clause-reads
+primary_value-returns-in-Number-clause-reads t c = reads.number_read c.args.findings.now.items c.in-Number.number c.number_literal.result c.number_literal.ensures
+
+pub primary_value-returns-in-Text-clause-reads : goal.primary_value-returns-in-Text-clause-reads
+primary_value-returns-in-Text-clause-reads t c = reads.text_read c.args.findings.now.items c.in-Text.characters c.text_literal.result c.text_literal.ensures
+
+pub primary_value-returns-in-Parameter-clause-reads : goal.primary_value-returns-in-Parameter-clause-reads
+primary_value-returns-in-Parameter-clause-reads t c =
+    reads.parameter_read c.args.findings.now.items c.args.environment.now.parameters.now c.in-Parameter.parameter c.parameter_value.result c.parameter_value.ensures
+
+pub primary_value-returns-in-User-clause-reads : goal.primary_value-returns-in-User-clause-reads
+primary_value-returns-in-User-clause-reads t c = reads.leaf_read c.user_value.new.findings.items user c.user_value.result tt c.user_value.ensures.tree
+
+pub primary_value-returns-in-CountRows-clause-reads : goal.primary_value-returns-in-CountRows-clause-reads
+primary_value-returns-in-CountRows-clause-reads t c = reads.read_more 0 c.args.findings.now.items c.count_rows.result (omega arith) c.count_rows.ensures.reads
+
+pub primary_value-returns-in-SetFunction-clause-reads : goal.primary_value-returns-in-SetFunction-clause-reads
+primary_value-returns-in-SetFunction-clause-reads t c = reads.read_more 0 c.args.findings.now.items c.set_function.result (omega arith) c.set_function.ensures.reads
+
+-- ---- how far out the columns are
+
+pub expr_value-returns-clause-reach : goal.expr_value-returns-clause-reach
+expr_value-returns-clause-reach t c = c.loop-added.invariant.8
+
+pub expr_value-returns-clause-outward : goal.expr_value-returns-clause-outward
+expr_value-returns-clause-outward t c = c.loop-added.invariant.9
+
+pub expr_value-returns-clause-own : goal.expr_value-returns-clause-own
+expr_value-returns-clause-own t c = c.loop-added.invariant.10
+
+pub term_value-returns-clause-reach : goal.term_value-returns-clause-reach
+term_value-returns-clause-reach t c = c.loop-scaled.invariant.8
+
+pub term_value-returns-clause-outward : goal.term_value-returns-clause-outward
+term_value-returns-clause-outward t c = c.loop-scaled.invariant.9
+
+pub term_value-returns-clause-own : goal.term_value-returns-clause-own
+term_value-returns-clause-own t c = c.loop-scaled.invariant.10
+
+pub primary_value-returns-in-CountRows-clause-reach : goal.primary_value-returns-in-CountRows-clause-reach
+primary_value-returns-in-CountRows-clause-reach t c = reaches.reach_more_if 0 c.args.findings.now.reach c.count_rows.result (omega arith) c.count_rows.ensures.reach
+
+pub primary_value-returns-in-SetFunction-clause-reach : goal.primary_value-returns-in-SetFunction-clause-reach
+primary_value-returns-in-SetFunction-clause-reach t c = reaches.reach_more_if 0 c.args.findings.now.reach c.set_function.result (omega arith) c.set_function.ensures.reach

@@ -1,8 +1,11 @@
-use Rattle.std.proofs.Common.{arith, refl, ap, ◌∙◌}
+use Rattle.std.proofs.Common.{◌≤◌, ℕ, [], arith, refl, sym, subst, ap, ◌∙◌}
 use Rattle.std.specs.Prelude.{◌||◌}
 use Rattle.sq_bound.proofs.ExpressionLaws.{expr_of-Column}
+use Rattle.sq_bound.specs.Columns.{ExprReadsItems}
 use Rattle.sq_scope.specs.WellFormed.{IsRead, groupings_in}
 use Rattle.sq_scope.proofs.Levels.{read_grouped, read_nearest}
+use Rattle.sq_bound.specs.declared.expression.BoundExpr.TheVariants as bound
+use Rattle.sq_scope.proofs.Reaches.{column_reaches}
 use Rattle.sq_scope.proofs.expression.column_value.Goals as goal
 use Rattle.sq_scope.proofs.expression.column_value.Goals.{else-place-gt0-via-then-place-gt0+else-not-found, else-place-gt0-via-else-place-gt0}
 
@@ -23,3 +26,16 @@ returns-clause-column c =
       kind_is = refl;
       is_read = read;
     }
+
+pub returns-clause-reads : goal.returns-clause-reads
+returns-clause-reads c =
+    let found = c.in_ok-found.found in
+    subst (ExprReadsItems c.and.result.items) (sym (expr_of-Column [] found.place)) (λ near.
+    let here = c.column_findings.ensures.items c.in_ok-found.ensures.numbered near in
+    omega (arith, c.and.ensures.items, here))
+
+pub returns-clause-reach : goal.returns-clause-reach
+returns-clause-reach c =
+    let place = c.in_ok-found.found.place in
+    let reach = c.and.result.reach in
+    column_reaches reach place (bound.Column place) (subst (λ (d : ℕ). d ≤ reach) c.column_findings.ensures.reach c.and.ensures.reach.1) (λ functions. expr_of-Column functions place)

@@ -1,3 +1,6 @@
+use Rattle.sq_select.specs.Reach.{ConjReaches, TestReaches}
+use Rattle.sq_scope.specs.Reach.{AreOwnCalls}
+use Rattle.sq_select.proofs.Reaches as reaches
 use Rattle.sq_scope.specs.declared.scope.FromItem.{FromItem}
 use Rattle.std.proofs.Common.{◌≡◌, true, false, List, refl, sym, subst, ◌∙◌}
 use Rattle.std.proofs.lemmas.Result.{IfOk-weaker}
@@ -10,7 +13,11 @@ use Rattle.sq_scope.specs.WellFormed.{IsItemOver, allows_none, is_no_column}
 use Rattle.sq_select.proofs.Columns.{list_at_more, select_in, tables_there}
 use Rattle.sq_select.proofs.Contexts.{each_everywhere, gathered_all, gathered_none, typed_in, typed_more}
 use Rattle.sq_select.proofs.InOrder.{all_added, gathered_next, gathered_nothing, under}
+use Rattle.sq_select.proofs.ItemsRead.{conj_more_items, next_within, none_within, test_more_items}
+use Rattle.sq_select.proofs.Quiet.{next_noted, none_noted}
 use Rattle.sq_select.proofs.Trees.{part_more}
+use Rattle.sq_bound.specs.Noted.{AreNotedTests, IsNotedTest}
+use Rattle.sq_select.specs.Noted.{conj_quiet, conj_reads, test_quiet, test_reads}
 use Rattle.sq_select.specs.InOrder.{conj_functions, test_functions}
 use Rattle.sq_select.specs.WellFormed.{IsConjAt, IsConjIn, IsHavingAt, IsListAt, IsTestAt, IsTestIn, here, parameters_in}
 use Rattle.sq_select.proofs.condition.+bind_cond.Goals as goal
@@ -19,10 +26,15 @@ pub bind_cond-loop-conj-init : goal.bind_cond-loop-conj-init
 bind_cond-loop-conj-init g t c =
     let x = here (g.N.Names.column_kinds c.args.names.now) c.args.environment.now c.args.functions.now.allowed in
     let P = IsConjAt x c.bind_conj-first.new.functions.calls in (
-      gathered_all x P c.none.result c.bind_conj-first.result c.gathered-terms.result c.gathered-terms.ensures (gathered_none x P c.none.result c.none.ensures) c.bind_conj-first.ensures.well_formed,
+      gathered_all x P c.none.result c.bind_conj-first.result c.gathered-terms.result c.gathered-terms.ensures.gathers (gathered_none x P c.none.result c.none.ensures) c.bind_conj-first.ensures.well_formed,
       c.bind_conj-first.ensures.grows,
       (let before = c.args.functions.now.calls in
-          gathered_next conj_functions before before c.bind_conj-first.new.functions.calls c.none.result c.bind_conj-first.result c.gathered-terms.result c.gathered-terms.ensures (gathered_nothing conj_functions before c.none.result c.none.ensures) c.bind_conj-first.ensures.in_order),
+          gathered_next conj_functions before before c.bind_conj-first.new.functions.calls c.none.result c.bind_conj-first.result c.gathered-terms.result c.gathered-terms.ensures.gathers (gathered_nothing conj_functions before c.none.result c.none.ensures) c.bind_conj-first.ensures.in_order),
+      next_noted conj_quiet AreNotedTests c.none.result c.bind_conj-first.result c.gathered-terms.result c.gathered-terms.ensures.gathers (none_noted conj_quiet AreNotedTests c.none.result c.none.ensures) c.bind_conj-first.ensures.quiet,
+      next_within conj_reads conj_more_items c.none.result c.bind_conj-first.result c.gathered-terms.result c.gathered-terms.ensures.gathers (none_within conj_reads c.none.result c.none.ensures) c.bind_conj-first.ensures.reads,
+      reaches.gathered_reach ConjReaches reaches.conj_grows c.none.result c.bind_conj-first.result c.gathered-terms.result c.gathered-terms.ensures.gathers c.gathered-terms.ensures.reach
+          (reaches.none_reach ConjReaches c.none.result c.none.ensures) c.bind_conj-first.ensures.reach,
+      c.bind_conj-first.ensures.own,
     )
 
 pub bind_cond-loop-conj-preserved : goal.bind_cond-loop-conj-preserved
@@ -33,11 +45,16 @@ bind_cond-loop-conj-preserved g t c =
     let before = c.loop-conj.functions in
     let calls = c.bind_conj-term.new.functions.calls in
     let adds = c.bind_conj-term.ensures.grows.0 in (
-      gathered_all x (IsConjAt x calls) c.loop-conj.terms c.bind_conj-term.result c.gathered-terms-in-loop-conj.result c.gathered-terms-in-loop-conj.ensures
+      gathered_all x (IsConjAt x calls) c.loop-conj.terms c.bind_conj-term.result c.gathered-terms-in-loop-conj.result c.gathered-terms-in-loop-conj.ensures.gathers
           (each_everywhere x (IsConjAt x before.calls) (IsConjAt x calls) c.loop-conj.terms (λ levels y. part_more kinds (parameters_in x) levels before.calls calls (λ functions. conj_of functions y) adds) c.loop-conj.invariant.0)
           (subst (λ a. IfOk c.bind_conj-term.result (IsConjIn kinds environment a calls)) c.loop-conj.invariant.1.1 c.bind_conj-term.ensures.well_formed),
       grows_further c.args.functions.now before c.bind_conj-term.new.functions c.loop-conj.invariant.1 c.bind_conj-term.ensures.grows,
-      gathered_next conj_functions c.args.functions.now.calls before.calls calls c.loop-conj.terms c.bind_conj-term.result c.gathered-terms-in-loop-conj.result c.gathered-terms-in-loop-conj.ensures c.loop-conj.invariant.2 c.bind_conj-term.ensures.in_order,
+      gathered_next conj_functions c.args.functions.now.calls before.calls calls c.loop-conj.terms c.bind_conj-term.result c.gathered-terms-in-loop-conj.result c.gathered-terms-in-loop-conj.ensures.gathers c.loop-conj.invariant.2 c.bind_conj-term.ensures.in_order,
+      next_noted conj_quiet AreNotedTests c.loop-conj.terms c.bind_conj-term.result c.gathered-terms-in-loop-conj.result c.gathered-terms-in-loop-conj.ensures.gathers c.loop-conj.invariant.3 c.bind_conj-term.ensures.quiet,
+      next_within conj_reads conj_more_items c.loop-conj.terms c.bind_conj-term.result c.gathered-terms-in-loop-conj.result c.gathered-terms-in-loop-conj.ensures.gathers c.loop-conj.invariant.4 c.bind_conj-term.ensures.reads,
+      reaches.gathered_reach ConjReaches reaches.conj_grows c.loop-conj.terms c.bind_conj-term.result c.gathered-terms-in-loop-conj.result c.gathered-terms-in-loop-conj.ensures.gathers c.gathered-terms-in-loop-conj.ensures.reach
+          c.loop-conj.invariant.5 c.bind_conj-term.ensures.reach,
+      (λ own. c.bind_conj-term.ensures.own (c.loop-conj.invariant.6 own)),
     )
 
 pub bind_cond-returns-clause-well_formed : goal.bind_cond-returns-clause-well_formed
@@ -51,10 +68,15 @@ pub bind_conj-loop-test-init : goal.bind_conj-loop-test-init
 bind_conj-loop-test-init g t c =
     let x = here (g.N.Names.column_kinds c.args.names.now) c.args.environment.now c.args.functions.now.allowed in
     let P = IsTestAt x c.bind_test-first.new.functions.calls in (
-      gathered_all x P c.none.result c.bind_test-first.result c.gathered-tests.result c.gathered-tests.ensures (gathered_none x P c.none.result c.none.ensures) c.bind_test-first.ensures.well_formed,
+      gathered_all x P c.none.result c.bind_test-first.result c.gathered-tests.result c.gathered-tests.ensures.gathers (gathered_none x P c.none.result c.none.ensures) c.bind_test-first.ensures.well_formed,
       c.bind_test-first.ensures.grows,
       (let before = c.args.functions.now.calls in
-          gathered_next test_functions before before c.bind_test-first.new.functions.calls c.none.result c.bind_test-first.result c.gathered-tests.result c.gathered-tests.ensures (gathered_nothing test_functions before c.none.result c.none.ensures) c.bind_test-first.ensures.in_order),
+          gathered_next test_functions before before c.bind_test-first.new.functions.calls c.none.result c.bind_test-first.result c.gathered-tests.result c.gathered-tests.ensures.gathers (gathered_nothing test_functions before c.none.result c.none.ensures) c.bind_test-first.ensures.in_order),
+      next_noted test_quiet IsNotedTest c.none.result c.bind_test-first.result c.gathered-tests.result c.gathered-tests.ensures.gathers (none_noted test_quiet IsNotedTest c.none.result c.none.ensures) c.bind_test-first.ensures.quiet,
+      next_within test_reads test_more_items c.none.result c.bind_test-first.result c.gathered-tests.result c.gathered-tests.ensures.gathers (none_within test_reads c.none.result c.none.ensures) c.bind_test-first.ensures.reads,
+      reaches.gathered_reach TestReaches reaches.test_grows c.none.result c.bind_test-first.result c.gathered-tests.result c.gathered-tests.ensures.gathers c.gathered-tests.ensures.reach
+          (reaches.none_reach TestReaches c.none.result c.none.ensures) c.bind_test-first.ensures.reach,
+      c.bind_test-first.ensures.own,
     )
 
 pub bind_conj-loop-test-preserved : goal.bind_conj-loop-test-preserved
@@ -65,11 +87,16 @@ bind_conj-loop-test-preserved g t c =
     let before = c.loop-test.functions in
     let calls = c.bind_test-factor.new.functions.calls in
     let adds = c.bind_test-factor.ensures.grows.0 in (
-      gathered_all x (IsTestAt x calls) c.loop-test.tests c.bind_test-factor.result c.gathered-tests-in-loop-test.result c.gathered-tests-in-loop-test.ensures
+      gathered_all x (IsTestAt x calls) c.loop-test.tests c.bind_test-factor.result c.gathered-tests-in-loop-test.result c.gathered-tests-in-loop-test.ensures.gathers
           (each_everywhere x (IsTestAt x before.calls) (IsTestAt x calls) c.loop-test.tests (λ levels y. part_more kinds (parameters_in x) levels before.calls calls (λ functions. test_of functions y) adds) c.loop-test.invariant.0)
           (subst (λ a. IfOk c.bind_test-factor.result (IsTestIn kinds environment a calls)) c.loop-test.invariant.1.1 c.bind_test-factor.ensures.well_formed),
       grows_further c.args.functions.now before c.bind_test-factor.new.functions c.loop-test.invariant.1 c.bind_test-factor.ensures.grows,
-      gathered_next test_functions c.args.functions.now.calls before.calls calls c.loop-test.tests c.bind_test-factor.result c.gathered-tests-in-loop-test.result c.gathered-tests-in-loop-test.ensures c.loop-test.invariant.2 c.bind_test-factor.ensures.in_order,
+      gathered_next test_functions c.args.functions.now.calls before.calls calls c.loop-test.tests c.bind_test-factor.result c.gathered-tests-in-loop-test.result c.gathered-tests-in-loop-test.ensures.gathers c.loop-test.invariant.2 c.bind_test-factor.ensures.in_order,
+      next_noted test_quiet IsNotedTest c.loop-test.tests c.bind_test-factor.result c.gathered-tests-in-loop-test.result c.gathered-tests-in-loop-test.ensures.gathers c.loop-test.invariant.3 c.bind_test-factor.ensures.quiet,
+      next_within test_reads test_more_items c.loop-test.tests c.bind_test-factor.result c.gathered-tests-in-loop-test.result c.gathered-tests-in-loop-test.ensures.gathers c.loop-test.invariant.4 c.bind_test-factor.ensures.reads,
+      reaches.gathered_reach TestReaches reaches.test_grows c.loop-test.tests c.bind_test-factor.result c.gathered-tests-in-loop-test.result c.gathered-tests-in-loop-test.ensures.gathers c.gathered-tests-in-loop-test.ensures.reach
+          c.loop-test.invariant.5 c.bind_test-factor.ensures.reach,
+      (λ own. c.bind_test-factor.ensures.own (c.loop-test.invariant.6 own)),
     )
 
 pub bind_conj-returns-clause-well_formed : goal.bind_conj-returns-clause-well_formed
@@ -79,36 +106,35 @@ bind_conj-returns-clause-well_formed g t c =
 pub bind_conj-returns-clause-grows : goal.bind_conj-returns-clause-grows
 bind_conj-returns-clause-grows g t c = c.loop-test.invariant.1
 
-pub bind_select-returns : goal.bind_select-returns
-bind_select-returns g t c =
+pub bind_select-returns-clause-well_formed : goal.bind_select-returns-clause-well_formed
+bind_select-returns-clause-well_formed g t c =
     let kinds = g.N.Names.column_kinds c.args.names.now in
     let environment = c.args.environment.now in
     let parameters = kinds_of_parameters environment.parameters.now in
     let clause = c.in_ok-items.field-0 in
-    let over : (items : List FromItem) → items ≡ clause.items → AllZip (IsItemOver kinds) clause.tables items = λ items same. subst (AllZip (IsItemOver kinds) clause.tables) (sym same) c.in_ok-items.ensures in
+    let over : (items : List FromItem) → items ≡ clause.items → AllZip (IsItemOver kinds) clause.tables items = λ items same. subst (AllZip (IsItemOver kinds) clause.tables) (sym same) c.in_ok-items.ensures.over in
     let groups = c.group_by-groups.result in
     let calls = c.bind_having-having.new.functions.calls in
-    record {
-      well_formed = select_in kinds environment c.make_specification.result (λ levels are. c.make_specification.ensures kinds parameters levels (record {
-        tables = tables_there kinds clause.tables clause.items c.in_ok-items.ensures;
-        condition = c.bind_where-condition.ensures clause.tables levels (over c.as_slice.result.now c.as_slice.ensures) are;
-        groups = c.group_by-groups.ensures.well_formed kinds clause.tables levels (over c.as_slice-2.result.now c.as_slice-2.ensures) are;
-        list = IfOk-weaker groups (λ found. allows_none c.grouping_of.result ≡ is_no_column found.part)
-            (λ found. IfOk c.select_list-selected.result (IsListAt kinds parameters clause.tables levels (is_no_column found.part) calls))
-            (λ found e. subst (λ b. IfOk c.select_list-selected.result (IsListAt kinds parameters clause.tables levels b calls)) e
-            (list_at_more kinds parameters clause.tables levels (allows_none c.grouping_of.result) c.select_list-selected.new.functions.calls calls c.select_list-selected.result c.bind_having-having.ensures.grows.0
-            (c.select_list-selected.ensures.well_formed kinds clause.tables levels (over c.as_slice-3.result.now c.as_slice-3.ensures) are)))
-            c.grouping_of.ensures;
-        having = IfOk-weaker groups (λ found. allows_none c.grouping_of-2.result ≡ is_no_column found.part)
-            (λ found. IfOk c.bind_having-having.result (IsHavingAt kinds parameters clause.tables levels (is_no_column found.part) calls))
-            (λ found e. subst (λ b. IfOk c.bind_having-having.result (IsHavingAt kinds parameters clause.tables levels b calls)) e
-            (c.bind_having-having.ensures.well_formed clause.tables levels (over c.as_slice-4.result.now c.as_slice-4.ensures) are))
-            c.grouping_of-2.ensures;
-        by_columns = under (c.is_some.result ≡ true) (λ found. is_no_column found.part ≡ false) groups (λ h. c.group_by-groups.ensures.some (sym c.is_some.ensures ∙ h));
-        in_order = all_added c.allowed-functions.result.calls c.select_list-selected.new.functions.calls calls c.select_list-selected.result c.bind_having-having.result c.allowed-functions.ensures
-            c.select_list-selected.ensures.in_order c.bind_having-having.ensures.in_order;
-      }));
-    }
+    select_in kinds environment c.make_specification.result (λ levels are. c.make_specification.ensures.well_formed kinds parameters levels (record {
+      tables = tables_there kinds clause.tables clause.items c.in_ok-items.ensures.over;
+      condition = c.bind_where-condition.ensures.well_formed clause.tables levels (over c.as_slice.result.now c.as_slice.ensures) are;
+      groups = c.group_by-groups.ensures.well_formed kinds clause.tables levels (over c.as_slice-2.result.now c.as_slice-2.ensures) are;
+      list = IfOk-weaker groups (λ found. allows_none c.grouping_of.result ≡ is_no_column found.part)
+          (λ found. IfOk c.select_list-selected.result (IsListAt kinds parameters clause.tables levels (is_no_column found.part) calls))
+          (λ found e. subst (λ b. IfOk c.select_list-selected.result (IsListAt kinds parameters clause.tables levels b calls)) e
+          (list_at_more kinds parameters clause.tables levels (allows_none c.grouping_of.result) c.select_list-selected.new.functions.calls calls c.select_list-selected.result c.bind_having-having.ensures.grows.0
+          (c.select_list-selected.ensures.well_formed kinds clause.tables levels (over c.as_slice-3.result.now c.as_slice-3.ensures) are)))
+          c.grouping_of.ensures;
+      having = IfOk-weaker groups (λ found. allows_none c.grouping_of-2.result ≡ is_no_column found.part)
+          (λ found. IfOk c.bind_having-having.result (IsHavingAt kinds parameters clause.tables levels (is_no_column found.part) calls))
+          (λ found e. subst (λ b. IfOk c.bind_having-having.result (IsHavingAt kinds parameters clause.tables levels b calls)) e
+          (c.bind_having-having.ensures.well_formed clause.tables levels (over c.as_slice-4.result.now c.as_slice-4.ensures) are))
+          c.grouping_of-2.ensures;
+      noted = c.bind_where-condition.ensures.noted;
+      by_columns = under (c.is_some.result ≡ true) (λ found. is_no_column found.part ≡ false) groups (λ h. c.group_by-groups.ensures.some (sym c.is_some.ensures ∙ h));
+      in_order = all_added c.allowed-functions.result.calls c.select_list-selected.new.functions.calls calls c.select_list-selected.result c.bind_having-having.result c.allowed-functions.ensures
+          c.select_list-selected.ensures.in_order c.bind_having-having.ensures.in_order;
+    }))
 
 pub bind_tail-returns-in-Compare-clause-well_formed : goal.bind_tail-returns-in-Compare-clause-well_formed
 bind_tail-returns-in-Compare-clause-well_formed g t c =
@@ -128,7 +154,7 @@ bind_tail-returns-in-CompareQuery-clause-well_formed g t c =
     let environment = c.args.environment.now in
     let allowed = c.args.functions.now.allowed in
     let calls = c.bind_expr-left.new.functions.calls in
-    c.compared_query.ensures.well_formed (here kinds environment allowed) calls (typed_in kinds environment allowed allowed calls c.bind_expr-left.result refl c.bind_expr-left.ensures.typed) c.bind_subquery-query.ensures
+    c.compared_query.ensures.well_formed (here kinds environment allowed) calls (typed_in kinds environment allowed allowed calls c.bind_expr-left.result refl c.bind_expr-left.ensures.typed) c.bind_subquery-query.ensures.well_formed
 
 pub bind_tail-returns-in-InQuery-clause-well_formed : goal.bind_tail-returns-in-InQuery-clause-well_formed
 bind_tail-returns-in-InQuery-clause-well_formed g t c =
@@ -136,7 +162,7 @@ bind_tail-returns-in-InQuery-clause-well_formed g t c =
     let environment = c.args.environment.now in
     let allowed = c.args.functions.now.allowed in
     let calls = c.bind_expr-left.new.functions.calls in
-    c.in_query.ensures.well_formed (here kinds environment allowed) calls (typed_in kinds environment allowed allowed calls c.bind_expr-left.result refl c.bind_expr-left.ensures.typed) c.bind_subquery-query-in-InQuery.ensures
+    c.in_query.ensures.well_formed (here kinds environment allowed) calls (typed_in kinds environment allowed allowed calls c.bind_expr-left.result refl c.bind_expr-left.ensures.typed) c.bind_subquery-query-in-InQuery.ensures.well_formed
 
 -- ---- set functions in the order of the text
 
@@ -149,3 +175,52 @@ bind_conj-returns-clause-in_order g t c = c.whole_conj.ensures.in_order c.args.f
 pub bind_tail-returns-in-Compare-clause-in_order : goal.bind_tail-returns-in-Compare-clause-in_order
 bind_tail-returns-in-Compare-clause-in_order g t c =
     c.compared.ensures.in_order c.args.functions.now.calls c.bind_expr-left.new.functions.calls c.bind_expr-right.new.functions.calls c.bind_expr-left.ensures.in_order c.bind_expr-right.ensures.in_order
+
+-- ---- what is noted
+
+pub bind_cond-returns-clause-quiet : goal.bind_cond-returns-clause-quiet
+bind_cond-returns-clause-quiet g t c = c.whole_cond.ensures.quiet c.loop-conj.invariant.3
+
+pub bind_conj-returns-clause-quiet : goal.bind_conj-returns-clause-quiet
+bind_conj-returns-clause-quiet g t c = c.whole_conj.ensures.quiet c.loop-test.invariant.3
+
+pub bind_tail-returns-in-Compare-clause-quiet : goal.bind_tail-returns-in-Compare-clause-quiet
+bind_tail-returns-in-Compare-clause-quiet g t c = c.compared.ensures.quiet c.bind_expr-left.ensures.quiet c.bind_expr-right.ensures.quiet
+
+-- ---- the items that are read
+
+pub bind_cond-returns-clause-reads : goal.bind_cond-returns-clause-reads
+bind_cond-returns-clause-reads g t c = c.whole_cond.ensures.reads c.loop-conj.invariant.4
+
+pub bind_conj-returns-clause-reads : goal.bind_conj-returns-clause-reads
+bind_conj-returns-clause-reads g t c = c.whole_conj.ensures.reads c.loop-test.invariant.4
+
+pub bind_test-returns-clause-quiet : goal.bind_test-returns-clause-quiet
+bind_test-returns-clause-quiet g t c = c.whole_test.ensures.quiet c.bind_body-predicate.ensures.quiet c.bind_body-predicate.ensures.reads
+
+pub bind_tail-returns-in-Compare-clause-reads : goal.bind_tail-returns-in-Compare-clause-reads
+bind_tail-returns-in-Compare-clause-reads g t c = c.compared.ensures.reads c.bind_expr-left.ensures.reads c.bind_expr-right.ensures.reads
+
+-- ---- how far out the columns are
+
+pub bind_cond-returns-clause-reach : goal.bind_cond-returns-clause-reach
+bind_cond-returns-clause-reach g t c = c.whole_cond.ensures.reach c.loop-conj.invariant.5
+
+pub bind_cond-returns-clause-own : goal.bind_cond-returns-clause-own
+bind_cond-returns-clause-own g t c = c.loop-conj.invariant.6
+
+pub bind_conj-returns-clause-reach : goal.bind_conj-returns-clause-reach
+bind_conj-returns-clause-reach g t c = c.whole_conj.ensures.reach c.loop-test.invariant.5
+
+pub bind_conj-returns-clause-own : goal.bind_conj-returns-clause-own
+bind_conj-returns-clause-own g t c = c.loop-test.invariant.6
+
+pub bind_select-returns-clause-reach : goal.bind_select-returns-clause-reach
+bind_select-returns-clause-reach g t c =
+    c.make_specification.ensures.reach (record {
+      condition = c.bind_where-condition.ensures.reach;
+      groups = c.group_by-groups.ensures.reach;
+      list = c.select_list-selected.ensures.reach;
+      having = c.bind_having-having.ensures.reach;
+      own = c.bind_having-having.ensures.own (c.select_list-selected.ensures.own (subst AreOwnCalls (sym c.allowed-functions.ensures) tt));
+    })

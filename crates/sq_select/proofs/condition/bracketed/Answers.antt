@@ -1,3 +1,9 @@
+use Rattle.sq_select.proofs.ItemsRead.{bracketed_reads}
+use Rattle.sq_select.proofs.Quiet.{quiet_bracketed}
+use Rattle.sq_bound.specs.Noted.{HasNotes}
+use Rattle.sq_select.specs.Noted.{SureAndNoted, WithinItems, cond_quiet, cond_reads, predicate_quiet, predicate_reads}
+use Rattle.sq_select.specs.Reach.{CondReaches, PredicateReaches, Reaching}
+use Rattle.sq_select.proofs.Reaches as reaches
 use Rattle.sq_select.proofs.InOrder.{adds_bracketed}
 use Rattle.sq_scope.specs.Expression.{AddsInOrder}
 use Rattle.sq_select.specs.InOrder.{Adding, bound_functions, predicate_functions}
@@ -17,3 +23,19 @@ pub returns-clause-in_order : goal.returns-clause-in_order
 returns-clause-in_order c = λ a b h.
     subst (λ q. AddsInOrder (predicate_functions (bound.Bracketed q)) a b) (sym c.in_ok-new.ensures)
     (adds_bracketed c.in_ok-part.field-0.part a b (IfOk-at_ok (Adding bound_functions a b) c.in_ok-part.was h))
+
+pub returns-clause-quiet : goal.returns-clause-quiet
+returns-clause-quiet c = λ h no.
+    let is = IfOk-at_ok (SureAndNoted cond_quiet HasNotes) c.in_ok-part.was h in
+    subst (λ q. predicate_quiet (bound.Bracketed q)) (sym c.in_ok-new.ensures) (quiet_bracketed c.in_ok-part.field-0.part (is.0 no))
+
+pub returns-clause-reads : goal.returns-clause-reads
+returns-clause-reads c = λ h.
+    let found = c.in_ok-part.field-0 in
+    subst (λ q. predicate_reads found.findings.items (bound.Bracketed q)) (sym c.in_ok-new.ensures)
+    (bracketed_reads found.findings.items found.part (IfOk-at_ok (WithinItems cond_reads) c.in_ok-part.was h))
+
+pub returns-clause-reach : goal.returns-clause-reach
+returns-clause-reach c = λ h.
+    let found = c.in_ok-part.field-0 in
+    subst (λ q. PredicateReaches found.findings.reach (bound.Bracketed q)) (sym c.in_ok-new.ensures) (reaches.bracketed_reaches found.findings.reach found.part (IfOk-at_ok (Reaching CondReaches) c.in_ok-part.was h))

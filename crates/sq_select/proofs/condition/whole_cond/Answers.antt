@@ -1,3 +1,9 @@
+use Rattle.sq_select.proofs.ItemsRead.{cond_reads_so}
+use Rattle.sq_select.proofs.Quiet.{quiet_cond}
+use Rattle.sq_bound.specs.Noted.{AreNotedTests}
+use Rattle.sq_select.specs.Noted.{EachReads, Every, SureAndNoted, conj_quiet, WithinItems, conj_reads}
+use Rattle.sq_select.specs.Reach.{ConjReaches, EachReaches, Reaching}
+use Rattle.sq_select.proofs.Reaches as reaches
 use Rattle.sq_select.proofs.InOrder.{adds_cond}
 use Rattle.sq_scope.specs.Expression.{AddsInOrder}
 use Rattle.sq_select.specs.InOrder.{Adding, in_turn, conj_functions}
@@ -20,3 +26,23 @@ returns-clause-in_order c = λ a b h.
     let terms = c.in_ok-part.field-0.part in
     adds_cond (roll-BoundCond (record { terms = terms })) a b
     (subst (λ o. AddsInOrder (in_turn conj_functions o.terms) a b) (sym (out-roll-BoundCond (record { terms = terms }))) (IfOk-at_ok (Adding (in_turn conj_functions) a b) c.in_ok-part.was h))
+
+pub returns-clause-quiet : goal.returns-clause-quiet
+returns-clause-quiet c = λ h.
+    let terms = c.in_ok-part.field-0.part in
+    let are = IfOk-at_ok (SureAndNoted (Every conj_quiet) (Every AreNotedTests)) c.in_ok-part.was h in (
+      (λ no. quiet_cond (roll-BoundCond (record { terms = terms })) (subst (λ o. Every conj_quiet o.terms) (sym (out-roll-BoundCond (record { terms = terms }))) (are.0 no))),
+      subst (λ o. Every AreNotedTests o.terms) (sym (out-roll-BoundCond (record { terms = terms }))) are.1,
+    )
+
+pub returns-clause-reads : goal.returns-clause-reads
+returns-clause-reads c = λ h.
+    let found = c.in_ok-part.field-0 in
+    cond_reads_so found.findings.items (roll-BoundCond (record { terms = found.part }))
+    (subst (λ o. EachReads conj_reads found.findings.items o.terms) (sym (out-roll-BoundCond (record { terms = found.part }))) (IfOk-at_ok (WithinItems (EachReads conj_reads)) c.in_ok-part.was h))
+
+pub returns-clause-reach : goal.returns-clause-reach
+returns-clause-reach c = λ h.
+    let found = c.in_ok-part.field-0 in
+    reaches.cond_reaches found.findings.reach (roll-BoundCond (record { terms = found.part }))
+    (subst (λ o. EachReaches ConjReaches found.findings.reach o.terms) (sym (out-roll-BoundCond (record { terms = found.part }))) (IfOk-at_ok (Reaching (EachReaches ConjReaches)) c.in_ok-part.was h))

@@ -1,3 +1,9 @@
+use Rattle.sq_select.proofs.ItemsRead.{conj_reads_so}
+use Rattle.sq_select.proofs.Quiet.{quiet_conj}
+use Rattle.sq_bound.specs.Noted.{IsNotedTest}
+use Rattle.sq_select.specs.Noted.{EachReads, Every, SureAndNoted, test_quiet, WithinItems, test_reads}
+use Rattle.sq_select.specs.Reach.{TestReaches, EachReaches, Reaching}
+use Rattle.sq_select.proofs.Reaches as reaches
 use Rattle.sq_select.proofs.InOrder.{adds_conj}
 use Rattle.sq_scope.specs.Expression.{AddsInOrder}
 use Rattle.sq_select.specs.InOrder.{Adding, in_turn, test_functions}
@@ -20,3 +26,23 @@ returns-clause-in_order c = λ a b h.
     let tests = c.in_ok-part.field-0.part in
     adds_conj (roll-BoundConj (record { tests = tests })) a b
     (subst (λ o. AddsInOrder (in_turn test_functions o.tests) a b) (sym (out-roll-BoundConj (record { tests = tests }))) (IfOk-at_ok (Adding (in_turn test_functions) a b) c.in_ok-part.was h))
+
+pub returns-clause-quiet : goal.returns-clause-quiet
+returns-clause-quiet c = λ h.
+    let tests = c.in_ok-part.field-0.part in
+    let are = IfOk-at_ok (SureAndNoted (Every test_quiet) (Every IsNotedTest)) c.in_ok-part.was h in (
+      (λ no. quiet_conj (roll-BoundConj (record { tests = tests })) (subst (λ o. Every test_quiet o.tests) (sym (out-roll-BoundConj (record { tests = tests }))) (are.0 no))),
+      subst (λ o. Every IsNotedTest o.tests) (sym (out-roll-BoundConj (record { tests = tests }))) are.1,
+    )
+
+pub returns-clause-reads : goal.returns-clause-reads
+returns-clause-reads c = λ h.
+    let found = c.in_ok-part.field-0 in
+    conj_reads_so found.findings.items (roll-BoundConj (record { tests = found.part }))
+    (subst (λ o. EachReads test_reads found.findings.items o.tests) (sym (out-roll-BoundConj (record { tests = found.part }))) (IfOk-at_ok (WithinItems (EachReads test_reads)) c.in_ok-part.was h))
+
+pub returns-clause-reach : goal.returns-clause-reach
+returns-clause-reach c = λ h.
+    let found = c.in_ok-part.field-0 in
+    reaches.conj_reaches found.findings.reach (roll-BoundConj (record { tests = found.part }))
+    (subst (λ o. EachReaches TestReaches found.findings.reach o.tests) (sym (out-roll-BoundConj (record { tests = found.part }))) (IfOk-at_ok (Reaching (EachReaches TestReaches)) c.in_ok-part.was h))

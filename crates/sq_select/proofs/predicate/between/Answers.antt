@@ -20,3 +20,9 @@ returns-clause-well_formed c = λ columns h.
 pub returns-clause-in_order : goal.returns-clause-in_order
 returns-clause-in_order c = λ a h.
     c.between_bounds.ensures.in_order a c.args.functions.now.calls c.bind_expr-low.new.functions.calls c.bind_expr-high.new.functions.calls h c.bind_expr-low.ensures.in_order c.bind_expr-high.ensures.in_order
+
+pub returns-clause-quiet : goal.returns-clause-quiet
+returns-clause-quiet c = λ h. c.between_bounds.ensures.quiet h c.bind_expr-low.ensures.quiet c.bind_expr-high.ensures.quiet
+
+pub returns-clause-reads : goal.returns-clause-reads
+returns-clause-reads c = λ h. c.between_bounds.ensures.reads h c.bind_expr-low.ensures.reads c.bind_expr-high.ensures.reads

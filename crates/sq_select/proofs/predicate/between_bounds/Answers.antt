@@ -1,7 +1,11 @@
+use Rattle.sq_select.proofs.ItemsRead.{between_reads, items_first, items_second, operand_reads}
+use Rattle.sq_select.proofs.Quiet.{or_first, or_second, quiet_between}
+use Rattle.sq_select.specs.Noted.{Sure, typed_quiet}
+use Rattle.sq_select.proofs.Reaches as reaches
 use Rattle.sq_select.proofs.InOrder.{adds_between}
 use Rattle.sq_select.specs.InOrder.{Adding, typed_functions}
 use Rattle.std.proofs.lemmas.Result.{IfOk-at_ok}
-use Rattle.std.proofs.Common.{◌≡◌, Ok, sym, subst, ◌∙◌}
+use Rattle.std.proofs.Common.{◌≡◌, Ok, sym, subst, ◌∙◌, arith}
 use Rattle.std.specs.Prelude.{IsTrue}
 use Rattle.sq_meaning.specs.WellFormed.{is_comparable}
 use Rattle.sq_scope.specs.declared.expression.Typed.{Typed}
@@ -42,3 +46,54 @@ returns-clause-in_order c = λ a b d e h k j.
     subst (λ (t : (Found Typed × Found Typed) × Found Typed). (c.args.left ≡ Ok t.0.0) × (c.args.low ≡ Ok t.0.1) × (c.args.high ≡ Ok t.1)) (sym c.in_ok-left-2.ensures.part) (two.0, two.1, before.ensures.1) in
     adds_between c.args.negated l.part.expr low.part.expr high.part.expr a b d e
     (IfOk-at_ok (Adding typed_functions a b) there.0 h) (IfOk-at_ok (Adding typed_functions b d) there.1 k) (IfOk-at_ok (Adding typed_functions d e) there.2 j)
+
+pub returns-clause-quiet : goal.returns-clause-quiet
+returns-clause-quiet c = λ h k j no.
+    let before = c.in_ok-left in
+    let l = c.in_ok-left-2.left in
+    let low = c.in_ok-left-2.low in
+    let high = c.in_ok-left-2.high in
+    let two = agreeing_are c.args.left c.args.low c.agreeing.result before.left before.low before.ensures.0 c.agreeing.ensures.parts c.agreeing.ensures.agree in
+    let there : (c.args.left ≡ Ok l) × (c.args.low ≡ Ok low) × (c.args.high ≡ Ok high) =
+    subst (λ (t : (Found Typed × Found Typed) × Found Typed). (c.args.left ≡ Ok t.0.0) × (c.args.low ≡ Ok t.0.1) × (c.args.high ≡ Ok t.1)) (sym c.in_ok-left-2.ensures.part) (two.0, two.1, before.ensures.1) in
+    let all = c.and-findings.result.can_fail in
+    let first = c.and.result.can_fail in
+    let none = or_first all first high.findings.can_fail c.and-findings.ensures.can_fail no in
+    quiet_between c.args.negated l.part.expr low.part.expr high.part.expr
+    (IfOk-at_ok (Sure typed_quiet) there.0 h (or_first first l.findings.can_fail low.findings.can_fail c.and.ensures.can_fail none))
+    (IfOk-at_ok (Sure typed_quiet) there.1 k (or_second first l.findings.can_fail low.findings.can_fail c.and.ensures.can_fail none))
+    (IfOk-at_ok (Sure typed_quiet) there.2 j (or_second all first high.findings.can_fail c.and-findings.ensures.can_fail no))
+
+pub returns-clause-reads : goal.returns-clause-reads
+returns-clause-reads c = λ h k j.
+    let before = c.in_ok-left in
+    let l = c.in_ok-left-2.left in
+    let low = c.in_ok-left-2.low in
+    let high = c.in_ok-left-2.high in
+    let two = agreeing_are c.args.left c.args.low c.agreeing.result before.left before.low before.ensures.0 c.agreeing.ensures.parts c.agreeing.ensures.agree in
+    let there : (c.args.left ≡ Ok l) × (c.args.low ≡ Ok low) × (c.args.high ≡ Ok high) =
+    subst (λ (t : (Found Typed × Found Typed) × Found Typed). (c.args.left ≡ Ok t.0.0) × (c.args.low ≡ Ok t.0.1) × (c.args.high ≡ Ok t.1)) (sym c.in_ok-left-2.ensures.part) (two.0, two.1, before.ensures.1) in
+    let all = c.and-findings.result.items in
+    let first = c.and.result.items in
+    let firsts = items_first all first high.findings.items c.and-findings.ensures.items in
+    let one = items_first first l.findings.items low.findings.items c.and.ensures.items in
+    let other = items_second first l.findings.items low.findings.items c.and.ensures.items in
+    between_reads all c.args.negated l.part.expr low.part.expr high.part.expr
+    (operand_reads c.args.left l all there.0 (omega (arith, one, firsts)) h)
+    (operand_reads c.args.low low all there.1 (omega (arith, other, firsts)) k)
+    (operand_reads c.args.high high all there.2 (items_second all first high.findings.items c.and-findings.ensures.items) j)
+
+pub returns-clause-reach : goal.returns-clause-reach
+returns-clause-reach c = λ h k j.
+    let before = c.in_ok-left in
+    let l = c.in_ok-left-2.left in
+    let low = c.in_ok-left-2.low in
+    let high = c.in_ok-left-2.high in
+    let two = agreeing_are c.args.left c.args.low c.agreeing.result before.left before.low before.ensures.0 c.agreeing.ensures.parts c.agreeing.ensures.agree in
+    let there : (c.args.left ≡ Ok l) × (c.args.low ≡ Ok low) × (c.args.high ≡ Ok high) =
+    subst (λ (t : (Found Typed × Found Typed) × Found Typed). (c.args.left ≡ Ok t.0.0) × (c.args.low ≡ Ok t.0.1) × (c.args.high ≡ Ok t.1)) (sym c.in_ok-left-2.ensures.part) (two.0, two.1, before.ensures.1) in
+    let reach = c.and-findings.result.reach in
+    reaches.between_reaches reach c.args.negated l.part.expr low.part.expr high.part.expr
+    (reaches.operand c.args.left l reach there.0 (omega (arith, c.and.ensures.reach.0, c.and-findings.ensures.reach.0)) h)
+    (reaches.operand c.args.low low reach there.1 (omega (arith, c.and.ensures.reach.1, c.and-findings.ensures.reach.0)) k)
+    (reaches.operand c.args.high high reach there.2 c.and-findings.ensures.reach.1 j)

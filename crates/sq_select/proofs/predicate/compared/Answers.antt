@@ -1,3 +1,7 @@
+use Rattle.sq_select.proofs.ItemsRead.{compare_reads, items_first, items_second, operand_reads}
+use Rattle.sq_select.proofs.Quiet.{or_first, or_second, quiet_compare}
+use Rattle.sq_select.specs.Noted.{Sure, typed_quiet}
+use Rattle.sq_select.proofs.Reaches as reaches
 use Rattle.sq_select.proofs.InOrder.{adds_compare}
 use Rattle.sq_select.specs.InOrder.{Adding, typed_functions}
 use Rattle.std.proofs.lemmas.Result.{IfOk-at_ok}
@@ -21,3 +25,28 @@ pub returns-clause-in_order : goal.returns-clause-in_order
 returns-clause-in_order c = λ a b d h k.
     adds_compare c.args.comparison c.in_ok-left.left.part.expr c.in_ok-left.right.part.expr a b d
     (IfOk-at_ok (Adding typed_functions a b) c.in_ok-left.ensures.parts.0 h) (IfOk-at_ok (Adding typed_functions b d) c.in_ok-left.ensures.parts.1 k)
+
+pub returns-clause-quiet : goal.returns-clause-quiet
+returns-clause-quiet c = λ h k no.
+    let l = c.in_ok-left.left in
+    let r = c.in_ok-left.right in
+    quiet_compare c.args.comparison l.part.expr r.part.expr
+    (IfOk-at_ok (Sure typed_quiet) c.in_ok-left.ensures.parts.0 h (or_first c.and-findings.result.can_fail l.findings.can_fail r.findings.can_fail c.and-findings.ensures.can_fail no))
+    (IfOk-at_ok (Sure typed_quiet) c.in_ok-left.ensures.parts.1 k (or_second c.and-findings.result.can_fail l.findings.can_fail r.findings.can_fail c.and-findings.ensures.can_fail no))
+
+pub returns-clause-reads : goal.returns-clause-reads
+returns-clause-reads c = λ h k.
+    let l = c.in_ok-left.left in
+    let r = c.in_ok-left.right in
+    let all = c.and-findings.result.items in
+    compare_reads all c.args.comparison l.part.expr r.part.expr
+    (operand_reads c.args.left l all c.in_ok-left.ensures.parts.0 (items_first all l.findings.items r.findings.items c.and-findings.ensures.items) h)
+    (operand_reads c.args.right r all c.in_ok-left.ensures.parts.1 (items_second all l.findings.items r.findings.items c.and-findings.ensures.items) k)
+
+pub returns-clause-reach : goal.returns-clause-reach
+returns-clause-reach c = λ h k.
+    let l = c.in_ok-left.left in
+    let r = c.in_ok-left.right in
+    let reach = c.and-findings.result.reach in
+    reaches.compare_reaches reach c.args.comparison l.part.expr r.part.expr
+    (reaches.operand c.args.left l reach c.in_ok-left.ensures.parts.0 c.and-findings.ensures.reach.0 h) (reaches.operand c.args.right r reach c.in_ok-left.ensures.parts.1 c.and-findings.ensures.reach.1 k)

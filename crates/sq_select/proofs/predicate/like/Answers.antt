@@ -33,3 +33,15 @@ returns-in-None-clause-in_order c = λ a h. c.like_plain.ensures.in_order a c.ar
 pub returns-in-Some-clause-in_order : goal.returns-in-Some-clause-in_order
 returns-in-Some-clause-in_order c = λ a h.
     c.like_escape.ensures.in_order a c.args.functions.now.calls c.bind_expr-pattern.new.functions.calls c.bind_expr-escape.new.functions.calls h c.bind_expr-pattern.ensures.in_order c.bind_expr-escape.ensures.in_order
+
+pub returns-in-None-clause-quiet : goal.returns-in-None-clause-quiet
+returns-in-None-clause-quiet c = λ h. c.like_plain.ensures.quiet h c.bind_expr-pattern.ensures.quiet
+
+pub returns-in-Some-clause-quiet : goal.returns-in-Some-clause-quiet
+returns-in-Some-clause-quiet c = λ h. c.like_escape.ensures.quiet
+
+pub returns-in-None-clause-reads : goal.returns-in-None-clause-reads
+returns-in-None-clause-reads c = λ h. c.like_plain.ensures.reads h c.bind_expr-pattern.ensures.reads
+
+pub returns-in-Some-clause-reads : goal.returns-in-Some-clause-reads
+returns-in-Some-clause-reads c = λ h. c.like_escape.ensures.reads h c.bind_expr-pattern.ensures.reads c.bind_expr-escape.ensures.reads

@@ -1,6 +1,9 @@
+use Rattle.sq_select.proofs.ItemsRead.{items_first, items_second, like_escape_reads, operand_reads}
+use Rattle.sq_select.proofs.Quiet.{not_both}
 use Rattle.sq_select.proofs.InOrder.{adds_like_escape}
 use Rattle.sq_select.specs.InOrder.{Adding, typed_functions}
-use Rattle.std.proofs.Common.{◌≡◌, Ok}
+use Rattle.std.proofs.Common.{◌≡◌, Ok, sym, ◌∙◌, arith}
+use Rattle.sq_select.proofs.Reaches as reaches
 use Rattle.std.proofs.lemmas.Result.{IfOk-at_ok}
 use Rattle.sq_select.specs.WellFormed.{parameters_in}
 use Rattle.sq_select.proofs.Trees.{like_escape_is}
@@ -39,3 +42,41 @@ returns-clause-in_order c = λ a b d i h k j.
     let is_escape = text_is c.args.escape c.text-3.result e c.in_ok-left.ensures.1 c.text-3.ensures in
     adds_like_escape c.args.negated l.part.expr p.part.expr e.part.expr a b d i
     (IfOk-at_ok (Adding typed_functions a b) is_left.0 h) (IfOk-at_ok (Adding typed_functions b d) is_pattern.0 k) (IfOk-at_ok (Adding typed_functions d i) is_escape.0 j)
+
+pub returns-clause-quiet : goal.returns-clause-quiet
+returns-clause-quiet c = λ no. absurd (not_both (sym c.failing.ensures.can_fail ∙ no))
+
+pub returns-clause-reads : goal.returns-clause-reads
+returns-clause-reads c = λ h k j.
+    let l = c.in_ok-left.left in
+    let p = c.in_ok-left.pattern in
+    let e = c.in_ok-left.escape in
+    let two = IfOk-at_ok (λ parts. (c.text.result ≡ Ok parts.0) × (c.text-2.result ≡ Ok parts.1)) c.in_ok-left.ensures.0 c.both.ensures in
+    let is_left = text_is c.args.left c.text.result l two.0 c.text.ensures in
+    let is_pattern = text_is c.args.pattern c.text-2.result p two.1 c.text-2.ensures in
+    let is_escape = text_is c.args.escape c.text-3.result e c.in_ok-left.ensures.1 c.text-3.ensures in
+    let found = c.failing.result.items in
+    let first = c.and.result.items in
+    let firsts = items_first c.and-findings.result.items first e.findings.items c.and-findings.ensures.items in
+    let third = items_second c.and-findings.result.items first e.findings.items c.and-findings.ensures.items in
+    let one = items_first first l.findings.items p.findings.items c.and.ensures.items in
+    let other = items_second first l.findings.items p.findings.items c.and.ensures.items in
+    like_escape_reads found c.args.negated l.part.expr p.part.expr e.part.expr
+    (operand_reads c.args.left l found is_left.0 (omega (arith, one, firsts, c.failing.ensures.items)) h)
+    (operand_reads c.args.pattern p found is_pattern.0 (omega (arith, other, firsts, c.failing.ensures.items)) k)
+    (operand_reads c.args.escape e found is_escape.0 (omega (arith, third, c.failing.ensures.items)) j)
+
+pub returns-clause-reach : goal.returns-clause-reach
+returns-clause-reach c = λ h k j.
+    let l = c.in_ok-left.left in
+    let p = c.in_ok-left.pattern in
+    let e = c.in_ok-left.escape in
+    let two = IfOk-at_ok (λ parts. (c.text.result ≡ Ok parts.0) × (c.text-2.result ≡ Ok parts.1)) c.in_ok-left.ensures.0 c.both.ensures in
+    let is_left = text_is c.args.left c.text.result l two.0 c.text.ensures in
+    let is_pattern = text_is c.args.pattern c.text-2.result p two.1 c.text-2.ensures in
+    let is_escape = text_is c.args.escape c.text-3.result e c.in_ok-left.ensures.1 c.text-3.ensures in
+    let reach = c.failing.result.reach in
+    reaches.like_escape_reaches reach c.args.negated l.part.expr p.part.expr e.part.expr
+    (reaches.operand c.args.left l reach is_left.0 (omega (arith, c.and.ensures.reach.0, c.and-findings.ensures.reach.0, c.failing.ensures.reach)) h)
+    (reaches.operand c.args.pattern p reach is_pattern.0 (omega (arith, c.and.ensures.reach.1, c.and-findings.ensures.reach.0, c.failing.ensures.reach)) k)
+    (reaches.operand c.args.escape e reach is_escape.0 (omega (arith, c.and-findings.ensures.reach.1, c.failing.ensures.reach)) j)

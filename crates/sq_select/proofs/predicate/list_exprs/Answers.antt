@@ -1,3 +1,9 @@
+use Rattle.sq_select.proofs.ItemsRead.{expr_more_items, next_within, none_within}
+use Rattle.sq_select.proofs.Quiet.{next_sure, none_sure}
+use Rattle.sq_bound.specs.Noted.{IsQuietExpr, IsReadExpr}
+use Rattle.sq_scope.specs.Reach.{MayReach}
+use Rattle.sq_scope.proofs.Reaches.{reach_more}
+use Rattle.sq_select.proofs.Reaches as reaches
 use Rattle.sq_select.proofs.InOrder.{gathered_next, gathered_nothing}
 use Rattle.sq_scope.specs.Expression.{expr_functions}
 use Rattle.std.proofs.Common.{refl}
@@ -13,14 +19,19 @@ loop-expr-init c = (
       let allowed = c.args.functions.now.allowed in
       let x = here columns environment allowed in
       let calls = c.bind_expr-first.new.functions.calls in
-      gathered_all x (AgreesAt x calls c.args.kind) c.none.result c.agreed.result c.gathered-bound.result c.gathered-bound.ensures
+      gathered_all x (AgreesAt x calls c.args.kind) c.none.result c.agreed.result c.gathered-bound.result c.gathered-bound.ensures.gathers
       (gathered_none x (AgreesAt x calls c.args.kind) c.none.result c.none.ensures)
       (c.agreed.ensures.well_formed x calls (typed_in columns environment allowed allowed calls c.bind_expr-first.result refl c.bind_expr-first.ensures.typed))),
   c.bind_expr-first.ensures.grows,
   (let before = c.args.functions.now.calls in
       let after = c.bind_expr-first.new.functions.calls in
-      gathered_next expr_functions before before after c.none.result c.agreed.result c.gathered-bound.result c.gathered-bound.ensures
+      gathered_next expr_functions before before after c.none.result c.agreed.result c.gathered-bound.result c.gathered-bound.ensures.gathers
       (gathered_nothing expr_functions before c.none.result c.none.ensures) (c.agreed.ensures.in_order before after c.bind_expr-first.ensures.in_order)),
+  next_sure IsQuietExpr c.none.result c.agreed.result c.gathered-bound.result c.gathered-bound.ensures.gathers (none_sure IsQuietExpr c.none.result c.none.ensures) (c.agreed.ensures.quiet c.bind_expr-first.ensures.quiet),
+  next_within IsReadExpr expr_more_items c.none.result c.agreed.result c.gathered-bound.result c.gathered-bound.ensures.gathers (none_within IsReadExpr c.none.result c.none.ensures) (c.agreed.ensures.reads c.bind_expr-first.ensures.reads),
+  reaches.gathered_reach MayReach reach_more c.none.result c.agreed.result c.gathered-bound.result c.gathered-bound.ensures.gathers c.gathered-bound.ensures.reach
+      (reaches.none_reach MayReach c.none.result c.none.ensures) (c.agreed.ensures.reach c.bind_expr-first.ensures.reach),
+  c.bind_expr-first.ensures.own,
 )
 
 pub loop-expr-preserved : goal.loop-expr-preserved
@@ -32,12 +43,17 @@ loop-expr-preserved c = (
       let before = c.loop-expr.functions in
       let calls = c.bind_expr-item.new.functions.calls in
       let k = c.args.kind in
-      gathered_all x (AgreesAt x calls k) c.loop-expr.bound c.agreed-in-loop-expr.result c.gathered-bound-in-loop-expr.result c.gathered-bound-in-loop-expr.ensures
+      gathered_all x (AgreesAt x calls k) c.loop-expr.bound c.agreed-in-loop-expr.result c.gathered-bound-in-loop-expr.result c.gathered-bound-in-loop-expr.ensures.gathers
       (each_everywhere x (AgreesAt x before.calls k) (AgreesAt x calls k) c.loop-expr.bound (λ levels e. agrees_more x before.calls calls k levels e c.bind_expr-item.ensures.grows.0) (c.loop-expr.invariant.0 columns))
       (c.agreed-in-loop-expr.ensures.well_formed x calls (typed_in columns environment before.allowed allowed calls c.bind_expr-item.result c.loop-expr.invariant.1.1 c.bind_expr-item.ensures.typed))),
   grows_further c.args.functions.now c.loop-expr.functions c.bind_expr-item.new.functions c.loop-expr.invariant.1 c.bind_expr-item.ensures.grows,
-  gathered_next expr_functions c.args.functions.now.calls c.loop-expr.functions.calls c.bind_expr-item.new.functions.calls c.loop-expr.bound c.agreed-in-loop-expr.result c.gathered-bound-in-loop-expr.result c.gathered-bound-in-loop-expr.ensures
+  gathered_next expr_functions c.args.functions.now.calls c.loop-expr.functions.calls c.bind_expr-item.new.functions.calls c.loop-expr.bound c.agreed-in-loop-expr.result c.gathered-bound-in-loop-expr.result c.gathered-bound-in-loop-expr.ensures.gathers
       c.loop-expr.invariant.2 (c.agreed-in-loop-expr.ensures.in_order c.loop-expr.functions.calls c.bind_expr-item.new.functions.calls c.bind_expr-item.ensures.in_order),
+  next_sure IsQuietExpr c.loop-expr.bound c.agreed-in-loop-expr.result c.gathered-bound-in-loop-expr.result c.gathered-bound-in-loop-expr.ensures.gathers c.loop-expr.invariant.3 (c.agreed-in-loop-expr.ensures.quiet c.bind_expr-item.ensures.quiet),
+  next_within IsReadExpr expr_more_items c.loop-expr.bound c.agreed-in-loop-expr.result c.gathered-bound-in-loop-expr.result c.gathered-bound-in-loop-expr.ensures.gathers c.loop-expr.invariant.4 (c.agreed-in-loop-expr.ensures.reads c.bind_expr-item.ensures.reads),
+  reaches.gathered_reach MayReach reach_more c.loop-expr.bound c.agreed-in-loop-expr.result c.gathered-bound-in-loop-expr.result c.gathered-bound-in-loop-expr.ensures.gathers c.gathered-bound-in-loop-expr.ensures.reach
+      c.loop-expr.invariant.5 (c.agreed-in-loop-expr.ensures.reach c.bind_expr-item.ensures.reach),
+  (λ own. c.bind_expr-item.ensures.own (c.loop-expr.invariant.6 own)),
 )
 
 pub returns-clause-well_formed : goal.returns-clause-well_formed
@@ -48,3 +64,15 @@ returns-clause-grows c = c.loop-expr.invariant.1
 
 pub returns-clause-in_order : goal.returns-clause-in_order
 returns-clause-in_order c = c.loop-expr.invariant.2
+
+pub returns-clause-quiet : goal.returns-clause-quiet
+returns-clause-quiet c = c.loop-expr.invariant.3
+
+pub returns-clause-reads : goal.returns-clause-reads
+returns-clause-reads c = c.loop-expr.invariant.4
+
+pub returns-clause-reach : goal.returns-clause-reach
+returns-clause-reach c = c.loop-expr.invariant.5
+
+pub returns-clause-own : goal.returns-clause-own
+returns-clause-own c = c.loop-expr.invariant.6

@@ -1,5 +1,14 @@
+use Rattle.sq_select.proofs.ItemsRead.{expr_more_items, in_list_reads, items_first, items_second}
+use Rattle.sq_meaning.proofs.AnswerLaws.{all_weaker}
+use Rattle.sq_bound.specs.Noted.{IsReadExpr, IsQuietExpr}
+use Rattle.sq_scope.specs.Expression.{IsReadTyped, expr_functions}
+use Rattle.sq_select.specs.Noted.{EachReads, WithinItems, Every, Sure, typed_quiet}
+use Rattle.sq_select.proofs.Quiet.{or_first, or_second, quiet_in_list}
+use Rattle.sq_scope.proofs.Reaches.{reach_more}
+use Rattle.sq_scope.specs.Reach.{MayReach}
+use Rattle.sq_select.specs.Reach.{EachReaches, Reaching, TypedReaches}
+use Rattle.sq_select.proofs.Reaches as reaches
 use Rattle.sq_select.proofs.InOrder.{adds_in_list}
-use Rattle.sq_scope.specs.Expression.{expr_functions}
 use Rattle.sq_select.specs.InOrder.{Adding, in_turn, typed_functions}
 use Rattle.std.proofs.Common.{◌≡◌, subst}
 use Rattle.std.specs.Prelude.{IfOk}
@@ -27,3 +36,31 @@ pub returns-clause-in_order : goal.returns-clause-in_order
 returns-clause-in_order c = λ a b d h k.
     let l = c.in_ok-left.left in
     adds_in_list c.args.negated l.part.expr c.in_ok-left.list.part a b d (subst (Adding typed_functions a b) (ok_is c.args.left l c.in_ok-left.ensures.0) h) (IfOk-at_ok (Adding (in_turn expr_functions) b d) c.in_ok-left.ensures.1 k)
+
+pub returns-clause-quiet : goal.returns-clause-quiet
+returns-clause-quiet c = λ h k no.
+    let l = c.in_ok-left.left in
+    let es = c.in_ok-left.list in
+    let all = c.and.result.can_fail in
+    quiet_in_list c.args.negated l.part.expr es.part
+    (subst (Sure typed_quiet) (ok_is c.args.left l c.in_ok-left.ensures.0) h (or_first all l.findings.can_fail es.findings.can_fail c.and.ensures.can_fail no))
+    (IfOk-at_ok (Sure (Every IsQuietExpr)) c.in_ok-left.ensures.1 k (or_second all l.findings.can_fail es.findings.can_fail c.and.ensures.can_fail no))
+
+pub returns-clause-reads : goal.returns-clause-reads
+returns-clause-reads c = λ h k.
+    let l = c.in_ok-left.left in
+    let es = c.in_ok-left.list in
+    let all = c.and.result.items in
+    in_list_reads all c.args.negated l.part.expr es.part
+    (expr_more_items l.findings.items all (items_first all l.findings.items es.findings.items c.and.ensures.items) l.part.expr (subst (WithinItems IsReadTyped) (ok_is c.args.left l c.in_ok-left.ensures.0) h))
+    (all_weaker (IsReadExpr es.findings.items) (IsReadExpr all) (expr_more_items es.findings.items all (items_second all l.findings.items es.findings.items c.and.ensures.items)) es.part
+    (IfOk-at_ok (WithinItems (EachReads IsReadExpr)) c.in_ok-left.ensures.1 k))
+
+pub returns-clause-reach : goal.returns-clause-reach
+returns-clause-reach c = λ h k.
+    let l = c.in_ok-left.left in
+    let es = c.in_ok-left.list in
+    let reach = c.and.result.reach in
+    let at_left : MayReach l.findings.reach l.part.expr = subst (Reaching TypedReaches) (ok_is c.args.left l c.in_ok-left.ensures.0) h in
+    reaches.in_list_reaches reach c.args.negated l.part.expr es.part (reach_more l.findings.reach reach l.part.expr c.and.ensures.reach.0 at_left)
+    (reaches.each_more MayReach reach_more es.findings.reach reach es.part c.and.ensures.reach.1 (IfOk-at_ok (Reaching (EachReaches MayReach)) c.in_ok-left.ensures.1 k))

@@ -1,3 +1,8 @@
+use Rattle.sq_select.proofs.ItemsRead.{null_reads}
+use Rattle.sq_scope.specs.Expression.{IsReadTyped}
+use Rattle.sq_select.specs.Noted.{WithinItems, Sure, typed_quiet}
+use Rattle.sq_select.proofs.Quiet.{quiet_null}
+use Rattle.sq_select.proofs.Reaches as reaches
 use Rattle.sq_select.proofs.InOrder.{adds_null}
 use Rattle.sq_select.specs.InOrder.{Adding, typed_functions}
 use Rattle.std.proofs.lemmas.Result.{IfOk-at_ok}
@@ -13,3 +18,14 @@ returns-clause-well_formed c = λ x calls h levels m.
 
 pub returns-clause-in_order : goal.returns-clause-in_order
 returns-clause-in_order c = λ a b h. adds_null c.args.negated c.in_ok-part.field-0.part.expr a b (IfOk-at_ok (Adding typed_functions a b) c.in_ok-part.was h)
+
+pub returns-clause-quiet : goal.returns-clause-quiet
+returns-clause-quiet c = λ h no. quiet_null c.args.negated c.in_ok-part.field-0.part.expr (IfOk-at_ok (Sure typed_quiet) c.in_ok-part.was h no)
+
+pub returns-clause-reads : goal.returns-clause-reads
+returns-clause-reads c = λ h.
+    let found = c.in_ok-part.field-0 in
+    null_reads found.findings.items c.args.negated found.part.expr (IfOk-at_ok (WithinItems IsReadTyped) c.in_ok-part.was h)
+
+pub returns-clause-reach : goal.returns-clause-reach
+returns-clause-reach c = λ h. reaches.null_reaches c.in_ok-part.field-0.findings.reach c.args.negated c.in_ok-part.field-0.part.expr (reaches.agreed_reaches c.args.left c.in_ok-part.field-0 c.in_ok-part.was h)

@@ -1,7 +1,8 @@
+use Rattle.sq_select.proofs.Reaches as reaches
 use Rattle.sq_select.proofs.InOrder.{adds_beside}
 use Rattle.sq_select.specs.InOrder.{Adding, typed_functions}
 use Rattle.std.proofs.lemmas.Result.{IfOk-at_ok}
-use Rattle.std.proofs.Common.{◌≡◌, Ok, sym, ap, subst, ◌∙◌}
+use Rattle.std.proofs.Common.{◌≡◌, Ok, sym, ap, subst, ◌∙◌, arith}
 use Rattle.std.specs.Prelude.{is_ok}
 use Rattle.sq_meaning.specs.WellFormed.{IsOnlyKind}
 use Rattle.sq_bound.specs.WellFormed.{kinds_of_select}
@@ -34,3 +35,12 @@ returns-clause-in_order c = λ a b h.
     let q = c.in_ok-left-2.query in
     let there : c.args.left ≡ Ok l = subst (λ (t : Found Typed × Found BoundSpecification). c.args.left ≡ Ok t.0) (sym c.in_ok-left-2.ensures.part) c.in_ok-left.ensures.0 in
     adds_beside a b l.part.expr q.part c.and-findings.result c.boxed_beside.result c.boxed_beside.ensures (IfOk-at_ok (Adding typed_functions a b) there h)
+
+pub returns-clause-reach : goal.returns-clause-reach
+returns-clause-reach c = λ h k.
+    let l = c.in_ok-left-2.left in
+    let q = c.in_ok-left-2.query in
+    let findings = c.and-findings.result in
+    let there : (c.args.left ≡ Ok l) × (c.args.query ≡ Ok q) = subst (λ (t : Found Typed × Found BoundSpecification). (c.args.left ≡ Ok t.0) × (c.args.query ≡ Ok t.1)) (sym c.in_ok-left-2.ensures.part) c.in_ok-left.ensures in
+    reaches.beside_reaches l.part.expr q.part findings c.boxed_beside.result c.boxed_beside.ensures (reaches.operand c.args.left l findings.reach there.0 c.and-findings.ensures.reach.0 h)
+    (reaches.subquery_reach c.args.query q findings.reach there.1 (omega (arith, c.of_subquery.ensures.reach, c.and-findings.ensures.reach.1)) k)

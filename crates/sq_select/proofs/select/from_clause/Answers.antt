@@ -3,10 +3,13 @@ use Rattle.sq_select.proofs.Columns.{zip_none}
 use Rattle.sq_select.proofs.select.from_clause.Goals as goal
 
 pub loop-reference-init : goal.loop-reference-init
-loop-reference-init g c = c.in_ok-add.ensures (zip_none (IsItemOver (g.N.Names.column_kinds c.args.names.now)) c.new-2.result c.new.result c.new-2.ensures c.new.ensures)
+loop-reference-init g c = (c.in_ok-add.ensures.over (zip_none (IsItemOver (g.N.Names.column_kinds c.args.names.now)) c.new-2.result c.new.result c.new-2.ensures c.new.ensures), c.in_ok-add.ensures.some)
 
 pub loop-reference-preserved : goal.loop-reference-preserved
-loop-reference-preserved g c = c.in_ok-add-2.ensures c.loop-reference.invariant
+loop-reference-preserved g c = (c.in_ok-add-2.ensures.over c.loop-reference.invariant.0, c.in_ok-add-2.ensures.some)
 
-pub returns : goal.returns
-returns g c = c.loop-reference.invariant
+pub returns-clause-over : goal.returns-clause-over
+returns-clause-over g c = c.loop-reference.invariant.0
+
+pub returns-clause-some : goal.returns-clause-some
+returns-clause-some g c = c.loop-reference.invariant.1

@@ -1,6 +1,9 @@
+use Rattle.sq_scope.specs.Reach.{MayReach}
+use Rattle.sq_select.specs.Reach.{EachReaches}
+use Rattle.sq_select.proofs.Reaches as reaches
 use Rattle.sq_select.proofs.InOrder.{adds_none}
 use Rattle.sq_scope.specs.Expression.{expr_functions}
-use Rattle.std.proofs.Common.{refl}
+use Rattle.std.proofs.Common.{refl, sym, subst}
 use Rattle.sq_bound.specs.WellFormed.{IsExpr}
 use Rattle.sq_scope.proofs.Bindings.{grows_further}
 use Rattle.sq_select.specs.WellFormed.{here, parameters_in}
@@ -21,6 +24,8 @@ loop-expr-init c = (
   c.bind_expr-first.ensures.grows,
   (let before = c.args.functions.now.calls in
       c.with_column-selected.ensures.in_order before before c.bind_expr-first.new.functions.calls (adds_none expr_functions c.no_columns.result.exprs before c.no_columns.ensures.exprs) c.bind_expr-first.ensures.in_order),
+  c.with_column-selected.ensures.reach (subst (EachReaches MayReach c.no_columns.result.findings.reach) (sym c.no_columns.ensures.exprs) tt) c.bind_expr-first.ensures.reach,
+  c.bind_expr-first.ensures.own,
 )
 
 pub loop-expr-preserved : goal.loop-expr-preserved
@@ -36,6 +41,8 @@ loop-expr-preserved c = (
       (typed_in kinds environment before.allowed allowed calls c.bind_expr-item.result c.loop-expr.invariant.1.1 c.bind_expr-item.ensures.typed)),
   grows_further c.args.functions.now c.loop-expr.functions c.bind_expr-item.new.functions c.loop-expr.invariant.1 c.bind_expr-item.ensures.grows,
   c.with_column-selected-in-loop-expr.ensures.in_order c.args.functions.now.calls c.loop-expr.functions.calls c.bind_expr-item.new.functions.calls c.loop-expr.invariant.2 c.bind_expr-item.ensures.in_order,
+  c.with_column-selected-in-loop-expr.ensures.reach c.loop-expr.invariant.3 c.bind_expr-item.ensures.reach,
+  (λ own. c.bind_expr-item.ensures.own (c.loop-expr.invariant.4 own)),
 )
 
 pub returns-clause-well_formed : goal.returns-clause-well_formed
@@ -46,3 +53,9 @@ returns-clause-grows c = c.loop-expr.invariant.1
 
 pub returns-clause-in_order : goal.returns-clause-in_order
 returns-clause-in_order c = c.loop-expr.invariant.2
+
+pub returns-clause-reach : goal.returns-clause-reach
+returns-clause-reach c = c.loop-expr.invariant.3
+
+pub returns-clause-own : goal.returns-clause-own
+returns-clause-own c = c.loop-expr.invariant.4

@@ -1,3 +1,4 @@
+use Rattle.sq_select.proofs.Reaches as reaches
 use Rattle.std.proofs.Common.{◌≡◌, Some, refl, sym, ap, ◌∙◌}
 use Rattle.std.proofs.lemmas.Option.{slice_get-get_or}
 use Rattle.std.specs.Prelude.{slice_get}
@@ -6,7 +7,7 @@ use Rattle.sq_select.proofs.Columns.{zip_at}
 use Rattle.sq_select.proofs.select.push_items.Goals as goal
 
 pub loop-number-init : goal.loop-number-init
-loop-number-init c = ((λ kinds parameters tables levels calls over before. before), refl)
+loop-number-init c = ((λ kinds parameters tables levels calls over before. before), refl, (λ before. before))
 
 pub returns-in_err-push_table-clause-star : goal.returns-in_err-push_table-clause-star
 returns-in_err-push_table-clause-star c = c.push_table.ensures.star ∙ c.loop-number.invariant.1
@@ -21,6 +22,7 @@ loop-number-preserved c = (
       let at = zip_at (IsItemOver kinds) tables items number item over there in
       c.in_ok-push_table.ensures.well_formed kinds parameters tables levels calls at.0 at.1 at.2 (c.loop-number.invariant.0 kinds parameters tables levels calls over before)),
   c.push_table.ensures.star ∙ c.loop-number.invariant.1,
+  (λ before. c.in_ok-push_table.ensures.reach (c.loop-number.invariant.2 before)),
 )
 
 pub returns-clause-well_formed : goal.returns-clause-well_formed
@@ -28,3 +30,6 @@ returns-clause-well_formed c = c.loop-number.invariant.0
 
 pub returns-clause-star : goal.returns-clause-star
 returns-clause-star c = c.loop-number.invariant.1
+
+pub returns-clause-reach : goal.returns-clause-reach
+returns-clause-reach c = c.loop-number.invariant.2

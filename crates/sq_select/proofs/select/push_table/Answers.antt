@@ -1,3 +1,5 @@
+use Rattle.sq_bound.specs.declared.expression.Place.{Place}
+use Rattle.sq_select.proofs.Reaches as reaches
 use Rattle.std.proofs.Common.{◌≡◌, true, ◌∷◌, Some, refl, sym, ap, ◌∙◌}
 use Rattle.std.proofs.lemmas.Option.{slice_get-get_or}
 use Rattle.std.specs.Prelude.{slice_get}
@@ -8,7 +10,7 @@ use Rattle.sq_select.proofs.Columns.{column_is, zip_more}
 use Rattle.sq_select.proofs.select.push_table.Goals as goal
 
 pub loop-column-init : goal.loop-column-init
-loop-column-init c = ((λ kinds parameters tables levels calls t at over before. before), refl)
+loop-column-init c = ((λ kinds parameters tables levels calls t at over before. before), refl, (λ before. before))
 
 pub returns-in_err-push_column-clause-star : goal.returns-in_err-push_column-clause-star
 returns-in_err-push_column-clause-star c = c.push_column.ensures.star ∙ c.loop-column.invariant.1
@@ -27,6 +29,10 @@ loop-column-preserved c = (
       (c.loop-column.invariant.0 kinds parameters tables levels calls t at over before)
       (column_is kinds parameters tables levels calls t c.args.item.now c.args.number index column at over there)),
   c.push_column.ensures.star ∙ c.loop-column.invariant.1,
+  (λ before.
+      let place : Place = record { depth = 0; item = c.args.number; column = c.column-item.result.position } in
+      reaches.list_further c.loop-column.selected c.push_column.new.selected (bound.Column place) 0 c.in_ok-push_column.ensures.exprs c.in_ok-push_column.ensures.reach.0 c.in_ok-push_column.ensures.reach.1
+      (c.loop-column.invariant.2 before) (reaches.column_reach place refl)),
 )
 
 pub returns-clause-well_formed : goal.returns-clause-well_formed
@@ -34,3 +40,6 @@ returns-clause-well_formed c = c.loop-column.invariant.0
 
 pub returns-clause-star : goal.returns-clause-star
 returns-clause-star c = c.loop-column.invariant.1
+
+pub returns-clause-reach : goal.returns-clause-reach
+returns-clause-reach c = c.loop-column.invariant.2

@@ -1,3 +1,4 @@
+use Rattle.sq_select.specs.Reach.{ListReaching}
 use Rattle.std.proofs.Common.{◌≡◌, true, List, ◌∷◌, Some}
 use Rattle.std.specs.Prelude.{slice_get}
 use Rattle.sq_value.specs.declared.domain.Kind.{Kind}
@@ -13,3 +14,4 @@ invariant-loop-column l =
     ((kinds : TableKinds) (parameters : List Kind) (tables : List TablePlace) (levels : Levels) (calls : List SetFunctionCall) (t : TablePlace) → slice_get tables l.number ≡ Some t → IsItemOver kinds t l.item
     → AreColumns kinds parameters (level_over tables true ∷ levels) calls l.fn.selected.exprs l.fn.selected.columns → AreColumns kinds parameters (level_over tables true ∷ levels) calls l.selected.exprs l.selected.columns)
     × (l.selected.is_star ≡ l.fn.selected.is_star)
+    × (ListReaching l.fn.selected → ListReaching l.selected)

@@ -1,3 +1,5 @@
+use Rattle.sq_select.specs.Reach.{ListReaching, Reaching, TypedReaches}
+use Rattle.sq_select.proofs.Reaches as reaches
 use Rattle.sq_select.proofs.InOrder.{list_further}
 use Rattle.sq_select.specs.InOrder.{Adding, AddsList, typed_functions}
 use Rattle.std.proofs.lemmas.Result.{IfOk-at_ok}
@@ -23,3 +25,12 @@ returns-clause-in_order c = λ a b d h k.
     kept_with (AddsList a d) after c.push_column-pushed.result c.kept.result c.kept.ensures.part c.kept.ensures.test
     (list_further a b d before after found.part.expr c.push_column-pushed.result c.push_column-pushed.ensures.exprs
     (IfOk-at_ok (AddsList a b) c.in_ok-selected.ensures.0 h) (IfOk-at_ok (Adding typed_functions b d) c.in_ok-selected.ensures.1 k))
+
+pub returns-clause-reach : goal.returns-clause-reach
+returns-clause-reach c = λ h k.
+    let before = c.in_ok-selected.selected in
+    let found = c.in_ok-selected.item in
+    let after = c.push_column-pushed.new.selected in
+    kept_with ListReaching after c.push_column-pushed.result c.kept.result c.kept.ensures.part c.kept.ensures.test
+    (reaches.list_pushed before after found.part.expr found.findings.reach c.push_column-pushed.result c.push_column-pushed.ensures.exprs c.push_column-pushed.ensures.reach
+    (IfOk-at_ok ListReaching c.in_ok-selected.ensures.0 h) (IfOk-at_ok (Reaching TypedReaches) c.in_ok-selected.ensures.1 k))

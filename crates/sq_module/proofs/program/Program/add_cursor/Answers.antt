@@ -1,10 +1,13 @@
-use Rattle.std.proofs.Common.{◌∙◌, sym, subst}
+use Rattle.std.proofs.Common.{◌∙◌, refl, sym, subst}
 use Rattle.sq_bound.specs.Fits.{FitsCursor}
 use Rattle.sq_bound.specs.WellFormed.{IsCursor}
 use Rattle.sq_bound.specs.declared.statement.BoundStatement.TheVariants as statement
+use Rattle.sq_bind.proofs.Changes.{on_ok}
 use Rattle.sq_module.specs.Program.{OpensWellFormed}
-use Rattle.sq_module.proofs.Fitting.{cursor_added, cursor_stands, of_bound}
+use Rattle.sq_module.proofs.Fitting.{cursor_added, cursor_stands, is_bound, of_bound}
 use Rattle.sq_module.proofs.Opening.{last_opened}
+use Rattle.sq_module.specs.Written.{IsNumberOf}
+use Rattle.sq_module.proofs.Written.{number_last, numbers_next}
 use Rattle.sq_module.proofs.program.Program.add_cursor.Goals as goal
 
 pub returns-in_ok-named-in-Some-clause-fits : goal.returns-in_ok-named-in-Some-clause-fits
@@ -23,3 +26,11 @@ returns-in_ok-named-in-Some-clause-opened c =
     λ columns parameters one.
     subst (λ n. OpensWellFormed columns c.push.new.self.items parameters (statement.Open n)) (sym (c.len-number.ensures ∙ c.args.self.now.cursors.ok.0))
     (last_opened columns parameters _ _ _ c.in_ok-push-in-Some.ensures.items (of_bound (IsCursor columns parameters) c.args.bound c.in_ok-cursor.field-0 _ c.in_ok-cursor.ensures c.in-Some.is one))
+
+pub returns-in_ok-named-in-Some-clause-written : goal.returns-in_ok-named-in-Some-clause-written
+returns-in_ok-named-in-Some-clause-written c =
+    λ m named numbers.
+    let last = number_last m _ _ _ _ c.args.bound _ _ (is_bound c.args.bound c.in_ok-cursor.field-0 _ c.in_ok-cursor.ensures c.in-Some.is) refl refl c.in_ok-push-in-Some.ensures.items named in
+    let one : IsNumberOf m c.push.new.self.items c.args.name c.len-number.result
+    = subst (λ n. IsNumberOf m c.push.new.self.items c.args.name n) (sym (c.len-number.ensures ∙ c.args.self.now.cursors.ok.0)) last in
+    (numbers_next m _ _ _ _ c.args.name c.len-number.result _ c.in_ok-push-in-Some.ensures.items (on_ok c.insert.result _ c.insert.ensures.entries (sym c.is_ok.ensures.value ∙ c.in_ok-named-in-Some.ensures)) one numbers, one)

@@ -1,8 +1,10 @@
-use Rattle.std.proofs.Common.{length}
+use Rattle.std.proofs.Common.{length, refl}
 use Rattle.std.proofs.lemmas.Result.{on_ok_weaker}
 use Rattle.sq_catalog.specs.Catalog.{column_kinds}
 use Rattle.sq_module.proofs.Fitting.{procedure_added}
 use Rattle.sq_module.specs.Program.{FitsProcedure, ProcedureIsWellFormed, ProcedureOpens, kinds_of_cursors}
+use Rattle.sq_module.specs.Written.{AreNumbers, IsBoundFrom, OpensNamed}
+use Rattle.sq_module.proofs.Written.{procedure_next}
 use Rattle.sq_module.proofs.program.Program.add_procedure.Goals as goal
 
 pub returns-clause-fits : goal.returns-clause-fits
@@ -17,3 +19,13 @@ returns-clause-well_formed c =
     let opens : ProcedureOpens (column_kinds c.args.catalog.now) c.args.self.now.cursors.items c.in_ok-bound.bound = rw c.as_slice.ensures.value at c.in_ok-bound.ensures.opens in
     on_ok_weaker c.inserted.result (λ is. (c.requires.well_formed.0, procedure_added (ProcedureIsWellFormed _ _) _ _ _ _ is c.requires.well_formed.1 one, procedure_added (ProcedureOpens _ _) _ _ _ _ is c.requires.well_formed.2 opens))
     c.inserted.ensures.entries
+
+pub returns-clause-written : goal.returns-clause-written
+returns-clause-written c =
+    λ texts m among of is_procedure numbers opens before.
+    let cursors = c.args.self.now.cursors.items in
+    let numbers_here : AreNumbers m c.as_slice.result.now c.args.numbers.now.entries = rw c.as_slice.ensures.value numbers in
+    let opens_here : OpensNamed m c.as_slice.result.now c.args.admitted.now c.args.opened = rw c.as_slice.ensures.value opens in
+    let one : IsBoundFrom m cursors c.args.admitted.now.procedure.now c.in_ok-bound.bound
+    = rw c.as_slice.ensures.value at (c.in_ok-bound.ensures.written m (of.user) is_procedure numbers_here opens_here) in
+    on_ok_weaker c.inserted.result (λ is. procedure_next texts m cursors _ _ _ c.args.admitted.now.procedure.now _ is among of.name is_procedure.0 refl one before) c.inserted.ensures.entries

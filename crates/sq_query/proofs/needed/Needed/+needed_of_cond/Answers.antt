@@ -93,16 +93,16 @@ add_of_specification-returns-in-Some-clause-adds t c =
     let functions = map call_of (out-Grouping c.in-Some.grouping).set_functions in
     let having = clause_tables (clause_of functions (out-Grouping c.in-Some.grouping).having) in
     adds_last c.add_of_optional-in-Some.result c.add_of_optional.new.self c.add_of_optional-in-Some.new.self (fold with_table (places_in c.args.self.now) (specification_tables c.args.query.now)) having
-    (added_three (places_in c.args.self.now) (places_in c.loop-table.self) (places_in c.add_of_optional.new.self) (specification_tables c.args.query.now) o.from (clause_tables (clause_of [] o.condition)) having
+    (added_three (places_in c.args.self.now) (places_in c.loop-table.self) (places_in c.add_of_optional.new.self) (specification_tables c.args.query.now) o.from.tables (clause_tables (clause_of [] o.condition)) having
     (tables_of_grouped c.args.query.now c.in-Some.grouping c.in-Some.is)
-    (items_added (places_in c.args.self.now) (places_in c.loop-table.self) c.as_slice-table-items.result.now o.from c.loop-table.table-index c.as_slice-table-items.ensures c.loop-table-test.false c.loop-table.invariant)
+    (items_added (places_in c.args.self.now) (places_in c.loop-table.self) c.as_slice-table-items.result.now o.from.tables c.loop-table.table-index c.as_slice-table-items.ensures c.loop-table-test.false c.loop-table.invariant)
     (c.in_ok-add_of_optional.ensures.adds []))
     (c.add_of_optional-in-Some.ensures.adds functions)
 
 pub add_of_specification-returns-in-None-clause-adds : goal.add_of_specification-returns-in-None-clause-adds
 add_of_specification-returns-in-None-clause-adds t c =
     let o = out-BoundSpecification c.args.query.now in
-    added_three (places_in c.args.self.now) (places_in c.loop-table.self) (places_in c.add_of_optional.new.self) (specification_tables c.args.query.now) o.from (clause_tables (clause_of [] o.condition)) []
+    added_three (places_in c.args.self.now) (places_in c.loop-table.self) (places_in c.add_of_optional.new.self) (specification_tables c.args.query.now) o.from.tables (clause_tables (clause_of [] o.condition)) []
     (tables_of_ungrouped c.args.query.now c.in-None.is)
-    (items_added (places_in c.args.self.now) (places_in c.loop-table.self) c.as_slice-table-items.result.now o.from c.loop-table.table-index c.as_slice-table-items.ensures c.loop-table-test.false c.loop-table.invariant)
+    (items_added (places_in c.args.self.now) (places_in c.loop-table.self) c.as_slice-table-items.result.now o.from.tables c.loop-table.table-index c.as_slice-table-items.ensures c.loop-table-test.false c.loop-table.invariant)
     (c.in_ok-add_of_optional.ensures.adds [])

@@ -5,8 +5,8 @@ use Rattle.sq_scope.specs.WellFormed.{IsItemOver}
 use Rattle.sq_select.proofs.Columns.{zip_more}
 use Rattle.sq_select.proofs.select.FromClause.add.Goals as goal
 
-pub returns : goal.returns
-returns g c = λ before.
+pub returns-clause-over : goal.returns-clause-over
+returns-clause-over g c = λ before.
     let kinds = g.N.Names.column_kinds c.args.names.now in
     let table = c.in_ok-table.table.now in
     zip_more (IsItemOver kinds) c.args.self.now.tables c.args.self.now.items c.place.result c.in_ok-item.item c.push.new.self c.push-2.new.self c.in_ok-push.ensures.ok c.in_ok-push-2.ensures.ok before

@@ -1,0 +1,265 @@
+-- What is admitted and bound, one after the other, is what is written.
+use Rattle.std.proofs.Common.{◌≡◌, ℕ, zero, suc, ◌+◌, ◌<◌, ◌≤◌, Bool, true, false, ◌&&◌, List, [], ◌∷◌, ◌++◌, Option, None, Some, Result, Ok, Err, IfOk, IfSome, OnOk, if◌then◌else◌, length, get_or, take, flat_map, slice_get, refl, ap, ap₂, sym, subst, ◌∙◌, append_assoc, arith}
+use Rattle.std.proofs.lemmas.Bool.{eqb-true}
+use Rattle.std.proofs.lemmas.List.{take_more}
+use Rattle.std.specs.Borrow.{Bor}
+use Rattle.std.specs.List.{AllByRecursion, AllZip, IsAmong}
+use Rattle.std.specs.Map.{lookup}
+use Rattle.indexmap.specs.IndexMap.{insert_entry}
+use Rattle.indexmap.proofs.SetLemmas.{AllZip-push}
+use Rattle.sq_lex.specs.declared.name.Name.{Name}
+use Rattle.sq_tree.specs.declared.module.Cursor.{Cursor}
+use Rattle.sq_tree.specs.declared.module.ModuleItem.{ModuleItem}
+use Rattle.sq_tree.specs.declared.module.ModuleText.{ModuleText}
+use Rattle.sq_tree.specs.declared.module.Procedure.{Procedure}
+use Rattle.sq_tree.specs.declared.statement.Statement.{Statement}
+use Rattle.sq_tree.specs.declared.statement.Statement.TheVariants as tree
+use Rattle.sq_tree.specs.declared.statement.Where.{Where}
+use Rattle.sq_tree.specs.declared.statement.Where.TheVariants as rows
+use Rattle.sq_bound.specs.declared.fault.BindFault.{BindFault}
+use Rattle.sq_bound.specs.declared.names.ParameterDesc.{ParameterDesc}
+use Rattle.sq_bound.specs.declared.statement.BoundStatement.{BoundStatement}
+use Rattle.sq_bound.specs.declared.statement.BoundStatement.TheVariants as statement
+use Rattle.sq_bound.specs.declared.statement.ChangeTarget.{ChangeTarget}
+use Rattle.sq_bound.specs.declared.statement.ChangeTarget.TheVariants as target
+use Rattle.sq_bind.specs.Written.{IsCursorOf, IsStatementOf, IsTargetOf}
+use Rattle.sq_tree.specs.declared.module.ModuleItem.TheVariants as item
+use Rattle.sq_meaning.specs.Status.{well_formed}
+use Rattle.sq_meaning.specs.WellFormed.{Has}
+use Rattle.sq_bound.specs.declared.query.BoundCursor.{BoundCursor}
+use Rattle.sq_module.specs.declared.admission.AdmittedModule.{AdmittedModule}
+use Rattle.sq_module.specs.declared.admission.AdmittedProcedure.{AdmittedProcedure}
+use Rattle.sq_module.specs.declared.program.BoundProcedure.{BoundProcedure}
+use Rattle.sq_module.specs.declared.program.DeclaredCursor.{DeclaredCursor}
+use Rattle.sq_module.specs.declared.program.ProcedureName.{ProcedureName}
+use Rattle.sq_module.specs.Opened.{Grow}
+use Rattle.sq_module.specs.Program.{same_name, same_procedure}
+use Rattle.sq_module.specs.Written.{AreFromTexts, AreNumbers, AreOfTexts, Declare, IsBoundFrom, IsCursorIn, IsCursorNamed, IsDeclaredFrom, IsFromTexts, IsNumberOf, IsOfText, IsProcedureOf, IsStatementIn, OpenNamed, OpensNamed, declarations_of}
+use Rattle.sq_module.proofs.Fitting.{all_last}
+use Rattle.sq_module.proofs.Names.{flat_more}
+use Rattle.sq_module.proofs.Opening.{last_there, there_still}
+
+-- ---- names
+
+both_true : (a b : Bool) → (a && b) ≡ true → (a ≡ true) × (b ≡ true)
+both_true true b h = (refl, h)
+both_true false b h = cc
+
+pub names_equal : (a b : List ℕ) → same_name a b ≡ true → a ≡ b
+names_equal [] [] h = refl
+names_equal [] (y ∷ b) h = cc
+names_equal (x ∷ a) [] h = cc
+names_equal (x ∷ a) (y ∷ b) h = let both = both_true _ _ h in ap₂ (λ z c. z ∷ c) (eqb-true x y both.0) (names_equal a b both.1)
+
+-- ---- elements
+
+pub among_at : {X : Type 0} (xs : List X) (i : ℕ) (x : X) → i < length xs → x ≡ get_or xs i x → IsAmong xs x
+among_at xs i x lt is = (i, (lt, is))
+
+-- what holds of each entry holds with one more, or with another value under an equal key
+pub all_entries : {K V : Type 0} (eq : K → K → Bool) (P : K × V → Type 0) (es : List (K × V)) (k : K) (v : V) → ((q : K) → eq k q ≡ true → P (q, v)) → P (k, v)
+    → AllByRecursion P es → AllByRecursion P (insert_entry eq es k v)
+all_entries eq P [] k v same one all = (one, tt)
+all_entries eq P (e ∷ es) k v same one all = by (eq k e.0) refl (all_entries eq P es k v same one all.1)
+  where
+    by : (b : Bool) → eq k e.0 ≡ b → AllByRecursion P (insert_entry eq es k v) → AllByRecursion P (insert_entry eq (e ∷ es) k v)
+    by true h rest = rw h (same e.0 h, all.1)
+    by false h rest = rw h (all.0, rest)
+
+-- ---- one more
+
+pub added_next : {X Y : Type 0} (f : X → List Y) (xs : List X) (i : ℕ) (x : X) (start now next : List Y) → i < length xs → x ≡ get_or xs i x → now ≡ start ++ flat_map f (take i xs)
+    → next ≡ now ++ f x → next ≡ start ++ flat_map f (take (i + 1) xs)
+added_next f xs i x start now next lt is before e =
+    e ∙ ap (λ l. l ++ f x) before ∙ append_assoc start (flat_map f (take i xs)) (f x) ∙ ap (λ l. start ++ l) (sym (flat_more f xs i x lt is))
+
+pub of_texts_next : (texts : List ModuleText) (m : ModuleText) (admitted new : List AdmittedModule) → IsAmong texts m
+    → (one : AdmittedModule) × (new ≡ admitted ++ one ∷ []) × IsOfText m one → AreOfTexts texts admitted → AreOfTexts texts new
+of_texts_next texts m admitted new there (one, is, of) all =
+    rw is (all_last (λ a. (t : ModuleText) × IsAmong texts t × IsOfText t a) admitted one all (m, there, of))
+
+-- ---- statements, where the cursors' numbers are known otherwise
+
+target_where : (R S : Name → ℕ → Type 0) → ((name : Name) (n : ℕ) → R name n → S name n) → (w : Option Where) (t : ChangeTarget) → IsTargetOf R w t → IsTargetOf S w t
+target_where R S f None (target.Searched t) h = h
+target_where R S f (Some (rows.Condition c)) (target.Searched t) h = h
+target_where R S f (Some (rows.CurrentOf name)) (target.Positioned p) h = f name p.cursor h
+target_where R S f None (target.Positioned p) h = absurd h
+target_where R S f (Some (rows.Condition c)) (target.Positioned p) h = absurd h
+target_where R S f (Some (rows.CurrentOf name)) (target.Searched t) h = absurd h
+
+pub statement_where : (R S : Name → ℕ → Type 0) → ((name : Name) (n : ℕ) → R name n → S name n) → (user : Name) (parameters : List ParameterDesc) (s : Statement) (b : BoundStatement)
+    → IsStatementOf R user parameters s b → IsStatementOf S user parameters s b
+statement_where R S f user parameters (tree.Open name) (statement.Open n) h = f name n h
+statement_where R S f user parameters (tree.Fetch t) (statement.Fetch b) h = (f t.cursor b.cursor h.0, h.1, h.2)
+statement_where R S f user parameters (tree.Close name) (statement.Close n) h = f name n h
+statement_where R S f user parameters (tree.Select t) (statement.Select b) h = h
+statement_where R S f user parameters (tree.Insert t) (statement.Insert b) h = h
+statement_where R S f user parameters (tree.Update t) (statement.Update b) h = (h.0, target_where R S f t.target b.target h.1)
+statement_where R S f user parameters (tree.Delete t) (statement.Delete b) h = (h.0, target_where R S f t.target b h.1)
+statement_where R S f user parameters (tree.Commit w) statement.Commit h = h
+statement_where R S f user parameters (tree.Rollback w) statement.Rollback h = h
+statement_where R S f user parameters s b h = absurd h
+
+-- ---- more cursors
+
+number_more : (m : ModuleText) (cursors more : List DeclaredCursor) (name : Name) (n : ℕ) → IsNumberOf m cursors name n → IsNumberOf m (cursors ++ more) name n
+number_more m cursors more name n h = record {
+  cursor = h.cursor;
+  among = h.among;
+  named = h.named;
+  bound = there_still (IsDeclaredFrom m.authorization h.cursor) cursors more n h.bound;
+}
+
+statement_more : (m : ModuleText) (cursors more : List DeclaredCursor) (parameters : List ParameterDesc) (s : Statement) (b : BoundStatement)
+    → IsStatementIn m cursors parameters s b → IsStatementIn m (cursors ++ more) parameters s b
+statement_more m cursors more parameters s b h = statement_where (IsNumberOf m cursors) (IsNumberOf m (cursors ++ more)) (number_more m cursors more) m.authorization parameters s b h
+
+bound_more : (m : ModuleText) (cursors more : List DeclaredCursor) (p : Procedure) (b : BoundProcedure) → IsBoundFrom m cursors p b → IsBoundFrom m (cursors ++ more) p b
+bound_more m cursors more p b h = record { user = h.user; parameters = h.parameters; statement = by b.statement h.statement }
+  where
+    by : (r : Result BoundStatement BindFault) → IfOk r (IsStatementIn m cursors b.parameters p.statement) → IfOk r (IsStatementIn m (cursors ++ more) b.parameters p.statement)
+    by (Ok s) stands = statement_more m cursors more b.parameters p.statement s stands
+    by (Err e) stands = tt
+
+from_texts_more : (texts : List ModuleText) (cursors more : List DeclaredCursor) (procedures : List (ProcedureName × BoundProcedure)) → AreFromTexts texts cursors procedures
+    → AreFromTexts texts (cursors ++ more) procedures
+from_texts_more texts cursors more [] h = tt
+from_texts_more texts cursors more (e ∷ es) h = (
+  record {
+    text = h.0.text;
+    among = h.0.among;
+    named = h.0.named;
+    procedure = h.0.procedure;
+    is_item = h.0.is_item;
+    is_named = h.0.is_named;
+    bound = bound_more h.0.text cursors more h.0.procedure e.1 h.0.bound;
+  },
+  from_texts_more texts cursors more es h.1,
+)
+
+numbers_more : (m : ModuleText) (cursors more : List DeclaredCursor) (numbers : List (Name × ℕ)) → AreNumbers m cursors numbers → AreNumbers m (cursors ++ more) numbers
+numbers_more m cursors more [] h = tt
+numbers_more m cursors more (e ∷ es) h = (number_more m cursors more e.0 e.1 h.0, numbers_more m cursors more es h.1)
+
+opens_named_more : (m : ModuleText) (cursors more : List DeclaredCursor) (p : AdmittedProcedure) (o : Option ℕ) → OpensNamed m cursors p o → OpensNamed m (cursors ++ more) p o
+opens_named_more m cursors more p None h = tt
+opens_named_more m cursors more p (Some n) h = statement_more m cursors more p.parameters p.procedure.now.statement (statement.Open n) h
+
+open_named_more : (m : ModuleText) (cursors more : List DeclaredCursor) (ps : List AdmittedProcedure) (os : List (Option ℕ)) → OpenNamed m cursors ps os → OpenNamed m (cursors ++ more) ps os
+open_named_more m cursors more [] [] h = tt
+open_named_more m cursors more [] (o ∷ os) h = absurd h
+open_named_more m cursors more (p ∷ ps) [] h = absurd h
+open_named_more m cursors more (p ∷ ps) (o ∷ os) h = (opens_named_more m cursors more p o h.0, open_named_more m cursors more ps os h.1)
+
+pub from_texts_grown : (texts : List ModuleText) (old new : List DeclaredCursor) (procedures : List (ProcedureName × BoundProcedure)) → Grow old new → AreFromTexts texts old procedures
+    → AreFromTexts texts new procedures
+from_texts_grown texts old new procedures grown h = subst (λ cs. AreFromTexts texts cs procedures) (sym grown.1) (from_texts_more texts old grown.0 procedures h)
+
+-- one procedure more, with cursors behind those that were there
+pub named_next : (m : ModuleText) (old new : List DeclaredCursor) (ps : List AdmittedProcedure) (i : ℕ) (p : AdmittedProcedure) (os : List (Option ℕ)) (o : Option ℕ) → i < length ps → p ≡ get_or ps i p
+    → Grow old new → OpenNamed m old (take i ps) os → OpensNamed m new p o → OpenNamed m new (take (i + 1) ps) (os ++ o ∷ [])
+named_next m old new ps i p os o lt is grown h one =
+    let wide : OpenNamed m new (take i ps) os = subst (λ cs. OpenNamed m cs (take i ps) os) (sym grown.1) (open_named_more m old grown.0 (take i ps) os h) in
+    subst (λ qs. OpenNamed m new qs (os ++ o ∷ [])) (ap (λ q. take i ps ++ q ∷ []) is ∙ sym (take_more ps i p lt)) (AllZip-push (OpensNamed m new) (take i ps) os p o wide one)
+
+pub named_at : (m : ModuleText) (cursors : List DeclaredCursor) (ps : List AdmittedProcedure) (os : List (Option ℕ)) (i : ℕ) (p : AdmittedProcedure) (d : Option ℕ) → OpenNamed m cursors ps os
+    → i < length ps → p ≡ get_or ps i p → OpensNamed m cursors p (get_or os i d)
+named_at m cursors [] os i p d h lt is = let no : ⊥ = omega (arith, lt) in absurd no
+named_at m cursors (q ∷ ps) [] i p d h lt is = absurd h
+named_at m cursors (q ∷ ps) (r ∷ os) zero p d h lt is = subst (λ x. OpensNamed m cursors x r) (sym is) h.0
+named_at m cursors (q ∷ ps) (r ∷ os) (suc i) p d h lt is = named_at m cursors ps os i p d h.1 (omega (arith, lt)) is
+
+-- ---- one cursor more
+
+-- the last cursor, bound from the one of this name
+pub number_last : (m : ModuleText) (cursors new : List DeclaredCursor) (user name : Name) (bound : Result BoundCursor BindFault) (c : BoundCursor) (d : DeclaredCursor) → bound ≡ Ok c → d.user ≡ user
+    → d.cursor ≡ c → new ≡ cursors ++ d ∷ [] → IsCursorNamed m user name bound → IsNumberOf m new name (length cursors)
+number_last m cursors new user name bound c d is_bound of_user of_cursor is h =
+    let written : IsCursorOf h.cursor c = subst (λ (r : Result BoundCursor BindFault). IfOk r (IsCursorOf h.cursor)) is_bound h.bound_is in
+    record {
+      cursor = h.cursor;
+      among = h.among;
+      named = h.named;
+      bound = subst (λ cs. Has (IsDeclaredFrom m.authorization h.cursor) (well_formed (slice_get cs (length cursors)))) (sym is)
+          (last_there (IsDeclaredFrom m.authorization h.cursor) cursors d (of_user ∙ h.user_is, subst (IsCursorOf h.cursor) (sym of_cursor) written));
+    }
+
+-- the numbers with that of the last cursor
+pub numbers_next : (m : ModuleText) (cursors new : List DeclaredCursor) (numbers after : List (Name × ℕ)) (name : Name) (n : ℕ) (d : DeclaredCursor) → new ≡ cursors ++ d ∷ []
+    → after ≡ insert_entry same_name numbers name n → IsNumberOf m new name n → AreNumbers m cursors numbers → AreNumbers m new after
+numbers_next m cursors new numbers after name n d is entered one h =
+    let wide : AreNumbers m new numbers = subst (λ cs. AreNumbers m cs numbers) (sym is) (numbers_more m cursors (d ∷ []) numbers h) in
+    subst (AreNumbers m new) (sym entered)
+    (all_entries same_name (λ e. IsNumberOf m new e.0 e.1) numbers name n (λ q same. subst (λ x. IsNumberOf m new x n) (names_equal name q same) one) one wide)
+
+-- ---- a procedure
+
+-- the number that a name has
+number_found : (m : ModuleText) (cursors : List DeclaredCursor) (numbers : List (Name × ℕ)) (name : Name) (n : ℕ) → AreNumbers m cursors numbers → lookup (same_name name) numbers ≡ Some n
+    → IsNumberOf m cursors name n
+number_found m cursors [] name n h is = cc
+number_found m cursors (e ∷ es) name n h is = by (same_name name e.0) refl is (λ found. number_found m cursors es name n h.1 found)
+  where
+    by : (b : Bool) → same_name name e.0 ≡ b → (if b then Some e.1 else lookup (same_name name) es) ≡ Some n → (lookup (same_name name) es ≡ Some n → IsNumberOf m cursors name n) → IsNumberOf m cursors name n
+    by true same found rest =
+        let value : e.1 ≡ n = cc in
+        subst (λ x. IsNumberOf m cursors name x) value (subst (λ x. IsNumberOf m cursors x e.1) (sym (names_equal name e.0 same)) h.0)
+    by false same found rest = rest found
+
+-- the cursor under a name
+pub cursor_found : (items : List ModuleItem) (entries : List (Name × Bor Cursor)) (name : Name) (c : Bor Cursor) → AllByRecursion (IsCursorIn items) entries → lookup (same_name name) entries ≡ Some c
+    → IsAmong items (item.Cursor c.now) × (c.now.name ≡ name)
+cursor_found items [] name c all is = cc
+cursor_found items (e ∷ es) name c all is = by (same_name name e.0) refl is (λ found. cursor_found items es name c all.1 found)
+  where
+    by : (b : Bool) → same_name name e.0 ≡ b → (if b then Some e.1 else lookup (same_name name) es) ≡ Some c
+        → (lookup (same_name name) es ≡ Some c → IsAmong items (item.Cursor c.now) × (c.now.name ≡ name)) → IsAmong items (item.Cursor c.now) × (c.now.name ≡ name)
+    by true same found rest =
+        let value : e.1 ≡ c = cc in
+        subst (λ (x : Bor Cursor). IsAmong items (item.Cursor x.now) × (x.now.name ≡ name)) value (all.0.0, sym all.0.1 ∙ sym (names_equal name e.0 same))
+    by false same found rest = rest found
+
+-- a statement whose cursors have these numbers
+pub statement_found : (m : ModuleText) (cursors : List DeclaredCursor) (numbers : List (Name × ℕ)) (user : Name) (parameters : List ParameterDesc) (s : Statement) (r : Result BoundStatement BindFault)
+    → user ≡ m.authorization → AreNumbers m cursors numbers → IfOk r (IsStatementOf (λ name n. lookup (same_name name) numbers ≡ Some n) user parameters s)
+    → IfOk r (IsStatementIn m cursors parameters s)
+statement_found m cursors numbers user parameters s (Ok b) is are h =
+    subst (λ u. IsStatementOf (IsNumberOf m cursors) u parameters s b) is
+    (statement_where (λ name n. lookup (same_name name) numbers ≡ Some n) (IsNumberOf m cursors) (λ name n. number_found m cursors numbers name n are) user parameters s b h)
+statement_found m cursors numbers user parameters s (Err e) is are h = tt
+
+-- a procedure more, or another of that name
+pub procedure_next : (texts : List ModuleText) (m : ModuleText) (cursors : List DeclaredCursor) (procedures more : List (ProcedureName × BoundProcedure)) (name : ProcedureName) (p : Procedure) (b : BoundProcedure)
+    → more ≡ insert_entry same_procedure procedures name b → IsAmong texts m → name.«module» ≡ m.name → IsAmong m.items (item.Procedure p) → name.name ≡ p.name → IsBoundFrom m cursors p b
+    → AreFromTexts texts cursors procedures → AreFromTexts texts cursors more
+procedure_next texts m cursors procedures more name p b is among named is_item is_named bound all =
+    subst (AreFromTexts texts cursors) (sym is) (all_entries same_procedure (IsFromTexts texts cursors) procedures name b same one all)
+  where
+    one : IsFromTexts texts cursors (name, b)
+    one = record { text = m; among = among; named = named; procedure = p; is_item = is_item; is_named = is_named; bound = bound }
+
+    same : (q : ProcedureName) → same_procedure name q ≡ true → IsFromTexts texts cursors (q, b)
+    same q h =
+        let both = both_true (same_name name.«module» q.«module») (same_name name.name q.name) h in record {
+          text = m;
+          among = among;
+          named = sym (names_equal name.«module» q.«module» both.0) ∙ named;
+          procedure = p;
+          is_item = is_item;
+          is_named = sym (names_equal name.name q.name both.1) ∙ is_named;
+          bound = bound;
+        }
+
+-- ---- elements of what is admitted
+
+pub all_at : {X : Type 0} (P : X → Type 0) (xs : List X) (i : ℕ) (x : X) → i < length xs → x ≡ get_or xs i x → AllByRecursion P xs → P x
+all_at P [] i x lt is all = let no : ⊥ = omega (arith, lt) in absurd no
+all_at P (y ∷ xs) zero x lt is all = subst P (sym is) all.0
+all_at P (y ∷ xs) (suc i) x lt is all = all_at P xs i x (omega (arith, lt)) is all.1
+
+pub take_whole : {X : Type 0} (n : ℕ) (xs : List X) → length xs ≤ n → take n xs ≡ xs
+take_whole zero [] le = refl
+take_whole zero (x ∷ xs) le = let no : ⊥ = omega (arith, le) in absurd no
+take_whole (suc n) [] le = refl
+take_whole (suc n) (x ∷ xs) le = ap (λ l. x ∷ l) (take_whole n xs (omega (arith, le)))

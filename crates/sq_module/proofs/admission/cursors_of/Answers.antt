@@ -1,0 +1,6 @@
+use Rattle.sq_module.proofs.Written.{among_at}
+use Rattle.sq_module.proofs.admission.cursors_of.Goals as goal
+
+pub loop-place-preserved : goal.loop-place-preserved
+loop-place-preserved c =
+    c.in_default.ensures.written c.args.items.now (among_at c.args.items.now c.loop-place.place c.index-items-place.result c.loop-place-test.true c.index-items-place.is) c.loop-place.invariant

@@ -1,0 +1,134 @@
+-- That what is admitted and bound is what the module texts say (ISO/IEC 9075:1992, 12.1, 12.3 and 13.1).
+use Rattle.std.specs.Prelude.{◌≡◌, ℕ, List, [], ◌∷◌, Option, Some, Result, IfOk, IfSome, flat_map, map, slice_get}
+use Rattle.std.specs.Borrow.{Bor}
+use Rattle.std.specs.List.{AllByRecursion, AllZip, IsAmong}
+use Rattle.sq_lex.specs.declared.name.Name.{Name}
+use Rattle.sq_value.specs.declared.domain.Domain.{Domain}
+use Rattle.sq_tree.specs.declared.module.Cursor.{Cursor}
+use Rattle.sq_tree.specs.declared.module.Declaration.{Declaration}
+use Rattle.sq_tree.specs.declared.module.Declaration.TheVariants as declaration
+use Rattle.sq_tree.specs.declared.module.Declarations.{Declarations}
+use Rattle.sq_tree.specs.declared.module.Declarations.TheVariants as declarations
+use Rattle.sq_tree.specs.declared.module.ModuleItem.{ModuleItem}
+use Rattle.sq_tree.specs.declared.module.ModuleItem.TheVariants as item
+use Rattle.sq_tree.specs.declared.module.ModuleText.{ModuleText}
+use Rattle.sq_tree.specs.declared.module.Procedure.{Procedure}
+use Rattle.sq_tree.specs.declared.statement.Statement.{Statement}
+use Rattle.sq_meaning.specs.Spelled.{domain_of, listed}
+use Rattle.sq_meaning.specs.Status.{well_formed}
+use Rattle.sq_meaning.specs.WellFormed.{Has}
+use Rattle.sq_bound.specs.declared.names.ParameterDesc.{ParameterDesc}
+use Rattle.sq_bound.specs.declared.fault.BindFault.{BindFault}
+use Rattle.sq_bound.specs.declared.query.BoundCursor.{BoundCursor}
+use Rattle.sq_bound.specs.declared.statement.BoundStatement.{BoundStatement}
+use Rattle.sq_bound.specs.declared.statement.BoundStatement.TheVariants as statement
+use Rattle.sq_bind.specs.Written.{IsCursorOf, IsStatementOf}
+use Rattle.sq_module.specs.declared.program.BoundProcedure.{BoundProcedure}
+use Rattle.sq_module.specs.declared.program.DeclaredCursor.{DeclaredCursor}
+use Rattle.sq_module.specs.declared.program.ProcedureName.{ProcedureName}
+use Rattle.sq_module.specs.declared.program.Program.{Program}
+use Rattle.sq_module.specs.declared.admission.AdmittedModule.{AdmittedModule}
+use Rattle.sq_module.specs.declared.admission.AdmittedProcedure.{AdmittedProcedure}
+
+-- ---- parameters (12.3)
+
+-- the declarations of a procedure, in their order
+abbrev pub declarations_of : Declarations → List Declaration
+declarations_of (declarations.Bracketed list) = listed list
+declarations_of (declarations.Bare first rest) = first ∷ map (λ d. d.declaration) rest
+
+-- the name of the parameter that is declared, and the domain of its data type, if it has one
+abbrev pub named_in : Declaration → List (Name × Option Domain)
+named_in (declaration.Parameter name data_type) = (name, domain_of data_type) ∷ []
+named_in declaration.Sqlcode = []
+named_in declaration.Sqlstate = []
+
+abbrev pub named_as : ParameterDesc → Name × Option Domain
+named_as p = (p.name, Some p.domain)
+
+-- the named parameters are those that are declared, in their order, each of the domain of its data type
+abbrev pub Declare : List Declaration → List ParameterDesc → Type 0
+Declare ds parameters = map named_as parameters ≡ flat_map named_in ds
+
+-- ---- modules
+
+-- a procedure is one of these items, and its parameters are those that it declares
+abbrev pub IsProcedureOf : List ModuleItem → AdmittedProcedure → Type 0
+IsProcedureOf items p = IsAmong items (item.Procedure p.procedure.now) × Declare (declarations_of p.procedure.now.declarations) p.parameters
+
+-- a cursor is one of these items, and stands under its name
+abbrev pub IsCursorIn : List ModuleItem → Name × Bor Cursor → Type 0
+IsCursorIn items e = IsAmong items (item.Cursor e.1.now) × (e.0 ≡ e.1.now.name)
+
+-- a module that is not refused is that of a text: its name, its user, its cursors and its procedures
+pub record IsOfText (m : ModuleText) (a : AdmittedModule) : Type 0 where
+  pub name : a.name ≡ m.name
+  pub user : a.user ≡ m.authorization
+  pub cursors : AllByRecursion (IsCursorIn m.items) a.cursors.entries
+  pub procedures : AllByRecursion (IsProcedureOf m.items) a.procedures.items
+
+-- so is each of the modules
+abbrev pub AreOfTexts : List ModuleText → List AdmittedModule → Type 0
+AreOfTexts texts admitted = AllByRecursion (λ a. (m : ModuleText) × IsAmong texts m × IsOfText m a) admitted
+
+-- ---- what is bound
+
+-- a cursor that is bound in a module of the user from this one
+abbrev pub IsDeclaredFrom : Name → Cursor → DeclaredCursor → Type 0
+IsDeclaredFrom user c declared = (declared.user ≡ user) × IsCursorOf c declared.cursor
+
+-- the cursor with this number is bound from the one of this name in the module
+pub record IsNumberOf (m : ModuleText) (cursors : List DeclaredCursor) (name : Name) (number : ℕ) : Type 0 where
+  pub cursor : Cursor
+  pub among : IsAmong m.items (item.Cursor cursor)
+  pub named : cursor.name ≡ name
+  pub bound : Has (IsDeclaredFrom m.authorization cursor) (well_formed (slice_get cursors number))
+
+-- a statement is bound from this one of a procedure with these parameters in the module
+abbrev pub IsStatementIn : ModuleText → List DeclaredCursor → List ParameterDesc → Statement → BoundStatement → Type 0
+IsStatementIn m cursors parameters s bound = IsStatementOf (IsNumberOf m cursors) m.authorization parameters s bound
+
+-- a procedure is bound from this one of the module: its parameters are those that it declares, and its statement, if it has no fault,
+-- is the one that is written
+pub record IsBoundFrom (m : ModuleText) (cursors : List DeclaredCursor) (p : Procedure) (bound : BoundProcedure) : Type 0 where
+  pub user : bound.user ≡ m.authorization
+  pub parameters : Declare (declarations_of p.declarations) bound.parameters
+  pub statement : IfOk bound.statement (IsStatementIn m cursors bound.parameters p.statement)
+
+-- a procedure of a program is bound from the one of its name in the text of its module's name
+pub record IsFromTexts (texts : List ModuleText) (cursors : List DeclaredCursor) (e : ProcedureName × BoundProcedure) : Type 0 where
+  pub text : ModuleText
+  pub among : IsAmong texts text
+  pub named : e.0.«module» ≡ text.name
+  pub procedure : Procedure
+  pub is_item : IsAmong text.items (item.Procedure procedure)
+  pub is_named : e.0.name ≡ procedure.name
+  pub bound : IsBoundFrom text cursors procedure e.1
+
+abbrev pub AreFromTexts : List ModuleText → List DeclaredCursor → List (ProcedureName × BoundProcedure) → Type 0
+AreFromTexts texts cursors procedures = AllByRecursion (IsFromTexts texts cursors) procedures
+
+-- so is each procedure of a program
+abbrev pub IsOfTexts : List ModuleText → Program → Type 0
+IsOfTexts texts p = AreFromTexts texts p.cursors.items p.procedures.entries
+
+-- ---- while a module is bound
+
+-- the numbers that its cursors have so far
+abbrev pub AreNumbers : ModuleText → List DeclaredCursor → List (Name × ℕ) → Type 0
+AreNumbers m cursors numbers = AllByRecursion (λ e. IsNumberOf m cursors e.0 e.1) numbers
+
+-- a cursor, if it has no fault, is the one of this name in the module
+pub record IsCursorNamed (m : ModuleText) (user name : Name) (bound : Result BoundCursor BindFault) : Type 0 where
+  pub cursor : Cursor
+  pub among : IsAmong m.items (item.Cursor cursor)
+  pub named : cursor.name ≡ name
+  pub user_is : user ≡ m.authorization
+  pub bound_is : IfOk bound (IsCursorOf cursor)
+
+-- the cursor that a procedure opens, if it opens one without a fault, is that which its OPEN names
+abbrev pub OpensNamed : ModuleText → List DeclaredCursor → AdmittedProcedure → Option ℕ → Type 0
+OpensNamed m cursors p opened = IfSome opened (λ n. IsStatementIn m cursors p.parameters p.procedure.now.statement (statement.Open n))
+
+abbrev pub OpenNamed : ModuleText → List DeclaredCursor → List AdmittedProcedure → List (Option ℕ) → Type 0
+OpenNamed m cursors = AllZip (OpensNamed m cursors)
