@@ -80,14 +80,24 @@ of_bracketed columns parameters t q e c h = record {
 joined_from : Kinds → List BoundUnion → Kinds
 joined_from = fold (λ left union. union_kinds union left)
 
--- a query expression of one term
+-- a query expression of one term has its query specifications
+pub first_specifications : (q : BoundQuery) (t : Term) → (out-BoundQuery q).first ≡ t.term → (out-BoundQuery q).rest ≡ [] → specifications_of q ≡ term_specifications t.term
+first_specifications q t first rest = specifications_of-out q ∙ (λ i. term_specifications (first i) ++ flat_map union_specifications (rest i)) ∙ append-nil (term_specifications t.term)
+
+-- and with a further term those of both
+pub further_specifications : (before q : BoundQuery) (u : BoundUnion) (t : Term) → (out-BoundQuery q).first ≡ (out-BoundQuery before).first → (out-BoundQuery q).rest ≡ (out-BoundQuery before).rest ++ u ∷ [] → u.term ≡ t.term
+    → specifications_of q ≡ specifications_of before ++ term_specifications t.term
+further_specifications before q u t first rest side =
+    let p = out-BoundQuery before in
+    specifications_of-out q ∙ (λ i. term_specifications (first i) ++ flat_map union_specifications (rest i)) ∙ sym (flat_map_more union_specifications (term_specifications p.first) p.rest u)
+    ∙ ap (λ s. s ++ union_specifications u) (sym (specifications_of-out before)) ∙ ap (λ s. specifications_of before ++ s) (union_specifications-out u ∙ ap term_specifications side)
+
 pub of_first : (columns : TableKinds) (parameters : List Kind) (q : BoundQuery) (t : Term) → (out-BoundQuery q).first ≡ t.term → (out-BoundQuery q).rest ≡ [] → (out-BoundQuery q).columns ≡ t.columns
     → IsTerm columns parameters t → IsQuery columns parameters q
 unfolding joined_from
 of_first columns parameters q t first rest same h =
     let o = out-BoundQuery q in
-    let made : specifications_of q ≡ term_specifications t.term =
-    specifications_of-out q ∙ (λ i. term_specifications (first i) ++ flat_map union_specifications (rest i)) ∙ append-nil (term_specifications t.term) in
+    let made = first_specifications q t first rest in
     let kinds : joined_from (term_kinds o.first) o.rest ≡ Ok (kinds_of_query q) =
     (λ i. joined_from (term_kinds (first i)) (rest i)) ∙ h.kinds_are ∙ ap (λ cs. Ok (kinds_of_results cs)) (sym same) in
     record {
@@ -111,9 +121,7 @@ unfolding joined_from
 of_further columns parameters before q u t first rest same side common b h =
     let o = out-BoundQuery q in
     let p = out-BoundQuery before in
-    let made : specifications_of q ≡ specifications_of before ++ term_specifications t.term =
-    specifications_of-out q ∙ (λ i. term_specifications (first i) ++ flat_map union_specifications (rest i)) ∙ sym (flat_map_more union_specifications (term_specifications p.first) p.rest u)
-    ∙ ap (λ s. s ++ union_specifications u) (sym (specifications_of-out before)) ∙ ap (λ s. specifications_of before ++ s) (union_specifications-out u ∙ ap term_specifications side) in
+    let made = further_specifications before q u t first rest side in
     let left : joined_from (term_kinds p.first) p.rest ≡ Ok (kinds_of_query before) =
     kept_from p.columns (joined_from (term_kinds p.first) p.rest) (kinds_of_query before) (sym (joined_kinds-out before) ∙ b.kinds_are) in
     let kinds : joined_from (term_kinds o.first) o.rest ≡ Ok (kinds_of_query q) =

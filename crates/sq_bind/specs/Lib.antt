@@ -1,4 +1,5 @@
 pub mod NoBases
+pub mod Numbering
 pub mod Output
 pub mod Updatable
 pub mod WellFormed

@@ -1,10 +1,14 @@
 //! Query expressions and cursors (ISO/IEC 9075:1992, 7.10, 13.1).
 
-ghost use Rattle.std.specs.Prelude.{◌≡◌, [], List, IfOk, IfSome, MatchOption, Ok, Some, true};
+ghost use Rattle.std.specs.Prelude.{◌≡◌, ℕ, [], List, IfOk, IfSome, MatchOption, Ok, Some, true};
 ghost use Rattle.std.specs.Result.{result_ok};
 ghost use Rattle.std.specs.List.{AllByRecursion};
 ghost use Rattle.sq_value.specs.declared.domain.Kind.{Kind as AnyKind};
 ghost use Rattle.sq_meaning.specs.Kind.{common_kind};
+ghost use Rattle.sq_bind.specs.Numbering.{QueryNumbering, TermNumbering};
+ghost use Rattle.sq_bound.specs.Numbered.{SelectWith};
+ghost use Rattle.sq_bound.specs.NumberedQuery.{CursorHasNumbers};
+ghost use Rattle.sq_select.specs.Numbering.{Numbering};
 ghost use Rattle.sq_bind.specs.WellFormed.{AreCommon, IsJoined, IsOutermost, IsTerm};
 ghost use Rattle.sq_bind.specs.Written.{IsCursorOf};
 ghost use Rattle.sq_bound.specs.Fits.{FitsCursor, FitsQuery};
@@ -56,7 +60,8 @@ pub(crate) fn bind_query<N: Names>(
     numbers: &mut SubqueryNumbers,
 ) -> JoinedResult
     requires { IsOutermost environment.now }
-    ensures { IfOk result (IsJoined (N.column_kinds names.now) (kinds_of_parameters environment.now.parameters.now)) }
+    ensures well_formed { IfOk result (IsJoined (N.column_kinds names.now) (kinds_of_parameters environment.now.parameters.now)) }
+    ensures numbering { IfOk result (QueryNumbering numbers.old numbers.new) }
 {
     let first = bind_query_term(&query.first, names, environment, numbers);
     let mut joined = started(environment.alloc, first);
@@ -75,7 +80,8 @@ fn bind_query_term<N: Names>(
     numbers: &mut SubqueryNumbers,
 ) -> TermResult
     requires { IsOutermost environment.now }
-    ensures { IfOk result (IsTerm (N.column_kinds names.now) (kinds_of_parameters environment.now.parameters.now)) }
+    ensures well_formed { IfOk result (IsTerm (N.column_kinds names.now) (kinds_of_parameters environment.now.parameters.now)) }
+    ensures numbering { IfOk result (TermNumbering numbers.old numbers.new) }
 {
     match term {
         QueryTerm::Specification(query) => {
@@ -104,7 +110,8 @@ fn copied(alloc: Global, columns: &Items<ResultColumn>) -> Result<Items<ResultCo
 }
 
 fn specification_term(alloc: Global, query: SubqueryResult) -> TermResult
-    ensures { (tables : TableKinds) (parameters : List AnyKind) → IfOk query (λ found. IsSelect tables parameters [] found.part) → IfOk result (IsTerm tables parameters) }
+    ensures well_formed { (tables : TableKinds) (parameters : List AnyKind) → IfOk query (λ found. IsSelect tables parameters [] found.part) → IfOk result (IsTerm tables parameters) }
+    ensures numbering { (a b : ℕ) → IfOk query (Numbering SelectWith a b) → IfOk result (TermNumbering a b) }
 {
     let found = query?;
     let lacks_privilege = found.findings.lacks_privilege;
@@ -118,7 +125,8 @@ fn specification_term(alloc: Global, query: SubqueryResult) -> TermResult
 }
 
 fn bracketed_term(alloc: Global, query: JoinedResult) -> TermResult
-    ensures { (tables : TableKinds) (parameters : List AnyKind) → IfOk query (IsJoined tables parameters) → IfOk result (IsTerm tables parameters) }
+    ensures well_formed { (tables : TableKinds) (parameters : List AnyKind) → IfOk query (IsJoined tables parameters) → IfOk result (IsTerm tables parameters) }
+    ensures numbering { (a b : ℕ) → IfOk query (QueryNumbering a b) → IfOk result (TermNumbering a b) }
 {
     let Joined {
         query,
@@ -140,7 +148,8 @@ fn boxed_query(alloc: Global, query: BoundQuery) -> Result<Boxed<BoundQuery>, Bi
 }
 
 fn started(alloc: Global, term: TermResult) -> JoinedResult
-    ensures { (tables : TableKinds) (parameters : List AnyKind) → IfOk term (IsTerm tables parameters) → IfOk result (IsJoined tables parameters) }
+    ensures well_formed { (tables : TableKinds) (parameters : List AnyKind) → IfOk term (IsTerm tables parameters) → IfOk result (IsJoined tables parameters) }
+    ensures numbering { (a b : ℕ) → IfOk term (TermNumbering a b) → IfOk result (QueryNumbering a b) }
 {
     let Term {
         term,
@@ -159,7 +168,8 @@ fn started(alloc: Global, term: TermResult) -> JoinedResult
 
 /// The query expression with a further term.
 fn with_union(alloc: Global, joined: JoinedResult, all: bool, term: TermResult) -> JoinedResult
-    ensures { (tables : TableKinds) (parameters : List AnyKind) → IfOk joined (IsJoined tables parameters) → IfOk term (IsTerm tables parameters) → IfOk result (IsJoined tables parameters) }
+    ensures numbering { (a b c : ℕ) → IfOk joined (QueryNumbering a b) → IfOk term (TermNumbering b c) → IfOk result (QueryNumbering a c) }
+    ensures well_formed { (tables : TableKinds) (parameters : List AnyKind) → IfOk joined (IsJoined tables parameters) → IfOk term (IsTerm tables parameters) → IfOk result (IsJoined tables parameters) }
 {
     let (joined, term) = both(joined, term)?;
     let columns = common_columns(
@@ -180,7 +190,8 @@ fn push_union(
     columns: Items<ResultColumn>,
     copy: Items<ResultColumn>,
 ) -> JoinedResult
-    ensures { (tables : TableKinds) (parameters : List AnyKind) → AreCommon (out-BoundQuery joined.query).columns term.columns columns → copy ≡ columns → IsJoined tables parameters joined → IsTerm tables parameters term → IfOk result (IsJoined tables parameters) }
+    ensures numbering { (a b c : ℕ) → QueryNumbering a b joined → TermNumbering b c term → IfOk result (QueryNumbering a c) }
+    ensures well_formed { (tables : TableKinds) (parameters : List AnyKind) → AreCommon (out-BoundQuery joined.query).columns term.columns columns → copy ≡ columns → IsJoined tables parameters joined → IsTerm tables parameters term → IfOk result (IsJoined tables parameters) }
 {
     let BoundQuery {
         first,
@@ -404,6 +415,7 @@ pub(crate) fn cursor_of<N: Names>(
     ensures fits { IfOk result (FitsCursor (N.base_tables names.now)) }
     ensures well_formed { IfOk result (IsCursor (N.column_kinds names.now) (kinds_of_parameters environment.now.parameters.now)) }
     ensures written { IfOk result (IsCursorOf cursor.now) }
+    ensures numbered { IfOk result (λ cursor. CursorHasNumbers cursor.body) }
 {
     let Joined {
         query,

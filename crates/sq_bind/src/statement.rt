@@ -1,6 +1,7 @@
 //! Statements of procedures, cursors, views and CHECK conditions.
 
 ghost use Rattle.std.specs.Prelude.{◌≡◌, ◌<◌, [], length, refl, slice_get, true, IfOk, IfSome, Ok, Some, false};
+ghost use Rattle.sq_bound.specs.NumberedQuery.{CursorHasNumbers};
 ghost use Rattle.sq_bound.specs.Fits.{FitsCursor, FitsQuery, FitsStatement, are_parameters};
 ghost use Rattle.sq_bound.specs.WellFormed.{IsCond, IsCursor, IsDistance, IsOrientation, IsSelect, IsStatement, IsUpdatable, TakeKinds, kinds_of_columns, kinds_of_parameters, kinds_of_results, kinds_of_select, of_base_at, only};
 ghost use Rattle.sq_bound.specs.declared.condition.BoundCond.{BoundCond as BoundTree};
@@ -9,7 +10,7 @@ ghost use Rattle.sq_meaning.specs.Status.{well_formed};
 ghost use Rattle.sq_meaning.specs.WellFormed.{Has};
 ghost use Rattle.sq_scope.specs.WellFormed.{IsItemOver};
 ghost use Rattle.sq_scope.specs.declared.findings.Found.{Found as FoundPart};
-ghost use Rattle.sq_bind.specs.NoBases.{no_base};
+ghost use Rattle.sq_bind.specs.NoBases.{no_base, no_view};
 ghost use Rattle.sq_bind.specs.WellFormed.{IsOutermost};
 ghost use Rattle.sq_bind.specs.Written.{AreOutputsOf, IsCursorOf, IsDistanceOf, IsFetchOf, IsOrientationOf, IsStatementOf, orientation_of};
 ghost use Rattle.sq_meaning.specs.Spelled.{has_point, listed, signed_number};
@@ -51,6 +52,7 @@ pub fn bind_cursor<N: Names>(
     ensures fits { IfOk result (FitsCursor (N.base_tables names.now)) }
     ensures well_formed { IfOk result (IsCursor (N.column_kinds names.now) (kinds_of_parameters parameters.now)) }
     ensures written { IfOk result (IsCursorOf cursor.now) }
+    ensures numbered { IfOk result (λ cursor. CursorHasNumbers cursor.body) }
 {
     let environment = Environment::new(alloc, user, parameters);
     cursor_of(cursor, names, &environment, &mut SubqueryNumbers::new())
@@ -119,11 +121,15 @@ struct OwnColumns<'a> {
 impl Names for OwnColumns<'_> {
     ghost base_tables = { λ _. [] };
 
+    ghost view_queries = { λ _. [] };
+
     ghost column_kinds = { λ own. only own.place (kinds_of_columns own.columns.now) };
 
     ghost references = { λ _. refl };
 
     ghost kinds_of_bases = { λ own. no_base (only own.place (kinds_of_columns own.columns.now)) };
+
+    ghost kinds_of_views = { λ own. no_view own.place (kinds_of_columns own.columns.now) };
 
     fn bases(&self) -> &[Shared<BaseTable>] {
         &[]

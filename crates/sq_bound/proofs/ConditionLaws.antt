@@ -8,7 +8,6 @@ use Rattle.sq_meaning.specs.Syntax.{compare, between, in_subquery, in_list, like
 use Rattle.sq_bound.specs.Expression.{PlacedExpr, expr_of}
 use Rattle.sq_bound.specs.SetFunction.{call_of}
 use Rattle.sq_bound.specs.Condition.{PlacedCond, cond_of, conj_of, test_of, predicate_of, select_of, groups_of, clause_of, not_if, compared_with, groups_if, groups_by, select_by}
-use Rattle.sq_bound.specs.declared.condition.TablePlace.{TablePlace}
 use Rattle.sq_bound.specs.declared.condition.Compared.{Compared}
 use Rattle.sq_bound.specs.declared.condition.ResultColumn.{ResultColumn}
 use Rattle.sq_bound.specs.declared.condition.BoundCond.{BoundCond, out-BoundCond, fold_out-BoundCond}

@@ -5,11 +5,11 @@ pub mod ExpressionLaws
 pub mod FirstRows
 pub mod JoinedLaws
 pub mod Nested
+pub mod Numbered
 pub mod QueryLaws
 pub mod QuietLaws
 pub mod QuietRows
 pub mod QuietTruths
 pub mod ReadColumns
 pub mod SameColumns
-pub mod SureTests
 pub mod Wider

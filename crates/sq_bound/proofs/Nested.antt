@@ -1,8 +1,7 @@
 -- The query specifications in a bound tree are those in its parts.
-use Rattle.std.proofs.Common.{◌≡◌, List, [], ◌∷◌, map, Option, Some, None, refl, sym, ap, subst}
+use Rattle.std.proofs.Common.{◌≡◌, ℕ, zero, suc, ◌<◌, List, [], ◌∷◌, length, map, get_or, Option, Some, None, Bool, arith, refl, sym, ◌∙◌, ap, subst}
 use Rattle.std.specs.Prelude.{⊤}
 use Rattle.std.specs.List.{AllByRecursion}
-use Rattle.sq_meaning.proofs.AnswerLaws.{all_weaker}
 use Rattle.sq_bound.specs.Numbered.{PredicateWith, CondWith, ConjWith, SelectWith, TestWith, GroupingWith, ClauseWith, GroupsWith}
 use Rattle.sq_bound.specs.declared.condition.BoundCond.{BoundCond, BoundCond-F, out-BoundCond, roll-BoundCond, roll-out-BoundCond, out-roll-BoundCond, every_made-BoundCond, every_held-BoundCond}
 use Rattle.sq_bound.specs.declared.condition.BoundConj.{BoundConj, BoundConj-F, out-BoundConj, roll-BoundConj, roll-out-BoundConj, out-roll-BoundConj, every_made-BoundConj, every_held-BoundConj}
@@ -11,6 +10,10 @@ use Rattle.sq_bound.specs.declared.condition.BoundSpecification.{BoundSpecificat
 use Rattle.sq_bound.specs.declared.condition.Grouping.{Grouping, Grouping-F, out-Grouping, roll-Grouping, roll-out-Grouping, out-roll-Grouping, map-Grouping, every_made-Grouping, every_held-Grouping}
 use Rattle.sq_bound.specs.declared.condition.Predicate.{Predicate, Predicate-F, out-Predicate, roll-Predicate, out-roll-Predicate, ind-Predicate, map-Predicate, every_made-Predicate, every_held-Predicate}
 use Rattle.sq_bound.specs.declared.condition.Predicate.TheOpen as layer
+use Rattle.sq_bound.specs.declared.condition.Predicate.TheVariants as bound
+use Rattle.sq_bound.specs.declared.condition.Compared.{Compared}
+use Rattle.sq_bound.specs.declared.expression.BoundExpr.{BoundExpr}
+use Rattle.sq_tree.specs.declared.cond.Comparison.{Comparison}
 use Rattle.sq_bound.specs.declared.expression.Place.{Place}
 use Rattle.sq_bound.specs.declared.expression.SetFunctionCall.{SetFunctionCall}
 
@@ -30,6 +33,11 @@ from_beside : {A : Type 0} (P : A → Type 0) (ys : List (Proved P)) → AllByRe
 from_beside P [] = tt
 from_beside P (y ∷ ys) = (y.1, from_beside P ys)
 
+one_of : {A : Type 0} (P : A → Type 0) (xs : List A) (i : ℕ) (x : A) → AllByRecursion P xs → i < length xs → x ≡ get_or xs i x → P x
+one_of P [] i x all within is = let none : i < 0 = within in let no : ⊥ = omega arith in absurd no
+one_of P (y ∷ ys) zero x all within is = subst P (sym is) all.0
+one_of P (y ∷ ys) (suc i) x all within is = one_of P ys i x all.1 (omega arith) is
+
 -- ---- part by part
 
 module _ (P : BoundSpecification → Type 0) where
@@ -43,6 +51,9 @@ module _ (P : BoundSpecification → Type 0) where
       let held = every_held-BoundCond _ _ _ _ _ _ c h in
       subst (λ (y : BoundCond-F Predicate BoundCond BoundConj BoundSpecification BoundTest Grouping). AllByRecursion (ConjWith P) y.terms) held.1 (from_beside (ConjWith P) held.0.terms)
 
+  pub term_with : (c : BoundCond) (ts : List BoundConj) (i : ℕ) (t : BoundConj) → ts ≡ (out-BoundCond c).terms → i < length ts → t ≡ get_or ts i t → CondWith P c → ConjWith P t
+  term_with c ts i t are within is h = one_of (ConjWith P) ts i t (subst (AllByRecursion (ConjWith P)) (sym are) (cond_held c h)) within is
+
   pub conj_made : (c : BoundConj) → AllByRecursion (TestWith P) (out-BoundConj c).tests → ConjWith P c
   conj_made c h =
       let tests = beside (TestWith P) (out-BoundConj c).tests h in
@@ -52,6 +63,9 @@ module _ (P : BoundSpecification → Type 0) where
   conj_held c h =
       let held = every_held-BoundConj _ _ _ _ _ _ c h in
       subst (λ (y : BoundConj-F Predicate BoundCond BoundConj BoundSpecification BoundTest Grouping). AllByRecursion (TestWith P) y.tests) held.1 (from_beside (TestWith P) held.0.tests)
+
+  pub test_with : (c : BoundConj) (ts : List BoundTest) (i : ℕ) (t : BoundTest) → ts ≡ (out-BoundConj c).tests → i < length ts → t ≡ get_or ts i t → ConjWith P c → TestWith P t
+  test_with c ts i t are within is h = one_of (TestWith P) ts i t (subst (AllByRecursion (TestWith P)) (sym are) (conj_held c h)) within is
 
   pub test_made : (t : BoundTest) → PredicateWith P t.predicate → TestWith P t
   test_made t h =
@@ -101,6 +115,18 @@ module _ (P : BoundSpecification → Type 0) where
 
   pub predicate_held : (p : Predicate) → PredicateWith P p → LayerWith (out-Predicate p)
   predicate_held p h = let held = every_held-Predicate _ _ _ _ _ _ p h in subst LayerWith held.1 (layer_held held.0)
+
+  pub compared_with_one : (p : Predicate) (op : Comparison) (k : Compared) (a : BoundExpr) (q : BoundSpecification) → p ≡ bound.CompareQuery op k a q → PredicateWith P p → SelectWith P q
+  compared_with_one p op k a q is h = subst LayerWith (ap out-Predicate (is ∙ sym (bound.rolls-CompareQuery op k a q)) ∙ out-roll-Predicate (layer.CompareQuery op k a q)) (predicate_held p h)
+
+  pub among_one : (p : Predicate) (n : Bool) (a : BoundExpr) (q : BoundSpecification) → p ≡ bound.InQuery n a q → PredicateWith P p → SelectWith P q
+  among_one p n a q is h = subst LayerWith (ap out-Predicate (is ∙ sym (bound.rolls-InQuery n a q)) ∙ out-roll-Predicate (layer.InQuery n a q)) (predicate_held p h)
+
+  pub existing_one : (p : Predicate) (q : BoundSpecification) → p ≡ bound.Exists q → PredicateWith P p → SelectWith P q
+  existing_one p q is h = subst LayerWith (ap out-Predicate (is ∙ sym (bound.rolls-Exists q)) ∙ out-roll-Predicate (layer.Exists q)) (predicate_held p h)
+
+  pub bracketed_one : (p : Predicate) (c : BoundCond) → p ≡ bound.Bracketed c → PredicateWith P p → CondWith P c
+  bracketed_one p c is h = subst LayerWith (ap out-Predicate (is ∙ sym (bound.rolls-Bracketed c)) ∙ out-roll-Predicate (layer.Bracketed c)) (predicate_held p h)
 
   grouping_rolled : (columns : List Place) (calls : List SetFunctionCall) (having : Option BoundCond) → ClauseWith P having → GroupingWith P (roll-Grouping (record { columns = columns; set_functions = calls; having = having }))
   grouping_rolled columns calls None h = every_made-Grouping _ _ _ _ _ _ (record { columns = columns; set_functions = calls; having = None }) (record { columns = columns; set_functions = calls; having = None }) refl tt
@@ -164,11 +190,15 @@ module _ (P : BoundSpecification → Type 0) where
       let held = every_held-BoundSpecification _ _ _ _ _ _ q h in
       subst (λ (y : Layer). ClauseWith P y.condition × GroupsWith P y.grouping) held.1 (clauses_held held.0 held.0.condition held.0.grouping)
 
--- ---- what holds of all, and implies something else, implies it of all
+-- ---- two things that hold of all, and together imply a third, imply it of all
 
-module _ (P Q : BoundSpecification → Type 0) (more : (q : BoundSpecification) → P q → Q q) where
+all_both : {A : Type 0} (P S Q : A → Type 0) → ((x : A) → P x → S x → Q x) → (xs : List A) → AllByRecursion P xs → AllByRecursion S xs → AllByRecursion Q xs
+all_both P S Q both [] h k = tt
+all_both P S Q both (x ∷ xs) h k = (both x h.0 k.0, all_both P S Q both xs h.1 k.1)
+
+module _ (P S Q : BoundSpecification → Type 0) (more : (q : BoundSpecification) → P q → S q → Q q) where
   abbrev Goes : {A : Type 0} → ((BoundSpecification → Type 0) → A → Type 0) → A → Type 0
-  Goes With x = With P x → With Q x
+  Goes With x = With P x → With S x → With Q x
 
   abbrev GP : Type 0
   GP = (x : Predicate) × Goes PredicateWith x
@@ -189,46 +219,51 @@ module _ (P Q : BoundSpecification → Type 0) (more : (q : BoundSpecification) 
   GG = (x : Grouping) × Goes GroupingWith x
 
   all_go : {A : Type 0} (With : (BoundSpecification → Type 0) → A → Type 0) (ys : List ((x : A) × Goes With x))
-      → AllByRecursion (With P) (map (λ (e : (x : A) × Goes With x). e.0) ys) → AllByRecursion (With Q) (map (λ (e : (x : A) × Goes With x). e.0) ys)
-  all_go With [] h = tt
-  all_go With (y ∷ ys) h = (y.1 h.0, all_go With ys h.1)
+      → AllByRecursion (With P) (map (λ (e : (x : A) × Goes With x). e.0) ys) → AllByRecursion (With S) (map (λ (e : (x : A) × Goes With x). e.0) ys)
+      → AllByRecursion (With Q) (map (λ (e : (x : A) × Goes With x). e.0) ys)
+  all_go With [] h k = tt
+  all_go With (y ∷ ys) h k = (y.1 h.0 k.0, all_go With ys h.1 k.1)
 
   layer_goes : (y : Predicate-F GP GC GJ GS GT GG) → Goes (λ R. LayerWith R) (map-Predicate GP GC GJ GS GT GG Predicate BoundCond BoundConj BoundSpecification BoundTest Grouping (λ e. e.0) (λ e. e.0) (λ e. e.0) (λ e. e.0) (λ e. e.0) (λ e. e.0) y)
-  layer_goes (layer.Compare op a b) h = tt
-  layer_goes (layer.CompareQuery op k a q) h = q.1 h
-  layer_goes (layer.Between n a low high) h = tt
-  layer_goes (layer.InQuery n a q) h = q.1 h
-  layer_goes (layer.InList n a es) h = tt
-  layer_goes (layer.Like n a p e) h = tt
-  layer_goes (layer.Null n a) h = tt
-  layer_goes (layer.Exists q) h = q.1 h
-  layer_goes (layer.Bracketed c) h = c.1 h
+  layer_goes (layer.Compare op a b) h k = tt
+  layer_goes (layer.CompareQuery op every a q) h k = q.1 h k
+  layer_goes (layer.Between n a low high) h k = tt
+  layer_goes (layer.InQuery n a q) h k = q.1 h k
+  layer_goes (layer.InList n a es) h k = tt
+  layer_goes (layer.Like n a p e) h k = tt
+  layer_goes (layer.Null n a) h k = tt
+  layer_goes (layer.Exists q) h k = q.1 h k
+  layer_goes (layer.Bracketed c) h k = c.1 h k
 
   predicate_step : (x : Predicate-F Predicate BoundCond BoundConj BoundSpecification BoundTest Grouping) → Goes (λ R. LayerWith R) x → Goes PredicateWith (roll-Predicate x)
-  predicate_step x go h = predicate_made Q x (go (subst (LayerWith P) (out-roll-Predicate x) (predicate_held P (roll-Predicate x) h)))
+  predicate_step x go h k =
+      predicate_made Q x (go (subst (LayerWith P) (out-roll-Predicate x) (predicate_held P (roll-Predicate x) h)) (subst (LayerWith S) (out-roll-Predicate x) (predicate_held S (roll-Predicate x) k)))
 
-  cond_step : (x : BoundCond-F Predicate BoundCond BoundConj BoundSpecification BoundTest Grouping) → (AllByRecursion (ConjWith P) x.terms → AllByRecursion (ConjWith Q) x.terms) → Goes CondWith (roll-BoundCond x)
-  cond_step x go h =
+  cond_step : (x : BoundCond-F Predicate BoundCond BoundConj BoundSpecification BoundTest Grouping) → (AllByRecursion (ConjWith P) x.terms → AllByRecursion (ConjWith S) x.terms → AllByRecursion (ConjWith Q) x.terms) → Goes CondWith (roll-BoundCond x)
+  cond_step x go h k =
       cond_made Q (roll-BoundCond x) (subst (λ (y : BoundCond-F Predicate BoundCond BoundConj BoundSpecification BoundTest Grouping). AllByRecursion (ConjWith Q) y.terms) (sym (out-roll-BoundCond x))
-      (go (subst (λ (y : BoundCond-F Predicate BoundCond BoundConj BoundSpecification BoundTest Grouping). AllByRecursion (ConjWith P) y.terms) (out-roll-BoundCond x) (cond_held P (roll-BoundCond x) h))))
+      (go (subst (λ (y : BoundCond-F Predicate BoundCond BoundConj BoundSpecification BoundTest Grouping). AllByRecursion (ConjWith P) y.terms) (out-roll-BoundCond x) (cond_held P (roll-BoundCond x) h))
+      (subst (λ (y : BoundCond-F Predicate BoundCond BoundConj BoundSpecification BoundTest Grouping). AllByRecursion (ConjWith S) y.terms) (out-roll-BoundCond x) (cond_held S (roll-BoundCond x) k))))
 
-  conj_step : (x : BoundConj-F Predicate BoundCond BoundConj BoundSpecification BoundTest Grouping) → (AllByRecursion (TestWith P) x.tests → AllByRecursion (TestWith Q) x.tests) → Goes ConjWith (roll-BoundConj x)
-  conj_step x go h =
+  conj_step : (x : BoundConj-F Predicate BoundCond BoundConj BoundSpecification BoundTest Grouping) → (AllByRecursion (TestWith P) x.tests → AllByRecursion (TestWith S) x.tests → AllByRecursion (TestWith Q) x.tests) → Goes ConjWith (roll-BoundConj x)
+  conj_step x go h k =
       conj_made Q (roll-BoundConj x) (subst (λ (y : BoundConj-F Predicate BoundCond BoundConj BoundSpecification BoundTest Grouping). AllByRecursion (TestWith Q) y.tests) (sym (out-roll-BoundConj x))
-      (go (subst (λ (y : BoundConj-F Predicate BoundCond BoundConj BoundSpecification BoundTest Grouping). AllByRecursion (TestWith P) y.tests) (out-roll-BoundConj x) (conj_held P (roll-BoundConj x) h))))
+      (go (subst (λ (y : BoundConj-F Predicate BoundCond BoundConj BoundSpecification BoundTest Grouping). AllByRecursion (TestWith P) y.tests) (out-roll-BoundConj x) (conj_held P (roll-BoundConj x) h))
+      (subst (λ (y : BoundConj-F Predicate BoundCond BoundConj BoundSpecification BoundTest Grouping). AllByRecursion (TestWith S) y.tests) (out-roll-BoundConj x) (conj_held S (roll-BoundConj x) k))))
 
   test_goes : (t : BoundTest) → Goes PredicateWith t.predicate → Goes TestWith t
-  test_goes t go h = test_made Q t (go (test_held P t h))
+  test_goes t go h k = test_made Q t (go (test_held P t h) (test_held S t k))
 
   having_goes : (columns : List Place) (calls : List SetFunctionCall) (having : Option GC)
-      → (let y = map-Grouping GP GC GJ GS GT GG Predicate BoundCond BoundConj BoundSpecification BoundTest Grouping (λ e. e.0) (λ e. e.0) (λ e. e.0) (λ e. e.0) (λ e. e.0) (λ e. e.0) (record { columns = columns; set_functions = calls; having = having }) in ClauseWith P y.having → ClauseWith Q y.having)
-  having_goes columns calls None h = tt
-  having_goes columns calls (Some c) h = c.1 h
+      → (let y = map-Grouping GP GC GJ GS GT GG Predicate BoundCond BoundConj BoundSpecification BoundTest Grouping (λ e. e.0) (λ e. e.0) (λ e. e.0) (λ e. e.0) (λ e. e.0) (λ e. e.0) (record { columns = columns; set_functions = calls; having = having }) in ClauseWith P y.having → ClauseWith S y.having → ClauseWith Q y.having)
+  having_goes columns calls None h k = tt
+  having_goes columns calls (Some c) h k = c.1 h k
 
-  grouping_step : (x : Grouping-F Predicate BoundCond BoundConj BoundSpecification BoundTest Grouping) → (ClauseWith P x.having → ClauseWith Q x.having) → Goes GroupingWith (roll-Grouping x)
-  grouping_step x go h =
+  grouping_step : (x : Grouping-F Predicate BoundCond BoundConj BoundSpecification BoundTest Grouping) → (ClauseWith P x.having → ClauseWith S x.having → ClauseWith Q x.having) → Goes GroupingWith (roll-Grouping x)
+  grouping_step x go h k =
       grouping_made Q (roll-Grouping x) (subst (λ (y : Grouping-F Predicate BoundCond BoundConj BoundSpecification BoundTest Grouping). ClauseWith Q y.having) (sym (out-roll-Grouping x))
-      (go (subst (λ (y : Grouping-F Predicate BoundCond BoundConj BoundSpecification BoundTest Grouping). ClauseWith P y.having) (out-roll-Grouping x) (grouping_held P (roll-Grouping x) h))))
+      (go (subst (λ (y : Grouping-F Predicate BoundCond BoundConj BoundSpecification BoundTest Grouping). ClauseWith P y.having) (out-roll-Grouping x) (grouping_held P (roll-Grouping x) h))
+      (subst (λ (y : Grouping-F Predicate BoundCond BoundConj BoundSpecification BoundTest Grouping). ClauseWith S y.having) (out-roll-Grouping x) (grouping_held S (roll-Grouping x) k))))
 
   abbrev HeldGoing : Type 0
   HeldGoing = BoundSpecification-F GP GC GJ GS GT GG
@@ -237,27 +272,30 @@ module _ (P Q : BoundSpecification → Type 0) (more : (q : BoundSpecification) 
   bare_going = map-BoundSpecification GP GC GJ GS GT GG Predicate BoundCond BoundConj BoundSpecification BoundTest Grouping (λ e. e.0) (λ e. e.0) (λ e. e.0) (λ e. e.0) (λ e. e.0) (λ e. e.0)
 
   condition_goes : (o : HeldGoing) (condition : Option GC) (grouping : Option GG)
-      → (let y = bare_going (record o { condition = condition; grouping = grouping }) in ClauseWith P y.condition → ClauseWith Q y.condition)
-  condition_goes o None g h = tt
-  condition_goes o (Some c) g h = c.1 h
+      → (let y = bare_going (record o { condition = condition; grouping = grouping }) in ClauseWith P y.condition → ClauseWith S y.condition → ClauseWith Q y.condition)
+  condition_goes o None g h k = tt
+  condition_goes o (Some c) g h k = c.1 h k
 
   groups_go : (o : HeldGoing) (condition : Option GC) (grouping : Option GG)
-      → (let y = bare_going (record o { condition = condition; grouping = grouping }) in GroupsWith P y.grouping → GroupsWith Q y.grouping)
-  groups_go o c None h = tt
-  groups_go o c (Some g) h = g.1 h
+      → (let y = bare_going (record o { condition = condition; grouping = grouping }) in GroupsWith P y.grouping → GroupsWith S y.grouping → GroupsWith Q y.grouping)
+  groups_go o c None h k = tt
+  groups_go o c (Some g) h k = g.1 h k
 
-  select_step : (x : BoundSpecification-F Predicate BoundCond BoundConj BoundSpecification BoundTest Grouping) → (ClauseWith P x.condition → ClauseWith Q x.condition) → (GroupsWith P x.grouping → GroupsWith Q x.grouping) → Goes SelectWith (roll-BoundSpecification x)
-  select_step x go groups h =
+  select_step : (x : BoundSpecification-F Predicate BoundCond BoundConj BoundSpecification BoundTest Grouping) → (ClauseWith P x.condition → ClauseWith S x.condition → ClauseWith Q x.condition) → (GroupsWith P x.grouping → GroupsWith S x.grouping → GroupsWith Q x.grouping) → Goes SelectWith (roll-BoundSpecification x)
+  select_step x go groups h k =
       let held = select_held P (roll-BoundSpecification x) h in
+      let other = select_held S (roll-BoundSpecification x) k in
       let is = out-roll-BoundSpecification x in
-      select_made Q (roll-BoundSpecification x) (more (roll-BoundSpecification x) (select_itself P (roll-BoundSpecification x) h))
+      select_made Q (roll-BoundSpecification x) (more (roll-BoundSpecification x) (select_itself P (roll-BoundSpecification x) h) (select_itself S (roll-BoundSpecification x) k))
       (subst (λ (y : BoundSpecification-F Predicate BoundCond BoundConj BoundSpecification BoundTest Grouping). ClauseWith Q y.condition) (sym is)
-      (go (subst (λ (y : BoundSpecification-F Predicate BoundCond BoundConj BoundSpecification BoundTest Grouping). ClauseWith P y.condition) is held.0)))
+      (go (subst (λ (y : BoundSpecification-F Predicate BoundCond BoundConj BoundSpecification BoundTest Grouping). ClauseWith P y.condition) is held.0)
+      (subst (λ (y : BoundSpecification-F Predicate BoundCond BoundConj BoundSpecification BoundTest Grouping). ClauseWith S y.condition) is other.0)))
       (subst (λ (y : BoundSpecification-F Predicate BoundCond BoundConj BoundSpecification BoundTest Grouping). GroupsWith Q y.grouping) (sym is)
-      (groups (subst (λ (y : BoundSpecification-F Predicate BoundCond BoundConj BoundSpecification BoundTest Grouping). GroupsWith P y.grouping) is held.1)))
+      (groups (subst (λ (y : BoundSpecification-F Predicate BoundCond BoundConj BoundSpecification BoundTest Grouping). GroupsWith P y.grouping) is held.1)
+      (subst (λ (y : BoundSpecification-F Predicate BoundCond BoundConj BoundSpecification BoundTest Grouping). GroupsWith S y.grouping) is other.1)))
 
-  pub predicate_more : (p : Predicate) → PredicateWith P p → PredicateWith Q p
-  predicate_more p = ind-Predicate (Goes PredicateWith) (Goes CondWith) (Goes ConjWith) (Goes SelectWith) (Goes TestWith) (Goes GroupingWith)
+  predicate_both : (p : Predicate) → PredicateWith P p → PredicateWith S p → PredicateWith Q p
+  predicate_both p = ind-Predicate (Goes PredicateWith) (Goes CondWith) (Goes ConjWith) (Goes SelectWith) (Goes TestWith) (Goes GroupingWith)
       (λ x y is. subst (λ z. Goes PredicateWith (roll-Predicate z)) is (predicate_step _ (layer_goes y)))
       (λ x y is. subst (λ z. Goes CondWith (roll-BoundCond z)) is (cond_step _ (all_go ConjWith y.terms)))
       (λ x y is. subst (λ z. Goes ConjWith (roll-BoundConj z)) is (conj_step _ (all_go TestWith y.tests)))
@@ -266,24 +304,49 @@ module _ (P Q : BoundSpecification → Type 0) (more : (q : BoundSpecification) 
       (λ x y is. subst (λ z. Goes GroupingWith (roll-Grouping z)) is (grouping_step _ (having_goes y.columns y.set_functions y.having)))
       p
 
+  test_both : (t : BoundTest) → TestWith P t → TestWith S t → TestWith Q t
+  test_both t h k = test_made Q t (predicate_both t.predicate (test_held P t h) (test_held S t k))
+
+  conj_both : (c : BoundConj) → ConjWith P c → ConjWith S c → ConjWith Q c
+  conj_both c h k = conj_made Q c (all_both (TestWith P) (TestWith S) (TestWith Q) test_both (out-BoundConj c).tests (conj_held P c h) (conj_held S c k))
+
+  pub cond_both : (c : BoundCond) → CondWith P c → CondWith S c → CondWith Q c
+  cond_both c h k = cond_made Q c (all_both (ConjWith P) (ConjWith S) (ConjWith Q) conj_both (out-BoundCond c).terms (cond_held P c h) (cond_held S c k))
+
+  clause_both : (clause : Option BoundCond) → ClauseWith P clause → ClauseWith S clause → ClauseWith Q clause
+  clause_both None h k = tt
+  clause_both (Some c) h k = cond_both c h k
+
+  groups_both : (groups : Option Grouping) → GroupsWith P groups → GroupsWith S groups → GroupsWith Q groups
+  groups_both None h k = tt
+  groups_both (Some g) h k = grouping_made Q g (clause_both (out-Grouping g).having (grouping_held P g h) (grouping_held S g k))
+
+  pub select_both : (q : BoundSpecification) → SelectWith P q → SelectWith S q → SelectWith Q q
+  select_both q h k =
+      let held = select_held P q h in
+      let other = select_held S q k in
+      select_made Q q (more q (select_itself P q h) (select_itself S q k)) (clause_both (out-BoundSpecification q).condition held.0 other.0) (groups_both (out-BoundSpecification q).grouping held.1 other.1)
+
+-- ---- what holds of all, and implies something else, implies it of all
+
+module _ (P Q : BoundSpecification → Type 0) (more : (q : BoundSpecification) → P q → Q q) where
+  also : (q : BoundSpecification) → P q → P q → Q q
+  also q h k = more q h
+
   pub test_more : (t : BoundTest) → TestWith P t → TestWith Q t
-  test_more t h = test_made Q t (predicate_more t.predicate (test_held P t h))
+  test_more t h = test_both P P Q also t h h
 
   pub conj_more : (c : BoundConj) → ConjWith P c → ConjWith Q c
-  conj_more c h = conj_made Q c (all_weaker (TestWith P) (TestWith Q) test_more (out-BoundConj c).tests (conj_held P c h))
+  conj_more c h = conj_both P P Q also c h h
 
   pub cond_more : (c : BoundCond) → CondWith P c → CondWith Q c
-  cond_more c h = cond_made Q c (all_weaker (ConjWith P) (ConjWith Q) conj_more (out-BoundCond c).terms (cond_held P c h))
+  cond_more c h = cond_both P P Q also c h h
 
   pub clause_more : (clause : Option BoundCond) → ClauseWith P clause → ClauseWith Q clause
-  clause_more None h = tt
-  clause_more (Some c) h = cond_more c h
+  clause_more clause h = clause_both P P Q also clause h h
 
-  groups_more : (groups : Option Grouping) → GroupsWith P groups → GroupsWith Q groups
-  groups_more None h = tt
-  groups_more (Some g) h = grouping_made Q g (clause_more (out-Grouping g).having (grouping_held P g h))
+  pub groups_more : (groups : Option Grouping) → GroupsWith P groups → GroupsWith Q groups
+  groups_more groups h = groups_both P P Q also groups h h
 
   pub select_more : (q : BoundSpecification) → SelectWith P q → SelectWith Q q
-  select_more q h =
-      let held = select_held P q h in
-      select_made Q q (more q (select_itself P q h)) (clause_more (out-BoundSpecification q).condition held.0) (groups_more (out-BoundSpecification q).grouping held.1)
+  select_more q h = select_both P P Q also q h h

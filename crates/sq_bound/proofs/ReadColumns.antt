@@ -76,21 +76,11 @@ module _ {T : Type 0} (P Q : ℕ → meaning.Place → Type 0) (R : ℕ → ℕ 
 further : (a b n m : ℕ) (p : meaning.Place) → a ≤ b → n ≡ m → IsWithin a n p → IsWithin b m p
 further a b n m p h is inside = subst (λ k. IsWithin b k p) is (omega (arith, h, inside))
 
-pub expr_within_more : {T : Type 0} (a b n : ℕ) → a ≤ b → (e : Expr (Placed T)) → ExprReads (IsWithin a) n e → ExprReads (IsWithin b) n e
-expr_within_more a b n h = expr_from (IsWithin a) (IsWithin b) (λ k m. k ≡ m) (λ k m is. ap suc is) (λ k m p. further a b k m p h) n n refl
-
-pub cond_within_more : {T : Type 0} (a b n : ℕ) → a ≤ b → (c : Cond (Placed T)) → CondReads (IsWithin a) n c → CondReads (IsWithin b) n c
-cond_within_more a b n h = cond_from (IsWithin a) (IsWithin b) (λ k m. k ≡ m) (λ k m is. ap suc is) (λ k m p. further a b k m p h) n n refl
-
 pub select_within_more : {T : Type 0} (a b n : ℕ) → a ≤ b → (q : Select (Placed T)) → SelectReads (IsWithin a) n q → SelectReads (IsWithin b) n q
 select_within_more a b n h = select_from (IsWithin a) (IsWithin b) (λ k m. k ≡ m) (λ k m is. ap suc is) (λ k m p. further a b k m p h) n n refl
 
 inward : (a b n m : ℕ) (p : meaning.Place) → a ≤ suc b → m ≡ suc n → IsWithin a n p → IsWithin b m p
 inward a b n m p h is inside = subst (λ k. IsWithin b k p) (sym is) (omega (arith, h, inside))
-
--- a subquery stands one query deeper than the query around it, which is one fewer further out
-pub subquery_within : {T : Type 0} (a b n : ℕ) → a ≤ suc b → (q : Select (Placed T)) → SelectReads (IsWithin a) n q → SelectReads (IsWithin b) (suc n) q
-subquery_within a b n h = select_from (IsWithin a) (IsWithin b) (λ k m. m ≡ suc k) (λ k m is. ap suc is) (λ k m p. inward a b k m p h) n (suc n) refl
 
 inside_only : (n m : ℕ) (p : meaning.Place) → n ≡ m → IsWithin 0 n p → IsInside m p
 inside_only n m p is inside = subst (λ k. p.depth < k) is (omega (arith, inside))

@@ -235,14 +235,16 @@ module _ (before after : TableKinds) (ps qs : List Kind) (extends : Extends befo
     tree = h.tree;
     is_tree = h.is_tree;
     stands = λ rows_of. cond_wider rows_of h.tree levels (h.stands rows_of);
+    notes = h.notes;
+    numbers = h.numbers;
   }
 
   pub is_select_wider : (levels : Levels) (q : BoundSpecification) → IsSelect before ps levels q → IsSelect after qs levels q
   is_select_wider levels q h = record {
     stands = λ rows_of. select_wider rows_of (select_of q) levels (h.stands rows_of);
     kinds_are = kept_value (select_kinds few (froms levels) (select_of q)) (select_kinds many (froms levels) (select_of q)) (kinds_of_select q) (select_keeps (froms levels) (select_of q)) h.kinds_are;
-    groups = h.groups;
-    tests = h.tests;
+    notes = h.notes;
+    numbers = h.numbers;
   }
 
 -- ---- tables, which have no parameters
@@ -281,11 +283,3 @@ module _ (before after : TableKinds) (extends : Extends before after) where
   }
 
 -- ---- what is known before a view is known afterwards
-
-known_before : (b : Bool) (o : Outcome (List Kind)) (kinds : List Kind) → (if b then o else not_well_formed) ≡ Ok kinds → o ≡ Ok kinds
-known_before true o kinds e = e
-known_before false o kinds e = absurd cc
-
-pub before_extends : (columns : TableKinds) (n : ℕ) → Extends (before_view n columns) columns
-before_extends columns n (Base p) kinds e = e
-before_extends columns n (View p) kinds e = known_before (nat_lt p n) (columns (View p)) kinds e

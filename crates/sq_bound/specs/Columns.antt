@@ -1,6 +1,6 @@
 -- Which columns a tree by place reads (ISO/IEC 9075:1992, 6.4, 7.9 and 8.12). A place says how many queries further out its
 -- column is than the reference; the parts of a query specification stand one query deeper than it.
-use Rattle.std.specs.Prelude.{⊤, ◌≡◌, ℕ, suc, ◌+◌, ◌<◌, List, Option, None, Some, IfSome}
+use Rattle.std.specs.Prelude.{⊤, ◌≡◌, ℕ, suc, ◌+◌, ◌<◌, List, Option, IfSome}
 use Rattle.std.specs.List.{AllByRecursion}
 use Rattle.sq_meaning.specs.Environment.{Place}
 use Rattle.sq_meaning.specs.Placed.{Placed}

@@ -8,6 +8,7 @@ pub mod Joined
 pub mod Names
 pub mod Noted
 pub mod Numbered
+pub mod NumberedQuery
 pub mod Parameter
 pub mod Query
 pub mod Quiet

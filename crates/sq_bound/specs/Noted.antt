@@ -1,42 +1,50 @@
--- What is noted of the tests of a search condition (ISO/IEC 9075:1992, 8.12): whether a test's truth may be a fault, and
--- the columns of how many items of FROM, from the left, it reads.
-use Rattle.std.specs.Prelude.{◌≡◌, ℕ, true, false, List, [], IfSome}
+-- What is noted of query specifications and of the tests of their WHERE clauses, at any depth (ISO/IEC 9075:1992, 7.9 and
+-- 8.12): whether they may end with a status, the columns of how many items of FROM, from the left, a test reads, and what
+-- groups a query specification.
+use Rattle.std.specs.Prelude.{◌≡◌, ℕ, Bool, true, false, List, [], IfSome}
 use Rattle.std.specs.List.{AllByRecursion}
-use Rattle.sq_meaning.specs.Quiet.{is_quiet, is_quiet_expr}
-use Rattle.sq_meaning.specs.Target.{has_subquery}
+use Rattle.sq_meaning.specs.Sure.{is_sure, is_sure_expr, is_sure_select}
 use Rattle.sq_bound.specs.Columns.{ExprReadsItems, ReadsItems}
-use Rattle.sq_bound.specs.Condition.{PlacedCond, test_of}
+use Rattle.sq_bound.specs.Condition.{PlacedCond, select_of, test_of}
 use Rattle.sq_bound.specs.Expression.{PlacedExpr, expr_of}
+use Rattle.sq_bound.specs.Groups.{HasGroups}
+use Rattle.sq_bound.specs.Numbered.{CondWith, SelectWith}
 use Rattle.sq_bound.specs.declared.condition.BoundCond.{BoundCond, out-BoundCond}
 use Rattle.sq_bound.specs.declared.condition.BoundConj.{BoundConj, out-BoundConj}
 use Rattle.sq_bound.specs.declared.condition.BoundSpecification.{BoundSpecification, out-BoundSpecification}
 use Rattle.sq_bound.specs.declared.condition.BoundTest.{BoundTest}
+use Rattle.sq_bound.specs.declared.condition.TablePlace.{TablePlace}
+use Rattle.sq_bound.specs.declared.condition.TablePlace.TheVariants.{Base, View}
 use Rattle.sq_bound.specs.declared.expression.BoundExpr.{BoundExpr}
 
--- values of which none is a fault
-abbrev pub AreQuiet : List PlacedExpr → Type 0
-AreQuiet functions = AllByRecursion (λ f. is_quiet_expr f ≡ true) functions
+-- reading a base table never ends with a status; a view's query may
+abbrev pub may_fail : TablePlace → Bool
+may_fail (Base n) = false
+may_fail (View n) = true
 
--- the value of an expression is no fault where none of the query's set functions is one
-abbrev pub IsQuietExpr : BoundExpr → Type 0
-IsQuietExpr e = (functions : List PlacedExpr) → AreQuiet functions → is_quiet_expr (expr_of functions e) ≡ true
+abbrev pub AreSure : List PlacedExpr → Type 0
+AreSure functions = AllByRecursion (λ f. is_sure_expr f ≡ true) functions
 
--- nor is the truth of a tree without subqueries
-abbrev pub IsQuietTree : (List PlacedExpr → PlacedCond) → Type 0
-IsQuietTree tree = (functions : List PlacedExpr) → AreQuiet functions → has_subquery (tree functions) ≡ false → is_quiet (tree functions) ≡ true
+-- an expression never ends with a status where none of the query's set functions does
+abbrev pub IsSureExpr : BoundExpr → Type 0
+IsSureExpr e = (functions : List PlacedExpr) → AreSure functions → is_sure_expr (expr_of functions e) ≡ true
+
+-- nor does a condition
+abbrev pub IsSureTree : (List PlacedExpr → PlacedCond) → Type 0
+IsSureTree tree = (functions : List PlacedExpr) → AreSure functions → is_sure may_fail (tree functions) ≡ true
 
 -- an expression on a row reads no more than so many items of FROM; no set function is around it
 abbrev pub IsReadExpr : (items : ℕ) → BoundExpr → Type 0
 IsReadExpr items e = ExprReadsItems items (expr_of [] e)
 
--- nor does a tree without subqueries
+-- nor does a condition, its subqueries included
 abbrev pub IsReadTree : (items : ℕ) → PlacedCond → Type 0
-IsReadTree items tree = has_subquery tree ≡ false → ReadsItems items tree
+IsReadTree items tree = ReadsItems items tree
 
--- A test that is not noted to be one whose truth may be a fault is none, and it reads no more items of FROM, from the left,
--- than are noted.
+-- A test that is not noted to be one that may end with a status never does, and it reads no more items of FROM, from the
+-- left, than are noted.
 pub record IsNotedTest (t : BoundTest) : Type 0 where
-  pub quiet : t.can_fail ≡ false → IsQuietTree (λ functions. test_of functions t)
+  pub sure : t.can_fail ≡ false → IsSureTree (λ functions. test_of functions t)
   pub items : IsReadTree t.items (test_of [] t)
 
 abbrev pub AreNotedTests : BoundConj → Type 0
@@ -46,6 +54,17 @@ AreNotedTests c = AllByRecursion IsNotedTest (out-BoundConj c).tests
 abbrev pub HasNotes : BoundCond → Type 0
 HasNotes c = AllByRecursion AreNotedTests (out-BoundCond c).terms
 
--- of WHERE
-abbrev pub HasNotedTests : BoundSpecification → Type 0
-HasNotedTests q = IfSome (out-BoundSpecification q).condition HasNotes
+-- A query specification: the tests of its WHERE clause are noted as they are, it never ends with a status unless that is
+-- noted, and what groups it is noted.
+pub record IsNoted (q : BoundSpecification) : Type 0 where
+  pub tests : IfSome (out-BoundSpecification q).condition HasNotes
+  pub sure : (out-BoundSpecification q).can_fail ≡ false → is_sure_select may_fail (select_of q) ≡ true
+  pub groups : HasGroups q
+
+-- so are it and all that are nested in it
+abbrev pub SelectIsNoted : BoundSpecification → Type 0
+SelectIsNoted q = SelectWith IsNoted q
+
+-- all that are nested in a condition
+abbrev pub CondIsNoted : BoundCond → Type 0
+CondIsNoted c = CondWith IsNoted c

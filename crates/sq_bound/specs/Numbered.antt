@@ -1,6 +1,7 @@
 -- Numbers of subqueries: a subquery with a number reads no column of a query around it, so that it is evaluated once at most,
 -- and no two subqueries of a bound tree have one number.
-use Rattle.std.specs.Prelude.{⊤, ◌≡◌, ◌≤◌, ◌<◌, ℕ, Option, Some, IfSome}
+use Rattle.std.specs.Prelude.{⊤, ◌≡◌, ◌≤◌, ◌<◌, ℕ, List, Option, Some, IfSome}
+use Rattle.std.specs.List.{AllByRecursion}
 use Rattle.sq_bound.specs.Columns.{IsClosed}
 use Rattle.sq_bound.specs.Condition.{select_of}
 use Rattle.sq_bound.specs.declared.condition.BoundCond.{BoundCond, every-BoundCond}
@@ -39,6 +40,10 @@ module _ (P : BoundSpecification → Type 0) where
   abbrev pub GroupsWith : Option Grouping → Type 0
   GroupsWith groups = IfSome groups GroupingWith
 
+-- in each tree of a list
+abbrev pub EachWith : {T : Type 0} → ((BoundSpecification → Type 0) → T → Type 0) → (BoundSpecification → Type 0) → List T → Type 0
+EachWith With P trees = AllByRecursion (With P) trees
+
 -- ---- numbers
 
 abbrev pub number_of : BoundSpecification → Option ℕ
@@ -64,3 +69,7 @@ pub record IsNumbered (first next : ℕ) (named : ℕ → Option BoundSpecificat
 -- the query specifications in a tree have numbers from the first up to the next one, each at most once: a number names one
 abbrev pub AreNumbered : {T : Type 0} → ((BoundSpecification → Type 0) → T → Type 0) → (first next : ℕ) → T → Type 0
 AreNumbered With first next t = (first ≤ next) × ((named : ℕ → Option BoundSpecification) × With (IsNumbered first next named) t)
+
+-- each number in a tree names one query specification, which reads no column of a query around it
+abbrev pub HaveNumbers : {T : Type 0} → ((BoundSpecification → Type 0) → T → Type 0) → T → Type 0
+HaveNumbers With t = (first : ℕ) × ((next : ℕ) × AreNumbered With first next t)

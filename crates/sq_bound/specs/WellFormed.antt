@@ -1,6 +1,6 @@
 -- Which bound trees are well formed (ISO/IEC 9075:1992, 6.3 to 6.5, 6.11, 7.3 to 7.11, clauses 8 and 13): their trees by
 -- place are, and what is known of their columns beforehand is what the definitions give.
-use Rattle.std.specs.Prelude.{⊤, ◌≡◌, ◌<◌, ◌⊎◌, ℕ, length, nat_eq, nat_lt, Bool, false, if◌then◌else◌, IsTrue, List, [], ◌∷◌, ◌++◌, map, slice_get, Some, IfSome, Ok}
+use Rattle.std.specs.Prelude.{⊤, ◌≡◌, ◌<◌, ◌⊎◌, ℕ, length, nat_eq, nat_lt, if◌then◌else◌, IsTrue, List, [], ◌∷◌, ◌++◌, map, slice_get, Some, IfSome, Ok}
 use Rattle.std.specs.List.{AllByRecursion, AllZip}
 use Rattle.sq_value.specs.Domain.{kind_of}
 use Rattle.sq_value.specs.declared.domain.Kind.{Kind}
@@ -14,9 +14,9 @@ use Rattle.sq_meaning.specs.WellFormed.{Has, HasValue, Level, froms, of_lines, i
 use Rattle.sq_bound.specs.Condition.{PlacedCond, cond_of, select_of}
 use Rattle.sq_bound.specs.Expression.{PlacedExpr, expr_of}
 use Rattle.sq_bound.specs.Fits.{IsColumnOf, under}
-use Rattle.sq_bound.specs.Groups.{HasGroups}
 use Rattle.sq_bound.specs.Joined.{joined_kinds, specifications_of}
-use Rattle.sq_bound.specs.Noted.{HasNotedTests}
+use Rattle.sq_bound.specs.Noted.{CondIsNoted, SelectIsNoted}
+use Rattle.sq_bound.specs.Numbered.{CondWith, HaveNumbers, SelectWith}
 use Rattle.sq_bound.specs.SetFunction.{call_of}
 use Rattle.sq_bound.specs.declared.condition.BoundCond.{BoundCond}
 use Rattle.sq_bound.specs.declared.condition.BoundSpecification.{BoundSpecification, out-BoundSpecification}
@@ -121,13 +121,16 @@ pub record IsCond (columns : TableKinds) (parameters : List Kind) (levels : Leve
   pub tree : PlacedCond
   pub is_tree : (later : List SetFunctionCall) → cond_of (map call_of (calls ++ later)) c ≡ tree
   pub stands : (rows_of : TablePlace → Outcome (List Row)) → WellFormedCond (by_place rows_of) (kinds_by_place columns parameters) (IsDeclaredAt parameters) levels tree
+  pub notes : CondIsNoted c
+  pub numbers : HaveNumbers CondWith c
 
--- a bound query specification, whose columns are known beforehand, with its groups and its tests as they are noted
+-- a bound query specification, whose columns are known beforehand: with all that is noted of it, and each number names one
+-- closed subquery
 pub record IsSelect (columns : TableKinds) (parameters : List Kind) (levels : Levels) (q : BoundSpecification) : Type 0 where
   pub stands : (rows_of : TablePlace → Outcome (List Row)) → WellFormedSelect (by_place rows_of) (kinds_by_place columns parameters) (IsDeclaredAt parameters) levels (select_of q)
   pub kinds_are : select_kinds (kinds_by_place columns parameters) (froms levels) (select_of q) ≡ Ok (kinds_of_select q)
-  pub groups : HasGroups q
-  pub tests : HasNotedTests q
+  pub notes : SelectIsNoted q
+  pub numbers : HaveNumbers SelectWith q
 
 -- a bound query expression outside every query: its query specifications are, and its columns are known beforehand
 pub record IsQuery (columns : TableKinds) (parameters : List Kind) (q : BoundQuery) : Type 0 where
@@ -139,11 +142,6 @@ pub record IsQuery (columns : TableKinds) (parameters : List Kind) (q : BoundQue
 abbrev pub place_of : TableBody → TablePlace
 place_of (body.Base b) = Base b.place
 place_of (body.View v) = View v.place
-
--- reading a base table never ends with a status; of a view its query's note says so
-abbrev pub can_fail : TableBody → Bool
-can_fail (body.Base b) = false
-can_fail (body.View v) = (out-BoundSpecification v.query).can_fail
 
 -- a condition on a row of a base table, without parameters
 abbrev pub IsCondOn : TableKinds → BaseTable → BoundCond → Type 0
@@ -159,6 +157,15 @@ pub record IsLeaf (columns : TableKinds) (l : Leaf) : Type 0 where
 abbrev pub IsBody : TableKinds → List Kind → TableBody → Type 0
 IsBody columns kinds (body.Base b) = ⊤
 IsBody columns kinds (body.View v) = IsSelect (before_view v.place columns) [] [] v.query × (kinds ≡ kinds_of_select v.query)
+
+-- a view has the query at its place
+abbrev pub IsViewAmong : List BoundSpecification → TableBody → Type 0
+IsViewAmong queries (body.Base b) = ⊤
+IsViewAmong queries (body.View v) = slice_get queries v.place ≡ Some v.query
+
+-- the query at a view's place is well formed over the tables that were there before, and its columns are of these kinds
+abbrev pub IsViewQuery : TableKinds → List BoundSpecification → ℕ → List Kind → Type 0
+IsViewQuery columns queries place kinds = ∥ Has (λ q. IsSelect (before_view place columns) [] [] q × (kinds ≡ kinds_of_select q)) (well_formed (slice_get queries place)) ∥₁
 
 -- a base table or a view: its columns, what is under it, and the query of a view
 pub record IsTable (columns : TableKinds) (t : TableDesc) : Type 0 where

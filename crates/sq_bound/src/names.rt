@@ -28,13 +28,18 @@ pub enum Action {
 /// The tables, views and privileges that a user's texts may name.
 pub trait Names {
     ghost use Rattle.std.specs.Prelude.{ℕ, IsSome, Ok};
+    ghost use Rattle.sq_value.specs.declared.domain.Kind.{Kind as AnyKind};
     ghost use Rattle.sq_bound.specs.declared.condition.TablePlace.TheVariants as at_place;
     ghost use Rattle.sq_bound.specs.declared.names.BaseTable.{BaseTable};
     ghost use Rattle.sq_bound.specs.Fits.{IsOver, all_refer};
     ghost use Rattle.sq_meaning.specs.WellFormed.{HasValue};
-    ghost use Rattle.sq_bound.specs.WellFormed.{BasesAreThere, IsTable, TableKinds, base_kinds, place_of};
+    ghost use Rattle.sq_bound.specs.WellFormed.{BasesAreThere, IsTable, IsViewAmong, IsViewQuery, TableKinds, base_kinds, place_of};
+    ghost use Rattle.sq_bound.specs.declared.condition.BoundSpecification.{BoundSpecification};
 
     ghost base_tables: { Self → List BaseTable };
+
+    /// The queries of the views, each at its place.
+    ghost view_queries: { Self → List BoundSpecification };
 
     /// The kinds of the columns of each table and view.
     ghost column_kinds: { Self → TableKinds };
@@ -46,11 +51,13 @@ pub trait Names {
     /// The base table or view of this owner and name.
     fn table(&self, user: Name, name: Name) -> Option<&TableDesc>
         ensures over { IfSome result (λ t. IsOver (base_tables self.now) t.now) }
+        ensures view { IfSome result (λ t. IsViewAmong (view_queries self.now) t.now.body) }
         ensures well_formed { IfSome result (λ t. IsTable (column_kinds self.now) t.now) };
 
     /// The base table or view at this place.
     fn at(&self, place: TablePlace) -> Option<&TableDesc>
         ensures over { IfSome result (λ t. IsOver (base_tables self.now) t.now) }
+        ensures view { IfSome result (λ t. IsViewAmong (view_queries self.now) t.now.body) }
         ensures well_formed { IfSome result (λ t. IsTable (column_kinds self.now) t.now) }
         ensures place { IfSome result (λ t. place_of t.now.body ≡ place) }
         ensures there { BasesAreThere (base_tables self.now) (column_kinds self.now) → HasValue (column_kinds self.now place) → IsSome result };
@@ -70,6 +77,8 @@ pub trait Names {
     ghost references: { (names : Self) → all_refer (base_tables names) ≡ true };
 
     ghost kinds_of_bases: { (names : Self) (place : ℕ) (b : BaseTable) → slice_get (base_tables names) place ≡ Some b → column_kinds names (at_place.Base place) ≡ Ok (base_kinds b) };
+
+    ghost kinds_of_views: { (names : Self) (place : ℕ) (kinds : List AnyKind) → column_kinds names (at_place.View place) ≡ Ok kinds → IsViewQuery (column_kinds names) (view_queries names) place kinds };
 }
 
 /// The cursors of a module.
@@ -228,7 +237,8 @@ impl BaseTable {
 impl TableDesc {
     ghost use Rattle.std.specs.Prelude.{◌&&◌, position};
     ghost use Rattle.sq_bound.specs.Names.{is_name};
-    ghost use Rattle.sq_bound.specs.WellFormed.{can_fail, place_of};
+    ghost use Rattle.sq_bound.specs.Noted.{may_fail};
+    ghost use Rattle.sq_bound.specs.WellFormed.{place_of};
 
     /// Where the table stands.
     pub fn place(&self) -> TablePlace
@@ -240,13 +250,13 @@ impl TableDesc {
         }
     }
 
-    /// Whether reading its rows may end with a status.
+    /// Whether reading its rows may end with a status: of a view it may.
     pub fn can_fail(&self) -> bool
-        ensures { result ≡ can_fail self.now.body }
+        ensures { result ≡ may_fail (place_of self.now.body) }
     {
         match &self.body {
             TableBody::Base(_) => false,
-            TableBody::View(view) => view.query.can_fail,
+            TableBody::View(_) => true,
         }
     }
 

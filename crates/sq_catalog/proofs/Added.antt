@@ -4,19 +4,19 @@ use Rattle.std.specs.List.{slice_get}
 use Rattle.std.specs.Option.{IfSome, IsSome}
 use Rattle.std.specs.Result.{OnErr, OnOk}
 use Rattle.std.specs.Borrow.{Bor}
-use Rattle.std.proofs.lemmas.List.{length-map}
 use Rattle.std.proofs.lemmas.Option.{some_pair_parts}
 use Rattle.indexmap.proofs.SetLemmas.{AllZip-push}
-use Rattle.sq_value.specs.declared.domain.Kind.{Kind}
 use Rattle.sq_meaning.specs.WellFormed.{HasValue}
 use Rattle.sq_bound.specs.Fits.{all_refer}
-use Rattle.sq_bound.specs.WellFormed.{IsTable, base_kinds, kinds_of_columns, place_of}
+use Rattle.sq_bound.specs.WellFormed.{IsTable, base_kinds, kinds_of_columns, kinds_of_select, place_of}
+use Rattle.sq_bound.specs.declared.condition.BoundSpecification.{BoundSpecification}
 use Rattle.sq_bound.specs.declared.condition.TablePlace.{TablePlace}
 use Rattle.sq_bound.specs.declared.condition.TablePlace.TheVariants.{Base, View}
 use Rattle.sq_bound.specs.declared.names.BaseTable.{BaseTable}
 use Rattle.sq_bound.specs.declared.names.TableDesc.{TableDesc}
-use Rattle.sq_catalog.specs.Catalog.{Catalog, bases_there, column_kinds, kinds_at, there_within}
-use Rattle.sq_catalog.specs.Stored.{AreDescribed, AreStored, AreTables, IsNext, IsNextView, IsStored, StandFrom, StandsAt, kinds_of_views}
+use Rattle.sq_catalog.specs.Catalog.{AreViewQueries, Catalog, bases_there, column_kinds, kinds_at, known_there, there_within}
+use Rattle.sq_catalog.specs.Stored.{AreDescribed, AreStored, AreTables, IsNext, IsNextView, IsStored, StandFrom, StandsAt, queries_of}
+use Rattle.sq_catalog.proofs.ViewQueries.{queries_long, stand_all}
 use Rattle.sq_catalog.specs.declared.catalog.FullName.{FullName}
 use Rattle.sq_catalog.proofs.Extending.{tables_more}
 use Rattle.sq_catalog.proofs.Listed.{all_with}
@@ -40,9 +40,9 @@ stand_behind at es e h p = let same : length es ≡ 0 + length es = omega arith 
 
 -- a view more, or none
 pub stand_added : {F : Type 0} (r : Result (Unit {0}) F) (c : Catalog) (old new : List (FullName × TableDesc)) (name : FullName) (t : TableDesc)
-    → OnOk r (new ≡ old ++ (name, t) ∷ []) → OnErr r (new ≡ old) → kinds_of_views old ≡ c.views → IsNextView c t → StandFrom View 0 old → StandFrom View 0 new
+    → OnOk r (new ≡ old ++ (name, t) ∷ []) → OnErr r (new ≡ old) → queries_of old ≡ c.views → IsNextView c t → StandFrom View 0 old → StandFrom View 0 new
 stand_added (Ok u) c old new name t added same v h all =
-    let count : length c.views ≡ length old = ap length (sym v) ∙ length-map old (λ (e : FullName × TableDesc). kinds_of_columns e.1.columns) in
+    let count : length c.views ≡ length old = ap length (sym v) ∙ queries_long 0 old all in
     subst (StandFrom View 0) (sym added) (stand_behind View old (name, t) all (h.place ∙ ap View count))
 stand_added (Err f) c old new name t added same v h all = subst (StandFrom View 0) (sym same) all
 
@@ -53,6 +53,9 @@ stands_from at n (x ∷ es) zero name t h there =
     let same : n ≡ n + 0 = omega arith in
     ap (λ (d : TableDesc). place_of d.body) (sym (some_pair_parts x.0 name x.1 t there).1) ∙ h.0 ∙ ap at same
 stands_from at n (x ∷ es) (suc place) name t h there = let same : suc n + place ≡ n + suc place = omega arith in stands_from at (suc n) es place name t h.1 there ∙ ap at same
+
+pub stands_at : (at : ℕ → TablePlace) (es : List (FullName × TableDesc)) (place : ℕ) (name : FullName) (t : TableDesc) → StandFrom at 0 es → slice_get es place ≡ Some (name, t) → place_of t.body ≡ at place
+stands_at at es place name t h there = let same : 0 + place ≡ place = omega arith in stands_from at 0 es place name t h there ∙ ap at same
 
 pub place_read : (at : ℕ → TablePlace) (o : Option (Bor TableDesc)) (es : List (FullName × TableDesc)) (place : ℕ) → StandFrom at 0 es → IfSome o (λ t. StandsAt es place t.now) → IfSome o (λ t. place_of t.now.body ≡ at place)
 place_read at None es place h there = tt
@@ -71,10 +74,10 @@ base_found c d o es place e h found known =
     let here : place < length c.bases = bases_there c place (subst (λ (s : Catalog). HasValue (column_kinds s (Base place))) (sym e) known) in
     found (subst (λ n. place < n) (described_long c.bases es h) here)
 
-pub view_found : (c d : Catalog) (o : Option (Bor TableDesc)) (es : List (FullName × TableDesc)) (place : ℕ) → c ≡ d → c.views ≡ kinds_of_views es → (place < length es → IsSome o) → HasValue (column_kinds d (View place)) → IsSome o
-view_found c d o es place e own found known =
-    let here : place < length c.views = there_within c.views place (subst (λ (s : Catalog). HasValue (column_kinds s (View place))) (sym e) known) in
-    let count : length c.views ≡ length es = ap length own ∙ length-map es (λ (x : FullName × TableDesc). kinds_of_columns x.1.columns) in
+pub view_found : (c d : Catalog) (o : Option (Bor TableDesc)) (es : List (FullName × TableDesc)) (place : ℕ) → c ≡ d → c.views ≡ queries_of es → StandFrom View 0 es → (place < length es → IsSome o) → HasValue (column_kinds d (View place)) → IsSome o
+view_found c d o es place e own stand found known =
+    let here : place < length c.views = there_within c.views place (known_there kinds_of_select (slice_get c.views place) (subst (λ (s : Catalog). HasValue (column_kinds s (View place))) (sym e) known)) in
+    let count : length c.views ≡ length es = ap length own ∙ queries_long 0 es stand in
     found (subst (λ n. place < n) count here)
 
 -- ---- a base table with its entry
@@ -82,12 +85,12 @@ view_found c d o es place e own found known =
 -- what the catalog says of its base tables, where its views are these
 abbrev pub AreWhole : List (FullName × TableDesc) → List BaseTable → List (FullName × TableDesc) → Type 0
 AreWhole views bs es =
-    AreStored bs es × AreStored bs views × AreTables (kinds_at bs (kinds_of_views views)) es × AreTables (kinds_at bs (kinds_of_views views)) views × AreDescribed bs es × StandFrom Base 0 es × StandFrom View 0 views
+    AreStored bs es × AreStored bs views × AreTables (kinds_at bs (queries_of views)) es × AreTables (kinds_at bs (queries_of views)) views × AreDescribed bs es × StandFrom Base 0 es × StandFrom View 0 views
 
 whole_more : (views : List (FullName × TableDesc)) (bs : List BaseTable) (es : List (FullName × TableDesc)) (name : FullName) (t : TableDesc) (b : BaseTable)
     → IsNext bs t b → AreWhole views bs es → AreWhole views (bs ++ b ∷ []) (es ++ (name, t) ∷ [])
 whole_more views bs es name t b next h =
-    let kinds : List (List Kind) = kinds_of_views views in (
+    let kinds : List BoundSpecification = queries_of views in (
       all_with (λ (e : FullName × TableDesc). IsStored (bs ++ b ∷ []) e.1) es (name, t) (all_stored_added bs (bs ++ b ∷ []) b es refl h.0) next.stored,
       all_stored_added bs (bs ++ b ∷ []) b views refl h.1,
       all_with (λ (e : FullName × TableDesc). IsTable (kinds_at (bs ++ b ∷ []) kinds) e.1) es (name, t) (tables_more bs (bs ++ b ∷ []) b kinds es refl h.2) (next.table kinds),
@@ -107,3 +110,8 @@ pub refer_whole : {F : Type 0} (r : Result (Unit {0}) F) (was bs bs' : List Base
 refer_whole r was bs bs' es es' name t b entries bases unchanged same next h =
     let here : IsNext bs t b = subst (λ (xs : List BaseTable). IsNext xs t b) (sym same) next in
     both_added (λ xs ys. all_refer xs ≡ true) r bs bs' es es' b (name, t) entries bases unchanged (refer_more bs b h here.refer) h
+
+-- ---- the views' queries
+
+pub stand_whole : (views : List (FullName × TableDesc)) (bs : List BaseTable) (es : List (FullName × TableDesc)) → AreWhole views bs es → AreViewQueries bs (queries_of views)
+stand_whole views bs es h = stand_all bs views h.3 h.6

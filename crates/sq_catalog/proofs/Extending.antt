@@ -1,15 +1,16 @@
 -- Kinds of columns as base tables and views are added: what is well formed stays so.
-use Rattle.std.proofs.Common.{◌≡◌, ℕ, ◌<◌, Bool, true, false, length, if◌then◌else◌, nat_eq, nat_lt, List, [], ◌∷◌, ◌++◌, Option, Some, None, Result, Ok, Err, refl, ap, sym, subst, ◌∙◌}
+use Rattle.std.proofs.Common.{◌≡◌, ℕ, ◌<◌, Bool, true, false, length, if◌then◌else◌, nat_eq, nat_lt, List, [], ◌∷◌, ◌++◌, Option, Some, None, Result, Ok, Err, refl, ap, sym, subst, ◌∙◌, append-nil}
 use Rattle.std.specs.List.{AllByRecursion, slice_get}
 use Rattle.std.specs.Option.{IfSome, option_map}
 use Rattle.std.specs.Result.{OnErr, OnOk}
-use Rattle.std.proofs.lemmas.List.{map-append}
+use Rattle.std.proofs.lemmas.Grind.{flat_map-append}
 use Rattle.std.proofs.lemmas.List.Elements.{All-get_or, All-weaker}
 use Rattle.sq_value.specs.declared.domain.Kind.{Kind}
 use Rattle.sq_meaning.specs.Status.{Outcome, not_well_formed, well_formed}
 use Rattle.sq_meaning.specs.WellFormed.{HasValue}
 use Rattle.sq_meaning.proofs.AnswerLaws.{all_weaker}
-use Rattle.sq_bound.specs.WellFormed.{Extends, IsBody as IsBodyOver, IsCond, IsCondOn, IsLeaf, IsSelect, IsTable, TableKinds, base_kinds, before_view, kinds_of_columns, of_base, only, place_of}
+use Rattle.sq_bound.specs.WellFormed.{Extends, IsBody as IsBodyOver, IsCond, IsCondOn, IsLeaf, IsSelect, IsTable, TableKinds, base_kinds, before_view, kinds_of_columns, kinds_of_select, of_base, only, place_of}
+use Rattle.sq_bound.specs.declared.condition.BoundSpecification.{BoundSpecification}
 use Rattle.sq_bound.specs.declared.condition.TablePlace.{TablePlace}
 use Rattle.sq_bound.specs.declared.condition.TablePlace.TheVariants.{Base, View}
 use Rattle.sq_bound.specs.declared.names.BaseTable.{BaseTable}
@@ -21,9 +22,9 @@ use Rattle.sq_bound.specs.declared.names.TableDesc.{TableDesc}
 use Rattle.sq_bound.specs.declared.condition.BoundCond.{BoundCond}
 use Rattle.std.proofs.lemmas.Option.{IfSome_then, get_or_from_slice_get, slice_get_within}
 use Rattle.std.specs.Borrow.{Bor}
-use Rattle.sq_bound.proofs.Wider.{Keeps, before_wider, kept_value, there_keeps, is_cond_wider, is_leaf_wider, is_select_wider, is_table_wider}
-use Rattle.sq_catalog.specs.Catalog.{Catalog, column_kinds, kinds_at, there_within}
-use Rattle.sq_catalog.specs.Stored.{AreChecksAt, AreTables, IsDescribed, IsNextView, IsTableOf, IsViewOver, kinds_of_views}
+use Rattle.sq_bound.proofs.Wider.{Keeps, before_wider, kept_value, is_cond_wider, is_leaf_wider, is_select_wider, is_table_wider}
+use Rattle.sq_catalog.specs.Catalog.{Catalog, column_kinds, kinds_at, known_there, there_within}
+use Rattle.sq_catalog.specs.Stored.{AreChecksAt, AreTables, IsDescribed, IsNextView, IsTableOf, IsViewOver, queries_of, query_in}
 use Rattle.sq_catalog.specs.declared.catalog.FullName.{FullName}
 use Rattle.sq_catalog.proofs.Listed.{all_with, below, get_behind, get_more, same_number}
 
@@ -32,43 +33,47 @@ found_keeps f (Some x) u h = ap (λ v. well_formed (option_map f v)) (h x refl)
 found_keeps f None u h = tt
 
 -- a base table more
-pub bases_extend : (bases : List BaseTable) (b : BaseTable) (views : List (List Kind)) → Extends (kinds_at bases views) (kinds_at (bases ++ b ∷ []) views)
+pub bases_extend : (bases : List BaseTable) (b : BaseTable) (views : List BoundSpecification) → Extends (kinds_at bases views) (kinds_at (bases ++ b ∷ []) views)
 bases_extend bases b views (Base n) kinds h =
     kept_value (kinds_at bases views (Base n)) (kinds_at (bases ++ b ∷ []) views (Base n)) kinds (found_keeps base_kinds (slice_get bases n) (slice_get (bases ++ b ∷ []) n) (λ x e. get_more bases b x n e)) h
 bases_extend bases b views (View n) kinds h = h
 
 -- a view more
-pub views_extend : (bases : List BaseTable) (views : List (List Kind)) (ks : List Kind) → Extends (kinds_at bases views) (kinds_at bases (views ++ ks ∷ []))
-views_extend bases views ks (Base n) kinds h = h
-views_extend bases views ks (View n) kinds h =
-    kept_value (kinds_at bases views (View n)) (kinds_at bases (views ++ ks ∷ []) (View n)) kinds (there_keeps (slice_get views n) (slice_get (views ++ ks ∷ []) n) (λ x e. get_more views ks x n e)) h
+view_extends : (bases : List BaseTable) (views : List BoundSpecification) (q : BoundSpecification) → Extends (kinds_at bases views) (kinds_at bases (views ++ q ∷ []))
+view_extends bases views q (Base n) kinds h = h
+view_extends bases views q (View n) kinds h =
+    kept_value (kinds_at bases views (View n)) (kinds_at bases (views ++ q ∷ []) (View n)) kinds (found_keeps kinds_of_select (slice_get views n) (slice_get (views ++ q ∷ []) n) (λ x e. get_more views q x n e)) h
+
+pub views_extend : (bases : List BaseTable) (views : List BoundSpecification) (b : TableBody) → Extends (kinds_at bases views) (kinds_at bases (views ++ query_in b))
+views_extend bases views (body.Base own) = subst (λ (qs : List BoundSpecification). Extends (kinds_at bases views) (kinds_at bases qs)) (sym (append-nil views)) (λ t kinds h. h)
+views_extend bases views (body.View v) = view_extends bases views v.query
 
 tables_wider : (before after : TableKinds) (es : List (FullName × TableDesc)) → Extends before after → AreTables before es → AreTables after es
 tables_wider before after es extends h = All-weaker (λ e. IsTable before e.1) (λ e. IsTable after e.1) (λ e there. is_table_wider before after extends e.1 there) es h
 
 -- the tables and views that were there, and a base table more
-pub tables_more : (old new : List BaseTable) (b : BaseTable) (views : List (List Kind)) (es : List (FullName × TableDesc)) → new ≡ old ++ b ∷ [] → AreTables (kinds_at old views) es → AreTables (kinds_at new views) es
+pub tables_more : (old new : List BaseTable) (b : BaseTable) (views : List BoundSpecification) (es : List (FullName × TableDesc)) → new ≡ old ++ b ∷ [] → AreTables (kinds_at old views) es → AreTables (kinds_at new views) es
 tables_more old new b views es grown h =
     subst (λ (bs : List BaseTable). AreTables (kinds_at bs views) es) (sym grown) (tables_wider (kinds_at old views) (kinds_at (old ++ b ∷ []) views) es (bases_extend old b views) h)
 
-pub table_added : (old was new : List BaseTable) (b : BaseTable) (views : List (List Kind)) (t : TableDesc) → old ≡ was → new ≡ old ++ b ∷ [] → IsTable (kinds_at (was ++ b ∷ []) views) t → IsTable (kinds_at new views) t
+pub table_added : (old was new : List BaseTable) (b : BaseTable) (views : List BoundSpecification) (t : TableDesc) → old ≡ was → new ≡ old ++ b ∷ [] → IsTable (kinds_at (was ++ b ∷ []) views) t → IsTable (kinds_at new views) t
 table_added old was new b views t same grown h = subst (λ (bs : List BaseTable). IsTable (kinds_at bs views) t) (sym (grown ∙ ap (λ bs. bs ++ b ∷ []) same)) h
 
-views_added : (es : List (FullName × TableDesc)) (name : FullName) (t : TableDesc) → kinds_of_views (es ++ (name, t) ∷ []) ≡ kinds_of_views es ++ kinds_of_columns t.columns ∷ []
-views_added es name t = map-append (λ (e : FullName × TableDesc). kinds_of_columns e.1.columns) es ((name, t) ∷ [])
+views_added : (es : List (FullName × TableDesc)) (name : FullName) (t : TableDesc) → queries_of (es ++ (name, t) ∷ []) ≡ queries_of es ++ query_in t.body
+views_added es name t = flat_map-append (λ (e : FullName × TableDesc). query_in e.1.body) es ((name, t) ∷ []) ∙ ap (λ (qs : List BoundSpecification). queries_of es ++ qs) (append-nil (query_in t.body))
 
 -- a view was added, or none
 pub tables_beside : {F : Type 0} (r : Result (Unit {0}) F) (bases : List BaseTable) (old new es : List (FullName × TableDesc)) (name : FullName) (t : TableDesc)
-    → OnOk r (new ≡ old ++ (name, t) ∷ []) → OnErr r (new ≡ old) → AreTables (kinds_at bases (kinds_of_views old)) es → AreTables (kinds_at bases (kinds_of_views new)) es
+    → OnOk r (new ≡ old ++ (name, t) ∷ []) → OnErr r (new ≡ old) → AreTables (kinds_at bases (queries_of old)) es → AreTables (kinds_at bases (queries_of new)) es
 tables_beside (Ok u) bases old new es name t added same h =
-    subst (λ (vs : List (FullName × TableDesc)). AreTables (kinds_at bases (kinds_of_views vs)) es) (sym added)
-    (subst (λ (ks : List (List Kind)). AreTables (kinds_at bases ks) es) (sym (views_added old name t))
-    (tables_wider (kinds_at bases (kinds_of_views old)) (kinds_at bases (kinds_of_views old ++ kinds_of_columns t.columns ∷ [])) es (views_extend bases (kinds_of_views old) (kinds_of_columns t.columns)) h))
-tables_beside (Err f) bases old new es name t added same h = subst (λ (vs : List (FullName × TableDesc)). AreTables (kinds_at bases (kinds_of_views vs)) es) (sym same) h
+    subst (λ (vs : List (FullName × TableDesc)). AreTables (kinds_at bases (queries_of vs)) es) (sym added)
+    (subst (λ (ks : List BoundSpecification). AreTables (kinds_at bases ks) es) (sym (views_added old name t))
+    (tables_wider (kinds_at bases (queries_of old)) (kinds_at bases (queries_of old ++ query_in t.body)) es (views_extend bases (queries_of old) t.body) h))
+tables_beside (Err f) bases old new es name t added same h = subst (λ (vs : List (FullName × TableDesc)). AreTables (kinds_at bases (queries_of vs)) es) (sym same) h
 
 -- ---- the base table that is the last
 
-own_kinds : (bases : List BaseTable) (b : BaseTable) (views : List (List Kind)) → b.place ≡ length bases → kinds_at (bases ++ b ∷ []) views (Base b.place) ≡ Ok (base_kinds b)
+own_kinds : (bases : List BaseTable) (b : BaseTable) (views : List BoundSpecification) → b.place ≡ length bases → kinds_at (bases ++ b ∷ []) views (Base b.place) ≡ Ok (base_kinds b)
 own_kinds bases b views place = ap (λ (o : Option BaseTable). well_formed (option_map base_kinds o)) (get_behind bases b b.place place)
 
 if_keeps : {A : Type 0} (test : Bool) (x : A) (s : Outcome A) → (test ≡ true → s ≡ Ok x) → Keeps (if test then Ok x else not_well_formed) s
@@ -80,7 +85,7 @@ only_extends place kinds columns there (Base n) ks h =
     kept_value (only place kinds (Base n)) (columns (Base n)) ks (if_keeps (nat_eq n place) kinds (columns (Base n)) (λ e. ap (λ k. columns (Base k)) (same_number n place e) ∙ there)) h
 only_extends place kinds columns there (View n) ks h = kept_value (only place kinds (View n)) (columns (View n)) ks tt h
 
-own_checks : (bases : List BaseTable) (b : BaseTable) (kinds : List Kind) (views : List (List Kind)) → b.place ≡ length bases → kinds ≡ base_kinds b → AreChecksAt (length bases) kinds b.checks
+own_checks : (bases : List BaseTable) (b : BaseTable) (kinds : List Kind) (views : List BoundSpecification) → b.place ≡ length bases → kinds ≡ base_kinds b → AreChecksAt (length bases) kinds b.checks
     → AllByRecursion (IsCondOn (kinds_at (bases ++ b ∷ []) views) b) b.checks
 own_checks bases b kinds views place e h =
     let there : AreChecksAt b.place kinds b.checks = subst (λ n. AreChecksAt n kinds b.checks) (sym place) h in
@@ -88,7 +93,7 @@ own_checks bases b kinds views place e h =
     all_weaker (IsCond (only b.place kinds) [] (of_base b) []) (IsCondOn (kinds_at (bases ++ b ∷ []) views) b)
     (λ c w. is_cond_wider (only b.place kinds) (kinds_at (bases ++ b ∷ []) views) [] [] (only_extends b.place kinds (kinds_at (bases ++ b ∷ []) views) known) (λ n k p. p) (of_base b) [] c w) b.checks there
 
-own_leaf : (bases : List BaseTable) (b : BaseTable) (views : List (List Kind)) (l : Leaf) → b.place ≡ length bases → AllByRecursion (IsCondOn (kinds_at (bases ++ b ∷ []) views) b) b.checks → (l.table ≡ b) × (l.conditions ≡ [])
+own_leaf : (bases : List BaseTable) (b : BaseTable) (views : List BoundSpecification) (l : Leaf) → b.place ≡ length bases → AllByRecursion (IsCondOn (kinds_at (bases ++ b ∷ []) views) b) b.checks → (l.table ≡ b) × (l.conditions ≡ [])
     → IsLeaf (kinds_at (bases ++ b ∷ []) views) l
 own_leaf bases b views l place checks e = record {
   kinds_are = ap (λ (y : BaseTable). kinds_at (bases ++ b ∷ []) views (Base y.place)) e.0 ∙ own_kinds bases b views place ∙ ap (λ (y : BaseTable). Ok (base_kinds y)) (sym e.0);
@@ -105,7 +110,7 @@ base_body columns b kinds (body.Base own) h = tt
 base_body columns b kinds (body.View v) h = absurd h
 
 -- as names see it
-pub table_made : (bases : List BaseTable) (b : BaseTable) (columns : List Column) (views : List (List Kind)) (t : TableDesc) → IsDescribed b columns t → b.place ≡ length bases → kinds_of_columns columns ≡ base_kinds b
+pub table_made : (bases : List BaseTable) (b : BaseTable) (columns : List Column) (views : List BoundSpecification) (t : TableDesc) → IsDescribed b columns t → b.place ≡ length bases → kinds_of_columns columns ≡ base_kinds b
     → AreChecksAt (length bases) (kinds_of_columns columns) b.checks → IsTable (kinds_at (bases ++ b ∷ []) views) t
 table_made bases b columns views t h place kinds checks =
     let seen : kinds_of_columns t.columns ≡ base_kinds b = ap kinds_of_columns h.columns ∙ kinds in
@@ -129,8 +134,8 @@ if_below false r x t h = absurd cc
 all_before : (c : Catalog) → Extends (column_kinds c) (before_view (length c.views) (column_kinds c))
 all_before c (Base n) kinds h = h
 all_before c (View n) kinds h =
-    let within : n < length c.views = there_within c.views n (value_there (well_formed (slice_get c.views n)) kinds h) in
-    if_below (nat_lt n (length c.views)) (well_formed (slice_get c.views n)) kinds (below n (length c.views) within) h
+    let within : n < length c.views = there_within c.views n (known_there kinds_of_select (slice_get c.views n) (value_there (column_kinds c (View n)) kinds h)) in
+    if_below (nat_lt n (length c.views)) (column_kinds c (View n)) kinds (below n (length c.views) within) h
 
 abbrev view_number : TablePlace → ℕ → ℕ
 view_number (Base n) m = m
@@ -147,29 +152,33 @@ view_body c after kinds (body.View v) extends place h =
       h.1,
     )
 
-pub view_made : (c : Catalog) (t : TableDesc) → IsNextView c t → IsTable (kinds_at c.bases (c.views ++ kinds_of_columns t.columns ∷ [])) t
+last_kinds : (bases : List BaseTable) (views : List BoundSpecification) (columns : TableKinds) (kinds : List Kind) (b : TableBody) → IsViewOver columns kinds b → kinds_at bases (views ++ query_in b) (View (length views)) ≡ Ok kinds
+last_kinds bases views columns kinds (body.Base own) h = absurd h
+last_kinds bases views columns kinds (body.View v) h = ap (λ o. well_formed (option_map kinds_of_select o)) (get_behind views v.query (length views) refl) ∙ ap Ok (sym h.1)
+
+pub view_made : (c : Catalog) (t : TableDesc) → IsNextView c t → IsTable (kinds_at c.bases (c.views ++ query_in t.body)) t
 view_made c t h =
-    let extends : Extends (column_kinds c) (kinds_at c.bases (c.views ++ kinds_of_columns t.columns ∷ [])) = views_extend c.bases c.views (kinds_of_columns t.columns) in
+    let after : TableKinds = kinds_at c.bases (c.views ++ query_in t.body) in
+    let extends : Extends (column_kinds c) after = views_extend c.bases c.views t.body in
     record {
-      kinds_are = ap (kinds_at c.bases (c.views ++ kinds_of_columns t.columns ∷ [])) h.place ∙ ap well_formed (get_behind c.views (kinds_of_columns t.columns) (length c.views) refl);
-      leaf = IfSome_then t.leaf {P = IsLeaf (column_kinds c)} {Q = IsLeaf (kinds_at c.bases (c.views ++ kinds_of_columns t.columns ∷ []))} h.leaf
-          (is_leaf_wider (column_kinds c) (kinds_at c.bases (c.views ++ kinds_of_columns t.columns ∷ [])) extends);
-      body = view_body c (kinds_at c.bases (c.views ++ kinds_of_columns t.columns ∷ [])) (kinds_of_columns t.columns) t.body extends h.place h.body;
+      kinds_are = ap after h.place ∙ last_kinds c.bases c.views (column_kinds c) (kinds_of_columns t.columns) t.body h.body;
+      leaf = IfSome_then t.leaf {P = IsLeaf (column_kinds c)} {Q = IsLeaf after} h.leaf (is_leaf_wider (column_kinds c) after extends);
+      body = view_body c after (kinds_of_columns t.columns) t.body extends h.place h.body;
     }
 
 -- the view that was added stands among the others
 pub view_beside : {F : Type 0} (r : Result (Unit {0}) F) (c : Catalog) (bases : List BaseTable) (old new : List (FullName × TableDesc)) (name : FullName) (t : TableDesc)
-    → OnOk r (new ≡ old ++ (name, t) ∷ []) → OnErr r (new ≡ old) → bases ≡ c.bases → kinds_of_views old ≡ c.views → IsNextView c t
-    → AreTables (kinds_at bases (kinds_of_views old)) old → AreTables (kinds_at bases (kinds_of_views new)) new
+    → OnOk r (new ≡ old ++ (name, t) ∷ []) → OnErr r (new ≡ old) → bases ≡ c.bases → queries_of old ≡ c.views → IsNextView c t
+    → AreTables (kinds_at bases (queries_of old)) old → AreTables (kinds_at bases (queries_of new)) new
 view_beside (Ok u) c bases old new name t added same b v h all =
-    let ks : List (List Kind) = kinds_of_views old ++ kinds_of_columns t.columns ∷ [] in
-    let grown : kinds_of_views new ≡ ks = ap kinds_of_views added ∙ views_added old name t in
-    let here : IsTable (kinds_at bases ks) t =
-    subst (λ (bs : List BaseTable). IsTable (kinds_at bs ks) t) (sym b) (subst (λ (vs : List (List Kind)). IsTable (kinds_at c.bases (vs ++ kinds_of_columns t.columns ∷ [])) t) (sym v) (view_made c t h)) in
-    let wide : AreTables (kinds_at bases ks) old = tables_wider (kinds_at bases (kinds_of_views old)) (kinds_at bases ks) old (views_extend bases (kinds_of_views old) (kinds_of_columns t.columns)) all in
-    subst (λ (vs : List (List Kind)). AreTables (kinds_at bases vs) new) (sym grown)
-    (subst (λ (vs : List (FullName × TableDesc)). AreTables (kinds_at bases ks) vs) (sym added) (all_with (λ (e : FullName × TableDesc). IsTable (kinds_at bases ks) e.1) old (name, t) wide here))
-view_beside (Err f) c bases old new name t added same b v h all = subst (λ (vs : List (FullName × TableDesc)). AreTables (kinds_at bases (kinds_of_views vs)) vs) (sym same) all
+    let qs : List BoundSpecification = queries_of old ++ query_in t.body in
+    let grown : queries_of new ≡ qs = ap queries_of added ∙ views_added old name t in
+    let here : IsTable (kinds_at bases qs) t =
+    subst (λ (bs : List BaseTable). IsTable (kinds_at bs qs) t) (sym b) (subst (λ (vs : List BoundSpecification). IsTable (kinds_at c.bases (vs ++ query_in t.body)) t) (sym v) (view_made c t h)) in
+    let wide : AreTables (kinds_at bases qs) old = tables_wider (kinds_at bases (queries_of old)) (kinds_at bases qs) old (views_extend bases (queries_of old) t.body) all in
+    subst (λ (vs : List BoundSpecification). AreTables (kinds_at bases vs) new) (sym grown)
+    (subst (λ (vs : List (FullName × TableDesc)). AreTables (kinds_at bases qs) vs) (sym added) (all_with (λ (e : FullName × TableDesc). IsTable (kinds_at bases qs) e.1) old (name, t) wide here))
+view_beside (Err f) c bases old new name t added same b v h all = subst (λ (vs : List (FullName × TableDesc)). AreTables (kinds_at bases (queries_of vs)) vs) (sym same) all
 
 -- ---- tables and views that are read
 

@@ -5,3 +5,4 @@ pub mod Listed
 pub mod Quiet
 pub mod Seen
 pub mod Stored
+pub mod ViewQueries

@@ -1,6 +1,8 @@
 -- What a catalog defines, and what schema texts declare (ISO/IEC 9075:1992, 11.1 and 11.3).
 use Rattle.std.proofs.Common.{zero, suc, ap, arith}
 use Rattle.std.specs.Prelude.{◌≡◌, ℕ, ◌+◌, ◌<◌, Bool, true, ◌&&◌, List, [], ◌∷◌, ◌++◌, length, flat_map, Ok, Option, None, Some, unwrap_or, nat_eq, position, slice_get}
+use Rattle.std.proofs.Math.Logic.{∥∥₁_prop}
+use Rattle.std.specs.Coded.{Π_prop}
 use Rattle.std.specs.Option.{option_map}
 use Rattle.std.specs.Cmp.Lexicographic.{pointwise}
 use Rattle.sq_lex.specs.declared.name.Name.{Name}
@@ -13,24 +15,33 @@ use Rattle.sq_value.specs.declared.domain.Kind.{Kind}
 use Rattle.sq_meaning.specs.Status.{well_formed}
 use Rattle.sq_meaning.specs.WellFormed.{HasValue}
 use Rattle.sq_bound.specs.Fits.{all_refer}
-use Rattle.sq_bound.specs.WellFormed.{BasesAreThere, TableKinds, base_kinds}
+use Rattle.sq_bound.specs.WellFormed.{BasesAreThere, IsViewQuery, TableKinds, base_kinds, kinds_of_select}
+use Rattle.sq_bound.specs.declared.condition.BoundSpecification.{BoundSpecification}
 use Rattle.sq_bound.specs.declared.condition.TablePlace.TheVariants.{Base, View}
 use Rattle.sq_bound.specs.declared.names.BaseTable.{BaseTable}
 use Rattle.sq_catalog.specs.declared.catalog.FullName.{FullName}
 
+-- the kinds of the columns of these base tables, and of views with these queries
+abbrev pub kinds_at : List BaseTable → List BoundSpecification → TableKinds
+kinds_at bases views (Base n) = well_formed (option_map base_kinds (slice_get bases n))
+kinds_at bases views (View n) = well_formed (option_map kinds_of_select (slice_get views n))
+
+-- each view's query is well formed over the tables that were there before
+abbrev pub AreViewQueries : List BaseTable → List BoundSpecification → Type 0
+AreViewQueries bases views = (place : ℕ) (kinds : List Kind) → kinds_at bases views (View place) ≡ Ok kinds → IsViewQuery (kinds_at bases views) views place kinds
+
+pub AreViewQueries-prop : (bases : List BaseTable) (views : List BoundSpecification) → IsProp (AreViewQueries bases views)
+AreViewQueries-prop bases views = Π_prop λ place. Π_prop λ kinds. Π_prop λ known. ∥∥₁_prop
+
 -- the base tables' names and the base tables, each at its place, with references to keys of base tables alone; and the views'
--- names and the kinds of their columns, likewise
+-- names and their queries, likewise
 pub record Catalog : Type 0 where
   pub tables : List FullName
   pub bases : List BaseTable
   pub view_names : List FullName
-  pub views : List (List Kind)
+  pub views : List BoundSpecification
   pub refer : all_refer bases ≡ true
-
--- the kinds of the columns of these base tables, and of views whose columns have these kinds
-abbrev pub kinds_at : List BaseTable → List (List Kind) → TableKinds
-kinds_at bases views (Base n) = well_formed (option_map base_kinds (slice_get bases n))
-kinds_at bases views (View n) = well_formed (slice_get views n)
+  pub stand : AreViewQueries bases views
 
 -- those of a base table are of its columns' domains
 pub base_there : (c : Catalog) (place : ℕ) (b : BaseTable) → slice_get c.bases place ≡ Some b → kinds_at c.bases c.views (Base place) ≡ Ok (base_kinds b)
@@ -46,13 +57,13 @@ there_within [] place h = absurd h
 there_within (x ∷ xs) zero h = omega arith
 there_within (x ∷ xs) (suc place) h = omega (arith, there_within xs place h)
 
-known_there : (o : Option BaseTable) → HasValue (well_formed (option_map base_kinds o)) → HasValue (well_formed o)
-known_there None h = absurd h
-known_there (Some b) h = tt
+pub known_there : {A : Type 0} (f : A → List Kind) (o : Option A) → HasValue (well_formed (option_map f o)) → HasValue (well_formed o)
+known_there f None h = absurd h
+known_there f (Some x) h = tt
 
 -- each base table whose columns are known is one of the catalog's
 pub bases_there : (c : Catalog) → BasesAreThere c.bases (column_kinds c)
-bases_there c place h = there_within c.bases place (known_there (slice_get c.bases place) h)
+bases_there c place h = there_within c.bases place (known_there base_kinds (slice_get c.bases place) h)
 
 abbrev pub is_table : Name → Name → FullName → Bool
 is_table user name t = pointwise nat_eq user t.user && pointwise nat_eq name t.name

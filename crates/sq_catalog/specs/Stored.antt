@@ -1,5 +1,5 @@
 -- Tables and views over the base tables of a catalog. (Own notion: they are found by places.)
-use Rattle.std.specs.Prelude.{⊤, ◌≡◌, ℕ, suc, true, List, [], ◌∷◌, ◌++◌, length, map, slice_get, Option, Some, IfSome}
+use Rattle.std.specs.Prelude.{⊤, ◌≡◌, ℕ, suc, true, List, [], ◌∷◌, ◌++◌, flat_map, length, slice_get, Option, Some, IfSome}
 use Rattle.std.specs.List.{All, AllByRecursion, AllZip, list_all}
 use Rattle.sq_lex.specs.declared.name.Name.{Name}
 use Rattle.sq_value.specs.declared.domain.Kind.{Kind}
@@ -50,9 +50,14 @@ StandFrom at place (e ∷ entries) = (place_of e.1.body ≡ at place) × StandFr
 abbrev pub StandsAt : List (FullName × TableDesc) → ℕ → TableDesc → Type 0
 StandsAt entries place t = (name : FullName) × (slice_get entries place ≡ Some (name, t))
 
--- the kinds of the columns of each
-abbrev pub kinds_of_views : List (FullName × TableDesc) → List (List Kind)
-kinds_of_views entries = map (λ e. kinds_of_columns e.1.columns) entries
+-- the query of a view; a base table has none
+abbrev pub query_in : TableBody → List BoundSpecification
+query_in (body.Base b) = []
+query_in (body.View v) = v.query ∷ []
+
+-- the queries of the views
+abbrev pub queries_of : List (FullName × TableDesc) → List BoundSpecification
+queries_of entries = flat_map (λ e. query_in e.1.body) entries
 
 -- ---- the next one
 
@@ -79,7 +84,7 @@ pub record IsDescribed (b : BaseTable) (described : List Column) (t : TableDesc)
 pub record IsNext (bases : List BaseTable) (t : TableDesc) (b : BaseTable) : Type 0 where
   pub stored : IsStored (bases ++ b ∷ []) t
   pub place : place_of t.body ≡ Base (length bases)
-  pub table : (views : List (List Kind)) → IsTable (kinds_at (bases ++ b ∷ []) views) t
+  pub table : (views : List BoundSpecification) → IsTable (kinds_at (bases ++ b ∷ []) views) t
   pub kinds : base_kinds b ≡ kinds_of_columns t.columns
   pub refer : list_all (refers (bases ++ b ∷ [])) b.references ≡ true
 

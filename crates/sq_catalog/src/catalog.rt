@@ -5,11 +5,11 @@ ghost use Rattle.std.specs.Map.{keys_of};
 ghost use Rattle.sq_store.specs.Keys.{keys_of as keys_given};
 ghost use Rattle.sq_bound.specs.Fits.{all_refer, keys_of_bases};
 ghost use Rattle.sq_meaning.specs.WellFormed.{HasValue};
-ghost use Rattle.sq_bound.specs.WellFormed.{IsTable, TableKinds, place_of};
+ghost use Rattle.sq_bound.specs.WellFormed.{IsTable, IsViewAmong, TableKinds, place_of};
 ghost use Rattle.sq_bound.specs.declared.names.BaseTable.{BaseTable as Base};
-ghost use Rattle.sq_catalog.specs.Catalog.{Gains, IsNewName, base_there, column_kinds, declared_tables, named_by, schema_tables, table_in, table_number, text_tables};
+ghost use Rattle.sq_catalog.specs.Catalog.{AreViewQueries, AreViewQueries-prop, Gains, IsNewName, base_there, column_kinds, declared_tables, named_by, schema_tables, table_in, table_number, text_tables};
 ghost use Rattle.sq_catalog.specs.Fault.{IsOfSomeText, IsOfText};
-ghost use Rattle.sq_catalog.specs.Stored.{AreStored, AreTables, IsNext, IsNextView, IsStored, StandsAt};
+ghost use Rattle.sq_catalog.specs.Stored.{AreStored, AreTables, IsNext, IsNextView, IsStored, StandsAt, queries_of};
 
 use crate::fault::{CatalogFault, ElementFault, RefusalName, SchemaRefusal, refused_if};
 use crate::grants::{Held, Privilege};
@@ -50,27 +50,29 @@ pub struct Catalog {
     base_tables: Vec<Shared<BaseTable>>,
     pub(crate) held: Held,
     ghost refer: { all_refer base_tables.items ≡ true },
+    ghost stand: { AreViewQueries base_tables.items (queries_of views.entries) } by { AreViewQueries-prop base_tables.items (queries_of views.entries) },
 }
 
 impl Model for Catalog {
     ghost use Rattle.std.specs.Coded.{codes};
     ghost use Rattle.std.specs.Map.{keys_of};
     ghost use Rattle.sq_bound.specs.contracts.condition.BoundCond as condition;
+    ghost use Rattle.sq_bound.specs.contracts.condition.BoundSpecification as specification;
     ghost use Rattle.sq_bound.specs.contracts.condition.Predicate as predicate;
     ghost use Rattle.sq_bound.specs.contracts.expression.BoundExpr as expression;
     ghost use Rattle.sq_bound.specs.contracts.names.BaseColumn as column;
     ghost use Rattle.sq_bound.specs.contracts.names.BaseTable as base;
     ghost use Rattle.sq_bound.specs.declared.condition.TablePlace.TheVariants.{Base, View};
-    ghost use Rattle.sq_catalog.specs.Catalog.{Catalog, kinds_at};
-    ghost use Rattle.sq_catalog.specs.Stored.{AreDescribed, AreStored, AreTables, StandFrom, kinds_of_views};
+    ghost use Rattle.sq_catalog.specs.Catalog.{AreViewQueries-prop, Catalog, kinds_at};
+    ghost use Rattle.sq_catalog.specs.Stored.{AreDescribed, AreStored, AreTables, StandFrom, queries_of};
 
     ghost Value = { Catalog };
 
-    ghost coded = { Prim.hlevel (codes, base.the_row.coded, column.the_row.coded, condition.the_row.coded, predicate.the_row.coded, expression.the_row.coded) };
+    ghost coded = { Prim.hlevel (codes, base.the_row.coded, column.the_row.coded, condition.the_row.coded, predicate.the_row.coded, specification.the_row.coded, expression.the_row.coded, AreViewQueries-prop) };
 
-    ghost view = { λ c. record { tables = keys_of c.bases.entries; bases = c.base_tables.items; view_names = keys_of c.views.entries; views = kinds_of_views c.views.entries; refer = c.refer } };
+    ghost view = { λ c. record { tables = keys_of c.bases.entries; bases = c.base_tables.items; view_names = keys_of c.views.entries; views = queries_of c.views.entries; refer = c.refer; stand = c.stand } };
 
-    ghost invariant = { λ c. AreStored c.base_tables.items c.bases.entries × AreStored c.base_tables.items c.views.entries × AreTables (kinds_at c.base_tables.items (kinds_of_views c.views.entries)) c.bases.entries × AreTables (kinds_at c.base_tables.items (kinds_of_views c.views.entries)) c.views.entries × AreDescribed c.base_tables.items c.bases.entries × StandFrom Base 0 c.bases.entries × StandFrom View 0 c.views.entries };
+    ghost invariant = { λ c. AreStored c.base_tables.items c.bases.entries × AreStored c.base_tables.items c.views.entries × AreTables (kinds_at c.base_tables.items (queries_of c.views.entries)) c.bases.entries × AreTables (kinds_at c.base_tables.items (queries_of c.views.entries)) c.views.entries × AreDescribed c.base_tables.items c.bases.entries × StandFrom Base 0 c.bases.entries × StandFrom View 0 c.views.entries };
 }
 
 impl Catalog {
@@ -233,6 +235,7 @@ impl Catalog {
     pub(crate) fn entry(&self, full_name: &FullName) -> Option<(TablePlace, &TableDesc)>
         ensures absent { is_none result ≡ true → IsNewName self.now full_name.now }
         ensures stored { IfSome result (λ entry. IsStored self.now.bases entry.1.now) }
+        ensures view { IfSome result (λ entry. IsViewAmong self.now.views entry.1.now.body) }
         ensures well_formed { IfSome result (λ entry. IsTable (column_kinds self.now) entry.1.now) }
     {
         match self.bases.get_full(full_name) {
@@ -247,6 +250,7 @@ impl Catalog {
     /// The table or view at a place.
     fn table_at(&self, place: TablePlace) -> Option<&TableDesc>
         ensures stored { IfSome result (λ table. IsStored self.now.bases table.now) }
+        ensures view { IfSome result (λ table. IsViewAmong self.now.views table.now.body) }
         ensures well_formed { IfSome result (λ table. IsTable (column_kinds self.now) table.now) }
         ensures place { IfSome result (λ table. place_of table.now.body ≡ place) }
         ensures there { HasValue (column_kinds self.now place) → IsSome result }
@@ -392,11 +396,15 @@ fn key_columns(alloc: Global, keys: &[Items<usize>]) -> Result<Vec<Vec<usize>>, 
 impl Names for Catalog {
     ghost base_tables = { λ c. c.bases };
 
+    ghost view_queries = { λ c. c.views };
+
     ghost column_kinds = { column_kinds };
 
     ghost references = { λ c. c.refer };
 
     ghost kinds_of_bases = { base_there };
+
+    ghost kinds_of_views = { λ c. c.stand };
 
     fn bases(&self) -> &[Shared<BaseTable>] {
         self.base_tables.as_slice()

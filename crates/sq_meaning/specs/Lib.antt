@@ -15,3 +15,4 @@ pub mod SortKeys
 pub mod Target
 pub mod Database
 pub mod Quiet
+pub mod Sure

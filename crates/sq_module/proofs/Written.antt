@@ -1,9 +1,9 @@
 -- What is admitted and bound, one after the other, is what is written.
-use Rattle.std.proofs.Common.{◌≡◌, ℕ, zero, suc, ◌+◌, ◌<◌, ◌≤◌, Bool, true, false, ◌&&◌, List, [], ◌∷◌, ◌++◌, Option, None, Some, Result, Ok, Err, IfOk, IfSome, OnOk, if◌then◌else◌, length, get_or, take, flat_map, slice_get, refl, ap, ap₂, sym, subst, ◌∙◌, append_assoc, arith}
+use Rattle.std.proofs.Common.{◌≡◌, ℕ, zero, suc, ◌+◌, ◌<◌, ◌≤◌, Bool, true, false, ◌&&◌, List, [], ◌∷◌, ◌++◌, Option, None, Some, Result, Ok, Err, IfOk, if◌then◌else◌, length, get_or, take, flat_map, slice_get, refl, ap, ap₂, sym, subst, ◌∙◌, append_assoc, arith}
 use Rattle.std.proofs.lemmas.Bool.{eqb-true}
 use Rattle.std.proofs.lemmas.List.{take_more}
 use Rattle.std.specs.Borrow.{Bor}
-use Rattle.std.specs.List.{AllByRecursion, AllZip, IsAmong}
+use Rattle.std.specs.List.{AllByRecursion, IsAmong}
 use Rattle.std.specs.Map.{lookup}
 use Rattle.indexmap.specs.IndexMap.{insert_entry}
 use Rattle.indexmap.proofs.SetLemmas.{AllZip-push}
@@ -34,7 +34,7 @@ use Rattle.sq_module.specs.declared.program.DeclaredCursor.{DeclaredCursor}
 use Rattle.sq_module.specs.declared.program.ProcedureName.{ProcedureName}
 use Rattle.sq_module.specs.Opened.{Grow}
 use Rattle.sq_module.specs.Program.{same_name, same_procedure}
-use Rattle.sq_module.specs.Written.{AreFromTexts, AreNumbers, AreOfTexts, Declare, IsBoundFrom, IsCursorIn, IsCursorNamed, IsDeclaredFrom, IsFromTexts, IsNumberOf, IsOfText, IsProcedureOf, IsStatementIn, OpenNamed, OpensNamed, declarations_of}
+use Rattle.sq_module.specs.Written.{AreFromTexts, AreNumbers, AreOfTexts, IsBoundFrom, IsCursorIn, IsCursorNamed, IsDeclaredFrom, IsFromTexts, IsNumberOf, IsOfText, IsStatementIn, OpenNamed, OpensNamed}
 use Rattle.sq_module.proofs.Fitting.{all_last}
 use Rattle.sq_module.proofs.Names.{flat_more}
 use Rattle.sq_module.proofs.Opening.{last_there, there_still}

@@ -11,39 +11,39 @@ use Rattle.sq_tree.specs.declared.expr.Sign.TheVariants.{Plus, Minus}
 use Rattle.sq_tree.specs.declared.names.ColumnReference.{ColumnReference}
 use Rattle.sq_tree.specs.declared.names.Parameter.{Parameter}
 use Rattle.sq_meaning.specs.Placed.{PlacedParameter}
-use Rattle.sq_meaning.specs.Quiet.{is_quiet_expr}
+use Rattle.sq_meaning.specs.Sure.{is_sure_expr}
 use Rattle.sq_meaning.specs.Syntax.{literal, parameter, column}
 use Rattle.sq_bound.proofs.ExpressionLaws.{expr_of-SetFunction}
 use Rattle.sq_bound.specs.Expression.{PlacedExpr, expr_of, missing, place_meant}
-use Rattle.sq_bound.specs.Noted.{AreQuiet, IsQuietExpr}
+use Rattle.sq_bound.specs.Noted.{AreSure, IsSureExpr}
 use Rattle.sq_bound.specs.declared.expression.BoundExpr.TheVariants as bound
 use Rattle.sq_bound.specs.declared.fault.BindFault.{BindFault}
 use Rattle.sq_bound.specs.declared.names.ParameterDesc.{ParameterDesc}
-use Rattle.sq_scope.specs.Expression.{IsQuietUnless, IsSigned, IsTree, parameter_kind, placed_parameter, with_sign}
+use Rattle.sq_scope.specs.Expression.{IsSureUnless, IsSigned, IsTree, parameter_kind, placed_parameter, with_sign}
 use Rattle.sq_scope.specs.WellFormed.{IsColumn}
 use Rattle.sq_scope.specs.declared.expression.Typed.{Typed}
 use Rattle.sq_scope.specs.declared.scope.Environment.{Environment}
 
 -- ---- leaves
 
-pub leaf_quiet : (tree : PlacedExpr) (typed : Typed) → is_quiet_expr tree ≡ true → IsTree (λ functions. tree) typed.expr → IsQuietExpr typed.expr
-leaf_quiet tree typed e t = λ functions are. ap is_quiet_expr (t functions) ∙ e
+pub leaf_quiet : (tree : PlacedExpr) (typed : Typed) → is_sure_expr tree ≡ true → IsTree (λ functions. tree) typed.expr → IsSureExpr typed.expr
+leaf_quiet tree typed e t = λ functions are. ap is_sure_expr (t functions) ∙ e
 
-at_index : (functions : List PlacedExpr) (n : ℕ) → AreQuiet functions → is_quiet_expr (slice_index_or functions n missing) ≡ true
+at_index : (functions : List PlacedExpr) (n : ℕ) → AreSure functions → is_sure_expr (slice_index_or functions n missing) ≡ true
 at_index [] zero are = refl
 at_index [] (suc n) are = refl
 at_index (f ∷ functions) zero are = are.0
 at_index (f ∷ functions) (suc n) are = at_index functions n are.1
 
-pub numbered_quiet : (n : ℕ) → IsQuietExpr (bound.SetFunction n)
-numbered_quiet n functions are = ap is_quiet_expr (expr_of-SetFunction functions n) ∙ at_index functions n are
+pub numbered_quiet : (n : ℕ) → IsSureExpr (bound.SetFunction n)
+numbered_quiet n functions are = ap is_sure_expr (expr_of-SetFunction functions n) ∙ at_index functions n are
 
-pub quiet_anyway : (can_fail : Bool) (o : Result Typed BindFault) → IfOk o (λ typed. IsQuietExpr typed.expr) → IfOk o (IsQuietUnless can_fail)
+pub quiet_anyway : (can_fail : Bool) (o : Result Typed BindFault) → IfOk o (λ typed. IsSureExpr typed.expr) → IfOk o (IsSureUnless can_fail)
 quiet_anyway can_fail (Ok typed) h = λ no. h
 quiet_anyway can_fail (Err fault) h = tt
 
 -- where it is found that it may be one
-pub noted_anyway : (o : Result Typed BindFault) → IfOk o (IsQuietUnless true)
+pub noted_anyway : (o : Result Typed BindFault) → IfOk o (IsSureUnless true)
 noted_anyway (Ok typed) = λ no. absurd (not_so no)
   where
     not_so : true ≡ false → ⊥
@@ -52,35 +52,35 @@ noted_anyway (Err fault) = tt
 
 pub number_quiet : (can_fail : Bool) (spelling : List ℕ) (o : Result Typed BindFault)
     → IfOk o (λ typed. (n : Number) × (read spelling ≡ Ok n) × IsTree (λ functions. literal (value.Num n)) typed.expr × (typed.kind ≡ kinds.Num n.scale))
-    → IfOk o (IsQuietUnless can_fail)
+    → IfOk o (IsSureUnless can_fail)
 number_quiet can_fail spelling (Err fault) h = tt
 number_quiet can_fail spelling (Ok typed) (n, e, t, k) = λ no. leaf_quiet (literal (value.Num n)) typed refl t
 
 pub text_quiet : (can_fail : Bool) (characters : List ℕ) (o : Result Typed BindFault)
     → IfOk o (λ typed. IsTree (λ functions. literal (value.Chars characters)) typed.expr × (typed.kind ≡ kinds.Chars (length characters)))
-    → IfOk o (IsQuietUnless can_fail)
+    → IfOk o (IsSureUnless can_fail)
 text_quiet can_fail characters (Err fault) h = tt
 text_quiet can_fail characters (Ok typed) (t, k) = λ no. leaf_quiet (literal (value.Chars characters)) typed refl t
 
 pub parameter_quiet : (can_fail : Bool) (parameters : List ParameterDesc) (p : Parameter) (o : Result Typed BindFault)
     → IfOk o (λ typed. (q : PlacedParameter) × (placed_parameter parameters p ≡ Ok q) × IsTree (λ functions. parameter q) typed.expr × (parameter_kind parameters p ≡ Ok typed.kind))
-    → IfOk o (IsQuietUnless can_fail)
+    → IfOk o (IsSureUnless can_fail)
 parameter_quiet can_fail parameters p (Err fault) h = tt
 parameter_quiet can_fail parameters p (Ok typed) (q, e, t, k) = λ no. leaf_quiet (parameter q) typed refl t
 
 pub column_quiet : (can_fail : Bool) (environment : Environment) (has_ungrouped : Bool) (r : ColumnReference) (o : Result Typed BindFault) → IfOk o (IsColumn environment has_ungrouped r)
-    → IfOk o (IsQuietUnless can_fail)
+    → IfOk o (IsSureUnless can_fail)
 column_quiet can_fail environment has_ungrouped r (Err fault) h = tt
 column_quiet can_fail environment has_ungrouped r (Ok typed) h = λ no. leaf_quiet (column (place_meant h.found.place)) typed refl h.is_tree
 
 -- ---- signs
 
-sign_quiet : (sign : Sign) (tree : PlacedExpr) → is_quiet_expr (with_sign sign tree) ≡ is_quiet_expr tree
+sign_quiet : (sign : Sign) (tree : PlacedExpr) → is_sure_expr (with_sign sign tree) ≡ is_sure_expr tree
 sign_quiet Plus tree = refl
 sign_quiet Minus tree = refl
 
-pub signed_quiet : (can_fail : Bool) (sign : Sign) (operand o : Result Typed BindFault) → IfOk operand (IsQuietUnless can_fail)
-    → IfOk o (λ typed. (x : Typed) × (operand ≡ Ok x) × IsSigned sign x typed) → IfOk o (IsQuietUnless can_fail)
+pub signed_quiet : (can_fail : Bool) (sign : Sign) (operand o : Result Typed BindFault) → IfOk operand (IsSureUnless can_fail)
+    → IfOk o (λ typed. (x : Typed) × (operand ≡ Ok x) × IsSigned sign x typed) → IfOk o (IsSureUnless can_fail)
 signed_quiet can_fail sign operand (Err fault) b s = tt
 signed_quiet can_fail sign operand (Ok typed) b (x, is, s) = λ no functions are.
-    ap is_quiet_expr (s.0 functions) ∙ sign_quiet sign (expr_of functions x.expr) ∙ IfOk-at_ok (IsQuietUnless can_fail) is b no functions are
+    ap is_sure_expr (s.0 functions) ∙ sign_quiet sign (expr_of functions x.expr) ∙ IfOk-at_ok (IsSureUnless can_fail) is b no functions are

@@ -21,7 +21,7 @@ use Rattle.sq_meaning.specs.Spelled.{Named}
 use Rattle.sq_meaning.specs.Status.{Outcome, ◌>>=◌, well_formed, not_well_formed}
 use Rattle.sq_meaning.specs.Syntax.{Expr, literal, parameter, user, column, count_rows, set_function, signed, added, scaled, bracketed}
 use Rattle.sq_bound.specs.Expression.{PlacedExpr, expr_of, operated}
-use Rattle.sq_bound.specs.Noted.{IsQuietExpr, IsReadExpr}
+use Rattle.sq_bound.specs.Noted.{IsSureExpr, IsReadExpr}
 use Rattle.sq_bound.specs.SetFunction.{call_of}
 use Rattle.sq_bound.specs.declared.expression.BoundExpr.{BoundExpr}
 use Rattle.sq_bound.specs.declared.expression.Operator.{Operator}
@@ -127,9 +127,9 @@ AddsInOrder of before after =
 abbrev pub AddsExpr : List SetFunctionCall → List SetFunctionCall → Typed → Type 0
 AddsExpr before after typed = AddsInOrder (expr_functions typed.expr) before after
 
--- the value is no fault, unless it is found that it may be one
-abbrev pub IsQuietUnless : (can_fail : Bool) → Typed → Type 0
-IsQuietUnless can_fail typed = can_fail ≡ false → IsQuietExpr typed.expr
+-- it never ends with a status, unless it is found that it may
+abbrev pub IsSureUnless : (can_fail : Bool) → Typed → Type 0
+IsSureUnless can_fail typed = can_fail ≡ false → IsSureExpr typed.expr
 
 -- the expression reads no more than so many items of FROM
 abbrev pub IsReadTyped : (items : ℕ) → Typed → Type 0

@@ -1,23 +1,24 @@
 //! Value expressions: columns and parameters become places, and kinds are checked (ISO/IEC 9075:1992, 6.2 to 6.5, 6.11 to 6.13).
 
-ghost use Rattle.std.specs.Prelude.{◌≡◌, ◌<◌, ◌≤◌, ◌+◌, ◌^◌, ◌&&◌, ◌∷◌, ◌++◌, [], false, nat_eq, nat_lt, not, slice_get, true, IfOk, IfSome, Ok, Some, length};
+ghost use Rattle.std.specs.Prelude.{◌≡◌, ◌<◌, ◌≤◌, ◌+◌, ◌^◌, ◌&&◌, ◌||◌, ◌∷◌, ◌++◌, [], false, nat_eq, nat_lt, not, slice_get, true, IfOk, IfSome, Ok, Some, length};
 ghost use Rattle.sq_bound.specs.Names.{option_all};
 ghost use Rattle.std.specs.List.{position};
 ghost use Rattle.sq_meaning.specs.Environment.{same_name};
 ghost use Rattle.sq_meaning.specs.Kind.{function_kind};
 ghost use Rattle.sq_meaning.specs.Placed.{PlacedParameter};
+ghost use Rattle.sq_meaning.specs.Sure.{is_extreme, is_sure_expr};
 ghost use Rattle.sq_meaning.specs.Spelled.{expr_of as spelled_expr, factor_of, is_distinct_word, primary_of, term_of};
 ghost use Rattle.sq_meaning.specs.Syntax.{count_rows as count_rows_tree, literal, parameter as parameter_tree, set_function as set_function_tree, signed, user as user_tree};
 ghost use Rattle.sq_bound.specs.Expression.{expr_of};
-ghost use Rattle.sq_bound.specs.Noted.{IsQuietExpr};
+ghost use Rattle.sq_bound.specs.Noted.{IsSureExpr};
 ghost use Rattle.sq_bound.specs.SetFunction.{call_of};
 ghost use Rattle.sq_bound.specs.WellFormed.{kinds_of_parameters};
 ghost use Rattle.sq_tree.specs.declared.expr.Sign.TheVariants.{Minus};
 ghost use Rattle.sq_value.specs.Spelling.{read};
 ghost use Rattle.sq_value.specs.declared.value.Value.TheVariants as value;
 ghost use Rattle.sq_value.specs.declared.domain.Kind.TheVariants as kind;
-ghost use Rattle.sq_scope.specs.Expression.{Adds, AddsExpr, Grows, IsBound, IsOperation, IsQuietUnless, IsReadTyped, IsSigned, IsTree, IsTreeAmong, IsTypedOperation, indicator_named, parameter_kind, parameter_named, placed_parameter, product_operator, sum_operator, with_sign};
-ghost use Rattle.sq_scope.specs.Reach.{AreOwnCalls, MayReach, ReadsWithin};
+ghost use Rattle.sq_scope.specs.Expression.{Adds, AddsExpr, Grows, IsBound, IsOperation, IsSureUnless, IsReadTyped, IsSigned, IsTree, IsTreeAmong, IsTypedOperation, indicator_named, parameter_kind, parameter_named, placed_parameter, product_operator, sum_operator, with_sign};
+ghost use Rattle.sq_scope.specs.Reach.{AreNotedFunctions, MayReach, NoFurther, ReadsWithin, no_further, outward};
 ghost use Rattle.sq_scope.specs.Scope.{scopes_in};
 ghost use Rattle.sq_scope.specs.WellFormed.{Finds, IsColumn, IsTyped};
 ghost use Rattle.sq_scope.specs.declared.expression.Typed.{Typed as TypedExpr};
@@ -69,6 +70,7 @@ impl SetFunctions {
     pub fn forbidden(alloc: Global) -> SetFunctions
         ensures allowed { result.allowed ≡ false }
         ensures calls { result.calls ≡ [] }
+        ensures noted { AreNotedFunctions result }
     {
         SetFunctions {
             allowed: false,
@@ -79,13 +81,23 @@ impl SetFunctions {
 
     /// Where set functions may stand, none so far.
     pub fn allowed(alloc: Global) -> SetFunctions
-        ensures { result.calls ≡ [] }
+        ensures calls { result.calls ≡ [] }
+        ensures noted { AreNotedFunctions result }
     {
         SetFunctions {
             allowed: true,
             can_fail: false,
             calls: Items::new(alloc),
         }
+    }
+
+    /// Notes whether a further one may answer a status.
+    fn note(&mut self, can_fail: bool)
+        ensures calls { self.new.calls ≡ self.old.calls }
+        ensures allowed { self.new.allowed ≡ self.old.allowed }
+        ensures can_fail { self.new.can_fail ≡ (self.old.can_fail || can_fail) }
+    {
+        self.can_fail = self.can_fail || can_fail;
     }
 }
 
@@ -99,10 +111,10 @@ pub fn bind_expr(
     ensures typed { IfOk result (λ found. IsTyped environment.now functions.old.allowed found.findings.has_ungrouped functions.new.calls found.part) }
     ensures grows { Grows functions.old functions.new }
     ensures in_order { IfOk result (λ found. AddsExpr functions.old.calls functions.new.calls found.part) }
-    ensures quiet { IfOk result (λ found. IsQuietUnless found.findings.can_fail found.part) }
+    ensures quiet { IfOk result (λ found. IsSureUnless found.findings.can_fail found.part) }
     ensures reads { IfOk result (λ found. IsReadTyped found.findings.items found.part) }
-    ensures reach { IfOk result (λ found. MayReach found.findings.reach found.part.expr) }
-    ensures own { AreOwnCalls functions.old.calls → AreOwnCalls functions.new.calls }
+    ensures reach { IfOk result (λ found. MayReach (outward found.findings) found.part.expr) }
+    ensures own { AreNotedFunctions functions.old → AreNotedFunctions functions.new }
 {
     let mut findings = Findings::NONE;
     let part = expr_value(expr, environment, functions, &mut findings)?;
@@ -121,13 +133,13 @@ fn expr_value(
     ensures typed { IfOk result (IsTyped environment.now functions.old.allowed findings.new.has_ungrouped functions.new.calls) }
     ensures grows { Grows functions.old functions.new }
     ensures in_order { IfOk result (AddsExpr functions.old.calls functions.new.calls) }
-    ensures quiet { IfOk result (IsQuietUnless findings.new.can_fail) }
+    ensures quiet { IfOk result (IsSureUnless findings.new.can_fail) }
     ensures finds { Finds findings.old findings.new }
     ensures reads { IfOk result (IsReadTyped findings.new.items) }
     ensures further { findings.old.items ≤ findings.new.items }
-    ensures reach { IfOk result (λ typed. MayReach findings.new.reach typed.expr) }
-    ensures outward { findings.old.reach ≤ findings.new.reach }
-    ensures own { AreOwnCalls functions.old.calls → AreOwnCalls functions.new.calls }
+    ensures reach { IfOk result (λ typed. MayReach (outward findings.new) typed.expr) }
+    ensures outward { NoFurther (outward findings.old) (outward findings.new) }
+    ensures own { AreNotedFunctions functions.old → AreNotedFunctions functions.new }
 {
     let mut bound = term_value(&expr.first, environment, functions, findings);
     for added in expr.rest.as_slice() {
@@ -149,13 +161,13 @@ fn term_value(
     ensures typed { IfOk result (IsTyped environment.now functions.old.allowed findings.new.has_ungrouped functions.new.calls) }
     ensures grows { Grows functions.old functions.new }
     ensures in_order { IfOk result (AddsExpr functions.old.calls functions.new.calls) }
-    ensures quiet { IfOk result (IsQuietUnless findings.new.can_fail) }
+    ensures quiet { IfOk result (IsSureUnless findings.new.can_fail) }
     ensures finds { Finds findings.old findings.new }
     ensures reads { IfOk result (IsReadTyped findings.new.items) }
     ensures further { findings.old.items ≤ findings.new.items }
-    ensures reach { IfOk result (λ typed. MayReach findings.new.reach typed.expr) }
-    ensures outward { findings.old.reach ≤ findings.new.reach }
-    ensures own { AreOwnCalls functions.old.calls → AreOwnCalls functions.new.calls }
+    ensures reach { IfOk result (λ typed. MayReach (outward findings.new) typed.expr) }
+    ensures outward { NoFurther (outward findings.old) (outward findings.new) }
+    ensures own { AreNotedFunctions functions.old → AreNotedFunctions functions.new }
 {
     let mut bound = factor_value(&term.first, environment, functions, findings);
     for scaled in term.rest.as_slice() {
@@ -182,13 +194,13 @@ fn factor_value(
     ensures typed { IfOk result (IsTyped environment.now functions.old.allowed findings.new.has_ungrouped functions.new.calls) }
     ensures grows { Grows functions.old functions.new }
     ensures in_order { IfOk result (AddsExpr functions.old.calls functions.new.calls) }
-    ensures quiet { IfOk result (IsQuietUnless findings.new.can_fail) }
+    ensures quiet { IfOk result (IsSureUnless findings.new.can_fail) }
     ensures finds { Finds findings.old findings.new }
     ensures reads { IfOk result (IsReadTyped findings.new.items) }
     ensures further { findings.old.items ≤ findings.new.items }
-    ensures reach { IfOk result (λ typed. MayReach findings.new.reach typed.expr) }
-    ensures outward { findings.old.reach ≤ findings.new.reach }
-    ensures own { AreOwnCalls functions.old.calls → AreOwnCalls functions.new.calls }
+    ensures reach { IfOk result (λ typed. MayReach (outward findings.new) typed.expr) }
+    ensures outward { NoFurther (outward findings.old) (outward findings.new) }
+    ensures own { AreNotedFunctions functions.old → AreNotedFunctions functions.new }
 {
     let bound = primary_value(&factor.primary, environment, functions, findings);
     match factor.sign {
@@ -208,13 +220,13 @@ fn primary_value(
     ensures typed { IfOk result (IsTyped environment.now functions.old.allowed findings.new.has_ungrouped functions.new.calls) }
     ensures grows { Grows functions.old functions.new }
     ensures in_order { IfOk result (AddsExpr functions.old.calls functions.new.calls) }
-    ensures quiet { IfOk result (IsQuietUnless findings.new.can_fail) }
+    ensures quiet { IfOk result (IsSureUnless findings.new.can_fail) }
     ensures finds { Finds findings.old findings.new }
     ensures reads { IfOk result (IsReadTyped findings.new.items) }
     ensures further { findings.old.items ≤ findings.new.items }
-    ensures reach { IfOk result (λ typed. MayReach findings.new.reach typed.expr) }
-    ensures outward { findings.old.reach ≤ findings.new.reach }
-    ensures own { AreOwnCalls functions.old.calls → AreOwnCalls functions.new.calls }
+    ensures reach { IfOk result (λ typed. MayReach (outward findings.new) typed.expr) }
+    ensures outward { NoFurther (outward findings.old) (outward findings.new) }
+    ensures own { AreNotedFunctions functions.old → AreNotedFunctions functions.new }
 {
     match primary {
         Primary::Number(number) => number_literal(*number),
@@ -280,7 +292,7 @@ fn user_value(findings: &mut Findings) -> Typed
     ensures kind { result.kind ≡ kind.Chars 18 }
     ensures finds { Finds findings.old findings.new }
     ensures further { findings.old.items ≤ findings.new.items }
-    ensures outward { findings.old.reach ≤ findings.new.reach }
+    ensures outward { NoFurther (outward findings.old) (outward findings.new) }
 {
     findings.has_user = true;
     Typed {
@@ -354,8 +366,8 @@ fn column_value(
     ensures finds { Finds findings.old findings.new }
     ensures reads { IfOk result (IsReadTyped findings.new.items) }
     ensures further { findings.old.items ≤ findings.new.items }
-    ensures reach { IfOk result (λ typed. MayReach findings.new.reach typed.expr) }
-    ensures outward { findings.old.reach ≤ findings.new.reach }
+    ensures reach { IfOk result (λ typed. MayReach (outward findings.new) typed.expr) }
+    ensures outward { NoFurther (outward findings.old) (outward findings.new) }
 {
     let found = environment.column(reference)?;
     let place = found.place;
@@ -373,6 +385,7 @@ fn column_value(
 pub fn column_findings(found: FoundColumn) -> Findings
     ensures ungrouped { result.has_ungrouped ≡ (nat_eq found.place.depth 0 && not found.is_grouped) }
     ensures items { found.place.item + 1 < 2 ^ 64 → found.place.depth ≡ 0 → found.place.item < result.items }
+    ensures outer { found.place.item + 1 < 2 ^ 64 → found.place.depth ≡ 1 → found.place.item < result.outer_items }
     ensures reach { result.reach ≡ found.place.depth }
 {
     let Place { depth, item, .. } = found.place;
@@ -491,11 +504,11 @@ fn numbered(functions: &mut SetFunctions, call: SetFunctionCall, kind: Kind) -> 
     ensures kind { IfOk result (λ typed. typed.kind ≡ kind) }
     ensures adds { Adds functions.old.calls functions.new.calls }
     ensures in_order { IfOk result (AddsExpr functions.old.calls functions.new.calls) }
-    ensures quiet { IfOk result (λ typed. IsQuietExpr typed.expr) }
+    ensures quiet { IfOk result (λ typed. IsSureExpr typed.expr) }
     ensures reads { IfOk result (IsReadTyped 0) }
     ensures allowed { functions.new.allowed ≡ functions.old.allowed }
-    ensures reach { IfOk result (λ typed. MayReach 0 typed.expr) }
-    ensures own { ReadsWithin 0 (call_of call) → AreOwnCalls functions.old.calls → AreOwnCalls functions.new.calls }
+    ensures reach { IfOk result (λ typed. MayReach no_further typed.expr) }
+    ensures own { ReadsWithin 0 (call_of call) → (functions.old.can_fail ≡ false → is_sure_expr (call_of call) ≡ true) → AreNotedFunctions functions.old → AreNotedFunctions functions.new }
 {
     let number = functions.calls.len();
     functions.calls.push(call)?;
@@ -511,14 +524,15 @@ fn count_rows(functions: &mut SetFunctions) -> TypedResult
     ensures allowed { IfOk result (λ typed. functions.old.allowed ≡ true) }
     ensures grows { Grows functions.old functions.new }
     ensures in_order { IfOk result (AddsExpr functions.old.calls functions.new.calls) }
-    ensures quiet { IfOk result (λ typed. IsQuietExpr typed.expr) }
+    ensures quiet { IfOk result (λ typed. IsSureExpr typed.expr) }
     ensures reads { IfOk result (IsReadTyped 0) }
-    ensures reach { IfOk result (λ typed. MayReach 0 typed.expr) }
-    ensures own { AreOwnCalls functions.old.calls → AreOwnCalls functions.new.calls }
+    ensures reach { IfOk result (λ typed. MayReach no_further typed.expr) }
+    ensures own { AreNotedFunctions functions.old → AreNotedFunctions functions.new }
 {
     if !functions.allowed {
         return Err(BindFault::MisplacedSetFunction);
     }
+    functions.can_fail = true;
     numbered(functions, SetFunctionCall::CountRows, Kind::Num(0))
 }
 
@@ -527,6 +541,20 @@ fn is_distinct(quantifier: Option<SetQuantifier>) -> bool
     ensures { result ≡ is_distinct_word quantifier }
 {
     matches!(quantifier, Some(SetQuantifier::Distinct))
+}
+
+/// Whether its value is one of those that it is over. A count, a sum or an average may be out of range.
+fn is_extreme(function: SetFunction) -> bool
+    ensures { result ≡ is_extreme function }
+{
+    matches!(function, SetFunction::Min | SetFunction::Max)
+}
+
+/// Whether a set function may answer a status, where its operand may or may not.
+fn call_can_fail(function: SetFunction, operand_can_fail: bool) -> bool
+    ensures { result ≡ (operand_can_fail || not (is_extreme function)) }
+{
+    operand_can_fail || !is_extreme(function)
 }
 
 /// A set function over an expression that reads columns of its own query alone (6.5).
@@ -541,10 +569,10 @@ fn set_function(
     ensures allowed { IfOk result (λ typed. functions.old.allowed ≡ true) }
     ensures grows { Grows functions.old functions.new }
     ensures in_order { IfOk result (AddsExpr functions.old.calls functions.new.calls) }
-    ensures quiet { IfOk result (λ typed. IsQuietExpr typed.expr) }
+    ensures quiet { IfOk result (λ typed. IsSureExpr typed.expr) }
     ensures reads { IfOk result (IsReadTyped 0) }
-    ensures reach { IfOk result (λ typed. MayReach 0 typed.expr) }
-    ensures own { IfOk operand (λ typed. MayReach findings.reach typed.expr) → AreOwnCalls functions.old.calls → AreOwnCalls functions.new.calls }
+    ensures reach { IfOk result (λ typed. MayReach no_further typed.expr) }
+    ensures own { IfOk operand (λ typed. MayReach (outward findings) typed.expr) → IfOk operand (IsSureUnless findings.can_fail) → AreNotedFunctions functions.old → AreNotedFunctions functions.new }
 {
     let Typed { expr, kind } = operand?;
     if !functions.allowed || findings.reach > 0 {
@@ -558,9 +586,7 @@ fn set_function(
             return Err(fault);
         }
     };
-    if findings.can_fail || matches!(function, SetFunction::Sum | SetFunction::Avg) {
-        functions.can_fail = true;
-    }
+    functions.note(call_can_fail(function, findings.can_fail));
     let call = SetFunctionCall::Over(Aggregate {
         function,
         distinct: is_distinct(quantifier),

@@ -1,6 +1,7 @@
 //! What binding finds out about a part of a text besides its tree.
 
-ghost use Rattle.std.specs.Prelude.{◌≡◌, ◌≤◌, ◌+◌, ◌||◌, false, max, true};
+ghost use Rattle.sq_scope.specs.Reach.{IsFromInside, NoFurther, outward};
+ghost use Rattle.std.specs.Prelude.{◌≡◌, ◌||◌, false, max, true};
 
 /// What binding finds out about a part.
 #[derive(Clone, Copy)]
@@ -47,7 +48,7 @@ impl Findings {
         ensures ungrouped { result.has_ungrouped ≡ (self.has_ungrouped || other.has_ungrouped) }
         ensures can_fail { result.can_fail ≡ (self.can_fail || other.can_fail) }
         ensures items { result.items ≡ max self.items other.items }
-        ensures reach { (self.reach ≤ result.reach) × (other.reach ≤ result.reach) }
+        ensures reach { NoFurther (outward self) (outward result) × NoFurther (outward other) (outward result) }
     {
         Findings {
             items: self.items.max(other.items),
@@ -68,7 +69,7 @@ impl Findings {
         ensures ungrouped { result.has_ungrouped ≡ self.has_ungrouped }
         ensures can_fail { result.can_fail ≡ true }
         ensures items { result.items ≡ self.items }
-        ensures reach { result.reach ≡ self.reach }
+        ensures reach { outward result ≡ outward self }
     {
         Findings {
             can_fail: true,
@@ -79,7 +80,9 @@ impl Findings {
     /// What the query around a subquery finds in it.
     pub fn of_subquery(self) -> Findings
         ensures ungrouped { result.has_ungrouped ≡ false }
-        ensures reach { self.reach ≤ result.reach + 1 }
+        ensures reach { IsFromInside (outward self) (outward result) }
+        ensures can_fail { result.can_fail ≡ self.can_fail }
+        ensures items { result.items ≡ self.outer_items }
     {
         Findings {
             items: self.outer_items,

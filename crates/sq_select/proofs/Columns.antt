@@ -10,7 +10,7 @@ use Rattle.sq_meaning.specs.WellFormed.{Has, HasValue, Level}
 use Rattle.sq_meaning.specs.Placed.{Placed}
 use Rattle.sq_bound.proofs.ExpressionLaws.{expr_of-Column}
 use Rattle.sq_bound.specs.Expression.{place_meant}
-use Rattle.sq_bound.specs.WellFormed.{IsExpr, IsSelect, Levels, TableKinds, kinds_of_parameters}
+use Rattle.sq_bound.specs.WellFormed.{IsExpr, Levels, TableKinds, kinds_of_parameters}
 use Rattle.sq_bound.specs.declared.condition.BoundSpecification.{BoundSpecification}
 use Rattle.sq_bound.specs.declared.condition.ResultColumn.{ResultColumn}
 use Rattle.sq_bound.specs.declared.condition.TablePlace.{TablePlace}
@@ -28,7 +28,7 @@ use Rattle.sq_scope.specs.declared.scope.Environment.{Environment}
 use Rattle.sq_scope.specs.declared.scope.FromItem.{FromItem}
 use Rattle.sq_scope.specs.declared.scope.ItemColumn.{ItemColumn}
 use Rattle.sq_scope.proofs.Typings.{column_stands}
-use Rattle.sq_select.specs.WellFormed.{AreColumns, AreTables, Context, Everywhere, IsListAt, IsListIn, IsSelectIn, IsTypedAt, level_over, parameters_in}
+use Rattle.sq_select.specs.WellFormed.{AreColumns, AreTables, Context, Everywhere, IsListAt, IsListIn, IsSpecification, IsSpecificationIn, IsTypedAt, level_over, parameters_in}
 use Rattle.sq_select.specs.declared.select.SelectedList.{SelectedList}
 use Rattle.sq_select.proofs.Contexts.{may_first, may_second, second_of}
 use Rattle.sq_select.proofs.Trees.{expr_more}
@@ -155,7 +155,7 @@ tables_there kinds (t ∷ tables) (item ∷ items) h = (value (λ ks. AllByRecur
     value P (Ok x) p = tt
     value P (Err status) p = absurd p
 
-pub select_in : (kinds : TableKinds) (environment : Environment) (result : Result (Found BoundSpecification) BindFault)
-    → ((levels : Levels) → AreLevelsIn kinds levels environment → IfOk result (λ found. IsSelect kinds (kinds_of_parameters environment.parameters.now) levels found.part)) → IfOk result (λ found. IsSelectIn kinds environment found.part)
-select_in kinds environment (Ok found) h = h
-select_in kinds environment (Err fault) h = tt
+pub specification_in : (kinds : TableKinds) (environment : Environment) (result : Result (Found BoundSpecification) BindFault)
+    → ((levels : Levels) → AreLevelsIn kinds levels environment → IfOk result (λ found. IsSpecification kinds (kinds_of_parameters environment.parameters.now) levels found.part)) → IfOk result (λ found. IsSpecificationIn kinds environment found.part)
+specification_in kinds environment (Ok found) h = h
+specification_in kinds environment (Err fault) h = tt

@@ -5,7 +5,7 @@ use Rattle.std.specs.List.{AllByRecursion}
 use Rattle.std.proofs.lemmas.Result.{IfOk-at_ok}
 use Rattle.sq_meaning.proofs.AnswerLaws.{all_appended, all_weaker}
 use Rattle.sq_value.specs.declared.domain.Kind.{Kind}
-use Rattle.sq_bound.specs.WellFormed.{IsExpr, IsSelect, Levels, TableKinds}
+use Rattle.sq_bound.specs.WellFormed.{IsExpr, Levels, TableKinds}
 use Rattle.sq_bound.specs.declared.condition.BoundSpecification.{BoundSpecification}
 use Rattle.sq_bound.specs.declared.expression.BoundExpr.{BoundExpr}
 use Rattle.sq_bound.specs.declared.expression.SetFunctionCall.{SetFunctionCall}
@@ -16,7 +16,7 @@ use Rattle.sq_scope.specs.declared.expression.Typed.{Typed}
 use Rattle.sq_scope.specs.declared.findings.Found.{Found}
 use Rattle.sq_scope.specs.declared.scope.Environment.{Environment}
 use Rattle.sq_select.specs.Gathered.{Gathers}
-use Rattle.sq_select.specs.WellFormed.{AgreesAt, Context, Each, Everywhere, IsSelectIn, IsTypedAt, MayStandIn, AreBesideAt, here, parameters_in}
+use Rattle.sq_select.specs.WellFormed.{AgreesAt, Context, Each, Everywhere, IsSpecification, IsSpecificationIn, IsTypedAt, MayStandIn, AreBesideAt, here, parameters_in}
 use Rattle.sq_meaning.specs.WellFormed.{IsOnlyKind, is_comparable, is_text}
 use Rattle.sq_bound.specs.WellFormed.{kinds_of_select}
 use Rattle.sq_scope.specs.declared.findings.Findings.{Findings}
@@ -100,8 +100,8 @@ pub operand : (x : Context) (calls : List SetFunctionCall) (result : Result (Fou
 operand x calls result found levels e h m = IfOk-at_ok (Everywhere x (IsTypedAt x calls)) e h levels m
 
 pub subquery : (x : Context) (result : Result (Found BoundSpecification) BindFault) (found : Found BoundSpecification) (levels : Levels) (h : Bool) → result ≡ Ok found
-    → IfOk result (λ q. IsSelectIn x.columns x.environment q.part) → MayStandIn x levels h → IsSelect x.columns (parameters_in x) levels found.part
-subquery x result found levels h e s m = IfOk-at_ok (λ q. IsSelectIn x.columns x.environment q.part) e s levels m.are_levels
+    → IfOk result (λ q. IsSpecificationIn x.columns x.environment q.part) → MayStandIn x levels h → IsSpecification x.columns (parameters_in x) levels found.part
+subquery x result found levels h e s m = IfOk-at_ok (λ q. IsSpecificationIn x.columns x.environment q.part) e s levels m.are_levels
 
 -- ---- parts one after the other
 
@@ -140,7 +140,7 @@ text_is operand result found e h = IfOk-at_ok (λ text. (operand ≡ Ok text) ×
 pub beside_made : (x : Context) (calls : List SetFunctionCall) (k : Kind) (e : BoundExpr) (q : BoundSpecification) (findings : Findings) (result : Result (Found (BoundExpr × BoundSpecification)) BindFault)
     → IfOk result (λ found. (found.part ≡ (e, q)) × (found.findings ≡ findings))
     → ((levels : Levels) → MayStandIn x levels findings.has_ungrouped → IsExpr x.columns (parameters_in x) levels calls k e)
-    → ((levels : Levels) → MayStandIn x levels findings.has_ungrouped → IsSelect x.columns (parameters_in x) levels q)
+    → ((levels : Levels) → MayStandIn x levels findings.has_ungrouped → IsSpecification x.columns (parameters_in x) levels q)
     → IsOnlyKind k (kinds_of_select q) → IfOk result (Everywhere x (AreBesideAt x calls))
 beside_made x calls k e q findings (Err fault) is t s h = tt
 beside_made x calls k e q findings (Ok found) is t s h = λ levels m.

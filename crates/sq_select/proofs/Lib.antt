@@ -5,5 +5,7 @@ pub mod Contexts
 pub mod Columns
 pub mod ItemsRead
 pub mod NoFunctions
+pub mod Notes
+pub mod Numbering
 pub mod Queries
 pub mod Quiet

@@ -1,6 +1,6 @@
 -- A query specification is well formed where its parts are.
 use Rattle.std.proofs.Common.{◌≡◌, ℕ, Bool, true, false, not, List, [], ◌∷◌, map, Option, Some, None, Ok, refl, sym, ap, subst, ◌∙◌, append-nil}
-use Rattle.std.specs.Prelude.{⊤, ◌||◌, IfSome, if◌then◌else◌}
+use Rattle.std.specs.Prelude.{⊤, ◌||◌, if◌then◌else◌}
 use Rattle.std.specs.List.{AllByRecursion}
 use Rattle.sq_value.specs.declared.domain.Kind.{Kind}
 use Rattle.sq_meaning.proofs.AnswerLaws.{all_mapped, all_weaker}
@@ -14,10 +14,8 @@ use Rattle.sq_meaning.specs.WellFormed.{HasValue, IsDeclaredAt, Level, WellForme
 use Rattle.sq_bound.proofs.ConditionLaws.{groups_of-roll, select_of-out, select_of-roll}
 use Rattle.sq_bound.specs.Condition.{Groups, clause_of, cond_of, groups_by, select_by, select_of}
 use Rattle.sq_bound.specs.Expression.{expr_of, place_meant}
-use Rattle.sq_bound.specs.Groups.{AreGroupsIfAny, HasGroups}
-use Rattle.sq_bound.specs.Noted.{HasNotedTests, HasNotes}
 use Rattle.sq_bound.specs.SetFunction.{call_of}
-use Rattle.sq_bound.specs.WellFormed.{IsExpr, IsSelect, Levels, TableKinds, kinds_of_results, kinds_of_select}
+use Rattle.sq_bound.specs.WellFormed.{IsExpr, Levels, TableKinds, kinds_of_results, kinds_of_select}
 use Rattle.sq_bound.specs.declared.condition.BoundCond.{BoundCond}
 use Rattle.sq_bound.specs.declared.condition.BoundSpecification.{BoundSpecification, out-BoundSpecification, roll-BoundSpecification, out-roll-BoundSpecification}
 use Rattle.sq_bound.specs.declared.condition.Grouping.{Grouping, roll-Grouping}
@@ -27,11 +25,8 @@ use Rattle.sq_bound.specs.declared.expression.BoundExpr.{BoundExpr}
 use Rattle.sq_bound.specs.declared.expression.Place.{Place}
 use Rattle.sq_bound.specs.declared.expression.SetFunctionCall.{SetFunctionCall}
 use Rattle.sq_scope.specs.WellFormed.{is_no_column}
-use Rattle.sq_select.specs.InOrder.{is_grouped_by}
-use Rattle.sq_select.specs.Noted.{HasClauseNotes}
-use Rattle.sq_select.specs.WellFormed.{AreColumns, AreGroupingColumns, AreParts, AreTables, IsClauseAt, IsGroupedRightly, IsGroupingColumn, reads_ungrouped}
+use Rattle.sq_select.specs.WellFormed.{AreColumns, AreGroupingColumns, AreParts, AreTables, IsClauseAt, IsGroupedRightly, IsGroupingColumn, IsSpecification, reads_ungrouped}
 use Rattle.sq_select.specs.declared.select.Parts.{Parts}
-use Rattle.sq_select.proofs.InOrder.{groups_are}
 use Rattle.sq_select.proofs.NoFunctions.{have_none}
 use Rattle.sq_select.proofs.Trees.{has_there}
 
@@ -91,10 +86,10 @@ module _ (columns : TableKinds) (parameters : List Kind) where
     abbrev shown : Level (Placed TablePlace)
     shown = shown_level (expressions (map (expr_of (map call_of calls)) list)) tables (map place_meant by) (clause_of (map call_of calls) having)
 
-    select_is : (q : BoundSpecification) → whole (groups_by by (map call_of calls) (clause_of (map call_of calls) having)) q → kinds_of_select q ≡ kinds_of_results results → HasGroups q → HasNotedTests q
+    select_is : (q : BoundSpecification) → whole (groups_by by (map call_of calls) (clause_of (map call_of calls) having)) q → kinds_of_select q ≡ kinds_of_results results
         → AreTables columns tables → IsClauseAt columns parameters (of_lines tables ∷ levels) [] condition → AreGroupingColumns columns parameters (of_lines tables ∷ levels) by
-        → AreColumns columns parameters (shown ∷ levels) calls list results → IsClauseAt columns parameters (shown ∷ levels) calls having → IsSelect columns parameters levels q
-    select_is q is kinds groups tests there where_is by_is list_is having_is = record {
+        → AreColumns columns parameters (shown ∷ levels) calls list results → IsClauseAt columns parameters (shown ∷ levels) calls having → IsSpecification columns parameters levels q
+    select_is q is kinds there where_is by_is list_is having_is = record {
       stands = λ rows. subst (WellFormedSelect (by_place rows) K (IsDeclaredAt parameters) levels) (sym is) (
         tables_stand rows tables there,
         list_stands rows (shown ∷ levels) calls list results list_is,
@@ -103,8 +98,6 @@ module _ (columns : TableKinds) (parameters : List Kind) where
         clause_stands rows (shown ∷ levels) calls having having_is,
       );
       kinds_are = ap (select_kinds K (froms levels)) is ∙ list_kinds_are (shown ∷ levels) calls list results list_is ∙ ap (λ ks. Ok ks) (sym kinds);
-      groups = groups;
-      tests = tests;
     }
 
   -- ---- where it is grouped, and where it is not
@@ -131,36 +124,30 @@ module _ (columns : TableKinds) (parameters : List Kind) where
   kinds_rolled : (s : Parts) (groups : Option Grouping) (can_fail : Bool) → kinds_of_select (specification s groups can_fail) ≡ kinds_of_results s.selected.columns
   kinds_rolled s groups can_fail = ap (λ o. kinds_of_results o.columns) (out-roll-BoundSpecification _)
 
-  has_groups : (s : Parts) (groups : Option Grouping) (can_fail : Bool) → AreGroupsIfAny s.selected.exprs groups → HasGroups (specification s groups can_fail)
-  has_groups s groups can_fail h = subst (λ o. AreGroupsIfAny o.list o.grouping) (sym (out-roll-BoundSpecification _)) h
-
-  has_tests : (s : Parts) (groups : Option Grouping) (can_fail : Bool) → HasClauseNotes s.condition → HasNotedTests (specification s groups can_fail)
-  has_tests s groups can_fail h = subst (λ o. IfSome o.condition HasNotes) (sym (out-roll-BoundSpecification _)) h
-
-  pub specification_is : (levels : Levels) (s : Parts) → AreParts columns parameters levels s → (grouped can_fail : Bool) → IsGroupedRightly s grouped → grouped ≡ is_grouped_by s
-      → IsSelect columns parameters levels (specification s (if grouped then Some (grouping s) else None) can_fail)
-  specification_is levels s parts true can_fail h by =
+  pub specification_is : (levels : Levels) (s : Parts) → AreParts columns parameters levels s → (grouped can_fail : Bool) → IsGroupedRightly s grouped
+      → IsSpecification columns parameters levels (specification s (if grouped then Some (grouping s) else None) can_fail)
+  specification_is levels s parts true can_fail h =
       let calls = s.functions.calls in
       let line = (shown levels s.is_distinct s.selected.exprs s.selected.columns s.from.tables s.condition.part s.groups calls s.having.part).has_line in
       let whole = select_of-roll s.is_distinct s.selected.exprs s.from s.condition.part (Some (grouping s)) s.selected.columns can_fail None
       ∙ ap (λ groups. select_by s.is_distinct s.selected.exprs s.from.tables (clause_of [] s.condition.part) groups) (groups_of-roll s.groups calls s.having.part) in
       select_is levels s.is_distinct s.selected.exprs s.selected.columns s.from.tables s.condition.part s.groups calls s.having.part (specification s (Some (grouping s)) can_fail)
-      whole (kinds_rolled s (Some (grouping s)) can_fail) (has_groups s (Some (grouping s)) can_fail (groups_are s parts.in_order parts.by_columns h (sym by))) (has_tests s (Some (grouping s)) can_fail parts.noted) parts.tables parts.condition parts.groups
+      whole (kinds_rolled s (Some (grouping s)) can_fail) parts.tables parts.condition parts.groups
       (parts.list line (some_or_none _ s.groups) (or_not line (reads_ungrouped s.selected) h.0))
       (parts.having line (some_or_none _ s.groups) (or_not line s.having.findings.has_ungrouped h.1))
-  specification_is levels s parts false can_fail h by =
+  specification_is levels s parts false can_fail h =
       let line = (shown levels s.is_distinct s.selected.exprs s.selected.columns s.from.tables s.condition.part [] [] None).has_line in
       let read : line ≡ true = ap (λ l. not (is_some_of l) || false) (have_none s.selected.exprs) in
       select_is levels s.is_distinct s.selected.exprs s.selected.columns s.from.tables s.condition.part [] [] None (specification s None can_fail)
-      (select_of-roll s.is_distinct s.selected.exprs s.from s.condition.part None s.selected.columns can_fail None) (kinds_rolled s None can_fail) (has_groups s None can_fail tt) (has_tests s None can_fail parts.noted) parts.tables parts.condition tt
+      (select_of-roll s.is_distinct s.selected.exprs s.from s.condition.part None s.selected.columns can_fail None) (kinds_rolled s None can_fail) parts.tables parts.condition tt
       (subst (λ calls. AreColumns columns parameters (record { from = s.from.tables; has_line = line } ∷ levels) calls s.selected.exprs s.selected.columns) h.1
       (parts.list line (or_any line (is_no_column s.groups) read) (or_any line (not (reads_ungrouped s.selected)) read)))
       tt
 
   -- ---- a subquery with another number
 
-  pub renumbered : (levels : Levels) (q : BoundSpecification) (number : Option ℕ) → IsSelect columns parameters levels q
-      → (let o = out-BoundSpecification q in IsSelect columns parameters levels (roll-BoundSpecification (record { distinct = o.distinct; list = o.list; from = o.from; condition = o.condition; grouping = o.grouping; columns = o.columns; can_fail = o.can_fail; number = number })))
+  pub renumbered : (levels : Levels) (q : BoundSpecification) (number : Option ℕ) → IsSpecification columns parameters levels q
+      → (let o = out-BoundSpecification q in IsSpecification columns parameters levels (roll-BoundSpecification (record { distinct = o.distinct; list = o.list; from = o.from; condition = o.condition; grouping = o.grouping; columns = o.columns; can_fail = o.can_fail; number = number })))
   renumbered levels q number x =
       let o = out-BoundSpecification q in
       let r = roll-BoundSpecification (record { distinct = o.distinct; list = o.list; from = o.from; condition = o.condition; grouping = o.grouping; columns = o.columns; can_fail = o.can_fail; number = number }) in
@@ -169,6 +156,4 @@ module _ (columns : TableKinds) (parameters : List Kind) where
       record {
         stands = λ rows. subst (WellFormedSelect (by_place rows) K (IsDeclaredAt parameters) levels) (sym same) (x.stands rows);
         kinds_are = ap (select_kinds K (froms levels)) same ∙ x.kinds_are ∙ ap (λ ks. Ok ks) (sym kinds);
-        groups = subst (λ o. AreGroupsIfAny o.list o.grouping) (sym (out-roll-BoundSpecification _)) x.groups;
-        tests = subst (λ o. IfSome o.condition HasNotes) (sym (out-roll-BoundSpecification _)) x.tests;
       }

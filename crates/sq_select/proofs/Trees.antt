@@ -14,7 +14,7 @@ use Rattle.sq_bound.proofs.ConditionLaws.{cond_of-out, conj_of-out, test_of-out,
 use Rattle.sq_bound.specs.Condition.{PlacedCond, compared_with, cond_of, conj_of, not_if, predicate_of, select_of, test_of}
 use Rattle.sq_bound.specs.Expression.{PlacedExpr, expr_of}
 use Rattle.sq_bound.specs.SetFunction.{call_of}
-use Rattle.sq_bound.specs.WellFormed.{IsCond, IsExpr, IsSelect, Levels, TableKinds, kinds_of_select}
+use Rattle.sq_bound.specs.WellFormed.{IsCond, IsExpr, Levels, TableKinds, kinds_of_select}
 use Rattle.sq_bound.specs.declared.condition.BoundCond.{BoundCond, out-BoundCond}
 use Rattle.sq_bound.specs.declared.condition.BoundConj.{BoundConj, out-BoundConj}
 use Rattle.sq_bound.specs.declared.condition.BoundSpecification.{BoundSpecification}
@@ -27,7 +27,7 @@ use Rattle.sq_bound.specs.declared.expression.BoundExpr.{BoundExpr}
 use Rattle.sq_bound.specs.declared.expression.SetFunctionCall.{SetFunctionCall}
 use Rattle.sq_scope.specs.Expression.{Adds}
 use Rattle.sq_scope.proofs.Bindings.{among_more}
-use Rattle.sq_select.specs.WellFormed.{IsPart}
+use Rattle.sq_select.specs.WellFormed.{IsPart, IsSpecification}
 
 pub has_there : {A : Type 0} (P : A → Type 0) (o : Outcome A) (a : A) → o ≡ Ok a → P a → Has P o
 has_there P o a e p = subst (Has P) (sym e) p
@@ -56,6 +56,8 @@ module _ (columns : TableKinds) (parameters : List Kind) (levels : Levels) where
     tree = x.tree;
     is_tree = λ later. ap (λ l. cond_of (map call_of l) c) (ap (λ l. l ++ later) adds.1 ∙ append_assoc calls adds.0 later) ∙ x.is_tree (adds.0 ++ later);
     stands = x.stands;
+    notes = x.notes;
+    numbers = x.numbers;
   }
 
   module _ (calls : List SetFunctionCall) where
@@ -85,7 +87,7 @@ module _ (columns : TableKinds) (parameters : List Kind) (levels : Levels) where
     text : (rows : Rows) (k : Kind) (e : BoundExpr) (x : E calls k e) → IsTrue (is_text k) → WellFormedText (by_place rows) K (IsDeclaredAt parameters) levels x.tree
     text rows k e x h = (well rows k e x, has_there (λ k. IsTrue (is_text k)) (kind K (froms levels) x.tree) k x.kind_is h)
 
-    beside : (k : Kind) (e : BoundExpr) (q : BoundSpecification) (x : E calls k e) → IsSelect columns parameters levels q → IsOnlyKind k (kinds_of_select q)
+    beside : (k : Kind) (e : BoundExpr) (q : BoundSpecification) (x : E calls k e) → IsSpecification columns parameters levels q → IsOnlyKind k (kinds_of_select q)
         → (rows : Rows) → IsBeside (by_place rows) K (IsDeclaredAt parameters) levels x.tree (select_of q)
     beside k e q x s h rows =
         has_there (λ m. Has (IsOnlyKind m) (select_kinds K (froms levels) (select_of q))) (kind K (froms levels) x.tree) k x.kind_is
@@ -104,13 +106,13 @@ module _ (columns : TableKinds) (parameters : List Kind) (levels : Levels) where
       stands = λ rows. pair rows k l a b x y h;
     }
 
-    compared_stands : (rows : Rows) (op : Comparison) (c : Compared) (k : Kind) (a : BoundExpr) (q : BoundSpecification) (x : E calls k a) → IsSelect columns parameters levels q → IsOnlyKind k (kinds_of_select q)
+    compared_stands : (rows : Rows) (op : Comparison) (c : Compared) (k : Kind) (a : BoundExpr) (q : BoundSpecification) (x : E calls k a) → IsSpecification columns parameters levels q → IsOnlyKind k (kinds_of_select q)
         → Stands rows (compared_with c op x.tree (select_of q))
     compared_stands rows op Scalar k a q x s h = (well rows k a x, beside k a q x s h rows, s.stands rows)
     compared_stands rows op All k a q x s h = (well rows k a x, beside k a q x s h rows, s.stands rows)
     compared_stands rows op Any k a q x s h = (well rows k a x, beside k a q x s h rows, s.stands rows)
 
-    pub compare_query_is : (op : Comparison) (c : Compared) (k : Kind) (a : BoundExpr) (q : BoundSpecification) → E calls k a → IsSelect columns parameters levels q → IsOnlyKind k (kinds_of_select q)
+    pub compare_query_is : (op : Comparison) (c : Compared) (k : Kind) (a : BoundExpr) (q : BoundSpecification) → E calls k a → IsSpecification columns parameters levels q → IsOnlyKind k (kinds_of_select q)
         → P calls (λ functions. predicate_of functions (bound.CompareQuery op c a q))
     compare_query_is op c k a q x s h = record {
       tree = compared_with c op x.tree (select_of q);
@@ -118,7 +120,7 @@ module _ (columns : TableKinds) (parameters : List Kind) (levels : Levels) where
       stands = λ rows. compared_stands rows op c k a q x s h;
     }
 
-    pub in_query_is : (n : Bool) (k : Kind) (a : BoundExpr) (q : BoundSpecification) → E calls k a → IsSelect columns parameters levels q → IsOnlyKind k (kinds_of_select q)
+    pub in_query_is : (n : Bool) (k : Kind) (a : BoundExpr) (q : BoundSpecification) → E calls k a → IsSpecification columns parameters levels q → IsOnlyKind k (kinds_of_select q)
         → P calls (λ functions. predicate_of functions (bound.InQuery n a q))
     in_query_is n k a q x s h = record {
       tree = not_if n (in_subquery x.tree (select_of q));
@@ -126,7 +128,7 @@ module _ (columns : TableKinds) (parameters : List Kind) (levels : Levels) where
       stands = λ rows. not_stands rows n (in_subquery x.tree (select_of q)) (well rows k a x, beside k a q x s h rows, s.stands rows);
     }
 
-    pub exists_is : (q : BoundSpecification) → IsSelect columns parameters levels q → P calls (λ functions. predicate_of functions (bound.Exists q))
+    pub exists_is : (q : BoundSpecification) → IsSpecification columns parameters levels q → P calls (λ functions. predicate_of functions (bound.Exists q))
     exists_is q s = record { tree = exists (select_of q); is_tree = λ later. predicate_of-Exists (map call_of (calls ++ later)) q; stands = s.stands }
 
     pub between_is : (n : Bool) (k l m : Kind) (a low high : BoundExpr) → E calls k a → E calls l low → E calls m high → IsTrue (is_comparable k l) → IsTrue (is_comparable k m)
@@ -183,7 +185,7 @@ module _ (columns : TableKinds) (parameters : List Kind) (levels : Levels) where
       stands = λ rows. not_stands rows n (in_list x.tree (list_trees k es h)) (well rows k a x, list_stands rows k a x es h);
     }
 
-    pub bracketed_is : (c : BoundCond) → IsCond columns parameters levels calls c → P calls (λ functions. predicate_of functions (bound.Bracketed c))
+    pub bracketed_is : (c : BoundCond) → P calls (λ functions. cond_of functions c) → P calls (λ functions. predicate_of functions (bound.Bracketed c))
     bracketed_is c x = record { tree = x.tree; is_tree = λ later. predicate_of-Bracketed (map call_of (calls ++ later)) c ∙ x.is_tree later; stands = x.stands }
 
     -- ---- conditions
@@ -218,7 +220,7 @@ module _ (columns : TableKinds) (parameters : List Kind) (levels : Levels) where
       stands = λ rows. trees_stand test_of rows (out-BoundConj c).tests h;
     }
 
-    pub cond_is : (c : BoundCond) → AllByRecursion (λ t. P calls (λ functions. conj_of functions t)) (out-BoundCond c).terms → IsCond columns parameters levels calls c
+    pub cond_is : (c : BoundCond) → AllByRecursion (λ t. P calls (λ functions. conj_of functions t)) (out-BoundCond c).terms → P calls (λ functions. cond_of functions c)
     cond_is c h = record {
       tree = disjunction (conds (trees conj_of (out-BoundCond c).terms h));
       is_tree = λ later. cond_of-out (map call_of (calls ++ later)) c ∙ ap (λ cs. disjunction (conds cs)) (trees_are conj_of later (out-BoundCond c).terms h);

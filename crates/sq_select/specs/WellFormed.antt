@@ -5,10 +5,10 @@ use Rattle.sq_value.specs.declared.domain.Kind.{Kind}
 use Rattle.sq_meaning.specs.Status.{Outcome}
 use Rattle.sq_meaning.specs.Environment.{Row}
 use Rattle.sq_meaning.specs.Placed.{Placed, by_place}
-use Rattle.sq_meaning.specs.Kind.{kind}
+use Rattle.sq_meaning.specs.Kind.{kind, select_kinds}
 use Rattle.sq_meaning.specs.Syntax.{column}
-use Rattle.sq_meaning.specs.WellFormed.{HasValue, IsDeclaredAt, IsOnlyKind, Level, MayStand, WellFormedCond, froms, is_comparable, kinds_by_place, of_lines}
-use Rattle.sq_bound.specs.Condition.{PlacedCond, conj_of, predicate_of, test_of}
+use Rattle.sq_meaning.specs.WellFormed.{HasValue, IsDeclaredAt, IsOnlyKind, Level, MayStand, WellFormedCond, WellFormedSelect, froms, is_comparable, kinds_by_place, of_lines}
+use Rattle.sq_bound.specs.Condition.{PlacedCond, cond_of, conj_of, predicate_of, select_of, test_of}
 use Rattle.sq_bound.specs.Expression.{PlacedExpr, place_meant}
 use Rattle.sq_bound.specs.SetFunction.{call_of}
 use Rattle.sq_bound.specs.WellFormed.{IsCond, IsExpr, IsSelect, Levels, TableKinds, kinds_of_parameters, kinds_of_select}
@@ -26,8 +26,6 @@ use Rattle.sq_scope.specs.WellFormed.{AreLevelsIn, MayStandAt, is_no_column}
 use Rattle.sq_scope.specs.declared.expression.Typed.{Typed}
 use Rattle.sq_scope.specs.declared.findings.Found.{Found}
 use Rattle.sq_scope.specs.declared.scope.Environment.{Environment}
-use Rattle.sq_select.specs.InOrder.{AddAll}
-use Rattle.sq_select.specs.Noted.{HasClauseNotes}
 use Rattle.sq_select.specs.declared.select.Parts.{Parts}
 use Rattle.sq_select.specs.declared.select.Selected.{Selected}
 use Rattle.sq_select.specs.declared.select.SelectedList.{SelectedList}
@@ -38,7 +36,16 @@ IsCondIn columns environment allowed has_ungrouped calls c =
     (levels : Levels) → MayStandAt columns levels environment allowed has_ungrouped
     → IsCond columns (kinds_of_parameters environment.parameters.now) levels calls c
 
--- a query specification is, at the levels of its environment
+-- a query specification by its text alone: it may stand at these levels, and its columns are known beforehand
+pub record IsSpecification (columns : TableKinds) (parameters : List Kind) (levels : Levels) (q : BoundSpecification) : Type 0 where
+  pub stands : (rows_of : TablePlace → Outcome (List Row)) → WellFormedSelect (by_place rows_of) (kinds_by_place columns parameters) (IsDeclaredAt parameters) levels (select_of q)
+  pub kinds_are : select_kinds (kinds_by_place columns parameters) (froms levels) (select_of q) ≡ Ok (kinds_of_select q)
+
+abbrev pub IsSpecificationIn : TableKinds → Environment → BoundSpecification → Type 0
+IsSpecificationIn columns environment q =
+    (levels : Levels) → AreLevelsIn columns levels environment → IsSpecification columns (kinds_of_parameters environment.parameters.now) levels q
+
+-- with what is noted of it, at the levels of its environment
 abbrev pub IsSelectIn : TableKinds → Environment → BoundSpecification → Type 0
 IsSelectIn columns environment q =
     (levels : Levels) → AreLevelsIn columns levels environment → IsSelect columns (kinds_of_parameters environment.parameters.now) levels q
@@ -89,7 +96,7 @@ abbrev pub IsConjAt : Context → List SetFunctionCall → Levels → BoundConj 
 IsConjAt x calls levels c = IsPart x.columns (parameters_in x) levels calls (λ functions. conj_of functions c)
 
 abbrev pub IsCondAt : Context → List SetFunctionCall → Levels → BoundCond → Type 0
-IsCondAt x calls levels c = IsCond x.columns (parameters_in x) levels calls c
+IsCondAt x calls levels c = IsPart x.columns (parameters_in x) levels calls (λ functions. cond_of functions c)
 
 -- values of an expression can be compared with those of a kind (8.2)
 abbrev pub AgreesAt : Context → List SetFunctionCall → Kind → Levels → BoundExpr → Type 0
@@ -99,7 +106,7 @@ AgreesAt x calls k levels e = (l : Kind) × IsExpr x.columns (parameters_in x) l
 abbrev pub AreBesideAt : Context → List SetFunctionCall → Levels → BoundExpr × BoundSpecification → Type 0
 AreBesideAt x calls levels both =
     (k : Kind) × IsExpr x.columns (parameters_in x) levels calls k both.0
-    × IsSelect x.columns (parameters_in x) levels both.1 × IsOnlyKind k (kinds_of_select both.1)
+    × IsSpecification x.columns (parameters_in x) levels both.1 × IsOnlyKind k (kinds_of_select both.1)
 
 -- ---- where a text stands: what is found is so at each levels at which it may stand there
 
@@ -171,9 +178,6 @@ pub record AreSelected (columns : TableKinds) (parameters : List Kind) (levels :
   pub groups : IfOk s.groups (λ found. AreGroupingColumns columns parameters (of_lines s.from.tables ∷ levels) found.part)
   pub list : IfOk s.groups (λ groups. IfOk s.selected (IsListAt columns parameters s.from.tables levels (is_no_column groups.part) s.functions.calls))
   pub having : IfOk s.groups (λ groups. IfOk s.having (IsHavingAt columns parameters s.from.tables levels (is_no_column groups.part) s.functions.calls))
-  pub noted : IfOk s.condition HasClauseNotes
-  pub by_columns : IfOk s.groups (λ groups. s.by_columns ≡ true → is_no_column groups.part ≡ false)
-  pub in_order : IfOk s.selected (λ list. IfOk s.having (λ having. AddAll list having s.functions.calls))
 
 -- and without a fault
 pub record AreParts (columns : TableKinds) (parameters : List Kind) (levels : Levels) (s : Parts) : Type 0 where
@@ -182,9 +186,6 @@ pub record AreParts (columns : TableKinds) (parameters : List Kind) (levels : Le
   pub groups : AreGroupingColumns columns parameters (of_lines s.from.tables ∷ levels) s.groups
   pub list : IsListAt columns parameters s.from.tables levels (is_no_column s.groups) s.functions.calls s.selected
   pub having : IsHavingAt columns parameters s.from.tables levels (is_no_column s.groups) s.functions.calls s.having
-  pub noted : HasClauseNotes s.condition
-  pub by_columns : s.by_columns ≡ true → is_no_column s.groups ≡ false
-  pub in_order : AddAll s.selected s.having s.functions.calls
 
 -- a grouped query has no `*` and reads no column that is no grouping column; one that is not grouped has no HAVING and no set
 -- function

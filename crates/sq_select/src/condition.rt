@@ -1,20 +1,21 @@
 //! Search conditions and query specifications (ISO/IEC 9075:1992, 7.3 to 7.9, 7.11, 8.12).
 
-ghost use Rattle.std.specs.Prelude.{[], ◌∷◌, Bool, IfOk, List};
+ghost use Rattle.std.specs.Prelude.{ℕ, [], ◌∷◌, Bool, IfOk, List};
 ghost use Rattle.std.specs.List.{AllZip};
 ghost use Rattle.sq_meaning.specs.WellFormed.{of_lines};
 ghost use Rattle.sq_bound.specs.WellFormed.{Levels, TableKinds, kinds_of_parameters};
 ghost use Rattle.sq_bound.specs.declared.condition.TablePlace.{TablePlace};
 ghost use Rattle.sq_bound.specs.declared.expression.SetFunctionCall.{SetFunctionCall};
 ghost use Rattle.sq_scope.specs.Expression.{Grows};
-ghost use Rattle.sq_scope.specs.Reach.{AreOwnCalls};
+ghost use Rattle.sq_scope.specs.Reach.{AreNotedFunctions};
 ghost use Rattle.sq_scope.specs.WellFormed.{AreLevelsIn, IsItemOver, allows_none};
 ghost use Rattle.sq_scope.specs.declared.scope.Environment.{Environment as AnyEnvironment};
 ghost use Rattle.sq_select.specs.InOrder.{Adding, bound_functions, conj_functions, in_turn, optional_functions, predicate_functions, test_functions};
-ghost use Rattle.sq_select.specs.Noted.{EachReads, Every, HasClauseNotes, Sure, SureAndNoted, WithinItems, cond_quiet, cond_reads, conj_quiet, conj_reads, predicate_quiet, predicate_reads, test_quiet, test_reads};
-ghost use Rattle.sq_bound.specs.Noted.{AreNotedTests, HasNotes, IsNotedTest};
+ghost use Rattle.sq_select.specs.Noted.{ClauseNoted, EachReads, Every, SelectNoted, Sure, SureAndNoted, WithinItems, cond_notes, cond_reads, cond_sure, conj_notes, conj_reads, conj_sure, predicate_notes, predicate_reads, predicate_sure, test_notes, test_reads, test_sure};
+ghost use Rattle.sq_bound.specs.Numbered.{ClauseWith, CondWith, ConjWith, EachWith, PredicateWith, SelectWith, TestWith};
+ghost use Rattle.sq_select.specs.Numbering.{Numbering};
 ghost use Rattle.sq_select.specs.Reach.{ClauseReaches, CondReaches, ConjReaches, EachReaches, PredicateReaches, Reaching, SelectReaches, TestReaches};
-ghost use Rattle.sq_select.specs.WellFormed.{Context, Each, Everywhere, IsClauseAt, IsClauseIn, IsCondAt, IsCondIn, IsConjAt, IsConjIn, IsHavingAt, IsPredicateAt, IsPredicateIn, IsSelectIn, IsTestAt, IsTestIn};
+ghost use Rattle.sq_select.specs.WellFormed.{Context, Each, Everywhere, IsClauseAt, IsClauseIn, IsCondAt, IsCondIn, IsConjAt, IsConjIn, IsHavingAt, IsPredicateAt, IsPredicateIn, IsSelectIn, IsSpecificationIn, IsTestAt, IsTestIn};
 
 use crate::gathered::{Gathered, gathered, none};
 use crate::number::SubqueryNumbers;
@@ -48,10 +49,11 @@ pub fn bind_cond<N: Names>(
     ensures well_formed { IfOk result (λ found. IsCondIn (N.column_kinds names.now) environment.now functions.old.allowed found.findings.has_ungrouped functions.new.calls found.part) }
     ensures grows { Grows functions.old functions.new }
     ensures in_order { IfOk result (Adding bound_functions functions.old.calls functions.new.calls) }
-    ensures quiet { IfOk result (SureAndNoted cond_quiet HasNotes) }
+    ensures quiet { IfOk result (SureAndNoted cond_sure cond_notes) }
     ensures reads { IfOk result (WithinItems cond_reads) }
     ensures reach { IfOk result (Reaching CondReaches) }
-    ensures own { AreOwnCalls functions.old.calls → AreOwnCalls functions.new.calls }
+    ensures own { AreNotedFunctions functions.old → AreNotedFunctions functions.new }
+    ensures numbering { IfOk result (Numbering CondWith numbers.old numbers.new) }
 {
     let first = bind_conj(&cond.first, names, environment, functions, numbers);
     let mut terms = gathered(none(environment.alloc), first);
@@ -65,9 +67,10 @@ pub fn bind_cond<N: Names>(
 fn whole_cond(terms: Gathered<BoundConj>) -> CondResult
     ensures well_formed { (x : Context) (calls : List SetFunctionCall) → IfOk terms (Everywhere x (Each (IsConjAt x calls))) → IfOk result (Everywhere x (IsCondAt x calls)) }
     ensures in_order { (a b : List SetFunctionCall) → IfOk terms (Adding (in_turn conj_functions) a b) → IfOk result (Adding bound_functions a b) }
-    ensures quiet { IfOk terms (SureAndNoted (Every conj_quiet) (Every AreNotedTests)) → IfOk result (SureAndNoted cond_quiet HasNotes) }
+    ensures quiet { IfOk terms (SureAndNoted (Every conj_sure) (Every conj_notes)) → IfOk result (SureAndNoted cond_sure cond_notes) }
     ensures reads { IfOk terms (WithinItems (EachReads conj_reads)) → IfOk result (WithinItems cond_reads) }
     ensures reach { IfOk terms (Reaching (EachReaches ConjReaches)) → IfOk result (Reaching CondReaches) }
+    ensures numbering { (a b : ℕ) → IfOk terms (Numbering (EachWith ConjWith) a b) → IfOk result (Numbering CondWith a b) }
 {
     let Found { part, findings } = terms?;
     Ok(Found {
@@ -87,10 +90,11 @@ fn bind_conj<N: Names>(
     ensures well_formed { IfOk result (IsConjIn (N.column_kinds names.now) environment.now functions.old.allowed functions.new.calls) }
     ensures grows { Grows functions.old functions.new }
     ensures in_order { IfOk result (Adding conj_functions functions.old.calls functions.new.calls) }
-    ensures quiet { IfOk result (SureAndNoted conj_quiet AreNotedTests) }
+    ensures quiet { IfOk result (SureAndNoted conj_sure conj_notes) }
     ensures reads { IfOk result (WithinItems conj_reads) }
     ensures reach { IfOk result (Reaching ConjReaches) }
-    ensures own { AreOwnCalls functions.old.calls → AreOwnCalls functions.new.calls }
+    ensures own { AreNotedFunctions functions.old → AreNotedFunctions functions.new }
+    ensures numbering { IfOk result (Numbering ConjWith numbers.old numbers.new) }
 {
     let first = bind_test(&conj.first, names, environment, functions, numbers);
     let mut tests = gathered(none(environment.alloc), first);
@@ -104,9 +108,10 @@ fn bind_conj<N: Names>(
 fn whole_conj(tests: Gathered<BoundTest>) -> Result<Found<BoundConj>, BindFault>
     ensures well_formed { (x : Context) (calls : List SetFunctionCall) → IfOk tests (Everywhere x (Each (IsTestAt x calls))) → IfOk result (Everywhere x (IsConjAt x calls)) }
     ensures in_order { (a b : List SetFunctionCall) → IfOk tests (Adding (in_turn test_functions) a b) → IfOk result (Adding conj_functions a b) }
-    ensures quiet { IfOk tests (SureAndNoted (Every test_quiet) (Every IsNotedTest)) → IfOk result (SureAndNoted conj_quiet AreNotedTests) }
+    ensures quiet { IfOk tests (SureAndNoted (Every test_sure) (Every test_notes)) → IfOk result (SureAndNoted conj_sure conj_notes) }
     ensures reads { IfOk tests (WithinItems (EachReads test_reads)) → IfOk result (WithinItems conj_reads) }
     ensures reach { IfOk tests (Reaching (EachReaches TestReaches)) → IfOk result (Reaching ConjReaches) }
+    ensures numbering { (a b : ℕ) → IfOk tests (Numbering (EachWith TestWith) a b) → IfOk result (Numbering ConjWith a b) }
 {
     let Found { part, findings } = tests?;
     Ok(Found {
@@ -126,10 +131,11 @@ fn bind_test<N: Names>(
     ensures well_formed { IfOk result (IsTestIn (N.column_kinds names.now) environment.now functions.old.allowed functions.new.calls) }
     ensures grows { Grows functions.old functions.new }
     ensures in_order { IfOk result (Adding test_functions functions.old.calls functions.new.calls) }
-    ensures quiet { IfOk result (SureAndNoted test_quiet IsNotedTest) }
+    ensures quiet { IfOk result (SureAndNoted test_sure test_notes) }
     ensures reads { IfOk result (WithinItems test_reads) }
     ensures reach { IfOk result (Reaching TestReaches) }
-    ensures own { AreOwnCalls functions.old.calls → AreOwnCalls functions.new.calls }
+    ensures own { AreNotedFunctions functions.old → AreNotedFunctions functions.new }
+    ensures numbering { IfOk result (Numbering TestWith numbers.old numbers.new) }
 {
     let predicate = bind_body(&test.body, names, environment, functions, numbers);
     whole_test(test.negated, predicate)
@@ -138,9 +144,10 @@ fn bind_test<N: Names>(
 fn whole_test(negated: bool, predicate: PredicateResult) -> Result<Found<BoundTest>, BindFault>
     ensures well_formed { (x : Context) (calls : List SetFunctionCall) → IfOk predicate (Everywhere x (IsPredicateAt x calls)) → IfOk result (Everywhere x (IsTestAt x calls)) }
     ensures in_order { (a b : List SetFunctionCall) → IfOk predicate (Adding predicate_functions a b) → IfOk result (Adding test_functions a b) }
-    ensures quiet { IfOk predicate (Sure predicate_quiet) → IfOk predicate (WithinItems predicate_reads) → IfOk result (SureAndNoted test_quiet IsNotedTest) }
+    ensures quiet { IfOk predicate (SureAndNoted predicate_sure predicate_notes) → IfOk predicate (WithinItems predicate_reads) → IfOk result (SureAndNoted test_sure test_notes) }
     ensures reads { IfOk predicate (WithinItems predicate_reads) → IfOk result (WithinItems test_reads) }
     ensures reach { IfOk predicate (Reaching PredicateReaches) → IfOk result (Reaching TestReaches) }
+    ensures numbering { (a b : ℕ) → IfOk predicate (Numbering PredicateWith a b) → IfOk result (Numbering TestWith a b) }
 {
     let Found { part, findings } = predicate?;
     Ok(Found {
@@ -165,10 +172,11 @@ fn bind_body<N: Names>(
     ensures well_formed { IfOk result (IsPredicateIn (N.column_kinds names.now) environment.now functions.old.allowed functions.new.calls) }
     ensures grows { Grows functions.old functions.new }
     ensures in_order { IfOk result (Adding predicate_functions functions.old.calls functions.new.calls) }
-    ensures quiet { IfOk result (Sure predicate_quiet) }
+    ensures quiet { IfOk result (SureAndNoted predicate_sure predicate_notes) }
     ensures reads { IfOk result (WithinItems predicate_reads) }
     ensures reach { IfOk result (Reaching PredicateReaches) }
-    ensures own { AreOwnCalls functions.old.calls → AreOwnCalls functions.new.calls }
+    ensures own { AreNotedFunctions functions.old → AreNotedFunctions functions.new }
+    ensures numbering { IfOk result (Numbering PredicateWith numbers.old numbers.new) }
 {
     match body {
         Body::Predicate(left, tail) => bind_tail(
@@ -193,9 +201,10 @@ fn bind_body<N: Names>(
 fn bracketed(alloc: Global, cond: CondResult) -> PredicateResult
     ensures well_formed { (x : Context) (calls : List SetFunctionCall) → IfOk cond (Everywhere x (IsCondAt x calls)) → IfOk result (Everywhere x (IsPredicateAt x calls)) }
     ensures in_order { (a b : List SetFunctionCall) → IfOk cond (Adding bound_functions a b) → IfOk result (Adding predicate_functions a b) }
-    ensures quiet { IfOk cond (SureAndNoted cond_quiet HasNotes) → IfOk result (Sure predicate_quiet) }
+    ensures quiet { IfOk cond (SureAndNoted cond_sure cond_notes) → IfOk result (SureAndNoted predicate_sure predicate_notes) }
     ensures reads { IfOk cond (WithinItems cond_reads) → IfOk result (WithinItems predicate_reads) }
     ensures reach { IfOk cond (Reaching CondReaches) → IfOk result (Reaching PredicateReaches) }
+    ensures numbering { (a b : ℕ) → IfOk cond (Numbering CondWith a b) → IfOk result (Numbering PredicateWith a b) }
 {
     let Found { part, findings } = cond?;
     Ok(Found {
@@ -216,10 +225,11 @@ fn bind_tail<N: Names>(
     ensures well_formed { IfOk result (IsPredicateIn (N.column_kinds names.now) environment.now functions.old.allowed functions.new.calls) }
     ensures grows { Grows functions.old functions.new }
     ensures in_order { IfOk result (Adding predicate_functions functions.old.calls functions.new.calls) }
-    ensures quiet { IfOk result (Sure predicate_quiet) }
+    ensures quiet { IfOk result (SureAndNoted predicate_sure predicate_notes) }
     ensures reads { IfOk result (WithinItems predicate_reads) }
     ensures reach { IfOk result (Reaching PredicateReaches) }
-    ensures own { AreOwnCalls functions.old.calls → AreOwnCalls functions.new.calls }
+    ensures own { AreNotedFunctions functions.old → AreNotedFunctions functions.new }
+    ensures numbering { IfOk result (Numbering PredicateWith numbers.old numbers.new) }
 {
     let left = bind_expr(left, environment, functions);
     match tail {
@@ -253,8 +263,10 @@ fn bind_subquery<N: Names>(
     environment: &Environment<'_>,
     numbers: &mut SubqueryNumbers,
 ) -> SubqueryResult
-    ensures well_formed { IfOk result (λ found. IsSelectIn (N.column_kinds names.now) environment.now found.part) }
+    ensures well_formed { IfOk result (λ found. IsSpecificationIn (N.column_kinds names.now) environment.now found.part) }
+    ensures noted { IfOk result SelectNoted }
     ensures reach { IfOk result (Reaching SelectReaches) }
+    ensures numbering { IfOk result (Numbering SelectWith numbers.old numbers.new) }
 {
     let query = bind_select(
         &query.table,
@@ -269,8 +281,10 @@ fn bind_subquery<N: Names>(
 
 /// The subquery, with a number where it reads no column of a query around it.
 fn numbered(query: SubqueryResult, numbers: &mut SubqueryNumbers) -> SubqueryResult
-    ensures well_formed { (columns : TableKinds) (environment : AnyEnvironment) → IfOk query (λ found. IsSelectIn columns environment found.part) → IfOk result (λ found. IsSelectIn columns environment found.part) }
+    ensures well_formed { (columns : TableKinds) (environment : AnyEnvironment) → IfOk query (λ found. IsSpecificationIn columns environment found.part) → IfOk result (λ found. IsSpecificationIn columns environment found.part) }
+    ensures noted { IfOk query SelectNoted → IfOk result SelectNoted }
     ensures reach { IfOk query (Reaching SelectReaches) → IfOk result (Reaching SelectReaches) }
+    ensures numbering { (a : ℕ) → IfOk query (Numbering SelectWith a numbers.old) → IfOk query (Reaching SelectReaches) → IfOk result (Numbering SelectWith a numbers.new) }
 {
     let Found { mut part, findings } = query?;
     if findings.reach == 0 {
@@ -290,7 +304,9 @@ pub fn bind_select<N: Names>(
     numbers: &mut SubqueryNumbers,
 ) -> SubqueryResult
     ensures well_formed { IfOk result (λ found. IsSelectIn (N.column_kinds names.now) environment.now found.part) }
+    ensures noted { IfOk result SelectNoted }
     ensures reach { IfOk result (Reaching SelectReaches) }
+    ensures numbering { IfOk result (Numbering SelectWith numbers.old numbers.new) }
 {
     let FromClause {
         items,
@@ -346,8 +362,9 @@ fn bind_where<'s, N: Names>(
     numbers: &mut SubqueryNumbers,
 ) -> Result<Found<Option<BoundCond>>, BindFault>
     ensures well_formed { (tables : List TablePlace) (levels : Levels) → AllZip (IsItemOver (N.column_kinds names.now)) tables items.now → AreLevelsIn (N.column_kinds names.now) levels environment.now → IfOk result (λ found. IsClauseAt (N.column_kinds names.now) (kinds_of_parameters environment.now.parameters.now) (of_lines tables ∷ levels) [] found.part) }
-    ensures noted { IfOk result HasClauseNotes }
+    ensures noted { IfOk result ClauseNoted }
     ensures reach { IfOk result (Reaching ClauseReaches) }
+    ensures numbering { IfOk result (Numbering ClauseWith numbers.old numbers.new) }
 {
     let mut functions = SetFunctions::forbidden(environment.alloc);
     let condition = bind_optional(
@@ -375,8 +392,10 @@ fn bind_having<'s, N: Names>(
     ensures well_formed { (tables : List TablePlace) (levels : Levels) → AllZip (IsItemOver (N.column_kinds names.now)) tables items.now → AreLevelsIn (N.column_kinds names.now) levels environment.now → IfOk result (IsHavingAt (N.column_kinds names.now) (kinds_of_parameters environment.now.parameters.now) tables levels (allows_none grouping.entry) functions.new.calls) }
     ensures grows { Grows functions.old functions.new }
     ensures in_order { IfOk result (Adding optional_functions functions.old.calls functions.new.calls) }
+    ensures noted { IfOk result ClauseNoted }
     ensures reach { IfOk result (Reaching ClauseReaches) }
-    ensures own { AreOwnCalls functions.old.calls → AreOwnCalls functions.new.calls }
+    ensures own { AreNotedFunctions functions.old → AreNotedFunctions functions.new }
+    ensures numbering { IfOk result (Numbering ClauseWith numbers.old numbers.new) }
 {
     bind_optional(
         cond,
@@ -403,9 +422,10 @@ fn bind_optional<N: Names>(
     ensures well_formed { IfOk result (IsClauseIn (N.column_kinds names.now) environment.now functions.old.allowed functions.new.calls) }
     ensures grows { Grows functions.old functions.new }
     ensures in_order { IfOk result (Adding optional_functions functions.old.calls functions.new.calls) }
-    ensures noted { IfOk result HasClauseNotes }
+    ensures noted { IfOk result ClauseNoted }
     ensures reach { IfOk result (Reaching ClauseReaches) }
-    ensures own { AreOwnCalls functions.old.calls → AreOwnCalls functions.new.calls }
+    ensures own { AreNotedFunctions functions.old → AreNotedFunctions functions.new }
+    ensures numbering { IfOk result (Numbering ClauseWith numbers.old numbers.new) }
 {
     match cond {
         None => Ok(Found {
@@ -419,8 +439,9 @@ fn bind_optional<N: Names>(
 fn optional(cond: CondResult) -> Result<Found<Option<BoundCond>>, BindFault>
     ensures well_formed { (columns : TableKinds) (environment : AnyEnvironment) (allowed : Bool) (calls : List SetFunctionCall) → IfOk cond (λ found. IsCondIn columns environment allowed found.findings.has_ungrouped calls found.part) → IfOk result (IsClauseIn columns environment allowed calls) }
     ensures in_order { (a b : List SetFunctionCall) → IfOk cond (Adding bound_functions a b) → IfOk result (Adding optional_functions a b) }
-    ensures noted { IfOk cond (SureAndNoted cond_quiet HasNotes) → IfOk result HasClauseNotes }
+    ensures noted { IfOk cond (SureAndNoted cond_sure cond_notes) → IfOk result ClauseNoted }
     ensures reach { IfOk cond (Reaching CondReaches) → IfOk result (Reaching ClauseReaches) }
+    ensures numbering { (a b : ℕ) → IfOk cond (Numbering CondWith a b) → IfOk result (Numbering ClauseWith a b) }
 {
     let Found { part, findings } = cond?;
     Ok(Found {

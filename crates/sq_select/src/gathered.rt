@@ -1,6 +1,7 @@
 //! Parts of a text that are bound one after the other.
 
-ghost use Rattle.std.specs.Prelude.{◌≡◌, ◌++◌, ◌∷◌, ◌||◌, [], IfOk, max, ◌≤◌};
+ghost use Rattle.std.specs.Prelude.{◌≡◌, ◌++◌, ◌∷◌, ◌||◌, [], IfOk, max};
+ghost use Rattle.sq_scope.specs.Reach.{NoFurther, outward};
 ghost use Rattle.sq_select.specs.Gathered.{Gathers};
 
 use sq_bound::BindFault;
@@ -14,7 +15,7 @@ pub type Gathered<T> = Result<Found<Items<T>>, BindFault>;
 /// The parts with a further one. The fault of the first is answered first.
 pub fn gathered<T: Drop>(parts: Gathered<T>, part: Result<Found<T>, BindFault>) -> Gathered<T>
     ensures gathers { IfOk result (Gathers parts part) }
-    ensures reach { IfOk result (λ all. IfOk parts (λ before. before.findings.reach ≤ all.findings.reach) × IfOk part (λ next. next.findings.reach ≤ all.findings.reach)) }
+    ensures reach { IfOk result (λ all. IfOk parts (λ before. NoFurther (outward before.findings) (outward all.findings)) × IfOk part (λ next. NoFurther (outward next.findings) (outward all.findings))) }
 {
     match (parts, part) {
         (Ok(parts), Ok(part)) => with_part(parts, part),
@@ -34,7 +35,7 @@ fn with_part<T: Drop>(parts: Found<Items<T>>, part: Found<T>) -> Gathered<T>
     ensures ungrouped { IfOk result (λ all. all.findings.has_ungrouped ≡ (parts.findings.has_ungrouped || part.findings.has_ungrouped)) }
     ensures can_fail { IfOk result (λ all. all.findings.can_fail ≡ (parts.findings.can_fail || part.findings.can_fail)) }
     ensures items { IfOk result (λ all. all.findings.items ≡ max parts.findings.items part.findings.items) }
-    ensures reach { IfOk result (λ all. (parts.findings.reach ≤ all.findings.reach) × (part.findings.reach ≤ all.findings.reach)) }
+    ensures reach { IfOk result (λ all. NoFurther (outward parts.findings) (outward all.findings) × NoFurther (outward part.findings) (outward all.findings)) }
 {
     let Found {
         part: mut items,

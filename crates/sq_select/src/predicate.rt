@@ -1,16 +1,18 @@
 //! Predicates over bound operands: their kinds, and what is found in them (ISO/IEC 9075:1992, 8.2 to 8.7).
 
-ghost use Rattle.std.specs.Prelude.{◌≡◌, ◌∷◌, [], IfOk, IsTrue, List, Ok};
+ghost use Rattle.std.specs.Prelude.{◌≡◌, ◌∷◌, ℕ, [], IfOk, IsTrue, List, Ok};
 ghost use Rattle.sq_bound.specs.WellFormed.{TableKinds, kinds_of_select};
 ghost use Rattle.sq_bound.specs.declared.expression.SetFunctionCall.{SetFunctionCall};
 ghost use Rattle.sq_meaning.specs.WellFormed.{is_comparable, is_text};
 ghost use Rattle.sq_scope.specs.Expression.{Grows, IsReadTyped, expr_functions};
 ghost use Rattle.sq_select.specs.InOrder.{Adding, beside_functions, in_turn, predicate_functions, typed_functions};
-ghost use Rattle.sq_select.specs.Noted.{EachReads, Every, Sure, WithinItems, predicate_quiet, predicate_reads, typed_quiet};
-ghost use Rattle.sq_bound.specs.Noted.{IsQuietExpr, IsReadExpr};
-ghost use Rattle.sq_scope.specs.Reach.{AreOwnCalls, MayReach};
+ghost use Rattle.sq_select.specs.Noted.{EachReads, Every, SelectNoted, Sure, SureAndNoted, WithinItems, beside_notes, beside_reads, beside_sure, predicate_notes, predicate_reads, predicate_sure, typed_sure};
+ghost use Rattle.sq_bound.specs.Noted.{IsReadExpr, IsSureExpr};
+ghost use Rattle.sq_scope.specs.Reach.{AreNotedFunctions, MayReach};
+ghost use Rattle.sq_bound.specs.Numbered.{PredicateWith, SelectWith};
+ghost use Rattle.sq_select.specs.Numbering.{BesideWith, Numbering};
 ghost use Rattle.sq_select.specs.Reach.{BesideReaches, EachReaches, PredicateReaches, Reaching, SelectReaches, TypedReaches};
-ghost use Rattle.sq_select.specs.WellFormed.{AgreesAt, AreBesideAt, Context, Each, Everywhere, IsPredicateAt, IsSelectIn, IsTypedAt, here};
+ghost use Rattle.sq_select.specs.WellFormed.{AgreesAt, AreBesideAt, Context, Each, Everywhere, IsPredicateAt, IsSpecificationIn, IsTypedAt, here};
 
 use crate::gathered::{Gathered, gathered, none};
 use sq_bound::{BindFault, BoundExpr, BoundSpecification, Compared, Predicate};
@@ -43,9 +45,10 @@ fn agreeing(left: ExprResult, right: ExprResult) -> Result<(Found<Typed>, Found<
 pub fn compared(comparison: Comparison, left: ExprResult, right: ExprResult) -> PredicateResult
     ensures well_formed { (x : Context) (calls : List SetFunctionCall) → IfOk left (Everywhere x (IsTypedAt x calls)) → IfOk right (Everywhere x (IsTypedAt x calls)) → IfOk result (Everywhere x (IsPredicateAt x calls)) }
     ensures in_order { (a b c : List SetFunctionCall) → IfOk left (Adding typed_functions a b) → IfOk right (Adding typed_functions b c) → IfOk result (Adding predicate_functions a c) }
-    ensures quiet { IfOk left (Sure typed_quiet) → IfOk right (Sure typed_quiet) → IfOk result (Sure predicate_quiet) }
+    ensures quiet { IfOk left (Sure typed_sure) → IfOk right (Sure typed_sure) → IfOk result (SureAndNoted predicate_sure predicate_notes) }
     ensures reads { IfOk left (WithinItems IsReadTyped) → IfOk right (WithinItems IsReadTyped) → IfOk result (WithinItems predicate_reads) }
     ensures reach { IfOk left (Reaching TypedReaches) → IfOk right (Reaching TypedReaches) → IfOk result (Reaching PredicateReaches) }
+    ensures numbering { (a : ℕ) → IfOk result (Numbering PredicateWith a a) }
 {
     let (left, right) = agreeing(left, right)?;
     let findings = left.findings.and(right.findings);
@@ -71,9 +74,12 @@ fn with_subquery(
     left: ExprResult,
     query: SubqueryResult,
 ) -> Result<Found<(BoundExpr, Boxed<BoundSpecification>)>, BindFault>
-    ensures well_formed { (x : Context) (calls : List SetFunctionCall) → IfOk left (Everywhere x (IsTypedAt x calls)) → IfOk query (λ found. IsSelectIn x.columns x.environment found.part) → IfOk result (Everywhere x (AreBesideAt x calls)) }
+    ensures well_formed { (x : Context) (calls : List SetFunctionCall) → IfOk left (Everywhere x (IsTypedAt x calls)) → IfOk query (λ found. IsSpecificationIn x.columns x.environment found.part) → IfOk result (Everywhere x (AreBesideAt x calls)) }
     ensures in_order { (a b : List SetFunctionCall) → IfOk left (Adding typed_functions a b) → IfOk result (Adding beside_functions a b) }
+    ensures noted { IfOk left (Sure typed_sure) → IfOk query SelectNoted → IfOk result (SureAndNoted beside_sure beside_notes) }
+    ensures reads { IfOk left (WithinItems IsReadTyped) → IfOk query (Reaching SelectReaches) → IfOk result (WithinItems beside_reads) }
     ensures reach { IfOk left (Reaching TypedReaches) → IfOk query (Reaching SelectReaches) → IfOk result (Reaching BesideReaches) }
+    ensures numbering { (a b : ℕ) → IfOk query (Numbering SelectWith a b) → IfOk result (Numbering BesideWith a b) }
 {
     let (left, query) = both(left, query)?;
     let test = match column_of(&query.part) {
@@ -113,11 +119,12 @@ pub fn compared_query(
     left: ExprResult,
     query: SubqueryResult,
 ) -> PredicateResult
-    ensures well_formed { (x : Context) (calls : List SetFunctionCall) → IfOk left (Everywhere x (IsTypedAt x calls)) → IfOk query (λ found. IsSelectIn x.columns x.environment found.part) → IfOk result (Everywhere x (IsPredicateAt x calls)) }
+    ensures well_formed { (x : Context) (calls : List SetFunctionCall) → IfOk left (Everywhere x (IsTypedAt x calls)) → IfOk query (λ found. IsSpecificationIn x.columns x.environment found.part) → IfOk result (Everywhere x (IsPredicateAt x calls)) }
     ensures in_order { (a b : List SetFunctionCall) → IfOk left (Adding typed_functions a b) → IfOk result (Adding predicate_functions a b) }
-    ensures quiet { IfOk result (Sure predicate_quiet) }
-    ensures reads { IfOk result (WithinItems predicate_reads) }
+    ensures quiet { IfOk left (Sure typed_sure) → IfOk query SelectNoted → IfOk result (SureAndNoted predicate_sure predicate_notes) }
+    ensures reads { IfOk left (WithinItems IsReadTyped) → IfOk query (Reaching SelectReaches) → IfOk result (WithinItems predicate_reads) }
     ensures reach { IfOk left (Reaching TypedReaches) → IfOk query (Reaching SelectReaches) → IfOk result (Reaching PredicateReaches) }
+    ensures numbering { (a b : ℕ) → IfOk query (Numbering SelectWith a b) → IfOk result (Numbering PredicateWith a b) }
 {
     let Found { part, findings } = with_subquery(alloc, left, query)?;
     let (left, query) = part;
@@ -143,11 +150,12 @@ pub fn in_query(
     left: ExprResult,
     query: SubqueryResult,
 ) -> PredicateResult
-    ensures well_formed { (x : Context) (calls : List SetFunctionCall) → IfOk left (Everywhere x (IsTypedAt x calls)) → IfOk query (λ found. IsSelectIn x.columns x.environment found.part) → IfOk result (Everywhere x (IsPredicateAt x calls)) }
+    ensures well_formed { (x : Context) (calls : List SetFunctionCall) → IfOk left (Everywhere x (IsTypedAt x calls)) → IfOk query (λ found. IsSpecificationIn x.columns x.environment found.part) → IfOk result (Everywhere x (IsPredicateAt x calls)) }
     ensures in_order { (a b : List SetFunctionCall) → IfOk left (Adding typed_functions a b) → IfOk result (Adding predicate_functions a b) }
-    ensures quiet { IfOk result (Sure predicate_quiet) }
-    ensures reads { IfOk result (WithinItems predicate_reads) }
+    ensures quiet { IfOk left (Sure typed_sure) → IfOk query SelectNoted → IfOk result (SureAndNoted predicate_sure predicate_notes) }
+    ensures reads { IfOk left (WithinItems IsReadTyped) → IfOk query (Reaching SelectReaches) → IfOk result (WithinItems predicate_reads) }
     ensures reach { IfOk left (Reaching TypedReaches) → IfOk query (Reaching SelectReaches) → IfOk result (Reaching PredicateReaches) }
+    ensures numbering { (a b : ℕ) → IfOk query (Numbering SelectWith a b) → IfOk result (Numbering PredicateWith a b) }
 {
     let Found { part, findings } = with_subquery(alloc, left, query)?;
     let (left, query) = part;
@@ -159,11 +167,12 @@ pub fn in_query(
 
 /// `EXISTS (query)`.
 pub fn exists(alloc: Global, query: SubqueryResult) -> PredicateResult
-    ensures well_formed { (x : Context) (calls : List SetFunctionCall) → IfOk query (λ found. IsSelectIn x.columns x.environment found.part) → IfOk result (Everywhere x (IsPredicateAt x calls)) }
+    ensures well_formed { (x : Context) (calls : List SetFunctionCall) → IfOk query (λ found. IsSpecificationIn x.columns x.environment found.part) → IfOk result (Everywhere x (IsPredicateAt x calls)) }
     ensures in_order { (a : List SetFunctionCall) → IfOk result (Adding predicate_functions a a) }
-    ensures quiet { IfOk result (Sure predicate_quiet) }
-    ensures reads { IfOk result (WithinItems predicate_reads) }
+    ensures quiet { IfOk query SelectNoted → IfOk result (SureAndNoted predicate_sure predicate_notes) }
+    ensures reads { IfOk query (Reaching SelectReaches) → IfOk result (WithinItems predicate_reads) }
     ensures reach { IfOk query (Reaching SelectReaches) → IfOk result (Reaching PredicateReaches) }
+    ensures numbering { (a b : ℕ) → IfOk query (Numbering SelectWith a b) → IfOk result (Numbering PredicateWith a b) }
 {
     let Found { part, findings } = query?;
     Ok(Found {
@@ -184,10 +193,11 @@ pub fn between(
     ensures well_formed { (columns : TableKinds) → let x = here columns environment.now functions.old.allowed in IfOk left (Everywhere x (IsTypedAt x functions.old.calls)) → IfOk result (Everywhere x (IsPredicateAt x functions.new.calls)) }
     ensures grows { Grows functions.old functions.new }
     ensures in_order { (a : List SetFunctionCall) → IfOk left (Adding typed_functions a functions.old.calls) → IfOk result (Adding predicate_functions a functions.new.calls) }
-    ensures quiet { IfOk left (Sure typed_quiet) → IfOk result (Sure predicate_quiet) }
+    ensures quiet { IfOk left (Sure typed_sure) → IfOk result (SureAndNoted predicate_sure predicate_notes) }
     ensures reads { IfOk left (WithinItems IsReadTyped) → IfOk result (WithinItems predicate_reads) }
     ensures reach { IfOk left (Reaching TypedReaches) → IfOk result (Reaching PredicateReaches) }
-    ensures own { AreOwnCalls functions.old.calls → AreOwnCalls functions.new.calls }
+    ensures own { AreNotedFunctions functions.old → AreNotedFunctions functions.new }
+    ensures numbering { (a : ℕ) → IfOk result (Numbering PredicateWith a a) }
 {
     let low = bind_expr(low, environment, functions);
     let high = bind_expr(high, environment, functions);
@@ -202,9 +212,10 @@ fn between_bounds(
 ) -> PredicateResult
     ensures well_formed { (x : Context) (calls : List SetFunctionCall) → IfOk left (Everywhere x (IsTypedAt x calls)) → IfOk low (Everywhere x (IsTypedAt x calls)) → IfOk high (Everywhere x (IsTypedAt x calls)) → IfOk result (Everywhere x (IsPredicateAt x calls)) }
     ensures in_order { (a b c d : List SetFunctionCall) → IfOk left (Adding typed_functions a b) → IfOk low (Adding typed_functions b c) → IfOk high (Adding typed_functions c d) → IfOk result (Adding predicate_functions a d) }
-    ensures quiet { IfOk left (Sure typed_quiet) → IfOk low (Sure typed_quiet) → IfOk high (Sure typed_quiet) → IfOk result (Sure predicate_quiet) }
+    ensures quiet { IfOk left (Sure typed_sure) → IfOk low (Sure typed_sure) → IfOk high (Sure typed_sure) → IfOk result (SureAndNoted predicate_sure predicate_notes) }
     ensures reads { IfOk left (WithinItems IsReadTyped) → IfOk low (WithinItems IsReadTyped) → IfOk high (WithinItems IsReadTyped) → IfOk result (WithinItems predicate_reads) }
     ensures reach { IfOk left (Reaching TypedReaches) → IfOk low (Reaching TypedReaches) → IfOk high (Reaching TypedReaches) → IfOk result (Reaching PredicateReaches) }
+    ensures numbering { (a : ℕ) → IfOk result (Numbering PredicateWith a a) }
 {
     let ((left, low), high) = both(agreeing(left, low), high)?;
     let test = must_agree(left.part.kind, high.part.kind);
@@ -220,7 +231,7 @@ fn between_bounds(
 fn agreed(kind: Kind, item: ExprResult) -> Result<Found<BoundExpr>, BindFault>
     ensures well_formed { (x : Context) (calls : List SetFunctionCall) → IfOk item (Everywhere x (IsTypedAt x calls)) → IfOk result (Everywhere x (AgreesAt x calls kind)) }
     ensures in_order { (a b : List SetFunctionCall) → IfOk item (Adding typed_functions a b) → IfOk result (Adding expr_functions a b) }
-    ensures quiet { IfOk item (Sure typed_quiet) → IfOk result (Sure IsQuietExpr) }
+    ensures quiet { IfOk item (Sure typed_sure) → IfOk result (Sure IsSureExpr) }
     ensures reads { IfOk item (WithinItems IsReadTyped) → IfOk result (WithinItems IsReadExpr) }
     ensures reach { IfOk item (Reaching TypedReaches) → IfOk result (Reaching MayReach) }
 {
@@ -243,10 +254,10 @@ fn list_exprs(
     ensures well_formed { (columns : TableKinds) → let x = here columns environment.now functions.old.allowed in IfOk result (Everywhere x (Each (AgreesAt x functions.new.calls kind))) }
     ensures grows { Grows functions.old functions.new }
     ensures in_order { IfOk result (Adding (in_turn expr_functions) functions.old.calls functions.new.calls) }
-    ensures quiet { IfOk result (Sure (Every IsQuietExpr)) }
+    ensures quiet { IfOk result (Sure (Every IsSureExpr)) }
     ensures reads { IfOk result (WithinItems (EachReads IsReadExpr)) }
     ensures reach { IfOk result (Reaching (EachReaches MayReach)) }
-    ensures own { AreOwnCalls functions.old.calls → AreOwnCalls functions.new.calls }
+    ensures own { AreNotedFunctions functions.old → AreNotedFunctions functions.new }
 {
     let first = bind_expr(&list.first, environment, functions);
     let mut bound = gathered(none(environment.alloc), agreed(kind, first));
@@ -268,10 +279,11 @@ pub fn in_list(
     ensures well_formed { (columns : TableKinds) → let x = here columns environment.now functions.old.allowed in IfOk left (Everywhere x (IsTypedAt x functions.old.calls)) → IfOk result (Everywhere x (IsPredicateAt x functions.new.calls)) }
     ensures grows { Grows functions.old functions.new }
     ensures in_order { (a : List SetFunctionCall) → IfOk left (Adding typed_functions a functions.old.calls) → IfOk result (Adding predicate_functions a functions.new.calls) }
-    ensures quiet { IfOk left (Sure typed_quiet) → IfOk result (Sure predicate_quiet) }
+    ensures quiet { IfOk left (Sure typed_sure) → IfOk result (SureAndNoted predicate_sure predicate_notes) }
     ensures reads { IfOk left (WithinItems IsReadTyped) → IfOk result (WithinItems predicate_reads) }
     ensures reach { IfOk left (Reaching TypedReaches) → IfOk result (Reaching PredicateReaches) }
-    ensures own { AreOwnCalls functions.old.calls → AreOwnCalls functions.new.calls }
+    ensures own { AreNotedFunctions functions.old → AreNotedFunctions functions.new }
+    ensures numbering { (a : ℕ) → IfOk result (Numbering PredicateWith a a) }
 {
     let left = left?;
     let list = list_exprs(left.part.kind, list, environment, functions);
@@ -281,9 +293,10 @@ pub fn in_list(
 fn listed(negated: bool, left: Found<Typed>, list: Gathered<BoundExpr>) -> PredicateResult
     ensures well_formed { (x : Context) (calls : List SetFunctionCall) → Everywhere x (IsTypedAt x calls) left → IfOk list (Everywhere x (Each (AgreesAt x calls left.part.kind))) → IfOk result (Everywhere x (IsPredicateAt x calls)) }
     ensures in_order { (a b c : List SetFunctionCall) → Adding typed_functions a b left → IfOk list (Adding (in_turn expr_functions) b c) → IfOk result (Adding predicate_functions a c) }
-    ensures quiet { Sure typed_quiet left → IfOk list (Sure (Every IsQuietExpr)) → IfOk result (Sure predicate_quiet) }
+    ensures quiet { Sure typed_sure left → IfOk list (Sure (Every IsSureExpr)) → IfOk result (SureAndNoted predicate_sure predicate_notes) }
     ensures reads { WithinItems IsReadTyped left → IfOk list (WithinItems (EachReads IsReadExpr)) → IfOk result (WithinItems predicate_reads) }
-    ensures reach { TypedReaches left.findings.reach left.part → IfOk list (Reaching (EachReaches MayReach)) → IfOk result (Reaching PredicateReaches) }
+    ensures reach { Reaching TypedReaches left → IfOk list (Reaching (EachReaches MayReach)) → IfOk result (Reaching PredicateReaches) }
+    ensures numbering { (a : ℕ) → IfOk result (Numbering PredicateWith a a) }
 {
     let (left, list) = both(Ok(left), list)?;
     Ok(Found {
@@ -313,10 +326,11 @@ pub fn like(
     ensures well_formed { (columns : TableKinds) → let x = here columns environment.now functions.old.allowed in IfOk left (Everywhere x (IsTypedAt x functions.old.calls)) → IfOk result (Everywhere x (IsPredicateAt x functions.new.calls)) }
     ensures grows { Grows functions.old functions.new }
     ensures in_order { (a : List SetFunctionCall) → IfOk left (Adding typed_functions a functions.old.calls) → IfOk result (Adding predicate_functions a functions.new.calls) }
-    ensures quiet { IfOk left (Sure typed_quiet) → IfOk result (Sure predicate_quiet) }
+    ensures quiet { IfOk left (Sure typed_sure) → IfOk result (SureAndNoted predicate_sure predicate_notes) }
     ensures reads { IfOk left (WithinItems IsReadTyped) → IfOk result (WithinItems predicate_reads) }
     ensures reach { IfOk left (Reaching TypedReaches) → IfOk result (Reaching PredicateReaches) }
-    ensures own { AreOwnCalls functions.old.calls → AreOwnCalls functions.new.calls }
+    ensures own { AreNotedFunctions functions.old → AreNotedFunctions functions.new }
+    ensures numbering { (a : ℕ) → IfOk result (Numbering PredicateWith a a) }
 {
     let pattern = bind_expr(pattern, environment, functions);
     match escape {
@@ -331,9 +345,10 @@ pub fn like(
 fn like_plain(negated: bool, left: ExprResult, pattern: ExprResult) -> PredicateResult
     ensures well_formed { (x : Context) (calls : List SetFunctionCall) → IfOk left (Everywhere x (IsTypedAt x calls)) → IfOk pattern (Everywhere x (IsTypedAt x calls)) → IfOk result (Everywhere x (IsPredicateAt x calls)) }
     ensures in_order { (a b c : List SetFunctionCall) → IfOk left (Adding typed_functions a b) → IfOk pattern (Adding typed_functions b c) → IfOk result (Adding predicate_functions a c) }
-    ensures quiet { IfOk left (Sure typed_quiet) → IfOk pattern (Sure typed_quiet) → IfOk result (Sure predicate_quiet) }
+    ensures quiet { IfOk left (Sure typed_sure) → IfOk pattern (Sure typed_sure) → IfOk result (SureAndNoted predicate_sure predicate_notes) }
     ensures reads { IfOk left (WithinItems IsReadTyped) → IfOk pattern (WithinItems IsReadTyped) → IfOk result (WithinItems predicate_reads) }
     ensures reach { IfOk left (Reaching TypedReaches) → IfOk pattern (Reaching TypedReaches) → IfOk result (Reaching PredicateReaches) }
+    ensures numbering { (a : ℕ) → IfOk result (Numbering PredicateWith a a) }
 {
     let (left, pattern) = both(text(left), text(pattern))?;
     Ok(Found {
@@ -351,9 +366,10 @@ fn like_escape(
 ) -> PredicateResult
     ensures well_formed { (x : Context) (calls : List SetFunctionCall) → IfOk left (Everywhere x (IsTypedAt x calls)) → IfOk pattern (Everywhere x (IsTypedAt x calls)) → IfOk escape (Everywhere x (IsTypedAt x calls)) → IfOk result (Everywhere x (IsPredicateAt x calls)) }
     ensures in_order { (a b c d : List SetFunctionCall) → IfOk left (Adding typed_functions a b) → IfOk pattern (Adding typed_functions b c) → IfOk escape (Adding typed_functions c d) → IfOk result (Adding predicate_functions a d) }
-    ensures quiet { IfOk result (Sure predicate_quiet) }
+    ensures quiet { IfOk result (SureAndNoted predicate_sure predicate_notes) }
     ensures reads { IfOk left (WithinItems IsReadTyped) → IfOk pattern (WithinItems IsReadTyped) → IfOk escape (WithinItems IsReadTyped) → IfOk result (WithinItems predicate_reads) }
     ensures reach { IfOk left (Reaching TypedReaches) → IfOk pattern (Reaching TypedReaches) → IfOk escape (Reaching TypedReaches) → IfOk result (Reaching PredicateReaches) }
+    ensures numbering { (a : ℕ) → IfOk result (Numbering PredicateWith a a) }
 {
     let ((left, pattern), escape) = both(both(text(left), text(pattern)), text(escape))?;
     let findings = left.findings.and(pattern.findings).and(escape.findings);
@@ -372,9 +388,10 @@ fn like_escape(
 pub fn null_test(negated: bool, left: ExprResult) -> PredicateResult
     ensures well_formed { (x : Context) (calls : List SetFunctionCall) → IfOk left (Everywhere x (IsTypedAt x calls)) → IfOk result (Everywhere x (IsPredicateAt x calls)) }
     ensures in_order { (a b : List SetFunctionCall) → IfOk left (Adding typed_functions a b) → IfOk result (Adding predicate_functions a b) }
-    ensures quiet { IfOk left (Sure typed_quiet) → IfOk result (Sure predicate_quiet) }
+    ensures quiet { IfOk left (Sure typed_sure) → IfOk result (SureAndNoted predicate_sure predicate_notes) }
     ensures reads { IfOk left (WithinItems IsReadTyped) → IfOk result (WithinItems predicate_reads) }
     ensures reach { IfOk left (Reaching TypedReaches) → IfOk result (Reaching PredicateReaches) }
+    ensures numbering { (a : ℕ) → IfOk result (Numbering PredicateWith a a) }
 {
     let Found { part, findings } = left?;
     Ok(Found {

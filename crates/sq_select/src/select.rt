@@ -1,19 +1,23 @@
 //! The parts of a query specification: FROM items, grouping columns, select lists (ISO/IEC 9075:1992, 7.4, 7.7, 7.9).
 
-ghost use Rattle.std.specs.Prelude.{◌≡◌, ◌≤◌, ◌||◌, ◌++◌, ◌∷◌, [], IfOk, List, None, Some, false, if◌then◌else◌, is_some, length, nat_lt, slice_get, true};
+ghost use Rattle.std.specs.Prelude.{◌≡◌, ℕ, ◌||◌, ◌++◌, ◌∷◌, [], IfOk, List, None, Some, false, if◌then◌else◌, is_some, length, nat_lt, slice_get, true};
 ghost use Rattle.std.specs.List.{AllZip};
 ghost use Rattle.sq_meaning.specs.WellFormed.{of_lines};
 ghost use Rattle.sq_bound.specs.Fits.{IsOver};
-ghost use Rattle.sq_bound.specs.WellFormed.{IsSelect, IsTable, Levels, TableKinds, kinds_of_parameters};
+ghost use Rattle.sq_bound.specs.WellFormed.{IsTable, Levels, TableKinds, kinds_of_parameters, place_of};
 ghost use Rattle.sq_bound.specs.declared.condition.TablePlace.{TablePlace as AnyPlace};
 ghost use Rattle.sq_bound.specs.declared.expression.Place.{Place as ColumnPlace};
 ghost use Rattle.sq_bound.specs.declared.expression.SetFunctionCall.{SetFunctionCall};
 ghost use Rattle.sq_scope.specs.Expression.{Grows};
-ghost use Rattle.sq_scope.specs.Reach.{AreOwnCalls};
+ghost use Rattle.sq_bound.specs.Noted.{may_fail};
+ghost use Rattle.sq_scope.specs.Reach.{AreNotedFunctions, NoFurther, outward};
+ghost use Rattle.sq_select.specs.Noted.{AreNotedIn, FromSure, ListSure, PartsNoted, SelectNoted, Sure, typed_sure};
 ghost use Rattle.sq_scope.specs.WellFormed.{AreLevelsIn, IsItemOver, allows_none, is_no_column};
 ghost use Rattle.sq_select.specs.InOrder.{Adding, AddsList, is_grouped_by, typed_functions};
+ghost use Rattle.sq_bound.specs.Numbered.{ClauseWith, SelectWith};
+ghost use Rattle.sq_select.specs.Numbering.{Numbering};
 ghost use Rattle.sq_select.specs.Reach.{AreReaching, ListReaching, PartsReach, PlacesReach, Reaching, SelectReaches, TypedReaches};
-ghost use Rattle.sq_select.specs.WellFormed.{AreColumns, AreGroupingColumns, AreParts, AreSelected, Context, Everywhere, IsGroupedRightly, IsGroupingColumn, IsListAt, IsListIn, IsTypedAt, level_over};
+ghost use Rattle.sq_select.specs.WellFormed.{AreColumns, AreGroupingColumns, AreParts, AreSelected, Context, Everywhere, IsGroupedRightly, IsGroupingColumn, IsListAt, IsListIn, IsSpecification, IsTypedAt, level_over};
 ghost use Rattle.sq_value.specs.declared.domain.Kind.{Kind as AnyKind};
 
 use crate::predicate::SubqueryResult;
@@ -84,7 +88,9 @@ fn may_grant_select<N: Names>(names: &N, user: Name, table: &TableDesc) -> bool 
 }
 
 /// What is found in a FROM item over a table.
-fn table_findings<N: Names>(names: &N, user: Name, table: &TableDesc) -> Findings {
+fn table_findings<N: Names>(names: &N, user: Name, table: &TableDesc) -> Findings
+    ensures { result.can_fail ≡ may_fail (place_of table.now.body) }
+{
     let may_select = may_select(names, user, table);
     let may_grant = may_grant_select(names, user, table);
     Findings {
@@ -106,6 +112,7 @@ pub fn from_clause<N: Names>(
 ) -> Result<FromClause, BindFault>
     ensures over { IfOk result (λ clause. AllZip (IsItemOver (N.column_kinds names.now)) clause.tables clause.items) }
     ensures some { IfOk result (λ clause. nat_lt 0 (length clause.tables) ≡ true) }
+    ensures sure { IfOk result (λ clause. FromSure clause.findings clause.tables) }
 {
     if list.rest.len() >= MOST_ITEMS {
         return Err(BindFault::LimitExceeded);
@@ -131,6 +138,7 @@ impl FromClause {
     ) -> Result<(), BindFault>
         ensures over { IfOk result (λ u. AllZip (IsItemOver (N.column_kinds names.now)) self.old.tables self.old.items → AllZip (IsItemOver (N.column_kinds names.now)) self.new.tables self.new.items) }
         ensures some { IfOk result (λ u. nat_lt 0 (length self.new.tables) ≡ true) }
+        ensures sure { IfOk result (λ u. FromSure self.old.findings self.old.tables → FromSure self.new.findings self.new.tables) }
     {
         let table = named_table(names, environment.user, reference.table)?;
         self.tables.push(table.place())?;
@@ -201,7 +209,7 @@ fn push_grouping(
     findings: Findings,
 ) -> Result<Findings, BindFault>
     ensures well_formed { IfOk result (λ more. (p : ColumnPlace) × (columns.new ≡ columns.old ++ p ∷ []) × ((kinds : TableKinds) (levels : Levels) → AreLevelsIn kinds levels environment.now → IsGroupingColumn kinds (kinds_of_parameters environment.now.parameters.now) levels p)) }
-    ensures reach { IfOk result (λ more. PlacesReach findings.reach columns.old → PlacesReach more.reach columns.new) }
+    ensures reach { IfOk result (λ more. PlacesReach (outward findings) columns.old → PlacesReach (outward more) columns.new) }
 {
     let found = environment.column(reference)?;
     if !found.is_grouped {
@@ -243,8 +251,9 @@ pub fn select_list<'s>(
     ensures well_formed { (kinds : TableKinds) (tables : List AnyPlace) (levels : Levels) → AllZip (IsItemOver kinds) tables items.now → AreLevelsIn kinds levels environment.now → IfOk result (IsListAt kinds (kinds_of_parameters environment.now.parameters.now) tables levels (allows_none grouping.entry) functions.new.calls) }
     ensures grows { Grows functions.old functions.new }
     ensures in_order { IfOk result (λ s. s.is_star ≡ false → AddsList functions.old.calls functions.new.calls s) }
+    ensures sure { IfOk result ListSure }
     ensures reach { IfOk result ListReaching }
-    ensures own { AreOwnCalls functions.old.calls → AreOwnCalls functions.new.calls }
+    ensures own { AreNotedFunctions functions.old → AreNotedFunctions functions.new }
 {
     match list {
         SelectList::Star => all_columns(environment.alloc, items),
@@ -277,8 +286,9 @@ fn listed_columns(
     ensures well_formed { (kinds : TableKinds) → IfOk result (IsListIn kinds environment.now functions.old.allowed functions.new.calls) }
     ensures grows { Grows functions.old functions.new }
     ensures in_order { IfOk result (AddsList functions.old.calls functions.new.calls) }
+    ensures sure { IfOk result ListSure }
     ensures reach { IfOk result ListReaching }
-    ensures own { AreOwnCalls functions.old.calls → AreOwnCalls functions.new.calls }
+    ensures own { AreNotedFunctions functions.old → AreNotedFunctions functions.new }
 {
     let mut selected = Ok(no_columns(environment.alloc, false));
     let first = bind_expr(&list.first, environment, functions);
@@ -305,6 +315,7 @@ fn with_column(
 ) -> Result<SelectedList, BindFault>
     ensures well_formed { (x : Context) (calls : List SetFunctionCall) → IfOk selected (IsListIn x.columns x.environment x.allowed calls) → IfOk item (Everywhere x (IsTypedAt x calls)) → IfOk result (IsListIn x.columns x.environment x.allowed calls) }
     ensures in_order { (a b c : List SetFunctionCall) → IfOk selected (AddsList a b) → IfOk item (Adding typed_functions b c) → IfOk result (AddsList a c) }
+    ensures sure { IfOk selected ListSure → IfOk item (Sure typed_sure) → IfOk result ListSure }
     ensures reach { IfOk selected ListReaching → IfOk item (Reaching TypedReaches) → IfOk result ListReaching }
 {
     let (mut selected, item) = both(selected, item)?;
@@ -324,7 +335,8 @@ fn push_column(
     ensures columns { IfOk result (λ u. selected.new.columns ≡ selected.old.columns ++ record { name = name; kind = kind } ∷ []) }
     ensures ungrouped { IfOk result (λ u. selected.new.findings.has_ungrouped ≡ (selected.old.findings.has_ungrouped || findings.has_ungrouped)) }
     ensures star { selected.new.is_star ≡ selected.old.is_star }
-    ensures reach { IfOk result (λ u. (selected.old.findings.reach ≤ selected.new.findings.reach) × (findings.reach ≤ selected.new.findings.reach)) }
+    ensures can_fail { IfOk result (λ u. selected.new.findings.can_fail ≡ (selected.old.findings.can_fail || findings.can_fail)) }
+    ensures reach { IfOk result (λ u. NoFurther (outward selected.old.findings) (outward selected.new.findings) × NoFurther (outward findings) (outward selected.new.findings)) }
 {
     if selected.columns.len() >= MOST_COLUMNS {
         drop(expr);
@@ -339,6 +351,7 @@ fn push_column(
 fn all_columns(alloc: Global, items: &[FromItem]) -> Result<SelectedList, BindFault>
     ensures well_formed { (kinds : TableKinds) (parameters : List AnyKind) (tables : List AnyPlace) (levels : Levels) (calls : List SetFunctionCall) → AllZip (IsItemOver kinds) tables items.now → IfOk result (λ s. AreColumns kinds parameters (level_over tables true ∷ levels) calls s.exprs s.columns) }
     ensures star { IfOk result (λ s. s.is_star ≡ true) }
+    ensures sure { IfOk result ListSure }
     ensures reach { IfOk result ListReaching }
 {
     let mut selected = no_columns(alloc, true);
@@ -349,6 +362,7 @@ fn all_columns(alloc: Global, items: &[FromItem]) -> Result<SelectedList, BindFa
 fn push_items(selected: &mut SelectedList, items: &[FromItem]) -> Result<(), BindFault>
     ensures well_formed { (kinds : TableKinds) (parameters : List AnyKind) (tables : List AnyPlace) (levels : Levels) (calls : List SetFunctionCall) → AllZip (IsItemOver kinds) tables items.now → AreColumns kinds parameters (level_over tables true ∷ levels) calls selected.old.exprs selected.old.columns → IfOk result (λ u. AreColumns kinds parameters (level_over tables true ∷ levels) calls selected.new.exprs selected.new.columns) }
     ensures star { selected.new.is_star ≡ selected.old.is_star }
+    ensures sure { IfOk result (λ u. ListSure selected.old → ListSure selected.new) }
     ensures reach { IfOk result (λ u. ListReaching selected.old → ListReaching selected.new) }
 {
     for (number, item) in items.iter().enumerate() {
@@ -361,6 +375,7 @@ fn push_items(selected: &mut SelectedList, items: &[FromItem]) -> Result<(), Bin
 fn push_table(selected: &mut SelectedList, number: usize, item: &FromItem) -> Result<(), BindFault>
     ensures well_formed { (kinds : TableKinds) (parameters : List AnyKind) (tables : List AnyPlace) (levels : Levels) (calls : List SetFunctionCall) → (t : AnyPlace) → slice_get tables number ≡ Some t → IsItemOver kinds t item.now → AreColumns kinds parameters (level_over tables true ∷ levels) calls selected.old.exprs selected.old.columns → IfOk result (λ u. AreColumns kinds parameters (level_over tables true ∷ levels) calls selected.new.exprs selected.new.columns) }
     ensures star { selected.new.is_star ≡ selected.old.is_star }
+    ensures sure { IfOk result (λ u. ListSure selected.old → ListSure selected.new) }
     ensures reach { IfOk result (λ u. ListReaching selected.old → ListReaching selected.new) }
 {
     for column in item.columns.as_slice() {
@@ -406,8 +421,10 @@ struct Parts {
 
 /// The query specification of these parts.
 pub fn make_specification(parts: Selected) -> SubqueryResult
-    ensures well_formed { (kinds : TableKinds) (parameters : List AnyKind) (levels : Levels) → AreSelected kinds parameters levels parts → IfOk result (λ found. IsSelect kinds parameters levels found.part) }
+    ensures well_formed { (kinds : TableKinds) (parameters : List AnyKind) (levels : Levels) → AreSelected kinds parameters levels parts → IfOk result (λ found. IsSpecification kinds parameters levels found.part) }
+    ensures noted { AreNotedIn parts → IfOk result SelectNoted }
     ensures reach { AreReaching parts → IfOk result (Reaching SelectReaches) }
+    ensures numbering { (a b c : ℕ) → IfOk parts.condition (Numbering ClauseWith a b) → IfOk parts.having (Numbering ClauseWith b c) → IfOk result (Numbering SelectWith a c) }
 {
     let Selected {
         is_distinct,
@@ -477,14 +494,18 @@ impl Parts {
     }
 
     /// Whether evaluating the query may answer a status.
-    fn can_fail(&self) -> bool {
+    fn can_fail(&self) -> bool
+        ensures { result ≡ (self.now.findings.can_fail || self.now.functions.can_fail) }
+    {
         self.findings.can_fail || self.functions.can_fail
     }
 }
 
 fn whole_specification(parts: Parts) -> SubqueryResult
-    ensures well_formed { (kinds : TableKinds) (parameters : List AnyKind) (levels : Levels) → AreParts kinds parameters levels parts → IfOk result (λ found. IsSelect kinds parameters levels found.part) }
+    ensures well_formed { (kinds : TableKinds) (parameters : List AnyKind) (levels : Levels) → AreParts kinds parameters levels parts → IfOk result (λ found. IsSpecification kinds parameters levels found.part) }
+    ensures noted { PartsNoted parts → IfOk result SelectNoted }
     ensures reach { PartsReach parts → IfOk result (Reaching SelectReaches) }
+    ensures numbering { (a b c : ℕ) → Numbering ClauseWith a b parts.condition → Numbering ClauseWith b c parts.having → IfOk result (Numbering SelectWith a c) }
 {
     let is_grouped = match parts.grouped() {
         Ok(is_grouped) => is_grouped,

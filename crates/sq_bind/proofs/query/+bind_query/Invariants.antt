@@ -1,7 +1,8 @@
 use Rattle.std.specs.Prelude.{IfOk}
 use Rattle.sq_bound.specs.WellFormed.{kinds_of_parameters}
+use Rattle.sq_bind.specs.Numbering.{QueryNumbering}
 use Rattle.sq_bind.specs.WellFormed.{IsJoined}
 use Rattle.sq_bind.proofs.query.+bind_query.Given as goal
 
 abbrev pub invariant-bind_query-loop-union : goal.invariant-bind_query-loop-union
-invariant-bind_query-loop-union g l = IfOk l.joined (IsJoined (g.N.Names.column_kinds l.names) (kinds_of_parameters l.environment.parameters.now))
+invariant-bind_query-loop-union g l = IfOk l.joined (IsJoined (g.N.Names.column_kinds l.names) (kinds_of_parameters l.environment.parameters.now)) × IfOk l.joined (QueryNumbering l.fn.numbers l.numbers)

@@ -1,10 +1,17 @@
+use Rattle.sq_bind.proofs.Numbering.{first_numbering}
+use Rattle.sq_bind.specs.Numbering.{TermNumbering}
 use Rattle.std.proofs.Common.{ap, ◌∙◌}
 use Rattle.sq_bound.specs.declared.query.BoundQuery.{out-roll-BoundQuery}
 use Rattle.sq_bind.specs.WellFormed.{IsTerm}
 use Rattle.sq_bind.proofs.Joins.{of_first, on_value}
 use Rattle.sq_bind.proofs.query.started.Goals as goal
 
-pub returns : goal.returns
-returns c tables parameters h =
+pub returns-clause-well_formed : goal.returns-clause-well_formed
+returns-clause-well_formed c tables parameters h =
     of_first tables parameters _ c.in_ok-term.field-0 (ap (λ o. o.first) (out-roll-BoundQuery _)) (ap (λ o. o.rest) (out-roll-BoundQuery _) ∙ c.new.ensures) (ap (λ o. o.columns) (out-roll-BoundQuery _))
     (on_value (IsTerm tables parameters) c.args.term c.in_ok-term.field-0 c.in_ok-term.was h)
+
+pub returns-clause-numbering : goal.returns-clause-numbering
+returns-clause-numbering c = λ a b h.
+    first_numbering a b _ c.in_ok-term.field-0 (ap (λ o. o.first) (out-roll-BoundQuery _)) (ap (λ o. o.rest) (out-roll-BoundQuery _) ∙ c.new.ensures)
+    (on_value (TermNumbering a b) c.args.term c.in_ok-term.field-0 c.in_ok-term.was h)

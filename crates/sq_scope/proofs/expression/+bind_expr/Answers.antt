@@ -7,6 +7,7 @@ use Rattle.sq_meaning.specs.Syntax.{bracketed, column, count_rows, literal, para
 use Rattle.sq_tree.specs.declared.expr.Primary.TheVariants as spelled
 use Rattle.sq_value.specs.declared.value.Value.TheVariants as value
 use Rattle.sq_scope.specs.Expression.{IsBound}
+use Rattle.sq_scope.specs.Reach.{no_further, outward}
 use Rattle.sq_scope.specs.Scope.{scopes_in}
 use Rattle.sq_scope.specs.WellFormed.{IsTyped}
 use Rattle.sq_scope.proofs.Bindings as bindings
@@ -55,9 +56,9 @@ expr_value-loop-added-preserved t c =
       quiet.noted_anyway c.operation-bound.result,
       reads.operation_read c.loop-added.findings.items c.term_value-term.new.findings.items c.sum_operator.result c.loop-added.bound c.term_value-term.result c.operation-bound.result c.term_value-term.ensures.further c.loop-added.invariant.6 c.term_value-term.ensures.reads c.operation-bound.ensures,
       omega (arith, c.loop-added.invariant.7, c.term_value-term.ensures.further),
-      reaches.operation_reaches c.loop-added.findings.reach c.term_value-term.new.findings.reach c.sum_operator.result c.loop-added.bound c.term_value-term.result c.operation-bound.result
+      reaches.operation_reaches (outward c.loop-added.findings) (outward c.term_value-term.new.findings) c.sum_operator.result c.loop-added.bound c.term_value-term.result c.operation-bound.result
           c.term_value-term.ensures.outward c.loop-added.invariant.8 c.term_value-term.ensures.reach c.operation-bound.ensures,
-      omega (arith, c.loop-added.invariant.9, c.term_value-term.ensures.outward),
+      reaches.then_further c.loop-added.invariant.9 c.term_value-term.ensures.outward,
       (λ own. c.term_value-term.ensures.own (c.loop-added.invariant.10 own)),
     )
 
@@ -112,9 +113,9 @@ term_value-loop-scaled-preserved t c =
       quiet.noted_anyway c.operation-bound.result,
       reads.operation_read c.loop-scaled.findings.items c.factor_value-factor.new.findings.items c.product_operator.result c.loop-scaled.bound c.factor_value-factor.result c.operation-bound.result c.factor_value-factor.ensures.further c.loop-scaled.invariant.6 c.factor_value-factor.ensures.reads c.operation-bound.ensures,
       omega (arith, c.loop-scaled.invariant.7, c.factor_value-factor.ensures.further),
-      reaches.operation_reaches c.loop-scaled.findings.reach c.factor_value-factor.new.findings.reach c.product_operator.result c.loop-scaled.bound c.factor_value-factor.result c.operation-bound.result
+      reaches.operation_reaches (outward c.loop-scaled.findings) (outward c.factor_value-factor.new.findings) c.product_operator.result c.loop-scaled.bound c.factor_value-factor.result c.operation-bound.result
           c.factor_value-factor.ensures.outward c.loop-scaled.invariant.8 c.factor_value-factor.ensures.reach c.operation-bound.ensures,
-      omega (arith, c.loop-scaled.invariant.9, c.factor_value-factor.ensures.outward),
+      reaches.then_further c.loop-scaled.invariant.9 c.factor_value-factor.ensures.outward,
       (λ own. c.factor_value-factor.ensures.own (c.loop-scaled.invariant.10 own)),
     )
 
@@ -382,7 +383,7 @@ pub term_value-returns-clause-own : goal.term_value-returns-clause-own
 term_value-returns-clause-own t c = c.loop-scaled.invariant.10
 
 pub primary_value-returns-in-CountRows-clause-reach : goal.primary_value-returns-in-CountRows-clause-reach
-primary_value-returns-in-CountRows-clause-reach t c = reaches.reach_more_if 0 c.args.findings.now.reach c.count_rows.result (omega arith) c.count_rows.ensures.reach
+primary_value-returns-in-CountRows-clause-reach t c = reaches.reach_more_if no_further (outward c.args.findings.now) c.count_rows.result (reaches.from_nothing (outward c.args.findings.now)) c.count_rows.ensures.reach
 
 pub primary_value-returns-in-SetFunction-clause-reach : goal.primary_value-returns-in-SetFunction-clause-reach
-primary_value-returns-in-SetFunction-clause-reach t c = reaches.reach_more_if 0 c.args.findings.now.reach c.set_function.result (omega arith) c.set_function.ensures.reach
+primary_value-returns-in-SetFunction-clause-reach t c = reaches.reach_more_if no_further (outward c.args.findings.now) c.set_function.result (reaches.from_nothing (outward c.args.findings.now)) c.set_function.ensures.reach

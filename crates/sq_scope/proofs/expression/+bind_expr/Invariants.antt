@@ -1,7 +1,7 @@
 use Rattle.std.proofs.Common.{◌≤◌, take}
 use Rattle.std.specs.Prelude.{IfOk}
-use Rattle.sq_scope.specs.Expression.{AddsExpr, Grows, IsBound, IsQuietUnless, IsReadTyped}
-use Rattle.sq_scope.specs.Reach.{AreOwnCalls, MayReach}
+use Rattle.sq_scope.specs.Expression.{AddsExpr, Grows, IsBound, IsSureUnless, IsReadTyped}
+use Rattle.sq_scope.specs.Reach.{AreNotedFunctions, MayReach, NoFurther, outward}
 use Rattle.sq_scope.specs.Scope.{scopes_in}
 use Rattle.sq_scope.specs.WellFormed.{Finds, IsTyped}
 use Rattle.sq_scope.proofs.Bindings.{product_so_far, sum_so_far}
@@ -14,12 +14,12 @@ invariant-expr_value-loop-added l =
     × Grows l.fn.functions l.functions
     × Finds l.fn.findings l.findings
     × IfOk l.bound (AddsExpr l.fn.functions.calls l.functions.calls)
-    × IfOk l.bound (IsQuietUnless l.findings.can_fail)
+    × IfOk l.bound (IsSureUnless l.findings.can_fail)
     × IfOk l.bound (IsReadTyped l.findings.items)
     × (l.fn.findings.items ≤ l.findings.items)
-    × IfOk l.bound (λ typed. MayReach l.findings.reach typed.expr)
-    × (l.fn.findings.reach ≤ l.findings.reach)
-    × (AreOwnCalls l.fn.functions.calls → AreOwnCalls l.functions.calls)
+    × IfOk l.bound (λ typed. MayReach (outward l.findings) typed.expr)
+    × NoFurther (outward l.fn.findings) (outward l.findings)
+    × (AreNotedFunctions l.fn.functions → AreNotedFunctions l.functions)
 
 abbrev pub invariant-term_value-loop-scaled : goal.invariant-term_value-loop-scaled
 invariant-term_value-loop-scaled l =
@@ -28,9 +28,9 @@ invariant-term_value-loop-scaled l =
     × Grows l.fn.functions l.functions
     × Finds l.fn.findings l.findings
     × IfOk l.bound (AddsExpr l.fn.functions.calls l.functions.calls)
-    × IfOk l.bound (IsQuietUnless l.findings.can_fail)
+    × IfOk l.bound (IsSureUnless l.findings.can_fail)
     × IfOk l.bound (IsReadTyped l.findings.items)
     × (l.fn.findings.items ≤ l.findings.items)
-    × IfOk l.bound (λ typed. MayReach l.findings.reach typed.expr)
-    × (l.fn.findings.reach ≤ l.findings.reach)
-    × (AreOwnCalls l.fn.functions.calls → AreOwnCalls l.functions.calls)
+    × IfOk l.bound (λ typed. MayReach (outward l.findings) typed.expr)
+    × NoFurther (outward l.fn.findings) (outward l.findings)
+    × (AreNotedFunctions l.fn.functions → AreNotedFunctions l.functions)

@@ -6,6 +6,7 @@ use Rattle.sq_scope.specs.WellFormed.{IsRead, groupings_in}
 use Rattle.sq_scope.proofs.Levels.{read_grouped, read_nearest}
 use Rattle.sq_bound.specs.declared.expression.BoundExpr.TheVariants as bound
 use Rattle.sq_scope.proofs.Reaches.{column_reaches}
+use Rattle.sq_scope.specs.Reach.{outward}
 use Rattle.sq_scope.proofs.expression.column_value.Goals as goal
 use Rattle.sq_scope.proofs.expression.column_value.Goals.{else-place-gt0-via-then-place-gt0+else-not-found, else-place-gt0-via-else-place-gt0}
 
@@ -37,5 +38,11 @@ returns-clause-reads c =
 pub returns-clause-reach : goal.returns-clause-reach
 returns-clause-reach c =
     let place = c.in_ok-found.found.place in
-    let reach = c.and.result.reach in
-    column_reaches reach place (bound.Column place) (subst (λ (d : ℕ). d ≤ reach) c.column_findings.ensures.reach c.and.ensures.reach.1) (λ functions. expr_of-Column functions place)
+    let all = outward c.and.result in
+    let small = c.in_ok-found.ensures.numbered in
+    let further = c.and.ensures.reach.1 in
+    column_reaches all place (bound.Column place) (subst (λ (d : ℕ). d ≤ all.reach) c.column_findings.ensures.reach further.reach)
+    (λ near. let here = c.column_findings.ensures.outer small near in omega (arith, further.items, here)) (λ far. small) (λ functions. expr_of-Column functions place)
+
+pub returns-clause-outward : goal.returns-clause-outward
+returns-clause-outward c = c.and.ensures.reach.0

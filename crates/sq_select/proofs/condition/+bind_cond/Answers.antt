@@ -1,8 +1,12 @@
+use Rattle.sq_bound.proofs.Nested.{conj_more, test_more}
+use Rattle.sq_bound.proofs.Numbered.{none_numbered}
+use Rattle.sq_bound.specs.Numbered.{ClauseWith, ConjWith, TestWith}
+use Rattle.sq_select.proofs.Numbering.{next_numbering, none_numbering}
 use Rattle.sq_select.specs.Reach.{ConjReaches, TestReaches}
-use Rattle.sq_scope.specs.Reach.{AreOwnCalls}
+use Rattle.sq_select.proofs.Notes.{cond_with, cond_without, select_with, select_without}
 use Rattle.sq_select.proofs.Reaches as reaches
 use Rattle.sq_scope.specs.declared.scope.FromItem.{FromItem}
-use Rattle.std.proofs.Common.{◌≡◌, true, false, List, refl, sym, subst, ◌∙◌}
+use Rattle.std.proofs.Common.{◌≡◌, true, false, List, None, refl, sym, subst, ◌∙◌}
 use Rattle.std.proofs.lemmas.Result.{IfOk-weaker}
 use Rattle.std.specs.List.{AllZip}
 use Rattle.std.specs.Prelude.{IfOk}
@@ -10,14 +14,13 @@ use Rattle.sq_bound.specs.Condition.{conj_of, test_of}
 use Rattle.sq_bound.specs.WellFormed.{kinds_of_parameters}
 use Rattle.sq_scope.proofs.Bindings.{grows_further}
 use Rattle.sq_scope.specs.WellFormed.{IsItemOver, allows_none, is_no_column}
-use Rattle.sq_select.proofs.Columns.{list_at_more, select_in, tables_there}
+use Rattle.sq_select.proofs.Columns.{list_at_more, specification_in, tables_there}
 use Rattle.sq_select.proofs.Contexts.{each_everywhere, gathered_all, gathered_none, typed_in, typed_more}
 use Rattle.sq_select.proofs.InOrder.{all_added, gathered_next, gathered_nothing, under}
 use Rattle.sq_select.proofs.ItemsRead.{conj_more_items, next_within, none_within, test_more_items}
 use Rattle.sq_select.proofs.Quiet.{next_noted, none_noted}
 use Rattle.sq_select.proofs.Trees.{part_more}
-use Rattle.sq_bound.specs.Noted.{AreNotedTests, IsNotedTest}
-use Rattle.sq_select.specs.Noted.{conj_quiet, conj_reads, test_quiet, test_reads}
+use Rattle.sq_select.specs.Noted.{conj_notes, conj_sure, conj_reads, test_notes, test_sure, test_reads}
 use Rattle.sq_select.specs.InOrder.{conj_functions, test_functions}
 use Rattle.sq_select.specs.WellFormed.{IsConjAt, IsConjIn, IsHavingAt, IsListAt, IsTestAt, IsTestIn, here, parameters_in}
 use Rattle.sq_select.proofs.condition.+bind_cond.Goals as goal
@@ -30,11 +33,12 @@ bind_cond-loop-conj-init g t c =
       c.bind_conj-first.ensures.grows,
       (let before = c.args.functions.now.calls in
           gathered_next conj_functions before before c.bind_conj-first.new.functions.calls c.none.result c.bind_conj-first.result c.gathered-terms.result c.gathered-terms.ensures.gathers (gathered_nothing conj_functions before c.none.result c.none.ensures) c.bind_conj-first.ensures.in_order),
-      next_noted conj_quiet AreNotedTests c.none.result c.bind_conj-first.result c.gathered-terms.result c.gathered-terms.ensures.gathers (none_noted conj_quiet AreNotedTests c.none.result c.none.ensures) c.bind_conj-first.ensures.quiet,
+      next_noted conj_sure conj_notes c.none.result c.bind_conj-first.result c.gathered-terms.result c.gathered-terms.ensures.gathers (none_noted conj_sure conj_notes c.none.result c.none.ensures) c.bind_conj-first.ensures.quiet,
       next_within conj_reads conj_more_items c.none.result c.bind_conj-first.result c.gathered-terms.result c.gathered-terms.ensures.gathers (none_within conj_reads c.none.result c.none.ensures) c.bind_conj-first.ensures.reads,
       reaches.gathered_reach ConjReaches reaches.conj_grows c.none.result c.bind_conj-first.result c.gathered-terms.result c.gathered-terms.ensures.gathers c.gathered-terms.ensures.reach
           (reaches.none_reach ConjReaches c.none.result c.none.ensures) c.bind_conj-first.ensures.reach,
       c.bind_conj-first.ensures.own,
+      next_numbering ConjWith conj_more c.args.numbers.now c.args.numbers.now c.bind_conj-first.new.numbers c.none.result c.bind_conj-first.result c.gathered-terms.result c.gathered-terms.ensures.gathers (none_numbering ConjWith c.args.numbers.now c.none.result c.none.ensures) c.bind_conj-first.ensures.numbering,
     )
 
 pub bind_cond-loop-conj-preserved : goal.bind_cond-loop-conj-preserved
@@ -50,16 +54,22 @@ bind_cond-loop-conj-preserved g t c =
           (subst (λ a. IfOk c.bind_conj-term.result (IsConjIn kinds environment a calls)) c.loop-conj.invariant.1.1 c.bind_conj-term.ensures.well_formed),
       grows_further c.args.functions.now before c.bind_conj-term.new.functions c.loop-conj.invariant.1 c.bind_conj-term.ensures.grows,
       gathered_next conj_functions c.args.functions.now.calls before.calls calls c.loop-conj.terms c.bind_conj-term.result c.gathered-terms-in-loop-conj.result c.gathered-terms-in-loop-conj.ensures.gathers c.loop-conj.invariant.2 c.bind_conj-term.ensures.in_order,
-      next_noted conj_quiet AreNotedTests c.loop-conj.terms c.bind_conj-term.result c.gathered-terms-in-loop-conj.result c.gathered-terms-in-loop-conj.ensures.gathers c.loop-conj.invariant.3 c.bind_conj-term.ensures.quiet,
+      next_noted conj_sure conj_notes c.loop-conj.terms c.bind_conj-term.result c.gathered-terms-in-loop-conj.result c.gathered-terms-in-loop-conj.ensures.gathers c.loop-conj.invariant.3 c.bind_conj-term.ensures.quiet,
       next_within conj_reads conj_more_items c.loop-conj.terms c.bind_conj-term.result c.gathered-terms-in-loop-conj.result c.gathered-terms-in-loop-conj.ensures.gathers c.loop-conj.invariant.4 c.bind_conj-term.ensures.reads,
       reaches.gathered_reach ConjReaches reaches.conj_grows c.loop-conj.terms c.bind_conj-term.result c.gathered-terms-in-loop-conj.result c.gathered-terms-in-loop-conj.ensures.gathers c.gathered-terms-in-loop-conj.ensures.reach
           c.loop-conj.invariant.5 c.bind_conj-term.ensures.reach,
       (λ own. c.bind_conj-term.ensures.own (c.loop-conj.invariant.6 own)),
+      next_numbering ConjWith conj_more c.args.numbers.now c.loop-conj.numbers c.bind_conj-term.new.numbers c.loop-conj.terms c.bind_conj-term.result c.gathered-terms-in-loop-conj.result c.gathered-terms-in-loop-conj.ensures.gathers c.loop-conj.invariant.7 c.bind_conj-term.ensures.numbering,
     )
 
 pub bind_cond-returns-clause-well_formed : goal.bind_cond-returns-clause-well_formed
 bind_cond-returns-clause-well_formed g t c =
-    c.whole_cond.ensures.well_formed (here (g.N.Names.column_kinds c.args.names.now) c.args.environment.now c.args.functions.now.allowed) c.loop-conj.functions.calls c.loop-conj.invariant.0
+    let kinds = g.N.Names.column_kinds c.args.names.now in
+    let environment = c.args.environment.now in
+    let allowed = c.args.functions.now.allowed in
+    let calls = c.loop-conj.functions.calls in
+    cond_with kinds environment allowed calls c.args.numbers.now c.loop-conj.numbers c.whole_cond.result (c.whole_cond.ensures.well_formed (here kinds environment allowed) calls c.loop-conj.invariant.0) (c.whole_cond.ensures.quiet c.loop-conj.invariant.3)
+    (c.whole_cond.ensures.numbering c.args.numbers.now c.loop-conj.numbers c.loop-conj.invariant.7)
 
 pub bind_cond-returns-clause-grows : goal.bind_cond-returns-clause-grows
 bind_cond-returns-clause-grows g t c = c.loop-conj.invariant.1
@@ -72,11 +82,12 @@ bind_conj-loop-test-init g t c =
       c.bind_test-first.ensures.grows,
       (let before = c.args.functions.now.calls in
           gathered_next test_functions before before c.bind_test-first.new.functions.calls c.none.result c.bind_test-first.result c.gathered-tests.result c.gathered-tests.ensures.gathers (gathered_nothing test_functions before c.none.result c.none.ensures) c.bind_test-first.ensures.in_order),
-      next_noted test_quiet IsNotedTest c.none.result c.bind_test-first.result c.gathered-tests.result c.gathered-tests.ensures.gathers (none_noted test_quiet IsNotedTest c.none.result c.none.ensures) c.bind_test-first.ensures.quiet,
+      next_noted test_sure test_notes c.none.result c.bind_test-first.result c.gathered-tests.result c.gathered-tests.ensures.gathers (none_noted test_sure test_notes c.none.result c.none.ensures) c.bind_test-first.ensures.quiet,
       next_within test_reads test_more_items c.none.result c.bind_test-first.result c.gathered-tests.result c.gathered-tests.ensures.gathers (none_within test_reads c.none.result c.none.ensures) c.bind_test-first.ensures.reads,
       reaches.gathered_reach TestReaches reaches.test_grows c.none.result c.bind_test-first.result c.gathered-tests.result c.gathered-tests.ensures.gathers c.gathered-tests.ensures.reach
           (reaches.none_reach TestReaches c.none.result c.none.ensures) c.bind_test-first.ensures.reach,
       c.bind_test-first.ensures.own,
+      next_numbering TestWith test_more c.args.numbers.now c.args.numbers.now c.bind_test-first.new.numbers c.none.result c.bind_test-first.result c.gathered-tests.result c.gathered-tests.ensures.gathers (none_numbering TestWith c.args.numbers.now c.none.result c.none.ensures) c.bind_test-first.ensures.numbering,
     )
 
 pub bind_conj-loop-test-preserved : goal.bind_conj-loop-test-preserved
@@ -92,11 +103,12 @@ bind_conj-loop-test-preserved g t c =
           (subst (λ a. IfOk c.bind_test-factor.result (IsTestIn kinds environment a calls)) c.loop-test.invariant.1.1 c.bind_test-factor.ensures.well_formed),
       grows_further c.args.functions.now before c.bind_test-factor.new.functions c.loop-test.invariant.1 c.bind_test-factor.ensures.grows,
       gathered_next test_functions c.args.functions.now.calls before.calls calls c.loop-test.tests c.bind_test-factor.result c.gathered-tests-in-loop-test.result c.gathered-tests-in-loop-test.ensures.gathers c.loop-test.invariant.2 c.bind_test-factor.ensures.in_order,
-      next_noted test_quiet IsNotedTest c.loop-test.tests c.bind_test-factor.result c.gathered-tests-in-loop-test.result c.gathered-tests-in-loop-test.ensures.gathers c.loop-test.invariant.3 c.bind_test-factor.ensures.quiet,
+      next_noted test_sure test_notes c.loop-test.tests c.bind_test-factor.result c.gathered-tests-in-loop-test.result c.gathered-tests-in-loop-test.ensures.gathers c.loop-test.invariant.3 c.bind_test-factor.ensures.quiet,
       next_within test_reads test_more_items c.loop-test.tests c.bind_test-factor.result c.gathered-tests-in-loop-test.result c.gathered-tests-in-loop-test.ensures.gathers c.loop-test.invariant.4 c.bind_test-factor.ensures.reads,
       reaches.gathered_reach TestReaches reaches.test_grows c.loop-test.tests c.bind_test-factor.result c.gathered-tests-in-loop-test.result c.gathered-tests-in-loop-test.ensures.gathers c.gathered-tests-in-loop-test.ensures.reach
           c.loop-test.invariant.5 c.bind_test-factor.ensures.reach,
       (λ own. c.bind_test-factor.ensures.own (c.loop-test.invariant.6 own)),
+      next_numbering TestWith test_more c.args.numbers.now c.loop-test.numbers c.bind_test-factor.new.numbers c.loop-test.tests c.bind_test-factor.result c.gathered-tests-in-loop-test.result c.gathered-tests-in-loop-test.ensures.gathers c.loop-test.invariant.7 c.bind_test-factor.ensures.numbering,
     )
 
 pub bind_conj-returns-clause-well_formed : goal.bind_conj-returns-clause-well_formed
@@ -115,7 +127,7 @@ bind_select-returns-clause-well_formed g t c =
     let over : (items : List FromItem) → items ≡ clause.items → AllZip (IsItemOver kinds) clause.tables items = λ items same. subst (AllZip (IsItemOver kinds) clause.tables) (sym same) c.in_ok-items.ensures.over in
     let groups = c.group_by-groups.result in
     let calls = c.bind_having-having.new.functions.calls in
-    select_in kinds environment c.make_specification.result (λ levels are. c.make_specification.ensures.well_formed kinds parameters levels (record {
+    select_with kinds environment c.args.numbers.now c.bind_having-having.new.numbers c.make_specification.result (specification_in kinds environment c.make_specification.result (λ levels are. c.make_specification.ensures.well_formed kinds parameters levels (record {
       tables = tables_there kinds clause.tables clause.items c.in_ok-items.ensures.over;
       condition = c.bind_where-condition.ensures.well_formed clause.tables levels (over c.as_slice.result.now c.as_slice.ensures) are;
       groups = c.group_by-groups.ensures.well_formed kinds clause.tables levels (over c.as_slice-2.result.now c.as_slice-2.ensures) are;
@@ -130,11 +142,18 @@ bind_select-returns-clause-well_formed g t c =
           (λ found e. subst (λ b. IfOk c.bind_having-having.result (IsHavingAt kinds parameters clause.tables levels b calls)) e
           (c.bind_having-having.ensures.well_formed clause.tables levels (over c.as_slice-4.result.now c.as_slice-4.ensures) are))
           c.grouping_of-2.ensures;
-      noted = c.bind_where-condition.ensures.noted;
+    })))
+    (c.make_specification.ensures.noted (record {
+      tables = c.in_ok-items.ensures.sure;
+      condition = c.bind_where-condition.ensures.noted;
+      list = c.select_list-selected.ensures.sure;
+      having = c.bind_having-having.ensures.noted;
+      functions = c.bind_having-having.ensures.own (c.select_list-selected.ensures.own c.allowed-functions.ensures.noted);
       by_columns = under (c.is_some.result ≡ true) (λ found. is_no_column found.part ≡ false) groups (λ h. c.group_by-groups.ensures.some (sym c.is_some.ensures ∙ h));
-      in_order = all_added c.allowed-functions.result.calls c.select_list-selected.new.functions.calls calls c.select_list-selected.result c.bind_having-having.result c.allowed-functions.ensures
+      in_order = all_added c.allowed-functions.result.calls c.select_list-selected.new.functions.calls calls c.select_list-selected.result c.bind_having-having.result c.allowed-functions.ensures.calls
           c.select_list-selected.ensures.in_order c.bind_having-having.ensures.in_order;
     }))
+    (c.make_specification.ensures.numbering c.args.numbers.now c.bind_where-condition.new.numbers c.bind_having-having.new.numbers c.bind_where-condition.ensures.numbering c.bind_having-having.ensures.numbering)
 
 pub bind_tail-returns-in-Compare-clause-well_formed : goal.bind_tail-returns-in-Compare-clause-well_formed
 bind_tail-returns-in-Compare-clause-well_formed g t c =
@@ -222,5 +241,54 @@ bind_select-returns-clause-reach g t c =
       groups = c.group_by-groups.ensures.reach;
       list = c.select_list-selected.ensures.reach;
       having = c.bind_having-having.ensures.reach;
-      own = c.bind_having-having.ensures.own (c.select_list-selected.ensures.own (subst AreOwnCalls (sym c.allowed-functions.ensures) tt));
+      own = (c.bind_having-having.ensures.own (c.select_list-selected.ensures.own c.allowed-functions.ensures.noted)).own;
     })
+
+-- ---- notes, at any depth
+
+pub bind_select-returns-clause-noted : goal.bind_select-returns-clause-noted
+bind_select-returns-clause-noted g t c =
+    let groups = c.group_by-groups.result in
+    let calls = c.bind_having-having.new.functions.calls in
+    c.make_specification.ensures.noted (record {
+      tables = c.in_ok-items.ensures.sure;
+      condition = c.bind_where-condition.ensures.noted;
+      list = c.select_list-selected.ensures.sure;
+      having = c.bind_having-having.ensures.noted;
+      functions = c.bind_having-having.ensures.own (c.select_list-selected.ensures.own c.allowed-functions.ensures.noted);
+      by_columns = under (c.is_some.result ≡ true) (λ found. is_no_column found.part ≡ false) groups (λ h. c.group_by-groups.ensures.some (sym c.is_some.ensures ∙ h));
+      in_order = all_added c.allowed-functions.result.calls c.select_list-selected.new.functions.calls calls c.select_list-selected.result c.bind_having-having.result c.allowed-functions.ensures.calls
+          c.select_list-selected.ensures.in_order c.bind_having-having.ensures.in_order;
+    })
+
+pub bind_body-returns-in-Bracketed-clause-well_formed : goal.bind_body-returns-in-Bracketed-clause-well_formed
+bind_body-returns-in-Bracketed-clause-well_formed g t c =
+    let kinds = g.N.Names.column_kinds c.args.names.now in
+    let environment = c.args.environment.now in
+    let allowed = c.args.functions.now.allowed in
+    let calls = c.bind_cond.new.functions.calls in
+    c.bracketed.ensures.well_formed (here kinds environment allowed) calls (cond_without kinds environment allowed calls c.bind_cond.result c.bind_cond.ensures.well_formed)
+
+pub bind_subquery-returns-clause-well_formed : goal.bind_subquery-returns-clause-well_formed
+bind_subquery-returns-clause-well_formed g t c =
+    let kinds = g.N.Names.column_kinds c.args.names.now in
+    let environment = c.args.environment.now in
+    c.numbered.ensures.well_formed kinds environment (select_without kinds environment c.bind_select-query.result c.bind_select-query.ensures.well_formed)
+
+-- ---- numbers of subqueries
+
+pub bind_cond-returns-clause-numbering : goal.bind_cond-returns-clause-numbering
+bind_cond-returns-clause-numbering g t c = c.whole_cond.ensures.numbering c.args.numbers.now c.loop-conj.numbers c.loop-conj.invariant.7
+
+pub bind_conj-returns-clause-numbering : goal.bind_conj-returns-clause-numbering
+bind_conj-returns-clause-numbering g t c = c.whole_conj.ensures.numbering c.args.numbers.now c.loop-test.numbers c.loop-test.invariant.7
+
+pub bind_select-returns-clause-numbering : goal.bind_select-returns-clause-numbering
+bind_select-returns-clause-numbering g t c =
+    c.make_specification.ensures.numbering c.args.numbers.now c.bind_where-condition.new.numbers c.bind_having-having.new.numbers c.bind_where-condition.ensures.numbering c.bind_having-having.ensures.numbering
+
+pub bind_subquery-returns-clause-numbering : goal.bind_subquery-returns-clause-numbering
+bind_subquery-returns-clause-numbering g t c = c.numbered.ensures.numbering c.args.numbers.now c.bind_select-query.ensures.numbering c.bind_select-query.ensures.reach
+
+pub bind_optional-returns-in-None-clause-numbering : goal.bind_optional-returns-in-None-clause-numbering
+bind_optional-returns-in-None-clause-numbering g t c = none_numbered ClauseWith None (λ P. tt) c.args.numbers.now

@@ -1,7 +1,8 @@
-use Rattle.sq_bound.specs.Noted.{AreNotedTests, IsNotedTest}
-use Rattle.sq_select.specs.Noted.{EachReads, Every, SureAndNoted, WithinItems, conj_quiet, conj_reads, test_quiet, test_reads}
+use Rattle.sq_select.specs.Noted.{EachReads, Every, SureAndNoted, WithinItems, conj_notes, conj_reads, conj_sure, test_notes, test_reads, test_sure}
+use Rattle.sq_bound.specs.Numbered.{ConjWith, EachWith, TestWith}
+use Rattle.sq_select.specs.Numbering.{Numbering}
 use Rattle.sq_select.specs.Reach.{EachReaches, Reaching, ConjReaches, TestReaches}
-use Rattle.sq_scope.specs.Reach.{AreOwnCalls}
+use Rattle.sq_scope.specs.Reach.{AreNotedFunctions}
 use Rattle.std.specs.Prelude.{IfOk}
 use Rattle.sq_scope.specs.Expression.{Grows}
 use Rattle.sq_select.specs.InOrder.{Adding, conj_functions, in_turn, test_functions}
@@ -11,13 +12,15 @@ use Rattle.sq_select.proofs.condition.+bind_cond.Given as goal
 abbrev pub invariant-bind_cond-loop-conj : goal.invariant-bind_cond-loop-conj
 invariant-bind_cond-loop-conj g l =
     (let x = here (g.N.Names.column_kinds l.names) l.environment l.fn.functions.allowed in IfOk l.terms (Everywhere x (Each (IsConjAt x l.functions.calls)))) × Grows l.fn.functions l.functions × IfOk l.terms (Adding (in_turn conj_functions) l.fn.functions.calls l.functions.calls)
-    × IfOk l.terms (SureAndNoted (Every conj_quiet) (Every AreNotedTests))
+    × IfOk l.terms (SureAndNoted (Every conj_sure) (Every conj_notes))
     × IfOk l.terms (WithinItems (EachReads conj_reads))
-    × IfOk l.terms (Reaching (EachReaches ConjReaches)) × (AreOwnCalls l.fn.functions.calls → AreOwnCalls l.functions.calls)
+    × IfOk l.terms (Reaching (EachReaches ConjReaches)) × (AreNotedFunctions l.fn.functions → AreNotedFunctions l.functions)
+    × IfOk l.terms (Numbering (EachWith ConjWith) l.fn.numbers l.numbers)
 
 abbrev pub invariant-bind_conj-loop-test : goal.invariant-bind_conj-loop-test
 invariant-bind_conj-loop-test g l =
     (let x = here (g.N.Names.column_kinds l.names) l.environment l.fn.functions.allowed in IfOk l.tests (Everywhere x (Each (IsTestAt x l.functions.calls)))) × Grows l.fn.functions l.functions × IfOk l.tests (Adding (in_turn test_functions) l.fn.functions.calls l.functions.calls)
-    × IfOk l.tests (SureAndNoted (Every test_quiet) (Every IsNotedTest))
+    × IfOk l.tests (SureAndNoted (Every test_sure) (Every test_notes))
     × IfOk l.tests (WithinItems (EachReads test_reads))
-    × IfOk l.tests (Reaching (EachReaches TestReaches)) × (AreOwnCalls l.fn.functions.calls → AreOwnCalls l.functions.calls)
+    × IfOk l.tests (Reaching (EachReaches TestReaches)) × (AreNotedFunctions l.fn.functions → AreNotedFunctions l.functions)
+    × IfOk l.tests (Numbering (EachWith TestWith) l.fn.numbers l.numbers)

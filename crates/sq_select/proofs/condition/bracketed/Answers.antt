@@ -1,8 +1,12 @@
+use Rattle.sq_select.proofs.Notes.{bracketed_noted}
+use Rattle.sq_bound.proofs.Numbered.{bracketed_numbered}
+use Rattle.sq_select.specs.Numbering.{Numbering}
+use Rattle.sq_bound.specs.Numbered.{AreNumbered, CondWith, PredicateWith}
 use Rattle.sq_select.proofs.ItemsRead.{bracketed_reads}
-use Rattle.sq_select.proofs.Quiet.{quiet_bracketed}
-use Rattle.sq_bound.specs.Noted.{HasNotes}
-use Rattle.sq_select.specs.Noted.{SureAndNoted, WithinItems, cond_quiet, cond_reads, predicate_quiet, predicate_reads}
+use Rattle.sq_select.proofs.Quiet.{sure_bracketed}
+use Rattle.sq_select.specs.Noted.{SureAndNoted, WithinItems, cond_notes, cond_sure, cond_reads, predicate_notes, predicate_sure, predicate_reads}
 use Rattle.sq_select.specs.Reach.{CondReaches, PredicateReaches, Reaching}
+use Rattle.sq_scope.specs.Reach.{outward}
 use Rattle.sq_select.proofs.Reaches as reaches
 use Rattle.sq_select.proofs.InOrder.{adds_bracketed}
 use Rattle.sq_scope.specs.Expression.{AddsInOrder}
@@ -25,9 +29,11 @@ returns-clause-in_order c = λ a b h.
     (adds_bracketed c.in_ok-part.field-0.part a b (IfOk-at_ok (Adding bound_functions a b) c.in_ok-part.was h))
 
 pub returns-clause-quiet : goal.returns-clause-quiet
-returns-clause-quiet c = λ h no.
-    let is = IfOk-at_ok (SureAndNoted cond_quiet HasNotes) c.in_ok-part.was h in
-    subst (λ q. predicate_quiet (bound.Bracketed q)) (sym c.in_ok-new.ensures) (quiet_bracketed c.in_ok-part.field-0.part (is.0 no))
+returns-clause-quiet c = λ h.
+    let is = IfOk-at_ok (SureAndNoted cond_sure cond_notes) c.in_ok-part.was h in (
+      (λ none. subst (λ q. predicate_sure (bound.Bracketed q)) (sym c.in_ok-new.ensures) (sure_bracketed c.in_ok-part.field-0.part (is.0 none))),
+      subst (λ q. predicate_notes (bound.Bracketed q)) (sym c.in_ok-new.ensures) (bracketed_noted c.in_ok-part.field-0.part is.1.1),
+    )
 
 pub returns-clause-reads : goal.returns-clause-reads
 returns-clause-reads c = λ h.
@@ -38,4 +44,8 @@ returns-clause-reads c = λ h.
 pub returns-clause-reach : goal.returns-clause-reach
 returns-clause-reach c = λ h.
     let found = c.in_ok-part.field-0 in
-    subst (λ q. PredicateReaches found.findings.reach (bound.Bracketed q)) (sym c.in_ok-new.ensures) (reaches.bracketed_reaches found.findings.reach found.part (IfOk-at_ok (Reaching CondReaches) c.in_ok-part.was h))
+    subst (λ q. PredicateReaches (outward found.findings) (bound.Bracketed q)) (sym c.in_ok-new.ensures) (reaches.bracketed_reaches (outward found.findings) found.part (IfOk-at_ok (Reaching CondReaches) c.in_ok-part.was h))
+
+pub returns-clause-numbering : goal.returns-clause-numbering
+returns-clause-numbering c = λ a b h.
+    subst (λ q. AreNumbered PredicateWith a b (bound.Bracketed q)) (sym c.in_ok-new.ensures) (bracketed_numbered a b c.in_ok-part.field-0.part (IfOk-at_ok (Numbering CondWith a b) c.in_ok-part.was h))

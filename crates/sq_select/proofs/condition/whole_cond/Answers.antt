@@ -1,8 +1,12 @@
+use Rattle.sq_bound.proofs.Numbered.{cond_numbered}
+use Rattle.sq_select.specs.Numbering.{Numbering}
+use Rattle.sq_bound.specs.Numbered.{AreNumbered, ConjWith, EachWith}
 use Rattle.sq_select.proofs.ItemsRead.{cond_reads_so}
-use Rattle.sq_select.proofs.Quiet.{quiet_cond}
-use Rattle.sq_bound.specs.Noted.{AreNotedTests}
-use Rattle.sq_select.specs.Noted.{EachReads, Every, SureAndNoted, conj_quiet, WithinItems, conj_reads}
+use Rattle.sq_select.proofs.Quiet.{sure_cond}
+use Rattle.sq_select.proofs.Notes.{cond_noted}
+use Rattle.sq_select.specs.Noted.{EachReads, Every, SureAndNoted, conj_notes, conj_sure, WithinItems, conj_reads}
 use Rattle.sq_select.specs.Reach.{ConjReaches, EachReaches, Reaching}
+use Rattle.sq_scope.specs.Reach.{outward}
 use Rattle.sq_select.proofs.Reaches as reaches
 use Rattle.sq_select.proofs.InOrder.{adds_cond}
 use Rattle.sq_scope.specs.Expression.{AddsInOrder}
@@ -30,9 +34,9 @@ returns-clause-in_order c = λ a b h.
 pub returns-clause-quiet : goal.returns-clause-quiet
 returns-clause-quiet c = λ h.
     let terms = c.in_ok-part.field-0.part in
-    let are = IfOk-at_ok (SureAndNoted (Every conj_quiet) (Every AreNotedTests)) c.in_ok-part.was h in (
-      (λ no. quiet_cond (roll-BoundCond (record { terms = terms })) (subst (λ o. Every conj_quiet o.terms) (sym (out-roll-BoundCond (record { terms = terms }))) (are.0 no))),
-      subst (λ o. Every AreNotedTests o.terms) (sym (out-roll-BoundCond (record { terms = terms }))) are.1,
+    let are = IfOk-at_ok (SureAndNoted (Every conj_sure) (Every conj_notes)) c.in_ok-part.was h in (
+      (λ none. sure_cond (roll-BoundCond (record { terms = terms })) (subst (λ o. Every conj_sure o.terms) (sym (out-roll-BoundCond (record { terms = terms }))) (are.0 none))),
+      cond_noted (roll-BoundCond (record { terms = terms })) (subst (λ o. Every conj_notes o.terms) (sym (out-roll-BoundCond (record { terms = terms }))) are.1),
     )
 
 pub returns-clause-reads : goal.returns-clause-reads
@@ -44,5 +48,11 @@ returns-clause-reads c = λ h.
 pub returns-clause-reach : goal.returns-clause-reach
 returns-clause-reach c = λ h.
     let found = c.in_ok-part.field-0 in
-    reaches.cond_reaches found.findings.reach (roll-BoundCond (record { terms = found.part }))
-    (subst (λ o. EachReaches ConjReaches found.findings.reach o.terms) (sym (out-roll-BoundCond (record { terms = found.part }))) (IfOk-at_ok (Reaching (EachReaches ConjReaches)) c.in_ok-part.was h))
+    reaches.cond_reaches (outward found.findings) (roll-BoundCond (record { terms = found.part }))
+    (subst (λ o. EachReaches ConjReaches (outward found.findings) o.terms) (sym (out-roll-BoundCond (record { terms = found.part }))) (IfOk-at_ok (Reaching (EachReaches ConjReaches)) c.in_ok-part.was h))
+
+pub returns-clause-numbering : goal.returns-clause-numbering
+returns-clause-numbering c = λ a b h.
+    let terms = c.in_ok-part.field-0.part in
+    cond_numbered a b (roll-BoundCond (record { terms = terms }))
+    (subst (λ o. AreNumbered (EachWith ConjWith) a b o.terms) (sym (out-roll-BoundCond (record { terms = terms }))) (IfOk-at_ok (Numbering (EachWith ConjWith) a b) c.in_ok-part.was h))

@@ -1,8 +1,12 @@
+use Rattle.sq_bound.proofs.Numbered.{conj_numbered}
+use Rattle.sq_select.specs.Numbering.{Numbering}
+use Rattle.sq_bound.specs.Numbered.{AreNumbered, TestWith, EachWith}
 use Rattle.sq_select.proofs.ItemsRead.{conj_reads_so}
-use Rattle.sq_select.proofs.Quiet.{quiet_conj}
-use Rattle.sq_bound.specs.Noted.{IsNotedTest}
-use Rattle.sq_select.specs.Noted.{EachReads, Every, SureAndNoted, test_quiet, WithinItems, test_reads}
+use Rattle.sq_select.proofs.Quiet.{sure_conj}
+use Rattle.sq_select.proofs.Notes.{conj_noted}
+use Rattle.sq_select.specs.Noted.{EachReads, Every, SureAndNoted, test_notes, test_sure, WithinItems, test_reads}
 use Rattle.sq_select.specs.Reach.{TestReaches, EachReaches, Reaching}
+use Rattle.sq_scope.specs.Reach.{outward}
 use Rattle.sq_select.proofs.Reaches as reaches
 use Rattle.sq_select.proofs.InOrder.{adds_conj}
 use Rattle.sq_scope.specs.Expression.{AddsInOrder}
@@ -30,9 +34,9 @@ returns-clause-in_order c = λ a b h.
 pub returns-clause-quiet : goal.returns-clause-quiet
 returns-clause-quiet c = λ h.
     let tests = c.in_ok-part.field-0.part in
-    let are = IfOk-at_ok (SureAndNoted (Every test_quiet) (Every IsNotedTest)) c.in_ok-part.was h in (
-      (λ no. quiet_conj (roll-BoundConj (record { tests = tests })) (subst (λ o. Every test_quiet o.tests) (sym (out-roll-BoundConj (record { tests = tests }))) (are.0 no))),
-      subst (λ o. Every IsNotedTest o.tests) (sym (out-roll-BoundConj (record { tests = tests }))) are.1,
+    let are = IfOk-at_ok (SureAndNoted (Every test_sure) (Every test_notes)) c.in_ok-part.was h in (
+      (λ none. sure_conj (roll-BoundConj (record { tests = tests })) (subst (λ o. Every test_sure o.tests) (sym (out-roll-BoundConj (record { tests = tests }))) (are.0 none))),
+      conj_noted (roll-BoundConj (record { tests = tests })) (subst (λ o. Every test_notes o.tests) (sym (out-roll-BoundConj (record { tests = tests }))) are.1),
     )
 
 pub returns-clause-reads : goal.returns-clause-reads
@@ -44,5 +48,11 @@ returns-clause-reads c = λ h.
 pub returns-clause-reach : goal.returns-clause-reach
 returns-clause-reach c = λ h.
     let found = c.in_ok-part.field-0 in
-    reaches.conj_reaches found.findings.reach (roll-BoundConj (record { tests = found.part }))
-    (subst (λ o. EachReaches TestReaches found.findings.reach o.tests) (sym (out-roll-BoundConj (record { tests = found.part }))) (IfOk-at_ok (Reaching (EachReaches TestReaches)) c.in_ok-part.was h))
+    reaches.conj_reaches (outward found.findings) (roll-BoundConj (record { tests = found.part }))
+    (subst (λ o. EachReaches TestReaches (outward found.findings) o.tests) (sym (out-roll-BoundConj (record { tests = found.part }))) (IfOk-at_ok (Reaching (EachReaches TestReaches)) c.in_ok-part.was h))
+
+pub returns-clause-numbering : goal.returns-clause-numbering
+returns-clause-numbering c = λ a b h.
+    let tests = c.in_ok-part.field-0.part in
+    conj_numbered a b (roll-BoundConj (record { tests = tests }))
+    (subst (λ o. AreNumbered (EachWith TestWith) a b o.tests) (sym (out-roll-BoundConj (record { tests = tests }))) (IfOk-at_ok (Numbering (EachWith TestWith) a b) c.in_ok-part.was h))

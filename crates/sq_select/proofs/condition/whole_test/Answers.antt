@@ -1,9 +1,15 @@
+use Rattle.sq_bound.proofs.Numbered.{test_numbered}
+use Rattle.sq_select.specs.Numbering.{Numbering}
+use Rattle.sq_bound.specs.Numbered.{PredicateWith}
 use Rattle.sq_bound.specs.declared.condition.BoundTest.{BoundTest}
 use Rattle.sq_select.proofs.ItemsRead.{test_reads_so}
 use Rattle.std.proofs.Common.{◌≡◌, false}
-use Rattle.sq_select.proofs.Quiet.{quiet_test}
-use Rattle.sq_select.specs.Noted.{Sure, WithinItems, predicate_quiet, predicate_reads}
+use Rattle.sq_select.proofs.Quiet.{sure_test}
+use Rattle.sq_select.specs.Noted.{SureAndNoted, WithinItems, predicate_notes, predicate_sure, predicate_reads}
 use Rattle.sq_select.specs.Reach.{PredicateReaches, Reaching}
+use Rattle.sq_bound.proofs.Nested.{test_made}
+use Rattle.sq_bound.specs.Noted.{IsNoted}
+use Rattle.sq_scope.specs.Reach.{outward}
 use Rattle.sq_select.proofs.Reaches as reaches
 use Rattle.sq_select.proofs.InOrder.{adds_test}
 use Rattle.sq_select.specs.InOrder.{Adding, predicate_functions}
@@ -27,9 +33,9 @@ pub returns-clause-quiet : goal.returns-clause-quiet
 returns-clause-quiet c = λ h k.
     let found = c.in_ok-part.field-0 in
     let test : BoundTest = record { negated = c.args.negated; predicate = found.part; items = found.findings.items; can_fail = found.findings.can_fail } in
-    let sure = λ (no : found.findings.can_fail ≡ false).
-    quiet_test test (IfOk-at_ok (Sure predicate_quiet) c.in_ok-part.was h no) in
-    (sure, record { quiet = sure; items = test_reads_so found.findings.items test (IfOk-at_ok (WithinItems predicate_reads) c.in_ok-part.was k) })
+    let is = IfOk-at_ok (SureAndNoted predicate_sure predicate_notes) c.in_ok-part.was h in
+    let sure = λ (none : found.findings.can_fail ≡ false). sure_test test (is.0 none) in
+    (sure, (record { sure = sure; items = test_reads_so found.findings.items test (IfOk-at_ok (WithinItems predicate_reads) c.in_ok-part.was k) }, test_made IsNoted test is.1))
 
 pub returns-clause-reads : goal.returns-clause-reads
 returns-clause-reads c = λ h.
@@ -40,4 +46,9 @@ returns-clause-reads c = λ h.
 pub returns-clause-reach : goal.returns-clause-reach
 returns-clause-reach c = λ h.
     let found = c.in_ok-part.field-0 in
-    reaches.test_reaches found.findings.reach (record { negated = c.args.negated; predicate = found.part; items = found.findings.items; can_fail = found.findings.can_fail }) (IfOk-at_ok (Reaching PredicateReaches) c.in_ok-part.was h)
+    reaches.test_reaches (outward found.findings) (record { negated = c.args.negated; predicate = found.part; items = found.findings.items; can_fail = found.findings.can_fail }) (IfOk-at_ok (Reaching PredicateReaches) c.in_ok-part.was h)
+
+pub returns-clause-numbering : goal.returns-clause-numbering
+returns-clause-numbering c = λ a b h.
+    let found = c.in_ok-part.field-0 in
+    test_numbered a b (record { negated = c.args.negated; predicate = found.part; items = found.findings.items; can_fail = found.findings.can_fail }) (IfOk-at_ok (Numbering PredicateWith a b) c.in_ok-part.was h)

@@ -1,6 +1,10 @@
+use Rattle.sq_select.proofs.Notes.{between_noted}
+use Rattle.sq_bound.proofs.Numbered.{between_numbered}
 use Rattle.sq_select.proofs.ItemsRead.{between_reads, items_first, items_second, operand_reads}
-use Rattle.sq_select.proofs.Quiet.{or_first, or_second, quiet_between}
-use Rattle.sq_select.specs.Noted.{Sure, typed_quiet}
+use Rattle.sq_select.proofs.Quiet.{or_first, or_second, sure_between}
+use Rattle.sq_select.specs.Noted.{Sure, typed_sure}
+use Rattle.sq_scope.specs.Reach.{outward}
+use Rattle.sq_scope.proofs.Reaches.{then_further}
 use Rattle.sq_select.proofs.Reaches as reaches
 use Rattle.sq_select.proofs.InOrder.{adds_between}
 use Rattle.sq_select.specs.InOrder.{Adding, typed_functions}
@@ -48,21 +52,24 @@ returns-clause-in_order c = λ a b d e h k j.
     (IfOk-at_ok (Adding typed_functions a b) there.0 h) (IfOk-at_ok (Adding typed_functions b d) there.1 k) (IfOk-at_ok (Adding typed_functions d e) there.2 j)
 
 pub returns-clause-quiet : goal.returns-clause-quiet
-returns-clause-quiet c = λ h k j no.
-    let before = c.in_ok-left in
-    let l = c.in_ok-left-2.left in
-    let low = c.in_ok-left-2.low in
-    let high = c.in_ok-left-2.high in
-    let two = agreeing_are c.args.left c.args.low c.agreeing.result before.left before.low before.ensures.0 c.agreeing.ensures.parts c.agreeing.ensures.agree in
-    let there : (c.args.left ≡ Ok l) × (c.args.low ≡ Ok low) × (c.args.high ≡ Ok high) =
-    subst (λ (t : (Found Typed × Found Typed) × Found Typed). (c.args.left ≡ Ok t.0.0) × (c.args.low ≡ Ok t.0.1) × (c.args.high ≡ Ok t.1)) (sym c.in_ok-left-2.ensures.part) (two.0, two.1, before.ensures.1) in
-    let all = c.and-findings.result.can_fail in
-    let first = c.and.result.can_fail in
-    let none = or_first all first high.findings.can_fail c.and-findings.ensures.can_fail no in
-    quiet_between c.args.negated l.part.expr low.part.expr high.part.expr
-    (IfOk-at_ok (Sure typed_quiet) there.0 h (or_first first l.findings.can_fail low.findings.can_fail c.and.ensures.can_fail none))
-    (IfOk-at_ok (Sure typed_quiet) there.1 k (or_second first l.findings.can_fail low.findings.can_fail c.and.ensures.can_fail none))
-    (IfOk-at_ok (Sure typed_quiet) there.2 j (or_second all first high.findings.can_fail c.and-findings.ensures.can_fail no))
+returns-clause-quiet c = λ h k j. (
+  (λ none.
+      let before = c.in_ok-left in
+      let l = c.in_ok-left-2.left in
+      let low = c.in_ok-left-2.low in
+      let high = c.in_ok-left-2.high in
+      let two = agreeing_are c.args.left c.args.low c.agreeing.result before.left before.low before.ensures.0 c.agreeing.ensures.parts c.agreeing.ensures.agree in
+      let there : (c.args.left ≡ Ok l) × (c.args.low ≡ Ok low) × (c.args.high ≡ Ok high) =
+      subst (λ (t : (Found Typed × Found Typed) × Found Typed). (c.args.left ≡ Ok t.0.0) × (c.args.low ≡ Ok t.0.1) × (c.args.high ≡ Ok t.1)) (sym c.in_ok-left-2.ensures.part) (two.0, two.1, before.ensures.1) in
+      let all = c.and-findings.result.can_fail in
+      let first = c.and.result.can_fail in
+      let none_before = or_first all first high.findings.can_fail c.and-findings.ensures.can_fail none in
+      sure_between c.args.negated l.part.expr low.part.expr high.part.expr
+      (IfOk-at_ok (Sure typed_sure) there.0 h (or_first first l.findings.can_fail low.findings.can_fail c.and.ensures.can_fail none_before))
+      (IfOk-at_ok (Sure typed_sure) there.1 k (or_second first l.findings.can_fail low.findings.can_fail c.and.ensures.can_fail none_before))
+      (IfOk-at_ok (Sure typed_sure) there.2 j (or_second all first high.findings.can_fail c.and-findings.ensures.can_fail none))),
+  between_noted c.args.negated c.in_ok-left-2.left.part.expr c.in_ok-left-2.low.part.expr c.in_ok-left-2.high.part.expr,
+)
 
 pub returns-clause-reads : goal.returns-clause-reads
 returns-clause-reads c = λ h k j.
@@ -92,8 +99,11 @@ returns-clause-reach c = λ h k j.
     let two = agreeing_are c.args.left c.args.low c.agreeing.result before.left before.low before.ensures.0 c.agreeing.ensures.parts c.agreeing.ensures.agree in
     let there : (c.args.left ≡ Ok l) × (c.args.low ≡ Ok low) × (c.args.high ≡ Ok high) =
     subst (λ (t : (Found Typed × Found Typed) × Found Typed). (c.args.left ≡ Ok t.0.0) × (c.args.low ≡ Ok t.0.1) × (c.args.high ≡ Ok t.1)) (sym c.in_ok-left-2.ensures.part) (two.0, two.1, before.ensures.1) in
-    let reach = c.and-findings.result.reach in
+    let reach = outward c.and-findings.result in
     reaches.between_reaches reach c.args.negated l.part.expr low.part.expr high.part.expr
-    (reaches.operand c.args.left l reach there.0 (omega (arith, c.and.ensures.reach.0, c.and-findings.ensures.reach.0)) h)
-    (reaches.operand c.args.low low reach there.1 (omega (arith, c.and.ensures.reach.1, c.and-findings.ensures.reach.0)) k)
+    (reaches.operand c.args.left l reach there.0 (then_further c.and.ensures.reach.0 c.and-findings.ensures.reach.0) h)
+    (reaches.operand c.args.low low reach there.1 (then_further c.and.ensures.reach.1 c.and-findings.ensures.reach.0) k)
     (reaches.operand c.args.high high reach there.2 c.and-findings.ensures.reach.1 j)
+
+pub returns-clause-numbering : goal.returns-clause-numbering
+returns-clause-numbering c = between_numbered c.args.negated c.in_ok-left-2.left.part.expr c.in_ok-left-2.low.part.expr c.in_ok-left-2.high.part.expr

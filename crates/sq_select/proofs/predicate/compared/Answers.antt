@@ -1,6 +1,9 @@
+use Rattle.sq_select.proofs.Notes.{compare_noted}
+use Rattle.sq_bound.proofs.Numbered.{compare_numbered}
 use Rattle.sq_select.proofs.ItemsRead.{compare_reads, items_first, items_second, operand_reads}
-use Rattle.sq_select.proofs.Quiet.{or_first, or_second, quiet_compare}
-use Rattle.sq_select.specs.Noted.{Sure, typed_quiet}
+use Rattle.sq_select.proofs.Quiet.{or_first, or_second, sure_compare}
+use Rattle.sq_select.specs.Noted.{Sure, typed_sure}
+use Rattle.sq_scope.specs.Reach.{outward}
 use Rattle.sq_select.proofs.Reaches as reaches
 use Rattle.sq_select.proofs.InOrder.{adds_compare}
 use Rattle.sq_select.specs.InOrder.{Adding, typed_functions}
@@ -27,12 +30,15 @@ returns-clause-in_order c = λ a b d h k.
     (IfOk-at_ok (Adding typed_functions a b) c.in_ok-left.ensures.parts.0 h) (IfOk-at_ok (Adding typed_functions b d) c.in_ok-left.ensures.parts.1 k)
 
 pub returns-clause-quiet : goal.returns-clause-quiet
-returns-clause-quiet c = λ h k no.
-    let l = c.in_ok-left.left in
-    let r = c.in_ok-left.right in
-    quiet_compare c.args.comparison l.part.expr r.part.expr
-    (IfOk-at_ok (Sure typed_quiet) c.in_ok-left.ensures.parts.0 h (or_first c.and-findings.result.can_fail l.findings.can_fail r.findings.can_fail c.and-findings.ensures.can_fail no))
-    (IfOk-at_ok (Sure typed_quiet) c.in_ok-left.ensures.parts.1 k (or_second c.and-findings.result.can_fail l.findings.can_fail r.findings.can_fail c.and-findings.ensures.can_fail no))
+returns-clause-quiet c = λ h k. (
+  (λ none.
+      let l = c.in_ok-left.left in
+      let r = c.in_ok-left.right in
+      sure_compare c.args.comparison l.part.expr r.part.expr
+      (IfOk-at_ok (Sure typed_sure) c.in_ok-left.ensures.parts.0 h (or_first c.and-findings.result.can_fail l.findings.can_fail r.findings.can_fail c.and-findings.ensures.can_fail none))
+      (IfOk-at_ok (Sure typed_sure) c.in_ok-left.ensures.parts.1 k (or_second c.and-findings.result.can_fail l.findings.can_fail r.findings.can_fail c.and-findings.ensures.can_fail none))),
+  compare_noted c.args.comparison c.in_ok-left.left.part.expr c.in_ok-left.right.part.expr,
+)
 
 pub returns-clause-reads : goal.returns-clause-reads
 returns-clause-reads c = λ h k.
@@ -47,6 +53,9 @@ pub returns-clause-reach : goal.returns-clause-reach
 returns-clause-reach c = λ h k.
     let l = c.in_ok-left.left in
     let r = c.in_ok-left.right in
-    let reach = c.and-findings.result.reach in
+    let reach = outward c.and-findings.result in
     reaches.compare_reaches reach c.args.comparison l.part.expr r.part.expr
     (reaches.operand c.args.left l reach c.in_ok-left.ensures.parts.0 c.and-findings.ensures.reach.0 h) (reaches.operand c.args.right r reach c.in_ok-left.ensures.parts.1 c.and-findings.ensures.reach.1 k)
+
+pub returns-clause-numbering : goal.returns-clause-numbering
+returns-clause-numbering c = compare_numbered c.args.comparison c.in_ok-left.left.part.expr c.in_ok-left.right.part.expr

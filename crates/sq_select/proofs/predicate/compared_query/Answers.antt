@@ -1,7 +1,12 @@
+use Rattle.sq_select.proofs.Notes.{compare_query_noted}
+use Rattle.sq_bound.proofs.Numbered.{compare_query_numbered}
+use Rattle.sq_select.specs.Numbering.{BesideWith, Numbering}
 use Rattle.sq_select.proofs.ItemsRead.{compared_query_reads}
-use Rattle.sq_select.proofs.Quiet.{quiet_compared_query}
+use Rattle.sq_select.proofs.Quiet.{not_both, sure_compared_query}
 use Rattle.sq_bound.specs.declared.condition.Predicate.TheVariants as bound
 use Rattle.sq_select.specs.Reach.{BesideReaches, PredicateReaches, Reaching}
+use Rattle.sq_scope.specs.Reach.{outward}
+use Rattle.sq_select.specs.Noted.{SureAndNoted, WithinItems, beside_notes, beside_reads, beside_sure, predicate_reads}
 use Rattle.sq_select.proofs.Reaches as reaches
 use Rattle.sq_select.proofs.InOrder.{adds_compared_query}
 use Rattle.sq_select.specs.InOrder.{Adding, beside_functions}
@@ -28,18 +33,40 @@ returns-clause-in_order c = λ a b h.
     adds_compared_query c.args.comparison c.match-quantifier.compared c.in_ok-part.field-0.part.0 c.in_ok-part.field-0.part.1 a b (IfOk-at_ok (Adding beside_functions a b) c.in_ok-part.was (c.with_subquery.ensures.in_order a b h))
 
 pub returns-clause-quiet : goal.returns-clause-quiet
-returns-clause-quiet c = λ no. quiet_compared_query c.args.comparison c.match-quantifier.compared c.in_ok-part.field-0.part.0 c.in_ok-part.field-0.part.1
+returns-clause-quiet c = λ h k.
+    let found = c.in_ok-part.field-0 in
+    let is = IfOk-at_ok (SureAndNoted beside_sure beside_notes) c.in_ok-part.was (c.with_subquery.ensures.noted h k) in (
+      (λ none.
+          elim c.match-compared.branch [
+            | in-Scalar w ↦ absurd (not_both (sym (ap (λ f. f.can_fail) w.findings-is ∙ w.failing-findings.ensures.can_fail) ∙ none))
+            | in_default w ↦ sure_compared_query c.args.comparison c.match-quantifier.compared found.part.0 found.part.1 w.in_default.not-Scalar (is.0 (sym (ap (λ f. f.can_fail) w.findings-is) ∙ none))
+          ]),
+      compare_query_noted c.args.comparison c.match-quantifier.compared found.part.0 found.part.1 is.1,
+    )
 
 pub returns-clause-reads : goal.returns-clause-reads
-returns-clause-reads c = compared_query_reads c.match-compared.findings.items c.args.comparison c.match-quantifier.compared c.in_ok-part.field-0.part.0 c.in_ok-part.field-0.part.1
+returns-clause-reads c = λ h k.
+    let found = c.in_ok-part.field-0 in
+    let same : c.match-compared.findings.items ≡ found.findings.items =
+    elim c.match-compared.branch [
+      | in-Scalar w ↦ ap (λ f. f.items) w.findings-is ∙ w.failing-findings.ensures.items
+      | in_default w ↦ ap (λ f. f.items) w.findings-is
+    ] in
+    subst (λ n. predicate_reads n (bound.CompareQuery c.args.comparison c.match-quantifier.compared found.part.0 found.part.1)) (sym same)
+    (compared_query_reads found.findings.items c.args.comparison c.match-quantifier.compared found.part.0 found.part.1 (IfOk-at_ok (WithinItems beside_reads) c.in_ok-part.was (c.with_subquery.ensures.reads h k)))
 
 pub returns-clause-reach : goal.returns-clause-reach
 returns-clause-reach c = λ h k.
     let found = c.in_ok-part.field-0 in
-    let same : c.match-compared.findings.reach ≡ found.findings.reach =
+    let same : outward c.match-compared.findings ≡ outward found.findings =
     elim c.match-compared.branch [
-      | in-Scalar w ↦ ap (λ f. f.reach) w.findings-is ∙ w.failing-findings.ensures.reach
-      | in_default w ↦ ap (λ f. f.reach) w.findings-is
+      | in-Scalar w ↦ ap outward w.findings-is ∙ w.failing-findings.ensures.reach
+      | in_default w ↦ ap outward w.findings-is
     ] in
     subst (λ r. PredicateReaches r (bound.CompareQuery c.args.comparison c.match-quantifier.compared found.part.0 found.part.1)) (sym same)
-    (reaches.compare_query_reaches found.findings.reach c.args.comparison c.match-quantifier.compared found.part.0 found.part.1 (IfOk-at_ok (Reaching BesideReaches) c.in_ok-part.was (c.with_subquery.ensures.reach h k)))
+    (reaches.compare_query_reaches (outward found.findings) c.args.comparison c.match-quantifier.compared found.part.0 found.part.1 (IfOk-at_ok (Reaching BesideReaches) c.in_ok-part.was (c.with_subquery.ensures.reach h k)))
+
+pub returns-clause-numbering : goal.returns-clause-numbering
+returns-clause-numbering c = λ a b h.
+    let found = c.in_ok-part.field-0 in
+    compare_query_numbered a b c.args.comparison c.match-quantifier.compared found.part.0 found.part.1 (IfOk-at_ok (Numbering BesideWith a b) c.in_ok-part.was (c.with_subquery.ensures.numbering a b h))

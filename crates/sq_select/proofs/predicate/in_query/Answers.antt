@@ -1,6 +1,11 @@
+use Rattle.sq_select.proofs.Notes.{in_query_noted}
+use Rattle.sq_bound.proofs.Numbered.{in_query_numbered}
+use Rattle.sq_select.specs.Numbering.{BesideWith, Numbering}
 use Rattle.sq_select.proofs.ItemsRead.{in_query_reads}
-use Rattle.sq_select.proofs.Quiet.{quiet_in_query}
+use Rattle.sq_select.proofs.Quiet.{sure_in_query}
 use Rattle.sq_select.specs.Reach.{BesideReaches, Reaching}
+use Rattle.sq_scope.specs.Reach.{outward}
+use Rattle.sq_select.specs.Noted.{SureAndNoted, WithinItems, beside_notes, beside_reads, beside_sure}
 use Rattle.sq_select.proofs.Reaches as reaches
 use Rattle.sq_select.proofs.InOrder.{adds_in_query}
 use Rattle.sq_select.specs.InOrder.{Adding, beside_functions}
@@ -19,12 +24,24 @@ returns-clause-in_order c = λ a b h.
     adds_in_query c.args.negated c.in_ok-part.field-0.part.0 c.in_ok-part.field-0.part.1 a b (IfOk-at_ok (Adding beside_functions a b) c.in_ok-part.was (c.with_subquery.ensures.in_order a b h))
 
 pub returns-clause-quiet : goal.returns-clause-quiet
-returns-clause-quiet c = λ no. quiet_in_query c.args.negated c.in_ok-part.field-0.part.0 c.in_ok-part.field-0.part.1
+returns-clause-quiet c = λ h k.
+    let found = c.in_ok-part.field-0 in
+    let is = IfOk-at_ok (SureAndNoted beside_sure beside_notes) c.in_ok-part.was (c.with_subquery.ensures.noted h k) in (
+      (λ none. sure_in_query c.args.negated found.part.0 found.part.1 (is.0 none)),
+      in_query_noted c.args.negated found.part.0 found.part.1 is.1,
+    )
 
 pub returns-clause-reads : goal.returns-clause-reads
-returns-clause-reads c = in_query_reads c.in_ok-part.field-0.findings.items c.args.negated c.in_ok-part.field-0.part.0 c.in_ok-part.field-0.part.1
+returns-clause-reads c = λ h k.
+    let found = c.in_ok-part.field-0 in
+    in_query_reads found.findings.items c.args.negated found.part.0 found.part.1 (IfOk-at_ok (WithinItems beside_reads) c.in_ok-part.was (c.with_subquery.ensures.reads h k))
 
 pub returns-clause-reach : goal.returns-clause-reach
 returns-clause-reach c = λ h k.
     let found = c.in_ok-part.field-0 in
-    reaches.in_query_reaches found.findings.reach c.args.negated found.part.0 found.part.1 (IfOk-at_ok (Reaching BesideReaches) c.in_ok-part.was (c.with_subquery.ensures.reach h k))
+    reaches.in_query_reaches (outward found.findings) c.args.negated found.part.0 found.part.1 (IfOk-at_ok (Reaching BesideReaches) c.in_ok-part.was (c.with_subquery.ensures.reach h k))
+
+pub returns-clause-numbering : goal.returns-clause-numbering
+returns-clause-numbering c = λ a b h.
+    let found = c.in_ok-part.field-0 in
+    in_query_numbered a b c.args.negated found.part.0 found.part.1 (IfOk-at_ok (Numbering BesideWith a b) c.in_ok-part.was (c.with_subquery.ensures.numbering a b h))

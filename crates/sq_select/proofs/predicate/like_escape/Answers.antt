@@ -1,8 +1,13 @@
+use Rattle.sq_select.proofs.Notes.{like_noted}
+use Rattle.sq_bound.proofs.Numbered.{like_numbered}
+use Rattle.std.proofs.Common.{Some}
 use Rattle.sq_select.proofs.ItemsRead.{items_first, items_second, like_escape_reads, operand_reads}
 use Rattle.sq_select.proofs.Quiet.{not_both}
 use Rattle.sq_select.proofs.InOrder.{adds_like_escape}
 use Rattle.sq_select.specs.InOrder.{Adding, typed_functions}
-use Rattle.std.proofs.Common.{◌≡◌, Ok, sym, ◌∙◌, arith}
+use Rattle.std.proofs.Common.{◌≡◌, Ok, Some, sym, ◌∙◌, arith}
+use Rattle.sq_scope.specs.Reach.{outward}
+use Rattle.sq_scope.proofs.Reaches.{same_further, then_further}
 use Rattle.sq_select.proofs.Reaches as reaches
 use Rattle.std.proofs.lemmas.Result.{IfOk-at_ok}
 use Rattle.sq_select.specs.WellFormed.{parameters_in}
@@ -44,7 +49,10 @@ returns-clause-in_order c = λ a b d i h k j.
     (IfOk-at_ok (Adding typed_functions a b) is_left.0 h) (IfOk-at_ok (Adding typed_functions b d) is_pattern.0 k) (IfOk-at_ok (Adding typed_functions d i) is_escape.0 j)
 
 pub returns-clause-quiet : goal.returns-clause-quiet
-returns-clause-quiet c = λ no. absurd (not_both (sym c.failing.ensures.can_fail ∙ no))
+returns-clause-quiet c = (
+  (λ none. absurd (not_both (sym c.failing.ensures.can_fail ∙ none))),
+  like_noted c.args.negated c.in_ok-left.left.part.expr c.in_ok-left.pattern.part.expr (Some c.in_ok-left.escape.part.expr),
+)
 
 pub returns-clause-reads : goal.returns-clause-reads
 returns-clause-reads c = λ h k j.
@@ -75,8 +83,12 @@ returns-clause-reach c = λ h k j.
     let is_left = text_is c.args.left c.text.result l two.0 c.text.ensures in
     let is_pattern = text_is c.args.pattern c.text-2.result p two.1 c.text-2.ensures in
     let is_escape = text_is c.args.escape c.text-3.result e c.in_ok-left.ensures.1 c.text-3.ensures in
-    let reach = c.failing.result.reach in
+    let reach = outward c.failing.result in
+    let last = same_further (outward c.and-findings.result) reach (sym c.failing.ensures.reach) in
     reaches.like_escape_reaches reach c.args.negated l.part.expr p.part.expr e.part.expr
-    (reaches.operand c.args.left l reach is_left.0 (omega (arith, c.and.ensures.reach.0, c.and-findings.ensures.reach.0, c.failing.ensures.reach)) h)
-    (reaches.operand c.args.pattern p reach is_pattern.0 (omega (arith, c.and.ensures.reach.1, c.and-findings.ensures.reach.0, c.failing.ensures.reach)) k)
-    (reaches.operand c.args.escape e reach is_escape.0 (omega (arith, c.and-findings.ensures.reach.1, c.failing.ensures.reach)) j)
+    (reaches.operand c.args.left l reach is_left.0 (then_further (then_further c.and.ensures.reach.0 c.and-findings.ensures.reach.0) last) h)
+    (reaches.operand c.args.pattern p reach is_pattern.0 (then_further (then_further c.and.ensures.reach.1 c.and-findings.ensures.reach.0) last) k)
+    (reaches.operand c.args.escape e reach is_escape.0 (then_further c.and-findings.ensures.reach.1 last) j)
+
+pub returns-clause-numbering : goal.returns-clause-numbering
+returns-clause-numbering c = like_numbered c.args.negated c.in_ok-left.left.part.expr c.in_ok-left.pattern.part.expr (Some c.in_ok-left.escape.part.expr)

@@ -1,6 +1,6 @@
 use Rattle.sq_select.proofs.ItemsRead.{expr_more_items, next_within, none_within}
 use Rattle.sq_select.proofs.Quiet.{next_sure, none_sure}
-use Rattle.sq_bound.specs.Noted.{IsQuietExpr, IsReadExpr}
+use Rattle.sq_bound.specs.Noted.{IsSureExpr, IsReadExpr}
 use Rattle.sq_scope.specs.Reach.{MayReach}
 use Rattle.sq_scope.proofs.Reaches.{reach_more}
 use Rattle.sq_select.proofs.Reaches as reaches
@@ -27,7 +27,7 @@ loop-expr-init c = (
       let after = c.bind_expr-first.new.functions.calls in
       gathered_next expr_functions before before after c.none.result c.agreed.result c.gathered-bound.result c.gathered-bound.ensures.gathers
       (gathered_nothing expr_functions before c.none.result c.none.ensures) (c.agreed.ensures.in_order before after c.bind_expr-first.ensures.in_order)),
-  next_sure IsQuietExpr c.none.result c.agreed.result c.gathered-bound.result c.gathered-bound.ensures.gathers (none_sure IsQuietExpr c.none.result c.none.ensures) (c.agreed.ensures.quiet c.bind_expr-first.ensures.quiet),
+  next_sure IsSureExpr c.none.result c.agreed.result c.gathered-bound.result c.gathered-bound.ensures.gathers (none_sure IsSureExpr c.none.result c.none.ensures) (c.agreed.ensures.quiet c.bind_expr-first.ensures.quiet),
   next_within IsReadExpr expr_more_items c.none.result c.agreed.result c.gathered-bound.result c.gathered-bound.ensures.gathers (none_within IsReadExpr c.none.result c.none.ensures) (c.agreed.ensures.reads c.bind_expr-first.ensures.reads),
   reaches.gathered_reach MayReach reach_more c.none.result c.agreed.result c.gathered-bound.result c.gathered-bound.ensures.gathers c.gathered-bound.ensures.reach
       (reaches.none_reach MayReach c.none.result c.none.ensures) (c.agreed.ensures.reach c.bind_expr-first.ensures.reach),
@@ -49,7 +49,7 @@ loop-expr-preserved c = (
   grows_further c.args.functions.now c.loop-expr.functions c.bind_expr-item.new.functions c.loop-expr.invariant.1 c.bind_expr-item.ensures.grows,
   gathered_next expr_functions c.args.functions.now.calls c.loop-expr.functions.calls c.bind_expr-item.new.functions.calls c.loop-expr.bound c.agreed-in-loop-expr.result c.gathered-bound-in-loop-expr.result c.gathered-bound-in-loop-expr.ensures.gathers
       c.loop-expr.invariant.2 (c.agreed-in-loop-expr.ensures.in_order c.loop-expr.functions.calls c.bind_expr-item.new.functions.calls c.bind_expr-item.ensures.in_order),
-  next_sure IsQuietExpr c.loop-expr.bound c.agreed-in-loop-expr.result c.gathered-bound-in-loop-expr.result c.gathered-bound-in-loop-expr.ensures.gathers c.loop-expr.invariant.3 (c.agreed-in-loop-expr.ensures.quiet c.bind_expr-item.ensures.quiet),
+  next_sure IsSureExpr c.loop-expr.bound c.agreed-in-loop-expr.result c.gathered-bound-in-loop-expr.result c.gathered-bound-in-loop-expr.ensures.gathers c.loop-expr.invariant.3 (c.agreed-in-loop-expr.ensures.quiet c.bind_expr-item.ensures.quiet),
   next_within IsReadExpr expr_more_items c.loop-expr.bound c.agreed-in-loop-expr.result c.gathered-bound-in-loop-expr.result c.gathered-bound-in-loop-expr.ensures.gathers c.loop-expr.invariant.4 (c.agreed-in-loop-expr.ensures.reads c.bind_expr-item.ensures.reads),
   reaches.gathered_reach MayReach reach_more c.loop-expr.bound c.agreed-in-loop-expr.result c.gathered-bound-in-loop-expr.result c.gathered-bound-in-loop-expr.ensures.gathers c.gathered-bound-in-loop-expr.ensures.reach
       c.loop-expr.invariant.5 (c.agreed-in-loop-expr.ensures.reach c.bind_expr-item.ensures.reach),

@@ -1,7 +1,7 @@
-use Rattle.sq_bound.specs.Noted.{IsQuietExpr, IsReadExpr}
+use Rattle.sq_bound.specs.Noted.{IsSureExpr, IsReadExpr}
 use Rattle.sq_select.specs.Noted.{EachReads, Every, Sure, WithinItems}
 use Rattle.sq_select.specs.Reach.{EachReaches, Reaching}
-use Rattle.sq_scope.specs.Reach.{AreOwnCalls, MayReach}
+use Rattle.sq_scope.specs.Reach.{AreNotedFunctions, MayReach}
 use Rattle.std.specs.Prelude.{IfOk}
 use Rattle.sq_bound.specs.WellFormed.{TableKinds}
 use Rattle.sq_scope.specs.Expression.{Grows, expr_functions}
@@ -14,7 +14,7 @@ invariant-loop-expr l =
     ((columns : TableKinds) → let x = here columns l.environment l.fn.functions.allowed in IfOk l.bound (Everywhere x (Each (AgreesAt x l.functions.calls l.kind))))
     × Grows l.fn.functions l.functions
     × IfOk l.bound (Adding (in_turn expr_functions) l.fn.functions.calls l.functions.calls)
-    × IfOk l.bound (Sure (Every IsQuietExpr))
+    × IfOk l.bound (Sure (Every IsSureExpr))
     × IfOk l.bound (WithinItems (EachReads IsReadExpr))
     × IfOk l.bound (Reaching (EachReaches MayReach))
-    × (AreOwnCalls l.fn.functions.calls → AreOwnCalls l.functions.calls)
+    × (AreNotedFunctions l.fn.functions → AreNotedFunctions l.functions)

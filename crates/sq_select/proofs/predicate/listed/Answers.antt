@@ -1,12 +1,15 @@
+use Rattle.sq_select.proofs.Notes.{in_list_noted}
+use Rattle.sq_bound.proofs.Numbered.{in_list_numbered}
 use Rattle.sq_select.proofs.ItemsRead.{expr_more_items, in_list_reads, items_first, items_second}
 use Rattle.sq_meaning.proofs.AnswerLaws.{all_weaker}
-use Rattle.sq_bound.specs.Noted.{IsReadExpr, IsQuietExpr}
+use Rattle.sq_bound.specs.Noted.{IsReadExpr, IsSureExpr}
 use Rattle.sq_scope.specs.Expression.{IsReadTyped, expr_functions}
-use Rattle.sq_select.specs.Noted.{EachReads, WithinItems, Every, Sure, typed_quiet}
-use Rattle.sq_select.proofs.Quiet.{or_first, or_second, quiet_in_list}
+use Rattle.sq_select.specs.Noted.{EachReads, WithinItems, Every, Sure, typed_sure}
+use Rattle.sq_select.proofs.Quiet.{or_first, or_second, sure_in_list}
 use Rattle.sq_scope.proofs.Reaches.{reach_more}
 use Rattle.sq_scope.specs.Reach.{MayReach}
 use Rattle.sq_select.specs.Reach.{EachReaches, Reaching, TypedReaches}
+use Rattle.sq_scope.specs.Reach.{outward}
 use Rattle.sq_select.proofs.Reaches as reaches
 use Rattle.sq_select.proofs.InOrder.{adds_in_list}
 use Rattle.sq_select.specs.InOrder.{Adding, in_turn, typed_functions}
@@ -38,13 +41,16 @@ returns-clause-in_order c = λ a b d h k.
     adds_in_list c.args.negated l.part.expr c.in_ok-left.list.part a b d (subst (Adding typed_functions a b) (ok_is c.args.left l c.in_ok-left.ensures.0) h) (IfOk-at_ok (Adding (in_turn expr_functions) b d) c.in_ok-left.ensures.1 k)
 
 pub returns-clause-quiet : goal.returns-clause-quiet
-returns-clause-quiet c = λ h k no.
-    let l = c.in_ok-left.left in
-    let es = c.in_ok-left.list in
-    let all = c.and.result.can_fail in
-    quiet_in_list c.args.negated l.part.expr es.part
-    (subst (Sure typed_quiet) (ok_is c.args.left l c.in_ok-left.ensures.0) h (or_first all l.findings.can_fail es.findings.can_fail c.and.ensures.can_fail no))
-    (IfOk-at_ok (Sure (Every IsQuietExpr)) c.in_ok-left.ensures.1 k (or_second all l.findings.can_fail es.findings.can_fail c.and.ensures.can_fail no))
+returns-clause-quiet c = λ h k. (
+  (λ none.
+      let l = c.in_ok-left.left in
+      let es = c.in_ok-left.list in
+      let all = c.and.result.can_fail in
+      sure_in_list c.args.negated l.part.expr es.part
+      (subst (Sure typed_sure) (ok_is c.args.left l c.in_ok-left.ensures.0) h (or_first all l.findings.can_fail es.findings.can_fail c.and.ensures.can_fail none))
+      (IfOk-at_ok (Sure (Every IsSureExpr)) c.in_ok-left.ensures.1 k (or_second all l.findings.can_fail es.findings.can_fail c.and.ensures.can_fail none))),
+  in_list_noted c.args.negated c.in_ok-left.left.part.expr c.in_ok-left.list.part,
+)
 
 pub returns-clause-reads : goal.returns-clause-reads
 returns-clause-reads c = λ h k.
@@ -60,7 +66,10 @@ pub returns-clause-reach : goal.returns-clause-reach
 returns-clause-reach c = λ h k.
     let l = c.in_ok-left.left in
     let es = c.in_ok-left.list in
-    let reach = c.and.result.reach in
-    let at_left : MayReach l.findings.reach l.part.expr = subst (Reaching TypedReaches) (ok_is c.args.left l c.in_ok-left.ensures.0) h in
-    reaches.in_list_reaches reach c.args.negated l.part.expr es.part (reach_more l.findings.reach reach l.part.expr c.and.ensures.reach.0 at_left)
-    (reaches.each_more MayReach reach_more es.findings.reach reach es.part c.and.ensures.reach.1 (IfOk-at_ok (Reaching (EachReaches MayReach)) c.in_ok-left.ensures.1 k))
+    let reach = outward c.and.result in
+    let at_left : MayReach (outward l.findings) l.part.expr = subst (Reaching TypedReaches) (ok_is c.args.left l c.in_ok-left.ensures.0) h in
+    reaches.in_list_reaches reach c.args.negated l.part.expr es.part (reach_more (outward l.findings) reach l.part.expr c.and.ensures.reach.0 at_left)
+    (reaches.each_more MayReach reach_more (outward es.findings) reach es.part c.and.ensures.reach.1 (IfOk-at_ok (Reaching (EachReaches MayReach)) c.in_ok-left.ensures.1 k))
+
+pub returns-clause-numbering : goal.returns-clause-numbering
+returns-clause-numbering c = in_list_numbered c.args.negated c.in_ok-left.left.part.expr c.in_ok-left.list.part

@@ -1,3 +1,12 @@
+use Rattle.sq_scope.specs.Reach.{outward}
+use Rattle.sq_select.specs.Noted.{SelectNoted, Sure, typed_sure}
+use Rattle.sq_select.proofs.ItemsRead.{beside_read, items_first, items_second, operand_reads, subquery_reads}
+use Rattle.sq_select.proofs.Notes.{beside_noted, subquery_sure}
+use Rattle.sq_select.proofs.Quiet.{or_first, or_second}
+use Rattle.sq_scope.proofs.Reaches.{inside_further}
+use Rattle.sq_select.proofs.Numbering.{beside_numbering}
+use Rattle.sq_select.specs.Numbering.{Numbering}
+use Rattle.sq_bound.specs.Numbered.{SelectWith}
 use Rattle.sq_select.proofs.Reaches as reaches
 use Rattle.sq_select.proofs.InOrder.{adds_beside}
 use Rattle.sq_select.specs.InOrder.{Adding, typed_functions}
@@ -42,5 +51,42 @@ returns-clause-reach c = λ h k.
     let q = c.in_ok-left-2.query in
     let findings = c.and-findings.result in
     let there : (c.args.left ≡ Ok l) × (c.args.query ≡ Ok q) = subst (λ (t : Found Typed × Found BoundSpecification). (c.args.left ≡ Ok t.0) × (c.args.query ≡ Ok t.1)) (sym c.in_ok-left-2.ensures.part) c.in_ok-left.ensures in
-    reaches.beside_reaches l.part.expr q.part findings c.boxed_beside.result c.boxed_beside.ensures (reaches.operand c.args.left l findings.reach there.0 c.and-findings.ensures.reach.0 h)
-    (reaches.subquery_reach c.args.query q findings.reach there.1 (omega (arith, c.of_subquery.ensures.reach, c.and-findings.ensures.reach.1)) k)
+    reaches.beside_reaches l.part.expr q.part findings c.boxed_beside.result c.boxed_beside.ensures (reaches.operand c.args.left l (outward findings) there.0 c.and-findings.ensures.reach.0 h)
+    (reaches.subquery_reach c.args.query q (outward findings) there.1 (inside_further c.of_subquery.ensures.reach c.and-findings.ensures.reach.1) k)
+
+pub returns-clause-noted : goal.returns-clause-noted
+returns-clause-noted c = λ h k.
+    let l = c.in_ok-left-2.left in
+    let q = c.in_ok-left-2.query in
+    let findings = c.and-findings.result in
+    let there : (c.args.left ≡ Ok l) × (c.args.query ≡ Ok q) = subst (λ (t : Found Typed × Found BoundSpecification). (c.args.left ≡ Ok t.0) × (c.args.query ≡ Ok t.1)) (sym c.in_ok-left-2.ensures.part) c.in_ok-left.ensures in
+    let noted = IfOk-at_ok SelectNoted there.1 k in
+    let all = findings.can_fail in
+    let inside = c.of_subquery.result.can_fail in
+    beside_noted l.part.expr q.part findings c.boxed_beside.result c.boxed_beside.ensures
+    (λ none. (
+      IfOk-at_ok (Sure typed_sure) there.0 h (or_first all l.findings.can_fail inside c.and-findings.ensures.can_fail none),
+      subquery_sure c.args.query q there.1 k (sym c.of_subquery.ensures.can_fail ∙ or_second all l.findings.can_fail inside c.and-findings.ensures.can_fail none),
+    ))
+    noted.1
+
+pub returns-clause-reads : goal.returns-clause-reads
+returns-clause-reads c = λ h k.
+    let l = c.in_ok-left-2.left in
+    let q = c.in_ok-left-2.query in
+    let findings = c.and-findings.result in
+    let there : (c.args.left ≡ Ok l) × (c.args.query ≡ Ok q) = subst (λ (t : Found Typed × Found BoundSpecification). (c.args.left ≡ Ok t.0) × (c.args.query ≡ Ok t.1)) (sym c.in_ok-left-2.ensures.part) c.in_ok-left.ensures in
+    let all = findings.items in
+    let inside = c.of_subquery.result.items in
+    let second = items_second all l.findings.items inside c.and-findings.ensures.items in
+    beside_read l.part.expr q.part findings c.boxed_beside.result c.boxed_beside.ensures (
+      operand_reads c.args.left l all there.0 (items_first all l.findings.items inside c.and-findings.ensures.items) h,
+      subquery_reads c.args.query q all there.1 (omega (arith, c.of_subquery.ensures.items, second)) k,
+    )
+
+pub returns-clause-numbering : goal.returns-clause-numbering
+returns-clause-numbering c = λ a b h.
+    let l = c.in_ok-left-2.left in
+    let q = c.in_ok-left-2.query in
+    let there : c.args.query ≡ Ok q = subst (λ (t : Found Typed × Found BoundSpecification). c.args.query ≡ Ok t.1) (sym c.in_ok-left-2.ensures.part) c.in_ok-left.ensures.1 in
+    beside_numbering a b l.part.expr q.part c.and-findings.result c.boxed_beside.result c.boxed_beside.ensures (IfOk-at_ok (Numbering SelectWith a b) there h)

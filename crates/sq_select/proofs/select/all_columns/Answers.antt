@@ -1,3 +1,6 @@
+use Rattle.std.proofs.lemmas.Result.{IfOk-weaker}
+use Rattle.sq_select.specs.Noted.{ListSure}
+use Rattle.sq_select.proofs.Notes.{list_none_sure}
 use Rattle.std.proofs.Common.{true, ◌∷◌}
 use Rattle.sq_bound.specs.WellFormed.{IsExpr}
 use Rattle.sq_select.specs.WellFormed.{AreColumns, level_over}
@@ -11,3 +14,9 @@ returns-clause-well_formed c = λ kinds parameters tables levels calls over.
     kept_with (λ (s : SelectedList). AreColumns kinds parameters (level_over tables true ∷ levels) calls s.exprs s.columns) c.push_items-pushed.new.selected c.push_items-pushed.result c.kept.result c.kept.ensures.part c.kept.ensures.test
     (c.push_items-pushed.ensures.well_formed kinds parameters tables levels calls over
     (zip_none (λ e r. IsExpr kinds parameters (level_over tables true ∷ levels) calls r.kind e) none.result.exprs none.result.columns none.ensures.exprs none.ensures.columns))
+
+pub returns-clause-sure : goal.returns-clause-sure
+returns-clause-sure c =
+    kept_with ListSure c.push_items-pushed.new.selected c.push_items-pushed.result c.kept.result c.kept.ensures.part c.kept.ensures.test
+    (IfOk-weaker c.push_items-pushed.result (λ u. ListSure c.no_columns-selected.result → ListSure c.push_items-pushed.new.selected) (λ u. ListSure c.push_items-pushed.new.selected)
+    (λ u go. go (list_none_sure c.no_columns-selected.result c.no_columns-selected.ensures.exprs)) c.push_items-pushed.ensures.sure)

@@ -1,7 +1,8 @@
 use Rattle.std.specs.Prelude.{◌≡◌, length, nat_lt, true}
 use Rattle.std.specs.List.{AllZip}
 use Rattle.sq_scope.specs.WellFormed.{IsItemOver}
+use Rattle.sq_select.specs.Noted.{FromSure}
 use Rattle.sq_select.proofs.select.from_clause.Given as goal
 
 abbrev pub invariant-loop-reference : goal.invariant-loop-reference
-invariant-loop-reference g l = AllZip (IsItemOver (g.N.Names.column_kinds l.names)) l.clause.tables l.clause.items × (nat_lt 0 (length l.clause.tables) ≡ true)
+invariant-loop-reference g l = AllZip (IsItemOver (g.N.Names.column_kinds l.names)) l.clause.tables l.clause.items × (nat_lt 0 (length l.clause.tables) ≡ true) × FromSure l.clause.findings l.clause.tables

@@ -1,5 +1,5 @@
 use Rattle.sq_select.specs.Reach.{PlacesReach}
-use Rattle.sq_select.proofs.Reaches as reaches
+use Rattle.sq_scope.specs.Reach.{no_further, outward}
 use Rattle.std.proofs.Common.{[], ◌∷◌, ◌++◌, sym, ap, subst, ◌∙◌}
 use Rattle.sq_meaning.proofs.AnswerLaws.{all_appended}
 use Rattle.sq_bound.specs.WellFormed.{kinds_of_parameters}
@@ -15,7 +15,7 @@ loop-reference-init c =
           let parameters = kinds_of_parameters c.args.environment.now.parameters.now in
           subst (AreGroupingColumns kinds parameters levels) (sym (next.1 ∙ ap (λ l. l ++ next.0 ∷ []) c.new-columns.ensures)) (next.2 kinds levels are, tt)),
       some_column _ _ next.0 next.1,
-      c.in_ok-findings.ensures.reach (subst (PlacesReach 0) (sym c.new-columns.ensures) tt),
+      c.in_ok-findings.ensures.reach (subst (PlacesReach no_further) (sym c.new-columns.ensures) tt),
     )
 
 pub loop-reference-preserved : goal.loop-reference-preserved
@@ -39,6 +39,6 @@ returns-clause-well_formed c = λ kinds levels are.
 
 pub returns-clause-reach : goal.returns-clause-reach
 returns-clause-reach c = elim c.match-list.branch [
-  | in-Some+in_ok-findings+else-loop-reference-test w ↦ subst (λ r. PlacesReach r c.match-list.columns) (sym (ap (λ f. f.reach) w.findings-is)) (subst (PlacesReach w.loop-reference.findings.reach) (sym w.columns-is) w.loop-reference.invariant.2)
-  | in_default w ↦ subst (λ r. PlacesReach r c.match-list.columns) (sym (ap (λ f. f.reach) w.findings-is)) (subst (PlacesReach 0) (sym (w.columns-is ∙ c.new-columns.ensures)) tt)
+  | in-Some+in_ok-findings+else-loop-reference-test w ↦ subst (λ r. PlacesReach r c.match-list.columns) (sym (ap outward w.findings-is)) (subst (PlacesReach (outward w.loop-reference.findings)) (sym w.columns-is) w.loop-reference.invariant.2)
+  | in_default w ↦ subst (λ r. PlacesReach r c.match-list.columns) (sym (ap outward w.findings-is)) (subst (PlacesReach no_further) (sym (w.columns-is ∙ c.new-columns.ensures)) tt)
 ]

@@ -1,3 +1,4 @@
+use Rattle.sq_scope.specs.Reach.{outward}
 use Rattle.sq_select.specs.Reach.{PlacesReach}
 use Rattle.sq_bound.specs.WellFormed.{Levels, TableKinds, kinds_of_parameters}
 use Rattle.std.proofs.Common.{◌≡◌, false}
@@ -9,4 +10,4 @@ abbrev pub invariant-loop-reference : goal.invariant-loop-reference
 invariant-loop-reference l =
     ((kinds : TableKinds) (levels : Levels) → AreLevelsIn kinds levels l.environment → AreGroupingColumns kinds (kinds_of_parameters l.environment.parameters.now) levels l.columns)
     × (is_no_column l.columns ≡ false)
-    × PlacesReach l.findings.reach l.columns
+    × PlacesReach (outward l.findings) l.columns

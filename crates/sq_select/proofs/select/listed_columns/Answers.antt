@@ -1,6 +1,6 @@
-use Rattle.sq_scope.specs.Reach.{MayReach}
+use Rattle.sq_scope.specs.Reach.{MayReach, outward}
+use Rattle.sq_select.proofs.Notes.{list_none_sure}
 use Rattle.sq_select.specs.Reach.{EachReaches}
-use Rattle.sq_select.proofs.Reaches as reaches
 use Rattle.sq_select.proofs.InOrder.{adds_none}
 use Rattle.sq_scope.specs.Expression.{expr_functions}
 use Rattle.std.proofs.Common.{refl, sym, subst}
@@ -24,8 +24,9 @@ loop-expr-init c = (
   c.bind_expr-first.ensures.grows,
   (let before = c.args.functions.now.calls in
       c.with_column-selected.ensures.in_order before before c.bind_expr-first.new.functions.calls (adds_none expr_functions c.no_columns.result.exprs before c.no_columns.ensures.exprs) c.bind_expr-first.ensures.in_order),
-  c.with_column-selected.ensures.reach (subst (EachReaches MayReach c.no_columns.result.findings.reach) (sym c.no_columns.ensures.exprs) tt) c.bind_expr-first.ensures.reach,
+  c.with_column-selected.ensures.reach (subst (EachReaches MayReach (outward c.no_columns.result.findings)) (sym c.no_columns.ensures.exprs) tt) c.bind_expr-first.ensures.reach,
   c.bind_expr-first.ensures.own,
+  c.with_column-selected.ensures.sure (list_none_sure c.no_columns.result c.no_columns.ensures.exprs) c.bind_expr-first.ensures.quiet,
 )
 
 pub loop-expr-preserved : goal.loop-expr-preserved
@@ -43,6 +44,7 @@ loop-expr-preserved c = (
   c.with_column-selected-in-loop-expr.ensures.in_order c.args.functions.now.calls c.loop-expr.functions.calls c.bind_expr-item.new.functions.calls c.loop-expr.invariant.2 c.bind_expr-item.ensures.in_order,
   c.with_column-selected-in-loop-expr.ensures.reach c.loop-expr.invariant.3 c.bind_expr-item.ensures.reach,
   (λ own. c.bind_expr-item.ensures.own (c.loop-expr.invariant.4 own)),
+  c.with_column-selected-in-loop-expr.ensures.sure c.loop-expr.invariant.5 c.bind_expr-item.ensures.quiet,
 )
 
 pub returns-clause-well_formed : goal.returns-clause-well_formed
@@ -59,3 +61,6 @@ returns-clause-reach c = c.loop-expr.invariant.3
 
 pub returns-clause-own : goal.returns-clause-own
 returns-clause-own c = c.loop-expr.invariant.4
+
+pub returns-clause-sure : goal.returns-clause-sure
+returns-clause-sure c = c.loop-expr.invariant.5

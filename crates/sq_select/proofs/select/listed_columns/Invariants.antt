@@ -1,4 +1,5 @@
-use Rattle.sq_scope.specs.Reach.{AreOwnCalls}
+use Rattle.sq_scope.specs.Reach.{AreNotedFunctions}
+use Rattle.sq_select.specs.Noted.{ListSure}
 use Rattle.sq_select.specs.Reach.{ListReaching}
 use Rattle.std.specs.Prelude.{IfOk}
 use Rattle.sq_bound.specs.WellFormed.{TableKinds}
@@ -11,4 +12,5 @@ abbrev pub invariant-loop-expr : goal.invariant-loop-expr
 invariant-loop-expr l = ((kinds : TableKinds) → IfOk l.selected (IsListIn kinds l.environment l.fn.functions.allowed l.functions.calls)) × Grows l.fn.functions l.functions
     × IfOk l.selected (AddsList l.fn.functions.calls l.functions.calls)
     × IfOk l.selected ListReaching
-    × (AreOwnCalls l.fn.functions.calls → AreOwnCalls l.functions.calls)
+    × (AreNotedFunctions l.fn.functions → AreNotedFunctions l.functions)
+    × IfOk l.selected ListSure

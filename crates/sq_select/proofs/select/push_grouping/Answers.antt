@@ -1,5 +1,6 @@
+use Rattle.sq_scope.specs.Reach.{outward}
 use Rattle.sq_select.proofs.Reaches as reaches
-use Rattle.std.proofs.Common.{false, inl, ◌≤◌, subst}
+use Rattle.std.proofs.Common.{ℕ, false, inl, ◌≤◌, subst, arith}
 use Rattle.sq_select.proofs.Contexts.{reads_none, not_false}
 use Rattle.sq_scope.proofs.Typings.{column_at_levels}
 use Rattle.sq_select.proofs.select.push_grouping.Goals as goal
@@ -17,5 +18,9 @@ returns-clause-well_formed c =
 pub returns-clause-reach : goal.returns-clause-reach
 returns-clause-reach c = λ before.
     let place = c.in_ok-found.found.place in
-    let reach = c.and.result.reach in
-    reaches.place_further c.args.findings.reach reach c.args.columns.now c.push.new.self place c.in_ok-push.ensures.ok c.and.ensures.reach.0 (subst (λ d. d ≤ reach) c.column_findings.ensures.reach c.and.ensures.reach.1) before
+    let all = outward c.and.result in
+    let small = c.in_ok-found.ensures.numbered in
+    let further = c.and.ensures.reach.1 in
+    let inside : place.depth ≤ all.reach = subst (λ (d : ℕ). d ≤ all.reach) c.column_findings.ensures.reach further.reach in
+    reaches.place_further (outward c.args.findings) all c.args.columns.now c.push.new.self place c.in_ok-push.ensures.ok c.and.ensures.reach.0
+    (omega (arith, inside), (λ near. let here = c.column_findings.ensures.outer small near in omega (arith, further.items, here)), (λ far. small)) before

@@ -1,4 +1,3 @@
-use Rattle.sq_select.proofs.Reaches as reaches
 use Rattle.std.proofs.Common.{◌≡◌, Some, refl, sym, ap, ◌∙◌}
 use Rattle.std.proofs.lemmas.Option.{slice_get-get_or}
 use Rattle.std.specs.Prelude.{slice_get}
@@ -7,7 +6,7 @@ use Rattle.sq_select.proofs.Columns.{zip_at}
 use Rattle.sq_select.proofs.select.push_items.Goals as goal
 
 pub loop-number-init : goal.loop-number-init
-loop-number-init c = ((λ kinds parameters tables levels calls over before. before), refl, (λ before. before))
+loop-number-init c = ((λ kinds parameters tables levels calls over before. before), refl, (λ before. before), (λ before. before))
 
 pub returns-in_err-push_table-clause-star : goal.returns-in_err-push_table-clause-star
 returns-in_err-push_table-clause-star c = c.push_table.ensures.star ∙ c.loop-number.invariant.1
@@ -23,6 +22,7 @@ loop-number-preserved c = (
       c.in_ok-push_table.ensures.well_formed kinds parameters tables levels calls at.0 at.1 at.2 (c.loop-number.invariant.0 kinds parameters tables levels calls over before)),
   c.push_table.ensures.star ∙ c.loop-number.invariant.1,
   (λ before. c.in_ok-push_table.ensures.reach (c.loop-number.invariant.2 before)),
+  (λ before. c.in_ok-push_table.ensures.sure (c.loop-number.invariant.3 before)),
 )
 
 pub returns-clause-well_formed : goal.returns-clause-well_formed
@@ -33,3 +33,6 @@ returns-clause-star c = c.loop-number.invariant.1
 
 pub returns-clause-reach : goal.returns-clause-reach
 returns-clause-reach c = c.loop-number.invariant.2
+
+pub returns-clause-sure : goal.returns-clause-sure
+returns-clause-sure c = c.loop-number.invariant.3

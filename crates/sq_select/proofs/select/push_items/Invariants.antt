@@ -1,3 +1,4 @@
+use Rattle.sq_select.specs.Noted.{ListSure}
 use Rattle.sq_select.specs.Reach.{ListReaching}
 use Rattle.std.proofs.Common.{◌≡◌, true, List, ◌∷◌}
 use Rattle.std.specs.List.{AllZip}
@@ -15,3 +16,4 @@ invariant-loop-number l =
     → AreColumns kinds parameters (level_over tables true ∷ levels) calls l.fn.selected.exprs l.fn.selected.columns → AreColumns kinds parameters (level_over tables true ∷ levels) calls l.selected.exprs l.selected.columns)
     × (l.selected.is_star ≡ l.fn.selected.is_star)
     × (ListReaching l.fn.selected → ListReaching l.selected)
+    × (ListSure l.fn.selected → ListSure l.selected)

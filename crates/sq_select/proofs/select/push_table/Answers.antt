@@ -1,6 +1,10 @@
+use Rattle.sq_meaning.specs.Sure.{is_sure_expr}
+use Rattle.sq_bound.proofs.ExpressionLaws.{expr_of-Column}
+use Rattle.sq_scope.specs.Reach.{no_further}
+use Rattle.sq_select.proofs.Notes.{list_next_sure}
 use Rattle.sq_bound.specs.declared.expression.Place.{Place}
 use Rattle.sq_select.proofs.Reaches as reaches
-use Rattle.std.proofs.Common.{◌≡◌, true, ◌∷◌, Some, refl, sym, ap, ◌∙◌}
+use Rattle.std.proofs.Common.{◌≡◌, true, false, ◌∷◌, Some, Ok, refl, sym, ap, ◌∙◌}
 use Rattle.std.proofs.lemmas.Option.{slice_get-get_or}
 use Rattle.std.specs.Prelude.{slice_get}
 use Rattle.sq_bound.specs.WellFormed.{IsExpr}
@@ -10,7 +14,7 @@ use Rattle.sq_select.proofs.Columns.{column_is, zip_more}
 use Rattle.sq_select.proofs.select.push_table.Goals as goal
 
 pub loop-column-init : goal.loop-column-init
-loop-column-init c = ((λ kinds parameters tables levels calls t at over before. before), refl, (λ before. before))
+loop-column-init c = ((λ kinds parameters tables levels calls t at over before. before), refl, (λ before. before), (λ before. before))
 
 pub returns-in_err-push_column-clause-star : goal.returns-in_err-push_column-clause-star
 returns-in_err-push_column-clause-star c = c.push_column.ensures.star ∙ c.loop-column.invariant.1
@@ -31,8 +35,12 @@ loop-column-preserved c = (
   c.push_column.ensures.star ∙ c.loop-column.invariant.1,
   (λ before.
       let place : Place = record { depth = 0; item = c.args.number; column = c.column-item.result.position } in
-      reaches.list_further c.loop-column.selected c.push_column.new.selected (bound.Column place) 0 c.in_ok-push_column.ensures.exprs c.in_ok-push_column.ensures.reach.0 c.in_ok-push_column.ensures.reach.1
+      reaches.list_further c.loop-column.selected c.push_column.new.selected (bound.Column place) no_further c.in_ok-push_column.ensures.exprs c.in_ok-push_column.ensures.reach.0 c.in_ok-push_column.ensures.reach.1
       (c.loop-column.invariant.2 before) (reaches.column_reach place refl)),
+  (λ before.
+      let place : Place = record { depth = 0; item = c.args.number; column = c.column-item.result.position } in
+      list_next_sure c.loop-column.selected c.push_column.new.selected (bound.Column place) false (Ok tt) c.in_ok-push_column.ensures.exprs c.in_ok-push_column.ensures.can_fail (c.loop-column.invariant.3 before)
+      (λ none functions are. ap is_sure_expr (expr_of-Column functions place))),
 )
 
 pub returns-clause-well_formed : goal.returns-clause-well_formed
@@ -43,3 +51,6 @@ returns-clause-star c = c.loop-column.invariant.1
 
 pub returns-clause-reach : goal.returns-clause-reach
 returns-clause-reach c = c.loop-column.invariant.2
+
+pub returns-clause-sure : goal.returns-clause-sure
+returns-clause-sure c = c.loop-column.invariant.3

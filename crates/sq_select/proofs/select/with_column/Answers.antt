@@ -1,4 +1,7 @@
 use Rattle.sq_select.specs.Reach.{ListReaching, Reaching, TypedReaches}
+use Rattle.sq_scope.specs.Reach.{outward}
+use Rattle.sq_select.specs.Noted.{ListSure, Sure, typed_sure}
+use Rattle.sq_select.proofs.Notes.{list_next_sure}
 use Rattle.sq_select.proofs.Reaches as reaches
 use Rattle.sq_select.proofs.InOrder.{list_further}
 use Rattle.sq_select.specs.InOrder.{Adding, AddsList, typed_functions}
@@ -32,5 +35,14 @@ returns-clause-reach c = λ h k.
     let found = c.in_ok-selected.item in
     let after = c.push_column-pushed.new.selected in
     kept_with ListReaching after c.push_column-pushed.result c.kept.result c.kept.ensures.part c.kept.ensures.test
-    (reaches.list_pushed before after found.part.expr found.findings.reach c.push_column-pushed.result c.push_column-pushed.ensures.exprs c.push_column-pushed.ensures.reach
+    (reaches.list_pushed before after found.part.expr (outward found.findings) c.push_column-pushed.result c.push_column-pushed.ensures.exprs c.push_column-pushed.ensures.reach
     (IfOk-at_ok ListReaching c.in_ok-selected.ensures.0 h) (IfOk-at_ok (Reaching TypedReaches) c.in_ok-selected.ensures.1 k))
+
+pub returns-clause-sure : goal.returns-clause-sure
+returns-clause-sure c = λ h k.
+    let before = c.in_ok-selected.selected in
+    let found = c.in_ok-selected.item in
+    let after = c.push_column-pushed.new.selected in
+    kept_with ListSure after c.push_column-pushed.result c.kept.result c.kept.ensures.part c.kept.ensures.test
+    (list_next_sure before after found.part.expr found.findings.can_fail c.push_column-pushed.result c.push_column-pushed.ensures.exprs c.push_column-pushed.ensures.can_fail
+    (IfOk-at_ok ListSure c.in_ok-selected.ensures.0 h) (IfOk-at_ok (Sure typed_sure) c.in_ok-selected.ensures.1 k))

@@ -1,6 +1,6 @@
 use Rattle.std.proofs.Common.{ap}
 use Rattle.sq_catalog.specs.Catalog.{Catalog}
-use Rattle.sq_catalog.proofs.Added.{refer_whole, whole_added}
+use Rattle.sq_catalog.proofs.Added.{refer_whole, stand_whole, whole_added}
 use Rattle.sq_catalog.proofs.catalog.Catalog.add_base.Goals as goal
 
 pub invariant_of-self-inside : goal.invariant_of-self-inside
@@ -8,7 +8,12 @@ invariant_of-self-inside c =
     let same = ap (λ (s : Catalog). s.bases) c.self.view_is in (
       refer_whole c.insert_base.result c.args.self.now.bases c.self.inside.base_tables.items c.insert_base.new.bases.items c.self.inside.bases.entries c.insert_base.new.tables.entries c.args.name c.args.table c.args.base
           c.insert_base.ensures.added c.insert_base.ensures.bases c.insert_base.ensures.unchanged same c.requires.next c.self.inside.refer,
-      tt,
+      (
+        stand_whole c.self.inside.views.entries c.insert_base.new.bases.items c.insert_base.new.tables.entries
+            (whole_added c.insert_base.result c.self.inside.views.entries c.args.self.now.bases c.self.inside.base_tables.items c.insert_base.new.bases.items c.self.inside.bases.entries c.insert_base.new.tables.entries
+            c.args.name c.args.table c.args.base c.insert_base.ensures.added c.insert_base.ensures.bases c.insert_base.ensures.unchanged same c.requires.next c.self.invariant),
+        tt,
+      ),
     )
 
 pub invariant_of-self : goal.invariant_of-self

@@ -1,8 +1,12 @@
 use Rattle.std.proofs.Common.{subst}
+use Rattle.sq_bound.specs.WellFormed.{IsViewAmong}
+use Rattle.sq_bound.specs.declared.condition.TablePlace.TheVariants.{Base}
 use Rattle.sq_catalog.specs.Catalog.{Catalog}
 use Rattle.sq_catalog.specs.Stored.{IsStored}
 use Rattle.sq_catalog.proofs.Extending.{table_read}
+use Rattle.sq_catalog.proofs.Added.{stands_at}
 use Rattle.sq_catalog.proofs.Stored.{stored_at}
+use Rattle.sq_catalog.proofs.ViewQueries.{base_among, view_read}
 use Rattle.sq_catalog.proofs.catalog.Catalog.entry.Goals as goal
 
 pub returns-in-Some-clause-well_formed : goal.returns-in-Some-clause-well_formed
@@ -16,3 +20,12 @@ returns-in-Some-get_full-clause-stored c =
 pub returns-in-Some-get_full-clause-well_formed : goal.returns-in-Some-get_full-clause-well_formed
 returns-in-Some-get_full-clause-well_formed c =
     table_read _ _ c.self.inside.views.entries c.in-Some-get_full.place c.in-Some-get_full.field-0-1.now c.in-Some-get_full.table.now c.self.view_is c.self.invariant.3 c.in-Some-get_full.ensures.entry
+
+pub returns-in-Some-clause-view : goal.returns-in-Some-clause-view
+returns-in-Some-clause-view c =
+    base_among _ c.in-Some.place c.in-Some.table.now.body (stands_at Base c.self.inside.bases.entries c.in-Some.place c.in-Some.field-0-1.now c.in-Some.table.now c.self.invariant.5 c.in-Some.ensures.entry)
+
+pub returns-in-Some-get_full-clause-view : goal.returns-in-Some-get_full-clause-view
+returns-in-Some-get_full-clause-view c =
+    subst (λ (s : Catalog). IsViewAmong s.views c.in-Some-get_full.table.now.body) c.self.view_is
+    (view_read c.self.inside.views.entries c.in-Some-get_full.place c.in-Some-get_full.field-0-1.now c.in-Some-get_full.table.now c.self.invariant.6 c.in-Some-get_full.ensures.entry)

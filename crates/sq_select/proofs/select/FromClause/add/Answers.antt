@@ -1,4 +1,6 @@
-use Rattle.std.proofs.Common.{◌≡◌, Ok, sym, subst}
+use Rattle.sq_bound.specs.Noted.{may_fail}
+use Rattle.sq_select.proofs.Notes.{tables_next}
+use Rattle.std.proofs.Common.{◌≡◌, Ok, sym, ap, subst, ◌∙◌}
 use Rattle.sq_bound.specs.WellFormed.{kinds_of_columns}
 use Rattle.sq_scope.proofs.Levels.{item_of_table}
 use Rattle.sq_scope.specs.WellFormed.{IsItemOver}
@@ -11,3 +13,8 @@ returns-clause-over g c = λ before.
     let table = c.in_ok-table.table.now in
     zip_more (IsItemOver kinds) c.args.self.now.tables c.args.self.now.items c.place.result c.in_ok-item.item c.push.new.self c.push-2.new.self c.in_ok-push.ensures.ok c.in_ok-push-2.ensures.ok before
     (item_of_table kinds c.place.result table.columns c.in_ok-item.item (subst (λ p. kinds p ≡ Ok (kinds_of_columns table.columns)) (sym c.place.ensures) c.in_ok-table.ensures.well_formed.kinds_are) c.in_ok-item.ensures.columns)
+
+pub returns-clause-sure : goal.returns-clause-sure
+returns-clause-sure g c = λ before.
+    tables_next c.args.self.now.tables c.push.new.self c.place.result c.args.self.now.findings.can_fail c.table_findings-found.result.can_fail c.and-self.result.can_fail
+    c.in_ok-push.ensures.ok c.and-self.ensures.can_fail (c.table_findings-found.ensures ∙ ap may_fail (sym c.place.ensures)) before
