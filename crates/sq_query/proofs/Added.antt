@@ -46,7 +46,7 @@ Places = List ℕ × List ℕ
 
 -- ---- one table
 
-abbrev is : ℕ → ℕ → Bool
+abbrev pub is : ℕ → ℕ → Bool
 is place other = nat_eq other place
 
 or_more : (a b : Bool) → a ≡ true → (a || b) ≡ true
@@ -71,7 +71,7 @@ any_own : (places : List ℕ) (q : ℕ) (there : Bool) → list_any (is q) place
 any_own places q true h = h
 any_own places q false h = list_any-append (is q) places (q ∷ []) ∙ or_last (list_any (is q) places) (nat_eq q q) (eq-eqb q q refl)
 
-any_old : {C : Type 0} (places : List ℕ) (p q : ℕ) (there : Bool) → list_any (is p) (if there then places else places ++ q ∷ []) ≡ true → (list_any (is p) places ≡ true → C) → (q ≡ p → C) → C
+pub any_old : {C : Type 0} (places : List ℕ) (p q : ℕ) (there : Bool) → list_any (is p) (if there then places else places ++ q ∷ []) ≡ true → (list_any (is p) places ≡ true → C) → (q ≡ p → C) → C
 any_old places p q true h old new = old h
 any_old places p q false h old new =
     one_of (list_any (is p) places) (nat_eq q p) (sym (list_any-append (is p) places (q ∷ [])) ∙ h) old (λ e. new (eqb-true q p e))
@@ -135,7 +135,7 @@ all_right P (t ∷ ts) us h = all_right P ts us h.1
 
 module _ (P : TablePlace → Type 0) where
   mutual
-    cond_listed : (c : PlacedCond) → ReadsCond P c → AllByRecursion P (cond_tables c)
+    pub cond_listed : (c : PlacedCond) → ReadsCond P c → AllByRecursion P (cond_tables c)
     cond_listed (compare op a b) h = tt
     cond_listed (compare_subquery op a q) h = select_listed q h
     cond_listed (compare_quantified op quantifier a q) h = select_listed q h
@@ -157,12 +157,12 @@ module _ (P : TablePlace → Type 0) where
     clause_listed absent h = tt
     clause_listed (present c) h = cond_listed c h
 
-    select_listed : (q : PlacedSelect) → ReadsSelect P q → AllByRecursion P (select_tables q)
+    pub select_listed : (q : PlacedSelect) → ReadsSelect P q → AllByRecursion P (select_tables q)
     select_listed (select distinct list from filter by having) h =
         all_joined P from (clause_tables filter ++ clause_tables having) h.0 (all_joined P (clause_tables filter) (clause_tables having) (clause_listed filter h.1) (clause_listed having h.2))
 
   mutual
-    cond_read : (c : PlacedCond) → AllByRecursion P (cond_tables c) → ReadsCond P c
+    pub cond_read : (c : PlacedCond) → AllByRecursion P (cond_tables c) → ReadsCond P c
     cond_read (compare op a b) h = tt
     cond_read (compare_subquery op a q) h = select_read q h
     cond_read (compare_quantified op quantifier a q) h = select_read q h
@@ -184,7 +184,7 @@ module _ (P : TablePlace → Type 0) where
     clause_read absent h = tt
     clause_read (present c) h = cond_read c h
 
-    select_read : (q : PlacedSelect) → AllByRecursion P (select_tables q) → ReadsSelect P q
+    pub select_read : (q : PlacedSelect) → AllByRecursion P (select_tables q) → ReadsSelect P q
     select_read (select distinct list from filter by having) h =
         let later = all_right P from (clause_tables filter ++ clause_tables having) h in (
           all_left P from (clause_tables filter ++ clause_tables having) h,

@@ -6,15 +6,14 @@ use Rattle.sq_value.specs.SetFunctions.{is_null as is_null_value}
 use Rattle.sq_value.specs.Truth.{negation, known}
 use Rattle.sq_tree.specs.declared.cond.Comparison.{Comparison}
 use Rattle.sq_tree.specs.declared.cond.Comparison.TheVariants.{Equal, LessOrEqual, GreaterOrEqual}
-use Rattle.sq_meaning.specs.Status.{Outcome, and_then, each, kept, with_status, like_status}
-use Rattle.sq_meaning.specs.Syntax.{Conds, SelectList, all_columns, expressions, absent, present, select, from_clause, where_clause, having_clause, literal, parameter, user, column, count_rows, set_function, signed, added, scaled, bracketed, compare, compare_subquery, compare_quantified, between, in_subquery, in_list, like, is_null, exists, negated, conjunction, disjunction, no_cond, a_cond}
+use Rattle.sq_meaning.specs.Status.{Outcome, and_then, each, with_status, like_status}
+use Rattle.sq_meaning.specs.Syntax.{Conds, SelectList, all_columns, expressions, literal, parameter, user, column, count_rows, set_function, signed, added, scaled, bracketed, compare, compare_subquery, compare_quantified, between, in_subquery, in_list, like, is_null, exists, negated, conjunction, disjunction, no_cond, a_cond}
 use Rattle.sq_meaning.specs.Environment.{Row, Line, Env, Place, alone, within}
 use Rattle.sq_meaning.specs.Expression.{value, over_group, with_sign, sum_of, product_of, function_value, distinct_values}
 use Rattle.sq_meaning.specs.Placed.{Placed, by_place}
-use Rattle.sq_meaning.specs.Query.{compared, comparison, and_also, or_else, any_in_turn, like_truth, truth, all_truth, any_truth, clause_truth, is_true, is_grouped, list_functions, clause_functions, group_scope, groups_by, group_scopes, scopes_of, listed_values, rows}
-use Rattle.sq_meaning.specs.Rows.{product, firsts, same_row}
-use Rattle.sq_meaning.specs.Target.{has_subquery, have_subquery, clause_has_subquery}
-use Rattle.sq_bound.specs.Condition.{PlacedCond, PlacedClause, PlacedSelect}
+use Rattle.sq_meaning.specs.Query.{compared, comparison, and_also, or_else, any_in_turn, like_truth, truth, all_truth, any_truth, is_grouped, list_functions, clause_functions, group_scope, groups_by, group_scopes, scopes_of, listed_values}
+use Rattle.sq_meaning.specs.Target.{has_subquery, have_subquery}
+use Rattle.sq_bound.specs.Condition.{PlacedCond, PlacedClause}
 use Rattle.sq_bound.specs.Expression.{PlacedExpr}
 use Rattle.sq_bound.specs.declared.condition.TablePlace.{TablePlace}
 use Rattle.sq_query.proofs.Conditions.{not_both, neither_left, neither_right}
@@ -32,10 +31,10 @@ module _ (here there : TablePlace → Outcome (List Row)) where
   value_over (scaled s a b) env = λ i. and_then (value_over a env i) (λ x. and_then (value_over b env i) (λ y. product_of s x y))
   value_over (bracketed e) env = value_over e env
 
-  compared_over : (op : Comparison) (a b : PlacedExpr) (env : Env (Unit {0})) → compared (by_place here) op a b env ≡ compared (by_place there) op a b env
+  pub compared_over : (op : Comparison) (a b : PlacedExpr) (env : Env (Unit {0})) → compared (by_place here) op a b env ≡ compared (by_place there) op a b env
   compared_over op a b env = λ i. and_then (value_over a env i) (λ x. and_then (value_over b env i) (λ y. Ok (comparison op x y)))
 
-  like_over : (text pattern : PlacedExpr) (escape : Option PlacedExpr) (env : Env (Unit {0})) → like_truth (by_place here) text pattern escape env ≡ like_truth (by_place there) text pattern escape env
+  pub like_over : (text pattern : PlacedExpr) (escape : Option PlacedExpr) (env : Env (Unit {0})) → like_truth (by_place here) text pattern escape env ≡ like_truth (by_place there) text pattern escape env
   like_over text pattern None env = λ i. and_then (value_over text env i) (λ t. and_then (value_over pattern env i) (λ p. with_status like_status (liked t p None)))
   like_over text pattern (Some escape) env = λ i. and_then (value_over text env i) (λ t. and_then (value_over pattern env i) (λ p. and_then (value_over escape env i) (λ e. with_status like_status (liked t p (Some e)))))
 
@@ -64,10 +63,6 @@ module _ (here there : TablePlace → Outcome (List Row)) where
     any_over (a_cond c cs) env plain =
         λ i. or_else (truth_over c env (neither_left (has_subquery c) (have_subquery cs) plain) i) (any_over cs env (neither_right (has_subquery c) (have_subquery cs) plain) i)
 
-  clause_over : (c : PlacedClause) (env : Env (Unit {0})) → clause_has_subquery c ≡ false → clause_truth (by_place here) c env ≡ clause_truth (by_place there) c env
-  clause_over absent env plain = refl
-  clause_over (present c) env plain = truth_over c env plain
-
   -- ---- query specifications
 
   groups_over : (by : List Place) (heads : List (Unit {0})) (lines : List Line) (env : Env (Unit {0})) → groups_by (by_place here) by heads lines env ≡ groups_by (by_place there) by heads lines env
@@ -80,25 +75,12 @@ module _ (here there : TablePlace → Outcome (List Row)) where
       and_then (groups_over by heads lines env i)
       (λ groups. and_then (each (λ group. each (λ f. value_over f (within (group_scope heads group) env) i) functions) groups) (λ _. Ok (map (group_scope heads) groups)))
 
-  scopes_over : (list : SelectList (Placed TablePlace)) (by : List Place) (having : PlacedClause) (heads : List (Unit {0})) (lines : List Line) (env : Env (Unit {0}))
+  pub scopes_over : (list : SelectList (Placed TablePlace)) (by : List Place) (having : PlacedClause) (heads : List (Unit {0})) (lines : List Line) (env : Env (Unit {0}))
       → scopes_of (by_place here) list by having heads lines env ≡ scopes_of (by_place there) list by having heads lines env
   scopes_over list by having heads lines env = λ i.
       if is_grouped list by having then group_scopes_over (list_functions list ++ clause_functions having) by heads lines env i
       else Ok (map (alone heads) lines)
 
-  listed_over : (list : SelectList (Placed TablePlace)) (env : Env (Unit {0})) → listed_values (by_place here) list env ≡ listed_values (by_place there) list env
+  pub listed_over : (list : SelectList (Placed TablePlace)) (env : Env (Unit {0})) → listed_values (by_place here) list env ≡ listed_values (by_place there) list env
   listed_over all_columns env = refl
   listed_over (expressions es) env = λ i. each (λ e. value_over e env i) es
-
-  -- without subqueries, its tables alone matter
-  pub rows_over : (q : PlacedSelect) (env : Env (Unit {0})) → each here (from_clause q) ≡ each there (from_clause q)
-      → clause_has_subquery (where_clause q) ≡ false → clause_has_subquery (having_clause q) ≡ false
-      → rows (by_place here) q env ≡ rows (by_place there) q env
-  rows_over (select distinct list from filter by having) env same plain_where plain_having = λ i.
-      and_then (each (λ t. let item : Outcome (Unit {0}) = Ok tt in item) from)
-      (λ heads. and_then (same i)
-      (λ tables. and_then (kept (λ line. is_true (clause_over filter (within (alone heads line) env) plain_where i)) (product tables))
-      (λ lines. and_then (scopes_over list by having heads lines env i)
-      (λ scopes. and_then (kept (λ scope. is_true (clause_over having (within scope env) plain_having i)) scopes)
-      (λ left. and_then (each (λ scope. listed_over list (within scope env) i) left)
-      (λ shown. Ok (if distinct then firsts same_row shown else shown)))))))

@@ -1,5 +1,5 @@
 -- Values of bounded kinds may be brought to the common kinds of UNION (ISO/IEC 9075:1992, 7.10).
-use Rattle.std.proofs.Common.{◌≡◌, ◌≤◌, max, true, List, [], ◌∷◌, ◌++◌, arith, refl, ap, ◌∙◌, Ok, Err}
+use Rattle.std.proofs.Common.{◌≡◌, ◌≤◌, max, true, List, [], ◌∷◌, ◌++◌, arith, refl, subst, ap, ◌∙◌, Ok, Err}
 use Rattle.std.proofs.lemmas.Bool.{leb-true}
 use Rattle.std.specs.Prelude.{IfOk}
 use Rattle.std.specs.List.{AllByRecursion}
@@ -15,7 +15,6 @@ use Rattle.sq_meaning.specs.WellFormed.{IsRowOf, AreRowsOf}
 use Rattle.sq_meaning.proofs.AnswerLaws.{all_weaker, all_appended}
 use Rattle.sq_bound.specs.Joined.{is_bounded, are_bounded}
 use Rattle.sq_query.specs.Union.{MayBeBrought, IsBringable, AreBringable}
-use Rattle.sq_query.proofs.JoinedKinds.{if_there, paired}
 use Rattle.sq_query.proofs.JoinedTerms.{both_true}
 
 -- ---- bounded kinds
@@ -55,6 +54,19 @@ turned [] [] = refl
 turned [] (l ∷ ls) = refl
 turned (k ∷ ks) [] = refl
 turned (k ∷ ks) (l ∷ ls) = λ i. and_then (one_turned k l i) (λ c. and_then (turned ks ls i) (λ cs. Ok (c ∷ cs)))
+
+-- ---- outcomes
+
+-- what is there, with its equation
+if_there : {A : Type 0} (P : A → Type 0) (o : Outcome A) (x : A) → o ≡ Ok x → IfOk o P → P x
+if_there P o x e h = subst (λ r. IfOk r P) e h
+
+-- one and the others
+paired : {A : Type 0} (P : A → Type 0) (Q R : List A → Type 0) → ((x : A) (xs : List A) → P x → Q xs → R (x ∷ xs)) → (o : Outcome A) (p : Outcome (List A)) → IfOk o P → IfOk p Q
+    → IfOk (and_then o (λ x. and_then p (λ xs. Ok (x ∷ xs)))) R
+paired P Q R f (Err s) p h k = tt
+paired P Q R f (Ok x) (Err s) h k = tt
+paired P Q R f (Ok x) (Ok xs) h k = f x xs h k
 
 -- ---- values of a side
 

@@ -21,13 +21,14 @@ use Rattle.sq_bound.proofs.ConditionLaws.{cond_of-out, conj_of-out, test_of-out,
 use Rattle.sq_meaning.specs.Syntax.{literal}
 use Rattle.sq_meaning.specs.Target.{has_subquery, have_subquery}
 use Rattle.sq_query.specs.Condition.{HasTruth, cond_on, term_on, test_on}
-use Rattle.sq_query.specs.Fault.{Meets}
+use Rattle.sq_query.specs.Fault.{Means, Meets}
 use Rattle.sq_query.specs.Frame.{env_of, group_values, reading, truth_in}
 use Rattle.sq_query.specs.Predicate.{with_not}
 use Rattle.sq_query.specs.declared.context.Context.{Context}
 use Rattle.sq_query.specs.declared.fault.Fault.{Fault}
 use Rattle.sq_query.specs.declared.frame.Frame.{Frame}
 use Rattle.sq_query.proofs.Expressions.{meets_by}
+use Rattle.sq_query.proofs.Right.{means_by, means_same, right_not}
 use Rattle.sq_query.proofs.Turns.{InTurn}
 
 Holds : Bool → Type 0
@@ -62,6 +63,16 @@ pub meets_not : (r inner : Result Truth Fault) (frame : Frame) (context : Contex
     → c ≡ not_if written tree → ((o : Outcome Truth) → Meets inner o → Meets r (with_not written o)) → Meets inner (truth_in frame context tree) → Meets r (truth_in frame context c)
 meets_not r inner frame context true c tree is negates has = meets_tree r frame context c (not_if true tree) is (negates (truth_in frame context tree) has)
 meets_not r inner frame context false c tree is negates has = meets_tree r frame context c tree is (negates (truth_in frame context tree) has)
+
+pub means_tree : (r : Result Truth Fault) (frame : Frame) (context : Context) (c tree : PlacedCond) → c ≡ tree → Means r (truth_in frame context tree) → Means r (truth_in frame context c)
+means_tree r frame context c tree is = means_same r (truth_in frame context c) (truth_in frame context tree) (ap (truth_in frame context) is)
+
+pub means_not : (r inner : Result Truth Fault) (frame : Frame) (context : Context) (written : Bool) (c tree : PlacedCond)
+    → c ≡ not_if written tree → ((o : Outcome Truth) → Meets inner o → Meets r (with_not written o)) → Means inner (truth_in frame context tree) → Means r (truth_in frame context c)
+means_not r inner frame context true c tree is negates has =
+    means_tree r frame context c (not_if true tree) is (means_by r inner (truth_in frame context tree) (with_not true) (right_not true (truth_in frame context tree)) negates has)
+means_not r inner frame context false c tree is negates has =
+    means_tree r frame context c tree is (means_by r inner (truth_in frame context tree) (with_not false) (right_not false (truth_in frame context tree)) negates has)
 
 pub has_not : (r inner : Result Truth Fault) (frame : Frame) (context : Context) (written : Bool) (c tree : PlacedCond)
     → c ≡ not_if written tree → ((o : Outcome Truth) → Meets inner o → Meets r (with_not written o)) → HasTruth inner frame context tree → HasTruth r frame context c

@@ -12,10 +12,6 @@ use Rattle.sq_query.specs.declared.fault.Fault.TheVariants as fault
 unfoldable pub after : {A : Type 0} → List A → Outcome (List A) → Outcome (List A)
 after done rest = and_then rest (λ ys. Ok (done ++ ys))
 
-pub after_is : {A : Type 0} (done : List A) (rest : Outcome (List A)) → and_then rest (λ ys. Ok (done ++ ys)) ≡ after done rest
-unfolding after
-after_is done rest = refl
-
 after_none : {A : Type 0} (rest : Outcome (List A)) → rest ≡ after [] rest
 unfolding after
 after_none (Ok ys) = refl

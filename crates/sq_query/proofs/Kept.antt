@@ -5,7 +5,8 @@ use Rattle.std.proofs.lemmas.List.{drop_more}
 use Rattle.std.proofs.Math.ListN.{drop_of_length-le}
 use Rattle.sq_meaning.specs.Status.{Outcome, and_then, kept}
 use Rattle.sq_meaning.specs.declared.status.Status.{Status}
-use Rattle.sq_query.specs.Fault.{Meets, status_of}
+use Rattle.sq_meaning.specs.declared.status.Status.TheVariants.{SyntaxErrorOrAccessRuleViolation}
+use Rattle.sq_query.specs.Fault.{IsRight, Meets, status_of}
 use Rattle.sq_query.specs.declared.fault.Fault.{Fault}
 use Rattle.sq_query.specs.declared.fault.Fault.TheVariants as fault
 use Rattle.sq_query.proofs.Each.{after}
@@ -59,6 +60,16 @@ pub kept_failed : {X Y : Type 0} (test : Y → Outcome Bool) (g : X → Y) (whol
 kept_failed test g whole done xs i x fault.NoMemory within is so_far failed = tt
 kept_failed test g whole done xs i x (fault.Status s) within is so_far failed =
     first_left test g whole done xs i x within is so_far ∙ one_failed done (g x) (test (g x)) (kept test (map g (drop (i + 1) xs))) (status_of s) failed
+
+-- the next test is right where the whole is
+pub kept_right : {X Y : Type 0} (test : Y → Outcome Bool) (g : X → Y) (whole : Outcome (List Y)) (done : List Y) (xs : List X) (i : ℕ) (x : X)
+    → i < length xs → x ≡ get_or xs i x → whole ≡ after done (kept test (map g (drop i xs)))
+    → IsRight whole → IsRight (test (g x))
+kept_right {X} {Y} test g whole done xs i x within is so_far right fails =
+    let rest = kept test (map g (drop (i + 1) xs)) in
+    right (first_left test g whole done xs i x within is so_far
+    ∙ ap (λ (o : Outcome Bool). after done (before_rest (g x) o rest)) fails
+    ∙ one_failed done (g x) (Err SyntaxErrorOrAccessRuleViolation) rest SyntaxErrorOrAccessRuleViolation refl)
 
 pub kept_ends : {X Y : Type 0} (test : Y → Outcome Bool) (g : X → Y) (whole : Outcome (List Y)) (done : List Y) (xs : List X) (i : ℕ)
     → length xs ≤ i → whole ≡ after done (kept test (map g (drop i xs))) → whole ≡ Ok done

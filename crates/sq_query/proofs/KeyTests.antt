@@ -38,7 +38,7 @@ use Rattle.sq_bound.proofs.ConditionLaws.{cond_of-out, conj_of-out, test_of-out,
 use Rattle.sq_bound.proofs.ExpressionLaws.{expr_of-Column}
 use Rattle.sq_bound.proofs.QuietTruths.{both_left, both_right}
 use Rattle.sq_query.specs.Row.{outside}
-use Rattle.sq_query.specs.Target.{IsComparedWith, AreEqualled, IsEquality}
+use Rattle.sq_query.specs.Key.{IsComparedWith, AreEqualled, IsEquality}
 use Rattle.sq_query.proofs.Kept.{ok_same}
 
 -- ---- what the code finds

@@ -33,10 +33,11 @@ use Rattle.sq_query.specs.Fault.{Meets, MeetsAs}
 use Rattle.sq_query.specs.Frame.{inputs_of}
 use Rattle.sq_query.specs.Row.{outside}
 use Rattle.sq_query.specs.Table.{stored_numbered}
-use Rattle.sq_query.specs.Target.{and_own, are_true, chosen, conditions_of, is_true_of, numbers_chosen, numbers_in, IsChosen, IsKeyOf, IsQuietOver}
+use Rattle.sq_query.specs.Target.{and_own, are_true, chosen, conditions_of, is_true_of, numbers_chosen, numbers_in, IsChosen, IsQuietOver}
 use Rattle.sq_query.specs.declared.fault.Fault.{Fault}
 use Rattle.sq_query.specs.declared.fault.Fault.TheVariants as fault
-use Rattle.sq_query.specs.declared.target.KnownKey.{KnownKey}
+use Rattle.sq_query.specs.Key.{IsKeyOf}
+use Rattle.sq_query.specs.declared.key.KnownKey.{KnownKey}
 use Rattle.sq_query.proofs.AnyTables.{truth_over}
 use Rattle.sq_query.proofs.ChosenRows.{is_ok_true, has_answer, all_true_of, are_true_all, all_so, chosen_filter}
 use Rattle.sq_query.proofs.Conditions.{neither_left, neither_right}
@@ -53,7 +54,7 @@ inputs_are (k ∷ kinds) (v ∷ values) h = (h.0, inputs_are kinds values h.1)
 
 -- ---- the conditions of a target
 
-both_are : (P : BoundCond → Type 0) (cs : List BoundCond) (own : Option BoundCond) → AllByRecursion P cs → IfSome own P → AllByRecursion P (and_own cs own)
+pub both_are : (P : BoundCond → Type 0) (cs : List BoundCond) (own : Option BoundCond) → AllByRecursion P cs → IfSome own P → AllByRecursion P (and_own cs own)
 both_are P cs None all last = all
 both_are P [] (Some c) all last = (last, tt)
 both_are P (d ∷ cs) (Some c) all last = (all.0, both_are P cs (Some c) all.1 last)

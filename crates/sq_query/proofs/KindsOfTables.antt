@@ -1,5 +1,5 @@
 -- The rows of the tables that a statement reads have values of the kinds of their columns.
-use Rattle.std.proofs.Common.{◌≡◌, arith, ℕ, zero, suc, ◌<◌, nat_eq, nat_lt, Bool, true, false, List, [], ◌∷◌, length, map, find, cond, slice_get, Option, Some, None, IfOk, Result, refl, sym, ap, subst, ◌∙◌, Ok, Err}
+use Rattle.std.proofs.Common.{◌≡◌, arith, ℕ, zero, suc, ◌<◌, nat_eq, nat_lt, Bool, true, false, List, [], ◌∷◌, length, map, find, cond, slice_get, Option, Some, None, IfOk, refl, sym, ap, subst, ◌∙◌, Ok, Err}
 use Rattle.std.specs.Option.{option_map}
 use Rattle.std.proofs.lemmas.Bool.{eqb-true, ltb-true}
 use Rattle.sq_value.specs.Domain.{IsInDomain, IsOfKind, kind_of}
@@ -21,11 +21,8 @@ use Rattle.sq_bound.specs.declared.condition.TablePlace.TheVariants.{Base, View}
 use Rattle.sq_bound.specs.declared.names.BaseColumn.{BaseColumn}
 use Rattle.sq_bound.specs.declared.names.BaseTable.{BaseTable}
 use Rattle.sq_query.specs.Frame.{lent, view_outcome}
-use Rattle.sq_query.specs.Kinds.{HaveKinds}
 use Rattle.sq_query.specs.Table.{table_there, stored_base, base_seen, AreRowsAt, IsBaseOf, IsViewOf, AreBasesOf, AreViewsOf}
-use Rattle.sq_query.specs.declared.context.Context.{Context}
 use Rattle.sq_query.specs.declared.fault.Failure.{Failure}
-use Rattle.sq_query.specs.declared.fault.Fault.{Fault}
 use Rattle.sq_query.specs.declared.table.BaseRows.{BaseRows}
 use Rattle.sq_query.specs.declared.table.ViewRows.{ViewRows}
 use Rattle.sq_query.proofs.Bases.{stored_by}
@@ -66,7 +63,7 @@ tails_same : {A : Type 0} (x y : A) (xs ys : List A) → x ∷ xs ≡ y ∷ ys �
 tails_same x y xs ys h = cc
 
 -- the base tables have the kinds of their columns
-abbrev KindsAreOf : TableKinds → List BaseTable → Type 0
+abbrev pub KindsAreOf : TableKinds → List BaseTable → Type 0
 KindsAreOf columns bases = (place : ℕ) (b : BaseTable) → slice_get bases place ≡ Some b → columns (Base place) ≡ Ok (base_kinds b)
 
 -- a table of the store, the base table at its place
@@ -148,14 +145,4 @@ module _ (columns : TableKinds) where
   view_found p kinds e [] h = tt
   view_found p kinds e (v ∷ vs) h = view_first p kinds e v vs h.0 (view_found p kinds e vs h.1) (nat_eq v.place p) refl
 
-  pub have_kinds : (context : Context) → AreBasesOf columns context.bases.now → AreViewsOf columns context.views.now → HaveKinds columns context
-  have_kinds context bases views (Base p) kinds e = base_found p kinds e context.bases.now bases
-  have_kinds context bases views (View p) kinds e = view_found p kinds e context.views.now views
-
 -- ---- views
-
--- a view whose rows are of the kinds of its query's columns
-pub view_of_kinds : (columns : TableKinds) (place : ℕ) (kinds : List Kind) (r : Result ViewRows Fault) → columns (View place) ≡ Ok kinds → IfOk r (λ v. v.place ≡ place) → IfOk r (λ v. AreRowsOf kinds v.rows.items) → IfOk r (IsViewOf columns)
-view_of_kinds columns place kinds (Err f) e at rows = tt
-view_of_kinds columns place kinds (Ok v) e at rows = λ others is.
-    subst (λ (ks : List Kind). AreRowsOf ks v.rows.items) (ok_same kinds others (sym e ∙ ap (λ n. columns (View n)) (sym at) ∙ is)) rows

@@ -1,6 +1,6 @@
 -- Conditions one after another, each of which has to be true.
 use Rattle.std.proofs.Common.{◌≡◌, ◌≢◌, ℕ, zero, suc, ◌+◌, ◌<◌, ◌≤◌, Bool, true, false, List, [], ◌∷◌, ◌++◌, length, drop, take, map, get_or, arith, refl, sym, ◌∙◌, ap, subst, Result, Ok, Err, Bor}
-use Rattle.std.specs.List.{list_any}
+use Rattle.std.specs.List.{AllByRecursion, list_any}
 use Rattle.std.specs.Prelude.{if◌then◌else◌}
 use Rattle.std.proofs.lemmas.List.{drop_more, take_more, map_push}
 use Rattle.std.proofs.Math.ListN.{drop_of_length-le}
@@ -67,3 +67,13 @@ pub chosen_by : {X : Type 0} (p : X → Bool) (test : X → Outcome Truth) (r : 
 chosen_by {X} p test r items conditions same meets none =
     subst (λ (o : Outcome Bool). Meets r o) (are_true_lent test items ∙ ap (are_true test) same)
     (meets (subst (λ (cs : List X). list_any p cs ≡ false) (sym same) none))
+
+-- what holds of all of them holds of one of them
+pub lent_at : {X : Type 0} (P : X → Type 0) (xs : List (Bor X)) (i : ℕ) (b : Bor X) → i < length xs → b ≡ get_or xs i b → AllByRecursion P (map (λ (c : Bor X). c.now) xs) → P b.now
+lent_at P [] i b within is all = let no : i < 0 = within in let never : ⊥ = omega arith in absurd never
+lent_at {X} P (c ∷ xs) zero b within is all = subst (λ (d : Bor X). P d.now) (sym is) all.0
+lent_at P (c ∷ xs) (suc i) b within is all = lent_at P xs i b (omega arith) is all.1
+
+pub told_by : {X : Type 0} (test : X → Outcome Truth) (r : Result Bool Fault) (items : List (Bor X)) (conditions : List X) → map (λ (b : Bor X). b.now) items ≡ conditions
+    → Meets r (are_true (λ (b : Bor X). test b.now) items) → Meets r (are_true test conditions)
+told_by {X} test r items conditions same meets = subst (λ (o : Outcome Bool). Meets r o) (are_true_lent test items ∙ ap (are_true test) same) meets

@@ -41,3 +41,6 @@ module _ (frame : Frame) (context : Context) (line : Line) (scopes : scopes_of f
       (truth_over tables (table_rows context) (cond_of [] c) (outside line context.parameters.now context.user) plain
       ∙ (λ i. truth (reading context) (cond_of (map literal (f i)) c) (record { scopes = s i; inputs = inputs_of context.parameters.now; user = context.user })))
       (h (subst (λ (vs : List Value). has_subquery (cond_of (map literal vs) c) ≡ false) f plain))
+
+  pub meant_outside : (c : BoundCond) → truth_in frame context (cond_on frame c) ≡ truth (reading context) (cond_of [] c) (outside line context.parameters.now context.user)
+  meant_outside c = λ i. truth (reading context) (cond_of (map literal (functions i)) c) (record { scopes = scopes i; inputs = inputs_of context.parameters.now; user = context.user })

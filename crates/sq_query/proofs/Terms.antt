@@ -1,19 +1,19 @@
 -- Query expressions, term by term (ISO/IEC 9075:1992, 7.10).
-use Rattle.std.proofs.Common.{List, [], ◌∷◌, map, sym, subst, ◌∙◌}
+use Rattle.std.proofs.Common.{List, [], ◌∷◌, map, sym, subst}
 use Rattle.std.specs.Prelude.{fold, flat_map}
 use Rattle.std.specs.List.{AllByRecursion}
 use Rattle.sq_meaning.specs.Syntax.{specification, union}
 use Rattle.sq_bound.specs.Condition.{PlacedSelect, select_of}
-use Rattle.sq_bound.specs.Joined.{specifications_of, term_specifications, union_specifications}
-use Rattle.sq_bound.specs.Query.{PlacedQuery, query_of, term_of, union_of}
+use Rattle.sq_bound.specs.Joined.{term_specifications, union_specifications}
+use Rattle.sq_bound.specs.Query.{PlacedQuery, term_of, union_of}
 use Rattle.sq_bound.specs.declared.condition.BoundSpecification.{BoundSpecification}
 use Rattle.sq_bound.specs.declared.query.BoundQuery.{BoundQuery, BoundQuery-F, roll-BoundQuery, out-BoundQuery, out-roll-BoundQuery, map-BoundQuery}
 use Rattle.sq_bound.specs.declared.query.BoundTerm.{BoundTerm, BoundTerm-F, roll-BoundTerm, map-BoundTerm, ind-BoundTerm}
 use Rattle.sq_bound.specs.declared.query.BoundTerm.TheOpen as layer
 use Rattle.sq_bound.specs.declared.query.BoundTerm.TheVariants.{Specification, Bracketed, rolls-Specification, rolls-Bracketed}
 use Rattle.sq_bound.specs.declared.query.BoundUnion.{BoundUnion, BoundUnion-F, roll-BoundUnion, map-BoundUnion}
-use Rattle.sq_bound.proofs.JoinedLaws.{specifications_of-out, union_specifications-out, term_specifications-Specification, term_specifications-Bracketed}
-use Rattle.sq_bound.proofs.QueryLaws.{query_of-out, union_of-out, term_of-Specification, term_of-Bracketed}
+use Rattle.sq_bound.proofs.JoinedLaws.{union_specifications-out, term_specifications-Specification}
+use Rattle.sq_bound.proofs.QueryLaws.{union_of-out, term_of-Specification}
 use Rattle.sq_query.proofs.JoinedTerms.{all_left, all_right}
 
 -- ---- what holds of every term
@@ -78,14 +78,3 @@ module _ (P : PlacedSelect → Type 0) where
   union_selects (u ∷ us) left terms h all =
       let own = subst (AllByRecursion IsMeant) (union_specifications-out u) (all_left IsMeant (union_specifications u) (flat_map union_specifications us) all) in
       union_selects us (union_of u left) terms.1 (subst (AllSelects P) (sym (union_of-out u left)) (h, terms.0 own)) (all_right IsMeant (union_specifications u) (flat_map union_specifications us) all)
-
-  more_selects : (q : BoundQuery) → HasParts InTerm q → InTerm (Bracketed q)
-  more_selects q parts h =
-      let o = out-BoundQuery q in
-      let all = subst (AllByRecursion IsMeant) (term_specifications-Bracketed q ∙ specifications_of-out q) h in
-      subst (AllSelects P) (sym (term_of-Bracketed q ∙ query_of-out q))
-      (union_selects o.rest (term_of o.first) parts.1 (parts.0 (all_left IsMeant (term_specifications o.first) (flat_map union_specifications o.rest) all)) (all_right IsMeant (term_specifications o.first) (flat_map union_specifications o.rest) all))
-
-  pub all_selects : (q : BoundQuery) → AllByRecursion IsMeant (specifications_of q) → AllSelects P (query_of q)
-  all_selects q h =
-      subst (AllSelects P) (term_of-Bracketed q) (every_term InTerm one_select more_selects (Bracketed q) (subst (AllByRecursion IsMeant) (sym (term_specifications-Bracketed q)) h))

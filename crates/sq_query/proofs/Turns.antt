@@ -7,8 +7,9 @@ use Rattle.sq_value.specs.declared.truth.Truth.{Truth}
 use Rattle.sq_value.specs.declared.truth.Truth.TheVariants.{False, Unknown, True}
 use Rattle.sq_meaning.specs.Status.{Outcome}
 use Rattle.sq_meaning.specs.declared.status.Status.{Status}
+use Rattle.sq_meaning.specs.declared.status.Status.TheVariants.{SyntaxErrorOrAccessRuleViolation}
 use Rattle.sq_meaning.specs.Query.{and_also, or_else}
-use Rattle.sq_query.specs.Fault.{Meets, status_of}
+use Rattle.sq_query.specs.Fault.{IsRight, Meets, status_of}
 use Rattle.sq_query.specs.declared.fault.Fault.{Fault}
 use Rattle.sq_query.specs.declared.fault.Fault.TheVariants as fault
 
@@ -147,6 +148,15 @@ module _ {X : Type 0} (join : Outcome Truth → Outcome Truth → Outcome Truth)
       first_left so_far xs i x within is left
       ∙ ap (λ (r : Outcome Truth). join (Ok so_far) (join r (turns (drop (i + 1) xs)))) failed
       ∙ laws.fails so_far (status_of s) (turns (drop (i + 1) xs)) goes_on
+
+  -- the next operand is right where the whole is
+  pub turn_right : (so_far : Truth) (xs : List X) (i : ℕ) (x : X)
+      → so_far ≢ last → i < length xs → x ≡ get_or xs i x → whole ≡ join (Ok so_far) (turns (drop i xs))
+      → IsRight whole → IsRight (test x)
+  turn_right so_far xs i x goes_on within is left right fails = right (
+      first_left so_far xs i x within is left
+      ∙ ap (λ (r : Outcome Truth). join (Ok so_far) (join r (turns (drop (i + 1) xs)))) fails
+      ∙ laws.fails so_far SyntaxErrorOrAccessRuleViolation (turns (drop (i + 1) xs)) goes_on)
 
   pub turn_ends : (so_far : Truth) (xs : List X) (i : ℕ)
       → length xs ≤ i → whole ≡ join (Ok so_far) (turns (drop i xs)) → whole ≡ Ok so_far

@@ -1,7 +1,7 @@
 -- The value of an expression, where it has one, is of the expression's kind, where the rows that it sees and the parameters have
 -- values of theirs (ISO/IEC 9075:1992, 6.2, 6.5 and 6.11 to 6.13). Of an expression without a value nothing is said: so it need
 -- not be well formed, and a group may have no line.
-use Rattle.std.proofs.Common.{◌≡◌, ℕ, zero, suc, Bool, true, false, List, [], ◌∷◌, subst, Option, Some, None, Ok, Err}
+use Rattle.std.proofs.Common.{ℕ, zero, suc, Bool, true, false, List, [], ◌∷◌, Option, Some, None, Ok, Err}
 use Rattle.std.specs.Prelude.{⊤, if◌then◌else◌, slice_get, pos, length, IfOk}
 use Rattle.std.specs.List.{AllByRecursion, AllZip}
 use Rattle.std.specs.Option.{option_and_then}
@@ -179,10 +179,3 @@ module _ (context : Context) (columns : TableKinds) (parameters : List Kind) (gi
       (λ x v p. then_both IsOfKind IsOfKind (kind (kinds_by_place columns parameters) (from ∷ []) b) (product_kind sign x) (value (reading context) b (env_in scope)) (product_of sign v) (value_if b scope h)
       (λ y w q. fits_both IsOfKind (product_kind sign x y) (product_of sign v w) (product_fits sign x y v w p q)))
   value_if (bracketed e) scope h = value_if e scope h
-
-  -- the values of a list of expressions, likewise
-  pub values_if : (es : List PlacedExpr) (kinds : List Kind) (scope : Scope (Unit {0})) → IsOver scope → each (kind (kinds_by_place columns parameters) (from ∷ [])) es ≡ Ok kinds
-      → IfOk (each (λ e. value (reading context) e (env_in scope)) es) (IsRowOf kinds)
-  values_if es kinds scope h are =
-      subst (λ o. IfBoth (AllZip IsOfKind) o (each (λ e. value (reading context) e (env_in scope)) es)) are
-      (each_both IsOfKind (kind (kinds_by_place columns parameters) (from ∷ [])) (λ e. value (reading context) e (env_in scope)) (λ e. value_if e scope h) es)

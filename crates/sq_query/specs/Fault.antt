@@ -1,5 +1,5 @@
 -- What a statement ends with that has no answer (ISO/IEC 9075:1992, 22.1).
-use Rattle.std.specs.Prelude.{◌≡◌, List, Result, Ok, Err, Vec, ⊤}
+use Rattle.std.specs.Prelude.{◌≡◌, ◌≢◌, List, Result, Ok, Err, Vec, ⊤}
 use Rattle.std.specs.declared.alloc.Global.{Global}
 use Rattle.sq_value.specs.declared.value.Value.{Value}
 use Rattle.sq_value.specs.declared.fault.ArithmeticFault.{ArithmeticFault}
@@ -10,7 +10,7 @@ use Rattle.sq_value.specs.declared.fault.RetrieveFault.{RetrieveFault}
 use Rattle.sq_value.specs.declared.fault.RetrieveFault.TheVariants as retrieve
 use Rattle.sq_value.specs.declared.fault.StoreFault.{StoreFault}
 use Rattle.sq_value.specs.declared.fault.StoreFault.TheVariants as store
-use Rattle.sq_meaning.specs.Status.{Outcome}
+use Rattle.sq_meaning.specs.Status.{Outcome, not_well_formed}
 use Rattle.sq_meaning.specs.declared.status.Status.{Status}
 use Rattle.sq_meaning.specs.declared.status.Status.TheVariants as status
 use Rattle.sq_query.specs.declared.fault.Fault.{Fault}
@@ -62,6 +62,17 @@ MeetsAs view (Ok a) outcome = outcome ≡ Ok (view a)
 MeetsAs view (Err (fault.Status f)) outcome = outcome ≡ Err (status_of f)
 MeetsAs view (Err fault.NoMemory) outcome = ⊤
 
+-- an outcome that the rules of the language allow: nothing well formed ends with 42000
+abbrev pub IsRight : {A : Type 0} → Outcome A → Type 0
+IsRight outcome = outcome ≢ not_well_formed
+
+-- the answer is the outcome, where that is right
+abbrev pub Means : {A : Type 0} → Result A Fault → Outcome A → Type 0
+Means result outcome = IsRight outcome → Meets result outcome
+
+abbrev pub MeansAs : {A B : Type 0} → (A → B) → Result A Fault → Outcome B → Type 0
+MeansAs view result outcome = IsRight outcome → MeetsAs view result outcome
+
 -- an answer, or memory was refused
 abbrev pub IsAnswered : {A : Type 0} → Result A Fault → Type 0
 IsAnswered (Ok a) = ⊤
@@ -77,6 +88,10 @@ HasRows = MeetsAs rows_in
 
 abbrev pub values_in : Vec Value Global → List Value
 values_in values = values.items
+
+-- where the outcome is right
+abbrev pub MeansRows : Result (Vec (List Value) Global) Fault → Outcome (List (List Value)) → Type 0
+MeansRows = MeansAs rows_in
 
 -- values that are the outcome
 abbrev pub HasValues : Result (Vec Value Global) Fault → Outcome (List Value) → Type 0

@@ -9,13 +9,13 @@ pub mod Frame
 pub mod Group
 pub mod Index
 pub mod Item
+pub mod Key
 pub mod Kinds
 pub mod Lines
+pub mod MayRead
 pub mod Members
 pub mod Memo
-pub mod Named
 pub mod Needed
-pub mod Nested
 pub mod Nests
 pub mod Order
 pub mod Predicate

@@ -1,5 +1,5 @@
 -- Which tables a statement reads.
-use Rattle.std.specs.Prelude.{⊤, ◌≡◌, ℕ, true, nat_eq, if◌then◌else◌, List, [], ◌∷◌, ◌++◌, flat_map, fold}
+use Rattle.std.specs.Prelude.{⊤, ◌≡◌, ◌≤◌, ℕ, true, nat_eq, if◌then◌else◌, List, [], ◌∷◌, ◌++◌, flat_map, fold, slice_get, IfSome}
 use Rattle.std.specs.List.{AllByRecursion, list_any}
 use Rattle.sq_meaning.specs.Syntax.{Conds, compare, compare_subquery, compare_quantified, between, in_subquery, in_list, like, is_null, exists, negated, conjunction, disjunction, no_cond, a_cond, absent, present, select}
 use Rattle.sq_meaning.specs.Placed.{Placed}
@@ -73,6 +73,18 @@ AreKnown columns needed = (t : TablePlace) → IsNeeded needed t → HasValue (c
 -- those of the one are among those of the other
 abbrev pub NeedsMore : Needed → Needed → Type 0
 NeedsMore before after = (t : TablePlace) → IsNeeded before t → IsNeeded after t
+
+-- the tables that the query of the view at a place reads are among them
+abbrev pub IsClosedAt : List BoundSpecification → Needed → ℕ → Type 0
+IsClosedAt queries needed place = IfSome (slice_get queries place) (λ q. ReadsSelect (IsNeeded needed) (select_of q))
+
+-- so it is for each view among them
+abbrev pub IsClosed : List BoundSpecification → Needed → Type 0
+IsClosed queries needed = (place : ℕ) → IsNeeded needed (View place) → IsClosedAt queries needed place
+
+-- no view from this place on is added
+abbrev pub AddsBefore : ℕ → Needed → Needed → Type 0
+AddsBefore place before after = (later : ℕ) → place ≤ later → IsNeeded after (View later) → IsNeeded before (View later)
 
 -- ---- the tables of a tree, in the order in which they are added
 

@@ -1,5 +1,5 @@
 -- The tables that a statement reads, by their places.
-use Rattle.std.specs.Prelude.{◌≡◌, ℕ, find, nat_eq, nat_lt, if◌then◌else◌, List, [], length, map, Option, Some, None, Vec, Ok, Err}
+use Rattle.std.specs.Prelude.{◌≡◌, ℕ, find, nat_eq, nat_lt, if◌then◌else◌, List, [], length, map, slice_get, Option, Some, None, Vec, Ok, Err}
 use Rattle.std.specs.Borrow.{Bor}
 use Rattle.std.specs.List.{AllByRecursion}
 use Rattle.std.specs.declared.alloc.Global.{Global}
@@ -7,18 +7,25 @@ use Rattle.sq_value.specs.declared.domain.Kind.{Kind}
 use Rattle.sq_store.specs.Content.{Content, table_at}
 use Rattle.sq_store.specs.declared.table.Numbered.{Numbered}
 use Rattle.sq_store.specs.declared.table.Table.{Table}
-use Rattle.sq_meaning.specs.Environment.{Row}
+use Rattle.sq_lex.specs.declared.name.Name.{Name}
+use Rattle.sq_meaning.specs.Environment.{Row, outermost}
+use Rattle.sq_meaning.specs.Placed.{by_place}
+use Rattle.sq_meaning.specs.Query.{rows}
 use Rattle.sq_meaning.specs.Status.{Outcome, ◌>>=◌, well_formed, not_well_formed}
 use Rattle.sq_meaning.specs.Tables.{rows_in}
-use Rattle.sq_meaning.specs.WellFormed.{AreRowsOf}
+use Rattle.sq_meaning.specs.WellFormed.{AreRowsOf, HasValue}
+use Rattle.sq_bound.specs.Condition.{select_of}
+use Rattle.sq_bound.specs.declared.condition.BoundSpecification.{BoundSpecification}
 use Rattle.sq_bound.specs.WellFormed.{TableKinds, before_view, IsSelect, kinds_of_select}
 use Rattle.sq_bound.specs.declared.condition.TablePlace.{TablePlace}
 use Rattle.sq_bound.specs.declared.condition.TablePlace.TheVariants.{Base, View}
 use Rattle.sq_bound.specs.declared.names.View.{View as BoundView}
-use Rattle.sq_query.specs.Fault.{status_of}
-use Rattle.sq_query.specs.Frame.{lent}
+use Rattle.sq_query.specs.Fault.{IsRight, status_of}
+use Rattle.sq_query.specs.Frame.{lent, view_outcome}
+use Rattle.sq_query.specs.Needed.{AreKnown, IsClosed, IsNeeded}
 use Rattle.sq_query.specs.declared.context.Context.{Context}
 use Rattle.sq_query.specs.declared.fault.Failure.{Failure}
+use Rattle.sq_query.specs.declared.needed.Needed.{Needed}
 use Rattle.sq_query.specs.declared.table.BaseRows.{BaseRows}
 use Rattle.sq_query.specs.declared.table.ViewRows.{ViewRows}
 use Rattle.sq_query.specs.declared.view.Tables.{Tables}
@@ -72,6 +79,36 @@ bases_of tables = bases_in tables.bases
 abbrev pub AreOfStore : Content → (TablePlace → Outcome (List Row)) → Type 0
 AreOfStore content tables = (place : ℕ) → tables (Base place) ≡ stored_rows content place
 
+-- the rows of a view's query, which reads no parameter
+abbrev pub rows_of_view : (TablePlace → Outcome (List Row)) → Name → BoundSpecification → Outcome (List Row)
+rows_of_view tables user q = rows (by_place tables) (select_of q) (outermost [] user)
+
+-- What the tables mean that a statement of this user reads: a base table has the rows of the store, and a view those of its query,
+-- which reads no parameter (11.19).
+pub record AreMeant (queries : List BoundSpecification) (content : Content) (user : Name) (tables : TablePlace → Outcome (List Row)) : Type 0 where
+  pub bases : AreOfStore content tables
+  pub views : (place : ℕ) → tables (View place) ≡ (well_formed (slice_get queries place) >>= rows_of_view tables user)
+
+-- the rows of the tables among these, as they were read
+abbrev pub rows_among : List BaseRows → List ViewRows → TablePlace → Outcome (List Row)
+rows_among bases views (Base place) = well_formed (find (λ t. nat_eq t.place place) bases) >>= λ t. Ok (lent t.rows.items)
+rows_among bases views (View place) = well_formed (find (λ t. nat_eq t.place place) views) >>= λ t. view_outcome t.rows.items t.failure
+
+abbrev pub rows_read : Tables → TablePlace → Outcome (List Row)
+rows_read tables = rows_among tables.bases.items tables.views.items
+
+-- What is needed can be read: its tables are known and what their views need is there, too, a view has the rows of its
+-- query, and no known table ends with 42000.
+pub record CanBeRead (columns : TableKinds) (queries : List BoundSpecification) (user : Name) (needed : Needed) (tables : TablePlace → Outcome (List Row)) : Type 0 where
+  pub known : AreKnown columns needed
+  pub closed : IsClosed queries needed
+  pub views : (place : ℕ) → tables (View place) ≡ (well_formed (slice_get queries place) >>= rows_of_view tables user)
+  pub right : (t : TablePlace) → HasValue (columns t) → IsRight (tables t)
+
+-- each table that is needed was read as it is meant
+abbrev pub ReadsAsMeant : Needed → (TablePlace → Outcome (List Row)) → (TablePlace → Outcome (List Row)) → Type 0
+ReadsAsMeant needed found tables = (at : TablePlace) → IsNeeded needed at → found at ≡ tables at
+
 -- ---- kinds
 
 -- where the kinds of a table's columns are known, its rows have values of them
@@ -90,9 +127,6 @@ AreBasesOf columns bases = AllByRecursion (IsBaseOf columns) bases
 
 abbrev pub AreViewsOf : TableKinds → List ViewRows → Type 0
 AreViewsOf columns views = AllByRecursion (IsViewOf columns) views
-
-abbrev pub AreTablesOf : TableKinds → Tables → Type 0
-AreTablesOf columns tables = AreBasesOf columns tables.bases.items × AreViewsOf columns tables.views.items
 
 -- a view at its place has the columns of its query, which reads earlier views alone (11.19)
 abbrev pub IsViewAt : TableKinds → ℕ → BoundView → Type 0

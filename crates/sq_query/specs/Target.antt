@@ -1,40 +1,34 @@
 -- The rows of a base table that a statement may change (ISO/IEC 9075:1992, 13.6 to 13.10).
-use Rattle.std.specs.Prelude.{◌≡◌, ◌<◌, ℕ, length, map, Vec, Bool, true, false, if◌then◌else◌, List, [], ◌∷◌, ◌++◌, Option, Some, None, Result, Ok}
-use Rattle.std.specs.List.{list_any, AllZip, Contains}
+use Rattle.std.specs.Prelude.{◌≡◌, ℕ, map, Vec, Bool, true, false, if◌then◌else◌, List, [], ◌∷◌, ◌++◌, Option, Some, None, Result, Ok}
+use Rattle.std.specs.List.{list_any, AllByRecursion}
 use Rattle.std.specs.declared.alloc.Global.{Global}
 use Rattle.sq_lex.specs.declared.name.Name.{Name}
 use Rattle.sq_value.specs.declared.truth.Truth.{Truth}
 use Rattle.sq_value.specs.declared.value.Value.{Value}
 use Rattle.sq_store.specs.Content.{Content}
-use Rattle.sq_store.specs.Keys.{Keys, keys_at, key_at}
 use Rattle.sq_store.specs.declared.table.Numbered.{Numbered}
-use Rattle.sq_tree.specs.declared.cond.Comparison.TheVariants.{Equal}
 use Rattle.sq_meaning.specs.Status.{Outcome, ◌>>=◌, kept}
-use Rattle.sq_meaning.specs.Syntax.{column, compare}
 use Rattle.sq_meaning.specs.Environment.{Row}
-use Rattle.sq_meaning.specs.Expression as meaning
 use Rattle.sq_meaning.specs.Placed.{by_place}
 use Rattle.sq_meaning.specs.Query.{truth, is_true}
 use Rattle.sq_meaning.specs.Target.{has_subquery}
-use Rattle.sq_meaning.specs.WellFormed.{IsRowOf}
+use Rattle.sq_meaning.specs.WellFormed.{HasValue, IsRowOf}
 use Rattle.sq_value.specs.declared.domain.Kind.{Kind}
-use Rattle.sq_bound.specs.Condition.{cond_of, test_of}
-use Rattle.sq_bound.specs.Expression.{expr_of}
+use Rattle.sq_bound.specs.Condition.{cond_of}
 use Rattle.sq_bound.specs.Fits.{AreInDomains}
-use Rattle.sq_bound.specs.WellFormed.{TableKinds, IsTarget}
-use Rattle.sq_bound.specs.declared.condition.BoundCond.{BoundCond, out-BoundCond}
-use Rattle.sq_bound.specs.declared.condition.BoundConj.{BoundConj, out-BoundConj}
-use Rattle.sq_bound.specs.declared.condition.BoundTest.{BoundTest}
+use Rattle.sq_bound.specs.WellFormed.{TableKinds, IsCond, IsTarget, of_base_at}
+use Rattle.sq_bound.specs.declared.condition.BoundCond.{BoundCond}
 use Rattle.sq_bound.specs.declared.condition.TablePlace.{TablePlace}
-use Rattle.sq_bound.specs.declared.condition.Predicate.TheVariants.{Compare}
-use Rattle.sq_bound.specs.declared.expression.BoundExpr.{BoundExpr}
+use Rattle.sq_bound.specs.declared.condition.TablePlace.TheVariants.{Base}
 use Rattle.sq_bound.specs.declared.names.BaseTable.{BaseTable}
 use Rattle.sq_bound.specs.declared.query.Target.{Target}
 use Rattle.sq_query.specs.Fault.{Meets, MeetsAs}
+use Rattle.sq_query.specs.Memo.{Meant}
 use Rattle.sq_query.specs.Row.{outside}
+use Rattle.sq_query.specs.Subquery.{KnowsCond}
 use Rattle.sq_query.specs.Table.{stored_numbered}
+use Rattle.sq_query.specs.declared.context.Context.{Context}
 use Rattle.sq_query.specs.declared.fault.Fault.{Fault}
-use Rattle.sq_query.specs.declared.target.KnownKey.{KnownKey}
 
 abbrev pub and_own : List BoundCond → Option BoundCond → List BoundCond
 and_own conditions None = conditions
@@ -80,6 +74,15 @@ HasNumbers result target content parameters user =
     → (tables : TablePlace → Outcome (List Row))
     → MeetsAs numbers_in result (stored_numbered content target.base >>= numbers_chosen (is_true_of tables parameters user) (conditions_of target))
 
+-- the subqueries of each condition are known
+abbrev pub AreKnownIn : Context → List BoundCond → Type 0
+AreKnownIn context conditions = AllByRecursion (λ c. (meant : Meant) × KnowsCond context c meant) conditions
+
+-- well-formed conditions on the rows of a base table, the kinds of whose columns are known
+pub record AreOnBase (columns : TableKinds) (parameters : List Kind) (place : ℕ) (conditions : List BoundCond) : Type 0 where
+  pub known : HasValue (columns (Base place))
+  pub well : AllByRecursion (IsCond columns parameters (of_base_at place) []) conditions
+
 -- a well-formed target none of whose conditions is ever a fault, where every row of a base table is in the domains of its columns,
 -- and the parameters have values of their kinds
 pub record IsQuietOver (columns : TableKinds) (bases : List BaseTable) (content : Content) (parameters : List Value) (t : Target) : Type 0 where
@@ -88,31 +91,3 @@ pub record IsQuietOver (columns : TableKinds) (bases : List BaseTable) (content 
   pub target : IsTarget columns kinds t
   pub inputs : IsRowOf kinds parameters
   pub in_domains : AreInDomains bases content
-
--- ---- the row with a key
-
--- a test `left = right`
-abbrev pub AreEqualled : BoundTest → BoundExpr → BoundExpr → Type 0
-AreEqualled test left right = (test.negated ≡ false) × (test.predicate ≡ Compare Equal left right)
-
--- a test `column = e`
-abbrev pub IsEquality : ℕ → BoundExpr → BoundTest → Type 0
-IsEquality n e test = (item : ℕ) × (test_of [] test ≡ compare Equal (column (record { depth = 0; item = item; column = n })) (expr_of [] e))
-
--- one of the tests compares the column by = with something that has this value whatever row there is
-pub record IsComparedWith (tests : List BoundTest) (parameters : List Value) (user : Name) (n : ℕ) (v : Value) : Type 0 where
-  pub test : BoundTest
-  pub among : Contains tests test
-  pub expr : BoundExpr
-  pub is : IsEquality n expr test
-  pub has_value : (tables : TablePlace → Outcome (List Row)) → meaning.value (by_place tables) (expr_of [] expr) (outside [] parameters user) ≡ Ok v
-
--- a key of the base table, and for each of its columns the value with which a test of the condition's only term compares it
-pub record IsKeyOf (t : Target) (content : Content) (keys : List Keys) (parameters : List Value) (user : Name) (known : KnownKey) : Type 0 where
-  pub own : BoundCond
-  pub is_own : t.condition ≡ Some own
-  pub term : BoundConj
-  pub only_term : (out-BoundCond own).terms ≡ term ∷ []
-  pub table : t.base < length content
-  pub key : known.key < length (keys_at keys t.base)
-  pub values : AllZip (IsComparedWith (out-BoundConj term).tests parameters user) (key_at keys t.base known.key) known.values

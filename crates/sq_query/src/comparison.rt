@@ -6,7 +6,7 @@ ghost use Rattle.sq_tree.specs.declared.cond.Quantifier.TheVariants as quantifie
 ghost use Rattle.sq_meaning.specs.Status.{Outcome, and_then};
 ghost use Rattle.sq_meaning.specs.Environment.{Row};
 ghost use Rattle.sq_meaning.specs.Query as meaning;
-ghost use Rattle.sq_query.specs.Fault.{Meets, HasRows};
+ghost use Rattle.sq_query.specs.Fault.{Means, MeansRows, Meets};
 ghost use Rattle.sq_query.specs.Comparison.{compared_with_found};
 
 use crate::fault::{Failure, Fault};
@@ -45,7 +45,7 @@ pub(crate) fn compared_with_query(
     left: &Value,
     rows: Result<Vec<Row>, Fault>,
 ) -> Result<Truth, Fault>
-    ensures { (o : Outcome (List Row)) → HasRows rows o → Meets result (and_then o (compared_with_found comparison quantifier left.now)) }
+    ensures { (o : Outcome (List Row)) → MeansRows rows o → Means result (and_then o (compared_with_found comparison quantifier left.now)) }
 {
     let rows = rows?;
     compared_with_rows(comparison, quantifier, left, rows.as_slice())
@@ -53,7 +53,7 @@ pub(crate) fn compared_with_query(
 
 /// Whether a subquery has a row.
 pub(crate) fn exists(rows: Result<Vec<Row>, Fault>) -> Result<Truth, Fault>
-    ensures { (o : Outcome (List Row)) → HasRows rows o → Meets result (and_then o (λ rs. Ok (known (meaning.has_rows rs)))) }
+    ensures { (o : Outcome (List Row)) → MeansRows rows o → Means result (and_then o (λ rs. Ok (known (meaning.has_rows rs)))) }
 {
     let rows = rows?;
     Ok(Truth::from(!rows.is_empty()))

@@ -2,8 +2,8 @@
 //! that queries have (ISO/IEC 9075:1992, clauses 6 to 8 and 13.1).
 //!
 //! As far as its type says, a bound tree could name a place, a parameter, a table or a set function that isn't there,
-//! or have a number where a text must stand. Such a tree ends with 42000. Binding makes none (`specs/WellFormed.antt`
-//! of `sq_bound`).
+//! or have a number where a text must stand. Such a tree ends with 42000, as in the definitions. Binding makes none
+//! (`specs/WellFormed.antt` of `sq_bound`), and no public call ends so for what is well formed.
 #![tactic(auto)]
 
 mod arithmetic;
@@ -19,6 +19,7 @@ mod group;
 mod index;
 mod inputs;
 mod item;
+mod key;
 mod members;
 mod memo;
 mod needed;

@@ -1,6 +1,6 @@
 //! Which tables a statement reads.
 
-ghost use Rattle.std.specs.Prelude.{◌≡◌, List, [], false, fold, nat_eq, IfOk, IfSome, IsSome, OnOk};
+ghost use Rattle.std.specs.Prelude.{◌≡◌, ◌≤◌, ℕ, List, [], false, fold, nat_eq, slice_get, IfOk, IfSome, IsSome, OnOk, Some};
 ghost use Rattle.std.specs.List.{AllByRecursion, list_any};
 ghost use Rattle.sq_meaning.specs.WellFormed.{HasValue};
 ghost use Rattle.sq_bound.specs.Condition.{cond_of, conj_of, predicate_of, clause_of, select_of};
@@ -8,11 +8,8 @@ ghost use Rattle.sq_bound.specs.Expression.{PlacedExpr};
 ghost use Rattle.sq_bound.specs.Joined.{specifications_of, term_specifications};
 ghost use Rattle.sq_bound.specs.WellFormed.{BasesAreThere, TableKinds};
 ghost use Rattle.sq_meaning.specs.Target.{has_subquery, clause_has_subquery};
-ghost use Rattle.sq_query.specs.Needed.{Adds, AreKnown, IsNeeded, ReadsCond, ReadsSelect, NeedsNone, clause_tables, cond_tables, places_in, specification_tables, specifications_tables, with_place, with_table};
-ghost use Rattle.sq_query.specs.Specification.{items_in, IsPlainQuery};
+ghost use Rattle.sq_query.specs.Needed.{Adds, AddsBefore, AreKnown, IsClosed, IsClosedAt, IsNeeded, NeedsMore, ReadsCond, ReadsSelect, NeedsNone, clause_tables, cond_tables, places_in, specification_tables, specifications_tables, with_place, with_table};
 ghost use Rattle.sq_query.specs.Table.{IsViewAt};
-ghost use Rattle.sq_query.specs.Union.{IsSpecification, IsOnly};
-ghost use Rattle.sq_bound.specs.declared.condition.BoundSpecification.{BoundSpecification as AnySpecification};
 ghost use Rattle.sq_bound.specs.declared.condition.TablePlace.TheVariants as at_place;
 
 use sq_bound::{
@@ -43,7 +40,6 @@ impl Needed {
         alloc: Global,
         query: &BoundSpecification,
     ) -> Result<Needed, AllocError>
-        ensures plain { IsPlainQuery query.now → IfOk result (λ needed. places_in needed ≡ fold with_table ([], []) (items_in query.now)) }
         ensures reads { IfOk result (λ needed. ReadsSelect (IsNeeded needed) (select_of query.now)) }
         ensures known { (columns : TableKinds) → ReadsSelect (λ t. HasValue (columns t)) (select_of query.now) → IfOk result (AreKnown columns) }
     {
@@ -54,7 +50,6 @@ impl Needed {
 
     /// The tables in the FROM clauses of a query expression.
     pub(crate) fn of_query(alloc: Global, query: &BoundQuery) -> Result<Needed, AllocError>
-        ensures plain { (s : AnySpecification) → IsOnly query.now s → IsPlainQuery s → IfOk result (λ needed. places_in needed ≡ fold with_table ([], []) (items_in s)) }
         ensures reads { IfOk result (λ needed. AllByRecursion (λ s. ReadsSelect (IsNeeded needed) (select_of s)) (specifications_of query.now)) }
         ensures known { (columns : TableKinds) → AllByRecursion (λ s. ReadsSelect (λ t. HasValue (columns t)) (select_of s)) (specifications_of query.now) → IfOk result (AreKnown columns) }
     {
@@ -74,32 +69,48 @@ impl Needed {
         Ok(needed)
     }
 
-    /// A place above those of all views.
-    pub(crate) fn view_end(&self) -> usize
-        ensures { self.now.views.items ≡ [] → result ≡ 0 }
+    /// No view stands behind this place.
+    pub(crate) fn last_view(&self) -> usize
+        ensures { (place : ℕ) → IsNeeded self.now (at_place.View place) → place ≤ result }
     {
-        let mut end: usize = 0;
+        let mut last: usize = 0;
         for view in self.views.as_slice() {
-            end = end.max(view.saturating_add(1));
+            last = last.max(*view);
         }
-        end
+        last
     }
 
     /// Adds what the needed views need in turn. A view names only earlier ones.
     pub(crate) fn add_of_views<N: Names>(&mut self, names: &N) -> Result<(), AllocError>
-        ensures { self.old.views.items ≡ [] → OnOk result (self.new ≡ self.old) }
+        ensures none { self.old.views.items ≡ [] → OnOk result (self.new ≡ self.old) }
+        ensures more { OnOk result (NeedsMore self.old self.new) }
+        ensures known { AreKnown (N.column_kinds names.now) self.old → OnOk result (AreKnown (N.column_kinds names.now) self.new) }
+        ensures closed { BasesAreThere (N.base_tables names.now) (N.column_kinds names.now) → AreKnown (N.column_kinds names.now) self.old → OnOk result (IsClosed (N.view_queries names.now) self.new) }
     {
         if self.views.is_empty() {
             return Ok(());
         }
-        for place in (0..self.view_end()).rev() {
+        let last = self.last_view();
+        for behind in 0..=last {
+            let place = last - behind;
             if is_among(place, self.views.as_slice()) {
-                if let Some(view) = view_at(names, place) {
-                    self.add_of_specification(&view.query)?;
-                }
+                self.add_of_view(names, place)?;
             }
         }
         Ok(())
+    }
+
+    /// Adds what the view at a place needs: it names only earlier views.
+    fn add_of_view<N: Names>(&mut self, names: &N, place: usize) -> Result<(), AllocError>
+        ensures more { OnOk result (NeedsMore self.old self.new) }
+        ensures known { AreKnown (N.column_kinds names.now) self.old → OnOk result (AreKnown (N.column_kinds names.now) self.new) }
+        ensures earlier { OnOk result (AddsBefore place self.old self.new) }
+        ensures closed { BasesAreThere (N.base_tables names.now) (N.column_kinds names.now) → HasValue (N.column_kinds names.now (at_place.View place)) → OnOk result (IsClosedAt (N.view_queries names.now) self.new place) }
+    {
+        match view_at(names, place) {
+            Some(view) => self.add_of_specification(&view.query),
+            None => Ok(()),
+        }
     }
 
     fn add(&mut self, table: TablePlace) -> Result<(), AllocError>
@@ -113,8 +124,7 @@ impl Needed {
 
     #[cycle(needed_of_query)]
     pub(crate) fn add_of_query(&mut self, query: &BoundQuery) -> Result<(), AllocError>
-        ensures plain { (s : AnySpecification) → IsOnly query.now s → IsPlainQuery s → OnOk result (places_in self.new ≡ fold with_table (places_in self.old) (items_in s)) }
-        ensures adds { OnOk result (Adds self.old (specifications_tables (specifications_of query.now)) self.new) }
+        ensures { OnOk result (Adds self.old (specifications_tables (specifications_of query.now)) self.new) }
     {
         self.add_of_term(&query.first)?;
         for union in query.rest.as_slice() {
@@ -125,8 +135,7 @@ impl Needed {
 
     #[cycle(needed_of_query)]
     fn add_of_term(&mut self, term: &BoundTerm) -> Result<(), AllocError>
-        ensures plain { (s : AnySpecification) → IsSpecification term.now s → IsPlainQuery s → OnOk result (places_in self.new ≡ fold with_table (places_in self.old) (items_in s)) }
-        ensures adds { OnOk result (Adds self.old (specifications_tables (term_specifications term.now)) self.new) }
+        ensures { OnOk result (Adds self.old (specifications_tables (term_specifications term.now)) self.new) }
     {
         match term {
             BoundTerm::Specification(specification) => self.add_of_specification(specification),
@@ -139,8 +148,7 @@ impl Needed {
         &mut self,
         query: &BoundSpecification,
     ) -> Result<(), AllocError>
-        ensures plain { IsPlainQuery query.now → OnOk result (places_in self.new ≡ fold with_table (places_in self.old) (items_in query.now)) }
-        ensures adds { OnOk result (Adds self.old (specification_tables query.now) self.new) }
+        ensures { OnOk result (Adds self.old (specification_tables query.now) self.new) }
     {
         for table in query.from.tables.as_slice() {
             self.add(*table)?;
@@ -222,6 +230,7 @@ pub(crate) fn is_among(place: usize, places: &[usize]) -> bool
 /// The view at a place.
 pub(crate) fn view_at<N: Names>(names: &N, place: usize) -> Option<&View>
     ensures is { IfSome result (λ view. IsViewAt (N.column_kinds names.now) place view.now) }
+    ensures among { IfSome result (λ view. slice_get (N.view_queries names.now) place ≡ Some view.now.query) }
     ensures there { BasesAreThere (N.base_tables names.now) (N.column_kinds names.now) → HasValue (N.column_kinds names.now (at_place.View place)) → IsSome result }
 {
     match names.at(TablePlace::View(place)) {

@@ -1,9 +1,11 @@
 //! The rows of the tables that a statement reads.
 
+ghost use Rattle.std.specs.Prelude.{⊤, Ok};
 ghost use Rattle.sq_meaning.specs.Status.{and_then, each};
 ghost use Rattle.sq_query.specs.Fault.{MeetsAs};
 ghost use Rattle.sq_query.specs.Frame.{lent, table_rows};
 ghost use Rattle.sq_query.specs.Group.{rows_of_line};
+ghost use Rattle.sq_query.specs.Index.{HasRowsBut};
 ghost use Rattle.sq_query.specs.Table.{base_there, view_there, numbered_in, stored_numbered, stored_rows, stored_base, bases_in};
 
 use crate::context::Context;
@@ -113,15 +115,26 @@ fn view_rows_at<'a>(place: usize, context: &Context<'a>) -> Result<Vec<&'a Row>,
 pub(crate) fn no_rows_at<'a>(
     place: TablePlace,
     context: &Context<'a>,
-) -> Result<Vec<&'a Row>, Fault> {
+) -> Result<Vec<&'a Row>, Fault>
+    ensures { HasRowsBut (λ row. ⊤) result (table_rows context.now place) }
+{
     match place {
-        TablePlace::Base(place) => {
-            base_at(place, context)?;
-        }
-        TablePlace::View(place) => {
-            view_at(place, context)?;
-        }
+        TablePlace::Base(place) => no_base_rows(place, context),
+        TablePlace::View(place) => no_view_rows(place, context),
     }
+}
+
+fn no_base_rows<'a>(place: usize, context: &Context<'a>) -> Result<Vec<&'a Row>, Fault>
+    ensures { HasRowsBut (λ row. ⊤) result (and_then (base_there context.now place) (λ base. Ok (lent base.rows.items))) }
+{
+    base_at(place, context)?;
+    Ok(Vec::new(context.alloc))
+}
+
+fn no_view_rows<'a>(place: usize, context: &Context<'a>) -> Result<Vec<&'a Row>, Fault>
+    ensures { HasRowsBut (λ row. ⊤) result (and_then (view_there context.now place) (λ view. Ok view.rows.items)) }
+{
+    view_at(place, context)?;
     Ok(Vec::new(context.alloc))
 }
 

@@ -1,23 +1,19 @@
 //! The rows of a query expression (ISO/IEC 9075:1992, 7.10).
 
-ghost use Rattle.std.specs.Prelude.{◌≡◌, ◌++◌, None, Ok, IfOk, length};
+ghost use Rattle.std.specs.Prelude.{◌≡◌, ◌++◌, Ok, IfOk};
 ghost use Rattle.sq_value.specs.Storing.{IsStored};
 ghost use Rattle.sq_value.specs.declared.domain.Kind.TheVariants.{Num, Chars};
 ghost use Rattle.sq_value.specs.declared.value.Value.{Value as AnyValue};
 ghost use Rattle.sq_meaning.specs.QueryExpression as meaning;
 ghost use Rattle.sq_meaning.specs.Status.{each};
 ghost use Rattle.sq_bound.specs.WellFormed.{kinds_of_results};
-ghost use Rattle.sq_bound.specs.declared.condition.BoundSpecification.{BoundSpecification as AnySpecification};
 ghost use Rattle.sq_query.specs.Fault.{Meets, HasRows};
-ghost use Rattle.sq_query.specs.Kinds.{HasQueryKinds};
-ghost use Rattle.sq_query.specs.Specification.{items_in, IsPlainQuery, rows_meant};
-ghost use Rattle.sq_query.specs.Union.{HasTermKinds, HasUnionRows, HasTermRows, IsSpecification, IsOnly, MayBeBrought, IsBringable, AreBringable, IsTextOf, joined_rows};
+ghost use Rattle.sq_query.specs.Union.{HasUnionRows, HasTermRows, MayBeBrought, IsBringable, AreBringable, IsTextOf, joined_rows};
 
 use crate::arithmetic::{GREATEST_SCALE, made};
-use crate::condition::rows;
+use crate::condition::outermost_rows;
 use crate::context::Context;
 use crate::fault::Fault;
-use crate::memo::Memo;
 use crate::select::distinct_rows;
 use sq_bound::{BoundQuery, BoundTerm, BoundUnion, ResultColumn};
 use sq_value::{Decimal, Domain, Kind, Row, StoreFault, Value, store};
@@ -31,15 +27,12 @@ const GREATEST_LENGTH: u16 = 240;
 pub(crate) fn query_rows<'a, 'm>(
     query: &'a BoundQuery,
     context: &'a Context<'m>,
-    memo: &mut Memo<'m>,
 ) -> Result<Vec<Row>, Fault>
-    ensures kinds { HasQueryKinds result query.now context.now }
-    ensures rows { (s : AnySpecification) → IsOnly query.now s → length (items_in s) ≡ 1 → IsPlainQuery s → HasRows result (rows_meant s None context.now) }
-    ensures unions { HasUnionRows result query.now context.now }
+    ensures { HasUnionRows result query.now context.now }
 {
-    let mut so_far = term_rows(&query.first, context, memo)?;
+    let mut so_far = term_rows(&query.first, context)?;
     for union in query.rest.as_slice() {
-        match term_rows(&union.term, context, memo) {
+        match term_rows(&union.term, context) {
             Ok(others) => so_far = joined(union, so_far, others, context.alloc)?,
             Err(fault) => return Err(fault),
         }
@@ -48,18 +41,12 @@ pub(crate) fn query_rows<'a, 'm>(
 }
 
 #[cycle(query_rows)]
-fn term_rows<'a, 'm>(
-    term: &'a BoundTerm,
-    context: &'a Context<'m>,
-    memo: &mut Memo<'m>,
-) -> Result<Vec<Row>, Fault>
-    ensures kinds { HasTermKinds result term.now context.now }
-    ensures rows { (s : AnySpecification) → IsSpecification term.now s → length (items_in s) ≡ 1 → IsPlainQuery s → HasRows result (rows_meant s None context.now) }
-    ensures unions { HasTermRows result term.now context.now }
+fn term_rows<'a, 'm>(term: &'a BoundTerm, context: &'a Context<'m>) -> Result<Vec<Row>, Fault>
+    ensures { HasTermRows result term.now context.now }
 {
     match term {
-        BoundTerm::Specification(query) => rows(query, context, memo),
-        BoundTerm::Bracketed(query) => query_rows(query.get(), context, memo),
+        BoundTerm::Specification(query) => outermost_rows(query, context),
+        BoundTerm::Bracketed(query) => query_rows(query.get(), context),
     }
 }
 

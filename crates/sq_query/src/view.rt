@@ -1,14 +1,19 @@
 //! The tables that a statement reads: its base tables, and its views, each evaluated once.
 
 ghost use Rattle.std.specs.Prelude.{◌≡◌, [], ℕ, List, IfOk};
-ghost use Rattle.sq_value.specs.declared.domain.Kind.{Kind};
-ghost use Rattle.sq_meaning.specs.Status.{each};
-ghost use Rattle.sq_meaning.specs.WellFormed.{AreRowsOf};
+ghost use Rattle.sq_meaning.specs.Environment.{Row};
+ghost use Rattle.sq_meaning.specs.Status.{Outcome, each};
+ghost use Rattle.sq_bound.specs.Condition.{select_of};
 ghost use Rattle.sq_bound.specs.Fits.{AreInDomains};
-ghost use Rattle.sq_bound.specs.WellFormed.{TableKinds};
-ghost use Rattle.sq_query.specs.Fault.{IsAnswered, MeetsAs};
-ghost use Rattle.sq_query.specs.Needed.{NeedsBases};
-ghost use Rattle.sq_query.specs.Table.{stored_base, bases_of, IsViewAt, IsViewOf, AreBasesOf, AreViewsOf, AreTablesOf};
+ghost use Rattle.sq_bound.specs.Noted.{SelectIsNoted};
+ghost use Rattle.sq_bound.specs.Numbered.{HaveNumbers, SelectWith};
+ghost use Rattle.sq_bound.specs.WellFormed.{BasesAreThere};
+ghost use Rattle.sq_bound.specs.declared.condition.TablePlace.{TablePlace};
+ghost use Rattle.sq_bound.specs.declared.condition.TablePlace.TheVariants.{Base};
+ghost use Rattle.sq_query.specs.Fault.{HasRows, IsAnswered, IsRight, MeetsAs};
+ghost use Rattle.sq_query.specs.Frame.{view_outcome};
+ghost use Rattle.sq_query.specs.Needed.{AreKnown, IsClosed, IsNeeded, NeedsBases, ReadsSelect};
+ghost use Rattle.sq_query.specs.Table.{AreMeant, CanBeRead, ReadsAsMeant, bases_of, rows_among, rows_of_view, rows_read, stored_base};
 
 use crate::condition::outermost_rows;
 use crate::context::Context;
@@ -36,7 +41,7 @@ pub(crate) fn tables_of<'a, N: Names, S: Store>(
     call: &Context<'_>,
     meter: &mut Meter,
 ) -> Result<Tables<'a>, Fault>
-    ensures kinds { AreInDomains (N.base_tables names.now) (S.content_now store.now) → IfOk result (AreTablesOf (N.column_kinds names.now)) }
+    ensures meant { BasesAreThere (N.base_tables names.now) (N.column_kinds names.now) → AreInDomains (N.base_tables names.now) (S.content_now store.now) → (tables : TablePlace → Outcome (List Row)) → AreMeant (N.view_queries names.now) (S.content_now store.now) call.now.user tables → IfOk needed (AreKnown (N.column_kinds names.now)) → IsAnswered result × IfOk result (λ read. IfOk needed (λ n. ReadsAsMeant n (rows_read read) tables)) }
     ensures bases { (places : List ℕ) → IfOk needed (NeedsBases places) → MeetsAs bases_of result (each (stored_base (S.content_now store.now)) places) }
 {
     let mut needed = needed?;
@@ -51,7 +56,7 @@ fn tables_at<'a, N: Names, S: Store>(
     call: &Context<'_>,
     meter: &mut Meter,
 ) -> Result<Tables<'a>, Fault>
-    ensures kinds { AreInDomains (N.base_tables names.now) (S.content_now store.now) → IfOk result (AreTablesOf (N.column_kinds names.now)) }
+    ensures meant { BasesAreThere (N.base_tables names.now) (N.column_kinds names.now) → AreInDomains (N.base_tables names.now) (S.content_now store.now) → (tables : TablePlace → Outcome (List Row)) → AreMeant (N.view_queries names.now) (S.content_now store.now) call.now.user tables → AreKnown (N.column_kinds names.now) needed.now → IsClosed (N.view_queries names.now) needed.now → IsAnswered result × IfOk result (λ read. ReadsAsMeant needed.now (rows_read read) tables) }
     ensures bases { (places : List ℕ) → NeedsBases places needed.now → MeetsAs bases_of result (each (stored_base (S.content_now store.now)) places) }
 {
     let bases = base_tables(call.alloc, store, needed.bases.as_slice(), meter)?;
@@ -74,11 +79,11 @@ fn view_tables<N: Names>(
     bases: &[BaseRows<'_>],
     user: Name,
 ) -> Result<Vec<ViewRows>, Fault>
-    ensures kinds { AreBasesOf (N.column_kinds names.now) bases.now → IfOk result (λ views. AreViewsOf (N.column_kinds names.now) views.items) }
-    ensures answered { needed.now.views.items ≡ [] → IsAnswered result }
+    ensures answered { IsAnswered result }
+    ensures meant { BasesAreThere (N.base_tables names.now) (N.column_kinds names.now) → (tables : TablePlace → Outcome (List Row)) → CanBeRead (N.column_kinds names.now) (N.view_queries names.now) user needed.now tables → ((place : ℕ) → IsNeeded needed.now (Base place) → rows_among bases.now [] (Base place) ≡ tables (Base place)) → IfOk result (λ views. ReadsAsMeant needed.now (rows_among bases.now views.items) tables) }
 {
     let mut views = Vec::new(alloc);
-    for place in 0..needed.view_end() {
+    for place in 0..=needed.last_view() {
         if is_among(place, needed.views.as_slice()) {
             if let Some(view) = view_at(names, place) {
                 views.push(view_rows(alloc, view, place, user, &*bases, views.as_slice())?)?;
@@ -97,7 +102,9 @@ fn view_rows<'a>(
     bases: &'a [BaseRows<'a>],
     views: &'a [ViewRows],
 ) -> Result<ViewRows, Fault>
-    ensures { (columns : TableKinds) → IsViewAt columns place view.now → AreBasesOf columns bases.now → AreViewsOf columns views.now → IfOk result (IsViewOf columns) }
+    ensures answered { IsAnswered result }
+    ensures place { IfOk result (λ view. view.place ≡ place) }
+    ensures meant { (tables : TablePlace → Outcome (List Row)) → SelectIsNoted view.now.query → HaveNumbers SelectWith view.now.query → ReadsSelect (λ t. rows_among bases.now views.now t ≡ tables t) (select_of view.now.query) → IsRight (rows_of_view tables user view.now.query) → IfOk result (λ read. view_outcome read.rows.items read.failure ≡ rows_of_view tables user view.now.query) }
 {
     let context = Context {
         alloc,
@@ -115,8 +122,9 @@ fn outcome_of_view(
     place: usize,
     rows: Result<Vec<Row>, Fault>,
 ) -> Result<ViewRows, Fault>
+    ensures answered { IsAnswered result }
     ensures place { IfOk result (λ view. view.place ≡ place) }
-    ensures kinds { (kinds : List Kind) → IfOk rows (λ found. AreRowsOf kinds found.items) → IfOk result (λ view. AreRowsOf kinds view.rows.items) }
+    ensures meant { (outcome : Outcome (List Row)) → HasRows rows outcome → IfOk result (λ view. view_outcome view.rows.items view.failure ≡ outcome) }
 {
     match rows {
         Ok(rows) => Ok(ViewRows {

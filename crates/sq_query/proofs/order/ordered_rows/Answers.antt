@@ -1,10 +1,26 @@
+use Rattle.sq_meaning.specs.WellFormed.{AreRowsOf}
+use Rattle.sq_bound.specs.WellFormed.{kinds_of_query}
+use Rattle.sq_query.specs.Fault.{rows_in}
+use Rattle.sq_query.specs.Order.{sort_columns}
+use Rattle.sq_query.proofs.Fitting.{found_so, never_ends}
+use Rattle.sq_query.proofs.ReadRows.{sorted_answers}
 use Rattle.sq_query.proofs.order.ordered_rows.Goals as goal
 
-pub returns-clause-kinds : goal.returns-clause-kinds
-returns-clause-kinds g c = λ parameters are in_domains well. c.in_order.ensures.kinds _ (c.rows_of_query.ensures.kinds parameters are in_domains well)
-
 pub returns-clause-rows : goal.returns-clause-rows
-returns-clause-rows g c = λ s only over plain tables are kinds. c.in_order.ensures.rows _ (c.rows_of_query.ensures.rows s only over plain tables are kinds)
+returns-clause-rows g c = λ parameters tables may well. c.in_order.ensures.rows _ (c.rows_of_query.ensures parameters tables may well)
 
-pub returns-clause-unions : goal.returns-clause-unions
-returns-clause-unions g c = λ parameters are_values there in_domains well simple tables are. c.in_order.ensures.rows _ (c.rows_of_query.ensures.unions parameters are_values there in_domains well simple tables are)
+pub returns-clause-kinds : goal.returns-clause-kinds
+returns-clause-kinds g c = λ parameters tables may well.
+    let names = c.args.names.now in
+    found_so rows_in c.in_order.result (AreRowsOf (kinds_of_query c.args.query.now)) _
+    (sorted_answers (g.N.Names.base_tables names) (g.N.Names.view_queries names) (g.N.Names.column_kinds names) (g.S.Store.content_now c.args.store.now) c.args.inputs.user c.args.inputs.parameters.now
+    (g.met.N.Names.kinds_of_bases names) (g.met.N.Names.kinds_of_views names) parameters tables may c.args.query.now (sort_columns c.args.order.now) well)
+    (c.in_order.ensures.rows _ (c.rows_of_query.ensures parameters tables may well))
+
+pub returns-clause-right : goal.returns-clause-right
+returns-clause-right g c = λ parameters tables may well.
+    let names = c.args.names.now in
+    never_ends rows_in c.in_order.result (AreRowsOf (kinds_of_query c.args.query.now)) _
+    (sorted_answers (g.N.Names.base_tables names) (g.N.Names.view_queries names) (g.N.Names.column_kinds names) (g.S.Store.content_now c.args.store.now) c.args.inputs.user c.args.inputs.parameters.now
+    (g.met.N.Names.kinds_of_bases names) (g.met.N.Names.kinds_of_views names) parameters tables may c.args.query.now (sort_columns c.args.order.now) well)
+    (c.in_order.ensures.rows _ (c.rows_of_query.ensures parameters tables may well))

@@ -1,63 +1,32 @@
-use Rattle.std.proofs.Common.{None, Err, [], ◌∷◌, length, ap, sym, subst, ◌∙◌}
-use Rattle.sq_meaning.specs.QueryExpression.{query_rows}
-use Rattle.sq_meaning.specs.Placed.{by_place}
-use Rattle.sq_meaning.specs.WellFormed.{kinds_by_place}
 use Rattle.sq_query.specs.Fault.{rows_in}
-use Rattle.sq_query.specs.Frame.{table_rows}
-use Rattle.sq_query.specs.Lines.{env_around}
-use Rattle.sq_query.specs.Table.{bases_of, AreBasesOf, AreViewsOf}
 use Rattle.sq_query.specs.declared.context.Context.{Context}
-use Rattle.sq_query.proofs.Groups.{meets_as_same}
-use Rattle.sq_query.proofs.KindsOfTables.{have_kinds}
-use Rattle.sq_query.proofs.Stored.{found_rows, base_there, needs_base, rows_over_base, rows_fail, query_is}
-use Rattle.sq_query.proofs.StoredUnions.{bases_in, bases_known, never_fails, union_same}
+use Rattle.sq_query.specs.declared.view.Tables.{Tables}
+use Rattle.sq_query.proofs.Fitting.{no_answer}
+use Rattle.sq_query.proofs.ReadAs.{all_read_as, all_reads_known}
+use Rattle.sq_query.proofs.TablesMeant.{tables_fit}
 use Rattle.sq_query.proofs.order.rows_of_query.Goals as goal
+use Rattle.sq_bound.specs.Joined.{specifications_of}
 
-pub returns-in-Ok-clause-rows : goal.returns-in-Ok-clause-rows
-returns-in-Ok-clause-rows g c = λ s only over plain tables are kinds.
+pub returns-in-Ok : goal.returns-in-Ok
+returns-in-Ok g c = λ parameters tables may well.
+    let names = c.args.names.now in
     let content = g.S.Store.content_now c.args.store.now in
-    let p = over.0 in
-    let needs = needs_base c.of_query-needed.result _ p over.1 (c.of_query-needed.ensures.plain s only plain) in
-    let same = ap (found_rows p) c.as_slice.ensures.value ∙ base_there content p c.in-Ok.tables.bases.items (c.in-Ok.ensures.bases (p ∷ []) needs) in
+    let columns = g.N.Names.column_kinds names in
+    let specifications = specifications_of c.args.query.now in
     let context : Context = record c.args.call.now { bases = c.as_slice.result; views = c.as_slice-in-Ok.result } in
-    meets_as_same rows_in c.outermost_query_rows-rows.result _ _
-    (ap (λ q. query_rows (by_place tables) kinds q (env_around None context)) (query_is c.args.query.now s only)
-    ∙ rows_over_base s p over.1 tables (table_rows context) _ plain (are p ∙ sym same))
-    (c.outermost_query_rows-rows.ensures.rows s only (ap length over.1) plain)
+    let known = c.of_query-needed.ensures.known columns (all_reads_known columns parameters specifications well.specifications) in
+    let meant = (c.in-Ok.ensures.meant may.there may.in_domains tables may.meant known).1 in
+    c.outermost_query_rows-rows.ensures columns parameters tables
+    (record {
+      fitting = tables_fit (g.N.Names.base_tables names) (g.N.Names.view_queries names) columns content c.args.call.now.user tables (g.met.N.Names.kinds_of_bases names) may.there may.in_domains may.meant (g.met.N.Names.kinds_of_views names);
+      inputs = may.inputs;
+      well = well.specifications;
+      read = all_read_as c.of_query-needed.result content c.in-Ok.tables c.in-Ok.ensures.bases context c.as_slice.ensures.value c.as_slice-in-Ok.ensures.value tables meant specifications c.of_query-needed.ensures.reads;
+    })
+    well.kinds_are
 
-pub returns-in-Err-clause-rows : goal.returns-in-Err-clause-rows
-returns-in-Err-clause-rows g c = λ s only over plain tables are kinds.
-    let content = g.S.Store.content_now c.args.store.now in
-    let p = over.0 in
-    let needs = needs_base c.of_query-needed.result _ p over.1 (c.of_query-needed.ensures.plain s only plain) in
-    let same = ap (λ q. query_rows (by_place tables) kinds q (env_around None c.args.call.now)) (query_is c.args.query.now s only) in
-    meets_as_same rows_in (Err c.in-Err.fault) _ _ same
-    (rows_fail s p over.1 tables _ content bases_of rows_in c.in-Err.fault are (c.in-Err.ensures.bases (p ∷ []) needs))
-
-pub returns-in-Ok-clause-kinds : goal.returns-in-Ok-clause-kinds
-returns-in-Ok-clause-kinds g c = λ parameters are_values in_domains is_bound.
+pub returns-in-Err : goal.returns-in-Err
+returns-in-Err g c = λ parameters tables may well.
     let columns = g.N.Names.column_kinds c.args.names.now in
-    let tables = c.in-Ok.ensures.kinds in_domains in
-    let context : Context = record c.args.call.now { bases = c.as_slice.result; views = c.as_slice-in-Ok.result } in
-    c.outermost_query_rows-rows.ensures.kinds columns parameters
-    (have_kinds columns context (subst (AreBasesOf columns) (sym c.as_slice.ensures.value) tables.0) (subst (AreViewsOf columns) (sym c.as_slice-in-Ok.ensures.value) tables.1)) are_values is_bound
-
-pub returns-in-Ok-clause-unions : goal.returns-in-Ok-clause-unions
-returns-in-Ok-clause-unions g c = λ parameters are_values there in_domains well simple tables are.
-    let content = g.S.Store.content_now c.args.store.now in
-    let columns = g.N.Names.column_kinds c.args.names.now in
-    let read = c.in-Ok.ensures.kinds in_domains in
-    let context : Context = record c.args.call.now { bases = c.as_slice.result; views = c.as_slice-in-Ok.result } in
-    let known = c.of_query-needed.ensures.known (bases_in content) (bases_known (g.N.Names.base_tables c.args.names.now) columns content there in_domains parameters c.args.query.now well simple) in
-    meets_as_same rows_in c.outermost_query_rows-rows.result _ _
-    (union_same content tables (table_rows context) are c.in-Ok.tables.bases.items (λ p. ap (found_rows p) c.as_slice.ensures.value) (env_around None context)
-    c.of_query-needed.result known c.in-Ok.ensures.bases c.args.query.now simple c.of_query-needed.ensures.reads (kinds_by_place columns parameters))
-    (c.outermost_query_rows-rows.ensures.unions columns parameters
-    (have_kinds columns context (subst (AreBasesOf columns) (sym c.as_slice.ensures.value) read.0) (subst (AreViewsOf columns) (sym c.as_slice-in-Ok.ensures.value) read.1)) are_values well simple)
-
-pub returns-in-Err-clause-unions : goal.returns-in-Err-clause-unions
-returns-in-Err-clause-unions g c = λ parameters are_values there in_domains well simple tables are.
-    let content = g.S.Store.content_now c.args.store.now in
-    let columns = g.N.Names.column_kinds c.args.names.now in
-    let known = c.of_query-needed.ensures.known (bases_in content) (bases_known (g.N.Names.base_tables c.args.names.now) columns content there in_domains parameters c.args.query.now well simple) in
-    never_fails content bases_of rows_in c.in-Err.fault _ c.of_query-needed.result known c.in-Err.ensures.bases
+    let known = c.of_query-needed.ensures.known columns (all_reads_known columns parameters (specifications_of c.args.query.now) well.specifications) in
+    no_answer Tables rows_in c.in-Err.fault _ (c.in-Err.ensures.meant may.there may.in_domains tables may.meant known).0

@@ -1,4 +1,4 @@
-use Rattle.std.proofs.Common.{◌≡◌, ◌∙◌, [], List, false, map, ap, subst}
+use Rattle.std.proofs.Common.{◌≡◌, ◌∙◌, [], List, false, map, ap, subst, sym}
 use Rattle.std.specs.Borrow.{Bor}
 use Rattle.std.specs.List.{list_any}
 use Rattle.sq_meaning.specs.Status.{and_then}
@@ -7,13 +7,23 @@ use Rattle.sq_bound.specs.Condition.{cond_of}
 use Rattle.sq_bound.specs.declared.condition.BoundCond.{BoundCond}
 use Rattle.sq_query.specs.Fault.{MeetsAs}
 use Rattle.sq_query.specs.Table.{stored_numbered}
-use Rattle.sq_query.specs.Target.{is_true_of, numbers_chosen, numbers_in}
+use Rattle.sq_query.specs.Target.{AreOnBase, is_true_of, numbers_chosen, numbers_in}
+use Rattle.sq_query.proofs.KnownConditions.{target_on_base}
 use Rattle.sq_query.proofs.target.numbers_by_scan.Goals as goal
 
-pub returns : goal.returns
-returns g c = λ none tables.
+pub returns-clause-plain : goal.returns-clause-plain
+returns-clause-plain g c = λ none tables.
     let same = ap (map (λ (b : Bor BoundCond). b.now)) c.as_slice.ensures.value ∙ c.in_ok-levels.ensures in
     let P : List BoundCond → Type 0 = λ cs.
     list_any (λ d. has_subquery (cond_of [] d)) cs ≡ false
     → MeetsAs numbers_in c.numbers_meeting.result (and_then (stored_numbered (g.S.Store.content_now c.args.store.now) c.args.target.now.base) (numbers_chosen (is_true_of tables c.args.call.now.parameters.now c.args.call.now.user) cs)) in
-    subst P same (λ lone. c.numbers_meeting.ensures lone tables) none
+    subst P same (λ lone. c.numbers_meeting.ensures.plain lone tables) none
+
+pub returns-clause-meant : goal.returns-clause-meant
+returns-clause-meant g c = λ parameters tables may well.
+    let target = c.args.target.now in
+    let columns = g.N.Names.column_kinds c.args.names.now in
+    let same = ap (map (λ (b : Bor BoundCond). b.now)) c.as_slice.ensures.value ∙ c.in_ok-levels.ensures in
+    let P : List BoundCond → Type 0 = λ cs.
+    MeetsAs numbers_in c.numbers_meeting.result (and_then (stored_numbered (g.S.Store.content_now c.args.store.now) target.base) (numbers_chosen (is_true_of tables c.args.call.now.parameters.now c.args.call.now.user) cs)) in
+    subst P same (c.numbers_meeting.ensures.meant parameters tables may (subst (AreOnBase columns parameters target.base) (sym same) (target_on_base columns parameters target well)))

@@ -64,17 +64,17 @@ add_of_tests-loop-test-init t c = record {
 pub add_of_predicate-returns-in-CompareQuery-clause-adds : goal.add_of_predicate-returns-in-CompareQuery-clause-adds
 add_of_predicate-returns-in-CompareQuery-clause-adds t c = λ functions.
     adds_same c.add_of_specification.result c.args.self.now c.add_of_specification.new.self _ (specification_tables c.get.result.now)
-    (tables_of_compared functions c.args.predicate.now _ _ _ _ c.in-CompareQuery.is ∙ ap specification_tables (sym c.get.ensures)) c.add_of_specification.ensures.adds
+    (tables_of_compared functions c.args.predicate.now _ _ _ _ c.in-CompareQuery.is ∙ ap specification_tables (sym c.get.ensures)) c.add_of_specification.ensures
 
 pub add_of_predicate-returns-in-InQuery-clause-adds : goal.add_of_predicate-returns-in-InQuery-clause-adds
 add_of_predicate-returns-in-InQuery-clause-adds t c = λ functions.
     adds_same c.add_of_specification-in-InQuery.result c.args.self.now c.add_of_specification-in-InQuery.new.self _ (specification_tables c.get-in-InQuery.result.now)
-    (tables_of_in functions c.args.predicate.now _ _ _ c.in-InQuery.is ∙ ap specification_tables (sym c.get-in-InQuery.ensures)) c.add_of_specification-in-InQuery.ensures.adds
+    (tables_of_in functions c.args.predicate.now _ _ _ c.in-InQuery.is ∙ ap specification_tables (sym c.get-in-InQuery.ensures)) c.add_of_specification-in-InQuery.ensures
 
 pub add_of_predicate-returns-in-Exists-clause-adds : goal.add_of_predicate-returns-in-Exists-clause-adds
 add_of_predicate-returns-in-Exists-clause-adds t c = λ functions.
     adds_same c.add_of_specification-in-Exists.result c.args.self.now c.add_of_specification-in-Exists.new.self _ (specification_tables c.get-in-Exists.result.now)
-    (tables_of_exists functions c.args.predicate.now _ c.in-Exists.is ∙ ap specification_tables (sym c.get-in-Exists.ensures)) c.add_of_specification-in-Exists.ensures.adds
+    (tables_of_exists functions c.args.predicate.now _ c.in-Exists.is ∙ ap specification_tables (sym c.get-in-Exists.ensures)) c.add_of_specification-in-Exists.ensures
 
 pub add_of_predicate-returns-in-Bracketed-clause-adds : goal.add_of_predicate-returns-in-Bracketed-clause-adds
 add_of_predicate-returns-in-Bracketed-clause-adds t c = λ functions.
@@ -87,8 +87,8 @@ add_of_predicate-returns-in_default t c = record {
   adds = λ functions. sym (ap (fold with_table (places_in c.args.self.now)) (tables_of_other functions c.args.predicate.now c.in_default.not-CompareQuery c.in_default.not-InQuery c.in_default.not-Exists c.in_default.not-Bracketed));
 }
 
-pub add_of_specification-returns-in-Some-clause-adds : goal.add_of_specification-returns-in-Some-clause-adds
-add_of_specification-returns-in-Some-clause-adds t c =
+pub add_of_specification-returns-in-Some : goal.add_of_specification-returns-in-Some
+add_of_specification-returns-in-Some t c =
     let o = out-BoundSpecification c.args.query.now in
     let functions = map call_of (out-Grouping c.in-Some.grouping).set_functions in
     let having = clause_tables (clause_of functions (out-Grouping c.in-Some.grouping).having) in
@@ -99,8 +99,8 @@ add_of_specification-returns-in-Some-clause-adds t c =
     (c.in_ok-add_of_optional.ensures.adds []))
     (c.add_of_optional-in-Some.ensures.adds functions)
 
-pub add_of_specification-returns-in-None-clause-adds : goal.add_of_specification-returns-in-None-clause-adds
-add_of_specification-returns-in-None-clause-adds t c =
+pub add_of_specification-returns-in-None : goal.add_of_specification-returns-in-None
+add_of_specification-returns-in-None t c =
     let o = out-BoundSpecification c.args.query.now in
     added_three (places_in c.args.self.now) (places_in c.loop-table.self) (places_in c.add_of_optional.new.self) (specification_tables c.args.query.now) o.from.tables (clause_tables (clause_of [] o.condition)) []
     (tables_of_ungrouped c.args.query.now c.in-None.is)

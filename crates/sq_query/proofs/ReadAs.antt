@@ -1,0 +1,106 @@
+-- The tables that a statement reads were read as they are meant.
+use Rattle.std.proofs.Common.{◌≡◌, ℕ, List, [], ◌∷◌, Option, Some, None, Result, refl, sym, subst, ◌∙◌, Ok, Err}
+use Rattle.std.specs.Prelude.{⊤, find, nat_eq, IfOk}
+use Rattle.std.specs.List.{AllByRecursion}
+use Rattle.std.specs.Option.{option_map}
+use Rattle.sq_value.specs.declared.domain.Kind.{Kind}
+use Rattle.sq_value.specs.declared.truth.Truth.{Truth}
+use Rattle.sq_store.specs.Content.{Content}
+use Rattle.sq_meaning.specs.Status.{Outcome, and_then, each, well_formed, not_well_formed}
+use Rattle.sq_meaning.specs.Environment.{Row}
+use Rattle.sq_meaning.specs.WellFormed.{Answers, HasValue}
+use Rattle.sq_bound.specs.Condition.{cond_of, select_of}
+use Rattle.sq_bound.specs.Expression.{PlacedExpr}
+use Rattle.sq_bound.specs.WellFormed.{TableKinds, IsSelect, of_base_at}
+use Rattle.sq_bound.specs.declared.condition.BoundCond.{BoundCond}
+use Rattle.sq_bound.specs.declared.condition.BoundSpecification.{BoundSpecification}
+use Rattle.sq_bound.specs.declared.condition.TablePlace.{TablePlace}
+use Rattle.sq_bound.specs.declared.condition.TablePlace.TheVariants.{Base, View}
+use Rattle.sq_query.specs.Fault.{Means, Meets}
+use Rattle.sq_query.specs.Frame.{lent, table_rows}
+use Rattle.sq_query.specs.Memo.{Meant}
+use Rattle.sq_query.specs.Needed.{IsNeeded, NeedsBases, ReadsCond, ReadsSelect}
+use Rattle.sq_query.specs.Row.{IsOnRow, outside, truth_on_row}
+use Rattle.sq_query.specs.Subquery.{KnowsCond}
+use Rattle.sq_query.specs.Table.{ReadsAsMeant, bases_of, rows_among, rows_read, stored_base}
+use Rattle.sq_query.specs.Union.{IsReadAs}
+use Rattle.sq_query.specs.declared.context.Context.{Context}
+use Rattle.sq_query.specs.declared.fault.Fault.{Fault}
+use Rattle.sq_query.specs.declared.needed.Needed.{Needed}
+use Rattle.sq_query.specs.declared.table.BaseRows.{BaseRows}
+use Rattle.sq_query.specs.declared.view.Tables.{Tables}
+use Rattle.sq_query.proofs.Fitting.{answers_right}
+use Rattle.sq_query.proofs.KnownQueries.{known_cond_of}
+use Rattle.sq_query.proofs.NeededViews.{cond_reads, cond_reads_weaker, reads_known, reads_weaker}
+use Rattle.sq_query.proofs.SameTables.{same_truth}
+
+-- ---- what was read stands in the context
+
+table_same : (context : Context) (t : TablePlace) → table_rows context t ≡ rows_among context.bases.now context.views.now t
+table_same context (Base p) = by (find (λ (t : BaseRows). nat_eq t.place p) context.bases.now)
+  where
+    by : (found : Option BaseRows) → well_formed (option_map (λ (t : BaseRows). lent t.rows.items) found) ≡ and_then (well_formed found) (λ t. Ok (lent t.rows.items))
+    by None = refl
+    by (Some t) = refl
+table_same context (View p) = refl
+
+-- ---- there is no answer where nothing was known to be needed
+
+abbrev Seen : Type 0
+Seen = List (ℕ × List Row)
+
+first_stored : (o : Outcome (ℕ × List Row)) (read : Seen) → (let none : Outcome Seen = Ok [] in none ≡ Ok read) → (let one : Outcome Seen = and_then o (λ base. Ok (base ∷ [])) in one ≡ Ok read) → ⊥
+first_stored (Ok base) read none one = absurd cc
+first_stored (Err s) read none one = absurd cc
+
+module _ {E : Type 0} (r : Result Needed E) (content : Content) (read : Tables) (bases : (places : List ℕ) → IfOk r (NeedsBases places) → each (stored_base content) places ≡ Ok (bases_of read)) where
+  of_needed : {R : Type 0} (P Q : Needed → Type 0) → IfOk r P → IfOk r Q → ((n : Needed) → P n → Q n → R) → R
+  of_needed {R} P Q p q step = by r bases p q
+    where
+      by : (s : Result Needed E) → ((places : List ℕ) → IfOk s (NeedsBases places) → each (stored_base content) places ≡ Ok (bases_of read)) → IfOk s P → IfOk s Q → R
+      by (Ok n) all p q = step n p q
+      by (Err e) all p q = absurd (first_stored (stored_base content 0) (bases_of read) (all [] tt) (all (0 ∷ []) tt))
+
+  module _ (context : Context) (bases_are : context.bases.now ≡ read.bases.items) (views_are : context.views.now ≡ read.views.items) (tables : TablePlace → Outcome (List Row)) (meant : IfOk r (λ n. ReadsAsMeant n (rows_read read) tables)) where
+    table_read : (n : Needed) → ReadsAsMeant n (rows_read read) tables → (t : TablePlace) → IsNeeded n t → table_rows context t ≡ tables t
+    table_read n as_meant t needed = table_same context t ∙ (λ i. rows_among (bases_are i) (views_are i) t) ∙ as_meant t needed
+
+    select_read_as : (n : Needed) → ReadsAsMeant n (rows_read read) tables → (s : BoundSpecification) → ReadsSelect (IsNeeded n) (select_of s) → IsReadAs tables context s
+    select_read_as n as_meant s reads = reads_weaker (IsNeeded n) (λ t. table_rows context t ≡ tables t) (table_read n as_meant) (select_of s) reads
+
+    pub read_as : (s : BoundSpecification) → IfOk r (λ n. ReadsSelect (IsNeeded n) (select_of s)) → IsReadAs tables context s
+    read_as s reads = of_needed (λ n. ReadsAsMeant n (rows_read read) tables) (λ n. ReadsSelect (IsNeeded n) (select_of s)) meant reads (λ n as_meant needs. select_read_as n as_meant s needs)
+
+    pub cond_read_as : (c : BoundCond) → IfOk r (λ n. (functions : List PlacedExpr) → ReadsCond (IsNeeded n) (cond_of functions c)) → ReadsCond (λ t. table_rows context t ≡ tables t) (cond_of [] c)
+    cond_read_as c reads =
+        of_needed (λ n. ReadsAsMeant n (rows_read read) tables) (λ n. (functions : List PlacedExpr) → ReadsCond (IsNeeded n) (cond_of functions c)) meant reads
+        (λ n as_meant needs. cond_reads_weaker (IsNeeded n) (λ t. table_rows context t ≡ tables t) (table_read n as_meant) (cond_of [] c) (needs []))
+
+    pub all_read_as : (ss : List BoundSpecification) → IfOk r (λ n. AllByRecursion (λ s. ReadsSelect (IsNeeded n) (select_of s)) ss) → AllByRecursion (IsReadAs tables context) ss
+    all_read_as ss reads = of_needed (λ n. ReadsAsMeant n (rows_read read) tables) (λ n. AllByRecursion (λ s. ReadsSelect (IsNeeded n) (select_of s)) ss) meant reads (λ n as_meant. each_read n as_meant ss)
+      where
+        each_read : (n : Needed) → ReadsAsMeant n (rows_read read) tables → (ts : List BoundSpecification) → AllByRecursion (λ s. ReadsSelect (IsNeeded n) (select_of s)) ts → AllByRecursion (IsReadAs tables context) ts
+        each_read n as_meant [] needs = tt
+        each_read n as_meant (t ∷ ts) needs = (select_read_as n as_meant t needs.0, each_read n as_meant ts needs.1)
+
+-- ---- what well-formed query specifications read is known
+
+pub all_reads_known : (columns : TableKinds) (parameters : List Kind) (ss : List BoundSpecification) → AllByRecursion (IsSelect columns parameters []) ss → AllByRecursion (λ s. ReadsSelect (λ t. HasValue (columns t)) (select_of s)) ss
+all_reads_known columns parameters [] well = tt
+all_reads_known columns parameters (s ∷ ss) well = (reads_known columns parameters [] s well.0, all_reads_known columns parameters ss well.1)
+
+-- ---- conditions on a row
+
+pub cond_reads_known : (columns : TableKinds) (parameters : List Kind) (row : Row) (c : BoundCond) → IsOnRow columns parameters row c → ReadsCond (λ t. HasValue (columns t)) (cond_of [] c)
+cond_reads_known columns parameters row c on =
+    subst (ReadsCond (λ t. HasValue (columns t))) (sym (on.well.is_tree [])) (cond_reads (λ t. not_well_formed) columns parameters on.well.tree (of_base_at on.place) (on.well.stands (λ t. not_well_formed)))
+
+-- its truth is that over the tables that it reads
+pub truth_of_cond : (context : Context) (tables : TablePlace → Outcome (List Row)) (columns : TableKinds) (parameters : List Kind) (row : Row) (c : BoundCond) (result : Result Truth Fault) → IsOnRow columns parameters row c
+    → ((meant : Meant) → KnowsCond context c meant → Means result (truth_on_row (table_rows context) context.parameters.now context.user row c))
+    → ReadsCond (λ t. table_rows context t ≡ tables t) (cond_of [] c) → Answers (λ t. ⊤) (truth_on_row tables context.parameters.now context.user row c)
+    → Meets result (truth_on_row tables context.parameters.now context.user row c)
+truth_of_cond context tables columns parameters row c result on h read ends =
+    let known = known_cond_of context c on.well.notes on.well.numbers in
+    let same = same_truth (table_rows context) tables (cond_of [] c) read (outside (row ∷ []) context.parameters.now context.user) in
+    subst (Means result) same (h known.0 known.1) (answers_right (λ t. ⊤) (truth_on_row tables context.parameters.now context.user row c) ends)

@@ -1,0 +1,12 @@
+use Rattle.std.specs.Prelude.{⊤}
+use Rattle.sq_query.proofs.Fitting.{ends_right}
+use Rattle.sq_query.proofs.ReadRows.{truth_answers}
+use Rattle.sq_query.proofs.row.truth_of.Goals as goal
+
+pub returns-clause-right : goal.returns-clause-right
+returns-clause-right g c = λ parameters tables may on.
+    let names = c.args.names.now in
+    ends_right c.truth_with_tables.result (λ t. ⊤) _
+    (truth_answers (g.N.Names.base_tables names) (g.N.Names.view_queries names) (g.N.Names.column_kinds names) (g.S.Store.content_now c.args.store.now) c.args.inputs.user c.args.inputs.parameters.now
+    (g.met.N.Names.kinds_of_bases names) (g.met.N.Names.kinds_of_views names) parameters tables may c.args.row.now c.args.condition.now on)
+    (c.truth_with_tables.ensures.truth parameters tables may on)

@@ -1,5 +1,0 @@
-use Rattle.std.specs.Prelude.{⊤}
-use Rattle.sq_query.proofs.target.compared_expr.Given as goal
-
-abbrev pub invariant-loop-test : goal.invariant-loop-test
-invariant-loop-test l = ⊤

@@ -1,0 +1,20 @@
+use Rattle.std.specs.Prelude.{⊤}
+use Rattle.sq_meaning.specs.Status.{and_then}
+use Rattle.sq_query.specs.Table.{stored_numbered}
+use Rattle.sq_query.specs.Target.{conditions_of, is_true_of, numbers_chosen, numbers_in}
+use Rattle.sq_query.proofs.Fitting.{never_ends}
+use Rattle.sq_query.proofs.KnownConditions.{numbers_answer, target_on_base}
+use Rattle.sq_query.proofs.target.numbers_of.Goals as goal
+
+pub returns-in-None-clause-right : goal.returns-in-None-clause-right
+returns-in-None-clause-right g c = λ parameters tables may well.
+    let names = c.args.names.now in
+    let content = g.S.Store.content_now c.args.store.now in
+    let columns = g.N.Names.column_kinds names in
+    let target = c.args.target.now in
+    let user = c.args.inputs.user in
+    let values = c.args.inputs.parameters.now in
+    never_ends numbers_in c.numbers_by_scan.result (λ ns. ⊤) (and_then (stored_numbered content target.base) (numbers_chosen (is_true_of tables values user) (conditions_of target)))
+    (numbers_answer (g.N.Names.base_tables names) (g.N.Names.view_queries names) columns content user values (g.met.N.Names.kinds_of_bases names) (g.met.N.Names.kinds_of_views names) parameters tables may target.base (conditions_of target)
+    (target_on_base columns parameters target well))
+    (c.numbers_by_scan.ensures.meant parameters tables may well)
