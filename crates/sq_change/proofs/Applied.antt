@@ -1,6 +1,6 @@
 -- What some changes put into a table.
-use Rattle.std.proofs.Common.{◌≡◌, ℕ, zero, suc, ◌<◌, ◌≤◌, true, ◌&&◌, List, [], ◌∷◌, ◌++◌, length, map, nat_eq, get_or, Option, ◌∙◌, refl, sym, ap, arith}
-use Rattle.std.specs.List.{list_all}
+use Rattle.std.proofs.Common.{◌≡◌, ℕ, zero, suc, ◌<◌, ◌≤◌, true, ◌&&◌, List, [], ◌∷◌, ◌++◌, length, map, nat_eq, get_or, Option, ◌∙◌, refl, sym, ap, subst, arith}
+use Rattle.std.specs.List.{AllByRecursion, list_all}
 use Rattle.std.proofs.lemmas.Grind.{common_steps}
 use Rattle.std.proofs.lemmas.List.Folds.{list_all-append}
 use Rattle.sq_value.specs.declared.value.Value.{Value}
@@ -53,6 +53,12 @@ put_more (Insert row) changes = refl
 put_more (Replace number row) changes = refl
 put_more (Remove number) changes = refl
 
+put_first : {first change : Change} {row : List Value} → change ≡ first → rows_put (change ∷ []) ≡ row ∷ [] → rows_put (first ∷ []) ≡ row ∷ []
+put_first e put = sym (ap (λ (d : Change). rows_put (d ∷ [])) e) ∙ put
+
+first_so : (P : List Value → Type 0) (r : List Value) (rows : List (List Value)) (row : List Value) → AllByRecursion P (r ∷ rows) → r ∷ [] ≡ row ∷ [] → P row
+first_so P r rows row h e = let same : r ≡ row = cc in subst P same h.0
+
 -- a row that one of the changes puts in is as wide as all
 pub row_wide : (n : ℕ) (changes : List Change) (i : ℕ) (change : Change) (row : List Value) → are_wide n (rows_put changes) ≡ true → i < length changes → change ≡ get_or changes i change → rows_put (change ∷ []) ≡ row ∷ []
     → length row ≡ n
@@ -65,6 +71,17 @@ row_wide n (c ∷ changes) (suc i) change row h lt e put =
     let k : (list_all (λ r. nat_eq (length r) n) (rows_put (c ∷ [])) && are_wide n (rows_put changes)) ≡ true
     = sym (list_all-append (λ r. nat_eq (length r) n) (rows_put (c ∷ [])) (rows_put changes)) ∙ sym (ap (are_wide n) (put_more c changes)) ∙ h in
     row_wide n changes i change row (grind (arith, common_steps)) (omega arith) e put
+
+-- what holds of all rows that are put in holds of it, too
+pub put_so : (P : List Value → Type 0) (changes : List Change) (i : ℕ) (change : Change) (row : List Value) → AllByRecursion P (rows_put changes)
+    → i < length changes → change ≡ get_or changes i change → rows_put (change ∷ []) ≡ row ∷ [] → P row
+put_so P [] i change row h lt e put = absurd (omega arith)
+put_so P (Insert r ∷ changes) zero change row h lt e put = first_so P r (rows_put changes) row h (put_first e put)
+put_so P (Replace number r ∷ changes) zero change row h lt e put = first_so P r (rows_put changes) row h (put_first e put)
+put_so P (Remove number ∷ changes) zero change row h lt e put = let none : rows_put (Remove number ∷ []) ≡ row ∷ [] = put_first e put in cc
+put_so P (Insert r ∷ changes) (suc i) change row h lt e put = put_so P changes i change row h.1 (omega arith) e put
+put_so P (Replace number r ∷ changes) (suc i) change row h lt e put = put_so P changes i change row h.1 (omega arith) e put
+put_so P (Remove number ∷ changes) (suc i) change row h lt e put = put_so P changes i change row h (omega arith) e put
 
 -- one more row that is put in
 pub wide_inserted : (n : ℕ) (changes : List Change) (row : List Value) → are_wide n (rows_put changes) ≡ true → length row ≡ n → are_wide n (rows_put (changes ++ Insert row ∷ [])) ≡ true

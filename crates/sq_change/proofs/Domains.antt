@@ -120,6 +120,11 @@ all_at P [] i x h lt e = absurd (omega arith)
 all_at P (y ∷ ys) zero x h lt e = subst P (sym e) h.0
 all_at P (y ∷ ys) (suc i) x h lt e = all_at P ys i x h.1 (omega arith) e
 
+pub all_taken : {X : Type 0} (P : X → Type 0) (n : ℕ) (xs : List X) → AllByRecursion P xs → AllByRecursion P (take n xs)
+all_taken P zero xs h = tt
+all_taken P (suc n) [] h = tt
+all_taken P (suc n) (x ∷ xs) h = (h.0, all_taken P n xs h.1)
+
 pub all_pushed : {X : Type 0} (P : X → Type 0) (xs : List X) (x : X) → AllByRecursion P xs → P x → AllByRecursion P (xs ++ x ∷ [])
 all_pushed P xs x h is = all_appended P xs (x ∷ []) h (is, tt)
 

@@ -16,11 +16,12 @@ use Rattle.sq_meaning.specs.Environment.{Row, Input, Scope, Env, alone}
 use Rattle.sq_meaning.specs.Expression.{value, with_sign, sum_of, product_of}
 use Rattle.sq_meaning.specs.Placed.{by_place}
 use Rattle.sq_meaning.specs.WellFormed.{Answers, Fits, Has, IsRowOf, AreRowsOf, AreInputsOf, HasRowsOf, IsDeclaredAt, MayStand, is_comparable, kinds_by_place}
+use Rattle.sq_meaning.proofs.AnswerLaws.{weaker}
 use Rattle.sq_meaning.proofs.ReadingKinds.{env_by_place, places_agree}
 use Rattle.sq_meaning.proofs.ValueKinds.{value_of_kind}
 use Rattle.sq_bound.specs.Expression.{PlacedExpr, expr_of}
 use Rattle.sq_bound.specs.Fits.{IsRowIn}
-use Rattle.sq_bound.specs.WellFormed.{TableKinds, Levels, IsExpr, IsNewValue, base_kinds, of_base}
+use Rattle.sq_bound.specs.WellFormed.{TableKinds, Levels, IsExpr, IsNewValue, MayStore, base_kinds, of_base}
 use Rattle.sq_bound.specs.declared.condition.TablePlace.{TablePlace}
 use Rattle.sq_bound.specs.declared.condition.TablePlace.TheVariants.{Base}
 use Rattle.sq_bound.specs.declared.expression.BoundExpr.{BoundExpr}
@@ -75,6 +76,10 @@ row_of_kinds [] (v ∷ row) is = absurd is
 row_of_kinds (c ∷ columns) [] is = absurd is
 row_of_kinds (c ∷ columns) (v ∷ row) is = (in_domain_of_kind c.domain v is.0, row_of_kinds columns row is.1)
 
+pub row_fits : (columns : TableKinds) (b : BaseTable) (row : Row) → columns (Base b.place) ≡ Ok (base_kinds b) → IsRowIn b.columns row
+    → Has (λ kinds. IsRowOf kinds row) (columns (Base b.place))
+row_fits columns b row known is = subst (Has (λ kinds. IsRowOf kinds row)) (sym known) (row_of_kinds b.columns row is)
+
 -- ---- values of expressions
 
 -- any rows will do where none is read
@@ -102,44 +107,48 @@ value_alone columns parameters (scaled sign a b) scopes inputs name stands =
     λ i. and_then (value_alone columns parameters a scopes inputs name stands.0 i) (λ x. and_then (value_alone columns parameters b scopes inputs name stands.1 i) (product_of sign x))
 value_alone columns parameters (bracketed e) scopes inputs name stands = value_alone columns parameters e scopes inputs name stands
 
--- a value of a well-formed expression is of its kind
-tree_of_kind : (columns : TableKinds) (parameters : List Kind) (levels : Levels) (k : Kind) (e : BoundExpr) (scopes : List (Scope (Unit {0}))) (inputs : List Input) (name : Name) (v : Value)
-    → (is : IsExpr columns parameters levels [] k e) → AreInputsOf parameters inputs
+-- a value of a well-formed expression is of its kind, and else it ends with a status other than 42000
+tree_answers : (columns : TableKinds) (parameters : List Kind) (levels : Levels) (k : Kind) (e : BoundExpr) (scopes : List (Scope (Unit {0}))) (inputs : List Input)
+    (name : Name) (is : IsExpr columns parameters levels [] k e) → AreInputsOf parameters inputs
     → AllZip (HasRowsOf (by_place no_rows) (kinds_by_place columns parameters) (IsDeclaredAt parameters)) levels scopes
-    → value (by_place no_rows) is.tree (record { scopes = scopes; inputs = inputs; user = name }) ≡ Ok v → IsOfKind k v
-tree_of_kind columns parameters levels k e scopes inputs name v is given lines found =
+    → Answers (IsOfKind k) (value (by_place no_rows) is.tree (record { scopes = scopes; inputs = inputs; user = name }))
+tree_answers columns parameters levels k e scopes inputs name is given lines =
     let m = by_place no_rows in
     let kinds = kinds_by_place columns parameters in
     let agrees = places_agree no_rows columns parameters (λ t. none_fit (columns t)) in
     let env = env_by_place no_rows columns parameters levels scopes inputs name lines given in
-    subst (Answers (IsOfKind k)) found
-    (value_of_kind m kinds (IsDeclaredAt parameters) agrees levels is.tree k (record { scopes = scopes; inputs = inputs; user = name }) is.kind_is (is.stands no_rows) env)
+    value_of_kind m kinds (IsDeclaredAt parameters) agrees levels is.tree k (record { scopes = scopes; inputs = inputs; user = name })
+    is.kind_is (is.stands no_rows) env
 
-null_fits : (c : ObjectColumn) (e : BoundExpr) (env : Env (Unit {0})) (v : Value) → e ≡ bound.Literal Null → value (by_place no_rows) (expr_of [] e) env ≡ Ok v → FitsKind c.domain v
-null_fits c e env v is found =
-    let null : Ok Null ≡ Ok v = sym (ap (λ (t : PlacedExpr). value (by_place no_rows) t env) (ap (expr_of []) is ∙ expr_of-Literal [] Null)) ∙ found in
-    let same : Null ≡ v = cc in
-    subst (FitsKind c.domain) same tt
+null_fits : (c : ObjectColumn) (e : BoundExpr) (env : Env (Unit {0})) → e ≡ bound.Literal Null
+    → Answers (FitsKind c.domain) (value (by_place no_rows) (expr_of [] e) env)
+null_fits c e env is =
+    subst (λ (t : PlacedExpr). Answers (FitsKind c.domain) (value (by_place no_rows) t env))
+    (sym (ap (expr_of []) is ∙ expr_of-Literal [] Null)) tt
 
--- what VALUES gives for a column can be stored there (13.8)
-pub new_fits : (columns : TableKinds) (parameters : List Kind) (c : ObjectColumn) (e : BoundExpr) (scopes : List (Scope (Unit {0}))) (inputs : List Input) (name : Name) (v : Value)
+tree_fits : (c : ObjectColumn) (k : Kind) (o : Outcome Value) → MayStore c k → Answers (IsOfKind k) o → Answers (FitsKind c.domain) o
+tree_fits c k o may h = weaker (IsOfKind k) (FitsKind c.domain) o (λ v is. kind_fits c.domain k v is may) h
+
+-- what VALUES gives for a column can be stored there, or ends with a status other than 42000 (13.8)
+pub new_fits : (columns : TableKinds) (parameters : List Kind) (c : ObjectColumn) (e : BoundExpr) (scopes : List (Scope (Unit {0}))) (inputs : List Input) (name : Name)
     → IsNewValue columns parameters [] c e → AreInputsOf parameters inputs
-    → value (by_place no_rows) (expr_of [] e) (record { scopes = scopes; inputs = inputs; user = name }) ≡ Ok v → FitsKind c.domain v
-new_fits columns parameters c e scopes inputs name v (inl null) given found = null_fits c e _ v null found
-new_fits columns parameters c e scopes inputs name v (inr is) given found =
+    → Answers (FitsKind c.domain) (value (by_place no_rows) (expr_of [] e) (record { scopes = scopes; inputs = inputs; user = name }))
+new_fits columns parameters c e scopes inputs name (inl null) given = null_fits c e _ null
+new_fits columns parameters c e scopes inputs name (inr is) given =
     let x = is.1 in
-    let at : value (by_place no_rows) x.tree (record { scopes = []; inputs = inputs; user = name }) ≡ Ok v
-    = sym (value_alone columns parameters x.tree scopes inputs name (x.stands no_rows)) ∙ sym (ap (λ (t : PlacedExpr). value (by_place no_rows) t (record { scopes = scopes; inputs = inputs; user = name })) (x.is_tree [])) ∙ found in
-    kind_fits c.domain is.0 v (tree_of_kind columns parameters [] is.0 e [] inputs name v x given tt at) is.2
+    let of = λ (t : PlacedExpr). value (by_place no_rows) t (record { scopes = scopes; inputs = inputs; user = name }) in
+    let same : value (by_place no_rows) x.tree (record { scopes = []; inputs = inputs; user = name }) ≡ of (expr_of [] e)
+    = sym (value_alone columns parameters x.tree scopes inputs name (x.stands no_rows)) ∙ sym (ap of (x.is_tree [])) in
+    subst (Answers (FitsKind c.domain)) same (tree_fits c is.0 _ is.2 (tree_answers columns parameters [] is.0 e [] inputs name x given tt))
 
--- what a set clause gives for a column on a row of the base table can be stored there (13.9)
-pub assigned_fits : (columns : TableKinds) (parameters : List Kind) (b : BaseTable) (c : ObjectColumn) (e : BoundExpr) (row : Row) (inputs : List Input) (name : Name) (v : Value)
+-- so does what a set clause gives for a column on a row of the base table (13.9)
+pub assigned_fits : (columns : TableKinds) (parameters : List Kind) (b : BaseTable) (c : ObjectColumn) (e : BoundExpr) (row : Row) (inputs : List Input) (name : Name)
     → IsNewValue columns parameters (of_base b) c e → columns (Base b.place) ≡ Ok (base_kinds b) → IsRowIn b.columns row → AreInputsOf parameters inputs
-    → value (by_place no_rows) (expr_of [] e) (record { scopes = alone [] (row ∷ []) ∷ []; inputs = inputs; user = name }) ≡ Ok v → FitsKind c.domain v
-assigned_fits columns parameters b c e row inputs name v (inl null) known is given found = null_fits c e _ v null found
-assigned_fits columns parameters b c e row inputs name v (inr are) known is given found =
+    → Answers (FitsKind c.domain) (value (by_place no_rows) (expr_of [] e) (record { scopes = alone [] (row ∷ []) ∷ []; inputs = inputs; user = name }))
+assigned_fits columns parameters b c e row inputs name (inl null) known is given = null_fits c e _ null
+assigned_fits columns parameters b c e row inputs name (inr are) known is given =
     let x = are.1 in
-    let line : Has (λ kinds. IsRowOf kinds row) (columns (Base b.place)) = subst (Has (λ kinds. IsRowOf kinds row)) (sym known) (row_of_kinds b.columns row is) in
-    let at : value (by_place no_rows) x.tree (record { scopes = alone [] (row ∷ []) ∷ []; inputs = inputs; user = name }) ≡ Ok v
-    = sym (ap (λ (t : PlacedExpr). value (by_place no_rows) t (record { scopes = alone [] (row ∷ []) ∷ []; inputs = inputs; user = name })) (x.is_tree [])) ∙ found in
-    kind_fits c.domain are.0 v (tree_of_kind columns parameters (of_base b) are.0 e (alone [] (row ∷ []) ∷ []) inputs name v x given (record { line = (line, tt); group = tt }, tt) at) are.2
+    let scopes : List (Scope (Unit {0})) = alone [] (row ∷ []) ∷ [] in
+    subst (λ (t : PlacedExpr). Answers (FitsKind c.domain) (value (by_place no_rows) t (record { scopes = scopes; inputs = inputs; user = name }))) (sym (x.is_tree []))
+    (tree_fits c are.0 _ are.2
+    (tree_answers columns parameters (of_base b) are.0 e scopes inputs name x given (record { line = (row_fits columns b row known is, tt); group = tt }, tt)))

@@ -1,7 +1,9 @@
 pub mod Applied
 pub mod Domains
+pub mod Endings
 pub mod Fitting
 pub mod Held
 pub mod Made
+pub mod OnRows
 pub mod Storable
 pub mod Stored

@@ -1,13 +1,17 @@
 -- What a statement is going to change, by its kind.
 use Rattle.std.specs.Prelude.{◌≡◌, ℕ, Bool, true, false, List, length, map, nat_eq, Option}
 use Rattle.std.specs.List.{AllByRecursion, list_all, list_any}
+use Rattle.sq_value.specs.declared.domain.Kind.{Kind}
 use Rattle.sq_value.specs.declared.value.Value.{Value}
 use Rattle.sq_store.specs.declared.change.Change.{Change}
 use Rattle.sq_store.specs.declared.change.Change.TheVariants.{Insert, Replace, Remove}
 use Rattle.sq_store.specs.Change.{rows_put}
 use Rattle.sq_bound.specs.Fits.{IsRowIn}
+use Rattle.sq_bound.specs.WellFormed.{TableKinds}
+use Rattle.sq_bound.specs.declared.condition.BoundCond.{BoundCond}
 use Rattle.sq_bound.specs.declared.names.BaseColumn.{BaseColumn}
 use Rattle.sq_bound.specs.declared.statement.ChangeTarget.{ChangeTarget}
+use Rattle.sq_query.specs.Row.{IsOnRow}
 use Rattle.sq_change.specs.Statement.{Chosen}
 
 -- the rows have a value for each of so many columns
@@ -17,6 +21,10 @@ are_wide columns rows = list_all (λ row. nat_eq (length row) columns) rows
 -- the rows that changes put in a table have their values in the domains of its columns
 abbrev pub AreRowsPut : List BaseColumn → List Change → Type 0
 AreRowsPut columns changes = AllByRecursion (IsRowIn columns) (rows_put changes)
+
+-- the conditions are well formed on each row that changes put in a table
+abbrev pub AreOnRowsPut : TableKinds → List Kind → List BoundCond → List Change → Type 0
+AreOnRowsPut columns parameters conditions changes = AllByRecursion (λ row. AllByRecursion (IsOnRow columns parameters row) conditions) (rows_put changes)
 
 -- only new rows
 abbrev pub is_insertion : Change → Bool

@@ -1,20 +1,26 @@
 -- The values that insert and update statements give (ISO/IEC 9075:1992, 13.8 to 13.10).
-use Rattle.std.specs.Prelude.{⊤, ◌≡◌, ℕ, List, [], ◌∷◌, Ok}
+use Rattle.std.specs.Prelude.{⊤, ◌≡◌, ℕ, List, [], ◌∷◌, Result, IfOk, IfErr}
 use Rattle.std.specs.List.{AllByRecursion, AllZip, Contains}
 use Rattle.sq_lex.specs.declared.name.Name.{Name}
+use Rattle.sq_store.specs.Content.{Content}
 use Rattle.sq_value.specs.Domain.{FitsKind, IsInDomain}
 use Rattle.sq_value.specs.declared.value.Value.{Value}
 use Rattle.sq_value.specs.declared.domain.Domain.{Domain}
 use Rattle.sq_value.specs.declared.domain.Kind.{Kind}
 use Rattle.sq_meaning.specs.Environment.{Row, Line}
+use Rattle.sq_meaning.specs.Status.{Outcome}
 use Rattle.sq_meaning.specs.WellFormed.{IsRowOf}
 use Rattle.sq_bound.specs.WellFormed.{TableKinds, IsSource, IsAssignment}
+use Rattle.sq_bound.specs.declared.condition.BoundSpecification.{BoundSpecification}
+use Rattle.sq_bound.specs.declared.condition.TablePlace.{TablePlace}
 use Rattle.sq_bound.specs.declared.expression.BoundExpr.{BoundExpr}
 use Rattle.sq_bound.specs.declared.names.BaseTable.{BaseTable}
 use Rattle.sq_bound.specs.declared.names.ObjectColumn.{ObjectColumn}
 use Rattle.sq_bound.specs.declared.statement.BoundAssignment.{BoundAssignment}
 use Rattle.sq_bound.specs.declared.statement.InsertedRows.{InsertedRows}
+use Rattle.sq_query.specs.MayRead.{MayEnd, MayRead}
 use Rattle.sq_query.specs.Row.{HasValueOn}
+use Rattle.sq_query.specs.declared.fault.Fault.{Fault}
 
 -- each value is in the domain of its column
 abbrev pub AreStored : List ObjectColumn → List Value → Type 0
@@ -32,9 +38,9 @@ IsStoredFor columns position v = (c : ObjectColumn) × Contains columns c × (c.
 abbrev pub FitColumns : List ObjectColumn → List Value → Type 0
 FitColumns = AllZip (λ c v. FitsKind c.domain v)
 
--- where the expression has a value on the line, it is such a one for the domain
+-- where the expression has a value on the line, it is such a one for the domain, and else it ends with no 42000
 abbrev pub IsStorable : Domain → BoundExpr → Line → List Value → Name → Type 0
-IsStorable domain e line parameters user = (v : Value) → HasValueOn (Ok v) e line parameters user → FitsKind domain v
+IsStorable domain e line parameters user = (r : Result Value Fault) → HasValueOn r e line parameters user → IfOk r (FitsKind domain) × IfErr r MayEnd
 
 -- an expression for each column, whose value may be stored there
 abbrev pub AreStorable : List ObjectColumn → List BoundExpr → List Value → Name → Type 0
@@ -46,10 +52,13 @@ AreAssignable assignments row parameters user = AllByRecursion (λ a. IsStorable
 
 -- ---- statements
 
--- the source of an insert statement is well formed where the parameters, which have these values, are of some kinds
-pub record MayGive (columns : TableKinds) (values : List Value) (objects : List ObjectColumn) (source : InsertedRows) : Type 0 where
+-- the source of an insert statement is well formed where the parameters, which have these values, are of some kinds; its query
+-- may read these tables
+pub record MayGive (bases : List BaseTable) (queries : List BoundSpecification) (columns : TableKinds) (content : Content) (user : Name)
+    (values : List Value) (objects : List ObjectColumn) (source : InsertedRows) : Type 0 where
   pub parameters : List Kind
-  pub inputs : IsRowOf parameters values
+  pub tables : TablePlace → Outcome (List Row)
+  pub reads : MayRead bases queries columns content user values parameters tables
   pub given : IsSource columns parameters objects source
 
 -- so are the set clauses of an update statement of the base table

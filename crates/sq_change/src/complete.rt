@@ -1,11 +1,17 @@
 //! A change of a base table, where check options and constraints allow it.
 
-ghost use Rattle.std.specs.Prelude.{◌≡◌, ◌<◌, ◌≤◌, ◌+◌, ◌-◌, true, length, IfOk, OnErr, OnOk, Some};
+ghost use Rattle.std.specs.Prelude.{◌≡◌, ◌<◌, ◌≤◌, ◌+◌, ◌-◌, true, length, List, IfErr, IfOk, OnErr, OnOk, Some};
 ghost use Rattle.std.specs.List.{list_all};
+ghost use Rattle.sq_value.specs.declared.domain.Kind.{Kind};
+ghost use Rattle.sq_value.specs.declared.value.Value.{Value as AnyValue};
 ghost use Rattle.sq_store.specs.Change.{insert_count, rows_put};
 ghost use Rattle.sq_store.specs.Content.{changed_by, table_at, with_table};
 ghost use Rattle.sq_store.specs.Keys.{has_keys, keys_at};
+ghost use Rattle.sq_meaning.specs.Status.{Outcome};
 ghost use Rattle.sq_bound.specs.Fits.{AreInDomains, IsBase, holds, keys_of_bases};
+ghost use Rattle.sq_bound.specs.WellFormed.{IsLeaf};
+ghost use Rattle.sq_bound.specs.declared.condition.TablePlace.{TablePlace};
+ghost use Rattle.sq_query.specs.MayRead.{MayEnd, MayRead};
 ghost use Rattle.sq_change.specs.Changed.{AreRowsPut, are_wide};
 ghost use Rattle.sq_change.specs.Reference.{are_of_keys};
 
@@ -53,6 +59,9 @@ pub(crate) fn complete<N: Names, S: Store>(
     ensures committed { S.committed store.new ≡ S.committed store.old }
     ensures keys { S.key_columns store.new ≡ S.key_columns store.old }
     ensures numbers { S.row_numbers store.new ≡ S.row_numbers store.old }
+    ensures right { (kinds : List Kind) (tables : TablePlace → Outcome (List (List AnyValue)))
+        → MayRead (N.base_tables names.now) (N.view_queries names.now) (N.column_kinds names.now) (S.content_now store.old) user parameters.now kinds tables
+        → IsLeaf (N.column_kinds names.now) leaf.now → IfErr result MayEnd }
 {
     let table = leaf.table.get();
     let setting = Setting::new(alloc, names, &*store, user, parameters);
@@ -88,7 +97,11 @@ fn rows_admitted<N: Names, S: Store>(
     requires keys { S.key_columns setting.now.store.now ≡ keys_of_bases (N.base_tables setting.now.names.now) }
     requires base { IsBase (N.base_tables setting.now.names.now) leaf.now.table }
     requires wide { are_wide (length leaf.now.table.columns) (rows_put changed.now.changes.items) ≡ true }
-    ensures { IfOk result (λ referenced. are_of_keys (S.key_columns setting.now.store.now) referenced.items ≡ true) }
+    ensures known { IfOk result (λ referenced. are_of_keys (S.key_columns setting.now.store.now) referenced.items ≡ true) }
+    ensures right { (parameters : List Kind) (tables : TablePlace → Outcome (List (List AnyValue)))
+        → MayRead (N.base_tables setting.now.names.now) (N.view_queries setting.now.names.now) (N.column_kinds setting.now.names.now)
+        (S.content_now setting.now.store.now) setting.now.user setting.now.parameters.now parameters tables
+        → IsLeaf (N.column_kinds setting.now.names.now) leaf.now → AreRowsPut leaf.now.table.columns changed.now.changes.items → IfErr result MayEnd }
 {
     let changes = changed.changes.as_slice();
     let table = leaf.table.get();
@@ -114,6 +127,7 @@ fn apply<S: Store>(
     ensures committed { S.committed store.new ≡ S.committed store.old }
     ensures keys { S.key_columns store.new ≡ S.key_columns store.old }
     ensures numbers { S.row_numbers store.new ≡ S.row_numbers store.old }
+    ensures right { IfErr result MayEnd }
 {
     match store.apply(alloc, place, changes) {
         Ok(()) => Ok(()),

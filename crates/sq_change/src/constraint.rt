@@ -1,5 +1,15 @@
 //! What new and changed rows have to meet: check options, NOT NULL and CHECK (ISO/IEC 9075:1992, 11.4, 11.9, 11.19).
 
+ghost use Rattle.std.specs.Prelude.{◌≡◌, List, take, IfErr};
+ghost use Rattle.std.specs.List.{AllByRecursion};
+ghost use Rattle.sq_value.specs.declared.domain.Kind.{Kind};
+ghost use Rattle.sq_value.specs.declared.value.Value.{Value as AnyValue};
+ghost use Rattle.sq_meaning.specs.Status.{Outcome};
+ghost use Rattle.sq_bound.specs.declared.condition.TablePlace.{TablePlace};
+ghost use Rattle.sq_query.specs.MayRead.{MayEnd, MayRead};
+ghost use Rattle.sq_query.specs.Row.{IsOnRow};
+ghost use Rattle.sq_change.specs.Changed.{AreOnRowsPut};
+
 use crate::row::{is_null, row_put};
 use crate::setting::Setting;
 use sq_bound::{BaseTable, BoundCond, Leaf, Names, Shared};
@@ -12,7 +22,12 @@ pub(crate) fn check_options_met<N: Names, S: Store>(
     setting: &Setting<'_, N, S>,
     leaf: &Leaf,
     changes: &[Change],
-) -> Result<(), Fault> {
+) -> Result<(), Fault>
+    ensures { (parameters : List Kind) (tables : TablePlace → Outcome (List (List AnyValue)))
+        → MayRead (N.base_tables setting.now.names.now) (N.view_queries setting.now.names.now) (N.column_kinds setting.now.names.now)
+        (S.content_now setting.now.store.now) setting.now.user setting.now.parameters.now parameters tables
+        → AreOnRowsPut (N.column_kinds setting.now.names.now) parameters leaf.now.conditions changes.now → IfErr result MayEnd }
+{
     let conditions = demanded(leaf);
     for change in changes {
         if let Some(row) = row_put(change) {
@@ -23,7 +38,9 @@ pub(crate) fn check_options_met<N: Names, S: Store>(
 }
 
 /// The conditions, from inside out, that rows have to meet.
-fn demanded(leaf: &Leaf) -> &[Shared<BoundCond>] {
+fn demanded(leaf: &Leaf) -> &[Shared<BoundCond>]
+    ensures { result.now ≡ take leaf.now.demanded leaf.now.conditions }
+{
     &leaf.conditions.as_slice()[..leaf.demanded]
 }
 
@@ -32,14 +49,21 @@ fn meets_check_option<N: Names, S: Store>(
     setting: &Setting<'_, N, S>,
     conditions: &[Shared<BoundCond>],
     row: &Row,
-) -> Result<(), Fault> {
+) -> Result<(), Fault>
+    ensures { (parameters : List Kind) (tables : TablePlace → Outcome (List (List AnyValue)))
+        → MayRead (N.base_tables setting.now.names.now) (N.view_queries setting.now.names.now) (N.column_kinds setting.now.names.now)
+        (S.content_now setting.now.store.now) setting.now.user setting.now.parameters.now parameters tables
+        → AllByRecursion (IsOnRow (N.column_kinds setting.now.names.now) parameters row.now) conditions.now → IfErr result MayEnd }
+{
     for condition in conditions {
         is_or_violates(setting.truth(condition.get(), row)?)?;
     }
     Ok(())
 }
 
-fn is_or_violates(truth: Truth) -> Result<(), Fault> {
+fn is_or_violates(truth: Truth) -> Result<(), Fault>
+    ensures { IfErr result MayEnd }
+{
     match truth {
         Truth::True => Ok(()),
         _ => Err(Fault::Status(Failure::CheckOptionViolation)),
@@ -51,7 +75,12 @@ pub(crate) fn rows_satisfied<N: Names, S: Store>(
     setting: &Setting<'_, N, S>,
     table: &BaseTable,
     changes: &[Change],
-) -> Result<(), Fault> {
+) -> Result<(), Fault>
+    ensures { (parameters : List Kind) (tables : TablePlace → Outcome (List (List AnyValue)))
+        → MayRead (N.base_tables setting.now.names.now) (N.view_queries setting.now.names.now) (N.column_kinds setting.now.names.now)
+        (S.content_now setting.now.store.now) setting.now.user setting.now.parameters.now parameters tables
+        → AreOnRowsPut (N.column_kinds setting.now.names.now) parameters table.now.checks changes.now → IfErr result MayEnd }
+{
     for change in changes {
         if let Some(row) = row_put(change) {
             row_satisfied(setting, table, row)?;
@@ -65,7 +94,12 @@ fn row_satisfied<N: Names, S: Store>(
     setting: &Setting<'_, N, S>,
     table: &BaseTable,
     row: &Row,
-) -> Result<(), Fault> {
+) -> Result<(), Fault>
+    ensures { (parameters : List Kind) (tables : TablePlace → Outcome (List (List AnyValue)))
+        → MayRead (N.base_tables setting.now.names.now) (N.view_queries setting.now.names.now) (N.column_kinds setting.now.names.now)
+        (S.content_now setting.now.store.now) setting.now.user setting.now.parameters.now parameters tables
+        → AllByRecursion (IsOnRow (N.column_kinds setting.now.names.now) parameters row.now) table.now.checks → IfErr result MayEnd }
+{
     if lacks_value(table, row.as_slice()) {
         return Err(Fault::Status(Failure::IntegrityConstraintViolation));
     }
@@ -90,7 +124,12 @@ fn check_satisfied<N: Names, S: Store>(
     setting: &Setting<'_, N, S>,
     check: &BoundCond,
     row: &Row,
-) -> Result<(), Fault> {
+) -> Result<(), Fault>
+    ensures { (parameters : List Kind) (tables : TablePlace → Outcome (List (List AnyValue)))
+        → MayRead (N.base_tables setting.now.names.now) (N.view_queries setting.now.names.now) (N.column_kinds setting.now.names.now)
+        (S.content_now setting.now.store.now) setting.now.user setting.now.parameters.now parameters tables
+        → IsOnRow (N.column_kinds setting.now.names.now) parameters row.now check.now → IfErr result MayEnd }
+{
     match setting.truth(check, row)? {
         Truth::False => Err(Fault::Status(Failure::IntegrityConstraintViolation)),
         _ => Ok(()),

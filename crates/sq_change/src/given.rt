@@ -1,13 +1,17 @@
 //! The rows that an insert statement makes (ISO/IEC 9075:1992, 13.8).
 
-ghost use Rattle.std.specs.Prelude.{◌≡◌, ◌<◌, [], length, nat_eq, true, vec_len, IfOk, IfSome, List};
+ghost use Rattle.std.specs.Prelude.{◌≡◌, ◌<◌, [], length, nat_eq, true, vec_len, IfErr, IfOk, IfSome, List};
 ghost use Rattle.std.specs.List.{AllByRecursion, position};
 ghost use Rattle.sq_value.specs.Domain.{IsInDomain};
 ghost use Rattle.sq_store.specs.Change.{rows_put};
 ghost use Rattle.sq_value.specs.declared.domain.Kind.{Kind};
-ghost use Rattle.sq_meaning.specs.WellFormed.{AreRowsOf, IsRowOf};
-ghost use Rattle.sq_bound.specs.Fits.{AreInDomains, IsColumnOf, IsRowIn};
+ghost use Rattle.sq_value.specs.declared.value.Value.{Value as AnyValue};
+ghost use Rattle.sq_meaning.specs.Status.{Outcome};
+ghost use Rattle.sq_meaning.specs.WellFormed.{AreRowsOf};
+ghost use Rattle.sq_bound.specs.Fits.{IsColumnOf, IsRowIn};
 ghost use Rattle.sq_bound.specs.WellFormed.{IsSelect, kinds_of_select};
+ghost use Rattle.sq_bound.specs.declared.condition.TablePlace.{TablePlace};
+ghost use Rattle.sq_query.specs.MayRead.{MayEnd, MayRead};
 ghost use Rattle.sq_change.specs.Changed.{AreRowsPut, are_insertions, are_wide};
 ghost use Rattle.sq_change.specs.Given.{AreStorable, AreStored, FitColumns, IsStoredFor, MayGive};
 
@@ -31,12 +35,13 @@ pub(crate) fn new_rows<N: Names, S: Store>(
     meter: &mut Meter,
 ) -> Result<Vec<Change>, Fault>
     requires columns { AllByRecursion (IsColumnOf table.now) insert.now.columns }
-    requires in_domains { AreInDomains (N.base_tables setting.now.names.now) (S.content_now setting.now.store.now) }
-    requires given { MayGive (N.column_kinds setting.now.names.now) setting.now.parameters.now insert.now.columns insert.now.source }
+    requires given { MayGive (N.base_tables setting.now.names.now) (N.view_queries setting.now.names.now) (N.column_kinds setting.now.names.now)
+        (S.content_now setting.now.store.now) setting.now.user setting.now.parameters.now insert.now.columns insert.now.source }
     ensures insertions { IfOk result (λ changes. are_insertions changes.items ≡ true) }
     ensures wide { IfOk result (λ changes. are_wide (length table.now.columns) (rows_put changes.items) ≡ true) }
     ensures in_domains { IfOk result (λ changes. AreRowsPut table.now.columns changes.items) }
     ensures some { IfOk result (λ changes. 0 < vec_len changes) }
+    ensures right { IfErr result MayEnd }
 {
     let given = given_rows(setting, insert, meter)?;
     completed_rows(setting, table, insert.columns.as_slice(), given.as_slice())
@@ -48,10 +53,11 @@ fn given_rows<N: Names, S: Store>(
     insert: &BoundInsert,
     meter: &mut Meter,
 ) -> Result<Vec<Row>, Fault>
-    requires in_domains { AreInDomains (N.base_tables setting.now.names.now) (S.content_now setting.now.store.now) }
-    requires given { MayGive (N.column_kinds setting.now.names.now) setting.now.parameters.now insert.now.columns insert.now.source }
+    requires given { MayGive (N.base_tables setting.now.names.now) (N.view_queries setting.now.names.now) (N.column_kinds setting.now.names.now)
+        (S.content_now setting.now.store.now) setting.now.user setting.now.parameters.now insert.now.columns insert.now.source }
     ensures some { IfOk result (λ rows. 0 < vec_len rows) }
     ensures stored { IfOk result (λ rows. AllByRecursion (AreStored insert.now.columns) rows.items) }
+    ensures right { IfErr result MayEnd }
 {
     let columns = insert.columns.as_slice();
     match &insert.source {
@@ -75,7 +81,8 @@ fn given_values<N: Names, S: Store>(
     values: &[BoundExpr],
 ) -> Result<Row, Fault>
     requires { AreStorable columns.now values.now setting.now.parameters.now setting.now.user }
-    ensures { IfOk result (AreStored columns.now) }
+    ensures stored { IfOk result (AreStored columns.now) }
+    ensures right { IfErr result MayEnd }
 {
     let mut row = Items::new(setting.alloc);
     for (column, value) in columns.iter().zip(values) {
@@ -90,10 +97,15 @@ fn rows_found<N: Names, S: Store>(
     query: &BoundSpecification,
     meter: &mut Meter,
 ) -> Result<Vec<Row>, Fault>
-    requires { AreInDomains (N.base_tables setting.now.names.now) (S.content_now setting.now.store.now) }
     ensures some { IfOk result (λ rows. 0 < vec_len rows) }
-    ensures kinds { (parameters : List Kind) → IsRowOf parameters setting.now.parameters.now → IsSelect (N.column_kinds setting.now.names.now) parameters [] query.now
-        → IfOk result (λ rows. AreRowsOf (kinds_of_select query.now) rows.items) }
+    ensures kinds { (parameters : List Kind) (tables : TablePlace → Outcome (List (List AnyValue)))
+        → MayRead (N.base_tables setting.now.names.now) (N.view_queries setting.now.names.now) (N.column_kinds setting.now.names.now)
+        (S.content_now setting.now.store.now) setting.now.user setting.now.parameters.now parameters tables
+        → IsSelect (N.column_kinds setting.now.names.now) parameters [] query.now → IfOk result (λ rows. AreRowsOf (kinds_of_select query.now) rows.items) }
+    ensures right { (parameters : List Kind) (tables : TablePlace → Outcome (List (List AnyValue)))
+        → MayRead (N.base_tables setting.now.names.now) (N.view_queries setting.now.names.now) (N.column_kinds setting.now.names.now)
+        (S.content_now setting.now.store.now) setting.now.user setting.now.parameters.now parameters tables
+        → IsSelect (N.column_kinds setting.now.names.now) parameters [] query.now → IfErr result MayEnd }
 {
     let rows = specification_rows(
         setting.alloc,
@@ -114,6 +126,7 @@ fn stored_rows(alloc: Global, columns: &[ObjectColumn], rows: &[Row]) -> Result<
     requires { AllByRecursion (FitColumns columns.now) rows.now }
     ensures count { IfOk result (λ stored. vec_len stored ≡ length rows.now) }
     ensures stored { IfOk result (λ stored. AllByRecursion (AreStored columns.now) stored.items) }
+    ensures right { IfErr result MayEnd }
 {
     let mut stored = Vec::new(alloc);
     for row in rows {
@@ -125,7 +138,8 @@ fn stored_rows(alloc: Global, columns: &[ObjectColumn], rows: &[Row]) -> Result<
 /// A row as the columns store it.
 fn stored_row(alloc: Global, columns: &[ObjectColumn], row: &[Value]) -> Result<Row, Fault>
     requires { FitColumns columns.now row.now }
-    ensures { IfOk result (AreStored columns.now) }
+    ensures stored { IfOk result (AreStored columns.now) }
+    ensures right { IfErr result MayEnd }
 {
     let mut stored = Items::new(alloc);
     for (column, value) in columns.iter().zip(row) {
@@ -147,6 +161,7 @@ fn completed_rows<N: Names, S: Store>(
     ensures wide { IfOk result (λ changes. are_wide (length table.now.columns) (rows_put changes.items) ≡ true) }
     ensures in_domains { IfOk result (λ changes. AreRowsPut table.now.columns changes.items) }
     ensures length { IfOk result (λ changes. vec_len changes ≡ length given.now) }
+    ensures right { IfErr result MayEnd }
 {
     let mut changes = Vec::new(setting.alloc);
     for values in given {
@@ -167,6 +182,7 @@ fn new_row<N: Names, S: Store>(
     requires stored { AreStored columns.now given.now }
     ensures wide { IfOk result (λ row. length row ≡ length table.now.columns) }
     ensures in_domains { IfOk result (IsRowIn table.now.columns) }
+    ensures right { IfErr result MayEnd }
 {
     let mut row = Items::new(setting.alloc);
     for (place, column) in table.columns.as_slice().iter().enumerate() {
@@ -198,7 +214,8 @@ fn value_or_default<N: Names, S: Store>(
     given: Option<&Value>,
 ) -> Result<Value, Fault>
     requires { IfSome given (λ value. IsInDomain column.now.domain value.now) }
-    ensures { IfOk result (IsInDomain column.now.domain) }
+    ensures in_domain { IfOk result (IsInDomain column.now.domain) }
+    ensures right { IfErr result MayEnd }
 {
     if let Some(value) = given {
         return Ok(value.copy(setting.alloc)?);

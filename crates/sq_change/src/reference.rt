@@ -1,11 +1,12 @@
 //! References between tables after a change (ISO/IEC 9075:1992, 11.8).
 
-ghost use Rattle.std.specs.Prelude.{◌≡◌, ◌<◌, true, length, IfOk, OnOk};
+ghost use Rattle.std.specs.Prelude.{◌≡◌, ◌<◌, true, length, IfErr, IfOk, OnOk};
 ghost use Rattle.std.specs.List.{list_all};
 ghost use Rattle.sq_store.specs.Change.{rows_put};
 ghost use Rattle.sq_store.specs.Content.{table_at};
 ghost use Rattle.sq_store.specs.Keys.{has_columns};
 ghost use Rattle.sq_bound.specs.Fits.{have_width, holds, keys_of_bases};
+ghost use Rattle.sq_query.specs.MayRead.{MayEnd};
 ghost use Rattle.sq_change.specs.Changed.{are_wide};
 ghost use Rattle.sq_change.specs.Reference.{are_of_keys, is_of_key, refer_to_keys, refers_to_key};
 
@@ -33,7 +34,8 @@ pub(crate) fn referenced_by<N: Names, S: Store>(
 ) -> Result<Vec<Referenced>, Fault>
     requires keys { refer_to_keys (S.key_columns setting.now.store.now) table.now.references ≡ true }
     requires wide { are_wide (length table.now.columns) (rows_put changes.now) ≡ true }
-    ensures { IfOk result (λ referenced. are_of_keys (S.key_columns setting.now.store.now) referenced.items ≡ true) }
+    ensures known { IfOk result (λ referenced. are_of_keys (S.key_columns setting.now.store.now) referenced.items ≡ true) }
+    ensures right { IfErr result MayEnd }
 {
     let mut referenced = Vec::new(setting.alloc);
     for change in changes {
@@ -54,7 +56,8 @@ fn push_referenced<N: Names, S: Store>(
     requires keys { refer_to_keys (S.key_columns setting.now.store.now) table.now.references ≡ true }
     requires wide { length row.now ≡ length table.now.columns }
     requires known { are_of_keys (S.key_columns setting.now.store.now) referenced.old.items ≡ true }
-    ensures { OnOk result (are_of_keys (S.key_columns setting.now.store.now) referenced.new.items ≡ true) }
+    ensures known { OnOk result (are_of_keys (S.key_columns setting.now.store.now) referenced.new.items ≡ true) }
+    ensures right { IfErr result MayEnd }
 {
     for reference in table.references.as_slice() {
         if let Some(values) = values_referred(setting.alloc, reference, row)? {
@@ -73,6 +76,7 @@ fn push_referenced<N: Names, S: Store>(
 #[tactic(auto, using(sq_store::proofs::Sound::HasColumns_test))]
 fn values_referred(alloc: Global, reference: &Reference, row: &Row) -> Result<Option<Key>, Fault>
     requires { has_columns reference.now.by_key row.now ≡ true }
+    ensures { IfErr result MayEnd }
 {
     let row = row.as_slice();
     let columns = reference.by_key.as_slice();
@@ -95,6 +99,7 @@ pub(crate) fn references_satisfied<N: Names, S: Store>(
     requires tables { holds (N.base_tables names.now) (S.content_now store.now) ≡ true }
     requires keys { S.key_columns store.now ≡ keys_of_bases (N.base_tables names.now) }
     requires known { are_of_keys (S.key_columns store.now) referenced.now ≡ true }
+    ensures { IfErr result MayEnd }
 {
     all_there(store, referenced)?;
     if lost_keys.is_empty() {
@@ -109,6 +114,7 @@ pub(crate) fn references_satisfied<N: Names, S: Store>(
 /// Whether there are all these rows.
 fn all_there<S: Store>(store: &S, referenced: &[Referenced]) -> Result<(), Fault>
     requires { are_of_keys (S.key_columns store.now) referenced.now ≡ true }
+    ensures { IfErr result MayEnd }
 {
     for row in referenced {
         is_there(store, row)?;
@@ -119,6 +125,7 @@ fn all_there<S: Store>(store: &S, referenced: &[Referenced]) -> Result<(), Fault
 /// Whether there is such a row.
 fn is_there<S: Store>(store: &S, referenced: &Referenced) -> Result<(), Fault>
     requires { is_of_key (S.key_columns store.now) referenced.now ≡ true }
+    ensures { IfErr result MayEnd }
 {
     let Referenced { table, key, values } = referenced;
     match store.find_key(*table, *key, values, &mut Meter::new()) {
@@ -139,6 +146,7 @@ fn references_to<S: Store>(
     requires kept { place < length (S.content_now store.now) }
     requires wide { have_width (length base.now.columns) (table_at (S.content_now store.now) place).rows ≡ true }
     requires keys { refer_to_keys (S.key_columns store.now) base.now.references ≡ true }
+    ensures { IfErr result MayEnd }
 {
     for reference in base.references.as_slice() {
         if reference.table == table && keys.contains(&reference.key) {
@@ -158,6 +166,7 @@ fn reference_satisfied<S: Store>(
     requires kept { place < length (S.content_now store.now) }
     requires columns { list_all (λ r. has_columns reference.now.by_key r.row) (table_at (S.content_now store.now) place).rows ≡ true }
     requires key { refers_to_key (S.key_columns store.now) reference.now ≡ true }
+    ensures { IfErr result MayEnd }
 {
     let mut meter = Meter::new();
     let mut number = 0;
@@ -177,6 +186,7 @@ fn is_satisfied<S: Store>(
 ) -> Result<(), Fault>
     requires columns { has_columns reference.now.by_key row.now ≡ true }
     requires key { refers_to_key (S.key_columns store.now) reference.now ≡ true }
+    ensures { IfErr result MayEnd }
 {
     match values_referred(alloc, reference, row)? {
         Some(values) => is_there(

@@ -1,8 +1,13 @@
 //! What a statement reads.
 
-ghost use Rattle.std.specs.Prelude.{◌≡◌};
+ghost use Rattle.std.specs.Prelude.{◌≡◌, List, IfErr};
 ghost use Rattle.std.specs.Option.{option_copied};
-ghost use Rattle.sq_query.specs.Row.{line_of, HasValueOn};
+ghost use Rattle.sq_value.specs.declared.domain.Kind.{Kind};
+ghost use Rattle.sq_value.specs.declared.value.Value.{Value as AnyValue};
+ghost use Rattle.sq_meaning.specs.Status.{Outcome};
+ghost use Rattle.sq_bound.specs.declared.condition.TablePlace.{TablePlace};
+ghost use Rattle.sq_query.specs.MayRead.{MayEnd, MayRead};
+ghost use Rattle.sq_query.specs.Row.{line_of, HasValueOn, IsOnRow};
 
 use sq_bound::{BoundCond, BoundExpr, Names};
 use sq_lex::Name;
@@ -62,7 +67,12 @@ impl<'a, N: Names, S: Store> Setting<'a, N, S> {
     }
 
     /// Whether a condition holds of a row of a base table.
-    pub(crate) fn truth(&self, condition: &BoundCond, row: &Row) -> Result<Truth, Fault> {
+    pub(crate) fn truth(&self, condition: &BoundCond, row: &Row) -> Result<Truth, Fault>
+        ensures { (parameters : List Kind) (tables : TablePlace → Outcome (List (List AnyValue)))
+            → MayRead (N.base_tables self.now.names.now) (N.view_queries self.now.names.now) (N.column_kinds self.now.names.now)
+            (S.content_now self.now.store.now) self.now.user self.now.parameters.now parameters tables
+            → IsOnRow (N.column_kinds self.now.names.now) parameters row.now condition.now → IfErr result MayEnd }
+    {
         truth_of(
             self.alloc,
             self.names,

@@ -1,10 +1,16 @@
 //! The three statements that change a table.
 
-ghost use Rattle.std.specs.Prelude.{◌≡◌, ◌<◌, ◌≤◌, ◌+◌, ◌-◌, true, length, vec_len, IfOk, Ok, OnErr, OnOk};
+ghost use Rattle.std.specs.Prelude.{◌≡◌, ◌<◌, ◌≤◌, ◌+◌, ◌-◌, true, length, vec_len, List, IfErr, IfOk, Ok, OnErr, OnOk};
 ghost use Rattle.std.specs.List.{AllByRecursion};
+ghost use Rattle.sq_value.specs.declared.domain.Kind.{Kind};
+ghost use Rattle.sq_value.specs.declared.value.Value.{Value as AnyValue};
 ghost use Rattle.sq_store.specs.Change.{insert_count, rows_put};
 ghost use Rattle.sq_store.specs.Content.{table_at};
+ghost use Rattle.sq_meaning.specs.Status.{Outcome};
 ghost use Rattle.sq_bound.specs.Fits.{AreInDomains, IsBase, IsColumnOf, are_columns, holds, keys_of_bases, under};
+ghost use Rattle.sq_bound.specs.WellFormed.{IsAssignment, IsChangeTarget, IsLeaf, IsSource};
+ghost use Rattle.sq_bound.specs.declared.condition.TablePlace.{TablePlace};
+ghost use Rattle.sq_query.specs.MayRead.{MayEnd, MayRead};
 ghost use Rattle.sq_change.specs.Changed.{AreRowsPut, Removals, Replacements, are_insertions, are_wide};
 ghost use Rattle.sq_change.specs.Given.{MayAssign, MayGive};
 ghost use Rattle.sq_change.specs.Statement.{Deletes, Inserts, IsGiven, Updates};
@@ -19,7 +25,7 @@ use sq_store::{Change, Meter, Store};
 use std::alloc::Global;
 
 /// Performs an insert statement (ISO/IEC 9075:1992, 13.8). All new rows are made before any is tested: row numbers
-/// first, then check options, NOT NULL and CHECK, keys, references.
+/// first, then check options, NOT NULL and CHECK, keys, references. A well-formed statement never ends with 42000.
 #[tactic(auto, using(crate::proofs::Made::inserts))]
 pub fn insert<N: Names, S: Store>(
     alloc: Global,
@@ -34,7 +40,8 @@ pub fn insert<N: Names, S: Store>(
     requires keys { S.key_columns store.old ≡ keys_of_bases (N.base_tables names.now) }
     requires base { IsBase (N.base_tables names.now) insert.now.leaf.table }
     requires columns { AllByRecursion (IsColumnOf insert.now.leaf.table) insert.now.columns }
-    requires given { MayGive (N.column_kinds names.now) inputs.parameters.now insert.now.columns insert.now.source }
+    requires given { MayGive (N.base_tables names.now) (N.view_queries names.now) (N.column_kinds names.now)
+        (S.content_now store.old) inputs.user inputs.parameters.now insert.now.columns insert.now.source }
     ensures ok { OnOk result (Inserts insert.now.base (S.content_now store.old) (S.content_now store.new)) }
     ensures err { OnErr result (S.content_now store.new ≡ S.content_now store.old) }
     ensures tables { holds (N.base_tables names.now) (S.content_now store.new) ≡ true }
@@ -42,6 +49,11 @@ pub fn insert<N: Names, S: Store>(
     ensures committed { S.committed store.new ≡ S.committed store.old }
     ensures keys { S.key_columns store.new ≡ S.key_columns store.old }
     ensures numbers { S.row_numbers store.new ≡ S.row_numbers store.old }
+    ensures right { (parameters : List Kind) (tables : TablePlace → Outcome (List (List AnyValue)))
+        → MayRead (N.base_tables names.now) (N.view_queries names.now) (N.column_kinds names.now)
+        (S.content_now store.old) inputs.entry.user inputs.entry.parameters.now parameters tables
+        → IsLeaf (N.column_kinds names.now) insert.now.leaf
+        → IsSource (N.column_kinds names.now) parameters insert.now.columns insert.now.source → IfErr result MayEnd }
 {
     let Inputs { user, parameters } = inputs;
     let setting = Setting::new(alloc, names, &*store, user, parameters);
@@ -59,14 +71,15 @@ fn inserted<N: Names, S: Store>(
 ) -> Result<Changed, Fault>
     requires place { insert.now.leaf.table.place < length (S.content_now setting.now.store.now) }
     requires columns { AllByRecursion (IsColumnOf insert.now.leaf.table) insert.now.columns }
-    requires in_domains { AreInDomains (N.base_tables setting.now.names.now) (S.content_now setting.now.store.now) }
-    requires given { MayGive (N.column_kinds setting.now.names.now) setting.now.parameters.now insert.now.columns insert.now.source }
+    requires given { MayGive (N.base_tables setting.now.names.now) (N.view_queries setting.now.names.now) (N.column_kinds setting.now.names.now)
+        (S.content_now setting.now.store.now) setting.now.user setting.now.parameters.now insert.now.columns insert.now.source }
     ensures insertions { IfOk result (λ changed. are_insertions changed.changes.items ≡ true) }
     ensures some { IfOk result (λ changed. 0 < vec_len changed.changes) }
     ensures wide { IfOk result (λ changed. are_wide (length insert.now.leaf.table.columns) (rows_put changed.changes.items) ≡ true) }
     ensures in_domains { IfOk result (λ changed. AreRowsPut insert.now.leaf.table.columns changed.changes.items) }
     ensures numbers { IfOk result (λ changed. insert_count changed.changes.items
         ≤ S.row_numbers setting.now.store.now + 1 - (table_at (S.content_now setting.now.store.now) insert.now.leaf.table.place).next) }
+    ensures right { IfErr result MayEnd }
 {
     let table = insert.leaf.get().table.get();
     let changes = new_rows(setting, insert, table, meter)?;
@@ -82,7 +95,7 @@ fn inserted<N: Names, S: Store>(
 
 /// Performs an update statement (13.9, 13.10). `on` is the number of the row that the cursor is on, for a positioned one.
 /// The store keeps the tables of the names and their keys, the statement is over one of these tables, and its set clauses
-/// are for columns of it and well formed.
+/// are for columns of it and well formed. A well-formed statement never ends with 42000.
 #[tactic(auto, using(crate::proofs::Made::updates))]
 pub fn update<N: Names, S: Store>(
     alloc: Global,
@@ -108,6 +121,11 @@ pub fn update<N: Names, S: Store>(
     ensures committed { S.committed store.new ≡ S.committed store.old }
     ensures keys { S.key_columns store.new ≡ S.key_columns store.old }
     ensures numbers { S.row_numbers store.new ≡ S.row_numbers store.old }
+    ensures right { (parameters : List Kind) (tables : TablePlace → Outcome (List (List AnyValue)))
+        → MayRead (N.base_tables names.now) (N.view_queries names.now) (N.column_kinds names.now)
+        (S.content_now store.old) inputs.entry.user inputs.entry.parameters.now parameters tables
+        → IsChangeTarget (N.column_kinds names.now) parameters update.now.target
+        → AllByRecursion (IsAssignment (N.column_kinds names.now) parameters (under update.now.target).table) update.now.assignments → IfErr result MayEnd }
 {
     let Inputs { user, parameters } = inputs;
     let setting = Setting::new(alloc, names, &*store, user, parameters);
@@ -133,6 +151,10 @@ fn updated<N: Names, S: Store>(
     ensures replacements { IfOk result (λ changed. Replacements update.now.target on changed.changes.items) }
     ensures wide { IfOk result (λ changed. are_wide (length (under update.now.target).table.columns) (rows_put changed.changes.items) ≡ true) }
     ensures in_domains { IfOk result (λ changed. AreRowsPut (under update.now.target).table.columns changed.changes.items) }
+    ensures right { (parameters : List Kind) (tables : TablePlace → Outcome (List (List AnyValue)))
+        → MayRead (N.base_tables setting.now.names.now) (N.view_queries setting.now.names.now) (N.column_kinds setting.now.names.now)
+        (S.content_now setting.now.store.now) setting.now.user setting.now.parameters.now parameters tables
+        → IsChangeTarget (N.column_kinds setting.now.names.now) parameters update.now.target → IfErr result MayEnd }
 {
     let table = leaf_under(&update.target).table.get();
     let assignments = update.assignments.as_slice();
@@ -147,7 +169,8 @@ fn changed(
     changes: Result<Vec<Change>, Fault>,
     lost_keys: Result<Vec<usize>, Fault>,
 ) -> Result<Changed, Fault>
-    ensures { IfOk result (λ changed. changes ≡ Ok changed.changes) }
+    ensures changes { IfOk result (λ changed. changes ≡ Ok changed.changes) }
+    ensures right { IfErr changes MayEnd → IfErr lost_keys MayEnd → IfErr result MayEnd }
 {
     match (changes, lost_keys) {
         (Ok(changes), Ok(lost_keys)) => Ok(Changed { changes, lost_keys }),
@@ -163,7 +186,8 @@ fn changed(
 }
 
 /// Performs a delete statement (13.6, 13.7). `on` is the number of the row that the cursor is on, for a positioned one. The
-/// store keeps the tables of the names and their keys, and the statement is over one of these tables.
+/// store keeps the tables of the names and their keys, and the statement is over one of these tables. A well-formed one
+/// never ends with 42000.
 #[tactic(auto, using(crate::proofs::Made::deletes, crate::proofs::Applied::removals_wide))]
 pub fn delete<N: Names, S: Store>(
     alloc: Global,
@@ -186,6 +210,10 @@ pub fn delete<N: Names, S: Store>(
     ensures committed { S.committed store.new ≡ S.committed store.old }
     ensures keys { S.key_columns store.new ≡ S.key_columns store.old }
     ensures numbers { S.row_numbers store.new ≡ S.row_numbers store.old }
+    ensures right { (parameters : List Kind) (tables : TablePlace → Outcome (List (List AnyValue)))
+        → MayRead (N.base_tables names.now) (N.view_queries names.now) (N.column_kinds names.now)
+        (S.content_now store.old) inputs.entry.user inputs.entry.parameters.now parameters tables
+        → IsChangeTarget (N.column_kinds names.now) parameters target.now → IfErr result MayEnd }
 {
     let Inputs { user, parameters } = inputs;
     let setting = Setting::new(alloc, names, &*store, user, parameters);
@@ -202,7 +230,11 @@ fn deleted<N: Names, S: Store>(
     meter: &mut Meter,
 ) -> Result<Changed, Fault>
     requires { IsGiven target.now on }
-    ensures { IfOk result (λ changed. Removals target.now on changed.changes.items) }
+    ensures removals { IfOk result (λ changed. Removals target.now on changed.changes.items) }
+    ensures right { (parameters : List Kind) (tables : TablePlace → Outcome (List (List AnyValue)))
+        → MayRead (N.base_tables setting.now.names.now) (N.view_queries setting.now.names.now) (N.column_kinds setting.now.names.now)
+        (S.content_now setting.now.store.now) setting.now.user setting.now.parameters.now parameters tables
+        → IsChangeTarget (N.column_kinds setting.now.names.now) parameters target.now → IfErr result MayEnd }
 {
     let numbers = numbers_changed(setting, target, on, meter)?;
     let changes = removed(setting.alloc, numbers.as_slice());

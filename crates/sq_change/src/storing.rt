@@ -1,9 +1,10 @@
 //! Values as the columns of a base table store them (ISO/IEC 9075:1992, 9.2).
 
-ghost use Rattle.std.specs.Prelude.{◌≡◌, ◌↔◌, IfOk, IsTrue};
+ghost use Rattle.std.specs.Prelude.{◌≡◌, ◌↔◌, IfErr, IfOk, IsTrue};
 ghost use Rattle.std.specs.Option.{option_copied};
 ghost use Rattle.sq_meaning.specs.Assignment as spec;
 ghost use Rattle.sq_query.specs.Fault.{Meets};
+ghost use Rattle.sq_query.specs.MayRead.{MayEnd};
 ghost use Rattle.sq_query.specs.Row.{line_of};
 ghost use Rattle.sq_value.specs.Domain.{FitsKind, IsDomain, IsInDomain, is_of_numbers};
 ghost use Rattle.sq_change.specs.Given.{IsStorable};
@@ -23,7 +24,8 @@ pub(crate) fn stored_value<N: Names, S: Store>(
     row: Option<&Row>,
 ) -> Result<Value, Fault>
     requires { IsStorable column.domain expr.now (line_of (option_copied row)) setting.now.parameters.now setting.now.user }
-    ensures { IfOk result (IsInDomain column.domain) }
+    ensures in_domain { IfOk result (IsInDomain column.domain) }
+    ensures right { IfErr result MayEnd }
 {
     let value = setting.value(expr, row)?;
     assigned(setting.alloc, column.domain, &value)
@@ -36,6 +38,7 @@ pub fn assigned(alloc: Global, domain: Domain, value: &Value) -> Result<Value, F
     requires kind { FitsKind domain value.now }
     ensures fit { Meets result (spec.assigned domain value.now) }
     ensures in_domain { IfOk result (IsInDomain domain) }
+    ensures right { IfErr result MayEnd }
 {
     match store(alloc, value, domain) {
         Ok(stored) => Ok(stored),

@@ -1,10 +1,16 @@
 //! The rows that UPDATE and DELETE change (ISO/IEC 9075:1992, 13.6, 13.7, 13.9 and 13.10).
 
-ghost use Rattle.std.specs.Prelude.{◌≡◌, ◌<◌, ◌∷◌, [], length, map, true, IfOk, OnOk};
+ghost use Rattle.std.specs.Prelude.{◌≡◌, ◌<◌, ◌∷◌, [], length, map, true, List, IfErr, IfOk, OnOk};
 ghost use Rattle.std.specs.List.{AllByRecursion};
+ghost use Rattle.sq_value.specs.declared.domain.Kind.{Kind};
+ghost use Rattle.sq_value.specs.declared.value.Value.{Value as AnyValue};
 ghost use Rattle.sq_store.specs.Change.{rows_put};
+ghost use Rattle.sq_meaning.specs.Status.{Outcome};
 ghost use Rattle.sq_bound.specs.Fits.{AreInDomains, IsBase, IsColumnOf, IsRowIn, are_columns, holds, under};
 ghost use Rattle.sq_bound.specs.declared.names.BaseTable.{BaseTable as AnyTable};
+ghost use Rattle.sq_bound.specs.WellFormed.{IsChangeTarget};
+ghost use Rattle.sq_bound.specs.declared.condition.TablePlace.{TablePlace};
+ghost use Rattle.sq_query.specs.MayRead.{MayEnd, MayRead};
 ghost use Rattle.sq_change.specs.Changed.{AreRowsPut, are_replacements, are_wide};
 ghost use Rattle.sq_change.specs.Given.{AreAssignable, IsStorable, MayAssign};
 ghost use Rattle.sq_change.specs.Statement.{Chosen, IsGiven};
@@ -37,7 +43,11 @@ pub(crate) fn numbers_changed<N: Names, S: Store>(
     meter: &mut Meter,
 ) -> Result<Vec<u64>, Fault>
     requires { IsGiven target.now on }
-    ensures { IfOk result (λ numbers. Chosen target.now on numbers.items) }
+    ensures chosen { IfOk result (λ numbers. Chosen target.now on numbers.items) }
+    ensures right { (parameters : List Kind) (tables : TablePlace → Outcome (List (List AnyValue)))
+        → MayRead (N.base_tables setting.now.names.now) (N.view_queries setting.now.names.now) (N.column_kinds setting.now.names.now)
+        (S.content_now setting.now.store.now) setting.now.user setting.now.parameters.now parameters tables
+        → IsChangeTarget (N.column_kinds setting.now.names.now) parameters target.now → IfErr result MayEnd }
 {
     match target {
         ChangeTarget::Searched(target) => {
@@ -63,7 +73,8 @@ pub(crate) fn numbers_changed<N: Names, S: Store>(
 
 /// The number of the row that a cursor is on.
 fn only(alloc: Global, number: u64) -> Result<Vec<u64>, Fault>
-    ensures { IfOk result (λ numbers. numbers.items ≡ number ∷ []) }
+    ensures only { IfOk result (λ numbers. numbers.items ≡ number ∷ []) }
+    ensures right { IfErr result MayEnd }
 {
     let mut numbers = Vec::new(alloc);
     numbers.push(number)?;
@@ -86,6 +97,7 @@ pub(crate) fn replaced<N: Names, S: Store>(
     ensures replacements { IfOk result (λ changes. are_replacements numbers.now changes.items ≡ true) }
     ensures wide { IfOk result (λ changes. are_wide (length table.now.columns) (rows_put changes.items) ≡ true) }
     ensures in_domains { IfOk result (λ changes. AreRowsPut table.now.columns changes.items) }
+    ensures right { IfErr result MayEnd }
 {
     let mut changes = Vec::new(setting.alloc);
     let mut meter = Meter::new();
@@ -109,6 +121,7 @@ fn updated_row<N: Names, S: Store>(
     ensures wide { IfOk result (λ updated. length updated ≡ length row.now) }
     ensures in_domains { IfOk result (λ updated. (t : AnyTable) → AllByRecursion (λ a. IsColumnOf t a.column) assignments.now → IsRowIn t.columns row.now
         → IsRowIn t.columns updated) }
+    ensures right { IfErr result MayEnd }
 {
     let mut updated = copy_row(setting.alloc, row.as_slice())?.into_vec();
     for assignment in assignments {
@@ -126,7 +139,8 @@ fn assign<N: Names, S: Store>(
 ) -> Result<(), Fault>
     requires position { assignment.now.column.position < length updated.old }
     requires storable { IsStorable assignment.now.column.domain assignment.now.value (row.now ∷ []) setting.now.parameters.now setting.now.user }
-    ensures { OnOk result ((t : AnyTable) → IsColumnOf t assignment.now.column → IsRowIn t.columns updated.old → IsRowIn t.columns updated.new) }
+    ensures in_domains { OnOk result ((t : AnyTable) → IsColumnOf t assignment.now.column → IsRowIn t.columns updated.old → IsRowIn t.columns updated.new) }
+    ensures right { IfErr result MayEnd }
 {
     let column = assignment.column;
     let value = stored_value(setting, column, &assignment.value, Some(row))?;
@@ -136,7 +150,8 @@ fn assign<N: Names, S: Store>(
 
 /// The removal of the rows under these numbers.
 pub(crate) fn removed(alloc: Global, numbers: &[u64]) -> Result<Vec<Change>, Fault>
-    ensures { IfOk result (λ changes. changes.items ≡ map Change.Remove numbers.now) }
+    ensures removals { IfOk result (λ changes. changes.items ≡ map Change.Remove numbers.now) }
+    ensures right { IfErr result MayEnd }
 {
     Ok(
         numbers
@@ -151,7 +166,9 @@ pub(crate) fn keys_assigned(
     alloc: Global,
     table: &BaseTable,
     assignments: &[BoundAssignment],
-) -> Result<Vec<usize>, Fault> {
+) -> Result<Vec<usize>, Fault>
+    ensures { IfErr result MayEnd }
+{
     let mut keys = Vec::new(alloc);
     for (key, columns) in table.keys.as_slice().iter().enumerate() {
         if is_assigned(columns.as_slice(), assignments) {
@@ -169,7 +186,9 @@ fn is_assigned(columns: &[usize], assignments: &[BoundAssignment]) -> bool {
 }
 
 /// All keys of a table.
-pub(crate) fn all_keys(alloc: Global, table: &BaseTable) -> Result<Vec<usize>, Fault> {
+pub(crate) fn all_keys(alloc: Global, table: &BaseTable) -> Result<Vec<usize>, Fault>
+    ensures { IfErr result MayEnd }
+{
     let mut keys = Vec::new(alloc);
     for key in 0..table.keys.len() {
         keys.push(key)?;

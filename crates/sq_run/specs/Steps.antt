@@ -30,9 +30,10 @@ IsFound s (Show x) = table_number s.tables x.user x.name ≡ Some x.table
 -- What a session may answer to a call of the procedure of that name, and the session behind it. The machine's step is to take its place.
 pub record Answered (s : Session) (c : CallAction) (reply : Reply) (t : Session) : Type 0 where
   pub found : IsFound s (Call c)
-  pub may : MayCall (kind_at s.procedures c.procedure) c.values s.state (record { status = reply.status; outputs = reply.outputs }) t.state
+  pub may : MayCall s.schemas (kind_at s.procedures c.procedure) c.values s.state (record { status = reply.status; outputs = reply.outputs }) t.state
   pub procedures : t.procedures ≡ s.procedures
   pub tables : t.tables ≡ s.tables
+  pub schemas : t.schemas ≡ s.schemas
 
 -- An item's lines, and the session behind it: a call is answered with the reply that its line tells, and the table of that name is shown as it is.
 abbrev pub Step : Action → Session → Bytes → Session → Type 0

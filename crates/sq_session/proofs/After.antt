@@ -22,6 +22,7 @@ use Rattle.sq_session.specs.Cursors.{IsWhole, OpenHaveKept, are_over, is_over, i
 use Rattle.sq_session.specs.Fetch.{come_to_number, come_to_row, come_to_walk, over_numbers, over_rows, over_walk, row_on, shown_fetched}
 use Rattle.sq_session.specs.Kind.{Fetching, Over, delete_kind, fetching, kind_of, opening, over_at, update_kind}
 use Rattle.sq_session.specs.Open.{IsOpenOver, before_numbers, before_rows, numbers_opened, rows_opened, walk_before}
+use Rattle.sq_session.specs.Schemas.{Schemas}
 use Rattle.sq_session.specs.State.{State, committed_state, cursor_at, is_open, next_number, off_row, rolled_back, with_cursor}
 use Rattle.sq_session.specs.Step.{ChangesIf, ChangesTo, Comes, DeletesIf, MayCloseIf, MayDeleteAt, MayFetchFrom, MayOpenIf, MayStep, MayUpdateAt, OpensAs, UpdatesIf, ending, is_on_row, is_success, on_row}
 use Rattle.sq_session.specs.declared.cursor.CursorState.{CursorState}
@@ -75,10 +76,10 @@ opens_as : (bases : List BaseTable) (ds : List DeclaredCursor) (opened : Outcome
 opens_as bases ds (Ok c) n vs b d a has is h = with_one bases ds b n c a has (put_over ds b.cursors n c has.2 (opened_over (over_at ds n) vs b.tables c is)) h.1
 opens_as bases ds (Err st) n vs b d a has is h = same bases ds b a has h.1
 
-open_if : (bases : List BaseTable) (ds : List DeclaredCursor) (user : Name) (ps : List ParameterDesc) (is : Bool) (n : ℕ) (vs : List Value) (b : State) (d : Done) (a : State) → Others bases ds b
-    → MayOpenIf is (opening ds user ps n) vs b d a → Others bases ds a
-open_if bases ds user ps true n vs b d a has h = same bases ds b a has h.1
-open_if bases ds user ps false n vs b d a has h = opens_as bases ds h.0 n vs b d a has h.1 h.3
+open_if : (sc : Schemas) (bases : List BaseTable) (ds : List DeclaredCursor) (user : Name) (ps : List ParameterDesc) (is : Bool) (n : ℕ) (vs : List Value) (b : State) (d : Done) (a : State) → Others bases ds b
+    → MayOpenIf is sc (opening ds user ps n) vs b d a → Others bases ds a
+open_if sc bases ds user ps true n vs b d a has h = same bases ds b a has h.1
+open_if sc bases ds user ps false n vs b d a has h = opens_as bases ds h.0 n vs b d a has h.1 h.3
 
 -- ---- FETCH
 
@@ -163,32 +164,32 @@ delete_at : (bases : List BaseTable) (ds : List DeclaredCursor) (r : Bool) (p : 
 delete_at bases ds true p b d a has h = deletes_if bases ds (is_success d.status) p b a has h.1
 delete_at bases ds false p b d a has h = same bases ds b a has h.1
 
-of_update : (bases : List BaseTable) (ds : List DeclaredCursor) (t : ChangeTarget) (vs : List Value) (b : State) (d : Done) (a : State) → Others bases ds b → MayStep (update_kind t) vs b d a → Others bases ds a
-of_update bases ds (target.Searched t) vs b d a has h = updates_if bases ds (is_success d.status) (Updates (target.Searched t) None) b a has h.1
-of_update bases ds (target.Positioned p) vs b d a has h = update_at bases ds (is_on_row b p) p b d a has h
+of_update : (sc : Schemas) (bases : List BaseTable) (ds : List DeclaredCursor) (t : ChangeTarget) (vs : List Value) (b : State) (d : Done) (a : State) → Others bases ds b → MayStep sc (update_kind t) vs b d a → Others bases ds a
+of_update sc bases ds (target.Searched t) vs b d a has h = updates_if bases ds (is_success d.status) (Updates (target.Searched t) None) b a has h.1
+of_update sc bases ds (target.Positioned p) vs b d a has h = update_at bases ds (is_on_row b p) p b d a has h
 
-of_delete : (bases : List BaseTable) (ds : List DeclaredCursor) (t : ChangeTarget) (vs : List Value) (b : State) (d : Done) (a : State) → Others bases ds b → MayStep (delete_kind t) vs b d a → Others bases ds a
-of_delete bases ds (target.Searched t) vs b d a has h = changes_if bases ds (is_success d.status) (Deletes (target.Searched t) None) b a has h.1
-of_delete bases ds (target.Positioned p) vs b d a has h = delete_at bases ds (is_on_row b p) p b d a has h
+of_delete : (sc : Schemas) (bases : List BaseTable) (ds : List DeclaredCursor) (t : ChangeTarget) (vs : List Value) (b : State) (d : Done) (a : State) → Others bases ds b → MayStep sc (delete_kind t) vs b d a → Others bases ds a
+of_delete sc bases ds (target.Searched t) vs b d a has h = changes_if bases ds (is_success d.status) (Deletes (target.Searched t) None) b a has h.1
+of_delete sc bases ds (target.Positioned p) vs b d a has h = delete_at bases ds (is_on_row b p) p b d a has h
 
 -- ---- a statement
 
-after_statement : (columns : TableKinds) (bases : List BaseTable) (ds : List DeclaredCursor) (user : Name) (ps : List ParameterDesc) (s : BoundStatement) (vs : List Value) (b : State) (d : Done) (a : State) → IsWhole columns bases ds b
-    → MayStep (kind_of ds user ps s) vs b d a → Others bases ds a
-after_statement columns bases ds user ps (statement.Open n) vs b d a has h = open_if bases ds user ps (is_open (cursor_at b n)) n vs b d a (has.1, has.2, has.3, has.5) h
-after_statement columns bases ds user ps (statement.Fetch f) vs b d a has h = fetch_from bases ds (cursor_at b f.cursor) (fetching ds user ps f) vs b d a refl (has.1, has.2, has.3, has.5) h
-after_statement columns bases ds user ps (statement.Close n) vs b d a has h = close_if bases ds (is_open (cursor_at b n)) n b d a (has.1, has.2, has.3, has.5) h
-after_statement columns bases ds user ps (statement.Select s) vs b d a has h = same bases ds b a (has.1, has.2, has.3, has.5) h.0
-after_statement columns bases ds user ps (statement.Insert i) vs b d a has h = changes_if bases ds (is_success d.status) (Inserts i.base) b a (has.1, has.2, has.3, has.5) h.1
-after_statement columns bases ds user ps (statement.Update u) vs b d a has h = of_update bases ds u.target vs b d a (has.1, has.2, has.3, has.5) h
-after_statement columns bases ds user ps (statement.Delete t) vs b d a has h = of_delete bases ds t vs b d a (has.1, has.2, has.3, has.5) h
-after_statement columns bases ds user ps statement.Commit vs b d a has h = same bases ds (committed_state b) a (has.0, has.2, closed_over ds b.cursors has.3, has.4) h.1
-after_statement columns bases ds user ps statement.Rollback vs b d a has h = same bases ds (rolled_back b) a (has.1, has.2, closed_over ds b.cursors has.3, has.5) h.1
+after_statement : (sc : Schemas) (columns : TableKinds) (bases : List BaseTable) (ds : List DeclaredCursor) (user : Name) (ps : List ParameterDesc) (s : BoundStatement) (vs : List Value) (b : State) (d : Done) (a : State) → IsWhole columns bases ds b
+    → MayStep sc (kind_of ds user ps s) vs b d a → Others bases ds a
+after_statement sc columns bases ds user ps (statement.Open n) vs b d a has h = open_if sc bases ds user ps (is_open (cursor_at b n)) n vs b d a (has.1, has.2, has.3, has.5) h
+after_statement sc columns bases ds user ps (statement.Fetch f) vs b d a has h = fetch_from bases ds (cursor_at b f.cursor) (fetching ds user ps f) vs b d a refl (has.1, has.2, has.3, has.5) h
+after_statement sc columns bases ds user ps (statement.Close n) vs b d a has h = close_if bases ds (is_open (cursor_at b n)) n b d a (has.1, has.2, has.3, has.5) h
+after_statement sc columns bases ds user ps (statement.Select s) vs b d a has h = same bases ds b a (has.1, has.2, has.3, has.5) h.0
+after_statement sc columns bases ds user ps (statement.Insert i) vs b d a has h = changes_if bases ds (is_success d.status) (Inserts i.base) b a (has.1, has.2, has.3, has.5) h.1
+after_statement sc columns bases ds user ps (statement.Update u) vs b d a has h = of_update sc bases ds u.target vs b d a (has.1, has.2, has.3, has.5) h
+after_statement sc columns bases ds user ps (statement.Delete t) vs b d a has h = of_delete sc bases ds t vs b d a (has.1, has.2, has.3, has.5) h
+after_statement sc columns bases ds user ps statement.Commit vs b d a has h = same bases ds (committed_state b) a (has.0, has.2, closed_over ds b.cursors has.3, has.4) h.1
+after_statement sc columns bases ds user ps statement.Rollback vs b d a has h = same bases ds (rolled_back b) a (has.1, has.2, closed_over ds b.cursors has.3, has.5) h.1
 
 -- a statement that is refused changes nothing
-pub after : (columns : TableKinds) (bases : List BaseTable) (ds : List DeclaredCursor) (user : Name) (ps : List ParameterDesc) (s : BoundStatement) (vs : List Value) (b : State) (r : Result Done Fault) (a : State) → IsWhole columns bases ds b
-    → holds bases a.tables ≡ true → AreInDomains bases a.tables → OpenHaveKept columns ds s a.cursors → IfSome (ending r) (λ d. MayStep (kind_of ds user ps s) vs b d a) → OnErr r (a ≡ b) → IsWhole columns bases ds a
-after columns bases ds user ps s vs b (Ok d) a has rows domains opened h unchanged =
-    let o = after_statement columns bases ds user ps s vs b d a has h in
-    (rows, o.0, o.1, o.2, domains, o.3, kept_after columns ds user ps s vs b d a has.6 opened h)
-after columns bases ds user ps s vs b (Err f) a has rows domains opened h unchanged = subst (λ s. IsWhole columns bases ds s) (sym unchanged) has
+pub after : (sc : Schemas) (columns : TableKinds) (bases : List BaseTable) (ds : List DeclaredCursor) (user : Name) (ps : List ParameterDesc) (s : BoundStatement) (vs : List Value) (b : State) (r : Result Done Fault) (a : State) → IsWhole columns bases ds b
+    → holds bases a.tables ≡ true → AreInDomains bases a.tables → OpenHaveKept columns ds s a.cursors → IfSome (ending r) (λ d. MayStep sc (kind_of ds user ps s) vs b d a) → OnErr r (a ≡ b) → IsWhole columns bases ds a
+after sc columns bases ds user ps s vs b (Ok d) a has rows domains opened h unchanged =
+    let o = after_statement sc columns bases ds user ps s vs b d a has h in
+    (rows, o.0, o.1, o.2, domains, o.3, kept_after columns sc ds user ps s vs b d a has.6 opened h)
+after sc columns bases ds user ps s vs b (Err f) a has rows domains opened h unchanged = subst (λ s. IsWhole columns bases ds s) (sym unchanged) has

@@ -5,7 +5,7 @@ use Rattle.sq_value.specs.declared.domain.Kind.{Kind}
 use Rattle.sq_value.specs.declared.value.Value.{Value}
 use Rattle.sq_store.specs.Content.{Content}
 use Rattle.sq_meaning.specs.Status.{Outcome}
-use Rattle.sq_bound.specs.Fits.{under}
+use Rattle.sq_bound.specs.Fits.{AreInDomains, under}
 use Rattle.sq_meaning.specs.WellFormed.{AreRowsOf}
 use Rattle.sq_bound.specs.WellFormed.{IsCursor, IsStatement, TableKinds, kinds_of_query, kinds_of_results}
 use Rattle.sq_bound.specs.declared.query.BoundCursor.{BoundCursor}
@@ -14,6 +14,7 @@ use Rattle.sq_bound.specs.declared.query.Target.{Target}
 use Rattle.sq_bound.specs.declared.statement.BoundInsert.{BoundInsert}
 use Rattle.sq_bound.specs.declared.statement.BoundStatement.TheVariants as statement
 use Rattle.sq_bound.specs.declared.statement.BoundUpdate.{BoundUpdate}
+use Rattle.sq_catalog.specs.Catalog.{Catalog, column_kinds}
 use Rattle.sq_change.specs.Given.{MayAssign, MayGive}
 use Rattle.sq_module.specs.Program.{OpensWellFormed}
 use Rattle.sq_module.specs.declared.program.DeclaredCursor.{DeclaredCursor}
@@ -22,15 +23,19 @@ use Rattle.sq_session.specs.Cursors.{HasKept, HasListed, MayKeep}
 use Rattle.sq_session.specs.Kind.{Over, over_target}
 use Rattle.sq_session.specs.Open.{HasOpened, IsOpenOver, TargetIsMeant, numbers_opened, walk_before}
 use Rattle.sq_session.specs.Parameter.{AreGiven}
+use Rattle.sq_session.specs.Schemas.{Schemas}
 use Rattle.sq_session.specs.declared.cursor.CursorState.{CursorState}
 use Rattle.sq_session.specs.declared.cursor.CursorState.TheVariants as cursor
+use Rattle.sq_session.proofs.Reading.{some_tables}
 use Rattle.sq_session.proofs.Started.{given_row}
 
 -- ---- INSERT and UPDATE
 
-pub may_give : (columns : TableKinds) (cursors : List (List Kind)) (kinds : List Kind) (values : List Value) (i : BoundInsert) → AreGiven kinds values
-    → IsStatement columns cursors kinds (statement.Insert i) → MayGive columns values i.columns i.source
-may_give columns cursors kinds values i given h = record { parameters = kinds; inputs = given_row kinds values given; given = h.2 }
+pub may_give : (c : Catalog) (cursors : List (List Kind)) (tables : Content) (user : Name) (kinds : List Kind) (values : List Value) (i : BoundInsert) → AreGiven kinds values → AreInDomains c.bases tables
+    → IsStatement (column_kinds c) cursors kinds (statement.Insert i) → MayGive c.bases c.views (column_kinds c) tables user values i.columns i.source
+may_give c cursors tables user kinds values i given in_domains h =
+    let some = some_tables c tables user kinds values given in_domains in
+    record { parameters = kinds; tables = some.0; reads = some.1; given = h.2 }
 
 pub may_assign : (columns : TableKinds) (cursors : List (List Kind)) (kinds : List Kind) (values : List Value) (u : BoundUpdate) → AreGiven kinds values
     → IsStatement columns cursors kinds (statement.Update u) → MayAssign columns values (under u.target).table u.assignments
@@ -71,8 +76,8 @@ by_quiet : (columns : TableKinds) (d : BoundCursor) (values : List Value) (table
 by_quiet columns d values tables true base c may h = walk_kept columns d values tables base c may h
 by_quiet columns d values tables false base c may h = numbers_kept columns d base h.0 c h.1
 
-pub updatable_kept : (columns : TableKinds) (d : BoundCursor) (parameters : List Kind) (t : Target) (user : Name) (values : List Value) (tables : Content) (r : Result CursorState Fault)
-    → IsCursor columns parameters d → AreGiven parameters values → HasOpened (over_target t) (TargetIsMeant t user values tables) values tables r → IfOk r (HasKept columns d)
-updatable_kept columns d parameters t user values tables (Err f) is given h = tt
-updatable_kept columns d parameters t user values tables (Ok c) is given h =
+pub updatable_kept : (s : Schemas) (columns : TableKinds) (d : BoundCursor) (parameters : List Kind) (t : Target) (user : Name) (values : List Value) (tables : Content) (r : Result CursorState Fault)
+    → IsCursor columns parameters d → AreGiven parameters values → HasOpened (over_target t) (TargetIsMeant s t user values tables) values tables r → IfOk r (HasKept columns d)
+updatable_kept s columns d parameters t user values tables (Err f) is given h = tt
+updatable_kept s columns d parameters t user values tables (Ok c) is given h =
     by_quiet columns d values tables t.is_quiet t.base c (record { parameters = parameters; is_cursor = is; given = given_row parameters values given }) h.0

@@ -9,6 +9,7 @@ use Rattle.sq_meaning.specs.Status.{Outcome}
 use Rattle.sq_session.specs.Fetch.{come_to_number, come_to_row, come_to_walk, over_numbers, over_rows, over_walk}
 use Rattle.sq_session.specs.Kind.{Fetching, Kind, Opening, read_parameters}
 use Rattle.sq_session.specs.Parameter.{started_values}
+use Rattle.sq_session.specs.Schemas.{Schemas}
 use Rattle.sq_session.specs.State.{State, committed_state, cursor_at, is_open, rolled_back}
 use Rattle.sq_session.specs.Step.{ChangesIf, Comes, DeletesIf, Ends, MayCall, MayCloseIf, MayDeleteAt, MayFetchFrom, MayOpenIf, MayStep, MayUpdateAt, OpensAs, UpdatesIf, is_on_row, is_success, on_row}
 use Rattle.sq_session.specs.declared.cursor.CursorState.{CursorState}
@@ -27,9 +28,9 @@ opens_as : (o : Outcome CursorState) (n : ℕ) (b : State) (d : Done) (a : State
 opens_as (Ok c) n b d a h = ap (λ s. s.tables) h.1
 opens_as (Err st) n b d a h = same b a h.1
 
-open_if : (is : Bool) (o : Opening) (vs : List Value) (b : State) (d : Done) (a : State) → MayOpenIf is o vs b d a → Kept b a
-open_if true o vs b d a h = same b a h.1
-open_if false o vs b d a h = opens_as h.0 o.cursor b d a h.3
+open_if : (is : Bool) (sc : Schemas) (o : Opening) (vs : List Value) (b : State) (d : Done) (a : State) → MayOpenIf is sc o vs b d a → Kept b a
+open_if true sc o vs b d a h = same b a h.1
+open_if false sc o vs b d a h = opens_as h.0 o.cursor b d a h.3
 
 comes : (o : Outcome (CursorState × Done)) (n : ℕ) (b : State) (d : Done) (a : State) → Comes o n b d a → Kept b a
 comes (Ok come) n b d a h = ap (λ s. s.tables) h.1
@@ -72,19 +73,19 @@ delete_at false p b d a h e = same b a h.1
 ends : (w b : State) (d : Done) (a : State) → Ends w d a → is_success d.status ≡ false → Kept b a
 ends w b d a h e = let k : true ≡ false = subst (λ x. is_success x.status ≡ false) h.0 e in cc
 
-step : (k : Kind) (vs : List Value) (b : State) (d : Done) (a : State) → MayStep k vs b d a → is_success d.status ≡ false → Kept b a
-step (Kind.opens o) vs b d a h e = open_if (is_open (cursor_at b o.cursor)) o vs b d a h
-step (Kind.fetches f) vs b d a h e = fetch_from (cursor_at b f.cursor) f vs b d a h
-step (Kind.closes n) vs b d a h e = close_if (is_open (cursor_at b n)) n b d a h
-step (Kind.selects s) vs b d a h e = same b a h.0
-step (Kind.inserts base) vs b d a h e = changes_if (is_success d.status) (Inserts base) b a h.1 e
-step (Kind.updates t) vs b d a h e = updates_if (is_success d.status) (Updates (target.Searched t) None) b a h.1 e
-step (Kind.deletes t) vs b d a h e = changes_if (is_success d.status) (Deletes (target.Searched t) None) b a h.1 e
-step (Kind.updates_at p) vs b d a h e = update_at (is_on_row b p) p b d a h e
-step (Kind.deletes_at p) vs b d a h e = delete_at (is_on_row b p) p b d a h e
-step Kind.commits vs b d a h e = ends (committed_state b) b d a h e
-step Kind.rolls_back vs b d a h e = ends (rolled_back b) b d a h e
+step : (sc : Schemas) (k : Kind) (vs : List Value) (b : State) (d : Done) (a : State) → MayStep sc k vs b d a → is_success d.status ≡ false → Kept b a
+step sc (Kind.opens o) vs b d a h e = open_if (is_open (cursor_at b o.cursor)) sc o vs b d a h
+step sc (Kind.fetches f) vs b d a h e = fetch_from (cursor_at b f.cursor) f vs b d a h
+step sc (Kind.closes n) vs b d a h e = close_if (is_open (cursor_at b n)) n b d a h
+step sc (Kind.selects s) vs b d a h e = same b a h.0
+step sc (Kind.inserts base) vs b d a h e = changes_if (is_success d.status) (Inserts base) b a h.1 e
+step sc (Kind.updates t) vs b d a h e = updates_if (is_success d.status) (Updates (target.Searched t) None) b a h.1 e
+step sc (Kind.deletes t) vs b d a h e = changes_if (is_success d.status) (Deletes (target.Searched t) None) b a h.1 e
+step sc (Kind.updates_at p) vs b d a h e = update_at (is_on_row b p) p b d a h e
+step sc (Kind.deletes_at p) vs b d a h e = delete_at (is_on_row b p) p b d a h e
+step sc Kind.commits vs b d a h e = ends (committed_state b) b d a h e
+step sc Kind.rolls_back vs b d a h e = ends (rolled_back b) b d a h e
 
-pub kept_by_failure : (k : Option Kind) (vs : List Value) (b : State) (d : Done) (a : State) → MayCall k vs b d a → is_success d.status ≡ false → a.tables ≡ b.tables
-kept_by_failure None vs b d a h e = same b a h.1
-kept_by_failure (Some k) vs b d a h e = step k (started_values (read_parameters k) vs) b d a h e
+pub kept_by_failure : (sc : Schemas) (k : Option Kind) (vs : List Value) (b : State) (d : Done) (a : State) → MayCall sc k vs b d a → is_success d.status ≡ false → a.tables ≡ b.tables
+kept_by_failure sc None vs b d a h e = same b a h.1
+kept_by_failure sc (Some k) vs b d a h e = step sc k (started_values (read_parameters k) vs) b d a h.0 e

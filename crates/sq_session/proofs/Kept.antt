@@ -20,6 +20,7 @@ use Rattle.sq_module.specs.declared.program.DeclaredCursor.{DeclaredCursor}
 use Rattle.sq_session.specs.Cursors.{GoOn, GoesOn, HasKept, HaveKept, MayKeep, OpenHaveKept, WalksOn}
 use Rattle.sq_session.specs.Fetch.{come_to_number, come_to_row, come_to_walk, over_numbers, over_rows, over_walk, place_reached, row_come_to, row_fetched}
 use Rattle.sq_session.specs.Kind.{Fetching, delete_kind, fetching, kind_of, update_kind}
+use Rattle.sq_session.specs.Schemas.{Schemas}
 use Rattle.sq_session.specs.State.{State, all_closed, committed_state, cursor_at, is_open, off_row, rolled_back, with_cursor}
 use Rattle.sq_session.specs.Step.{ChangesIf, ChangesTo, Comes, DeletesIf, MayCloseIf, MayDeleteAt, MayFetchFrom, MayStep, MayUpdateAt, UpdatesIf, is_on_row, is_success, on_row}
 use Rattle.sq_session.specs.declared.cursor.CursorState.{CursorState}
@@ -169,13 +170,13 @@ module _ (columns : TableKinds) where
   delete_at ds true p b d a has h = deletes_if ds (is_success d.status) p b a has h.1
   delete_at ds false p b d a has h = same ds b a has h.1
 
-  of_update : (ds : List DeclaredCursor) (t : ChangeTarget) (vs : List Value) (b : State) (d : Done) (a : State) → HaveKept columns ds b.cursors → MayStep (update_kind t) vs b d a → HaveKept columns ds a.cursors
-  of_update ds (target.Searched t) vs b d a has h = updates_if ds (is_success d.status) (Updates (target.Searched t) None) b a has h.1
-  of_update ds (target.Positioned p) vs b d a has h = update_at ds (is_on_row b p) p b d a has h
+  of_update : (sc : Schemas) (ds : List DeclaredCursor) (t : ChangeTarget) (vs : List Value) (b : State) (d : Done) (a : State) → HaveKept columns ds b.cursors → MayStep sc (update_kind t) vs b d a → HaveKept columns ds a.cursors
+  of_update sc ds (target.Searched t) vs b d a has h = updates_if ds (is_success d.status) (Updates (target.Searched t) None) b a has h.1
+  of_update sc ds (target.Positioned p) vs b d a has h = update_at ds (is_on_row b p) p b d a has h
 
-  of_delete : (ds : List DeclaredCursor) (t : ChangeTarget) (vs : List Value) (b : State) (d : Done) (a : State) → HaveKept columns ds b.cursors → MayStep (delete_kind t) vs b d a → HaveKept columns ds a.cursors
-  of_delete ds (target.Searched t) vs b d a has h = changes_if ds (is_success d.status) (Deletes (target.Searched t) None) b a has h.1
-  of_delete ds (target.Positioned p) vs b d a has h = delete_at ds (is_on_row b p) p b d a has h
+  of_delete : (sc : Schemas) (ds : List DeclaredCursor) (t : ChangeTarget) (vs : List Value) (b : State) (d : Done) (a : State) → HaveKept columns ds b.cursors → MayStep sc (delete_kind t) vs b d a → HaveKept columns ds a.cursors
+  of_delete sc ds (target.Searched t) vs b d a has h = changes_if ds (is_success d.status) (Deletes (target.Searched t) None) b a has h.1
+  of_delete sc ds (target.Positioned p) vs b d a has h = delete_at ds (is_on_row b p) p b d a has h
 
   -- ---- a statement
 
@@ -191,14 +192,14 @@ module _ (columns : TableKinds) where
   open_kept ds statement.Rollback cs h = tt
 
   -- after an OPEN they have listed rows of their kinds, and after any other statement they still do
-  pub kept_after : (ds : List DeclaredCursor) (user : Name) (ps : List ParameterDesc) (s : BoundStatement) (vs : List Value) (b : State) (d : Done) (a : State) → HaveKept columns ds b.cursors
-      → OpenHaveKept columns ds s a.cursors → MayStep (kind_of ds user ps s) vs b d a → HaveKept columns ds a.cursors
-  kept_after ds user ps (statement.Open n) vs b d a has opened h = opened
-  kept_after ds user ps (statement.Fetch f) vs b d a has opened h = fetch_from ds (cursor_at b f.cursor) (fetching ds user ps f) vs b d a refl has h
-  kept_after ds user ps (statement.Close n) vs b d a has opened h = close_if ds (is_open (cursor_at b n)) n b d a has h
-  kept_after ds user ps (statement.Select s) vs b d a has opened h = same ds b a has h.0
-  kept_after ds user ps (statement.Insert i) vs b d a has opened h = changes_if ds (is_success d.status) (Inserts i.base) b a has h.1
-  kept_after ds user ps (statement.Update u) vs b d a has opened h = of_update ds u.target vs b d a has h
-  kept_after ds user ps (statement.Delete t) vs b d a has opened h = of_delete ds t vs b d a has h
-  kept_after ds user ps statement.Commit vs b d a has opened h = same ds (committed_state b) a (closed_kept ds b.cursors has) h.1
-  kept_after ds user ps statement.Rollback vs b d a has opened h = same ds (rolled_back b) a (closed_kept ds b.cursors has) h.1
+  pub kept_after : (sc : Schemas) (ds : List DeclaredCursor) (user : Name) (ps : List ParameterDesc) (s : BoundStatement) (vs : List Value) (b : State) (d : Done) (a : State) → HaveKept columns ds b.cursors
+      → OpenHaveKept columns ds s a.cursors → MayStep sc (kind_of ds user ps s) vs b d a → HaveKept columns ds a.cursors
+  kept_after sc ds user ps (statement.Open n) vs b d a has opened h = opened
+  kept_after sc ds user ps (statement.Fetch f) vs b d a has opened h = fetch_from ds (cursor_at b f.cursor) (fetching ds user ps f) vs b d a refl has h
+  kept_after sc ds user ps (statement.Close n) vs b d a has opened h = close_if ds (is_open (cursor_at b n)) n b d a has h
+  kept_after sc ds user ps (statement.Select s) vs b d a has opened h = same ds b a has h.0
+  kept_after sc ds user ps (statement.Insert i) vs b d a has opened h = changes_if ds (is_success d.status) (Inserts i.base) b a has h.1
+  kept_after sc ds user ps (statement.Update u) vs b d a has opened h = of_update sc ds u.target vs b d a has h
+  kept_after sc ds user ps (statement.Delete t) vs b d a has opened h = of_delete sc ds t vs b d a has h
+  kept_after sc ds user ps statement.Commit vs b d a has opened h = same ds (committed_state b) a (closed_kept ds b.cursors has) h.1
+  kept_after sc ds user ps statement.Rollback vs b d a has opened h = same ds (rolled_back b) a (closed_kept ds b.cursors has) h.1

@@ -4,6 +4,7 @@ pub mod Closed
 pub mod Coming
 pub mod Failed
 pub mod Fetched
+pub mod Ending
 pub mod Fitting
 pub mod Found
 pub mod GoOn
@@ -17,6 +18,7 @@ pub mod Put
 pub mod QuietWalks
 pub mod Reached
 pub mod Read
+pub mod Reading
 pub mod Selected
 pub mod Shown
 pub mod Started

@@ -10,31 +10,32 @@ use Rattle.sq_bound.specs.declared.statement.ChangeTarget.TheVariants as target
 use Rattle.sq_module.specs.declared.program.DeclaredCursor.{DeclaredCursor}
 use Rattle.sq_session.specs.Kind.{delete_kind, kind_of, read_parameters, update_kind}
 use Rattle.sq_session.specs.Parameter.{started_values}
+use Rattle.sq_session.specs.Schemas.{Schemas}
 use Rattle.sq_session.specs.State.{State}
 use Rattle.sq_session.specs.Step.{MayStep}
 use Rattle.sq_session.specs.declared.reply.Done.{Done}
 
-of_update : (t : ChangeTarget) (vs ws : List Value) (b : State) (d : Done) (a : State) → MayStep (update_kind t) vs b d a → MayStep (update_kind t) ws b d a
-of_update (target.Searched t) vs ws b d a h = h
-of_update (target.Positioned p) vs ws b d a h = h
+of_update : (sc : Schemas) (t : ChangeTarget) (vs ws : List Value) (b : State) (d : Done) (a : State) → MayStep sc (update_kind t) vs b d a → MayStep sc (update_kind t) ws b d a
+of_update sc (target.Searched t) vs ws b d a h = h
+of_update sc (target.Positioned p) vs ws b d a h = h
 
-of_delete : (t : ChangeTarget) (vs ws : List Value) (b : State) (d : Done) (a : State) → MayStep (delete_kind t) vs b d a → MayStep (delete_kind t) ws b d a
-of_delete (target.Searched t) vs ws b d a h = h
-of_delete (target.Positioned p) vs ws b d a h = h
+of_delete : (sc : Schemas) (t : ChangeTarget) (vs ws : List Value) (b : State) (d : Done) (a : State) → MayStep sc (delete_kind t) vs b d a → MayStep sc (delete_kind t) ws b d a
+of_delete sc (target.Searched t) vs ws b d a h = h
+of_delete sc (target.Positioned p) vs ws b d a h = h
 
-done_as_read : (cs : List DeclaredCursor) (user : Name) (ps : List ParameterDesc) (s : BoundStatement) (vs : List Value) (b : State) (d : Done) (a : State)
-    → MayStep (kind_of cs user ps s) (started_values ps vs) b d a → MayStep (kind_of cs user ps s) (started_values (read_parameters (kind_of cs user ps s)) vs) b d a
-done_as_read cs user ps (statement.Open n) vs b d a h = h
-done_as_read cs user ps (statement.Fetch f) vs b d a h = h
-done_as_read cs user ps (statement.Close n) vs b d a h = h
-done_as_read cs user ps (statement.Select s) vs b d a h = h
-done_as_read cs user ps (statement.Insert i) vs b d a h = h
-done_as_read cs user ps (statement.Update u) vs b d a h = of_update u.target _ _ b d a h
-done_as_read cs user ps (statement.Delete t) vs b d a h = of_delete t _ _ b d a h
-done_as_read cs user ps statement.Commit vs b d a h = h
-done_as_read cs user ps statement.Rollback vs b d a h = h
+done_as_read : (sc : Schemas) (cs : List DeclaredCursor) (user : Name) (ps : List ParameterDesc) (s : BoundStatement) (vs : List Value) (b : State) (d : Done) (a : State)
+    → MayStep sc (kind_of cs user ps s) (started_values ps vs) b d a → MayStep sc (kind_of cs user ps s) (started_values (read_parameters (kind_of cs user ps s)) vs) b d a
+done_as_read sc cs user ps (statement.Open n) vs b d a h = h
+done_as_read sc cs user ps (statement.Fetch f) vs b d a h = h
+done_as_read sc cs user ps (statement.Close n) vs b d a h = h
+done_as_read sc cs user ps (statement.Select s) vs b d a h = h
+done_as_read sc cs user ps (statement.Insert i) vs b d a h = h
+done_as_read sc cs user ps (statement.Update u) vs b d a h = of_update sc u.target _ _ b d a h
+done_as_read sc cs user ps (statement.Delete t) vs b d a h = of_delete sc t _ _ b d a h
+done_as_read sc cs user ps statement.Commit vs b d a h = h
+done_as_read sc cs user ps statement.Rollback vs b d a h = h
 
-pub as_read : (cs : List DeclaredCursor) (user : Name) (ps : List ParameterDesc) (s : BoundStatement) (vs : List Value) (b : State) (o : Option Done) (a : State)
-    → IfSome o (λ d. MayStep (kind_of cs user ps s) (started_values ps vs) b d a) → IfSome o (λ d. MayStep (kind_of cs user ps s) (started_values (read_parameters (kind_of cs user ps s)) vs) b d a)
-as_read cs user ps s vs b None a h = tt
-as_read cs user ps s vs b (Some d) a h = done_as_read cs user ps s vs b d a h
+pub as_read : (sc : Schemas) (cs : List DeclaredCursor) (user : Name) (ps : List ParameterDesc) (s : BoundStatement) (vs : List Value) (b : State) (o : Option Done) (a : State)
+    → IfSome o (λ d. MayStep sc (kind_of cs user ps s) (started_values ps vs) b d a) → IfSome o (λ d. MayStep sc (kind_of cs user ps s) (started_values (read_parameters (kind_of cs user ps s)) vs) b d a)
+as_read sc cs user ps s vs b None a h = tt
+as_read sc cs user ps s vs b (Some d) a h = done_as_read sc cs user ps s vs b d a h

@@ -5,42 +5,48 @@ use Rattle.std.specs.declared.alloc.Global.{Global}
 use Rattle.sq_lex.specs.declared.name.Name.{Name}
 use Rattle.sq_value.specs.declared.value.Value.{Value}
 use Rattle.sq_store.specs.Content.{Content}
-use Rattle.sq_meaning.specs.Status.{and_then}
+use Rattle.sq_meaning.specs.Environment.{Row, outermost}
+use Rattle.sq_meaning.specs.Placed.{by_place}
+use Rattle.sq_meaning.specs.Query.{rows}
+use Rattle.sq_meaning.specs.Status.{Outcome, and_then}
 use Rattle.sq_model.specs.Machine.{single_row}
-use Rattle.sq_bound.specs.declared.condition.BoundSpecification.{BoundSpecification}
-use Rattle.sq_query.specs.Fault.{Meets, status_of}
-use Rattle.sq_query.specs.Union.{HasSimpleRows}
+use Rattle.sq_bound.specs.Condition.{select_of}
+use Rattle.sq_bound.specs.declared.condition.TablePlace.{TablePlace}
+use Rattle.sq_query.specs.Fault.{HasRows, Meets, status_of}
+use Rattle.sq_query.specs.Frame.{inputs_of}
+use Rattle.sq_query.specs.Table.{AreMeant}
 use Rattle.sq_query.specs.declared.fault.Failure.{Failure}
 use Rattle.sq_query.specs.declared.fault.Fault.{Fault}
 use Rattle.sq_query.specs.declared.fault.Fault.TheVariants as fault
-use Rattle.sq_bound.specs.Groups.{HasGroups}
-use Rattle.sq_query.proofs.KnownKinds.{plain_query}
 use Rattle.sq_session.specs.Kind.{Selecting}
+use Rattle.sq_session.specs.Schemas.{Schemas}
 use Rattle.sq_session.specs.Step.{SelectIsMeant, Selects, ended_by, ending}
 use Rattle.sq_session.specs.Target.{row_reply}
 use Rattle.sq_session.specs.declared.reply.Done.{Done}
 
 -- what is answered is what is meant, where the query reads the values and the user of the call
-pub found_meant : (s : Selecting) (q : BoundSpecification) (given : Name) (inputs values : List Value) (tables : Content) (v : Vec (List Value) Global) → s.query ≡ q → given ≡ s.user → inputs ≡ values
-    → HasGroups q → HasSimpleRows (Ok v) q tables inputs given → SelectIsMeant s values tables (Ok v.items)
-found_meant s q given inputs values tables v same same_user same_values groups h =
-    rw (same, sym same_user, sym same_values) (λ over plain shown are. sym (h (record { over = over; plain = plain_query q groups plain }) shown are))
+abbrev pub IsAnswered : Schemas → Selecting → Name → List Value → Content → Result (Vec (List Value) Global) Fault → Type 0
+IsAnswered sc s given inputs tables result =
+    (shown : TablePlace → Outcome (List Row)) → AreMeant sc.views tables given shown → HasRows result (rows (by_place shown) (select_of s.query) (outermost (inputs_of inputs) given))
 
-pub none_meant : (s : Selecting) (q : BoundSpecification) (given : Name) (inputs values : List Value) (tables : Content) (f : Failure) → s.query ≡ q → given ≡ s.user → inputs ≡ values
-    → HasGroups q → HasSimpleRows (Err (fault.Status f)) q tables inputs given → SelectIsMeant s values tables (Err (status_of f))
-none_meant s q given inputs values tables f same same_user same_values groups h =
-    rw (same, sym same_user, sym same_values) (λ over plain shown are. sym (h (record { over = over; plain = plain_query q groups plain }) shown are))
+pub found_meant : (sc : Schemas) (s : Selecting) (given : Name) (inputs values : List Value) (tables : Content) (v : Vec (List Value) Global) → given ≡ s.user → inputs ≡ values
+    → IsAnswered sc s given inputs tables (Ok v) → SelectIsMeant sc s values tables (Ok v.items)
+found_meant sc s given inputs values tables v same_user same_values h = rw (sym same_user, sym same_values) (λ shown are. sym (h shown are))
+
+none_meant : (sc : Schemas) (s : Selecting) (given : Name) (inputs values : List Value) (tables : Content) (f : Failure) → given ≡ s.user → inputs ≡ values
+    → IsAnswered sc s given inputs tables (Err (fault.Status f)) → SelectIsMeant sc s values tables (Err (status_of f))
+none_meant sc s given inputs values tables f same_user same_values h = rw (sym same_user, sym same_values) (λ shown are. sym (h shown are))
 
 -- the query has rows
-pub selects_from : (s : Selecting) (values : List Value) (tables : Content) (rows : List (List Value)) (r : Result Done Fault) → SelectIsMeant s values tables (Ok rows)
-    → Meets r (and_then (single_row rows) (row_reply s.parameters s.targets)) → IfSome (ending r) (Selects s values tables)
-selects_from s values tables rows (Ok d) meant h = record { found = Ok rows; meant = meant; ends = sym (ap ended_by h) }
-selects_from s values tables rows (Err (fault.Status f)) meant h = record { found = Ok rows; meant = meant; ends = sym (ap ended_by h) }
-selects_from s values tables rows (Err fault.NoMemory) meant h = tt
+pub selects_from : (sc : Schemas) (s : Selecting) (values : List Value) (tables : Content) (found : List (List Value)) (r : Result Done Fault) → SelectIsMeant sc s values tables (Ok found)
+    → Meets r (and_then (single_row found) (row_reply s.parameters s.targets)) → IfSome (ending r) (Selects sc s values tables)
+selects_from sc s values tables found (Ok d) meant h = record { found = Ok found; meant = meant; ends = sym (ap ended_by h) }
+selects_from sc s values tables found (Err (fault.Status f)) meant h = record { found = Ok found; meant = meant; ends = sym (ap ended_by h) }
+selects_from sc s values tables found (Err fault.NoMemory) meant h = tt
 
 -- it ends with a status
-pub selects_none : (s : Selecting) (q : BoundSpecification) (given : Name) (inputs values : List Value) (tables : Content) (f : Fault) → s.query ≡ q → given ≡ s.user → inputs ≡ values
-    → HasGroups q → HasSimpleRows (Err f) q tables inputs given → IfSome (ending (Err f)) (Selects s values tables)
-selects_none s q given inputs values tables (fault.Status f) same same_user same_values groups h =
-    record { found = Err (status_of f); meant = none_meant s q given inputs values tables f same same_user same_values groups h; ends = refl }
-selects_none s q given inputs values tables fault.NoMemory same same_user same_values groups h = tt
+pub selects_none : (sc : Schemas) (s : Selecting) (given : Name) (inputs values : List Value) (tables : Content) (f : Fault) → given ≡ s.user → inputs ≡ values
+    → IsAnswered sc s given inputs tables (Err f) → IfSome (ending (Err f)) (Selects sc s values tables)
+selects_none sc s given inputs values tables (fault.Status f) same_user same_values h =
+    record { found = Err (status_of f); meant = none_meant sc s given inputs values tables f same_user same_values h; ends = refl }
+selects_none sc s given inputs values tables fault.NoMemory same_user same_values h = tt

@@ -21,6 +21,7 @@ use Rattle.sq_query.specs.declared.fault.Failure.{Failure}
 use Rattle.sq_bound.specs.WellFormed.{TakeKinds, TakesKind, kinds_of_parameters}
 use Rattle.sq_bound.specs.declared.names.ParameterDesc.{ParameterDesc}
 use Rattle.sq_bound.specs.declared.statement.Output.{Output as Target}
+use Rattle.sq_session.specs.Step.{EndsRight}
 use Rattle.sq_session.specs.Target.{MayTake, MayTakeRows, domain_at, each_set, ended, fits, is_refused, null_set, row_reply, row_set, set_behind, set_in, target_set, target_set_in, value_set}
 use Rattle.sq_session.specs.declared.reply.Done.{Done}
 use Rattle.sq_session.specs.declared.target.Assignments.{Assignments}
@@ -166,6 +167,13 @@ pub status_replied : (ps : List ParameterDesc) (ts : List Target) (row : List Va
 status_replied ps ts row f st d may set same done =
     let known : is_refused (status_of f) ≡ false = no_refusal (status_of f) (subst (λ (o : Outcome Assignments). Answers (λ a. ⊤) o) set (row_answers ps ts row may)) in
     rw (set, known, done, same) refl
+
+-- nor does it end with 42000
+pub status_allowed : (ps : List ParameterDesc) (ts : List Target) (row : List Value) (f : Failure) (st : Status) (d : Done) → MayTake ps ts row → row_set ps ts row ≡ Err (status_of f) → st ≡ status_of f
+    → d ≡ ended st → EndsRight d
+status_allowed ps ts row f st d may set same done =
+    let known : IsNoSyntaxError (status_of f) = subst (λ (o : Outcome Assignments). Answers (λ a. ⊤) o) set (row_answers ps ts row may) in
+    rw (done, same) known
 
 -- ---- the rows of a query
 

@@ -1,8 +1,6 @@
 -- OPEN (ISO/IEC 9075:1992, 13.2): a cursor before its first row, by what it goes over.
-use Rattle.std.specs.Prelude.{◌≡◌, ⊤, ℕ, false, List, [], Option, None, Some, Result, Ok, Err}
-use Rattle.std.specs.List.{AllByRecursion, list_any}
+use Rattle.std.specs.Prelude.{◌≡◌, ⊤, ℕ, false, List, Option, None, Some, Result, Ok, Err}
 use Rattle.sq_lex.specs.declared.name.Name.{Name}
-use Rattle.sq_value.specs.declared.domain.Kind.{Kind}
 use Rattle.sq_value.specs.declared.value.Value.{Value}
 use Rattle.sq_store.specs.Content.{Content, table_at}
 use Rattle.sq_meaning.specs.Environment.{Row, outermost}
@@ -11,14 +9,11 @@ use Rattle.sq_meaning.specs.Placed.{Placed, by_place}
 use Rattle.sq_meaning.specs.QueryExpression.{query_rows}
 use Rattle.sq_meaning.specs.Rows.{by_columns, sorted}
 use Rattle.sq_meaning.specs.Status.{Outcome, and_then}
-use Rattle.sq_meaning.specs.Target.{has_subquery}
 use Rattle.sq_meaning.specs.WellFormed.{kinds_by_place}
-use Rattle.sq_bound.specs.Condition.{cond_of}
-use Rattle.sq_bound.specs.Joined.{specifications_of}
 use Rattle.sq_bound.specs.Query.{query_of}
-use Rattle.sq_bound.specs.WellFormed.{TableKinds, IsQuery}
-use Rattle.sq_bound.specs.declared.condition.BoundSpecification.{BoundSpecification}
+use Rattle.sq_bound.specs.WellFormed.{kinds_of_parameters}
 use Rattle.sq_bound.specs.declared.condition.TablePlace.{TablePlace}
+use Rattle.sq_bound.specs.declared.names.ParameterDesc.{ParameterDesc}
 use Rattle.sq_bound.specs.declared.query.BoundQuery.{BoundQuery}
 use Rattle.sq_bound.specs.declared.query.CursorBody.{CursorBody}
 use Rattle.sq_bound.specs.declared.query.CursorBody.TheVariants as body
@@ -27,13 +22,12 @@ use Rattle.sq_bound.specs.declared.query.Target.{Target}
 use Rattle.sq_query.specs.Fault.{status_of}
 use Rattle.sq_query.specs.Order.{sort_columns}
 use Rattle.sq_query.specs.Frame.{inputs_of}
-use Rattle.sq_query.specs.Specification.{HasNoSubquery, IsOverBases}
-use Rattle.sq_query.specs.Table.{AreOfStore, stored_numbered}
+use Rattle.sq_query.specs.Table.{AreMeant, stored_numbered}
 use Rattle.sq_query.specs.Target.{conditions_of, is_true_of, numbers_chosen}
-use Rattle.sq_query.specs.Union.{IsOnly, ReadsBases}
 use Rattle.sq_query.specs.declared.fault.Fault.{Fault}
 use Rattle.sq_query.specs.declared.fault.Fault.TheVariants as fault
 use Rattle.sq_session.specs.Kind.{Over}
+use Rattle.sq_session.specs.Schemas.{Schemas, columns_of}
 use Rattle.sq_session.specs.declared.cursor.CursorState.{CursorState}
 use Rattle.sq_session.specs.declared.cursor.CursorState.TheVariants as cursor
 use Rattle.sq_session.specs.declared.walk.WalkingCursor.{WalkingCursor}
@@ -66,46 +60,36 @@ IsOpenOver Over.rows values tables opened = (found : Outcome (List (List Value))
 IsOpenOver (Over.numbers table) values tables opened = (found : Outcome (List ℕ)) × (opened ≡ numbers_opened table found)
 IsOpenOver (Over.walk table) values tables opened = opened ≡ Ok (cursor.Walking (walk_before tables table values))
 
--- ---- the rows and numbers, where this is said
+-- ---- the rows and numbers
 
 -- the rows of a query expression, in order, or the status of finding them
 abbrev pub opened_in_order : Kinds (Placed TablePlace) → BoundQuery → List SortColumn → Name → List Value → (TablePlace → Outcome (List Row)) → Outcome CursorState
 opened_in_order kinds query order user values shown =
     rows_opened (and_then (query_rows (by_place shown) kinds (query_of query) (outermost (inputs_of values) user)) (λ rows. Ok (sorted (by_columns (sort_columns order)) rows)))
 
--- those of a query expression over base tables, without UNION and subqueries, whatever is known of columns beforehand
-abbrev pub OnlyRowsAreMeant : BoundQuery → List SortColumn → Name → List Value → Content → Outcome CursorState → Type 0
-OnlyRowsAreMeant query order user values tables opened =
-    (s : BoundSpecification) → IsOnly query s → IsOverBases s → HasNoSubquery s → (shown : TablePlace → Outcome (List Row)) → AreOfStore tables shown → (kinds : Kinds (Placed TablePlace))
-    → opened ≡ opened_in_order kinds query order user values shown
+-- those over the tables that the stored rows and the views' queries make for the user
+abbrev pub RowsAreMeant : Schemas → BoundQuery → List SortColumn → Name → List ParameterDesc → List Value → Content → Outcome CursorState → Type 0
+RowsAreMeant s query order user parameters values tables opened =
+    (shown : TablePlace → Outcome (List Row)) → AreMeant s.views tables user shown
+    → opened ≡ opened_in_order (kinds_by_place (columns_of s) (kinds_of_parameters parameters)) query order user values shown
 
--- and with UNION, for the kinds of columns and parameters with which it is well formed
-abbrev pub UnionsAreMeant : BoundQuery → List SortColumn → Name → List Value → Content → Outcome CursorState → Type 0
-UnionsAreMeant query order user values tables opened =
-    (columns : TableKinds) (parameters : List Kind) → IsQuery columns parameters query → AllByRecursion ReadsBases (specifications_of query)
-    → (shown : TablePlace → Outcome (List Row)) → AreOfStore tables shown → opened ≡ opened_in_order (kinds_by_place columns parameters) query order user values shown
-
-abbrev pub RowsAreMeant : BoundQuery → List SortColumn → Name → List Value → Content → Outcome CursorState → Type 0
-RowsAreMeant query order user values tables opened = OnlyRowsAreMeant query order user values tables opened × UnionsAreMeant query order user values tables opened
-
--- of a target that names no row by a key, and whose conditions have no subquery: those of the rows of which they are true, or the
--- status of choosing them
-abbrev pub NumbersAreMeant : Target → Name → List Value → Content → Outcome CursorState → Type 0
-NumbersAreMeant t user values tables opened =
-    t.key ≡ None → list_any (λ c. has_subquery (cond_of [] c)) (conditions_of t) ≡ false
-    → (shown : TablePlace → Outcome (List Row)) → opened ≡ numbers_opened t.base (and_then (stored_numbered tables t.base) (numbers_chosen (is_true_of shown values user) (conditions_of t)))
+-- of a target that names no row by a key: the numbers of the rows of which its conditions are true, or the status of choosing them
+abbrev pub NumbersAreMeant : Schemas → Target → Name → List Value → Content → Outcome CursorState → Type 0
+NumbersAreMeant s t user values tables opened =
+    t.key ≡ None → (shown : TablePlace → Outcome (List Row)) → AreMeant s.views tables user shown
+    → opened ≡ numbers_opened t.base (and_then (stored_numbered tables t.base) (numbers_chosen (is_true_of shown values user) (conditions_of t)))
 
 -- a quiet target is walked
-abbrev pub TargetIsMeant : Target → Name → List Value → Content → Outcome CursorState → Type 0
-TargetIsMeant t user values tables opened = t.is_quiet ≡ false → NumbersAreMeant t user values tables opened
+abbrev pub TargetIsMeant : Schemas → Target → Name → List Value → Content → Outcome CursorState → Type 0
+TargetIsMeant s t user values tables opened = t.is_quiet ≡ false → NumbersAreMeant s t user values tables opened
 
-abbrev pub IsMeant : CursorBody → Name → List Value → Content → Outcome CursorState → Type 0
-IsMeant (body.Rows query order) user values tables opened = RowsAreMeant query order user values tables opened
-IsMeant (body.Updatable u) user values tables opened = TargetIsMeant u.target user values tables opened
+abbrev pub IsMeant : Schemas → CursorBody → Name → List ParameterDesc → List Value → Content → Outcome CursorState → Type 0
+IsMeant s (body.Rows query order) user parameters values tables opened = RowsAreMeant s query order user parameters values tables opened
+IsMeant s (body.Updatable u) user parameters values tables opened = TargetIsMeant s u.target user values tables opened
 
-abbrev pub IsMeantIfAny : Option CursorBody → Name → List Value → Content → Outcome CursorState → Type 0
-IsMeantIfAny None user values tables opened = ⊤
-IsMeantIfAny (Some b) user values tables opened = IsMeant b user values tables opened
+abbrev pub IsMeantIfAny : Schemas → Option CursorBody → Name → List ParameterDesc → List Value → Content → Outcome CursorState → Type 0
+IsMeantIfAny s None user parameters values tables opened = ⊤
+IsMeantIfAny s (Some b) user parameters values tables opened = IsMeant s b user parameters values tables opened
 
 -- ---- while the statement runs
 

@@ -4,7 +4,6 @@ use Rattle.std.specs.Cmp.Lexicographic.{pointwise}
 use Rattle.std.specs.Result.{result_map_both}
 use Rattle.sq_lex.specs.declared.name.Name.{Name}
 use Rattle.sq_tree.specs.declared.module.ModuleText.{ModuleText}
-use Rattle.sq_bound.specs.declared.names.BaseTable.{BaseTable}
 use Rattle.sq_catalog.specs.declared.catalog.FullName.{FullName}
 use Rattle.sq_module.specs.declared.program.BoundProcedure.{BoundProcedure}
 use Rattle.sq_module.specs.declared.program.DeclaredCursor.{DeclaredCursor}
@@ -13,13 +12,14 @@ use Rattle.sq_module.specs.declared.program.Program.{Program}
 use Rattle.sq_module.specs.Written.{IsOfTexts}
 use Rattle.sq_session.specs.Kind.{Procedure, kind_of}
 use Rattle.sq_session.specs.Parameter.{declared}
+use Rattle.sq_session.specs.Schemas.{Schemas}
 use Rattle.sq_session.specs.State.{State}
 
--- the procedures, the names of the base tables and what these hold and obey, each at its number, and what calls work on
+-- the procedures and the names of the base tables, each at its number, what the schemas define, and what calls work on
 pub record Session : Type 0 where
   pub procedures : List Procedure
   pub tables : List FullName
-  pub bases : List BaseTable
+  pub schemas : Schemas
   pub state : State
 
 -- ---- what names mean

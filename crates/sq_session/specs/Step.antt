@@ -1,8 +1,9 @@
 -- What one call may do to the tables and the cursors, and what it answers (ISO/IEC 9075:1992, 13.2 to 13.10, 14.3 and 14.4).
--- FETCH, CLOSE, COMMIT, ROLLBACK and every statement on a cursor that is not in the state that it needs are said whole; of
--- SELECT INTO and OPEN, what the rows of their queries do; of INSERT, UPDATE and DELETE, which base table changes and how, but
--- not which values are stored or which rows a search condition keeps.
+-- FETCH, CLOSE, COMMIT, ROLLBACK, SELECT INTO, OPEN of a cursor that names no row by a key, and every statement on a cursor that
+-- is not in the state that it needs are said whole; of INSERT, UPDATE and DELETE, which base table changes and how, but not which
+-- values are stored or which rows a search condition keeps. No statement that has no fault ends with 42000.
 use Rattle.std.specs.Prelude.{◌≡◌, ℕ, Bool, true, false, List, [], is_some, option_and_then, Option, Some, None, Result, Ok, Err}
+use Rattle.sq_lex.specs.declared.name.Name.{Name}
 use Rattle.sq_value.specs.declared.value.Value.{Value}
 use Rattle.sq_store.specs.Content.{Content, row_at, table_at}
 use Rattle.sq_bound.specs.Condition.{select_of}
@@ -14,13 +15,13 @@ use Rattle.sq_meaning.specs.Environment.{Row, outermost}
 use Rattle.sq_meaning.specs.Placed.{by_place}
 use Rattle.sq_meaning.specs.Query.{rows}
 use Rattle.sq_meaning.specs.Status.{Outcome, and_then}
+use Rattle.sq_meaning.specs.WellFormed.{IsNoSyntaxError}
 use Rattle.sq_meaning.specs.declared.status.Status.{Status}
 use Rattle.sq_meaning.specs.declared.status.Status.TheVariants as status
 use Rattle.sq_change.specs.Statement.{Deletes, Inserts, Updates}
 use Rattle.sq_query.specs.Fault.{status_of}
 use Rattle.sq_query.specs.Frame.{inputs_of}
-use Rattle.sq_query.specs.Specification.{HasNoSubquery, IsOverBases}
-use Rattle.sq_query.specs.Table.{AreOfStore}
+use Rattle.sq_query.specs.Table.{AreMeant}
 use Rattle.sq_query.specs.declared.fault.Fault.{Fault}
 use Rattle.sq_query.specs.declared.fault.Fault.TheVariants as fault
 use Rattle.sq_model.specs.Machine.{single_row}
@@ -29,6 +30,7 @@ use Rattle.sq_session.specs.Fetch.{come_to_number, come_to_row, come_to_walk, ov
 use Rattle.sq_session.specs.Kind.{Fetching, Kind, Opening, Selecting, read_parameters}
 use Rattle.sq_session.specs.Open.{IsMeantIfAny, IsOpenOver}
 use Rattle.sq_session.specs.Parameter.{started_values}
+use Rattle.sq_session.specs.Schemas.{Schemas}
 use Rattle.sq_session.specs.State.{State, committed_state, cursor_at, is_open, number_on, off_row, rolled_back, with_cursor}
 use Rattle.sq_session.specs.Target.{ended, row_reply}
 use Rattle.sq_session.specs.declared.cursor.CursorState.{CursorState}
@@ -62,17 +64,18 @@ abbrev pub OpensAs : Outcome CursorState → ℕ → State → Done → State �
 OpensAs (Ok c) number before d after = (d ≡ ended status.SuccessfulCompletion) × (after ≡ with_cursor before number c)
 OpensAs (Err st) number before d after = Refuses st before d after
 
-abbrev pub MayOpenClosed : Opening → List Value → State → Done → State → Type 0
-MayOpenClosed o values before d after =
-    (opened : Outcome CursorState) × IsOpenOver o.over values before.tables opened × IsMeantIfAny o.body o.user values before.tables opened × OpensAs opened o.cursor before d after
+abbrev pub MayOpenClosed : Schemas → Opening → List Value → State → Done → State → Type 0
+MayOpenClosed s o values before d after =
+    (opened : Outcome CursorState) × IsOpenOver o.over values before.tables opened × IsMeantIfAny s o.body o.user o.parameters values before.tables opened
+    × OpensAs opened o.cursor before d after
 
 -- a cursor that is open already is left alone
-abbrev pub MayOpenIf : Bool → Opening → List Value → State → Done → State → Type 0
-MayOpenIf true o values before d after = Refuses status.InvalidCursorState before d after
-MayOpenIf false o values before d after = MayOpenClosed o values before d after
+abbrev pub MayOpenIf : Bool → Schemas → Opening → List Value → State → Done → State → Type 0
+MayOpenIf true s o values before d after = Refuses status.InvalidCursorState before d after
+MayOpenIf false s o values before d after = MayOpenClosed s o values before d after
 
-abbrev pub MayOpen : Opening → List Value → State → Done → State → Type 0
-MayOpen o values before d after = MayOpenIf (is_open (cursor_at before o.cursor)) o values before d after
+abbrev pub MayOpen : Schemas → Opening → List Value → State → Done → State → Type 0
+MayOpen s o values before d after = MayOpenIf (is_open (cursor_at before o.cursor)) s o values before d after
 
 -- ---- FETCH (13.3)
 
@@ -101,17 +104,17 @@ MayClose number before d after = MayCloseIf (is_open (cursor_at before number)) 
 
 -- ---- SELECT INTO (13.5)
 
--- of a query over base tables without subqueries: the rows that it has, or the status of finding them
-abbrev pub SelectIsMeant : Selecting → List Value → Content → Outcome (List (List Value)) → Type 0
-SelectIsMeant s values tables found =
-    IsOverBases s.query → HasNoSubquery s.query → (shown : TablePlace → Outcome (List Row)) → AreOfStore tables shown
-    → found ≡ rows (by_place shown) (select_of s.query) (outermost (inputs_of values) s.user)
+-- the rows of the query, or the status of finding them, over the tables that the stored rows and the views' queries make for the user
+abbrev pub SelectIsMeant : Schemas → Selecting → List Value → Content → Outcome (List (List Value)) → Type 0
+SelectIsMeant s select values tables found =
+    (shown : TablePlace → Outcome (List Row)) → AreMeant s.views tables select.user shown
+    → found ≡ rows (by_place shown) (select_of select.query) (outermost (inputs_of values) select.user)
 
 -- the query has these rows, or ends with a status: the targets are set from the only row
-pub record Selects (s : Selecting) (values : List Value) (tables : Content) (d : Done) : Type 0 where
+pub record Selects (s : Schemas) (select : Selecting) (values : List Value) (tables : Content) (d : Done) : Type 0 where
   pub found : Outcome (List (List Value))
-  pub meant : SelectIsMeant s values tables found
-  pub ends : d ≡ ended_by (and_then (and_then found single_row) (row_reply s.parameters s.targets))
+  pub meant : SelectIsMeant s select values tables found
+  pub ends : d ≡ ended_by (and_then (and_then found single_row) (row_reply select.parameters select.targets))
 
 -- ---- INSERT, UPDATE and DELETE (13.6 to 13.10)
 
@@ -171,21 +174,30 @@ MayDeleteAt false p before d after = Refuses status.InvalidCursorState before d 
 abbrev pub Ends : State → Done → State → Type 0
 Ends wanted d after = (d ≡ ended status.SuccessfulCompletion) × (after ≡ wanted)
 
--- a statement of a procedure whose parameters start at these values
-abbrev pub MayStep : Kind → List Value → State → Done → State → Type 0
-MayStep (Kind.opens o) values before d after = MayOpen o values before d after
-MayStep (Kind.fetches f) values before d after = MayFetch f values before d after
-MayStep (Kind.closes number) values before d after = MayClose number before d after
-MayStep (Kind.selects s) values before d after = (after ≡ before) × Selects s values before.tables d
-MayStep (Kind.inserts base) values before d after = MayChange (Inserts base) before d after
-MayStep (Kind.updates t) values before d after = MayUpdate (Updates (target.Searched t) None) before d after
-MayStep (Kind.deletes t) values before d after = MayChange (Deletes (target.Searched t) None) before d after
-MayStep (Kind.updates_at p) values before d after = MayUpdateAt (is_on_row before p) p before d after
-MayStep (Kind.deletes_at p) values before d after = MayDeleteAt (is_on_row before p) p before d after
-MayStep Kind.commits values before d after = Ends (committed_state before) d after
-MayStep Kind.rolls_back values before d after = Ends (rolled_back before) d after
+-- a statement of a procedure whose parameters start at these values, over what the schemas define
+abbrev pub MayStep : Schemas → Kind → List Value → State → Done → State → Type 0
+MayStep s (Kind.opens o) values before d after = MayOpen s o values before d after
+MayStep s (Kind.fetches f) values before d after = MayFetch f values before d after
+MayStep s (Kind.closes number) values before d after = MayClose number before d after
+MayStep s (Kind.selects select) values before d after = (after ≡ before) × Selects s select values before.tables d
+MayStep s (Kind.inserts base) values before d after = MayChange (Inserts base) before d after
+MayStep s (Kind.updates t) values before d after = MayUpdate (Updates (target.Searched t) None) before d after
+MayStep s (Kind.deletes t) values before d after = MayChange (Deletes (target.Searched t) None) before d after
+MayStep s (Kind.updates_at p) values before d after = MayUpdateAt (is_on_row before p) p before d after
+MayStep s (Kind.deletes_at p) values before d after = MayDeleteAt (is_on_row before p) p before d after
+MayStep s Kind.commits values before d after = Ends (committed_state before) d after
+MayStep s Kind.rolls_back values before d after = Ends (rolled_back before) d after
 
--- The call of a procedure that hands in these values. A statement with a fault, and a procedure that is not there, change nothing.
-abbrev pub MayCall : Option Kind → List Value → State → Done → State → Type 0
-MayCall None values before d after = Refuses status.SyntaxErrorOrAccessRuleViolation before d after
-MayCall (Some k) values before d after = MayStep k (started_values (read_parameters k) values) before d after
+-- it does not end with 42000
+abbrev pub EndsRight : Done → Type 0
+EndsRight d = IsNoSyntaxError d.status
+
+-- for each user there are tables that the stored rows and the views' queries make, since a view reads earlier ones alone
+abbrev pub HasTables : Schemas → Content → Type 0
+HasTables s tables = (user : Name) → (shown : TablePlace → Outcome (List Row)) × AreMeant s.views tables user shown
+
+-- The call of a procedure that hands in these values. A statement with a fault, and a procedure that is not there, end with 42000 and
+-- change nothing; a statement without a fault does not end so.
+abbrev pub MayCall : Schemas → Option Kind → List Value → State → Done → State → Type 0
+MayCall s None values before d after = Refuses status.SyntaxErrorOrAccessRuleViolation before d after
+MayCall s (Some k) values before d after = MayStep s k (started_values (read_parameters k) values) before d after × EndsRight d × HasTables s before.tables

@@ -10,8 +10,9 @@ ghost use Rattle.sq_session.specs.Asked.{IsAsked};
 ghost use Rattle.sq_session.specs.Cursors.{IsWhole, OpenHaveKept};
 ghost use Rattle.sq_session.specs.Kind.{kind_at, kind_of, needs_memory, takes_memory};
 ghost use Rattle.sq_session.specs.Parameter.{AreGiven, started_values};
+ghost use Rattle.sq_session.specs.Schemas.{schemas_of};
 ghost use Rattle.sq_session.specs.Session.{procedures_of};
-ghost use Rattle.sq_session.specs.Step.{MayCall, MayStep, ending};
+ghost use Rattle.sq_session.specs.Step.{EndsRight, MayCall, MayStep, ending};
 
 use crate::called::Called;
 use crate::machine::Machine;
@@ -39,7 +40,7 @@ pub(crate) fn call<S: Store>(
     requires well_formed { ProgramIsWellFormed (column_kinds catalog.now) program.now }
     requires whole { IsWhole (column_kinds catalog.now) catalog.now.bases program.now.cursors.items machine.old }
     ensures step { IfSome (ending result) (λ d.
-        MayCall (kind_at (procedures_of program.now.cursors.items program.now.procedures.entries) procedure) values.now machine.old d machine.new) }
+        MayCall (schemas_of catalog.now) (kind_at (procedures_of program.now.cursors.items program.now.procedures.entries) procedure) values.now machine.old d machine.new) }
     ensures whole { IsWhole (column_kinds catalog.now) catalog.now.bases program.now.cursors.items machine.new }
     ensures err { OnErr result (machine.new ≡ machine.old) }
     ensures memory { needs_memory (kind_at (procedures_of program.now.cursors.items program.now.procedures.entries) procedure) ≡ false → IsSome (ending result) }
@@ -56,6 +57,7 @@ pub(crate) fn call<S: Store>(
 }
 
 /// Performs a statement of a procedure.
+#[tactic(auto, using(crate::proofs::Ending::done_right))]
 fn performed<S: Store>(
     alloc: Global,
     catalog: &Catalog,
@@ -74,10 +76,11 @@ fn performed<S: Store>(
     ensures rows { holds catalog.now.bases machine.new.tables ≡ true }
     ensures in_domains { AreInDomains catalog.now.bases machine.new.tables }
     ensures opened { OpenHaveKept (column_kinds catalog.now) program.now.cursors.items statement.now machine.new.cursors }
-    ensures step { IfSome (ending result) (λ d. MayStep (kind_of program.now.cursors.items procedure.now.user procedure.now.parameters statement.now)
+    ensures step { IfSome (ending result) (λ d. MayStep (schemas_of catalog.now) (kind_of program.now.cursors.items procedure.now.user procedure.now.parameters statement.now)
         (started_values procedure.now.parameters values.now) machine.old d machine.new) }
     ensures err { OnErr result (machine.new ≡ machine.old) }
     ensures memory { takes_memory (kind_of program.now.cursors.items procedure.now.user procedure.now.parameters statement.now) ≡ false → IsSome (ending result) }
+    ensures right { IfSome (ending result) EndsRight }
 {
     match statement {
         BoundStatement::Close(cursor) => machine.close(alloc, *cursor),
@@ -110,9 +113,10 @@ fn with_values<S: Store>(
     ensures rows { holds catalog.now.bases machine.new.tables ≡ true }
     ensures in_domains { AreInDomains catalog.now.bases machine.new.tables }
     ensures opened { OpenHaveKept (column_kinds catalog.now) program.now.cursors.items statement.now machine.new.cursors }
-    ensures step { IfSome (ending result) (λ d. MayStep (kind_of program.now.cursors.items procedure.now.user procedure.now.parameters statement.now)
+    ensures step { IfSome (ending result) (λ d. MayStep (schemas_of catalog.now) (kind_of program.now.cursors.items procedure.now.user procedure.now.parameters statement.now)
         (started_values procedure.now.parameters values.now) machine.old d machine.new) }
     ensures err { OnErr result (machine.new ≡ machine.old) }
+    ensures right { IfSome (ending result) EndsRight }
 {
     let values = started_values(alloc, procedure.parameters.as_slice(), values)?;
     let called = Called {
@@ -144,9 +148,10 @@ fn performed_with<S: Store>(
     ensures rows { holds called.now.catalog.now.bases machine.new.tables ≡ true }
     ensures in_domains { AreInDomains called.now.catalog.now.bases machine.new.tables }
     ensures opened { OpenHaveKept (column_kinds called.now.catalog.now) called.now.cursors.now statement.now machine.new.cursors }
-    ensures step { IfSome (ending result) (λ d. MayStep (kind_of called.now.cursors.now called.now.procedure.now.user called.now.procedure.now.parameters statement.now)
+    ensures step { IfSome (ending result) (λ d. MayStep (schemas_of called.now.catalog.now) (kind_of called.now.cursors.now called.now.procedure.now.user called.now.procedure.now.parameters statement.now)
         called.now.values.now machine.old d machine.new) }
     ensures err { OnErr result (machine.new ≡ machine.old) }
+    ensures right { IfSome (ending result) EndsRight }
 {
     match statement {
         BoundStatement::Open(cursor) => machine.open(called, *cursor, meter),

@@ -13,7 +13,7 @@ ghost use Rattle.sq_session.specs.Cursors.{HasKeptAt, HaveKept, are_over, is_ove
 ghost use Rattle.sq_session.specs.Fetch.{HasCome, HasFetched, IsFetch, MayTakeFrom, MayTakeShown, MeansPlace, come_to_number, come_to_row, come_to_walk};
 ghost use Rattle.sq_session.specs.Kind.{IsDeclaredAt, fetching, over_at};
 ghost use Rattle.sq_session.specs.Parameter.{AreGiven};
-ghost use Rattle.sq_session.specs.Step.{MayFetch, ending};
+ghost use Rattle.sq_session.specs.Step.{EndsRight, MayFetch, ending};
 ghost use Rattle.sq_session.specs.Target.{MayTake, MayTakeRows, row_reply};
 
 use crate::called::Called;
@@ -53,6 +53,7 @@ pub(crate) fn fetch_at<S: Store>(
         (record { tables = S.content_now store.now; committed = S.committed store.now; keys = S.key_columns store.now; cursors = cursors.old }) d
         (record { tables = S.content_now store.now; committed = S.committed store.now; keys = S.key_columns store.now; cursors = cursors.new })) }
     ensures err { OnErr result (cursors.new ≡ cursors.old) }
+    ensures right { IfSome (ending result) EndsRight }
 {
     fetch_cursor(called, fetch, &mut cursors[fetch.cursor], store, meter)
 }
@@ -76,6 +77,7 @@ fn fetch_cursor<S: Store>(
     ensures fetched { HasFetched (fetching called.now.cursors.now called.now.procedure.now.user called.now.procedure.now.parameters fetch.now) called.now.values.now (S.content_now store.now)
         cursor.old result cursor.new }
     ensures err { OnErr result (cursor.new ≡ cursor.old) }
+    ensures right { IfSome (ending result) EndsRight }
 {
     match cursor {
         CursorState::Closed => Err(Fault::Status(Failure::InvalidCursorState)),
@@ -86,7 +88,7 @@ fn fetch_cursor<S: Store>(
 }
 
 /// FETCH of a cursor over rows.
-#[tactic(auto, using(crate::proofs::Coming::row_taken))]
+#[tactic(auto, using(crate::proofs::Ending::no_row_right, crate::proofs::Coming::row_taken))]
 fn fetch_row(
     called: &Called<'_>,
     fetch: &BoundFetch,
@@ -97,6 +99,7 @@ fn fetch_row(
     requires taken { MayTakeRows called.now.procedure.now.parameters fetch.now.outputs cursor.old.rows }
     ensures comes { HasCome result cursor.new (come_to_row (fetching called.now.cursors.now called.now.procedure.now.user called.now.procedure.now.parameters fetch.now) called.now.values.now cursor.old) }
     ensures err { OnErr result (cursor.new ≡ cursor.old) }
+    ensures right { IfSome (ending result) EndsRight }
 {
     let rows = cursor.rows.as_slice();
     let place = place_reached(fetch.orientation, called.values, rows.len(), cursor.place);
@@ -109,7 +112,7 @@ fn fetch_row(
 }
 
 /// FETCH of an updatable cursor: the next number under which there is a row now, and that row as it is now.
-#[tactic(auto, using(crate::proofs::Over::numbers_updatable, crate::proofs::Over::numbers_there))]
+#[tactic(auto, using(crate::proofs::Ending::no_row_right, crate::proofs::Over::numbers_updatable, crate::proofs::Over::numbers_there))]
 fn fetch_number<S: Store>(
     called: &Called<'_>,
     fetch: &BoundFetch,
@@ -124,6 +127,7 @@ fn fetch_number<S: Store>(
     requires taken { MayTakeShown (fetching called.now.cursors.now called.now.procedure.now.user called.now.procedure.now.parameters fetch.now) (table_at (S.content_now store.now) cursor.old.table) }
     ensures comes { HasCome result cursor.new (come_to_number (fetching called.now.cursors.now called.now.procedure.now.user called.now.procedure.now.parameters fetch.now) (S.content_now store.now) cursor.old) }
     ensures err { OnErr result (cursor.new ≡ cursor.old) }
+    ensures right { IfSome (ending result) EndsRight }
 {
     let query = updatable_query(called, fetch.cursor);
     let Some(reached) = next_there(store, cursor, meter) else {
@@ -142,7 +146,7 @@ fn fetch_number<S: Store>(
 }
 
 /// FETCH of a cursor that walks.
-#[tactic(auto, using(crate::proofs::Over::walk_updatable, crate::proofs::Over::walk_there))]
+#[tactic(auto, using(crate::proofs::Ending::no_row_right, crate::proofs::Over::walk_updatable, crate::proofs::Over::walk_there))]
 fn fetch_walk<S: Store>(
     called: &Called<'_>,
     fetch: &BoundFetch,
@@ -159,6 +163,7 @@ fn fetch_walk<S: Store>(
     requires domains { AreInDomains called.now.catalog.now.bases (S.content_now store.now) }
     ensures comes { HasCome result walk.new (come_to_walk (fetching called.now.cursors.now called.now.procedure.now.user called.now.procedure.now.parameters fetch.now) (S.content_now store.now) walk.old) }
     ensures err { OnErr result (walk.new ≡ walk.old) }
+    ensures right { IfSome (ending result) EndsRight }
 {
     let query = updatable_query(called, fetch.cursor);
     let Some((number, row)) = next_of_walk(called, &query.target, store, walk, meter)? else {
@@ -200,7 +205,8 @@ fn shown_row_retrieved(
     requires targets { are_parameters (length called.now.procedure.now.parameters) fetch.now.outputs ≡ true }
     requires columns { are_positions (length row.now) query.now.columns ≡ true }
     requires taken { MayTake called.now.procedure.now.parameters fetch.now.outputs (in_columns row.now query.now.columns) }
-    ensures { Meets result (row_reply called.now.procedure.now.parameters fetch.now.outputs (in_columns row.now query.now.columns)) }
+    ensures reply { Meets result (row_reply called.now.procedure.now.parameters fetch.now.outputs (in_columns row.now query.now.columns)) }
+    ensures right { IfSome (ending result) EndsRight }
 {
     match shown(called.alloc, row.as_slice(), query.columns.as_slice()) {
         Ok(row) => {

@@ -3,10 +3,9 @@
 ghost use Rattle.std.specs.Prelude.{◌≡◌, ◌<◌, [], true, length, replicate, is_ok, is_some, IfErr, IfOk, IfSome, IsSome, OnErr};
 ghost use Rattle.std.specs.List.{AllByRecursion};
 ghost use Rattle.sq_bound.specs.Fits.{AreInDomains, FitsTarget, IsBase, IsColumnOf, are_columns, are_parameters, holds, under};
-ghost use Rattle.sq_bound.specs.WellFormed.{IsSelect, TakeKinds, kinds_of_parameters, kinds_of_select};
-ghost use Rattle.sq_bound.specs.declared.statement.BoundStatement.TheVariants.{Open};
+ghost use Rattle.sq_bound.specs.WellFormed.{IsSelect, IsStatement, TakeKinds, kinds_of_parameters, kinds_of_select};
+ghost use Rattle.sq_bound.specs.declared.statement.BoundStatement.TheVariants.{Delete, Insert, Open, Update};
 ghost use Rattle.sq_catalog.specs.Catalog.{column_kinds};
-ghost use Rattle.sq_change.specs.Given.{MayAssign, MayGive};
 ghost use Rattle.sq_change.specs.Statement.{Inserts, IsGiven};
 ghost use Rattle.sq_meaning.specs.declared.status.Status.TheVariants as status;
 ghost use Rattle.sq_module.specs.Program.{CursorsAreWellFormed, CursorsFit, OpensWellFormed, kinds_of_cursors};
@@ -16,8 +15,9 @@ ghost use Rattle.sq_session.specs.Cursors.{HaveKept, IsWhole};
 ghost use Rattle.sq_session.specs.Fetch.{IsFetch};
 ghost use Rattle.sq_session.specs.Kind.{delete_kind, fetching, opening, selecting, update_kind};
 ghost use Rattle.sq_session.specs.Parameter.{AreGiven};
+ghost use Rattle.sq_session.specs.Schemas.{schemas_of};
 ghost use Rattle.sq_session.specs.State.{committed_state, rolled_back};
-ghost use Rattle.sq_session.specs.Step.{MayChange, MayClose, MayFetch, MayOpen, MayOpenClosed, MayStep, Selects, ending, is_on_row, is_ready, number_meant, on_row};
+ghost use Rattle.sq_session.specs.Step.{EndsRight, MayChange, MayClose, MayFetch, MayOpen, MayOpenClosed, MayStep, Selects, ending, is_on_row, is_ready, number_meant, on_row};
 ghost use Rattle.sq_session.specs.Target.{ended};
 
 use crate::called::Called;
@@ -79,8 +79,9 @@ impl<S: Store> Machine<S> {
         requires asked { OpensWellFormed (column_kinds called.now.catalog.now) called.now.cursors.now (kinds_of_parameters called.now.procedure.now.parameters) (Open number) }
         requires given { AreGiven (kinds_of_parameters called.now.procedure.now.parameters) called.now.values.now }
         ensures kept { HaveKept (column_kinds called.now.catalog.now) called.now.cursors.now self.new.cursors }
-        ensures step { IfSome (ending result) (λ d. MayOpen (opening called.now.cursors.now called.now.procedure.now.user called.now.procedure.now.parameters number)
+        ensures step { IfSome (ending result) (λ d. MayOpen (schemas_of called.now.catalog.now) (opening called.now.cursors.now called.now.procedure.now.user called.now.procedure.now.parameters number)
             called.now.values.now self.old d self.new) }
+        ensures right { IfSome (ending result) EndsRight }
         ensures tables { self.new.tables ≡ self.old.tables }
         ensures err { OnErr result (self.new ≡ self.old) }
     {
@@ -103,7 +104,8 @@ impl<S: Store> Machine<S> {
         requires asked { OpensWellFormed (column_kinds called.now.catalog.now) called.now.cursors.now (kinds_of_parameters called.now.procedure.now.parameters) (Open number) }
         requires given { AreGiven (kinds_of_parameters called.now.procedure.now.parameters) called.now.values.now }
         ensures kept { HaveKept (column_kinds called.now.catalog.now) called.now.cursors.now self.new.cursors }
-        ensures step { IfSome (ending result) (λ d. MayOpenClosed (opening called.now.cursors.now called.now.procedure.now.user called.now.procedure.now.parameters number) called.now.values.now self.old d self.new) }
+        ensures step { IfSome (ending result) (λ d. MayOpenClosed (schemas_of called.now.catalog.now) (opening called.now.cursors.now called.now.procedure.now.user called.now.procedure.now.parameters number) called.now.values.now self.old d self.new) }
+        ensures right { IfSome (ending result) EndsRight }
         ensures tables { self.new.tables ≡ self.old.tables }
         ensures err { OnErr result (self.new ≡ self.old) }
     {
@@ -132,6 +134,7 @@ impl<S: Store> Machine<S> {
         requires well_formed { CursorsAreWellFormed (column_kinds called.now.catalog.now) called.now.cursors.now }
         ensures step { IfSome (ending result) (λ d. MayFetch (fetching called.now.cursors.now called.now.procedure.now.user called.now.procedure.now.parameters fetch.now)
             called.now.values.now self.old d self.new) }
+        ensures right { IfSome (ending result) EndsRight }
         ensures tables { self.new.tables ≡ self.old.tables }
         ensures err { OnErr result (self.new ≡ self.old) }
     {
@@ -145,9 +148,11 @@ impl<S: Store> Machine<S> {
     }
 
     /// CLOSE (13.4).
+    #[tactic(auto, using(crate::proofs::Ending::done_right))]
     pub(crate) fn close(&mut self, alloc: Global, number: usize) -> Result<Done, Fault>
         requires { number < length self.old.cursors }
         ensures step { IfSome (ending result) (λ d. MayClose number self.old d self.new) }
+        ensures right { IfSome (ending result) EndsRight }
         ensures tables { self.new.tables ≡ self.old.tables }
         ensures err { OnErr result (self.new ≡ self.old) }
         ensures memory { IsSome (ending result) }
@@ -173,7 +178,8 @@ impl<S: Store> Machine<S> {
         requires taken { TakeKinds (kinds_of_parameters called.now.procedure.now.parameters) select.now.outputs (kinds_of_select select.now.query) }
         requires given { AreGiven (kinds_of_parameters called.now.procedure.now.parameters) called.now.values.now }
         requires in_domains { AreInDomains called.now.catalog.now.bases self.now.tables }
-        ensures { IfSome (ending result) (Selects (selecting called.now.procedure.now.user called.now.procedure.now.parameters select.now) called.now.values.now self.now.tables) }
+        ensures step { IfSome (ending result) (Selects (schemas_of called.now.catalog.now) (selecting called.now.procedure.now.user called.now.procedure.now.parameters select.now) called.now.values.now self.now.tables) }
+        ensures right { IfSome (ending result) EndsRight }
     {
         let found = specification_rows(
             called.alloc,
@@ -194,6 +200,7 @@ impl<S: Store> Machine<S> {
     }
 
     /// INSERT (13.8).
+    #[tactic(auto, using(crate::proofs::Ending::done_right))]
     pub(crate) fn insert(
         &mut self,
         called: &Called<'_>,
@@ -201,26 +208,31 @@ impl<S: Store> Machine<S> {
         meter: &mut Meter,
     ) -> Result<Done, Fault>
         requires fits { IsBase called.now.catalog.now.bases statement.now.leaf.table }
-        requires columns { AllByRecursion (IsColumnOf statement.now.leaf.table) statement.now.columns }
-        requires given { MayGive (column_kinds called.now.catalog.now) called.now.values.now statement.now.columns statement.now.source }
+        requires asked { IsStatement (column_kinds called.now.catalog.now) (kinds_of_cursors called.now.cursors.now) (kinds_of_parameters called.now.procedure.now.parameters) (Insert statement.now) }
+        requires given { AreGiven (kinds_of_parameters called.now.procedure.now.parameters) called.now.values.now }
         requires whole { IsWhole (column_kinds called.now.catalog.now) called.now.catalog.now.bases called.now.cursors.now self.old }
         ensures step { IfSome (ending result) (λ d. MayChange (Inserts statement.now.base) self.old d self.new) }
+        ensures right { IfSome (ending result) EndsRight }
         ensures rows { holds called.now.catalog.now.bases self.new.tables ≡ true }
         ensures in_domains { AreInDomains called.now.catalog.now.bases self.new.tables }
         ensures err { OnErr result (self.new ≡ self.old) }
     {
-        insert(
+        let inserted = insert(
             called.alloc,
             called.catalog,
             statement,
             &mut self.store,
             called.inputs(),
             meter,
-        )?;
+        );
+        if let Err(fault) = inserted {
+            return Err(fault);
+        }
         Ok(Done::successful(called.alloc))
     }
 
     /// UPDATE (13.9, 13.10).
+    #[tactic(auto, using(crate::proofs::Ending::done_right, crate::proofs::Ending::invalid_right))]
     pub(crate) fn update(
         &mut self,
         called: &Called<'_>,
@@ -230,12 +242,14 @@ impl<S: Store> Machine<S> {
         requires target { FitsTarget called.now.catalog.now.bases (length called.now.cursors.now) statement.now.target }
         requires columns { are_columns (length (under statement.now.target).table.columns) statement.now.assignments ≡ true }
         requires domains { AllByRecursion (λ a. IsColumnOf (under statement.now.target).table a.column) statement.now.assignments }
-        requires assigned { MayAssign (column_kinds called.now.catalog.now) called.now.values.now (under statement.now.target).table statement.now.assignments }
+        requires asked { IsStatement (column_kinds called.now.catalog.now) (kinds_of_cursors called.now.cursors.now) (kinds_of_parameters called.now.procedure.now.parameters) (Update statement.now) }
+        requires given { AreGiven (kinds_of_parameters called.now.procedure.now.parameters) called.now.values.now }
         requires fit { CursorsFit called.now.catalog.now.bases called.now.cursors.now }
         requires whole { IsWhole (column_kinds called.now.catalog.now) called.now.catalog.now.bases called.now.cursors.now self.old }
         ensures rows { holds called.now.catalog.now.bases self.new.tables ≡ true }
         ensures in_domains { AreInDomains called.now.catalog.now.bases self.new.tables }
-        ensures step { IfSome (ending result) (λ d. MayStep (update_kind statement.now.target) called.now.values.now self.old d self.new) }
+        ensures step { IfSome (ending result) (λ d. MayStep (schemas_of called.now.catalog.now) (update_kind statement.now.target) called.now.values.now self.old d self.new) }
+        ensures right { IfSome (ending result) EndsRight }
         ensures err { OnErr result (self.new ≡ self.old) }
     {
         let on = self.current(called, &statement.target)?;
@@ -262,6 +276,7 @@ impl<S: Store> Machine<S> {
     }
 
     /// DELETE (13.6, 13.7). After a positioned one the cursor is before the next row.
+    #[tactic(auto, using(crate::proofs::Ending::done_right, crate::proofs::Ending::invalid_right))]
     pub(crate) fn delete(
         &mut self,
         called: &Called<'_>,
@@ -269,14 +284,17 @@ impl<S: Store> Machine<S> {
         meter: &mut Meter,
     ) -> Result<Done, Fault>
         requires target { FitsTarget called.now.catalog.now.bases (length called.now.cursors.now) target.now }
+        requires asked { IsStatement (column_kinds called.now.catalog.now) (kinds_of_cursors called.now.cursors.now) (kinds_of_parameters called.now.procedure.now.parameters) (Delete target.now) }
+        requires given { AreGiven (kinds_of_parameters called.now.procedure.now.parameters) called.now.values.now }
         requires whole { IsWhole (column_kinds called.now.catalog.now) called.now.catalog.now.bases called.now.cursors.now self.old }
         ensures rows { holds called.now.catalog.now.bases self.new.tables ≡ true }
         ensures in_domains { AreInDomains called.now.catalog.now.bases self.new.tables }
-        ensures step { IfSome (ending result) (λ d. MayStep (delete_kind target.now) called.now.values.now self.old d self.new) }
+        ensures step { IfSome (ending result) (λ d. MayStep (schemas_of called.now.catalog.now) (delete_kind target.now) called.now.values.now self.old d self.new) }
+        ensures right { IfSome (ending result) EndsRight }
         ensures err { OnErr result (self.new ≡ self.old) }
     {
         let on = self.current(called, target)?;
-        delete(
+        let deleted = delete(
             called.alloc,
             called.catalog,
             target,
@@ -284,7 +302,10 @@ impl<S: Store> Machine<S> {
             &mut self.store,
             called.inputs(),
             meter,
-        )?;
+        );
+        if let Err(fault) = deleted {
+            return Err(fault);
+        }
         if let ChangeTarget::Positioned(positioned) = target {
             leave_row(self.cursors.as_mut_slice(), positioned.cursor);
         }

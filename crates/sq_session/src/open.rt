@@ -1,16 +1,18 @@
 //! OPEN (ISO/IEC 9075:1992, 13.2).
 
-ghost use Rattle.std.specs.Prelude.{◌≡◌, ◌<◌, ⊤, length, true, IfOk, IfSome, OnErr};
+ghost use Rattle.std.specs.Prelude.{◌≡◌, ◌<◌, ⊤, length, true, IfErr, IfOk, IfSome, OnErr};
 ghost use Rattle.sq_bound.specs.Fits.{AreInDomains, FitsCursor, holds};
-ghost use Rattle.sq_bound.specs.WellFormed.{IsCursor, IsQuery, kinds_of_parameters, kinds_of_query};
+ghost use Rattle.sq_bound.specs.WellFormed.{IsCursor, IsQuery, IsTarget, kinds_of_parameters, kinds_of_query};
 ghost use Rattle.sq_bound.specs.declared.statement.BoundStatement.TheVariants.{Open};
 ghost use Rattle.sq_catalog.specs.Catalog.{column_kinds};
 ghost use Rattle.sq_module.specs.Program.{CursorsFit, OpensWellFormed};
+ghost use Rattle.sq_query.specs.MayRead.{MayEnd};
 ghost use Rattle.sq_session.specs.Cursors.{HasKept, HasListed, HaveKept, are_over};
 ghost use Rattle.sq_session.specs.Kind.{Over, opening, over_of, over_target};
 ghost use Rattle.sq_session.specs.Open.{HasOpened, IsMeant, NumbersAreMeant, RowsAreMeant, TargetIsMeant};
 ghost use Rattle.sq_session.specs.Parameter.{AreGiven};
-ghost use Rattle.sq_session.specs.Step.{MayOpenClosed, ending};
+ghost use Rattle.sq_session.specs.Schemas.{schemas_of};
+ghost use Rattle.sq_session.specs.Step.{EndsRight, MayOpenClosed, ending};
 
 use crate::called::Called;
 use crate::cursor::{CursorState, NumbersCursor, RowsCursor};
@@ -22,7 +24,7 @@ use sq_query::{Fault, numbers_of, ordered_rows};
 use sq_store::{Meter, Store};
 
 /// OPEN of the cursor with this number, which is closed.
-#[tactic(auto, using(crate::proofs::Over::as_many))]
+#[tactic(auto, using(crate::proofs::Ending::done_right, crate::proofs::Over::as_many))]
 pub(crate) fn open_closed<S: Store>(
     called: &Called<'_>,
     number: usize,
@@ -39,10 +41,11 @@ pub(crate) fn open_closed<S: Store>(
     requires given { AreGiven (kinds_of_parameters called.now.procedure.now.parameters) called.now.values.now }
     requires domains { AreInDomains called.now.catalog.now.bases (S.content_now store.now) }
     ensures kept { HaveKept (column_kinds called.now.catalog.now) called.now.cursors.now cursors.new }
-    ensures step { IfSome (ending result) (λ d. MayOpenClosed (opening called.now.cursors.now called.now.procedure.now.user called.now.procedure.now.parameters number) called.now.values.now
+    ensures step { IfSome (ending result) (λ d. MayOpenClosed (schemas_of called.now.catalog.now) (opening called.now.cursors.now called.now.procedure.now.user called.now.procedure.now.parameters number) called.now.values.now
         (record { tables = S.content_now store.now; committed = S.committed store.now; keys = S.key_columns store.now; cursors = cursors.old }) d
         (record { tables = S.content_now store.now; committed = S.committed store.now; keys = S.key_columns store.now; cursors = cursors.new })) }
     ensures err { OnErr result (cursors.new ≡ cursors.old) }
+    ensures right { IfSome (ending result) EndsRight }
 {
     let declared = &called.cursors[number];
     match opened(called, &declared.cursor, store, meter) {
@@ -66,8 +69,9 @@ fn opened<S: Store>(
     requires asked { IsCursor (column_kinds called.now.catalog.now) (kinds_of_parameters called.now.procedure.now.parameters) cursor.now }
     requires given { AreGiven (kinds_of_parameters called.now.procedure.now.parameters) called.now.values.now }
     requires domains { AreInDomains called.now.catalog.now.bases (S.content_now store.now) }
-    ensures opened { HasOpened (over_of cursor.now.body) (IsMeant cursor.now.body called.now.procedure.now.user called.now.values.now (S.content_now store.now)) called.now.values.now (S.content_now store.now) result }
+    ensures opened { HasOpened (over_of cursor.now.body) (IsMeant (schemas_of called.now.catalog.now) cursor.now.body called.now.procedure.now.user called.now.procedure.now.parameters called.now.values.now (S.content_now store.now)) called.now.values.now (S.content_now store.now) result }
     ensures kept { IfOk result (HasKept (column_kinds called.now.catalog.now) cursor.now) }
+    ensures right { IfErr result MayEnd }
 {
     match &cursor.body {
         CursorBody::Rows(query, order) => {
@@ -88,8 +92,9 @@ fn opened_over_rows<S: Store>(
     requires asked { IsQuery (column_kinds called.now.catalog.now) (kinds_of_parameters called.now.procedure.now.parameters) query.now }
     requires given { AreGiven (kinds_of_parameters called.now.procedure.now.parameters) called.now.values.now }
     requires domains { AreInDomains called.now.catalog.now.bases (S.content_now store.now) }
-    ensures opened { HasOpened Over.rows (RowsAreMeant query.now order.now called.now.procedure.now.user called.now.values.now (S.content_now store.now)) called.now.values.now (S.content_now store.now) result }
+    ensures opened { HasOpened Over.rows (RowsAreMeant (schemas_of called.now.catalog.now) query.now order.now called.now.procedure.now.user called.now.procedure.now.parameters called.now.values.now (S.content_now store.now)) called.now.values.now (S.content_now store.now) result }
     ensures rows { IfOk result (HasListed (kinds_of_query query.now)) }
+    ensures right { IfErr result MayEnd }
 {
     let found = ordered_rows(
         called.alloc,
@@ -117,8 +122,12 @@ fn opened_over<S: Store>(
     store: &S,
     meter: &mut Meter,
 ) -> Result<CursorState, Fault>
-    requires { target.now.base < length (S.content_now store.now) }
-    ensures { HasOpened (over_target target.now) (TargetIsMeant target.now called.now.procedure.now.user called.now.values.now (S.content_now store.now)) called.now.values.now (S.content_now store.now) result }
+    requires there { target.now.base < length (S.content_now store.now) }
+    requires asked { IsTarget (column_kinds called.now.catalog.now) (kinds_of_parameters called.now.procedure.now.parameters) target.now }
+    requires given { AreGiven (kinds_of_parameters called.now.procedure.now.parameters) called.now.values.now }
+    requires domains { AreInDomains called.now.catalog.now.bases (S.content_now store.now) }
+    ensures opened { HasOpened (over_target target.now) (TargetIsMeant (schemas_of called.now.catalog.now) target.now called.now.procedure.now.user called.now.values.now (S.content_now store.now)) called.now.values.now (S.content_now store.now) result }
+    ensures right { IfErr result MayEnd }
 {
     if target.is_quiet {
         opened_walk(called, target.base, store)
@@ -130,8 +139,9 @@ fn opened_over<S: Store>(
 /// A walk of a base table.
 #[tactic(auto, using(crate::proofs::Opened::over_walk))]
 fn opened_walk<S: Store>(called: &Called<'_>, table: usize, store: &S) -> Result<CursorState, Fault>
-    requires { table < length (S.content_now store.now) }
-    ensures { HasOpened (Over.walk table) (λ opened. ⊤) called.now.values.now (S.content_now store.now) result }
+    requires there { table < length (S.content_now store.now) }
+    ensures opened { HasOpened (Over.walk table) (λ opened. ⊤) called.now.values.now (S.content_now store.now) result }
+    ensures right { IfErr result MayEnd }
 {
     match started_walk(called, table, store) {
         Ok(walk) => Ok(CursorState::Walking(walk)),
@@ -146,7 +156,11 @@ fn opened_over_numbers<S: Store>(
     store: &S,
     meter: &mut Meter,
 ) -> Result<CursorState, Fault>
-    ensures { HasOpened (Over.numbers target.now.base) (NumbersAreMeant target.now called.now.procedure.now.user called.now.values.now (S.content_now store.now)) called.now.values.now (S.content_now store.now) result }
+    requires asked { IsTarget (column_kinds called.now.catalog.now) (kinds_of_parameters called.now.procedure.now.parameters) target.now }
+    requires given { AreGiven (kinds_of_parameters called.now.procedure.now.parameters) called.now.values.now }
+    requires domains { AreInDomains called.now.catalog.now.bases (S.content_now store.now) }
+    ensures opened { HasOpened (Over.numbers target.now.base) (NumbersAreMeant (schemas_of called.now.catalog.now) target.now called.now.procedure.now.user called.now.values.now (S.content_now store.now)) called.now.values.now (S.content_now store.now) result }
+    ensures right { IfErr result MayEnd }
 {
     let found = numbers_of(
         called.alloc,

@@ -11,6 +11,7 @@ ghost use Rattle.sq_bound.specs.Fits.{AreInDomains, keys_of_bases};
 ghost use Rattle.sq_catalog.specs.Catalog.{column_kinds};
 ghost use Rattle.sq_module.specs.Program.{FitsProgram, ProgramIsWellFormed, declared_procedures};
 ghost use Rattle.sq_module.specs.Written.{IsOfTexts};
+ghost use Rattle.sq_session.specs.Schemas.{schemas_of};
 ghost use Rattle.sq_session.specs.Session.{AreOfModules, names_of, procedure_number, procedures_of};
 ghost use Rattle.sq_session.specs.State.{AreClosed};
 ghost use Rattle.sq_session.specs.Step.{MayCall, is_success};
@@ -52,13 +53,14 @@ impl<S: Store> Model for Session<S> {
     ghost use Rattle.sq_catalog.specs.Catalog.{column_kinds};
     ghost use Rattle.sq_module.specs.Program.{FitsProgram, ProgramIsWellFormed};
     ghost use Rattle.sq_session.specs.Cursors.{IsWhole};
+    ghost use Rattle.sq_session.specs.Schemas.{schemas_of};
     ghost use Rattle.sq_session.specs.Session.{Session, procedures_of};
 
     ghost Value = { Session };
 
     ghost coded = { Prim.hlevel (codes, base.the_row.coded, parameter.the_row.coded, column.the_row.coded, condition.the_row.coded, predicate.the_row.coded, specification.the_row.coded, expression.the_row.coded, query.the_row.coded, term.the_row.coded) };
 
-    ghost view = { λ s. record { procedures = procedures_of s.program.cursors.items s.program.procedures.entries; tables = s.catalog.tables; bases = s.catalog.bases; state = s.machine } };
+    ghost view = { λ s. record { procedures = procedures_of s.program.cursors.items s.program.procedures.entries; tables = s.catalog.tables; schemas = schemas_of s.catalog; state = s.machine } };
 
     ghost invariant = { λ s. FitsProgram s.catalog.bases s.program × ProgramIsWellFormed (column_kinds s.catalog) s.program × IsWhole (column_kinds s.catalog) s.catalog.bases s.program.cursors.items s.machine };
 }
@@ -80,7 +82,7 @@ impl<S: Store> Session<S> {
         ensures procedures { IfOk result (λ s. names_of s.procedures ≡ declared_procedures modules.now) }
         ensures written { IfOk result (λ s. AreOfModules modules.now s.procedures) }
         ensures tables { IfOk result (λ s. s.tables ≡ catalog.tables) }
-        ensures bases { IfOk result (λ s. s.bases ≡ catalog.bases) }
+        ensures schemas { IfOk result (λ s. s.schemas ≡ schemas_of catalog) }
         ensures refused { IfErr result (IsOfSomeModule (length modules.now)) }
     {
         match program_of(alloc, &catalog, modules) {
@@ -110,7 +112,7 @@ impl<S: Store> Session<S> {
         ensures procedures { IfOk result (λ s. names_of s.procedures ≡ keys_of program.procedures.entries) }
         ensures program { IfOk result (λ s. s.procedures ≡ procedures_of program.cursors.items program.procedures.entries) }
         ensures tables { IfOk result (λ s. s.tables ≡ catalog.tables) }
-        ensures bases { IfOk result (λ s. s.bases ≡ catalog.bases) }
+        ensures schemas { IfOk result (λ s. s.schemas ≡ schemas_of catalog) }
     {
         match Machine::new(alloc, store, program.cursors.len()) {
             Ok(machine) => Ok(Session {
@@ -166,12 +168,12 @@ impl<S: Store> Session<S> {
         values: &[Value],
     ) -> Result<Reply, AllocError>
         ensures step { IfOk result (λ r.
-            MayCall (kind_at self.old.procedures procedure) values.now self.old.state (record { status = r.status; outputs = r.outputs }) self.new.state) }
+            MayCall self.old.schemas (kind_at self.old.procedures procedure) values.now self.old.state (record { status = r.status; outputs = r.outputs }) self.new.state) }
         ensures kept { IfOk result (λ r. is_success r.status ≡ false → self.new.state.tables ≡ self.old.state.tables) }
         ensures procedures { self.new.procedures ≡ self.old.procedures }
         ensures tables { self.new.tables ≡ self.old.tables }
-        ensures bases { self.new.bases ≡ self.old.bases }
-        ensures in_domains { AreInDomains self.new.bases self.new.state.tables × AreInDomains self.new.bases self.new.state.committed }
+        ensures schemas { self.new.schemas ≡ self.old.schemas }
+        ensures in_domains { AreInDomains self.new.schemas.bases self.new.state.tables × AreInDomains self.new.schemas.bases self.new.state.committed }
         ensures err { OnErr result (self.new ≡ self.old) }
         ensures memory { needs_memory (kind_at self.old.procedures procedure) ≡ false → IsOk result }
     {

@@ -1,12 +1,13 @@
 //! Targets: the parameters that get the values of a row (ISO/IEC 9075:1992, 9.1).
 
-ghost use Rattle.std.specs.Prelude.{◌≡◌, ◌<◌, ◌^◌, ◌++◌, ◌∷◌, [], true, find, length, nat_eq, option_copied, unsigned_abs, IfOk, OnOk};
+ghost use Rattle.std.specs.Prelude.{◌≡◌, ◌<◌, ◌^◌, ◌++◌, ◌∷◌, [], true, find, length, nat_eq, option_copied, unsigned_abs, IfOk, IfSome, OnOk};
 ghost use Rattle.sq_value.specs.Domain.{FitsKind};
 ghost use Rattle.sq_bound.specs.Fits.{are_parameters};
 ghost use Rattle.sq_meaning.specs.Status.{and_then};
 ghost use Rattle.sq_model.specs.Machine.{single_row};
 ghost use Rattle.sq_model.specs.Parameter.{whole};
 ghost use Rattle.sq_query.specs.Fault.{Meets};
+ghost use Rattle.sq_session.specs.Step.{EndsRight, ending};
 ghost use Rattle.sq_session.specs.Target.{IsSet, MayTake, MayTakeRows, domain_at, joined, null_set, outputs_from, row_reply, row_set, set_behind, set_reply, target_set, value_set};
 
 use crate::called::Called;
@@ -33,6 +34,7 @@ struct Assignments {
 }
 
 /// Sets the targets from a row, from left to right. Where one ends with a status, none is set.
+#[tactic(auto, using(crate::proofs::Ending::set_right))]
 pub(crate) fn row_retrieved(
     called: &Called<'_>,
     targets: &[sq_bound::Output],
@@ -40,7 +42,8 @@ pub(crate) fn row_retrieved(
 ) -> Result<Done, Fault>
     requires targets { are_parameters (length called.now.procedure.now.parameters) targets.now ≡ true }
     requires row { MayTake called.now.procedure.now.parameters targets.now row.now }
-    ensures { Meets result (row_reply called.now.procedure.now.parameters targets.now row.now) }
+    ensures reply { Meets result (row_reply called.now.procedure.now.parameters targets.now row.now) }
+    ensures right { IfSome (ending result) EndsRight }
 {
     match assignments_of(called, targets, row) {
         Ok(assignments) => Ok(done(called, &assignments)?),
@@ -57,7 +60,8 @@ pub(crate) fn only_row_retrieved(
 ) -> Result<Done, Fault>
     requires targets { are_parameters (length called.now.procedure.now.parameters) select.now.outputs ≡ true }
     requires rows { MayTakeRows called.now.procedure.now.parameters select.now.outputs rows.now }
-    ensures { Meets result (and_then (single_row rows.now) (row_reply called.now.procedure.now.parameters select.now.outputs)) }
+    ensures reply { Meets result (and_then (single_row rows.now) (row_reply called.now.procedure.now.parameters select.now.outputs)) }
+    ensures right { IfSome (ending result) EndsRight }
 {
     match rows {
         [] => Err(Fault::Status(Failure::NoData)),

@@ -4,7 +4,9 @@ use Rattle.sq_bound.specs.declared.expression.BoundExpr.{BoundExpr}
 use Rattle.sq_bound.specs.declared.names.ObjectColumn.{ObjectColumn}
 use Rattle.std.specs.List.{AllByRecursion}
 use Rattle.sq_change.specs.Given.{AreStorable, FitColumns}
-use Rattle.sq_change.proofs.Storable.{gives_rows, gives_values}
+use Rattle.sq_query.specs.MayRead.{MayEnd}
+use Rattle.sq_change.proofs.Endings.{ends_so}
+use Rattle.sq_change.proofs.Storable.{gives_rows, gives_values, query_so}
 use Rattle.sq_change.proofs.given.given_rows.Goals as goal
 
 pub given_values-requires : goal.given_values-requires
@@ -13,7 +15,9 @@ given_values-requires g c =
     let insert = c.args.insert.now in
     subst (λ (columns : List ObjectColumn). AreStorable columns c.as_slice.result.now setting.parameters.now setting.user) (sym c.as_slice-columns.ensures)
     (subst (λ (values : List BoundExpr). AreStorable insert.columns values setting.parameters.now setting.user) (sym c.as_slice.ensures)
-    (gives_values (g.N.Names.column_kinds setting.names.now) setting.parameters.now setting.user insert.columns insert.source c.in-Values.values c.requires.given c.in-Values.is))
+    (gives_values (g.N.Names.base_tables setting.names.now) (g.N.Names.view_queries setting.names.now) (g.N.Names.column_kinds setting.names.now)
+    (g.S.Store.content_now setting.store.now) setting.user setting.parameters.now
+    insert.columns insert.source c.in-Values.values c.requires.given c.in-Values.is))
 
 pub stored_rows-requires : goal.stored_rows-requires
 stored_rows-requires g c =
@@ -22,4 +26,16 @@ stored_rows-requires g c =
     let rows = c.in_ok-rows-in-Query in
     subst (λ (columns : List ObjectColumn). AllByRecursion (FitColumns columns) c.as_slice-in-Query.result.now) (sym c.as_slice-columns.ensures)
     (subst (λ (found : List (List Value)). AllByRecursion (FitColumns insert.columns) found) (sym c.as_slice-in-Query.ensures.value)
-    (gives_rows (g.N.Names.column_kinds setting.names.now) setting.parameters.now insert.columns insert.source c.in-Query.query rows.rows.items c.requires.given c.in-Query.is rows.ensures.kinds))
+    (gives_rows (g.N.Names.base_tables setting.names.now) (g.N.Names.view_queries setting.names.now) (g.N.Names.column_kinds setting.names.now)
+    (g.S.Store.content_now setting.store.now) setting.user setting.parameters.now
+    insert.columns insert.source c.in-Query.query c.requires.given c.in-Query.is rows.rows.items rows.ensures.kinds))
+
+pub returns-in_err-rows-in-Query-clause-right : goal.returns-in_err-rows-in-Query-clause-right
+returns-in_err-rows-in-Query-clause-right g c =
+    let setting = c.args.setting.now in
+    let insert = c.args.insert.now in
+    let e = c.in_err-rows-in-Query.field-0.0 in
+    ends_so c.from_residual-in_err-rows-in-Query.result e c.from_residual-in_err-rows-in-Query.ensures.1
+    (query_so (g.N.Names.base_tables setting.names.now) (g.N.Names.view_queries setting.names.now) (g.N.Names.column_kinds setting.names.now)
+    (g.S.Store.content_now setting.store.now) setting.user setting.parameters.now
+    insert.columns insert.source c.in-Query.query c.requires.given c.in-Query.is (MayEnd e) c.in_err-rows-in-Query.ensures.right)

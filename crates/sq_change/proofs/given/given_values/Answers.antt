@@ -29,5 +29,5 @@ loop-column-preserved g c =
     let at : c.in-Some.column.now ≡ get_or c.args.columns.now (length c.loop-column.row) c.in-Some.column.now = rw c.loop-column.invariant.count (turn.2 c.in-Some.column.now) in
     record {
       count = grind (arith, common_steps);
-      stored = rw c.in_ok-push.ensures.ok (stored_push c.args.columns.now c.loop-column.row c.in-Some.column.now c.in_ok-stored_value.field-0 c.loop-column.invariant.stored at c.in_ok-stored_value.ensures);
+      stored = rw c.in_ok-push.ensures.ok (stored_push c.args.columns.now c.loop-column.row c.in-Some.column.now c.in_ok-stored_value.field-0 c.loop-column.invariant.stored at c.in_ok-stored_value.ensures.in_domain);
     }

@@ -13,5 +13,5 @@ loop-place-preserved g c = record {
   wide = grind (arith, common_steps);
   in_domains = rw c.in_ok-push.ensures.ok
       (pushed_in c.args.table.now.columns c.loop-place.place c.loop-place.row c.column-item.result c.in_ok-value_or_default.field-0
-      (rw (← c.as_slice-column-items.ensures) c.loop-place-test.true) (rw (← c.as_slice-column-items.ensures) c.column-item.is) c.loop-place.invariant.in_domains c.in_ok-value_or_default.ensures);
+      (rw (← c.as_slice-column-items.ensures) c.loop-place-test.true) (rw (← c.as_slice-column-items.ensures) c.column-item.is) c.loop-place.invariant.in_domains c.in_ok-value_or_default.ensures.in_domain);
 }

@@ -1,3 +1,4 @@
+use Rattle.sq_change.proofs.Endings.{ends_so, user_ends}
 use Rattle.sq_change.proofs.Storable.{user_fits}
 use Rattle.sq_change.proofs.given.value_or_default.Goals as goal
 
@@ -6,3 +7,10 @@ assigned-requires-clause-kind g c =
     let column = c.args.column.now in
     let setting = c.args.setting.now in
     user_fits column.domain column.default c.in_ok-user-in-User.user setting.parameters.now setting.user column.default_is c.in-User.is c.in_ok-user-in-User.ensures
+
+pub returns-in_err-user-in-User-clause-right : goal.returns-in_err-user-in-User-clause-right
+returns-in_err-user-in-User-clause-right g c =
+    let setting = c.args.setting.now in
+    let e = c.in_err-user-in-User.field-0.0 in
+    ends_so c.from_residual-in_err-user-in-User.result e c.from_residual-in_err-user-in-User.ensures.1
+    (user_ends e setting.parameters.now setting.user c.in_err-user-in-User.ensures)

@@ -1,5 +1,18 @@
 use Rattle.sq_change.proofs.Applied.{replaced_few}
+use Rattle.sq_change.proofs.Endings.{ends_so}
+use Rattle.sq_change.proofs.OnRows.{leaf_well}
 use Rattle.sq_change.proofs.statement.update.Goals as goal
 
 pub complete-requires-clause-numbers : goal.complete-requires-clause-numbers
 complete-requires-clause-numbers g c = replaced_few c.args.update.now.target c.args.on c.in_ok-changed.changed.changes.items _ c.in_ok-changed.ensures.replacements
+
+pub returns-in_err-changed-clause-right : goal.returns-in_err-changed-clause-right
+returns-in_err-changed-clause-right g c = λ parameters tables may well assigned.
+    let is = c.new-setting.ensures in
+    ends_so c.from_residual.result c.in_err-changed.field-0.0 c.from_residual.ensures.1
+    (c.in_err-changed.ensures.right parameters tables (rw (is.names, is.store, is.user, is.parameters) may) (rw is.names well))
+
+pub returns-clause-right : goal.returns-clause-right
+returns-clause-right g c = λ parameters tables may well assigned.
+    c.complete.ensures.right parameters tables may
+    (rw c.leaf_under-leaf.ensures (leaf_well (g.N.Names.column_kinds c.args.names.now) parameters c.args.update.now.target well))

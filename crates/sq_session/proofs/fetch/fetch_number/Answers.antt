@@ -37,11 +37,11 @@ returns-in-Ok-clause-comes g c =
     let called = c.args.called.now in
     let reached = c.in-Some.reached in
     comes_to_row (fetching called.cursors.now called.procedure.now.user called.procedure.now.parameters c.args.fetch.now) (g.S.Store.content_now c.args.store.now) c.args.cursor.now c.updatable_query-query.result.now.columns
-    reached.passed reached.number reached.row.now c.in-Ok.done (columns_are called.cursors.now c.args.fetch.now.cursor c.updatable_query-query.result.now c.updatable_query-query.ensures) c.in-Some.ensures.next.0 c.in-Some.ensures.next.1 c.in-Some.ensures.row c.in-Ok.ensures
+    reached.passed reached.number reached.row.now c.in-Ok.done (columns_are called.cursors.now c.args.fetch.now.cursor c.updatable_query-query.result.now c.updatable_query-query.ensures) c.in-Some.ensures.next.0 c.in-Some.ensures.next.1 c.in-Some.ensures.row c.in-Ok.ensures.reply
 
 pub returns-in-Err-clause-comes : goal.returns-in-Err-clause-comes
 returns-in-Err-clause-comes g c =
     let called = c.args.called.now in
     let reached = c.in-Some.reached in
     comes_to_fault (fetching called.cursors.now called.procedure.now.user called.procedure.now.parameters c.args.fetch.now) (g.S.Store.content_now c.args.store.now) c.args.cursor.now c.updatable_query-query.result.now.columns
-    reached.passed reached.number reached.row.now c.in-Err.fault (columns_are called.cursors.now c.args.fetch.now.cursor c.updatable_query-query.result.now c.updatable_query-query.ensures) c.in-Some.ensures.next.0 c.in-Some.ensures.next.1 c.in-Some.ensures.row c.in-Err.ensures
+    reached.passed reached.number reached.row.now c.in-Err.fault (columns_are called.cursors.now c.args.fetch.now.cursor c.updatable_query-query.result.now c.updatable_query-query.ensures) c.in-Some.ensures.next.0 c.in-Some.ensures.next.1 c.in-Some.ensures.row c.in-Err.ensures.reply

@@ -63,7 +63,7 @@ returns-in-Ok-clause-comes g c =
     let meant = rw c.in-Some.is at c.in_ok-number.ensures.meant in
     let next = next_is fetch (table_at tables c.args.walk.now.table) c.args.walk.now (conditions_of query.target) (Some row)
     (conditions_are called.cursors.now c.args.fetch.now.cursor query c.updatable_query-query.ensures) meant in
-    walks_on fetch tables c.args.walk.now query.columns row _ (columns_are called.cursors.now c.args.fetch.now.cursor query c.updatable_query-query.ensures) next c.in-Ok.ensures
+    walks_on fetch tables c.args.walk.now query.columns row _ (columns_are called.cursors.now c.args.fetch.now.cursor query c.updatable_query-query.ensures) next c.in-Ok.ensures.reply
 
 pub returns-in-Err-clause-comes : goal.returns-in-Err-clause-comes
 returns-in-Err-clause-comes g c =
@@ -75,4 +75,4 @@ returns-in-Err-clause-comes g c =
     let meant = rw c.in-Some.is at c.in_ok-number.ensures.meant in
     let next = next_is fetch (table_at tables c.args.walk.now.table) c.args.walk.now (conditions_of query.target) (Some row)
     (conditions_are called.cursors.now c.args.fetch.now.cursor query c.updatable_query-query.ensures) meant in
-    walks_not fetch tables c.args.walk.now query.columns row c.in-Err.fault (columns_are called.cursors.now c.args.fetch.now.cursor query c.updatable_query-query.ensures) next c.in-Err.ensures
+    walks_not fetch tables c.args.walk.now query.columns row c.in-Err.fault (columns_are called.cursors.now c.args.fetch.now.cursor query c.updatable_query-query.ensures) next c.in-Err.ensures.reply

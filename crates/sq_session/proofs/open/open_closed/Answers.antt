@@ -4,8 +4,10 @@ use Rattle.std.proofs.lemmas.Option.{slice_get-get_or}
 use Rattle.sq_bound.specs.WellFormed.{kinds_of_parameters}
 use Rattle.sq_catalog.specs.Catalog.{column_kinds}
 use Rattle.sq_session.specs.Kind.{Over, opening, over_of}
+use Rattle.sq_session.specs.Schemas.{schemas_of}
 use Rattle.sq_session.specs.State.{State}
 use Rattle.sq_session.proofs.Asking.{cursor_there}
+use Rattle.sq_session.proofs.Ending.{fault_right}
 use Rattle.sq_session.proofs.Kept.{put_kept}
 use Rattle.sq_session.proofs.Opened.{opens, opens_not}
 use Rattle.sq_session.proofs.open.open_closed.Goals as goal
@@ -17,7 +19,7 @@ returns-in-Ok-clause-step g c =
     let declared = get_or called.cursors.now number c.index-called-number.result in
     let found : slice_get called.cursors.now number ≡ Some declared = slice_get-get_or called.cursors.now number c.index-called-number.result c.requires.there in
     let before : State = record { tables = g.S.Store.content_now c.args.store.now; committed = g.S.Store.committed c.args.store.now; keys = g.S.Store.key_columns c.args.store.now; cursors = c.args.cursors.now } in
-    opens (opening called.cursors.now called.procedure.now.user called.procedure.now.parameters number) (over_of declared.cursor.body) declared.cursor.body called.values.now before _ c.in-Ok.cursor c.successful.result
+    opens (schemas_of called.catalog.now) (opening called.cursors.now called.procedure.now.user called.procedure.now.parameters number) (over_of declared.cursor.body) declared.cursor.body called.values.now before _ c.in-Ok.cursor c.successful.result
     (ap (λ o. option_map_or (λ d. over_of d.cursor.body) o Over.rows) found) (ap (λ o. option_map (λ d. d.cursor.body) o) found) c.in-Ok.ensures.opened c.successful.ensures refl
 
 pub returns-in-Err-clause-step : goal.returns-in-Err-clause-step
@@ -27,7 +29,7 @@ returns-in-Err-clause-step g c =
     let declared = get_or called.cursors.now number c.index-called-number.result in
     let found : slice_get called.cursors.now number ≡ Some declared = slice_get-get_or called.cursors.now number c.index-called-number.result c.requires.there in
     let before : State = record { tables = g.S.Store.content_now c.args.store.now; committed = g.S.Store.committed c.args.store.now; keys = g.S.Store.key_columns c.args.store.now; cursors = c.args.cursors.now } in
-    opens_not (opening called.cursors.now called.procedure.now.user called.procedure.now.parameters number) (over_of declared.cursor.body) declared.cursor.body called.values.now before c.in-Err.fault
+    opens_not (schemas_of called.catalog.now) (opening called.cursors.now called.procedure.now.user called.procedure.now.parameters number) (over_of declared.cursor.body) declared.cursor.body called.values.now before c.in-Err.fault
     (ap (λ o. option_map_or (λ d. over_of d.cursor.body) o Over.rows) found) (ap (λ o. option_map (λ d. d.cursor.body) o) found) c.in-Err.ensures.opened
 
 pub opened-requires-clause-asked : goal.opened-requires-clause-asked
@@ -38,3 +40,6 @@ opened-requires-clause-asked g c =
 pub returns-in-Ok-clause-kept : goal.returns-in-Ok-clause-kept
 returns-in-Ok-clause-kept g c =
     put_kept (column_kinds c.args.called.now.catalog.now) c.args.called.now.cursors.now c.args.cursors.now c.args.number c.index-called-number.result c.in-Ok.cursor c.requires.kept c.in-Ok.ensures.kept
+
+pub returns-in-Err-clause-right : goal.returns-in-Err-clause-right
+returns-in-Err-clause-right g c = fault_right c.in-Err.fault c.in-Err.ensures.right

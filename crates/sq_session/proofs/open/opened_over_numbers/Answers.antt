@@ -1,16 +1,42 @@
+use Rattle.std.proofs.Common.{List, subst, sym}
+use Rattle.sq_value.specs.declared.value.Value.{Value}
+use Rattle.sq_bound.specs.WellFormed.{kinds_of_parameters}
+use Rattle.sq_session.specs.Parameter.{AreGiven}
+use Rattle.sq_session.specs.Schemas.{schemas_of}
 use Rattle.sq_session.proofs.Opened.{numbers_answered, over_fault_of_numbers, over_numbers}
+use Rattle.sq_session.proofs.Reading.{may_read, some_tables}
 use Rattle.sq_session.proofs.open.opened_over_numbers.Goals as goal
 
-pub returns-in-Ok : goal.returns-in-Ok
-returns-in-Ok g c =
+pub returns-in-Ok-clause-opened : goal.returns-in-Ok-clause-opened
+returns-in-Ok-clause-opened g c =
     let called = c.args.called.now in
+    let schemas = schemas_of called.catalog.now in
+    let kinds = kinds_of_parameters called.procedure.now.parameters in
+    let inputs = c.inputs.result in
+    let given = subst (λ (vs : List Value). AreGiven kinds vs) (sym c.inputs.ensures.parameters) c.requires.given in
     let tables = g.S.Store.content_now c.args.store.now in
-    over_numbers c.args.target.now called.procedure.now.user called.values.now tables c.from_vec.result
-    (numbers_answered c.args.target.now c.inputs.result.user called.procedure.now.user c.inputs.result.parameters.now called.values.now tables c.in-Ok.numbers c.from_vec.result
-    c.inputs.ensures.user c.inputs.ensures.parameters c.from_vec.ensures c.in-Ok.ensures.scan)
+    over_numbers schemas c.args.target.now called.procedure.now.user called.values.now tables c.from_vec.result
+    (numbers_answered schemas c.args.target.now inputs.user called.procedure.now.user inputs.parameters.now called.values.now tables c.in-Ok.numbers c.from_vec.result
+    c.inputs.ensures.user c.inputs.ensures.parameters c.from_vec.ensures
+    (λ keyless shown are. c.in-Ok.ensures.meant keyless kinds shown (may_read called.catalog.now tables inputs.user kinds inputs.parameters.now given c.requires.domains shown are) c.requires.asked))
 
-pub returns-in-Err : goal.returns-in-Err
-returns-in-Err g c =
+pub returns-in-Err-clause-opened : goal.returns-in-Err-clause-opened
+returns-in-Err-clause-opened g c =
     let called = c.args.called.now in
-    over_fault_of_numbers c.args.target.now c.inputs.result.user called.procedure.now.user c.inputs.result.parameters.now called.values.now (g.S.Store.content_now c.args.store.now) c.in-Err.fault
-    c.inputs.ensures.user c.inputs.ensures.parameters c.in-Err.ensures.scan
+    let schemas = schemas_of called.catalog.now in
+    let kinds = kinds_of_parameters called.procedure.now.parameters in
+    let inputs = c.inputs.result in
+    let given = subst (λ (vs : List Value). AreGiven kinds vs) (sym c.inputs.ensures.parameters) c.requires.given in
+    let tables = g.S.Store.content_now c.args.store.now in
+    over_fault_of_numbers schemas c.args.target.now inputs.user called.procedure.now.user inputs.parameters.now called.values.now tables c.in-Err.fault
+    c.inputs.ensures.user c.inputs.ensures.parameters
+    (λ keyless shown are. c.in-Err.ensures.meant keyless kinds shown (may_read called.catalog.now tables inputs.user kinds inputs.parameters.now given c.requires.domains shown are) c.requires.asked)
+
+pub returns-in-Err-clause-right : goal.returns-in-Err-clause-right
+returns-in-Err-clause-right g c =
+    let called = c.args.called.now in
+    let kinds = kinds_of_parameters called.procedure.now.parameters in
+    let inputs = c.inputs.result in
+    let given = subst (λ (vs : List Value). AreGiven kinds vs) (sym c.inputs.ensures.parameters) c.requires.given in
+    let some = some_tables called.catalog.now (g.S.Store.content_now c.args.store.now) inputs.user kinds inputs.parameters.now given c.requires.domains in
+    c.in-Err.ensures.right kinds some.0 some.1 c.requires.asked

@@ -1,0 +1,11 @@
+use Rattle.sq_change.proofs.Endings.{ends_so}
+use Rattle.sq_change.proofs.given.rows_found.Goals as goal
+
+pub returns-in_err-rows-clause-right : goal.returns-in_err-rows-clause-right
+returns-in_err-rows-clause-right g c = λ parameters tables may well.
+    ends_so c.from_residual.result c.in_err-rows.field-0.0 c.from_residual.ensures.1
+    (c.in_err-rows.ensures.right parameters tables (rw (c.inputs.ensures.user, c.inputs.ensures.parameters) may) well)
+
+pub returns-clause-kinds : goal.returns-clause-kinds
+returns-clause-kinds g c = λ parameters tables may well.
+    c.in_ok-rows.ensures.kinds parameters tables (rw (c.inputs.ensures.user, c.inputs.ensures.parameters) may) well
