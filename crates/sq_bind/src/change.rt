@@ -11,8 +11,6 @@ ghost use Rattle.sq_bound.specs.WellFormed.{IsAssignment, IsChangeTarget, IsLeaf
 ghost use Rattle.sq_scope.specs.WellFormed.{AreLevelsIn, IsItemOver};
 ghost use Rattle.sq_scope.specs.declared.findings.Found.{Found as FoundPart};
 ghost use Rattle.sq_value.specs.declared.domain.Kind.{Kind as KindOf};
-ghost use Rattle.sq_meaning.specs.Environment.{same_table};
-ghost use Rattle.sq_meaning.specs.Spelled.{table_of};
 ghost use Rattle.sq_bind.specs.Written.{IsTargetOf, IsUnder};
 ghost use Rattle.sq_bind.specs.WellFormed.{AreReceivers, IsInsertedQuery, IsNewValueIn, IsOutermost, IsStoredIn, objects_of};
 
@@ -20,7 +18,7 @@ use crate::cursors::Cursors;
 use crate::updatable::{Under, bind_target, under_table};
 use sq_bound::{
     Action, BindFault, BoundAssignment, BoundExpr, BoundInsert, BoundUpdate, ChangeTarget,
-    InsertedRows, Names, ObjectColumn, PositionedTarget, ResultColumn, TableDesc, Target,
+    InsertedRows, Names, ObjectColumn, PositionedTarget, ResultColumn, Target,
 };
 use sq_items::Items;
 use sq_lex::Name;
@@ -46,37 +44,11 @@ fn changed_table<N: Names>(
     ensures leaf { IfOk result (λ under. IsLeaf (N.column_kinds names.now) under.leaf.now) }
     ensures named { IfOk result (λ under. IsUnder user written under.leaf.now) }
 {
-    named_under(named_table(names, user, written)?, &user, &written)
-}
-
-/// What is under a table that has the name that is written in a text of the user.
-fn named_under<'a>(
-    table: &'a TableDesc,
-    user: &Name,
-    written: &TableName,
-) -> Result<Under<'a>, BindFault>
-    ensures leaf { IfOk result (λ under. table.now.leaf ≡ Some under.leaf.now) }
-    ensures table { IfOk result (λ under. under.table.now ≡ table.now) }
-    ensures named { IfOk result (λ under. IsUnder user.now written.now under.leaf.now) }
-{
-    if !is_of_name(table, user, written) {
-        return Err(BindFault::UnknownTable);
-    }
+    let table = named_table(names, user, written)?;
     match under_table(table) {
         Some(under) => Ok(under),
         None => Err(BindFault::NotUpdatable),
     }
-}
-
-/// Whether a table has the name that is written in a text of the user.
-fn is_of_name(table: &TableDesc, user: &Name, written: &TableName) -> bool
-    ensures { result ≡ same_table (table_of user.now written.now) (record { user = table.now.user; name = table.now.name }) }
-{
-    let owner = match &written.schema {
-        Some(owner) => owner,
-        None => user,
-    };
-    *owner == table.user && written.table == table.name
 }
 
 /// A column that gets values: its position in the table that is named, and the column of the base table that it is.

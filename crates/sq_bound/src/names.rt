@@ -52,7 +52,8 @@ pub trait Names {
     fn table(&self, user: Name, name: Name) -> Option<&TableDesc>
         ensures over { IfSome result (λ t. IsOver (base_tables self.now) t.now) }
         ensures view { IfSome result (λ t. IsViewAmong (view_queries self.now) t.now.body) }
-        ensures well_formed { IfSome result (λ t. IsTable (column_kinds self.now) t.now) };
+        ensures well_formed { IfSome result (λ t. IsTable (column_kinds self.now) t.now) }
+        ensures named { IfSome result (λ t. (t.now.user ≡ user) × (t.now.name ≡ name)) };
 
     /// The base table or view at this place.
     fn at(&self, place: TablePlace) -> Option<&TableDesc>

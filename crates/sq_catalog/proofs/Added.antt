@@ -15,7 +15,7 @@ use Rattle.sq_bound.specs.declared.condition.TablePlace.TheVariants.{Base, View}
 use Rattle.sq_bound.specs.declared.names.BaseTable.{BaseTable}
 use Rattle.sq_bound.specs.declared.names.TableDesc.{TableDesc}
 use Rattle.sq_catalog.specs.Catalog.{AreViewQueries, Catalog, bases_there, column_kinds, kinds_at, known_there, there_within}
-use Rattle.sq_catalog.specs.Stored.{AreDescribed, AreStored, AreTables, IsNext, IsNextView, IsStored, StandFrom, StandsAt, queries_of}
+use Rattle.sq_catalog.specs.Stored.{AreDescribed, AreNamed, AreStored, AreTables, IsNamed, IsNext, IsNextView, IsStored, StandFrom, StandsAt, queries_of}
 use Rattle.sq_catalog.proofs.ViewQueries.{queries_long, stand_all}
 use Rattle.sq_catalog.specs.declared.catalog.FullName.{FullName}
 use Rattle.sq_catalog.proofs.Extending.{tables_more}
@@ -40,7 +40,7 @@ stand_behind at es e h p = let same : length es ≡ 0 + length es = omega arith 
 
 -- a view more, or none
 pub stand_added : {F : Type 0} (r : Result (Unit {0}) F) (c : Catalog) (old new : List (FullName × TableDesc)) (name : FullName) (t : TableDesc)
-    → OnOk r (new ≡ old ++ (name, t) ∷ []) → OnErr r (new ≡ old) → queries_of old ≡ c.views → IsNextView c t → StandFrom View 0 old → StandFrom View 0 new
+    → OnOk r (new ≡ old ++ (name, t) ∷ []) → OnErr r (new ≡ old) → queries_of old ≡ c.views → IsNextView c name t → StandFrom View 0 old → StandFrom View 0 new
 stand_added (Ok u) c old new name t added same v h all =
     let count : length c.views ≡ length old = ap length (sym v) ∙ queries_long 0 old all in
     subst (StandFrom View 0) (sym added) (stand_behind View old (name, t) all (h.place ∙ ap View count))
@@ -86,9 +86,10 @@ view_found c d o es place e own stand found known =
 abbrev pub AreWhole : List (FullName × TableDesc) → List BaseTable → List (FullName × TableDesc) → Type 0
 AreWhole views bs es =
     AreStored bs es × AreStored bs views × AreTables (kinds_at bs (queries_of views)) es × AreTables (kinds_at bs (queries_of views)) views × AreDescribed bs es × StandFrom Base 0 es × StandFrom View 0 views
+    × AreNamed es × AreNamed views
 
 whole_more : (views : List (FullName × TableDesc)) (bs : List BaseTable) (es : List (FullName × TableDesc)) (name : FullName) (t : TableDesc) (b : BaseTable)
-    → IsNext bs t b → AreWhole views bs es → AreWhole views (bs ++ b ∷ []) (es ++ (name, t) ∷ [])
+    → IsNext bs name t b → AreWhole views bs es → AreWhole views (bs ++ b ∷ []) (es ++ (name, t) ∷ [])
 whole_more views bs es name t b next h =
     let kinds : List BoundSpecification = queries_of views in (
       all_with (λ (e : FullName × TableDesc). IsStored (bs ++ b ∷ []) e.1) es (name, t) (all_stored_added bs (bs ++ b ∷ []) b es refl h.0) next.stored,
@@ -98,17 +99,19 @@ whole_more views bs es name t b next h =
       AllZip-push (λ (x : BaseTable) (e : FullName × TableDesc). base_kinds x ≡ kinds_of_columns e.1.columns) bs es b (name, t) h.4 next.kinds,
       stand_behind Base es (name, t) h.5 (next.place ∙ ap Base (described_long bs es h.4)),
       h.6,
+      all_with (λ (e : FullName × TableDesc). IsNamed e.0 e.1) es (name, t) h.7 next.named,
+      h.8,
     )
 
 pub whole_added : {F : Type 0} (r : Result (Unit {0}) F) (views : List (FullName × TableDesc)) (was bs bs' : List BaseTable) (es es' : List (FullName × TableDesc)) (name : FullName) (t : TableDesc) (b : BaseTable)
-    → OnOk r (es' ≡ es ++ (name, t) ∷ []) → OnOk r (bs' ≡ bs ++ b ∷ []) → OnErr r ((es' ≡ es) × (bs' ≡ bs)) → bs ≡ was → IsNext was t b → AreWhole views bs es → AreWhole views bs' es'
+    → OnOk r (es' ≡ es ++ (name, t) ∷ []) → OnOk r (bs' ≡ bs ++ b ∷ []) → OnErr r ((es' ≡ es) × (bs' ≡ bs)) → bs ≡ was → IsNext was name t b → AreWhole views bs es → AreWhole views bs' es'
 whole_added r views was bs bs' es es' name t b entries bases unchanged same next h =
-    both_added (AreWhole views) r bs bs' es es' b (name, t) entries bases unchanged (whole_more views bs es name t b (subst (λ (xs : List BaseTable). IsNext xs t b) (sym same) next) h) h
+    both_added (AreWhole views) r bs bs' es es' b (name, t) entries bases unchanged (whole_more views bs es name t b (subst (λ (xs : List BaseTable). IsNext xs name t b) (sym same) next) h) h
 
 pub refer_whole : {F : Type 0} (r : Result (Unit {0}) F) (was bs bs' : List BaseTable) (es es' : List (FullName × TableDesc)) (name : FullName) (t : TableDesc) (b : BaseTable)
-    → OnOk r (es' ≡ es ++ (name, t) ∷ []) → OnOk r (bs' ≡ bs ++ b ∷ []) → OnErr r ((es' ≡ es) × (bs' ≡ bs)) → bs ≡ was → IsNext was t b → all_refer bs ≡ true → all_refer bs' ≡ true
+    → OnOk r (es' ≡ es ++ (name, t) ∷ []) → OnOk r (bs' ≡ bs ++ b ∷ []) → OnErr r ((es' ≡ es) × (bs' ≡ bs)) → bs ≡ was → IsNext was name t b → all_refer bs ≡ true → all_refer bs' ≡ true
 refer_whole r was bs bs' es es' name t b entries bases unchanged same next h =
-    let here : IsNext bs t b = subst (λ (xs : List BaseTable). IsNext xs t b) (sym same) next in
+    let here : IsNext bs name t b = subst (λ (xs : List BaseTable). IsNext xs name t b) (sym same) next in
     both_added (λ xs ys. all_refer xs ≡ true) r bs bs' es es' b (name, t) entries bases unchanged (refer_more bs b h here.refer) h
 
 -- ---- the views' queries

@@ -110,9 +110,9 @@ base_body columns b kinds (body.Base own) h = tt
 base_body columns b kinds (body.View v) h = absurd h
 
 -- as names see it
-pub table_made : (bases : List BaseTable) (b : BaseTable) (columns : List Column) (views : List BoundSpecification) (t : TableDesc) → IsDescribed b columns t → b.place ≡ length bases → kinds_of_columns columns ≡ base_kinds b
+pub table_made : (bases : List BaseTable) (name : FullName) (b : BaseTable) (columns : List Column) (views : List BoundSpecification) (t : TableDesc) → IsDescribed name b columns t → b.place ≡ length bases → kinds_of_columns columns ≡ base_kinds b
     → AreChecksAt (length bases) (kinds_of_columns columns) b.checks → IsTable (kinds_at (bases ++ b ∷ []) views) t
-table_made bases b columns views t h place kinds checks =
+table_made bases name b columns views t h place kinds checks =
     let seen : kinds_of_columns t.columns ≡ base_kinds b = ap kinds_of_columns h.columns ∙ kinds in
     record {
       kinds_are = place_kinds (kinds_at (bases ++ b ∷ []) views) b (kinds_of_columns t.columns) t.body h.body (own_kinds bases b views place ∙ ap Ok (sym seen));
@@ -156,8 +156,8 @@ last_kinds : (bases : List BaseTable) (views : List BoundSpecification) (columns
 last_kinds bases views columns kinds (body.Base own) h = absurd h
 last_kinds bases views columns kinds (body.View v) h = ap (λ o. well_formed (option_map kinds_of_select o)) (get_behind views v.query (length views) refl) ∙ ap Ok (sym h.1)
 
-pub view_made : (c : Catalog) (t : TableDesc) → IsNextView c t → IsTable (kinds_at c.bases (c.views ++ query_in t.body)) t
-view_made c t h =
+pub view_made : (c : Catalog) (name : FullName) (t : TableDesc) → IsNextView c name t → IsTable (kinds_at c.bases (c.views ++ query_in t.body)) t
+view_made c name t h =
     let after : TableKinds = kinds_at c.bases (c.views ++ query_in t.body) in
     let extends : Extends (column_kinds c) after = views_extend c.bases c.views t.body in
     record {
@@ -168,13 +168,13 @@ view_made c t h =
 
 -- the view that was added stands among the others
 pub view_beside : {F : Type 0} (r : Result (Unit {0}) F) (c : Catalog) (bases : List BaseTable) (old new : List (FullName × TableDesc)) (name : FullName) (t : TableDesc)
-    → OnOk r (new ≡ old ++ (name, t) ∷ []) → OnErr r (new ≡ old) → bases ≡ c.bases → queries_of old ≡ c.views → IsNextView c t
+    → OnOk r (new ≡ old ++ (name, t) ∷ []) → OnErr r (new ≡ old) → bases ≡ c.bases → queries_of old ≡ c.views → IsNextView c name t
     → AreTables (kinds_at bases (queries_of old)) old → AreTables (kinds_at bases (queries_of new)) new
 view_beside (Ok u) c bases old new name t added same b v h all =
     let qs : List BoundSpecification = queries_of old ++ query_in t.body in
     let grown : queries_of new ≡ qs = ap queries_of added ∙ views_added old name t in
     let here : IsTable (kinds_at bases qs) t =
-    subst (λ (bs : List BaseTable). IsTable (kinds_at bs qs) t) (sym b) (subst (λ (vs : List BoundSpecification). IsTable (kinds_at c.bases (vs ++ query_in t.body)) t) (sym v) (view_made c t h)) in
+    subst (λ (bs : List BaseTable). IsTable (kinds_at bs qs) t) (sym b) (subst (λ (vs : List BoundSpecification). IsTable (kinds_at c.bases (vs ++ query_in t.body)) t) (sym v) (view_made c name t h)) in
     let wide : AreTables (kinds_at bases qs) old = tables_wider (kinds_at bases (queries_of old)) (kinds_at bases qs) old (views_extend bases (queries_of old) t.body) all in
     subst (λ (vs : List BoundSpecification). AreTables (kinds_at bases vs) new) (sym grown)
     (subst (λ (vs : List (FullName × TableDesc)). AreTables (kinds_at bases qs) vs) (sym added) (all_with (λ (e : FullName × TableDesc). IsTable (kinds_at bases qs) e.1) old (name, t) wide here))

@@ -1,9 +1,12 @@
 -- Tables and views that stand over base tables, and references to their keys, as base tables are added.
-use Rattle.std.proofs.Common.{◌≡◌, ℕ, zero, suc, ◌<◌, true, nat_lt, List, [], ◌∷◌, ◌++◌, length, get_or, Some, Result, Ok, Err, IfOk, refl, ap, sym, subst, ◌∙◌, arith}
+use Rattle.std.proofs.Common.{◌≡◌, ℕ, zero, suc, ◌<◌, true, nat_eq, nat_lt, List, [], ◌∷◌, ◌++◌, length, get_or, Some, Result, Ok, Err, IfOk, refl, ap, sym, subst, ◌∙◌, arith}
+use Rattle.std.specs.Cmp.Lexicographic.{pointwise, same_text}
 use Rattle.std.specs.List.{list_all, slice_get}
+use Rattle.std.specs.Map.{lookup_key}
 use Rattle.std.proofs.lemmas.Bool.{and_parts}
 use Rattle.std.proofs.lemmas.List.{length-map, map-append}
 use Rattle.std.proofs.lemmas.List.Elements.{All-get_or, All-weaker}
+use Rattle.std.proofs.lemmas.Map.Made.{lookup_key_passes}
 use Rattle.std.proofs.lemmas.Option.{IfSome_then, slice_get_within, get_or_from_slice_get}
 use Rattle.sq_store.specs.Keys.{Keys, keys_at}
 use Rattle.sq_bound.specs.Fits.{IsBase, all_refer, keys_of_bases, refers}
@@ -19,8 +22,9 @@ use Rattle.sq_bound.specs.declared.names.Reference.{Reference}
 use Rattle.sq_bound.specs.declared.names.TableBody.{TableBody}
 use Rattle.sq_bound.specs.declared.names.TableBody.TheVariants as body
 use Rattle.sq_bound.specs.declared.names.TableDesc.{TableDesc}
+use Rattle.sq_catalog.specs.Catalog.{is_table}
 use Rattle.sq_catalog.specs.Reference.{is_to, keys_with}
-use Rattle.sq_catalog.specs.Stored.{AreChecksAt, AreStored, IsBody, IsDescribed, IsNext, IsStored, IsTableOf}
+use Rattle.sq_catalog.specs.Stored.{AreChecksAt, AreNamed, AreStored, IsBody, IsDescribed, IsNamed, IsNext, IsStored, IsTableOf}
 use Rattle.sq_catalog.specs.declared.catalog.FullName.{FullName}
 use Rattle.sq_catalog.proofs.Listed.{all_push, all_weaker, get_behind, get_more, is_below}
 use Rattle.sq_catalog.proofs.Extending.{table_made}
@@ -51,6 +55,15 @@ pub stored_at : (bases : List BaseTable) (es : List (FullName × TableDesc)) (pl
 stored_at bases es place name t h there =
     let within : place < length es = slice_get_within es place (name, t) there in
     subst (λ (e : FullName × TableDesc). IsStored bases e.1) (get_or_from_slice_get es place (name, t) (name, t) there) (All-get_or (λ (e : FullName × TableDesc). IsStored bases e.1) es place (name, t) within h)
+
+-- the one that is found under a name
+pub named_at : (es : List (FullName × TableDesc)) (place : ℕ) (name found : FullName) (t : TableDesc) → AreNamed es → slice_get es place ≡ Some (found, t) → lookup_key (is_table name.user name.name) es ≡ Some found → IsNamed name t
+named_at es place name found t h there key =
+    let own : IsNamed found t =
+    subst (λ (e : FullName × TableDesc). IsNamed e.0 e.1) (get_or_from_slice_get es place (found, t) (found, t) there)
+    (All-get_or (λ (e : FullName × TableDesc). IsNamed e.0 e.1) es place (found, t) (slice_get_within es place (found, t) there) h) in
+    let same = and_parts (pointwise nat_eq name.user found.user) (pointwise nat_eq name.name found.name) (lookup_key_passes (is_table name.user name.name) es found key) in
+    (own.0 ∙ sym (same_text name.user found.user (sym same.0)), own.1 ∙ sym (same_text name.name found.name (sym same.1)))
 
 -- ---- references to keys
 
@@ -109,18 +122,19 @@ place_made : (b : BaseTable) (t : TableBody) → IsTableOf b t → place_of t �
 place_made b (body.Base own) h = ap (λ (y : BaseTable). Base y.place) h
 place_made b (body.View v) h = absurd h
 
-pub next_made : (bases : List BaseTable) (b : BaseTable) (columns : List Column) (width : ℕ) (t : TableDesc) → IsDescribed b columns t → b.place ≡ length bases → kinds_of_columns columns ≡ base_kinds b
-    → AreChecksAt (length bases) (kinds_of_columns columns) b.checks → list_all (is_to (keys_with bases b.keys) width) b.references ≡ true → IsNext bases t b
-next_made bases b columns width t h place kinds checks refer =
+pub next_made : (bases : List BaseTable) (name : FullName) (b : BaseTable) (columns : List Column) (width : ℕ) (t : TableDesc) → IsDescribed name b columns t → b.place ≡ length bases → kinds_of_columns columns ≡ base_kinds b
+    → AreChecksAt (length bases) (kinds_of_columns columns) b.checks → list_all (is_to (keys_with bases b.keys) width) b.references ≡ true → IsNext bases name t b
+next_made bases name b columns width t h place kinds checks refer =
     let count : length columns ≡ length b.columns = sym (length-map columns (λ (c : Column). c.kind)) ∙ ap length kinds ∙ length-map b.columns (λ (c : BaseColumn). kind_of c.domain) in
     record {
+      named = h.named;
       stored = record {
         over = IfSome_then t.leaf {P = λ (l : Leaf). (l.table ≡ b) × (l.conditions ≡ [])} {Q = λ (l : Leaf). IsBase (bases ++ b ∷ []) l.table} h.leaf
             (λ l same. subst (λ (y : BaseTable). IsBase (bases ++ b ∷ []) y) (sym same.0) (base_behind bases b place));
         body = body_made (bases ++ b ∷ []) b (length t.columns) t.body (base_behind bases b place) (ap length h.columns ∙ count) h.body;
       };
       place = place_made b t.body h.body ∙ ap Base place;
-      table = λ views. table_made bases b columns views t h place kinds checks;
+      table = λ views. table_made bases name b columns views t h place kinds checks;
       kinds = sym kinds ∙ ap kinds_of_columns (sym h.columns);
       refer = refer_made bases b width b.references refer;
     }
@@ -143,8 +157,8 @@ pub by_keys_at : (keys : List Keys) (n m : ℕ) (rs : List Reference) → n ≡ 
 by_keys_at keys n m rs e h = by_keys keys n rs (ap (λ k. list_all (is_to keys k) rs) e ∙ h)
 
 -- a base table that is made with the table as names see it
-pub next_of : {E : Type 0} (bases : List BaseTable) (columns : List Column) (width : ℕ) (b : BaseTable) (r : Result (TableDesc × BaseTable) E) → IfOk r (λ new. new.1 ≡ b) → IfOk r (λ new. IsDescribed b columns new.0)
+pub next_of : {E : Type 0} (bases : List BaseTable) (name : FullName) (columns : List Column) (width : ℕ) (b : BaseTable) (r : Result (TableDesc × BaseTable) E) → IfOk r (λ new. new.1 ≡ b) → IfOk r (λ new. IsDescribed name b columns new.0)
     → b.place ≡ length bases → kinds_of_columns columns ≡ base_kinds b → AreChecksAt (length bases) (kinds_of_columns columns) b.checks → list_all (is_to (keys_with bases b.keys) width) b.references ≡ true
-    → IfOk r (λ new. IsNext bases new.0 new.1)
-next_of bases columns width b (Ok new) e h place kinds checks refer = subst (λ (x : BaseTable). IsNext bases new.0 x) (sym e) (next_made bases b columns width new.0 h place kinds checks refer)
-next_of bases columns width b (Err x) e h place kinds checks refer = tt
+    → IfOk r (λ new. IsNext bases name new.0 new.1)
+next_of bases name columns width b (Ok new) e h place kinds checks refer = subst (λ (x : BaseTable). IsNext bases name new.0 x) (sym e) (next_made bases name b columns width new.0 h place kinds checks refer)
+next_of bases name columns width b (Err x) e h place kinds checks refer = tt

@@ -37,6 +37,14 @@ AreStored bases entries = All (λ e. IsStored bases e.1) entries
 abbrev pub AreTables : TableKinds → List (FullName × TableDesc) → Type 0
 AreTables columns entries = All (λ e. IsTable columns e.1) entries
 
+-- a table has this owner and name
+abbrev pub IsNamed : FullName → TableDesc → Type 0
+IsNamed name t = (t.user ≡ name.user) × (t.name ≡ name.name)
+
+-- each has the name under which it stands
+abbrev pub AreNamed : List (FullName × TableDesc) → Type 0
+AreNamed entries = All (λ e. IsNamed e.0 e.1) entries
+
 -- each base table, in the order of the places, stands under a name with columns of its kinds
 abbrev pub AreDescribed : List BaseTable → List (FullName × TableDesc) → Type 0
 AreDescribed = AllZip (λ b e. base_kinds b ≡ kinds_of_columns e.1.columns)
@@ -75,13 +83,16 @@ abbrev pub IsTableOf : BaseTable → TableBody → Type 0
 IsTableOf b (body.Base own) = own ≡ b
 IsTableOf b (body.View v) = ⊥
 
-pub record IsDescribed (b : BaseTable) (described : List Column) (t : TableDesc) : Type 0 where
+-- and under this name
+pub record IsDescribed (name : FullName) (b : BaseTable) (described : List Column) (t : TableDesc) : Type 0 where
+  pub named : IsNamed name t
   pub columns : t.columns ≡ described
   pub body : IsTableOf b t.body
   pub leaf : IfSome t.leaf (λ l. (l.table ≡ b) × (l.conditions ≡ []))
 
--- a base table that can be stored behind these, and the table as names see it
-pub record IsNext (bases : List BaseTable) (t : TableDesc) (b : BaseTable) : Type 0 where
+-- a base table that can be stored behind these, and the table of this name as names see it
+pub record IsNext (bases : List BaseTable) (name : FullName) (t : TableDesc) (b : BaseTable) : Type 0 where
+  pub named : IsNamed name t
   pub stored : IsStored (bases ++ b ∷ []) t
   pub place : place_of t.body ≡ Base (length bases)
   pub table : (views : List BoundSpecification) → IsTable (kinds_at (bases ++ b ∷ []) views) t
@@ -93,8 +104,9 @@ abbrev pub IsViewOver : TableKinds → List Kind → TableBody → Type 0
 IsViewOver columns kinds (body.Base b) = ⊥
 IsViewOver columns kinds (body.View v) = IsSelect columns [] [] v.query × (kinds ≡ kinds_of_select v.query)
 
--- a view that can be stored behind those of a catalog
-pub record IsNextView (c : Catalog) (t : TableDesc) : Type 0 where
+-- a view of this name that can be stored behind those of a catalog
+pub record IsNextView (c : Catalog) (name : FullName) (t : TableDesc) : Type 0 where
+  pub named : IsNamed name t
   pub stored : IsStored c.bases t
   pub place : place_of t.body ≡ View (length c.views)
   pub leaf : IfSome t.leaf (IsLeaf (column_kinds c))

@@ -9,7 +9,7 @@ ghost use Rattle.sq_bound.specs.WellFormed.{IsTable, IsViewAmong, TableKinds, pl
 ghost use Rattle.sq_bound.specs.declared.names.BaseTable.{BaseTable as Base};
 ghost use Rattle.sq_catalog.specs.Catalog.{AreViewQueries, AreViewQueries-prop, Gains, IsNewName, base_there, column_kinds, declared_tables, named_by, schema_tables, table_in, table_number, text_tables};
 ghost use Rattle.sq_catalog.specs.Fault.{IsOfSomeText, IsOfText};
-ghost use Rattle.sq_catalog.specs.Stored.{AreStored, AreTables, IsNext, IsNextView, IsStored, StandsAt, queries_of};
+ghost use Rattle.sq_catalog.specs.Stored.{AreStored, AreTables, IsNamed, IsNext, IsNextView, IsStored, StandsAt, queries_of};
 
 use crate::fault::{CatalogFault, ElementFault, RefusalName, SchemaRefusal, refused_if};
 use crate::grants::{Held, Privilege};
@@ -64,7 +64,7 @@ impl Model for Catalog {
     ghost use Rattle.sq_bound.specs.contracts.names.BaseTable as base;
     ghost use Rattle.sq_bound.specs.declared.condition.TablePlace.TheVariants.{Base, View};
     ghost use Rattle.sq_catalog.specs.Catalog.{AreViewQueries-prop, Catalog, kinds_at};
-    ghost use Rattle.sq_catalog.specs.Stored.{AreDescribed, AreStored, AreTables, StandFrom, queries_of};
+    ghost use Rattle.sq_catalog.specs.Stored.{AreDescribed, AreNamed, AreStored, AreTables, StandFrom, queries_of};
 
     ghost Value = { Catalog };
 
@@ -72,7 +72,7 @@ impl Model for Catalog {
 
     ghost view = { λ c. record { tables = keys_of c.bases.entries; bases = c.base_tables.items; view_names = keys_of c.views.entries; views = queries_of c.views.entries; refer = c.refer; stand = c.stand } };
 
-    ghost invariant = { λ c. AreStored c.base_tables.items c.bases.entries × AreStored c.base_tables.items c.views.entries × AreTables (kinds_at c.base_tables.items (queries_of c.views.entries)) c.bases.entries × AreTables (kinds_at c.base_tables.items (queries_of c.views.entries)) c.views.entries × AreDescribed c.base_tables.items c.bases.entries × StandFrom Base 0 c.bases.entries × StandFrom View 0 c.views.entries };
+    ghost invariant = { λ c. AreStored c.base_tables.items c.bases.entries × AreStored c.base_tables.items c.views.entries × AreTables (kinds_at c.base_tables.items (queries_of c.views.entries)) c.bases.entries × AreTables (kinds_at c.base_tables.items (queries_of c.views.entries)) c.views.entries × AreDescribed c.base_tables.items c.bases.entries × StandFrom Base 0 c.bases.entries × StandFrom View 0 c.views.entries × AreNamed c.bases.entries × AreNamed c.views.entries };
 }
 
 impl Catalog {
@@ -209,7 +209,7 @@ impl Catalog {
         base: Shared<BaseTable>,
     ) -> Result<(), ElementFault>
         requires new { table_number self.old.tables name.user name.name ≡ None }
-        requires next { IsNext self.old.bases table base }
+        requires next { IsNext self.old.bases name table base }
         ensures { OnOk result (Gains self.old self.new (name ∷ [])) }
     {
         insert_base(&mut self.bases, &mut self.base_tables, name, table, base)
@@ -218,7 +218,7 @@ impl Catalog {
     /// Adds a view of a new name behind the others.
     pub(crate) fn add_view(&mut self, name: FullName, table: TableDesc) -> Result<(), ElementFault>
         requires new { table_number self.old.view_names name.user name.name ≡ None }
-        requires next { IsNextView self.old table }
+        requires next { IsNextView self.old name table }
         ensures { Gains self.old self.new [] }
     {
         insert_table(&mut self.views, name, table)
@@ -237,6 +237,7 @@ impl Catalog {
         ensures stored { IfSome result (λ entry. IsStored self.now.bases entry.1.now) }
         ensures view { IfSome result (λ entry. IsViewAmong self.now.views entry.1.now.body) }
         ensures well_formed { IfSome result (λ entry. IsTable (column_kinds self.now) entry.1.now) }
+        ensures named { IfSome result (λ entry. IsNamed full_name.now entry.1.now) }
     {
         match self.bases.get_full(full_name) {
             Some((place, _, table)) => Some((TablePlace::Base(place), table)),

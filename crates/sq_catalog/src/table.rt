@@ -74,7 +74,7 @@ impl Catalog {
         definition: &TableDefinition,
     ) -> Result<(TableDesc, Shared<BaseTable>), ElementFault>
         ensures own { OnOk result (name.now.user ≡ user) }
-        ensures next { IfOk result (λ new. IsNext self.now.bases new.0 new.1) }
+        ensures next { IfOk result (λ new. IsNext self.now.bases name.now new.0 new.1) }
     {
         let draft = self.draft(user, name, definition)?;
         let table = self.table_of(user, name, &draft);
@@ -139,7 +139,7 @@ impl Catalog {
     ) -> Result<(TableDesc, Shared<BaseTable>), ElementFault>
         requires { All (IsFound self.now.bases (vec_len draft.now.written.columns)) draft.now.references.items }
         ensures own { OnOk result (name.now.user ≡ user) }
-        ensures next { IfOk result (λ new. IsNext self.now.bases new.0 new.1) }
+        ensures next { IfOk result (λ new. IsNext self.now.bases name.now new.0 new.1) }
     {
         let columns = columns_of(self.alloc(), draft.columns.as_slice())?;
         match (&*self).checked_base(user, name, columns.as_slice(), &*draft) {
@@ -462,7 +462,7 @@ fn described(
     requires columns { list_all (λ c. nat_lt c.leaf_column (length base.columns)) columns ≡ true }
     requires kinds { list_all (λ c. is_kind_at (base_kinds base) c.leaf_column c.kind) columns ≡ true }
     ensures base { IfOk result (λ new. new.1 ≡ base) }
-    ensures table { IfOk result (λ new. IsDescribed base columns new.0) }
+    ensures table { IfOk result (λ new. IsDescribed name.now base columns new.0) }
 {
     let (columns, base) = both(Ok(columns), Shared::new(alloc, base))?;
     let table = table_over(alloc, name, columns, &base);
@@ -479,7 +479,7 @@ fn table_over(
 ) -> Result<TableDesc, ElementFault>
     requires columns { list_all (λ c. nat_lt c.leaf_column (length base.now.columns)) columns ≡ true }
     requires kinds { list_all (λ c. is_kind_at (base_kinds base.now) c.leaf_column c.kind) columns ≡ true }
-    ensures { IfOk result (IsDescribed base.now columns) }
+    ensures { IfOk result (IsDescribed name.now base.now columns) }
 {
     match owners(alloc, base) {
         Ok((base, leaf)) => Ok(base_table(name, columns, base, leaf)),
@@ -500,7 +500,7 @@ fn base_table(
     requires conditions { leaf.conditions ≡ [] }
     requires columns { list_all (λ c. nat_lt c.leaf_column (length leaf.table.columns)) columns ≡ true }
     requires kinds { list_all (λ c. is_kind_at (base_kinds leaf.table) c.leaf_column c.kind) columns ≡ true }
-    ensures { IsDescribed base columns result }
+    ensures { IsDescribed name.now base columns result }
 {
     TableDesc {
         user: name.user,

@@ -67,7 +67,7 @@ impl Catalog {
         definition: &ViewDefinition,
     ) -> Result<NewView, ElementFault>
         ensures own { OnOk result (name.now.user ≡ user) }
-        ensures next { IfOk result (λ view. IsNextView self.now view.table) }
+        ensures next { IfOk result (λ view. IsNextView self.now name.now view.table) }
     {
         let listed = listed_names(self.alloc(), definition)?;
         let bound = bind_view(self.alloc(), self, user, &definition.query);
@@ -85,7 +85,7 @@ impl Catalog {
     ) -> Result<NewView, ElementFault>
         requires { IfOk bound (λ view. IsBoundOver self.now view.query view.updatable) }
         ensures own { OnOk result (name.now.user ≡ user) }
-        ensures next { IfOk result (λ view. IsNextView self.now view.table) }
+        ensures next { IfOk result (λ view. IsNextView self.now name.now view.table) }
     {
         let bound = match bound {
             Ok(bound) => bound,
@@ -204,7 +204,7 @@ impl Catalog {
     ) -> Result<TableDesc, ElementFault>
         requires bound { IsBoundOver self.now bound.query bound.updatable }
         requires names { length names ≡ length (kinds_of_select bound.query) }
-        ensures { IfOk result (IsNextView self.now) }
+        ensures { IfOk result (IsNextView self.now name.now) }
     {
         let BoundView {
             query,
@@ -230,7 +230,7 @@ impl Catalog {
     ) -> Result<TableDesc, ElementFault>
         requires query { IsSelect (column_kinds self.now) [] [] query }
         requires names { length names.now ≡ length (kinds_of_select query) }
-        ensures { IfOk result (IsNextView self.now) }
+        ensures { IfOk result (IsNextView self.now name.now) }
     {
         let columns = view_columns(self.alloc(), names, query.columns.as_slice());
         let (query, columns) = both(Ok(query), columns)?;
@@ -259,7 +259,7 @@ impl Catalog {
         requires names { length names.now ≡ length (kinds_of_select query) }
         requires base { IsBase self.now.bases over.target.leaf.table }
         requires target { IsUpdatable (column_kinds self.now) [] (kinds_of_select query) over }
-        ensures { IfOk result (IsNextView self.now) }
+        ensures { IfOk result (IsNextView self.now name.now) }
     {
         match view_columns(self.alloc(), names, query.columns.as_slice()) {
             Ok(columns) => {
@@ -285,7 +285,7 @@ impl Catalog {
         requires base { IfOk parts (λ parts. IsBase self.now.bases parts.1.table) }
         requires columns { IfOk parts (λ parts. AreColumnsOver (base_kinds parts.1.table) (kinds_of_select query) parts.0) }
         requires leaf { IfOk parts (λ parts. IsLeaf (column_kinds self.now) parts.1) }
-        ensures { IfOk result (IsNextView self.now) }
+        ensures { IfOk result (IsNextView self.now name.now) }
     {
         match parts {
             Ok((columns, leaf)) => Ok(self.view_over(name, query, columns, leaf)),
@@ -308,7 +308,7 @@ impl Catalog {
         requires base { IsBase self.now.bases leaf.table }
         requires columns { AreColumnsOver (base_kinds leaf.table) (kinds_of_select query) columns }
         requires leaf { IsLeaf (column_kinds self.now) leaf }
-        ensures { IsNextView self.now result }
+        ensures { IsNextView self.now name.now result }
     {
         TableDesc {
             user: name.user,

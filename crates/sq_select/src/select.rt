@@ -2,6 +2,7 @@
 
 ghost use Rattle.std.specs.Prelude.{◌≡◌, ℕ, ◌||◌, ◌++◌, ◌∷◌, [], IfOk, List, None, Some, false, if◌then◌else◌, is_some, length, nat_lt, slice_get, true};
 ghost use Rattle.std.specs.List.{AllZip};
+ghost use Rattle.sq_meaning.specs.Spelled.{table_of};
 ghost use Rattle.sq_meaning.specs.WellFormed.{of_lines};
 ghost use Rattle.sq_bound.specs.Fits.{IsOver};
 ghost use Rattle.sq_bound.specs.WellFormed.{IsTable, Levels, TableKinds, kinds_of_parameters, place_of};
@@ -58,11 +59,9 @@ pub fn named_table<N: Names>(
 ) -> Result<&TableDesc, BindFault>
     ensures over { IfOk result (λ table. IsOver (N.base_tables names.now) table.now) }
     ensures well_formed { IfOk result (λ table. IsTable (N.column_kinds names.now) table.now) }
+    ensures named { IfOk result (λ table. table_of user written ≡ record { user = table.now.user; name = table.now.name }) }
 {
-    let owner = match written.schema {
-        Some(owner) => owner,
-        None => user,
-    };
+    let owner = written.schema.unwrap_or(user);
     match names.table(owner, written.table) {
         Some(table) => Ok(table),
         None => Err(BindFault::UnknownTable),

@@ -1,7 +1,7 @@
 use Rattle.std.proofs.Common.{List, ap, subst, sym}
 use Rattle.sq_bound.specs.declared.names.BaseTable.{BaseTable}
 use Rattle.sq_catalog.specs.Catalog.{Catalog}
-use Rattle.sq_catalog.specs.Stored.{IsStored}
+use Rattle.sq_catalog.specs.Stored.{IsNamed, IsStored}
 use Rattle.sq_catalog.proofs.Added.{stand_added}
 use Rattle.sq_catalog.proofs.Extending.{tables_beside, view_beside}
 use Rattle.sq_catalog.proofs.Listed.{all_inserted}
@@ -22,6 +22,9 @@ invariant_of-self c =
       c.self.invariant.5,
       stand_added c.insert_table.result c.args.self.now c.self.inside.views.entries c.insert_table.new.tables.entries c.args.name c.args.table
           c.insert_table.ensures.added c.insert_table.ensures.unchanged (ap (λ (s : Catalog). s.views) c.self.view_is) c.requires.next c.self.invariant.6,
+      c.self.invariant.7,
+      all_inserted (λ e. IsNamed e.0 e.1) c.insert_table.result c.self.inside.views.entries c.insert_table.new.tables.entries (c.args.name, c.args.table) c.insert_table.ensures.added c.insert_table.ensures.unchanged
+          c.self.invariant.8 c.requires.next.named,
     )
 
 pub invariant_of-self-inside : goal.invariant_of-self-inside

@@ -1,11 +1,11 @@
-use Rattle.std.proofs.Common.{subst}
+use Rattle.std.proofs.Common.{subst, sym}
 use Rattle.sq_bound.specs.WellFormed.{IsViewAmong}
 use Rattle.sq_bound.specs.declared.condition.TablePlace.TheVariants.{Base}
 use Rattle.sq_catalog.specs.Catalog.{Catalog}
 use Rattle.sq_catalog.specs.Stored.{IsStored}
 use Rattle.sq_catalog.proofs.Extending.{table_read}
 use Rattle.sq_catalog.proofs.Added.{stands_at}
-use Rattle.sq_catalog.proofs.Stored.{stored_at}
+use Rattle.sq_catalog.proofs.Stored.{named_at, stored_at}
 use Rattle.sq_catalog.proofs.ViewQueries.{base_among, view_read}
 use Rattle.sq_catalog.proofs.catalog.Catalog.entry.Goals as goal
 
@@ -20,6 +20,14 @@ returns-in-Some-get_full-clause-stored c =
 pub returns-in-Some-get_full-clause-well_formed : goal.returns-in-Some-get_full-clause-well_formed
 returns-in-Some-get_full-clause-well_formed c =
     table_read _ _ c.self.inside.views.entries c.in-Some-get_full.place c.in-Some-get_full.field-0-1.now c.in-Some-get_full.table.now c.self.view_is c.self.invariant.3 c.in-Some-get_full.ensures.entry
+
+pub returns-in-Some-clause-named : goal.returns-in-Some-clause-named
+returns-in-Some-clause-named c =
+    named_at c.self.inside.bases.entries c.in-Some.place c.args.full_name.now c.in-Some.field-0-1.now c.in-Some.table.now c.self.invariant.7 c.in-Some.ensures.entry (sym c.in-Some.ensures.key)
+
+pub returns-in-Some-get_full-clause-named : goal.returns-in-Some-get_full-clause-named
+returns-in-Some-get_full-clause-named c =
+    named_at c.self.inside.views.entries c.in-Some-get_full.place c.args.full_name.now c.in-Some-get_full.field-0-1.now c.in-Some-get_full.table.now c.self.invariant.8 c.in-Some-get_full.ensures.entry (sym c.in-Some-get_full.ensures.key)
 
 pub returns-in-Some-clause-view : goal.returns-in-Some-clause-view
 returns-in-Some-clause-view c =

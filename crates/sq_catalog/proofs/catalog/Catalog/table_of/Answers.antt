@@ -18,6 +18,6 @@ described-requires-clause-kinds c =
 pub returns-in-Ok-clause-next : goal.returns-in-Ok-clause-next
 returns-in-Ok-clause-next c =
     let lent = ap kinds_of_columns c.as_slice-2.ensures in
-    next_of c.args.self.now.bases c.in_ok-columns.columns (length c.as_slice-2.result.now) c.in-Ok.base c.described.result c.described.ensures.base c.described.ensures.table
+    next_of c.args.self.now.bases c.args.name.now c.in_ok-columns.columns (length c.as_slice-2.result.now) c.in-Ok.base c.described.result c.described.ensures.base c.described.ensures.table
     c.in-Ok.ensures.place (sym (c.in-Ok.ensures.kinds ∙ lent))
     (subst (λ ks. AreChecksAt (length c.args.self.now.bases) ks c.in-Ok.base.checks) lent c.in-Ok.ensures.checks) c.in-Ok.ensures.refer
