@@ -18,7 +18,7 @@ use Rattle.sq_bound.specs.declared.names.ObjectColumn.{ObjectColumn}
 use Rattle.sq_scope.specs.Expression.{Grows}
 use Rattle.sq_scope.specs.WellFormed.{IsTyped, MayStandAt}
 use Rattle.sq_scope.specs.declared.expression.SetFunctions.{SetFunctions}
-use Rattle.sq_scope.specs.declared.expression.Typed.{Typed}
+use Rattle.sq_scope.specs.declared.typed.Typed.{Typed}
 use Rattle.sq_scope.specs.declared.findings.Found.{Found}
 use Rattle.sq_select.specs.WellFormed.{IsSelectIn}
 use Rattle.sq_scope.specs.declared.scope.Environment.{Environment}

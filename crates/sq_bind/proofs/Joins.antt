@@ -14,8 +14,8 @@ use Rattle.sq_meaning.proofs.AnswerLaws.{all_appended}
 use Rattle.sq_meaning.specs.Kind.{common_kind, common_kinds}
 use Rattle.sq_meaning.specs.Status.{Outcome, ◌>>=◌, not_well_formed}
 use Rattle.sq_bound.proofs.JoinedLaws.{joined_kinds-out, specifications_of-out, term_kinds-Bracketed, term_kinds-Specification, term_specifications-Bracketed, term_specifications-Specification, union_kinds-out, union_specifications-out}
-use Rattle.sq_bound.specs.Joined.{Kinds, are_bounded, brought_kinds, is_bounded, joined_kinds, kept_kinds, specifications_of, term_kinds, term_specifications, union_kinds, union_specifications}
-use Rattle.sq_bound.specs.Names.{same_kind}
+use Rattle.sq_bound.specs.Joined.{Kinds, are_bounded, brought_kinds, joined_kinds, kept_kinds, specifications_of, term_kinds, term_specifications, union_kinds, union_specifications}
+use Rattle.sq_bound.specs.Names.{is_bounded, same_kind}
 use Rattle.sq_bound.specs.WellFormed.{IsCursor, IsCursorBody, IsQuery, IsSelect, IsUpdatable, TableKinds, kinds_of_query, kinds_of_results, kinds_of_select}
 use Rattle.sq_bound.specs.declared.condition.BoundSpecification.{BoundSpecification, out-BoundSpecification}
 use Rattle.sq_bound.specs.declared.condition.ResultColumn.{ResultColumn}
@@ -156,8 +156,8 @@ told (Ok y) x e = cc
 told (Err status) x e = cc
 
 pub columns_more : (left right new_left new_right columns : List ResultColumn) (a b c : ResultColumn) → new_left ≡ left ++ a ∷ [] → new_right ≡ right ++ b ∷ []
-    → AreCommon left right columns → Some c.kind ≡ result_ok (common_kind a.kind b.kind) → is_bounded c.kind ≡ true → AreCommon new_left new_right (columns ++ c ∷ [])
-columns_more left right new_left new_right columns a b c l r h k bounded =
+    → AreCommon left right columns → Some c.kind ≡ result_ok (common_kind a.kind b.kind) → AreCommon new_left new_right (columns ++ c ∷ [])
+columns_more left right new_left new_right columns a b c l r h k =
     let one : kinds_of_results new_left ≡ kinds_of_results left ++ a.kind ∷ [] = ap kinds_of_results l ∙ map-append (λ (x : ResultColumn). x.kind) left (a ∷ []) in
     let other : kinds_of_results new_right ≡ kinds_of_results right ++ b.kind ∷ [] = ap kinds_of_results r ∙ map-append (λ (x : ResultColumn). x.kind) right (b ∷ []) in
     let more : kinds_of_results (columns ++ c ∷ []) ≡ kinds_of_results columns ++ c.kind ∷ [] = map-append (λ (x : ResultColumn). x.kind) columns (c ∷ []) in
@@ -165,7 +165,7 @@ columns_more left right new_left new_right columns a b c l r h k bounded =
       kinds_are =
           (λ i. common_kinds (one i) (other i)) ∙ common_more (kinds_of_results left) (kinds_of_results right) (kinds_of_results columns) a.kind b.kind c.kind h.kinds_are (told (common_kind a.kind b.kind) c.kind k)
           ∙ ap (λ ks. Ok ks) (sym more);
-      bounded = ap are_bounded more ∙ list_all-append is_bounded (kinds_of_results columns) (c.kind ∷ []) ∙ (λ i. h.bounded i && (bounded i && true));
+      bounded = ap are_bounded more ∙ list_all-append is_bounded (kinds_of_results columns) (c.kind ∷ []) ∙ (λ i. h.bounded i && (c.bounded i && true));
     }
 
 -- no columns beside none

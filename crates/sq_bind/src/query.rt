@@ -1,6 +1,6 @@
 //! Query expressions and cursors (ISO/IEC 9075:1992, 7.10, 13.1).
 
-ghost use Rattle.std.specs.Prelude.{◌≡◌, ℕ, [], List, IfOk, IfSome, MatchOption, Ok, Some, true};
+ghost use Rattle.std.specs.Prelude.{◌≡◌, ℕ, [], List, IfOk, IfSome, MatchOption, Ok, Some};
 ghost use Rattle.std.specs.Result.{result_ok};
 ghost use Rattle.std.specs.List.{AllByRecursion};
 ghost use Rattle.sq_value.specs.declared.domain.Kind.{Kind as AnyKind};
@@ -12,7 +12,7 @@ ghost use Rattle.sq_select.specs.Numbering.{Numbering};
 ghost use Rattle.sq_bind.specs.WellFormed.{AreCommon, IsJoined, IsOutermost, IsTerm};
 ghost use Rattle.sq_bind.specs.Written.{IsCursorOf};
 ghost use Rattle.sq_bound.specs.Fits.{FitsCursor, FitsQuery};
-ghost use Rattle.sq_bound.specs.Joined.{is_bounded, joined_kinds, specifications_of, term_kinds, term_specifications};
+ghost use Rattle.sq_bound.specs.Joined.{joined_kinds, specifications_of, term_kinds, term_specifications};
 ghost use Rattle.sq_bound.specs.WellFormed.{IsCursor, IsQuery, IsSelect, IsUpdatable, TableKinds, kinds_of_parameters, kinds_of_query, kinds_of_select};
 ghost use Rattle.sq_bound.specs.declared.query.BoundQuery.{out-BoundQuery};
 ghost use Rattle.sq_bound.specs.declared.query.CursorBody.TheVariants.{Rows, Updatable};
@@ -30,7 +30,6 @@ use sq_tree::{
     CommaList, Cursor, Query, QuerySpecification, QueryTerm, SortDirection, SortKey,
     SortSpecification,
 };
-use sq_value::Kind;
 use std::alloc::Global;
 
 /// A query expression that is bound so far, and whether a privilege is missing.
@@ -236,36 +235,20 @@ fn common_columns(
     }
     let mut columns = Items::new(alloc);
     for (column, beside) in left.iter().zip(right) {
-        let kind = common_kind(column.kind, beside.kind)?;
-        columns.push(ResultColumn {
-            name: common_name(column.name, beside.name),
-            kind,
-        })?;
+        columns.push(common_column(column, beside)?)?;
     }
     Ok(columns)
 }
 
-/// The kind to which both sides of a column are brought.
-fn common_kind(left: Kind, right: Kind) -> Result<Kind, BindFault>
-    ensures kind { IfOk result (λ kind. Some kind ≡ result_ok (common_kind left right)) }
-    ensures bounded { IfOk result (λ kind. is_bounded kind ≡ true) }
+/// The column to which a column of each side is brought.
+fn common_column(left: &ResultColumn, right: &ResultColumn) -> Result<ResultColumn, BindFault>
+    ensures { IfOk result (λ column. Some column.kind ≡ result_ok (common_kind left.now.kind right.now.kind)) }
 {
-    let kind = union_kind(left, right)?;
-    if is_bounded(kind) {
-        Ok(kind)
-    } else {
-        Err(BindFault::LimitExceeded)
-    }
-}
-
-/// Whether there are values of the kind: a scale of at most 18, or a length of at most 240 (own rules).
-fn is_bounded(kind: Kind) -> bool
-    ensures { result ≡ is_bounded kind }
-{
-    match kind {
-        Kind::Num(scale) => scale <= 18,
-        Kind::Chars(length) | Kind::Vary(length) => length <= 240,
-    }
+    let kind = union_kind(left.kind, right.kind)?;
+    Ok(ResultColumn {
+        name: common_name(left.name, right.name),
+        kind,
+    })
 }
 
 fn common_name(left: Option<Name>, right: Option<Name>) -> Option<Name> {

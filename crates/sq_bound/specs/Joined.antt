@@ -1,13 +1,12 @@
 -- What a bound query expression is made of, and the kinds of its columns (ISO/IEC 9075:1992, 7.10): both sides of a UNION
 -- have as many columns, of common kinds, to which their rows are brought. UNION groups to the left.
-use Rattle.std.specs.Prelude.{Bool, nat_le, List, [], ◌∷◌, ◌++◌, if◌then◌else◌, flat_map, fold, map, Ok}
+use Rattle.std.specs.Prelude.{Bool, List, [], ◌∷◌, ◌++◌, if◌then◌else◌, flat_map, fold, map, Ok}
 use Rattle.std.specs.Cmp.Lexicographic.{pointwise}
 use Rattle.std.specs.List.{list_all}
 use Rattle.sq_value.specs.declared.domain.Kind.{Kind}
-use Rattle.sq_value.specs.declared.domain.Kind.TheVariants.{Num, Chars, Vary}
 use Rattle.sq_meaning.specs.Status.{Outcome, ◌>>=◌, not_well_formed}
 use Rattle.sq_meaning.specs.Kind.{common_kinds}
-use Rattle.sq_bound.specs.Names.{same_kind}
+use Rattle.sq_bound.specs.Names.{is_bounded, same_kind}
 use Rattle.sq_bound.specs.declared.condition.BoundSpecification.{BoundSpecification, out-BoundSpecification}
 use Rattle.sq_bound.specs.declared.condition.ResultColumn.{ResultColumn}
 use Rattle.sq_bound.specs.declared.query.BoundTerm.{BoundTerm, fold-BoundTerm, BoundTerm-F}
@@ -47,12 +46,6 @@ Kinds = Outcome (List Kind)
 -- the kinds, where they are those that were noted with the columns
 abbrev pub kept_kinds : List ResultColumn → List Kind → Kinds
 kept_kinds columns kinds = if pointwise same_kind kinds (map (λ c. c.kind) columns) then Ok kinds else not_well_formed
-
--- a scale of at most 18, or a length of at most 240 (own rules)
-abbrev pub is_bounded : Kind → Bool
-is_bounded (Num s) = nat_le s 18
-is_bounded (Chars n) = nat_le n 240
-is_bounded (Vary n) = nat_le n 240
 
 abbrev pub are_bounded : List Kind → Bool
 are_bounded kinds = list_all is_bounded kinds

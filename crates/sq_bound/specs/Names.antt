@@ -1,5 +1,5 @@
 -- Positions and kinds of columns.
-use Rattle.std.specs.Prelude.{ℕ, zero, suc, nat_eq, nat_lt, Bool, true, false, List, [], ◌∷◌, Option, None, Some}
+use Rattle.std.specs.Prelude.{ℕ, zero, suc, nat_eq, nat_le, nat_lt, Bool, true, false, List, [], ◌∷◌, Option, None, Some}
 use Rattle.std.specs.List.{list_all}
 use Rattle.std.specs.Cmp.Lexicographic.{pointwise}
 use Rattle.sq_lex.specs.declared.name.Name.{Name}
@@ -30,3 +30,9 @@ abbrev pub is_kind_at : List Kind → ℕ → Kind → Bool
 is_kind_at [] position k = false
 is_kind_at (l ∷ kinds) zero k = same_kind l k
 is_kind_at (l ∷ kinds) (suc position) k = is_kind_at kinds position k
+
+-- a scale of at most 18, or a length of at most 240 (own rules)
+abbrev pub is_bounded : Kind → Bool
+is_bounded (Num s) = nat_le s 18
+is_bounded (Chars n) = nat_le n 240
+is_bounded (Vary n) = nat_le n 240

@@ -1,6 +1,7 @@
 //! Search conditions and query specifications with their columns as places.
 
 ghost use Rattle.std.specs.Prelude.{◌≡◌, length, nat_lt, true};
+ghost use Rattle.sq_bound.specs.Names.{is_bounded};
 
 use crate::expression::{BoundExpr, Place, SetFunctionCall};
 use sq_items::{Boxed, Items};
@@ -110,4 +111,5 @@ pub struct Grouping {
 pub struct ResultColumn {
     pub name: Option<Name>,
     pub kind: Kind,
+    pub ghost bounded: { is_bounded kind ≡ true },
 }

@@ -4,7 +4,7 @@ ghost use Rattle.std.specs.Prelude.{◌≡◌, ◌≤◌, ◌<◌, nat_lt, lengt
 ghost use Rattle.std.specs.List.{list_all};
 ghost use Rattle.sq_value.specs.Domain.{IsDomain, kind_of};
 ghost use Rattle.sq_bound.specs.Default.{DefaultIsIn, DefaultIsIn-prop};
-ghost use Rattle.sq_bound.specs.Names.{are_positions, is_kind_at, option_all};
+ghost use Rattle.sq_bound.specs.Names.{are_positions, is_bounded, is_kind_at, option_all};
 ghost use Rattle.sq_bound.specs.Parameter.{IsDomain-prop};
 ghost use Rattle.sq_bound.specs.Quiet.{are_sure};
 
@@ -135,6 +135,7 @@ pub struct Column {
     pub kind: Kind,
     /// The column of the base table that it is, and its own position in a view that is not updatable.
     pub leaf_column: usize,
+    pub ghost bounded: { is_bounded kind ≡ true },
 }
 
 /// What a table is.

@@ -13,7 +13,8 @@ use Rattle.sq_meaning.specs.Environment.{Row}
 use Rattle.sq_meaning.specs.Kind.{common_kind, common_kinds}
 use Rattle.sq_meaning.specs.WellFormed.{IsRowOf, AreRowsOf}
 use Rattle.sq_meaning.proofs.AnswerLaws.{all_weaker, all_appended}
-use Rattle.sq_bound.specs.Joined.{is_bounded, are_bounded}
+use Rattle.sq_bound.specs.Joined.{are_bounded}
+use Rattle.sq_bound.specs.Names.{is_bounded}
 use Rattle.sq_query.specs.Union.{MayBeBrought, IsBringable, AreBringable}
 use Rattle.sq_query.proofs.JoinedTerms.{both_true}
 

@@ -45,11 +45,11 @@ use Rattle.sq_scope.specs.Kinds.{operated_kind}
 use Rattle.sq_scope.specs.Scope.{Means, column_at, scopes_in}
 use Rattle.sq_scope.specs.WellFormed.{IsColumn}
 use Rattle.sq_scope.specs.declared.scope.Environment.{Environment}
-use Rattle.sq_scope.specs.declared.scope.FoundColumn.{FoundColumn}
+use Rattle.sq_scope.specs.declared.column.FoundColumn.{FoundColumn}
 use Rattle.sq_scope.specs.declared.scope.FromItem.{FromItem}
-use Rattle.sq_scope.specs.declared.scope.ItemColumn.{ItemColumn}
+use Rattle.sq_scope.specs.declared.column.ItemColumn.{ItemColumn}
 use Rattle.sq_scope.specs.declared.expression.SetFunctions.{SetFunctions}
-use Rattle.sq_scope.specs.declared.expression.Typed.{Typed}
+use Rattle.sq_scope.specs.declared.typed.Typed.{Typed}
 
 -- ---- names as places
 

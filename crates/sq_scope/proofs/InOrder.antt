@@ -24,7 +24,7 @@ use Rattle.sq_bound.specs.declared.fault.BindFault.{BindFault}
 use Rattle.sq_bound.specs.declared.names.ParameterDesc.{ParameterDesc}
 use Rattle.sq_scope.specs.Expression.{AddsExpr, AddsInOrder, IsSigned, IsTree, IsTreeAmong, IsTypedOperation, expr_functions, parameter_kind, placed_parameter, with_sign}
 use Rattle.sq_scope.specs.WellFormed.{IsColumn}
-use Rattle.sq_scope.specs.declared.expression.Typed.{Typed}
+use Rattle.sq_scope.specs.declared.typed.Typed.{Typed}
 use Rattle.sq_scope.specs.declared.scope.Environment.{Environment}
 
 abbrev Calls : Type 0

@@ -22,7 +22,7 @@ use Rattle.sq_bound.specs.declared.expression.Operator.TheVariants as operator
 use Rattle.sq_bound.specs.declared.fault.BindFault.{BindFault}
 use Rattle.sq_bound.specs.declared.names.ParameterDesc.{ParameterDesc}
 use Rattle.sq_scope.specs.Expression.{IsReadTyped, IsSigned, IsTree, IsTypedOperation, parameter_kind, placed_parameter, with_sign}
-use Rattle.sq_scope.specs.declared.expression.Typed.{Typed}
+use Rattle.sq_scope.specs.declared.typed.Typed.{Typed}
 
 -- ---- leaves
 

@@ -17,7 +17,7 @@ use Rattle.sq_bound.specs.declared.names.Column.{Column}
 use Rattle.sq_scope.specs.Scope.{column_at, column_over, columns_over}
 use Rattle.sq_scope.specs.WellFormed.{AllowsAt, AreLevels, Grouped, IsItemOver, IsRead, allows_none, may_read}
 use Rattle.sq_scope.specs.declared.scope.FromItem.{FromItem}
-use Rattle.sq_scope.specs.declared.scope.ItemColumn.{ItemColumn}
+use Rattle.sq_scope.specs.declared.column.ItemColumn.{ItemColumn}
 
 -- ---- an item over a table
 

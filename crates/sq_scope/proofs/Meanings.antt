@@ -6,8 +6,8 @@ use denote.Hole.Carrier.{out}
 use Rattle.sq_tree.specs.declared.names.ColumnReference.{ColumnReference}
 use Rattle.sq_meaning.specs.Environment.{nearest, place_of}
 use Rattle.sq_scope.specs.declared.scope.FromItem.{FromItem}
-use Rattle.sq_scope.specs.declared.scope.ItemColumn.{ItemColumn}
-use Rattle.sq_scope.specs.declared.scope.FoundColumn.{FoundColumn}
+use Rattle.sq_scope.specs.declared.column.ItemColumn.{ItemColumn}
+use Rattle.sq_scope.specs.declared.column.FoundColumn.{FoundColumn}
 use Rattle.sq_scope.specs.declared.scope.Scope.{Scope, Scope', None', Some', out-Scope}
 use Rattle.sq_scope.specs.Scope.{FitsOnly, Means, fits, heads_of, items_in, scopes_of}
 use Rattle.sq_scope.specs.WellFormed.{AllowsAt, Grouped, IsGroupedIn, allows_none, grouping_of, groupings_of}

@@ -13,7 +13,7 @@ use Rattle.sq_bound.specs.declared.expression.BoundExpr.TheVariants as bound
 use Rattle.sq_bound.specs.declared.expression.Operation.{Operation}
 use Rattle.sq_bound.specs.declared.expression.Operator.{Operator}
 use Rattle.sq_bound.specs.declared.fault.BindFault.{BindFault}
-use Rattle.sq_scope.specs.declared.expression.Typed.{Typed}
+use Rattle.sq_scope.specs.declared.typed.Typed.{Typed}
 use Rattle.sq_bound.proofs.ExpressionLaws.{expr_of-Negated, expr_of-Operations, operation_of-out}
 use Rattle.sq_scope.specs.Expression.{IsOperation, IsTree, IsTypedOperation}
 

@@ -21,7 +21,7 @@ use Rattle.sq_bound.specs.declared.fault.BindFault.{BindFault}
 use Rattle.sq_bound.specs.declared.names.ParameterDesc.{ParameterDesc}
 use Rattle.sq_scope.specs.Expression.{IsSureUnless, IsSigned, IsTree, parameter_kind, placed_parameter, with_sign}
 use Rattle.sq_scope.specs.WellFormed.{IsColumn}
-use Rattle.sq_scope.specs.declared.expression.Typed.{Typed}
+use Rattle.sq_scope.specs.declared.typed.Typed.{Typed}
 use Rattle.sq_scope.specs.declared.scope.Environment.{Environment}
 
 -- ---- leaves

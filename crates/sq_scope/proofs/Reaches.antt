@@ -35,7 +35,7 @@ use Rattle.sq_tree.specs.declared.expr.SetFunction.{SetFunction}
 use Rattle.sq_scope.specs.Expression.{IsSigned, IsSureUnless, IsTree, IsTypedOperation, parameter_kind, placed_parameter, with_sign}
 use Rattle.sq_scope.specs.Reach.{AreNotedFunctions, AreOwn, AreOwnCalls, IsFromInside, IsOutward, MayReach, NoFurther, Outward, ReadsOutward, ReadsWithin, no_further}
 use Rattle.sq_scope.specs.declared.expression.SetFunctions.{SetFunctions}
-use Rattle.sq_scope.specs.declared.expression.Typed.{Typed}
+use Rattle.sq_scope.specs.declared.typed.Typed.{Typed}
 
 -- ---- no further
 

@@ -15,7 +15,7 @@ use Rattle.sq_bound.specs.declared.names.Column.{Column}
 use Rattle.sq_bound.specs.declared.fault.BindFault.{BindFault}
 use Rattle.sq_bound.specs.declared.fault.BindFault.TheVariants.{AmbiguousName}
 use Rattle.sq_scope.specs.declared.scope.FromItem.{FromItem}
-use Rattle.sq_scope.specs.declared.scope.ItemColumn.{ItemColumn}
+use Rattle.sq_scope.specs.declared.column.ItemColumn.{ItemColumn}
 use Rattle.sq_scope.specs.Scope.{FitsColumn, FitsMore, FitsOnly, column_over, columns_over, fits, item_meant, items_meant, with_fit}
 
 -- ---- an item

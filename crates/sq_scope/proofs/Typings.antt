@@ -40,9 +40,9 @@ use Rattle.sq_scope.specs.Expression.{Adds, IsSigned, IsTree, IsTreeAmong, IsTyp
 use Rattle.sq_scope.specs.Kinds.{operated_kind}
 use Rattle.sq_scope.specs.Scope.{Means, scopes_in}
 use Rattle.sq_scope.specs.WellFormed.{AreLevelsIn, IsColumn, IsRead, IsTyped, MayStandAt, groupings_in, may_read}
-use Rattle.sq_scope.specs.declared.expression.Typed.{Typed}
+use Rattle.sq_scope.specs.declared.typed.Typed.{Typed}
 use Rattle.sq_scope.specs.declared.scope.Environment.{Environment}
-use Rattle.sq_scope.specs.declared.scope.FoundColumn.{FoundColumn}
+use Rattle.sq_scope.specs.declared.column.FoundColumn.{FoundColumn}
 use Rattle.sq_scope.proofs.Bindings.{among_all, among_more}
 use Rattle.sq_scope.proofs.Levels.{inside_froms, inside_levels, inside_read, level_kind, line_read, may_read_less}
 

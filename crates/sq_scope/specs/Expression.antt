@@ -32,7 +32,7 @@ use Rattle.sq_scope.specs.Kinds.{operated_kind}
 use Rattle.sq_scope.specs.Scope.{column_at, heads_of}
 use Rattle.sq_scope.specs.declared.scope.FromItem.{FromItem}
 use Rattle.sq_scope.specs.declared.expression.SetFunctions.{SetFunctions}
-use Rattle.sq_scope.specs.declared.expression.Typed.{Typed}
+use Rattle.sq_scope.specs.declared.typed.Typed.{Typed}
 
 -- ---- one level
 

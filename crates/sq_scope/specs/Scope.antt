@@ -8,10 +8,10 @@ use Rattle.sq_bound.specs.declared.fault.BindFault.{BindFault}
 use Rattle.sq_bound.specs.declared.fault.BindFault.TheVariants.{AmbiguousName}
 use Rattle.sq_bound.specs.declared.names.Column.{Column}
 use Rattle.sq_scope.specs.declared.scope.FromItem.{FromItem}
-use Rattle.sq_scope.specs.declared.scope.ItemColumn.{ItemColumn}
+use Rattle.sq_scope.specs.declared.column.ItemColumn.{ItemColumn}
 use Rattle.sq_scope.specs.declared.scope.Scope.{Scope, Scope', Held-Scope-outer, None', Some', out-Scope}
 use Rattle.sq_scope.specs.declared.scope.Environment.{Environment}
-use Rattle.sq_scope.specs.declared.scope.FoundColumn.{FoundColumn}
+use Rattle.sq_scope.specs.declared.column.FoundColumn.{FoundColumn}
 
 -- ---- items
 
@@ -27,7 +27,7 @@ items_meant items = map item_meant items
 
 -- a column of a table, at its own position or at that of the base table's column that it is
 abbrev pub column_over : Bool → ℕ × Column → ItemColumn
-column_over at_leaf c = record { name = c.1.name; position = if at_leaf then c.1.leaf_column else c.0; kind = c.1.kind }
+column_over at_leaf c = record { name = c.1.name; position = if at_leaf then c.1.leaf_column else c.0; kind = c.1.kind; bounded = c.1.bounded }
 
 -- the columns of an item over a table
 abbrev pub columns_over : Bool → List Column → List ItemColumn

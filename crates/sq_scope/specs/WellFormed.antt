@@ -13,10 +13,10 @@ use Rattle.sq_bound.specs.declared.expression.SetFunctionCall.{SetFunctionCall}
 use Rattle.sq_bound.specs.Expression.{place_meant}
 use Rattle.sq_scope.specs.Scope.{Means, scopes_in}
 use Rattle.sq_scope.specs.Expression.{IsTree}
-use Rattle.sq_scope.specs.declared.expression.Typed.{Typed}
+use Rattle.sq_scope.specs.declared.typed.Typed.{Typed}
 use Rattle.sq_scope.specs.declared.findings.Findings.{Findings}
 use Rattle.sq_scope.specs.declared.scope.Environment.{Environment}
-use Rattle.sq_scope.specs.declared.scope.FoundColumn.{FoundColumn}
+use Rattle.sq_scope.specs.declared.column.FoundColumn.{FoundColumn}
 use Rattle.sq_scope.specs.declared.scope.FromItem.{FromItem}
 use Rattle.sq_scope.specs.declared.scope.Scope.{Scope, Scope', Held-Scope-outer, None', Some', out-Scope}
 

@@ -1,7 +1,7 @@
 //! Value expressions: columns and parameters become places, and kinds are checked (ISO/IEC 9075:1992, 6.2 to 6.5, 6.11 to 6.13).
 
 ghost use Rattle.std.specs.Prelude.{◌≡◌, ◌<◌, ◌≤◌, ◌+◌, ◌^◌, ◌&&◌, ◌||◌, ◌∷◌, ◌++◌, [], false, nat_eq, nat_lt, not, slice_get, true, IfOk, IfSome, Ok, Some, length};
-ghost use Rattle.sq_bound.specs.Names.{option_all};
+ghost use Rattle.sq_bound.specs.Names.{is_bounded, option_all};
 ghost use Rattle.std.specs.List.{position};
 ghost use Rattle.sq_meaning.specs.Environment.{same_name};
 ghost use Rattle.sq_meaning.specs.Kind.{function_kind};
@@ -21,14 +21,16 @@ ghost use Rattle.sq_scope.specs.Expression.{Adds, AddsExpr, Grows, IsBound, IsOp
 ghost use Rattle.sq_scope.specs.Reach.{AreNotedFunctions, MayReach, NoFurther, ReadsWithin, no_further, outward};
 ghost use Rattle.sq_scope.specs.Scope.{scopes_in};
 ghost use Rattle.sq_scope.specs.WellFormed.{Finds, IsColumn, IsTyped};
-ghost use Rattle.sq_scope.specs.declared.expression.Typed.{Typed as TypedExpr};
+ghost use Rattle.sq_scope.specs.declared.typed.Typed.{Typed as TypedExpr};
 ghost use Rattle.sq_value.specs.Number.{Number as Read};
 
+use crate::column::FoundColumn;
 use crate::findings::{Findings, Found};
 use crate::kinds::{is_number, operation_kind, set_function_kind};
 use crate::literal::{number_value, text_value};
 use crate::parts::both;
-use crate::scope::{Environment, FoundColumn};
+use crate::scope::Environment;
+use crate::typed::Typed;
 use sq_bound::{
     Aggregate, BindFault, BoundExpr, Input, Operation, Operator, ParameterDesc, Place,
     SetFunctionCall,
@@ -41,13 +43,6 @@ use sq_tree::{
 };
 use sq_value::{Domain, Kind, Value};
 use std::alloc::Global;
-
-/// A bound value expression and the kind of its values.
-#[derive(Drop)]
-pub struct Typed {
-    pub expr: BoundExpr,
-    pub kind: Kind,
-}
 
 /// What binding an expression answers.
 pub type ExprResult = Result<Found<Typed>, BindFault>;
@@ -500,6 +495,7 @@ fn begun(alloc: Global, first: BoundExpr, operation: Operation) -> Result<BoundE
 
 /// A further set function of a query, which is known by its number.
 fn numbered(functions: &mut SetFunctions, call: SetFunctionCall, kind: Kind) -> TypedResult
+    requires { is_bounded kind ≡ true }
     ensures tree { IfOk result (λ typed. IsTreeAmong functions.new.calls (call_of call) typed.expr) }
     ensures kind { IfOk result (λ typed. typed.kind ≡ kind) }
     ensures adds { Adds functions.old.calls functions.new.calls }

@@ -2,6 +2,7 @@
 //! (ISO/IEC 9075:1992, 6.2 to 6.5, 6.11 to 6.13).
 #![tactic(auto)]
 
+mod column;
 mod domain;
 mod expression;
 mod findings;
@@ -9,15 +10,16 @@ mod kinds;
 mod literal;
 mod parts;
 mod scope;
+mod typed;
 
+pub use column::{FoundColumn, ItemColumn};
 pub use domain::domain_of;
 pub use expression::{
-    ExprResult, SetFunctions, Typed, bind_expr, column_findings, indicator_of, parameter_of,
+    ExprResult, SetFunctions, bind_expr, column_findings, indicator_of, parameter_of,
 };
 pub use findings::{Findings, Found};
 pub use kinds::{must_agree, must_be_text, union_kind};
 pub use literal::{is_whole, number_value, signed_value, text_value};
 pub use parts::{both, kept};
-pub use scope::{
-    Environment, FoundColumn, FromItem, ItemColumn, Scope, is_exposed, item_of, item_over,
-};
+pub use scope::{Environment, FromItem, Scope, is_exposed, item_of, item_over};
+pub use typed::Typed;

@@ -5,20 +5,12 @@ ghost use Rattle.sq_meaning.specs.Environment.{names_item, same_name};
 ghost use Rattle.sq_scope.specs.Scope.{FitsColumn, FitsMore, FitsOnly, Means, column_over, columns_over, fits, item_meant, items_in, scopes_at, scopes_in, scopes_of, with_fit};
 ghost use Rattle.sq_scope.specs.WellFormed.{AllowsAt, IsGroupedIn, allows_none, grouping_of, groupings_in, groupings_of, is_no_column};
 
+use crate::column::{FoundColumn, ItemColumn};
 use sq_bound::{BindFault, Column, ParameterDesc, Place, TableDesc};
 use sq_items::Items;
 use sq_lex::Name;
 use sq_tree::{ColumnReference, TableName};
-use sq_value::Kind;
 use std::alloc::Global;
-
-/// A column of a FROM item: its name, its position in the rows that are read, and its kind.
-#[derive(Clone, Copy)]
-pub struct ItemColumn {
-    pub name: Name,
-    pub position: usize,
-    pub kind: Kind,
-}
 
 /// An item of a FROM clause.
 #[derive(Drop)]
@@ -46,17 +38,6 @@ pub struct Environment<'a> {
     pub user: Name,
     pub parameters: &'a [ParameterDesc],
     pub scope: Option<Scope<'a>>,
-}
-
-/// A column that a reference means.
-#[derive(Clone, Copy)]
-pub struct FoundColumn {
-    pub place: Place,
-    pub kind: Kind,
-    /// Whether it is a grouping column, or need not be one.
-    pub is_grouped: bool,
-    /// Whether no scope is around its own.
-    pub is_outermost: bool,
 }
 
 /// An item over a table. With `at_leaf` its columns are placed as those of the base table under it.

@@ -1,6 +1,7 @@
 -- Select lists, and the items of FROM that `*` stands for.
 use Rattle.std.proofs.Common.{◌≡◌, ℕ, zero, suc, Bool, true, false, not, List, [], ◌∷◌, ◌++◌, Option, Some, Ok, Err, refl, sym, ap, subst, ◌∙◌}
 use Rattle.std.specs.Prelude.{◌||◌, IsTrue, IfOk, Result, is_ok, slice_get}
+use Rattle.std.specs.Coded.{Coded-set, coded_bool}
 use Rattle.std.specs.List.{AllByRecursion, AllZip}
 use Rattle.sq_lex.specs.declared.name.Name.{Name}
 use Rattle.sq_value.specs.declared.domain.Kind.{Kind}
@@ -10,6 +11,7 @@ use Rattle.sq_meaning.specs.WellFormed.{Has, HasValue, Level}
 use Rattle.sq_meaning.specs.Placed.{Placed}
 use Rattle.sq_bound.proofs.ExpressionLaws.{expr_of-Column}
 use Rattle.sq_bound.specs.Expression.{place_meant}
+use Rattle.sq_bound.specs.Names.{is_bounded}
 use Rattle.sq_bound.specs.WellFormed.{IsExpr, Levels, TableKinds, kinds_of_parameters}
 use Rattle.sq_bound.specs.declared.condition.BoundSpecification.{BoundSpecification}
 use Rattle.sq_bound.specs.declared.condition.ResultColumn.{ResultColumn}
@@ -22,11 +24,11 @@ use Rattle.sq_bound.specs.declared.fault.BindFault.{BindFault}
 use Rattle.sq_scope.specs.Expression.{Adds}
 use Rattle.sq_scope.specs.Scope.{scopes_in}
 use Rattle.sq_scope.specs.WellFormed.{AreLevels, AreLevelsIn, Grouped, IsItemOver, IsLevel, groupings_in}
-use Rattle.sq_scope.specs.declared.expression.Typed.{Typed}
+use Rattle.sq_scope.specs.declared.typed.Typed.{Typed}
 use Rattle.sq_scope.specs.declared.findings.Found.{Found}
 use Rattle.sq_scope.specs.declared.scope.Environment.{Environment}
 use Rattle.sq_scope.specs.declared.scope.FromItem.{FromItem}
-use Rattle.sq_scope.specs.declared.scope.ItemColumn.{ItemColumn}
+use Rattle.sq_scope.specs.declared.column.ItemColumn.{ItemColumn}
 use Rattle.sq_scope.proofs.Typings.{column_stands}
 use Rattle.sq_select.specs.WellFormed.{AreColumns, AreTables, Context, Everywhere, IsListAt, IsListIn, IsSpecification, IsSpecificationIn, IsTypedAt, level_over, parameters_in}
 use Rattle.sq_select.specs.declared.select.SelectedList.{SelectedList}
@@ -92,13 +94,19 @@ column_is kinds parameters tables levels calls t item number k c at over there =
 
 -- ---- select lists
 
+-- a column is pushed behind others; there is one way at most to be bounded
+pub column_shown : (before after : List ResultColumn) (name : Option Name) (typed : Typed) (bounded : is_bounded typed.kind ≡ true) → after ≡ before ++ record { name = name; kind = typed.kind; bounded = bounded } ∷ []
+    → after ≡ before ++ record { name = name; kind = typed.kind; bounded = typed.bounded } ∷ []
+column_shown before after name typed bounded e =
+    e ∙ ap (λ (b : is_bounded typed.kind ≡ true). before ++ record { name = name; kind = typed.kind; bounded = b } ∷ []) (Coded-set coded_bool (is_bounded typed.kind) true bounded typed.bounded)
+
 pub list_next : (x : Context) (calls : List SetFunctionCall) (before after : SelectedList) (found : Found Typed) (name : Option Name) (pushed : Result (Unit {0}) BindFault)
-    → IfOk pushed (λ u. after.exprs ≡ before.exprs ++ found.part.expr ∷ []) → IfOk pushed (λ u. after.columns ≡ before.columns ++ record { name = name; kind = found.part.kind } ∷ [])
+    → IfOk pushed (λ u. after.exprs ≡ before.exprs ++ found.part.expr ∷ []) → IfOk pushed (λ u. after.columns ≡ before.columns ++ record { name = name; kind = found.part.kind; bounded = found.part.bounded } ∷ [])
     → IfOk pushed (λ u. after.findings.has_ungrouped ≡ (before.findings.has_ungrouped || found.findings.has_ungrouped))
     → IsListIn x.columns x.environment x.allowed calls before → Everywhere x (IsTypedAt x calls) found → IfOk pushed (λ u. IsListIn x.columns x.environment x.allowed calls after)
 list_next x calls before after found name (Err fault) e f g h k = tt
 list_next x calls before after found name (Ok u) e f g h k = λ levels m.
-    zip_more (λ e c. IsExpr x.columns (parameters_in x) levels calls c.kind e) before.exprs before.columns found.part.expr (record { name = name; kind = found.part.kind }) after.exprs after.columns e f
+    zip_more (λ e c. IsExpr x.columns (parameters_in x) levels calls c.kind e) before.exprs before.columns found.part.expr (record { name = name; kind = found.part.kind; bounded = found.part.bounded }) after.exprs after.columns e f
     (h levels (may_first x levels after.findings.has_ungrouped before.findings.has_ungrouped found.findings.has_ungrouped g m))
     (k levels (may_second x levels after.findings.has_ungrouped before.findings.has_ungrouped found.findings.has_ungrouped g m))
 

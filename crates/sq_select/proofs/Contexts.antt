@@ -12,7 +12,7 @@ use Rattle.sq_bound.specs.declared.expression.SetFunctionCall.{SetFunctionCall}
 use Rattle.sq_bound.specs.declared.fault.BindFault.{BindFault}
 use Rattle.sq_scope.specs.Expression.{Adds}
 use Rattle.sq_scope.specs.WellFormed.{IsTyped, MayStandAt, may_read}
-use Rattle.sq_scope.specs.declared.expression.Typed.{Typed}
+use Rattle.sq_scope.specs.declared.typed.Typed.{Typed}
 use Rattle.sq_scope.specs.declared.findings.Found.{Found}
 use Rattle.sq_scope.specs.declared.scope.Environment.{Environment}
 use Rattle.sq_select.specs.Gathered.{Gathers}

@@ -23,7 +23,7 @@ use Rattle.sq_bound.specs.declared.condition.Predicate.TheVariants as bound
 use Rattle.sq_bound.specs.declared.expression.BoundExpr.{BoundExpr}
 use Rattle.sq_bound.specs.declared.fault.BindFault.{BindFault}
 use Rattle.sq_scope.specs.Expression.{IsReadTyped}
-use Rattle.sq_scope.specs.declared.expression.Typed.{Typed}
+use Rattle.sq_scope.specs.declared.typed.Typed.{Typed}
 use Rattle.sq_scope.specs.Reach.{IsOutward, Outward, outward}
 use Rattle.sq_scope.specs.declared.findings.Findings.{Findings}
 use Rattle.sq_scope.specs.declared.findings.Found.{Found}

@@ -26,7 +26,7 @@ use Rattle.sq_bound.specs.declared.expression.Place.{Place}
 use Rattle.sq_bound.specs.declared.fault.BindFault.{BindFault}
 use Rattle.sq_scope.proofs.Reaches.{cond_further, place_further as place_further_out, reach_more, subquery_outward}
 use Rattle.sq_scope.specs.Reach.{AreOwn, IsFromInside, IsOutward, MayReach, NoFurther, Outward, no_further, outward}
-use Rattle.sq_scope.specs.declared.expression.Typed.{Typed}
+use Rattle.sq_scope.specs.declared.typed.Typed.{Typed}
 use Rattle.sq_scope.specs.declared.findings.Findings.{Findings}
 use Rattle.sq_scope.specs.declared.findings.Found.{Found}
 use Rattle.sq_select.specs.Gathered.{Gathers}

@@ -17,7 +17,7 @@ use Rattle.sq_bound.specs.declared.condition.TablePlace.{TablePlace}
 use Rattle.sq_bound.specs.declared.expression.BoundExpr.{BoundExpr}
 use Rattle.sq_scope.specs.Reach.{AreNotedFunctions}
 use Rattle.sq_scope.specs.WellFormed.{is_no_column}
-use Rattle.sq_scope.specs.declared.expression.Typed.{Typed}
+use Rattle.sq_scope.specs.declared.typed.Typed.{Typed}
 use Rattle.sq_scope.specs.declared.findings.Findings.{Findings}
 use Rattle.sq_scope.specs.declared.findings.Found.{Found}
 use Rattle.sq_select.specs.InOrder.{AddAll}

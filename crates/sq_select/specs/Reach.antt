@@ -13,7 +13,7 @@ use Rattle.sq_bound.specs.declared.condition.Predicate.{Predicate}
 use Rattle.sq_bound.specs.declared.expression.BoundExpr.{BoundExpr}
 use Rattle.sq_bound.specs.declared.expression.Place.{Place}
 use Rattle.sq_scope.specs.Reach.{AreOwn, AreOwnCalls, IsOutward, MayReach, Outward, outward}
-use Rattle.sq_scope.specs.declared.expression.Typed.{Typed}
+use Rattle.sq_scope.specs.declared.typed.Typed.{Typed}
 use Rattle.sq_scope.specs.declared.findings.Found.{Found}
 use Rattle.sq_select.specs.declared.select.Parts.{Parts}
 use Rattle.sq_select.specs.declared.select.Selected.{Selected}

@@ -23,7 +23,7 @@ use Rattle.sq_bound.specs.declared.expression.BoundExpr.{BoundExpr}
 use Rattle.sq_bound.specs.declared.expression.Place.{Place}
 use Rattle.sq_bound.specs.declared.expression.SetFunctionCall.{SetFunctionCall}
 use Rattle.sq_scope.specs.WellFormed.{AreLevelsIn, MayStandAt, is_no_column}
-use Rattle.sq_scope.specs.declared.expression.Typed.{Typed}
+use Rattle.sq_scope.specs.declared.typed.Typed.{Typed}
 use Rattle.sq_scope.specs.declared.findings.Found.{Found}
 use Rattle.sq_scope.specs.declared.scope.Environment.{Environment}
 use Rattle.sq_select.specs.declared.select.Parts.{Parts}

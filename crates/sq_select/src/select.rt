@@ -29,11 +29,10 @@ use sq_bound::{
 use sq_items::Items;
 use sq_lex::Name;
 use sq_scope::{
-    Environment, ExprResult, Findings, Found, FromItem, SetFunctions, bind_expr, both,
+    Environment, ExprResult, Findings, Found, FromItem, SetFunctions, Typed, bind_expr, both,
     column_findings, is_exposed, item_over, kept,
 };
 use sq_tree::{ColumnReference, CommaList, Expr, Primary, SelectList, TableName, TableReference};
-use sq_value::Kind;
 use std::alloc::Global;
 
 /// The greatest number of FROM items (own rule).
@@ -319,24 +318,24 @@ fn with_column(
 {
     let (mut selected, item) = both(selected, item)?;
     let Found { part, findings } = item;
-    let pushed = push_column(&mut selected, part.expr, name, part.kind, findings);
+    let pushed = push_column(&mut selected, part, name, findings);
     kept(selected, pushed)
 }
 
 fn push_column(
     selected: &mut SelectedList,
-    expr: BoundExpr,
+    typed: Typed,
     name: Option<Name>,
-    kind: Kind,
     findings: Findings,
 ) -> Result<(), BindFault>
-    ensures exprs { IfOk result (λ u. selected.new.exprs ≡ selected.old.exprs ++ expr ∷ []) }
-    ensures columns { IfOk result (λ u. selected.new.columns ≡ selected.old.columns ++ record { name = name; kind = kind } ∷ []) }
+    ensures exprs { IfOk result (λ u. selected.new.exprs ≡ selected.old.exprs ++ typed.expr ∷ []) }
+    ensures columns { IfOk result (λ u. selected.new.columns ≡ selected.old.columns ++ record { name = name; kind = typed.kind; bounded = typed.bounded } ∷ []) }
     ensures ungrouped { IfOk result (λ u. selected.new.findings.has_ungrouped ≡ (selected.old.findings.has_ungrouped || findings.has_ungrouped)) }
     ensures star { selected.new.is_star ≡ selected.old.is_star }
     ensures can_fail { IfOk result (λ u. selected.new.findings.can_fail ≡ (selected.old.findings.can_fail || findings.can_fail)) }
     ensures reach { IfOk result (λ u. NoFurther (outward selected.old.findings) (outward selected.new.findings) × NoFurther (outward findings) (outward selected.new.findings)) }
 {
+    let Typed { expr, kind } = typed;
     if selected.columns.len() >= MOST_COLUMNS {
         drop(expr);
         return Err(BindFault::LimitExceeded);
@@ -383,9 +382,11 @@ fn push_table(selected: &mut SelectedList, number: usize, item: &FromItem) -> Re
             item: number,
             column: column.position,
         };
-        let name = Some(column.name);
-        let expr = BoundExpr::Column(place);
-        push_column(selected, expr, name, column.kind, Findings::NONE)?;
+        let typed = Typed {
+            expr: BoundExpr::Column(place),
+            kind: column.kind,
+        };
+        push_column(selected, typed, Some(column.name), Findings::NONE)?;
     }
     Ok(())
 }

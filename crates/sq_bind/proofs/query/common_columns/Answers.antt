@@ -17,7 +17,7 @@ loop-column-preserved c =
     record {
       can_next = search rules;
       is_finite = search rules;
-      kinds = rw c.in_ok-push.ensures.ok (columns_more _ _ _ _ c.loop-column.columns c.in-Some.column.now c.in-Some.beside.now _ more.0 more.1 c.loop-column.invariant.kinds c.in_ok-kind.ensures.kind c.in_ok-kind.ensures.bounded);
+      kinds = rw c.in_ok-push.ensures.ok (columns_more _ _ _ _ c.loop-column.columns c.in-Some.column.now c.in-Some.beside.now _ more.0 more.1 c.loop-column.invariant.kinds c.in_ok-common_column.ensures);
     }
 
 pub returns : goal.returns

@@ -12,7 +12,7 @@ returns-clause-tree c =
 
 pub returns-clause-in_order : goal.returns-clause-in_order
 returns-clause-in_order c =
-    newest_in_order c.args.functions.now.calls c.push.new.self c.args.call (record { expr = bound.SetFunction c.len-number.result; kind = c.args.kind }) c.in_ok-push.ensures.ok
+    newest_in_order c.args.functions.now.calls c.push.new.self c.args.call (record { expr = bound.SetFunction c.len-number.result; kind = c.args.kind; bounded = c.requires }) c.in_ok-push.ensures.ok
     (among_newest c.args.functions.now.calls c.push.new.self c.args.call c.len-number.result c.in_ok-push.ensures.ok c.len-number.ensures)
 
 pub returns-clause-quiet : goal.returns-clause-quiet

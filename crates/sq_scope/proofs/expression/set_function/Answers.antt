@@ -7,7 +7,7 @@ use Rattle.sq_bound.specs.declared.expression.SetFunctionCall.TheVariants.{Over}
 use Rattle.sq_scope.proofs.Bindings.{function_if, of_ok}
 use Rattle.sq_scope.specs.Expression.{IsSureUnless}
 use Rattle.sq_scope.specs.Reach.{MayReach, outward}
-use Rattle.sq_scope.specs.declared.expression.Typed.{Typed}
+use Rattle.sq_scope.specs.declared.typed.Typed.{Typed}
 use Rattle.sq_scope.proofs.Reaches.{extreme_sure, noted_so, or_right, own_expr}
 use Rattle.sq_scope.proofs.expression.set_function.Goals as goal
 

@@ -12,7 +12,7 @@ use Rattle.std.proofs.lemmas.Result.{IfOk-at_ok}
 use Rattle.std.proofs.Common.{◌≡◌, Ok, sym, subst, ◌∙◌, arith}
 use Rattle.std.specs.Prelude.{IsTrue}
 use Rattle.sq_meaning.specs.WellFormed.{is_comparable}
-use Rattle.sq_scope.specs.declared.expression.Typed.{Typed}
+use Rattle.sq_scope.specs.declared.typed.Typed.{Typed}
 use Rattle.sq_scope.specs.declared.findings.Found.{Found}
 use Rattle.sq_select.specs.WellFormed.{parameters_in}
 use Rattle.sq_select.proofs.Trees.{between_is}

@@ -18,7 +18,7 @@ use Rattle.std.specs.Prelude.{IfOk}
 use Rattle.std.proofs.lemmas.Result.{IfOk-at_ok}
 use Rattle.sq_select.specs.WellFormed.{AgreesAt, Each, Everywhere, IsTypedAt, parameters_in}
 use Rattle.sq_scope.specs.declared.findings.Found.{Found}
-use Rattle.sq_scope.specs.declared.expression.Typed.{Typed}
+use Rattle.sq_scope.specs.declared.typed.Typed.{Typed}
 use Rattle.sq_select.proofs.Trees.{in_list_is}
 use Rattle.sq_select.proofs.Contexts.{ok_is, may_first, may_second}
 use Rattle.sq_select.proofs.predicate.listed.Goals as goal

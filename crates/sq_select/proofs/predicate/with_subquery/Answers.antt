@@ -19,7 +19,7 @@ use Rattle.sq_select.proofs.predicate.with_subquery.Goals.{in-Ok, in-Err}
 use Rattle.sq_select.proofs.Contexts.{may_first, operand, subquery, beside_made, not_failed}
 use Rattle.sq_select.proofs.predicate.with_subquery.Goals as goal
 use Rattle.sq_bound.specs.declared.condition.BoundSpecification.{BoundSpecification}
-use Rattle.sq_scope.specs.declared.expression.Typed.{Typed}
+use Rattle.sq_scope.specs.declared.typed.Typed.{Typed}
 use Rattle.sq_scope.specs.declared.findings.Found.{Found}
 
 pub returns-clause-well_formed : goal.returns-clause-well_formed

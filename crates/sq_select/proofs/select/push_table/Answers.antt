@@ -28,7 +28,7 @@ loop-column-preserved c = (
       let there : slice_get c.args.item.now.columns index ≡ Some column =
       ap (λ cs. slice_get cs index) (sym c.as_slice-column-items.ensures) ∙ slice_get-get_or items index column c.loop-column-test.true ∙ ap Some (sym c.column-item.is) in
       zip_more (λ e r. IsExpr kinds parameters (level_over tables true ∷ levels) calls r.kind e) c.loop-column.selected.exprs c.loop-column.selected.columns
-      (bound.Column (record { depth = 0; item = c.args.number; column = column.position })) (record { name = Some column.name; kind = column.kind })
+      (bound.Column (record { depth = 0; item = c.args.number; column = column.position })) _
       c.push_column.new.selected.exprs c.push_column.new.selected.columns c.in_ok-push_column.ensures.exprs c.in_ok-push_column.ensures.columns
       (c.loop-column.invariant.0 kinds parameters tables levels calls t at over before)
       (column_is kinds parameters tables levels calls t c.args.item.now c.args.number index column at over there)),

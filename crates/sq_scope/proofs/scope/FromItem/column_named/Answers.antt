@@ -5,7 +5,7 @@ use Rattle.std.specs.Prelude.{find, option_map}
 use borrow.Author.Tests.{tests}
 use Rattle.std.proofs.Common.{rules}
 use Rattle.sq_meaning.specs.Environment.{same_name}
-use Rattle.sq_scope.specs.declared.scope.ItemColumn.{ItemColumn}
+use Rattle.sq_scope.specs.declared.column.ItemColumn.{ItemColumn}
 use Rattle.sq_scope.proofs.scope.FromItem.column_named.Goals as goal
 
 pub returns : goal.returns

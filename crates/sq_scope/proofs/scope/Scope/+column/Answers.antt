@@ -3,7 +3,7 @@ use Rattle.std.specs.Prelude.{IfOk, Result}
 use Rattle.sq_bound.specs.declared.fault.BindFault.{BindFault}
 use Rattle.sq_scope.specs.Scope.{Means, scopes_of}
 use Rattle.sq_scope.specs.WellFormed.{IsGroupedIn, groupings_of}
-use Rattle.sq_scope.specs.declared.scope.FoundColumn.{FoundColumn}
+use Rattle.sq_scope.specs.declared.column.FoundColumn.{FoundColumn}
 use Rattle.sq_scope.proofs.Meanings.{found_further, found_here, grouped_further, grouped_here}
 use Rattle.sq_scope.proofs.scope.Scope.+column.Goals as goal
 
