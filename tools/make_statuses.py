@@ -1,5 +1,9 @@
 #!/usr/bin/env python3
-"""Makes docs/STATUSES.md of crates/sq_cases/data/runs-statuses.txt, whose runs the gate makes."""
+"""Makes docs/STATUSES.md of crates/sq_cases/data/runs-statuses.txt, whose runs the gate makes.
+
+make_statuses.py [check]: with `check` it writes nothing, and fails where the page isn't that of the data.
+"""
+import sys
 from pathlib import Path
 
 ROOT = Path(__file__).resolve().parent.parent
@@ -65,7 +69,12 @@ def main():
         page += [f"### `{title}`", "", says[0].upper() + says[1:] + ".", ""]
         *parts, answer = texts(lines)
         page += texts_block(parts) + answer_block(*answer)
-    (ROOT / "docs/STATUSES.md").write_text("\n".join(page).rstrip() + "\n")
+    text = "\n".join(page).rstrip() + "\n"
+    made = ROOT / "docs/STATUSES.md"
+    if sys.argv[1:] != ["check"]:
+        made.write_text(text)
+    elif made.read_text() != text:
+        sys.exit("docs/STATUSES.md is not made of crates/sq_cases/data/runs-statuses.txt: run tools/make_statuses.py")
 
 
 if __name__ == "__main__":
