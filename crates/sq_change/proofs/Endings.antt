@@ -11,7 +11,7 @@ use Rattle.sq_bound.specs.declared.expression.BoundExpr.TheVariants as bound
 use Rattle.sq_bound.proofs.ExpressionLaws.{expr_of-User}
 use Rattle.sq_query.specs.MayRead.{MayEnd}
 use Rattle.sq_query.specs.Row.{HasValueOn, outside}
-use Rattle.sq_query.specs.declared.fault.Fault.{Fault}
+use Rattle.sq_expression.specs.declared.fault.Fault.{Fault}
 use Rattle.sq_query.proofs.Fitting.{ends_right}
 use Rattle.sq_change.proofs.Fitting.{no_rows}
 

@@ -10,7 +10,7 @@ use Rattle.sq_store.specs.declared.table.Table.{Table}
 use Rattle.sq_store.specs.Change.{rows_put}
 use Rattle.sq_store.specs.Content.{Content, changed_by, inserted, removed, replaced, table_at, with_table}
 use Rattle.sq_bound.specs.Fits.{under}
-use Rattle.sq_query.specs.declared.fault.Fault.{Fault}
+use Rattle.sq_expression.specs.declared.fault.Fault.{Fault}
 use Rattle.sq_bound.specs.declared.statement.ChangeTarget.{ChangeTarget}
 use Rattle.sq_change.specs.Changed.{Removals, Replacements, are_insertions, are_replacements}
 use Rattle.sq_change.specs.declared.complete.Changed.{Changed}

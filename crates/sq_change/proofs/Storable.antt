@@ -30,7 +30,7 @@ use Rattle.sq_bound.specs.declared.statement.BoundAssignment.{BoundAssignment}
 use Rattle.sq_bound.specs.declared.statement.InsertedRows.{InsertedRows}
 use Rattle.sq_bound.specs.declared.statement.InsertedRows.TheVariants as inserted
 use Rattle.sq_bound.proofs.ExpressionLaws.{expr_of-User}
-use Rattle.sq_query.specs.Frame.{inputs_of}
+use Rattle.sq_expression.specs.Frame.{inputs_of}
 use Rattle.sq_query.specs.MayRead.{MayRead}
 use Rattle.sq_query.specs.Row.{HasValueOn, outside}
 use Rattle.sq_query.proofs.Fitting.{ends_right}

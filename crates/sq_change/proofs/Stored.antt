@@ -7,7 +7,7 @@ use Rattle.sq_value.specs.declared.fault.StoreFault.TheVariants.{Range, TooLong,
 use Rattle.sq_value.specs.declared.value.Value.{Value}
 use Rattle.sq_meaning.specs.Assignment.{IsStoreOutcome, assigned}
 use Rattle.sq_meaning.proofs.AssignmentLaws.{store_statuses}
-use Rattle.sq_query.specs.Fault.{Meets, fault_of_storing}
+use Rattle.sq_expression.specs.Fault.{Meets, fault_of_storing}
 
 outcome : (d : Domain) (v : Value) (r : Result Value StoreFault) → stored d v ≡ r → IsStoreOutcome r (assigned d v)
 outcome d v r h = let P : Result Value StoreFault → Type 0 = λ x. IsStoreOutcome x (assigned d v) in subst P h (store_statuses d v)

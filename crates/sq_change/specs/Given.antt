@@ -20,7 +20,7 @@ use Rattle.sq_bound.specs.declared.statement.BoundAssignment.{BoundAssignment}
 use Rattle.sq_bound.specs.declared.statement.InsertedRows.{InsertedRows}
 use Rattle.sq_query.specs.MayRead.{MayEnd, MayRead}
 use Rattle.sq_query.specs.Row.{HasValueOn}
-use Rattle.sq_query.specs.declared.fault.Fault.{Fault}
+use Rattle.sq_expression.specs.declared.fault.Fault.{Fault}
 
 -- each value is in the domain of its column
 abbrev pub AreStored : List ObjectColumn → List Value → Type 0

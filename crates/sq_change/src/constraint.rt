@@ -13,7 +13,7 @@ ghost use Rattle.sq_change.specs.Changed.{AreOnRowsPut};
 use crate::row::{is_null, row_put};
 use crate::setting::Setting;
 use sq_bound::{BaseTable, BoundCond, Leaf, Names, Shared};
-use sq_query::{Failure, Fault};
+use sq_expression::{Failure, Fault};
 use sq_store::{Change, Store};
 use sq_value::{Row, Truth, Value};
 

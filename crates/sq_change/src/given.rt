@@ -21,8 +21,9 @@ use sq_bound::{
     BaseColumn, BaseTable, BoundExpr, BoundInsert, BoundSpecification, ColumnDefault, InsertedRows,
     Names, ObjectColumn,
 };
+use sq_expression::{Failure, Fault};
 use sq_items::Items;
-use sq_query::{Failure, Fault, specification_rows};
+use sq_query::specification_rows;
 use sq_store::{Change, Meter, Store};
 use sq_value::{Row, Value};
 use std::alloc::Global;

@@ -13,7 +13,7 @@ ghost use Rattle.sq_change.specs.Reference.{are_of_keys, is_of_key, refer_to_key
 use crate::row::{has_null, row_put};
 use crate::setting::Setting;
 use sq_bound::{BaseTable, Names, Reference};
-use sq_query::{Failure, Fault};
+use sq_expression::{Failure, Fault};
 use sq_store::{Change, Meter, Store};
 use sq_value::{Key, Row};
 use std::alloc::Global;

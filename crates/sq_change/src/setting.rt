@@ -10,8 +10,9 @@ ghost use Rattle.sq_query.specs.MayRead.{MayEnd, MayRead};
 ghost use Rattle.sq_query.specs.Row.{line_of, HasValueOn, IsOnRow};
 
 use sq_bound::{BoundCond, BoundExpr, Names};
+use sq_expression::Fault;
 use sq_lex::Name;
-use sq_query::{Fault, Inputs, truth_of, value_of};
+use sq_query::{Inputs, truth_of, value_of};
 use sq_store::Store;
 use sq_value::{Row, Truth, Value};
 use std::alloc::Global;

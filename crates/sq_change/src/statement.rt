@@ -20,7 +20,8 @@ use crate::given::new_rows;
 use crate::setting::Setting;
 use crate::target::{all_keys, keys_assigned, leaf_under, numbers_changed, removed, replaced};
 use sq_bound::{BoundInsert, BoundUpdate, ChangeTarget, Names};
-use sq_query::{Failure, Fault, Inputs};
+use sq_expression::{Failure, Fault};
+use sq_query::Inputs;
 use sq_store::{Change, Meter, Store};
 use std::alloc::Global;
 

@@ -3,7 +3,7 @@
 ghost use Rattle.std.specs.Prelude.{◌≡◌, ◌↔◌, IfErr, IfOk, IsTrue};
 ghost use Rattle.std.specs.Option.{option_copied};
 ghost use Rattle.sq_meaning.specs.Assignment as spec;
-ghost use Rattle.sq_query.specs.Fault.{Meets};
+ghost use Rattle.sq_expression.specs.Fault.{Meets};
 ghost use Rattle.sq_query.specs.MayRead.{MayEnd};
 ghost use Rattle.sq_query.specs.Row.{line_of};
 ghost use Rattle.sq_value.specs.Domain.{FitsKind, IsDomain, IsInDomain, is_of_numbers};
@@ -11,7 +11,7 @@ ghost use Rattle.sq_change.specs.Given.{IsStorable};
 
 use crate::setting::Setting;
 use sq_bound::{BoundExpr, Names, ObjectColumn};
-use sq_query::Fault;
+use sq_expression::Fault;
 use sq_store::Store;
 use sq_value::{Domain, Row, Value, store};
 use std::alloc::Global;

@@ -16,7 +16,7 @@ use Rattle.sq_meaning.specs.Target.{has_subquery, have_subquery}
 use Rattle.sq_bound.specs.Condition.{PlacedCond, PlacedClause}
 use Rattle.sq_bound.specs.Expression.{PlacedExpr}
 use Rattle.sq_bound.specs.declared.condition.TablePlace.{TablePlace}
-use Rattle.sq_query.proofs.Conditions.{not_both, neither_left, neither_right}
+use Rattle.sq_condition.proofs.Conditions.{not_both, neither_left, neither_right}
 
 module _ (here there : TablePlace → Outcome (List Row)) where
   pub value_over : (e : PlacedExpr) (env : Env (Unit {0})) → value (by_place here) e env ≡ value (by_place there) e env

@@ -5,12 +5,12 @@ use Rattle.sq_store.specs.declared.table.Table.{Table}
 use Rattle.sq_meaning.specs.Environment.{Row}
 use Rattle.sq_meaning.specs.Status.{Outcome, and_then}
 use Rattle.sq_meaning.specs.Tables.{rows_in}
-use Rattle.sq_query.specs.Fault.{Meets}
+use Rattle.sq_expression.specs.Fault.{Meets}
 use Rattle.sq_query.specs.Table.{base_seen}
-use Rattle.sq_query.specs.declared.fault.Fault.{Fault}
-use Rattle.sq_query.specs.declared.fault.Fault.TheVariants as fault
-use Rattle.sq_query.specs.declared.table.BaseRows.{BaseRows}
-use Rattle.sq_query.proofs.Kept.{ok_same}
+use Rattle.sq_expression.specs.declared.fault.Fault.{Fault}
+use Rattle.sq_expression.specs.declared.fault.Fault.TheVariants as fault
+use Rattle.sq_expression.specs.declared.table.BaseRows.{BaseRows}
+use Rattle.sq_expression.proofs.Kept.{ok_same}
 
 pub all_same : {A : Type 0} (xs : List A) → map (λ x. x) xs ≡ xs
 all_same [] = refl

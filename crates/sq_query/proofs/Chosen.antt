@@ -7,11 +7,11 @@ use Rattle.std.specs.Prelude.{Bool}
 use Rattle.sq_store.specs.declared.table.Numbered.{Numbered}
 use Rattle.sq_meaning.specs.Environment.{Row}
 use Rattle.sq_meaning.specs.Status.{Outcome, and_then, kept}
-use Rattle.sq_query.specs.Fault.{Meets}
+use Rattle.sq_expression.specs.Fault.{Meets}
 use Rattle.sq_query.specs.Table.{numbered_row}
 use Rattle.sq_query.specs.Target.{chosen}
-use Rattle.sq_query.specs.declared.fault.Fault.{Fault}
-use Rattle.sq_query.specs.declared.fault.Fault.TheVariants as fault
+use Rattle.sq_expression.specs.declared.fault.Fault.{Fault}
+use Rattle.sq_expression.specs.declared.fault.Fault.TheVariants as fault
 
 -- conditions where they stand choose what they choose
 pub chosen_lent : {X : Type 0} (test : X → Numbered → Outcome Bool) (xs : List (Bor X)) (rows : List Numbered) → chosen test (map (λ b. b.now) xs) rows ≡ chosen (λ (b : Bor X). test b.now) xs rows

@@ -15,12 +15,12 @@ use Rattle.sq_meaning.proofs.UnionKinds.{query_of_kinds}
 use Rattle.sq_bound.specs.Query.{PlacedQuery}
 use Rattle.sq_bound.specs.WellFormed.{TableKinds}
 use Rattle.sq_bound.specs.declared.condition.TablePlace.{TablePlace}
-use Rattle.sq_query.specs.Fault.{IsAnswered, IsRight, Meets, MeetsAs, MeansAs}
-use Rattle.sq_query.specs.Frame.{inputs_of}
+use Rattle.sq_expression.specs.Fault.{IsAnswered, IsRight, Meets, MeetsAs, MeansAs}
+use Rattle.sq_expression.specs.Frame.{inputs_of}
 use Rattle.sq_query.specs.MayRead.{MayEnd}
 use Rattle.sq_query.specs.Union.{AreFitting}
-use Rattle.sq_query.specs.declared.fault.Fault.{Fault}
-use Rattle.sq_query.specs.declared.fault.Fault.TheVariants as fault
+use Rattle.sq_expression.specs.declared.fault.Fault.{Fault}
+use Rattle.sq_expression.specs.declared.fault.Fault.TheVariants as fault
 use Rattle.sq_query.proofs.KeyedRows.{inputs_are}
 
 -- ---- outcomes

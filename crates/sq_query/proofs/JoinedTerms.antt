@@ -16,7 +16,7 @@ use Rattle.sq_bound.specs.declared.query.BoundQuery.{BoundQuery, out-BoundQuery}
 use Rattle.sq_bound.specs.declared.query.BoundTerm.TheVariants.{Bracketed}
 use Rattle.sq_bound.specs.declared.query.BoundUnion.{BoundUnion}
 use Rattle.sq_bound.proofs.JoinedLaws.{term_specifications-Bracketed, joined_kinds-out, union_kinds-out, term_kinds-Bracketed}
-use Rattle.sq_query.proofs.Kept.{ok_same}
+use Rattle.sq_expression.proofs.Kept.{ok_same}
 
 -- what was made of something that is there
 pub opened : {A B : Type 0} (o : Outcome A) (f : A → Outcome B) (y : B) → and_then o f ≡ Ok y → (x : A) × (o ≡ Ok x) × (f x ≡ Ok y)

@@ -39,7 +39,7 @@ use Rattle.sq_bound.proofs.ExpressionLaws.{expr_of-Column}
 use Rattle.sq_bound.proofs.QuietTruths.{both_left, both_right}
 use Rattle.sq_query.specs.Row.{outside}
 use Rattle.sq_query.specs.Key.{IsComparedWith, AreEqualled, IsEquality}
-use Rattle.sq_query.proofs.Kept.{ok_same}
+use Rattle.sq_expression.proofs.Kept.{ok_same}
 
 -- ---- what the code finds
 

@@ -29,19 +29,19 @@ use Rattle.sq_bound.specs.declared.names.BaseTable.{BaseTable}
 use Rattle.sq_bound.specs.declared.query.Target.{Target}
 use Rattle.sq_bound.proofs.QuietRows.{HasTruthOnRow, no_tables, target_on_row}
 use Rattle.sq_bound.proofs.QuietTruths.{both_left, both_right}
-use Rattle.sq_query.specs.Fault.{Meets, MeetsAs}
-use Rattle.sq_query.specs.Frame.{inputs_of}
+use Rattle.sq_expression.specs.Fault.{Meets, MeetsAs}
+use Rattle.sq_expression.specs.Frame.{inputs_of}
 use Rattle.sq_query.specs.Row.{outside}
 use Rattle.sq_query.specs.Table.{stored_numbered}
 use Rattle.sq_query.specs.Target.{and_own, are_true, chosen, conditions_of, is_true_of, numbers_chosen, numbers_in, IsChosen, IsQuietOver}
-use Rattle.sq_query.specs.declared.fault.Fault.{Fault}
-use Rattle.sq_query.specs.declared.fault.Fault.TheVariants as fault
+use Rattle.sq_expression.specs.declared.fault.Fault.{Fault}
+use Rattle.sq_expression.specs.declared.fault.Fault.TheVariants as fault
 use Rattle.sq_query.specs.Key.{IsKeyOf}
 use Rattle.sq_query.specs.declared.key.KnownKey.{KnownKey}
 use Rattle.sq_query.proofs.AnyTables.{truth_over}
 use Rattle.sq_query.proofs.ChosenRows.{is_ok_true, has_answer, all_true_of, are_true_all, all_so, chosen_filter}
-use Rattle.sq_query.proofs.Conditions.{neither_left, neither_right}
-use Rattle.sq_query.proofs.Kept.{ok_same}
+use Rattle.sq_condition.proofs.Conditions.{neither_left, neither_right}
+use Rattle.sq_expression.proofs.Kept.{ok_same}
 use Rattle.sq_query.proofs.KeyTests.{key_same}
 use Rattle.sq_query.proofs.KindsOfTables.{stored_kinds}
 use Rattle.sq_query.proofs.OnlyOne.{found_if, one_passes, found_is, at_most_one, distinct_at}

@@ -20,13 +20,13 @@ use Rattle.sq_bound.specs.WellFormed.{TableKinds, base_kinds}
 use Rattle.sq_bound.specs.declared.condition.TablePlace.TheVariants.{Base, View}
 use Rattle.sq_bound.specs.declared.names.BaseColumn.{BaseColumn}
 use Rattle.sq_bound.specs.declared.names.BaseTable.{BaseTable}
-use Rattle.sq_query.specs.Frame.{lent, view_outcome}
+use Rattle.sq_expression.specs.Frame.{lent, view_outcome}
 use Rattle.sq_query.specs.Table.{table_there, stored_base, base_seen, AreRowsAt, IsBaseOf, IsViewOf, AreBasesOf, AreViewsOf}
-use Rattle.sq_query.specs.declared.fault.Failure.{Failure}
-use Rattle.sq_query.specs.declared.table.BaseRows.{BaseRows}
-use Rattle.sq_query.specs.declared.table.ViewRows.{ViewRows}
+use Rattle.sq_expression.specs.declared.fault.Failure.{Failure}
+use Rattle.sq_expression.specs.declared.table.BaseRows.{BaseRows}
+use Rattle.sq_expression.specs.declared.table.ViewRows.{ViewRows}
 use Rattle.sq_query.proofs.Bases.{stored_by}
-use Rattle.sq_query.proofs.Kept.{ok_same}
+use Rattle.sq_expression.proofs.Kept.{ok_same}
 
 -- ---- rows in the domains of their columns
 

@@ -29,17 +29,17 @@ use Rattle.sq_bound.specs.declared.condition.TablePlace.TheVariants.{Base, View}
 use Rattle.sq_bound.specs.declared.names.BaseTable.{BaseTable}
 use Rattle.sq_bound.specs.declared.query.Target.{Target}
 use Rattle.sq_bound.proofs.Wider.{is_cond_wider}
-use Rattle.sq_query.specs.Fault.{IsRight, Meets}
-use Rattle.sq_query.specs.Frame.{table_rows}
+use Rattle.sq_expression.specs.Fault.{IsRight, Meets}
+use Rattle.sq_expression.specs.Frame.{table_rows}
 use Rattle.sq_query.specs.MayRead.{MayEnd, MayRead}
 use Rattle.sq_query.specs.Needed.{Adds, IsNeeded, NeedsBases, ReadsCond, cond_tables}
 use Rattle.sq_query.specs.Row.{IsOnRow, outside, truth_on_row}
 use Rattle.sq_query.specs.Table.{ReadsAsMeant, bases_of, rows_read, stored_base, stored_numbered}
 use Rattle.sq_query.specs.Target.{AreKnownIn, AreOnBase, are_true, chosen, conditions_of, is_true_of, numbers_chosen}
-use Rattle.sq_query.specs.declared.context.Context.{Context}
-use Rattle.sq_query.specs.declared.fault.Failure.TheVariants as failure
-use Rattle.sq_query.specs.declared.fault.Fault.{Fault}
-use Rattle.sq_query.specs.declared.fault.Fault.TheVariants as fault
+use Rattle.sq_expression.specs.declared.context.Context.{Context}
+use Rattle.sq_expression.specs.declared.fault.Failure.TheVariants as failure
+use Rattle.sq_expression.specs.declared.fault.Fault.{Fault}
+use Rattle.sq_expression.specs.declared.fault.Fault.TheVariants as fault
 use Rattle.sq_query.specs.declared.needed.Needed.{Needed}
 use Rattle.sq_query.specs.declared.view.Tables.{Tables}
 use Rattle.sq_query.proofs.Added.{cond_needed, needs_more}

@@ -12,12 +12,12 @@ use Rattle.sq_bound.specs.declared.condition.BoundCond.{BoundCond}
 use Rattle.sq_bound.specs.declared.condition.BoundSpecification.{BoundSpecification}
 use Rattle.sq_bound.proofs.ClosedQueries.{closed_rows}
 use Rattle.sq_bound.proofs.Nested.{cond_both, select_both}
-use Rattle.sq_query.specs.Frame.{inputs_of, reading, table_rows}
-use Rattle.sq_query.specs.Lines.{env_around}
-use Rattle.sq_query.specs.Memo.{Meant, MeantRows}
-use Rattle.sq_query.specs.Specification.{rows_meant}
-use Rattle.sq_query.specs.Subquery.{IsKnown, KnowsCond, KnowsQuery}
-use Rattle.sq_query.specs.declared.context.Context.{Context}
+use Rattle.sq_expression.specs.Frame.{inputs_of, reading, table_rows}
+use Rattle.sq_expression.specs.Lines.{env_around}
+use Rattle.sq_condition.specs.Memo.{Meant, MeantRows}
+use Rattle.sq_condition.specs.Specification.{rows_meant}
+use Rattle.sq_condition.specs.Subquery.{IsKnown, KnowsCond, KnowsQuery}
+use Rattle.sq_expression.specs.declared.context.Context.{Context}
 
 module _ (context : Context) where
   -- the rows of the query specification that a number names

@@ -8,11 +8,11 @@ use Rattle.sq_value.specs.declared.truth.Truth.{Truth}
 use Rattle.sq_value.specs.declared.truth.Truth.TheVariants.{False, Unknown, True}
 use Rattle.sq_meaning.specs.Status.{Outcome, ◌>>=◌}
 use Rattle.sq_meaning.specs.Query.{is_true}
-use Rattle.sq_query.specs.Fault.{Meets, status_of}
+use Rattle.sq_expression.specs.Fault.{Meets, status_of}
 use Rattle.sq_query.specs.Target.{are_true}
-use Rattle.sq_query.proofs.Conditions.{neither_left, neither_right}
-use Rattle.sq_query.specs.declared.fault.Fault.{Fault}
-use Rattle.sq_query.specs.declared.fault.Fault.TheVariants as fault
+use Rattle.sq_condition.proofs.Conditions.{neither_left, neither_right}
+use Rattle.sq_expression.specs.declared.fault.Fault.{Fault}
+use Rattle.sq_expression.specs.declared.fault.Fault.TheVariants as fault
 
 module _ {X : Type 0} (test : X → Outcome Truth) (whole : Outcome Bool) (xs : List X) (i : ℕ) (x : X) (within : i < length xs) (is : x ≡ get_or xs i x) (left : whole ≡ are_true test (drop i xs)) where
   first_left : whole ≡ (is_true (test x) >>= λ holds. if holds then are_true test (drop (i + 1) xs) else Ok false)

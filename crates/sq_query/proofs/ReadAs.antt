@@ -16,18 +16,18 @@ use Rattle.sq_bound.specs.declared.condition.BoundCond.{BoundCond}
 use Rattle.sq_bound.specs.declared.condition.BoundSpecification.{BoundSpecification}
 use Rattle.sq_bound.specs.declared.condition.TablePlace.{TablePlace}
 use Rattle.sq_bound.specs.declared.condition.TablePlace.TheVariants.{Base, View}
-use Rattle.sq_query.specs.Fault.{Means, Meets}
-use Rattle.sq_query.specs.Frame.{lent, table_rows}
-use Rattle.sq_query.specs.Memo.{Meant}
+use Rattle.sq_expression.specs.Fault.{Means, Meets}
+use Rattle.sq_expression.specs.Frame.{lent, table_rows}
+use Rattle.sq_condition.specs.Memo.{Meant}
 use Rattle.sq_query.specs.Needed.{IsNeeded, NeedsBases, ReadsCond, ReadsSelect}
 use Rattle.sq_query.specs.Row.{IsOnRow, outside, truth_on_row}
-use Rattle.sq_query.specs.Subquery.{KnowsCond}
+use Rattle.sq_condition.specs.Subquery.{KnowsCond}
 use Rattle.sq_query.specs.Table.{ReadsAsMeant, bases_of, rows_among, rows_read, stored_base}
 use Rattle.sq_query.specs.Union.{IsReadAs}
-use Rattle.sq_query.specs.declared.context.Context.{Context}
-use Rattle.sq_query.specs.declared.fault.Fault.{Fault}
+use Rattle.sq_expression.specs.declared.context.Context.{Context}
+use Rattle.sq_expression.specs.declared.fault.Fault.{Fault}
 use Rattle.sq_query.specs.declared.needed.Needed.{Needed}
-use Rattle.sq_query.specs.declared.table.BaseRows.{BaseRows}
+use Rattle.sq_expression.specs.declared.table.BaseRows.{BaseRows}
 use Rattle.sq_query.specs.declared.view.Tables.{Tables}
 use Rattle.sq_query.proofs.Fitting.{answers_right}
 use Rattle.sq_query.proofs.KnownQueries.{known_cond_of}

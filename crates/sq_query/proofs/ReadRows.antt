@@ -24,7 +24,7 @@ use Rattle.sq_bound.specs.declared.condition.TablePlace.{TablePlace}
 use Rattle.sq_bound.specs.declared.condition.TablePlace.TheVariants.{View}
 use Rattle.sq_bound.specs.declared.names.BaseTable.{BaseTable}
 use Rattle.sq_bound.specs.declared.query.BoundQuery.{BoundQuery}
-use Rattle.sq_query.specs.Frame.{inputs_of}
+use Rattle.sq_expression.specs.Frame.{inputs_of}
 use Rattle.sq_query.specs.MayRead.{MayRead}
 use Rattle.sq_query.specs.Row.{IsOnRow, outside, truth_on_row}
 use Rattle.sq_query.specs.Union.{AreFitting}

@@ -24,24 +24,24 @@ use Rattle.sq_bound.specs.declared.condition.BoundSpecification.{BoundSpecificat
 use Rattle.sq_bound.specs.declared.condition.TablePlace.{TablePlace}
 use Rattle.sq_bound.specs.declared.condition.TablePlace.TheVariants.{Base, View}
 use Rattle.sq_bound.specs.declared.names.View.{View as BoundView}
-use Rattle.sq_query.specs.Fault.{HasRows, IsAnswered, IsRight, MeansRows, MeetsAs}
-use Rattle.sq_query.specs.Frame.{lent, table_rows, view_outcome}
-use Rattle.sq_query.specs.Lines.{env_around}
-use Rattle.sq_query.specs.Memo.{Meant}
+use Rattle.sq_expression.specs.Fault.{HasRows, IsAnswered, IsRight, MeansRows, MeetsAs}
+use Rattle.sq_expression.specs.Frame.{lent, table_rows, view_outcome}
+use Rattle.sq_expression.specs.Lines.{env_around}
+use Rattle.sq_condition.specs.Memo.{Meant}
 use Rattle.sq_query.specs.Needed.{IsNeeded, NeedsMore, ReadsSelect, select_tables}
-use Rattle.sq_query.specs.Specification.{rows_meant}
-use Rattle.sq_query.specs.Subquery.{KnowsQuery}
+use Rattle.sq_condition.specs.Specification.{rows_meant}
+use Rattle.sq_condition.specs.Subquery.{KnowsQuery}
 use Rattle.sq_query.specs.Table.{CanBeRead, IsViewAt, ReadsAsMeant, base_seen, rows_among, rows_read, rows_of_view, stored_base, table_there, stored_rows}
-use Rattle.sq_query.specs.declared.context.Context.{Context}
-use Rattle.sq_query.specs.declared.fault.Fault.{Fault}
-use Rattle.sq_query.specs.declared.fault.Fault.TheVariants as fault
+use Rattle.sq_expression.specs.declared.context.Context.{Context}
+use Rattle.sq_expression.specs.declared.fault.Fault.{Fault}
+use Rattle.sq_expression.specs.declared.fault.Fault.TheVariants as fault
 use Rattle.sq_query.specs.declared.needed.Needed.{Needed}
-use Rattle.sq_query.specs.declared.table.BaseRows.{BaseRows}
-use Rattle.sq_query.specs.declared.table.ViewRows.{ViewRows}
+use Rattle.sq_expression.specs.declared.table.BaseRows.{BaseRows}
+use Rattle.sq_expression.specs.declared.table.ViewRows.{ViewRows}
 use Rattle.sq_query.specs.declared.view.Tables.{Tables}
 use Rattle.sq_query.proofs.Added.{is, select_listed, select_read}
 use Rattle.sq_query.proofs.Bases.{stored_by}
-use Rattle.sq_query.proofs.Kept.{ok_same}
+use Rattle.sq_expression.proofs.Kept.{ok_same}
 use Rattle.sq_query.proofs.KnownQueries.{known_of}
 use Rattle.sq_query.proofs.NeededViews.{reads_known, reads_weaker, stands_before}
 use Rattle.sq_query.proofs.SameTables.{same_rows}

@@ -12,15 +12,15 @@ use Rattle.sq_bound.specs.Condition.{cond_of}
 use Rattle.sq_bound.specs.Expression.{expr_of}
 use Rattle.sq_bound.specs.declared.condition.BoundCond.{BoundCond}
 use Rattle.sq_bound.specs.declared.expression.BoundExpr.{BoundExpr}
-use Rattle.sq_query.specs.Condition.{HasTruth, cond_on}
-use Rattle.sq_query.specs.Fault.{Meets}
-use Rattle.sq_query.specs.Frame.{scopes_of, group_values, inputs_of, table_rows, reading, on_line, env_of, truth_in}
+use Rattle.sq_condition.specs.Condition.{HasTruth, cond_on}
+use Rattle.sq_expression.specs.Fault.{Meets}
+use Rattle.sq_expression.specs.Frame.{scopes_of, group_values, inputs_of, table_rows, reading, on_line, env_of, truth_in}
 use Rattle.sq_query.specs.Row.{outside, HasValueOn, HasTruthOn}
-use Rattle.sq_query.specs.declared.context.Context.{Context}
-use Rattle.sq_query.specs.declared.fault.Fault.{Fault}
-use Rattle.sq_query.specs.declared.frame.Frame.{Frame}
+use Rattle.sq_expression.specs.declared.context.Context.{Context}
+use Rattle.sq_expression.specs.declared.fault.Fault.{Fault}
+use Rattle.sq_expression.specs.declared.frame.Frame.{Frame}
 use Rattle.sq_query.proofs.AnyTables.{value_over, truth_over}
-use Rattle.sq_query.proofs.Expressions.{meets_by}
+use Rattle.sq_expression.proofs.Expressions.{meets_by}
 
 module _ (frame : Frame) (context : Context) (line : Line) (scopes : scopes_of frame ≡ alone [] line ∷ []) (functions : group_values frame ≡ []) where
   pub value_outside : (e : BoundExpr) (r : Result Value Fault)

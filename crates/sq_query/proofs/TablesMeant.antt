@@ -31,7 +31,7 @@ use Rattle.sq_bound.specs.declared.condition.BoundSpecification.{BoundSpecificat
 use Rattle.sq_bound.specs.declared.condition.TablePlace.{TablePlace}
 use Rattle.sq_bound.specs.declared.condition.TablePlace.TheVariants.{Base, View}
 use Rattle.sq_bound.specs.declared.names.BaseTable.{BaseTable}
-use Rattle.sq_query.specs.Fault.{IsRight}
+use Rattle.sq_expression.specs.Fault.{IsRight}
 use Rattle.sq_query.specs.Table.{AreMeant, table_there}
 use Rattle.sq_query.proofs.KindsOfTables.{KindsAreOf, stored_kinds}
 

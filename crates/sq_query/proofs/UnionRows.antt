@@ -30,21 +30,21 @@ use Rattle.sq_bound.specs.declared.query.BoundTerm.TheVariants.{Specification, B
 use Rattle.sq_bound.specs.declared.query.BoundUnion.{BoundUnion}
 use Rattle.sq_bound.proofs.JoinedLaws.{specifications_of-out, union_specifications-out, term_specifications-Specification, term_specifications-Bracketed, joined_kinds-out, term_kinds-Specification, term_kinds-Bracketed}
 use Rattle.sq_bound.proofs.QueryLaws.{query_of-out, union_of-out, term_of-Specification, term_of-Bracketed}
-use Rattle.sq_query.specs.Fault.{MeetsAs, HasRows, MeansRows, rows_in}
-use Rattle.sq_query.specs.Frame.{inputs_of, table_rows}
-use Rattle.sq_query.specs.Lines.{env_around}
-use Rattle.sq_query.specs.Memo.{Meant}
-use Rattle.sq_query.specs.Specification.{rows_meant}
-use Rattle.sq_query.specs.Subquery.{KnowsQuery}
+use Rattle.sq_expression.specs.Fault.{MeetsAs, HasRows, MeansRows, rows_in}
+use Rattle.sq_expression.specs.Frame.{inputs_of, table_rows}
+use Rattle.sq_expression.specs.Lines.{env_around}
+use Rattle.sq_condition.specs.Memo.{Meant}
+use Rattle.sq_condition.specs.Specification.{rows_meant}
+use Rattle.sq_condition.specs.Subquery.{KnowsQuery}
 use Rattle.sq_query.specs.Union.{AreBringable, AreFitting, HasUnionRows, HasTermRows, IsReadAs, MayReadAs, joined_rows}
-use Rattle.sq_query.specs.declared.context.Context.{Context}
-use Rattle.sq_query.specs.declared.fault.Fault.{Fault}
-use Rattle.sq_query.specs.declared.fault.Fault.TheVariants as fault
+use Rattle.sq_expression.specs.declared.context.Context.{Context}
+use Rattle.sq_expression.specs.declared.fault.Fault.{Fault}
+use Rattle.sq_expression.specs.declared.fault.Fault.TheVariants as fault
 use Rattle.sq_query.proofs.Bounded.{all_bounded, both_bringable}
 use Rattle.sq_query.proofs.JoinedTerms.{IsJoined, all_left, all_right, all_within, opened, kept_are, sides, kinds_so_far, query_of_term}
 use Rattle.sq_query.proofs.Fitting.{exact, query_fits}
 use Rattle.sq_query.proofs.KeyedRows.{inputs_are}
-use Rattle.sq_query.proofs.Kept.{ok_same}
+use Rattle.sq_expression.proofs.Kept.{ok_same}
 use Rattle.sq_query.proofs.KnownQueries.{known_of}
 use Rattle.sq_query.proofs.SameTables.{same_rows}
 use Rattle.sq_query.proofs.TablesMeant.{select_fits}

@@ -21,10 +21,10 @@ use Rattle.sq_meaning.proofs.OperatorKinds.{number_of_scale, literal_fits, sum_f
 use Rattle.sq_bound.specs.Expression.{PlacedExpr}
 use Rattle.sq_bound.specs.WellFormed.{TableKinds}
 use Rattle.sq_bound.specs.declared.condition.TablePlace.{TablePlace}
-use Rattle.sq_query.specs.Frame.{inputs_of, reading}
+use Rattle.sq_expression.specs.Frame.{inputs_of, reading}
 use Rattle.sq_query.specs.Kinds.{IsLineOver}
-use Rattle.sq_query.specs.Lines.{env_around}
-use Rattle.sq_query.specs.declared.context.Context.{Context}
+use Rattle.sq_expression.specs.Lines.{env_around}
+use Rattle.sq_expression.specs.declared.context.Context.{Context}
 
 -- ---- outcomes
 

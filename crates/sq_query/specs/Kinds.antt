@@ -6,8 +6,8 @@ use Rattle.sq_meaning.specs.Environment.{Line}
 use Rattle.sq_meaning.specs.WellFormed.{IsRowOf, AreRowsOf, Has}
 use Rattle.sq_bound.specs.WellFormed.{TableKinds}
 use Rattle.sq_bound.specs.declared.condition.TablePlace.{TablePlace}
-use Rattle.sq_query.specs.Frame.{table_rows}
-use Rattle.sq_query.specs.declared.context.Context.{Context}
+use Rattle.sq_expression.specs.Frame.{table_rows}
+use Rattle.sq_expression.specs.declared.context.Context.{Context}
 
 -- the rows of the tables that are read have values of the kinds of their columns
 abbrev pub HaveKinds : TableKinds → Context → Type 0

@@ -13,9 +13,9 @@ use Rattle.sq_bound.specs.declared.condition.BoundSpecification.{BoundSpecificat
 use Rattle.sq_bound.specs.declared.condition.TablePlace.{TablePlace}
 use Rattle.sq_bound.specs.declared.names.BaseTable.{BaseTable}
 use Rattle.sq_query.specs.Table.{AreMeant}
-use Rattle.sq_query.specs.declared.fault.Failure.TheVariants as failure
-use Rattle.sq_query.specs.declared.fault.Fault.{Fault}
-use Rattle.sq_query.specs.declared.fault.Fault.TheVariants as fault
+use Rattle.sq_expression.specs.declared.fault.Failure.TheVariants as failure
+use Rattle.sq_expression.specs.declared.fault.Fault.{Fault}
+use Rattle.sq_expression.specs.declared.fault.Fault.TheVariants as fault
 
 -- The parameters have values of their kinds, the base tables that are known are in the store, whose rows are in the domains of
 -- their columns, and these are the tables that the store's rows and the views' queries make for the user.

@@ -18,9 +18,9 @@ use Rattle.sq_bound.specs.declared.condition.BoundCond.{BoundCond}
 use Rattle.sq_bound.specs.declared.condition.TablePlace.{TablePlace}
 use Rattle.sq_bound.specs.declared.condition.TablePlace.TheVariants.{Base}
 use Rattle.sq_bound.specs.declared.expression.BoundExpr.{BoundExpr}
-use Rattle.sq_query.specs.Fault.{Meets}
-use Rattle.sq_query.specs.Frame.{inputs_of}
-use Rattle.sq_query.specs.declared.fault.Fault.{Fault}
+use Rattle.sq_expression.specs.Fault.{Meets}
+use Rattle.sq_expression.specs.Frame.{inputs_of}
+use Rattle.sq_expression.specs.declared.fault.Fault.{Fault}
 
 -- where a line is seen outside every query, in a call by this user with these values of parameters
 abbrev pub outside : Line → List Value → Name → Env (Unit {0})

@@ -1,5 +1,5 @@
 -- The tables that a statement reads, by their places.
-use Rattle.std.specs.Prelude.{◌≡◌, ℕ, find, nat_eq, nat_lt, if◌then◌else◌, List, [], length, map, slice_get, Option, Some, None, Vec, Ok, Err}
+use Rattle.std.specs.Prelude.{◌≡◌, ℕ, find, nat_eq, nat_lt, if◌then◌else◌, List, [], length, map, slice_get, Vec, Ok}
 use Rattle.std.specs.Borrow.{Bor}
 use Rattle.std.specs.List.{AllByRecursion}
 use Rattle.std.specs.declared.alloc.Global.{Global}
@@ -20,27 +20,13 @@ use Rattle.sq_bound.specs.WellFormed.{TableKinds, before_view, IsSelect, kinds_o
 use Rattle.sq_bound.specs.declared.condition.TablePlace.{TablePlace}
 use Rattle.sq_bound.specs.declared.condition.TablePlace.TheVariants.{Base, View}
 use Rattle.sq_bound.specs.declared.names.View.{View as BoundView}
-use Rattle.sq_query.specs.Fault.{IsRight, status_of}
-use Rattle.sq_query.specs.Frame.{lent, view_outcome}
+use Rattle.sq_expression.specs.Fault.{IsRight}
+use Rattle.sq_expression.specs.Frame.{lent, view_outcome}
 use Rattle.sq_query.specs.Needed.{AreKnown, IsClosed, IsNeeded}
-use Rattle.sq_query.specs.declared.context.Context.{Context}
-use Rattle.sq_query.specs.declared.fault.Failure.{Failure}
 use Rattle.sq_query.specs.declared.needed.Needed.{Needed}
-use Rattle.sq_query.specs.declared.table.BaseRows.{BaseRows}
-use Rattle.sq_query.specs.declared.table.ViewRows.{ViewRows}
+use Rattle.sq_expression.specs.declared.table.BaseRows.{BaseRows}
+use Rattle.sq_expression.specs.declared.table.ViewRows.{ViewRows}
 use Rattle.sq_query.specs.declared.view.Tables.{Tables}
-
--- a base table
-abbrev pub base_there : Context → ℕ → Outcome BaseRows
-base_there context place = well_formed (find (λ t. nat_eq t.place place) context.bases.now)
-
--- a view, or the status that its query ended with
-abbrev pub unless_failed : ViewRows → Option Failure → Outcome ViewRows
-unless_failed view None = Ok view
-unless_failed view (Some failure) = Err (status_of failure)
-
-abbrev pub view_there : Context → ℕ → Outcome ViewRows
-view_there context place = well_formed (find (λ t. nat_eq t.place place) context.views.now) >>= λ t. unless_failed t t.failure
 
 -- ---- in the store
 

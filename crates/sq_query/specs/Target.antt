@@ -22,13 +22,13 @@ use Rattle.sq_bound.specs.declared.condition.TablePlace.{TablePlace}
 use Rattle.sq_bound.specs.declared.condition.TablePlace.TheVariants.{Base}
 use Rattle.sq_bound.specs.declared.names.BaseTable.{BaseTable}
 use Rattle.sq_bound.specs.declared.query.Target.{Target}
-use Rattle.sq_query.specs.Fault.{Meets, MeetsAs}
-use Rattle.sq_query.specs.Memo.{Meant}
+use Rattle.sq_expression.specs.Fault.{Meets, MeetsAs}
+use Rattle.sq_condition.specs.Memo.{Meant}
 use Rattle.sq_query.specs.Row.{outside}
-use Rattle.sq_query.specs.Subquery.{KnowsCond}
+use Rattle.sq_condition.specs.Subquery.{KnowsCond}
 use Rattle.sq_query.specs.Table.{stored_numbered}
-use Rattle.sq_query.specs.declared.context.Context.{Context}
-use Rattle.sq_query.specs.declared.fault.Fault.{Fault}
+use Rattle.sq_expression.specs.declared.context.Context.{Context}
+use Rattle.sq_expression.specs.declared.fault.Fault.{Fault}
 
 abbrev pub and_own : List BoundCond → Option BoundCond → List BoundCond
 and_own conditions None = conditions

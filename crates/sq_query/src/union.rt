@@ -7,15 +7,12 @@ ghost use Rattle.sq_value.specs.declared.value.Value.{Value as AnyValue};
 ghost use Rattle.sq_meaning.specs.QueryExpression as meaning;
 ghost use Rattle.sq_meaning.specs.Status.{each};
 ghost use Rattle.sq_bound.specs.WellFormed.{kinds_of_results};
-ghost use Rattle.sq_query.specs.Fault.{Meets, HasRows};
+ghost use Rattle.sq_expression.specs.Fault.{Meets, HasRows};
 ghost use Rattle.sq_query.specs.Union.{HasUnionRows, HasTermRows, MayBeBrought, IsBringable, AreBringable, IsTextOf, joined_rows};
 
-use crate::arithmetic::{GREATEST_SCALE, made};
-use crate::condition::outermost_rows;
-use crate::context::Context;
-use crate::fault::Fault;
-use crate::select::distinct_rows;
 use sq_bound::{BoundQuery, BoundTerm, BoundUnion, ResultColumn};
+use sq_condition::outermost_rows;
+use sq_expression::{Context, Fault, GREATEST_SCALE, distinct_rows, number_value};
 use sq_value::{Decimal, Domain, Kind, Row, StoreFault, Value, store};
 use std::alloc::Global;
 
@@ -129,7 +126,7 @@ fn at_scale(scale: u8, number: Decimal) -> Result<Value, Fault>
     if scale > GREATEST_SCALE || number.scale() > scale {
         return Err(Fault::NOT_WELL_FORMED);
     }
-    made(number.add(Decimal::new(0, scale)))
+    number_value(number.add(Decimal::new(0, scale)))
 }
 
 /// A text of a length, with blanks behind it up to another one.

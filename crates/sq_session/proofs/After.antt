@@ -17,7 +17,7 @@ use Rattle.sq_model.proofs.Bind.{bind_ok}
 use Rattle.sq_bound.specs.declared.statement.PositionedTarget.{PositionedTarget}
 use Rattle.sq_change.specs.Statement.{Deletes, Inserts, Updates}
 use Rattle.sq_module.specs.declared.program.DeclaredCursor.{DeclaredCursor}
-use Rattle.sq_query.specs.declared.fault.Fault.{Fault}
+use Rattle.sq_expression.specs.declared.fault.Fault.{Fault}
 use Rattle.sq_session.specs.Cursors.{IsWhole, OpenHaveKept, are_over, is_over, is_over_numbers, is_over_table}
 use Rattle.sq_session.specs.Fetch.{come_to_number, come_to_row, come_to_walk, over_numbers, over_rows, over_walk, row_on, shown_fetched}
 use Rattle.sq_session.specs.Kind.{Fetching, Over, delete_kind, fetching, kind_of, opening, over_at, update_kind}

@@ -18,7 +18,7 @@ use Rattle.sq_catalog.specs.Catalog.{Catalog, column_kinds}
 use Rattle.sq_change.specs.Given.{MayAssign, MayGive}
 use Rattle.sq_module.specs.Program.{OpensWellFormed}
 use Rattle.sq_module.specs.declared.program.DeclaredCursor.{DeclaredCursor}
-use Rattle.sq_query.specs.declared.fault.Fault.{Fault}
+use Rattle.sq_expression.specs.declared.fault.Fault.{Fault}
 use Rattle.sq_session.specs.Cursors.{HasKept, HasListed, MayKeep}
 use Rattle.sq_session.specs.Kind.{Over, over_target}
 use Rattle.sq_session.specs.Open.{HasOpened, IsOpenOver, TargetIsMeant, numbers_opened, walk_before}

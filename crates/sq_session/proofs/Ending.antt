@@ -3,12 +3,12 @@ use Rattle.std.proofs.Common.{◌≡◌, Bool, true, false, if◌then◌else◌,
 use Rattle.sq_meaning.specs.WellFormed.{IsNoSyntaxError}
 use Rattle.sq_meaning.specs.declared.status.Status.TheVariants as status
 use Rattle.sq_bound.specs.declared.names.ParameterDesc.{ParameterDesc}
-use Rattle.sq_query.specs.Fault.{status_of}
+use Rattle.sq_expression.specs.Fault.{status_of}
 use Rattle.sq_query.specs.MayRead.{MayEnd}
-use Rattle.sq_query.specs.declared.fault.Failure.{Failure}
-use Rattle.sq_query.specs.declared.fault.Failure.TheVariants as failure
-use Rattle.sq_query.specs.declared.fault.Fault.{Fault}
-use Rattle.sq_query.specs.declared.fault.Fault.TheVariants as fault
+use Rattle.sq_expression.specs.declared.fault.Failure.{Failure}
+use Rattle.sq_expression.specs.declared.fault.Failure.TheVariants as failure
+use Rattle.sq_expression.specs.declared.fault.Fault.{Fault}
+use Rattle.sq_expression.specs.declared.fault.Fault.TheVariants as fault
 use Rattle.sq_session.specs.Step.{EndsRight, ending}
 use Rattle.sq_session.specs.Target.{ended, set_reply}
 use Rattle.sq_session.specs.declared.reply.Done.{Done}

@@ -5,8 +5,8 @@ use Rattle.sq_value.specs.declared.value.Value.{Value}
 use Rattle.sq_meaning.specs.Status.{Outcome}
 use Rattle.sq_store.specs.Content.{Content}
 use Rattle.sq_store.specs.Keys.{Keys}
-use Rattle.sq_query.specs.declared.fault.Fault.{Fault}
-use Rattle.sq_query.specs.declared.fault.Fault.TheVariants as fault
+use Rattle.sq_expression.specs.declared.fault.Fault.{Fault}
+use Rattle.sq_expression.specs.declared.fault.Fault.TheVariants as fault
 use Rattle.sq_session.specs.Fetch.{HasCome, HasFetched}
 use Rattle.sq_session.specs.Kind.{Fetching}
 use Rattle.sq_session.specs.State.{State, cursor_at, with_cursor}

@@ -33,11 +33,11 @@ use Rattle.sq_bound.proofs.QuietRows as quiet
 use Rattle.sq_bound.proofs.QuietTruths.{both_left, both_right, quiet_plain}
 use Rattle.sq_module.specs.Program.{CursorsFit}
 use Rattle.sq_module.specs.declared.program.DeclaredCursor.{DeclaredCursor}
-use Rattle.sq_query.specs.Frame.{inputs_of}
+use Rattle.sq_expression.specs.Frame.{inputs_of}
 use Rattle.sq_query.specs.Row.{outside}
 use Rattle.sq_query.specs.Target.{IsChosen, and_own, are_true, conditions_of}
-use Rattle.sq_query.specs.declared.fault.Failure.{Failure}
-use Rattle.sq_query.specs.declared.fault.Fault.TheVariants as fault
+use Rattle.sq_expression.specs.declared.fault.Failure.{Failure}
+use Rattle.sq_expression.specs.declared.fault.Fault.TheVariants as fault
 use Rattle.sq_session.specs.Cursors.{HasKept, HasKeptAt, HaveKept, MayKeep, is_over, is_over_table}
 use Rattle.sq_session.specs.Kind.{IsDeclaredAt, Over, columns_at, conditions_at, over_at, over_of, over_target}
 use Rattle.sq_session.specs.Walk.{AreRowsUnder, IsQuietWith, is_meant, no_tables}

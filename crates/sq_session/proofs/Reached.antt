@@ -10,9 +10,9 @@ use Rattle.sq_bound.specs.declared.condition.BoundCond.{BoundCond}
 use Rattle.sq_meaning.specs.Status.{Outcome, and_then}
 use Rattle.sq_meaning.specs.declared.status.Status.TheVariants as status
 use Rattle.sq_model.proofs.Bind.{bind_ok}
-use Rattle.sq_query.specs.Fault.{Meets, status_of}
-use Rattle.sq_query.specs.declared.fault.Fault.{Fault}
-use Rattle.sq_query.specs.declared.fault.Fault.TheVariants as fault
+use Rattle.sq_expression.specs.Fault.{Meets, status_of}
+use Rattle.sq_expression.specs.declared.fault.Fault.{Fault}
+use Rattle.sq_expression.specs.declared.fault.Fault.TheVariants as fault
 use Rattle.sq_session.specs.Fetch.{HasCome, come_to_number, come_to_walk, next_walked, row_on, shown_fetched, walk_come_to, walked_to}
 use Rattle.sq_session.specs.Kind.{Fetching}
 use Rattle.sq_session.specs.State.{next_number}

@@ -12,12 +12,12 @@ use Rattle.sq_meaning.specs.Status.{Outcome, and_then}
 use Rattle.sq_model.specs.Machine.{single_row}
 use Rattle.sq_bound.specs.Condition.{select_of}
 use Rattle.sq_bound.specs.declared.condition.TablePlace.{TablePlace}
-use Rattle.sq_query.specs.Fault.{HasRows, Meets, status_of}
-use Rattle.sq_query.specs.Frame.{inputs_of}
+use Rattle.sq_expression.specs.Fault.{HasRows, Meets, status_of}
+use Rattle.sq_expression.specs.Frame.{inputs_of}
 use Rattle.sq_query.specs.Table.{AreMeant}
-use Rattle.sq_query.specs.declared.fault.Failure.{Failure}
-use Rattle.sq_query.specs.declared.fault.Fault.{Fault}
-use Rattle.sq_query.specs.declared.fault.Fault.TheVariants as fault
+use Rattle.sq_expression.specs.declared.fault.Failure.{Failure}
+use Rattle.sq_expression.specs.declared.fault.Fault.{Fault}
+use Rattle.sq_expression.specs.declared.fault.Fault.TheVariants as fault
 use Rattle.sq_session.specs.Kind.{Selecting}
 use Rattle.sq_session.specs.Schemas.{Schemas}
 use Rattle.sq_session.specs.Step.{SelectIsMeant, Selects, ended_by, ending}

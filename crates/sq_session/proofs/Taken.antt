@@ -16,8 +16,8 @@ use Rattle.sq_meaning.specs.WellFormed.{Answers, AreRowsOf, Has, IsNoSyntaxError
 use Rattle.sq_meaning.specs.declared.status.Status.{Status}
 use Rattle.sq_meaning.specs.declared.status.Status.TheVariants as status
 use Rattle.sq_meaning.proofs.AnswerLaws.{then_answers}
-use Rattle.sq_query.specs.Fault.{status_of}
-use Rattle.sq_query.specs.declared.fault.Failure.{Failure}
+use Rattle.sq_expression.specs.Fault.{status_of}
+use Rattle.sq_expression.specs.declared.fault.Failure.{Failure}
 use Rattle.sq_bound.specs.WellFormed.{TakeKinds, TakesKind, kinds_of_parameters}
 use Rattle.sq_bound.specs.declared.names.ParameterDesc.{ParameterDesc}
 use Rattle.sq_bound.specs.declared.statement.Output.{Output as Target}

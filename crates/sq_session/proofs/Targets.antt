@@ -8,9 +8,9 @@ use Rattle.sq_value.specs.declared.domain.Domain.TheVariants as domain
 use Rattle.sq_value.specs.declared.value.Value.{Value}
 use Rattle.sq_meaning.specs.Status.{Outcome, and_then, well_formed_if}
 use Rattle.sq_meaning.specs.declared.status.Status.{Status}
-use Rattle.sq_query.specs.Fault.{Meets, status_of}
-use Rattle.sq_query.specs.declared.fault.Fault.{Fault}
-use Rattle.sq_query.specs.declared.fault.Fault.TheVariants as fault
+use Rattle.sq_expression.specs.Fault.{Meets, status_of}
+use Rattle.sq_expression.specs.declared.fault.Fault.{Fault}
+use Rattle.sq_expression.specs.declared.fault.Fault.TheVariants as fault
 use Rattle.sq_bound.specs.Fits.{are_parameters}
 use Rattle.sq_bound.specs.Names.{option_all}
 use Rattle.sq_bound.specs.declared.names.ParameterDesc.{ParameterDesc}

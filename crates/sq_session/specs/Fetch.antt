@@ -20,10 +20,10 @@ use Rattle.sq_meaning.specs.Status.{Outcome, and_then, not_well_formed, well_for
 use Rattle.sq_meaning.specs.declared.status.Status.TheVariants as status
 use Rattle.sq_meaning.specs.WellFormed.{Has, HasValue}
 use Rattle.sq_model.specs.Cursor.{Move, bounded, wanted, row_at as row_of}
-use Rattle.sq_query.specs.Fault.{status_of}
-use Rattle.sq_query.specs.declared.fault.Failure.TheVariants as failure
-use Rattle.sq_query.specs.declared.fault.Fault.{Fault}
-use Rattle.sq_query.specs.declared.fault.Fault.TheVariants as fault
+use Rattle.sq_expression.specs.Fault.{status_of}
+use Rattle.sq_expression.specs.declared.fault.Failure.TheVariants as failure
+use Rattle.sq_expression.specs.declared.fault.Fault.{Fault}
+use Rattle.sq_expression.specs.declared.fault.Fault.TheVariants as fault
 use Rattle.sq_session.specs.Kind.{Fetching}
 use Rattle.sq_session.specs.State.{next_number}
 use Rattle.sq_session.specs.Target.{MayTake, MayTakeRows, ended, row_reply}

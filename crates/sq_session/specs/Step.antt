@@ -19,11 +19,11 @@ use Rattle.sq_meaning.specs.WellFormed.{IsNoSyntaxError}
 use Rattle.sq_meaning.specs.declared.status.Status.{Status}
 use Rattle.sq_meaning.specs.declared.status.Status.TheVariants as status
 use Rattle.sq_change.specs.Statement.{Deletes, Inserts, Updates}
-use Rattle.sq_query.specs.Fault.{status_of}
-use Rattle.sq_query.specs.Frame.{inputs_of}
+use Rattle.sq_expression.specs.Fault.{status_of}
+use Rattle.sq_expression.specs.Frame.{inputs_of}
 use Rattle.sq_query.specs.Table.{AreMeant}
-use Rattle.sq_query.specs.declared.fault.Fault.{Fault}
-use Rattle.sq_query.specs.declared.fault.Fault.TheVariants as fault
+use Rattle.sq_expression.specs.declared.fault.Fault.{Fault}
+use Rattle.sq_expression.specs.declared.fault.Fault.TheVariants as fault
 use Rattle.sq_model.specs.Machine.{single_row}
 use Rattle.sq_session.specs.Cursors.{GoOn}
 use Rattle.sq_session.specs.Fetch.{come_to_number, come_to_row, come_to_walk, over_numbers, over_rows, over_walk}

@@ -19,8 +19,9 @@ use crate::cursor::{CursorState, NumbersCursor, RowsCursor};
 use crate::reply::Done;
 use crate::walk::started_walk;
 use sq_bound::{BoundCursor, BoundQuery, CursorBody, SortColumn, Target};
+use sq_expression::Fault;
 use sq_items::Items;
-use sq_query::{Fault, numbers_of, ordered_rows};
+use sq_query::{numbers_of, ordered_rows};
 use sq_store::{Meter, Store};
 
 /// OPEN of the cursor with this number, which is closed.

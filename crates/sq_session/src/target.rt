@@ -6,16 +6,16 @@ ghost use Rattle.sq_bound.specs.Fits.{are_parameters};
 ghost use Rattle.sq_meaning.specs.Status.{and_then};
 ghost use Rattle.sq_model.specs.Machine.{single_row};
 ghost use Rattle.sq_model.specs.Parameter.{whole};
-ghost use Rattle.sq_query.specs.Fault.{Meets};
+ghost use Rattle.sq_expression.specs.Fault.{Meets};
 ghost use Rattle.sq_session.specs.Step.{EndsRight, ending};
 ghost use Rattle.sq_session.specs.Target.{IsSet, MayTake, MayTakeRows, domain_at, joined, null_set, outputs_from, row_reply, row_set, set_behind, set_reply, target_set, value_set};
 
 use crate::called::Called;
 use crate::reply::{Done, Output};
 use sq_bound::{BoundSelect, ParameterDesc};
+use sq_expression::{Failure, Fault};
 use sq_items::Items;
 use sq_meaning::Status;
-use sq_query::{Failure, Fault};
 use sq_value::{Decimal, RetrieveFault, Retrieved, Row, Value, retrieve};
 use std::alloc::{AllocError, Global};
 

@@ -1,5 +1,5 @@
-use Rattle.sq_query.specs.Fault.{rows_in}
-use Rattle.sq_query.specs.declared.context.Context.{Context}
+use Rattle.sq_expression.specs.Fault.{rows_in}
+use Rattle.sq_expression.specs.declared.context.Context.{Context}
 use Rattle.sq_query.specs.declared.view.Tables.{Tables}
 use Rattle.sq_query.proofs.Fitting.{no_answer}
 use Rattle.sq_query.proofs.ReadAs.{all_read_as, all_reads_known}

@@ -1,6 +1,6 @@
 use Rattle.sq_meaning.specs.WellFormed.{AreRowsOf}
 use Rattle.sq_bound.specs.WellFormed.{kinds_of_select}
-use Rattle.sq_query.specs.Fault.{rows_in}
+use Rattle.sq_expression.specs.Fault.{rows_in}
 use Rattle.sq_query.proofs.Fitting.{found_so, never_ends}
 use Rattle.sq_query.proofs.ReadRows.{select_answers}
 use Rattle.sq_query.proofs.order.specification_rows.Goals as goal

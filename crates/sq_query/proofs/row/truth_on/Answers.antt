@@ -1,5 +1,5 @@
 use Rattle.std.proofs.Common.{[], ◌∷◌, sym}
-use Rattle.sq_query.proofs.Right.{means_same}
+use Rattle.sq_condition.proofs.Right.{means_same}
 use Rattle.sq_query.proofs.Rows.{meant_outside, truth_outside}
 use Rattle.sq_query.proofs.row.truth_on.Goals as goal
 

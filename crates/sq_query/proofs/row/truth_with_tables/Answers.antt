@@ -1,11 +1,11 @@
 use Rattle.std.proofs.Common.{[]}
 use Rattle.sq_query.specs.Table.{bases_of}
-use Rattle.sq_query.specs.declared.context.Context.{Context}
+use Rattle.sq_expression.specs.declared.context.Context.{Context}
 use Rattle.sq_query.specs.declared.view.Tables.{Tables}
 use Rattle.sq_query.proofs.Fitting.{fails_so}
 use Rattle.sq_query.proofs.ReadRows.{truth_answers}
 use Rattle.sq_query.proofs.ReadAs.{cond_read_as, cond_reads_known, truth_of_cond}
-use Rattle.sq_query.proofs.Views.{answered_fails}
+use Rattle.sq_expression.proofs.Views.{answered_fails}
 use Rattle.sq_query.proofs.row.truth_with_tables.Goals as goal
 
 pub returns-in-Err-clause-plain : goal.returns-in-Err-clause-plain

@@ -1,4 +1,4 @@
-use Rattle.sq_query.specs.Frame.{lent}
+use Rattle.sq_expression.specs.Frame.{lent}
 use Rattle.sq_query.proofs.Rows.{value_outside}
 use Rattle.sq_query.proofs.row.value_on.Goals as goal
 

@@ -3,10 +3,10 @@ use Rattle.sq_store.specs.declared.table.Numbered.{Numbered}
 use Rattle.sq_meaning.specs.Environment.{Row}
 use Rattle.sq_meaning.specs.Status.{and_then}
 use Rattle.sq_meaning.specs.Tables.{rows_in}
-use Rattle.sq_query.specs.Group.{rows_of_line}
+use Rattle.sq_expression.specs.Group.{rows_of_line}
 use Rattle.sq_query.specs.Table.{table_there, numbered_in, numbered_row}
 use Rattle.sq_query.proofs.Tables.{row_more, all_rows, rows_of_numbered, no_numbered}
-use Rattle.sq_query.proofs.Views.{handed_on_as, failed_as}
+use Rattle.sq_expression.proofs.Views.{handed_on_as, failed_as}
 use Rattle.sq_query.proofs.table.base_rows.Goals as goal
 
 pub loop-found-preserved : goal.loop-found-preserved

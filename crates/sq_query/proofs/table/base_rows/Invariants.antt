@@ -1,5 +1,5 @@
 use Rattle.std.proofs.Common.{◌≡◌, map, take}
-use Rattle.sq_query.specs.Frame.{lent}
+use Rattle.sq_expression.specs.Frame.{lent}
 use Rattle.sq_query.proofs.Tables.{row_found}
 use Rattle.sq_query.proofs.table.base_rows.Given as goal
 

@@ -1,7 +1,7 @@
 use Rattle.std.proofs.Common.{◌≡◌, drop, map}
 use Rattle.sq_meaning.specs.Status.{each}
 use Rattle.sq_query.specs.Table.{stored_base, bases_in}
-use Rattle.sq_query.proofs.Each.{after}
+use Rattle.sq_expression.proofs.Each.{after}
 use Rattle.sq_query.proofs.table.base_tables.Given as goal
 
 abbrev pub invariant-loop-place : goal.invariant-loop-place

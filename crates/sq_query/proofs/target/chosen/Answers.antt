@@ -3,14 +3,14 @@ use Rattle.sq_store.specs.declared.table.Numbered.{Numbered}
 use Rattle.sq_meaning.specs.Environment.{Row}
 use Rattle.sq_meaning.specs.Status.{Outcome}
 use Rattle.sq_bound.specs.declared.condition.BoundCond.{BoundCond}
-use Rattle.sq_query.specs.Fault.{MeetsAs}
-use Rattle.sq_query.specs.Frame.{table_rows}
+use Rattle.sq_expression.specs.Fault.{MeetsAs}
+use Rattle.sq_expression.specs.Frame.{table_rows}
 use Rattle.sq_query.specs.Table.{numbered_in, numbered_row}
 use Rattle.sq_query.specs.Target.{chosen, is_true_of, numbers_chosen, numbers_in}
-use Rattle.sq_query.specs.declared.fault.Fault.{Fault}
-use Rattle.sq_query.proofs.Groups.{fails_then, meets_as_same}
-use Rattle.sq_query.proofs.Right.{means_failed_as, means_then_as, right_first}
-use Rattle.sq_query.proofs.Views.{failed_as, handed_on_as}
+use Rattle.sq_expression.specs.declared.fault.Fault.{Fault}
+use Rattle.sq_expression.proofs.Groups.{fails_then, meets_as_same}
+use Rattle.sq_condition.proofs.Right.{means_failed_as, means_then_as, right_first}
+use Rattle.sq_expression.proofs.Views.{failed_as, handed_on_as}
 use Rattle.sq_query.proofs.target.chosen.Goals as goal
 
 abbrev Rows : Type 0

@@ -5,17 +5,17 @@ use Rattle.sq_meaning.specs.Status.{kept}
 use Rattle.sq_meaning.specs.Target.{has_subquery}
 use Rattle.sq_bound.specs.Condition.{cond_of}
 use Rattle.sq_bound.specs.declared.condition.BoundCond.{BoundCond}
-use Rattle.sq_query.specs.Fault.{Meets}
-use Rattle.sq_query.specs.Frame.{table_rows}
-use Rattle.sq_query.specs.Memo.{Meant}
-use Rattle.sq_query.specs.Subquery.{KnowsCond}
+use Rattle.sq_expression.specs.Fault.{Meets}
+use Rattle.sq_expression.specs.Frame.{table_rows}
+use Rattle.sq_condition.specs.Memo.{Meant}
+use Rattle.sq_condition.specs.Subquery.{KnowsCond}
 use Rattle.sq_query.specs.Table.{numbered_row, numbered_in}
 use Rattle.sq_query.specs.Target.{is_true_of, chosen}
 use Rattle.sq_query.proofs.Chosen.{chosen_lent, chosen_more, chosen_failed, chosen_ends}
 use Rattle.sq_query.proofs.KnownConditions.{chosen_right}
 use Rattle.sq_query.proofs.Levels.{lent_at, none_at}
-use Rattle.sq_query.proofs.Right.{right_same}
-use Rattle.sq_query.proofs.Views.{handed_on_as, failed_as}
+use Rattle.sq_condition.proofs.Right.{right_same}
+use Rattle.sq_expression.proofs.Views.{handed_on_as, failed_as}
 use Rattle.sq_query.proofs.target.chosen_by_all.Goals as goal
 
 pub loop-condition-init : goal.loop-condition-init

@@ -7,8 +7,8 @@ use Rattle.sq_meaning.specs.Target.{has_subquery}
 use Rattle.sq_bound.specs.Condition.{cond_of}
 use Rattle.sq_bound.specs.declared.condition.BoundCond.{BoundCond}
 use Rattle.sq_bound.specs.declared.condition.TablePlace.{TablePlace}
-use Rattle.sq_query.specs.Fault.{IsRight}
-use Rattle.sq_query.specs.Frame.{table_rows}
+use Rattle.sq_expression.specs.Fault.{IsRight}
+use Rattle.sq_expression.specs.Frame.{table_rows}
 use Rattle.sq_query.specs.Table.{numbered_in}
 use Rattle.sq_query.specs.Target.{AreKnownIn, is_true_of, chosen}
 use Rattle.sq_query.proofs.target.chosen_by_all.Given as goal

@@ -2,14 +2,14 @@ use Rattle.std.proofs.Common.{List, map, ap}
 use Rattle.sq_meaning.specs.Environment.{Row}
 use Rattle.sq_meaning.specs.Status.{Outcome, kept}
 use Rattle.sq_bound.specs.declared.condition.TablePlace.{TablePlace}
-use Rattle.sq_query.specs.Frame.{table_rows}
+use Rattle.sq_expression.specs.Frame.{table_rows}
 use Rattle.sq_query.specs.Row.{truth_on_row}
 use Rattle.sq_query.specs.Table.{numbered_row, numbered_in}
 use Rattle.sq_query.specs.Target.{is_true_of}
-use Rattle.sq_query.proofs.Each.{after_start}
-use Rattle.sq_query.proofs.Kept.{added_if, kept_done, kept_failed, kept_ends, kept_right}
-use Rattle.sq_query.proofs.Right.{right_truth}
-use Rattle.sq_query.proofs.Views.{handed_on_as, failed_as}
+use Rattle.sq_expression.proofs.Each.{after_start}
+use Rattle.sq_expression.proofs.Kept.{added_if, kept_done, kept_failed, kept_ends, kept_right}
+use Rattle.sq_condition.proofs.Right.{right_truth}
+use Rattle.sq_expression.proofs.Views.{handed_on_as, failed_as}
 use Rattle.sq_query.proofs.target.chosen_with.Goals as goal
 
 pub loop-found-init : goal.loop-found-init

@@ -4,13 +4,13 @@ use Rattle.sq_meaning.specs.Status.{Outcome, kept}
 use Rattle.sq_meaning.specs.Target.{has_subquery}
 use Rattle.sq_bound.specs.Condition.{cond_of}
 use Rattle.sq_bound.specs.declared.condition.TablePlace.{TablePlace}
-use Rattle.sq_query.specs.Fault.{IsRight}
-use Rattle.sq_query.specs.Frame.{table_rows}
-use Rattle.sq_query.specs.Memo.{Meant, IsMemoOf}
-use Rattle.sq_query.specs.Subquery.{KnowsCond}
+use Rattle.sq_expression.specs.Fault.{IsRight}
+use Rattle.sq_expression.specs.Frame.{table_rows}
+use Rattle.sq_condition.specs.Memo.{Meant, IsMemoOf}
+use Rattle.sq_condition.specs.Subquery.{KnowsCond}
 use Rattle.sq_query.specs.Table.{numbered_row}
 use Rattle.sq_query.specs.Target.{is_true_of}
-use Rattle.sq_query.proofs.Each.{after}
+use Rattle.sq_expression.proofs.Each.{after}
 use Rattle.sq_query.proofs.target.chosen_with.Given as goal
 
 abbrev pub invariant-loop-found : goal.invariant-loop-found

@@ -9,7 +9,7 @@ use Rattle.sq_bound.specs.Condition.{cond_of}
 use Rattle.sq_bound.specs.declared.condition.BoundCond.{BoundCond}
 use Rattle.sq_query.specs.Row.{IsOnRow, outside, truth_on_row}
 use Rattle.sq_query.specs.Target.{conditions_of, are_true}
-use Rattle.sq_query.proofs.Expressions.{handed_on}
+use Rattle.sq_expression.proofs.Expressions.{handed_on}
 use Rattle.sq_query.proofs.Levels.{level_true, level_not, level_failed, levels_end, lent_at, none_at, chosen_by, told_by}
 use Rattle.sq_query.proofs.target.meets_levels.Goals as goal
 

@@ -2,7 +2,7 @@ use Rattle.sq_store.specs.Keys.{key_at}
 use Rattle.sq_query.specs.Target.{numbers_in}
 use Rattle.sq_query.proofs.KeyedRows.{one_chosen, not_failed, none_chosen}
 use Rattle.sq_query.proofs.KnownConditions.{ends_so, found_right, memory_ends}
-use Rattle.sq_query.proofs.Views.{handed_on_as}
+use Rattle.sq_expression.proofs.Views.{handed_on_as}
 use Rattle.sq_query.proofs.target.numbers_by_key.Goals as goal
 
 pub returns-in_err-is_chosen-in-Some-clause-keyed : goal.returns-in_err-is_chosen-in-Some-clause-keyed

@@ -5,7 +5,7 @@ use Rattle.sq_meaning.specs.Status.{and_then}
 use Rattle.sq_meaning.specs.Target.{has_subquery}
 use Rattle.sq_bound.specs.Condition.{cond_of}
 use Rattle.sq_bound.specs.declared.condition.BoundCond.{BoundCond}
-use Rattle.sq_query.specs.Fault.{MeetsAs}
+use Rattle.sq_expression.specs.Fault.{MeetsAs}
 use Rattle.sq_query.specs.Table.{stored_numbered}
 use Rattle.sq_query.specs.Target.{AreOnBase, is_true_of, numbers_chosen, numbers_in}
 use Rattle.sq_query.proofs.KnownConditions.{target_on_base}

@@ -2,15 +2,15 @@ use Rattle.std.proofs.Common.{[], map, sym, Bor}
 use Rattle.std.specs.Prelude.{⊤}
 use Rattle.sq_meaning.specs.Status.{and_then}
 use Rattle.sq_bound.specs.declared.condition.BoundCond.{BoundCond}
-use Rattle.sq_query.specs.Frame.{table_rows}
+use Rattle.sq_expression.specs.Frame.{table_rows}
 use Rattle.sq_query.specs.Table.{bases_of, stored_numbered}
 use Rattle.sq_query.specs.Target.{is_true_of, numbers_chosen, numbers_in}
-use Rattle.sq_query.specs.declared.context.Context.{Context}
+use Rattle.sq_expression.specs.declared.context.Context.{Context}
 use Rattle.sq_query.specs.declared.view.Tables.{Tables}
 use Rattle.sq_query.proofs.Fitting.{exact, fails_so}
 use Rattle.sq_query.proofs.KnownConditions.{all_conds_read_as, all_known_in, all_read_known, numbers_answer, same_numbers}
-use Rattle.sq_query.proofs.Right.{means_as_same}
-use Rattle.sq_query.proofs.Views.{handed_on_as, answered_fails}
+use Rattle.sq_condition.proofs.Right.{means_as_same}
+use Rattle.sq_expression.proofs.Views.{handed_on_as, answered_fails}
 use Rattle.sq_query.proofs.target.numbers_meeting.Goals as goal
 
 pub returns-in_err-tables-clause-plain : goal.returns-in_err-tables-clause-plain

@@ -8,8 +8,8 @@ use Rattle.sq_meaning.specs.Status.{each}
 use Rattle.sq_bound.specs.WellFormed.{kinds_of_results}
 use Rattle.sq_bound.specs.declared.condition.ResultColumn.{ResultColumn}
 use Rattle.sq_query.specs.Union.{MayBeBrought}
-use Rattle.sq_query.proofs.Each.{after, after_start, each_done, each_failed, each_ends}
-use Rattle.sq_query.proofs.Expressions.{handed_on}
+use Rattle.sq_expression.proofs.Each.{after, after_start, each_done, each_failed, each_ends}
+use Rattle.sq_expression.proofs.Expressions.{handed_on}
 use Rattle.sq_query.proofs.Unions.{pair_brought, of_kind, kinds_zipped, pair_at, zip_length, all_kinds_at, one_more}
 use Rattle.sq_query.proofs.union.row_brought_to.Goals as goal
 

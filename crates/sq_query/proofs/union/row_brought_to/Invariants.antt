@@ -3,7 +3,7 @@ use Rattle.std.specs.List.{zip}
 use Rattle.sq_meaning.specs.QueryExpression.{row_brought_to}
 use Rattle.sq_meaning.specs.Status.{each}
 use Rattle.sq_bound.specs.WellFormed.{kinds_of_results}
-use Rattle.sq_query.proofs.Each.{after}
+use Rattle.sq_expression.proofs.Each.{after}
 use Rattle.sq_query.proofs.Unions.{pair_brought, of_kind}
 use Rattle.sq_query.proofs.union.row_brought_to.Given as goal
 

@@ -3,12 +3,12 @@ use Rattle.sq_meaning.specs.Environment.{Row}
 use Rattle.sq_meaning.specs.QueryExpression.{row_brought_to}
 use Rattle.sq_meaning.specs.Status.{each}
 use Rattle.sq_bound.specs.WellFormed.{kinds_of_results}
-use Rattle.sq_query.specs.Fault.{rows_in}
+use Rattle.sq_expression.specs.Fault.{rows_in}
 use Rattle.sq_query.specs.Union.{IsBringable}
 use Rattle.sq_query.proofs.Bases.{all_same}
-use Rattle.sq_query.proofs.Each.{after, after_start, each_done, each_failed, each_ends}
+use Rattle.sq_expression.proofs.Each.{after, after_start, each_done, each_failed, each_ends}
 use Rattle.sq_query.proofs.Unions.{all_at}
-use Rattle.sq_query.proofs.Views.{handed_on_as}
+use Rattle.sq_expression.proofs.Views.{handed_on_as}
 use Rattle.sq_query.proofs.union.rows_brought_to.Goals as goal
 
 pub loop-row-init : goal.loop-row-init

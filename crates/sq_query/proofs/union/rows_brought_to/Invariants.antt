@@ -2,7 +2,7 @@ use Rattle.std.proofs.Common.{◌≡◌, drop, map}
 use Rattle.sq_meaning.specs.QueryExpression.{row_brought_to}
 use Rattle.sq_meaning.specs.Status.{each}
 use Rattle.sq_bound.specs.WellFormed.{kinds_of_results}
-use Rattle.sq_query.proofs.Each.{after}
+use Rattle.sq_expression.proofs.Each.{after}
 use Rattle.sq_query.proofs.union.rows_brought_to.Given as goal
 
 abbrev pub invariant-loop-row : goal.invariant-loop-row

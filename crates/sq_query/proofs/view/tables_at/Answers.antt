@@ -4,7 +4,7 @@ use Rattle.sq_bound.specs.declared.condition.TablePlace.TheVariants.{Base}
 use Rattle.sq_query.specs.Needed.{IsNeeded}
 use Rattle.std.specs.declared.alloc.Global.{Global}
 use Rattle.sq_query.specs.Table.{ReadsAsMeant, bases_in, rows_among, stored_base}
-use Rattle.sq_query.specs.declared.table.BaseRows.{BaseRows}
+use Rattle.sq_expression.specs.declared.table.BaseRows.{BaseRows}
 use Rattle.std.proofs.Common.{List, ℕ}
 use Rattle.sq_query.proofs.ReadTables.{answered_as, bases_read, bases_there, handed}
 use Rattle.sq_query.proofs.TablesMeant.{known_right}

@@ -3,7 +3,7 @@ use Rattle.std.specs.List.{list_any}
 use Rattle.std.specs.declared.alloc.Global.{Global}
 use Rattle.sq_bound.specs.declared.condition.TablePlace.TheVariants.{View}
 use Rattle.sq_query.specs.Needed.{IsNeeded}
-use Rattle.sq_query.specs.declared.table.ViewRows.{ViewRows}
+use Rattle.sq_expression.specs.declared.table.ViewRows.{ViewRows}
 use Rattle.sq_query.proofs.Added.{is}
 use Rattle.sq_query.proofs.ReadTables.{AreBelow, ReadBelow, all_read_by, below_more, below_with, place_read, read_skipped}
 use Rattle.sq_query.proofs.view.view_tables.Goals as goal

@@ -10,7 +10,7 @@ use Rattle.sq_bound.specs.declared.condition.BoundTest.{BoundTest}
 use Rattle.sq_query.specs.Needed.{places_in, with_table, clause_tables, cond_tables, conds_tables, specification_tables}
 use Rattle.sq_query.proofs.Added.{added_more, added_three, adds_last, adds_same, items_added, tables_of_grouped, tables_of_other, tables_of_ungrouped, tables_of_cond, tables_of_conj, tables_of_test, tables_of_compared, tables_of_in, tables_of_exists, tables_of_bracketed}
 use Rattle.sq_bound.specs.declared.condition.Predicate.TheVariants as bound
-use Rattle.sq_query.proofs.Conditions.{plain_term, plain_test, plain_predicate, plain_bracketed, with_compared, with_in, with_exists}
+use Rattle.sq_condition.proofs.Conditions.{plain_term, plain_test, plain_predicate, plain_bracketed, with_compared, with_in, with_exists}
 use Rattle.sq_query.proofs.needed.Needed.+needed_of_cond.Goals as goal
 
 pub add_of_condition-loop-term-preserved : goal.add_of_condition-loop-term-preserved

@@ -1,0 +1,11 @@
+pub mod Comparison
+pub mod Condition
+pub mod Depth
+pub mod Item
+pub mod Members
+pub mod Memo
+pub mod Nests
+pub mod Predicate
+pub mod Product
+pub mod Specification
+pub mod Subquery

@@ -1,0 +1,51 @@
+-- What is kept of the subqueries of a statement that read no column of a query around them: each is evaluated at most once.
+use Rattle.std.specs.Prelude.{◌≡◌, ℕ, nat_eq, List, IfSome, Ok}
+use Rattle.std.specs.Borrow.{Bor}
+use Rattle.std.specs.List.{AllByRecursion}
+use Rattle.indexmap.specs.IndexMap.{get}
+use Rattle.sq_value.specs.Truth.{known}
+use Rattle.sq_value.specs.declared.truth.Truth.{Truth}
+use Rattle.sq_meaning.specs.Status.{Outcome, ◌>>=◌}
+use Rattle.sq_meaning.specs.Environment.{Row}
+use Rattle.sq_meaning.specs.Query.{has_rows}
+use Rattle.sq_expression.specs.Fault.{IsRight, Means}
+use Rattle.sq_expression.specs.Frame.{lent, table_rows, view_outcome}
+use Rattle.sq_expression.specs.Index.{IsIndexBy}
+use Rattle.sq_condition.specs.Members.{AreOf}
+use Rattle.sq_expression.specs.declared.context.Context.{Context}
+use Rattle.sq_expression.specs.declared.index.Index.{Index}
+use Rattle.sq_condition.specs.declared.memo.Memo.{Memo}
+use Rattle.sq_condition.specs.declared.memo.Outcome.{Outcome as Kept}
+use Rattle.sq_condition.specs.declared.memo.TableColumn.{TableColumn}
+
+-- what a subquery ends with: its rows, or a status
+abbrev pub MeantRows : Type 0
+MeantRows = Outcome (List Row)
+
+abbrev pub MeantTruth : Type 0
+MeantTruth = Outcome Truth
+
+-- what the subqueries end with, by their numbers
+abbrev pub Meant : Type 0
+Meant = ℕ → MeantRows
+
+-- whether there is a row
+abbrev pub existing : MeantRows → MeantTruth
+existing rows = rows >>= λ rs. Ok (known (has_rows rs))
+
+-- what a subquery ended with, as it is kept, where that is right; its members are those of its rows
+pub record IsKept (kept : Kept) (meant : MeantRows) : Type 0 where
+  pub ended : IsRight meant → meant ≡ view_outcome kept.rows.items kept.failure
+  pub members : IfSome kept.members (λ members. AreOf members kept.rows.items)
+
+-- an index of a table's rows by their values in a column
+pub record IsTableIndex (context : Context) (at : TableColumn) (index : Index) : Type 0 where
+  pub rows : List (Bor Row)
+  pub are : table_rows context at.table ≡ Ok (lent rows)
+  pub by_column : IsIndexBy at.column rows index
+
+-- all that is kept is what the subqueries end with, and the rows of the tables
+pub record IsMemoOf (context : Context) (meant : Meant) (memo : Memo) : Type 0 where
+  pub outcomes : (number : ℕ) → IfSome (get nat_eq memo.outcomes number) (λ kept. IsKept kept (meant number))
+  pub truths : (number : ℕ) → IfSome (get nat_eq memo.truths number) (λ truth. Means truth (existing (meant number)))
+  pub indexes : AllByRecursion (λ e. IsTableIndex context e.0 e.1) memo.indexes.entries

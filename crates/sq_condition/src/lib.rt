@@ -1,0 +1,15 @@
+//! The truth of search conditions, and the rows of the query specifications that stand in them or alone, once the rows
+//! of the tables are there (ISO/IEC 9075:1992, 7.4 to 7.9 and clause 8).
+#![tactic(auto)]
+
+mod comparison;
+mod condition;
+mod item;
+mod members;
+mod memo;
+mod predicate;
+mod product;
+mod specification;
+
+pub use condition::{outermost_rows, truth};
+pub use memo::Memo;

@@ -1,0 +1,16 @@
+pub mod ByKeys
+pub mod Classes
+pub mod Each
+pub mod Expressions
+pub mod Firsts
+pub mod Frames
+pub mod Groups
+pub mod Indexed
+pub mod Kept
+pub mod LeftOut
+pub mod OnAnswers
+pub mod Tables
+pub mod UserText
+pub mod Views
+pub mod WholeLines
+pub mod Wholes

@@ -1,0 +1,11 @@
+pub mod Arithmetic
+pub mod ByKey
+pub mod Fault
+pub mod Found
+pub mod Frame
+pub mod Group
+pub mod Index
+pub mod Lines
+pub mod Select
+pub mod Table
+pub mod Whole

@@ -1,0 +1,32 @@
+//! The values of expressions on lines of rows, of set functions over groups of lines, and of select lists, once the
+//! rows of the tables are there (ISO/IEC 9075:1992, clause 6, 7.7 and 7.9). No expression has a query in it.
+//!
+//! As far as its type says, a bound expression could name a place, a parameter, a table or a set function that isn't
+//! there, or have a number where a text must stand. Its outcome is then 42000, as in the definitions.
+#![tactic(auto)]
+
+mod arithmetic;
+mod by_key;
+mod context;
+mod expression;
+mod fault;
+mod found;
+mod frame;
+mod group;
+mod index;
+mod select;
+mod set_function;
+mod table;
+mod whole;
+mod whole_expression;
+
+pub use arithmetic::{GREATEST_SCALE, number_value};
+pub use context::Context;
+pub use expression::{owned_value, value};
+pub use fault::{Failure, Fault};
+pub use found::Found;
+pub use frame::{Frame, Group, Lines, line_frame, value_at, value_in_line};
+pub use group::{add_group_if, grouped};
+pub use index::{Index, key_if_known, key_of};
+pub use select::{distinct_rows, shown_groups, shown_lines};
+pub use table::{BaseRows, ViewRows, no_rows_at, rows_at};
