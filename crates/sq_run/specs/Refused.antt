@@ -46,15 +46,8 @@ pub record IsFirstFault (text : Bytes) (refusal : Refusal) : Type 0 where
   pub line : refusal.line ≡ fault.line
   pub column : refusal.column ≡ fault.column
 
--- What a refusal says of the trees with these tokens: there is none, or only such as are nested deeper than brackets may be. One of what a text means
--- says nothing of them.
-abbrev pub HasNoTree : {T : Type 0} → (T → List Lexeme) → (T → ℕ) → List Lexeme → Matter → Type 0
-HasNoTree tokens_of depth_of tokens Tokens = ⊥
-HasNoTree {T = T} tokens_of depth_of tokens Grammar = (tree : T) → tokens_of tree ≡ tokens → ⊥
-HasNoTree {T = T} tokens_of depth_of tokens Depth = (tree : T) → tokens_of tree ≡ tokens → MAX_DEPTH < depth_of tree
-HasNoTree tokens_of depth_of tokens Meaning = ⊤
-
--- what a refusal says of a text: its first fault, or what trees the text spells
+-- What a refusal says of a text: its first fault, that no tree spells it, or that only such do as are nested deeper than brackets may be. One of what a
+-- text means says nothing of its trees.
 abbrev pub IsRefused : {T : Type 0} → (T → List Lexeme) → (T → ℕ) → Bytes → Refusal → Matter → Type 0
 IsRefused tokens_of depth_of text refusal Tokens = IsFirstFault text refusal
 IsRefused {T = T} tokens_of depth_of text refusal Grammar = (tree : T) → Spells text (tokens_of tree) → ⊥
