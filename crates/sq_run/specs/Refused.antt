@@ -108,8 +108,9 @@ pub record ScriptIsRefused (schemas modules : List Bytes) (script : Bytes) (refu
 
 -- ---- the texts of a run
 
--- A text is refused for its tokens only with the first fault of its reading, and for its grammar only where no tree within that depth spells it. It is
--- the first of its kind for which that holds. The script is refused for what it means only at its first item that has a fault, and for that.
+-- A text is refused for its tokens only with the first fault of its reading, for its grammar only where no tree spells it, and for its depth only where
+-- each tree that spells it is deeper than MAX_DEPTH brackets. Those of its kind before it spell trees. The script is refused for what it means only at its
+-- first item that has a fault, and for that.
 abbrev pub RefusedText : List Bytes → List Bytes → Bytes → RunFault → Type 0
 RefusedText schemas modules script (SchemaRefused refusal) = OneRefused schema_tokens schema_depth schemas refusal
 RefusedText schemas modules script (ModuleRefused refusal) = OneRefused module_tokens module_depth modules refusal
