@@ -5,9 +5,7 @@ use Rattle.std.proofs.lemmas.List.Elements.{All-append, All-cons, All-nil}
 use Rattle.std.proofs.lemmas.List.Folds.{length-flat_map-take}
 use Rattle.std.proofs.lemmas.Option.{slice_get_read}
 use Rattle.std.specs.Prelude.{IfSome}
-use Rattle.sq_lex.specs.declared.lexeme.Lexeme.{Lexeme}
 use Rattle.sq_lex.specs.declared.lexeme.Lexeme.TheVariants as lexeme
-use Rattle.sq_lex.specs.declared.name.Name.{Name}
 use Rattle.sq_lex.specs.declared.symbol.Symbol.TheVariants as symbol
 use Rattle.sq_lex.specs.declared.token.Token.{Token}
 use Rattle.sq_lex.specs.Reading.{reading}
@@ -15,7 +13,6 @@ use Rattle.sq_lex.specs.Token.{lexemes}
 use Rattle.sq_value.specs.declared.value.Value.{Value}
 use Rattle.sq_tree.specs.Script.{ended_item_tokens, script_item_tokens, script_tokens}
 use Rattle.sq_tree.specs.Starts.{script_item_start}
-use Rattle.sq_tree.specs.declared.script.Arguments.{Arguments}
 use Rattle.sq_tree.specs.declared.script.ScriptItem.{ScriptItem}
 use Rattle.sq_tree.specs.declared.script.ScriptItem.TheVariants as script
 use Rattle.sq_tree.specs.declared.script.ScriptText.{ScriptText}
@@ -25,7 +22,7 @@ use Rattle.sq_model.specs.Script.{argument_values}
 use Rattle.sq_catalog.specs.Catalog.{table_number}
 use Rattle.sq_session.specs.Kind.{Procedure, fits_at}
 use Rattle.sq_session.specs.Session.{Session, procedure_number}
-use Rattle.sq_run.specs.Fault.{IsItemFault, IsItemRefusal, IsOfItem, IsPlaced, IsPlacedIfAny, IsPlacedIn, IsRefusalIfAny, IsScriptRefusal, IsUntaken}
+use Rattle.sq_run.specs.Fault.{IsItemFault, IsItemRefusal, IsOfItem, IsPlacedIfAny, IsPlacedIn, IsRefusalIfAny, IsScriptRefusal, IsUntaken}
 use Rattle.sq_run.specs.Action.{item_of}
 use Rattle.sq_run.specs.Asked.{AreActions}
 use Rattle.sq_run.specs.Steps.{IsFound}

@@ -46,15 +46,8 @@ pub record IsFirstFault (text : Bytes) (refusal : Refusal) : Type 0 where
   pub line : refusal.line ≡ fault.line
   pub column : refusal.column ≡ fault.column
 
--- What a refusal says of the trees with these tokens: there is none, or only such as are nested deeper than brackets may be. One of what a text means
--- says nothing of them.
-abbrev pub HasNoTree : {T : Type 0} → (T → List Lexeme) → (T → ℕ) → List Lexeme → Matter → Type 0
-HasNoTree tokens_of depth_of tokens Tokens = ⊥
-HasNoTree {T = T} tokens_of depth_of tokens Grammar = (tree : T) → tokens_of tree ≡ tokens → ⊥
-HasNoTree {T = T} tokens_of depth_of tokens Depth = (tree : T) → tokens_of tree ≡ tokens → MAX_DEPTH < depth_of tree
-HasNoTree tokens_of depth_of tokens Meaning = ⊤
-
--- what a refusal says of a text: its first fault, or what trees the text spells
+-- What a refusal says of a text: its first fault, that no tree spells it, or that only such do as are nested deeper than brackets may be. One of what a
+-- text means says nothing of its trees.
 abbrev pub IsRefused : {T : Type 0} → (T → List Lexeme) → (T → ℕ) → Bytes → Refusal → Matter → Type 0
 IsRefused tokens_of depth_of text refusal Tokens = IsFirstFault text refusal
 IsRefused {T = T} tokens_of depth_of text refusal Grammar = (tree : T) → Spells text (tokens_of tree) → ⊥
@@ -115,8 +108,9 @@ pub record ScriptIsRefused (schemas modules : List Bytes) (script : Bytes) (refu
 
 -- ---- the texts of a run
 
--- A text is refused for its tokens only with the first fault of its reading, and for its grammar only where no tree within that depth spells it. It is
--- the first of its kind for which that holds. The script is refused for what it means only at its first item that has a fault, and for that.
+-- A text is refused for its tokens only with the first fault of its reading, for its grammar only where no tree spells it, and for its depth only where
+-- each tree that spells it is deeper than MAX_DEPTH brackets. Those of its kind before it spell trees. The script is refused for what it means only at its
+-- first item that has a fault, and for that.
 abbrev pub RefusedText : List Bytes → List Bytes → Bytes → RunFault → Type 0
 RefusedText schemas modules script (SchemaRefused refusal) = OneRefused schema_tokens schema_depth schemas refusal
 RefusedText schemas modules script (ModuleRefused refusal) = OneRefused module_tokens module_depth modules refusal

@@ -1,7 +1,7 @@
 //! From a script's items to calls and tables that are there.
 ghost use Rattle.std.specs.Prelude.{◌≡◌, map, IfErr, IfOk};
 ghost use Rattle.sq_tree.specs.declared.script.ScriptItem.TheVariants as script;
-ghost use Rattle.sq_meaning.specs.Spelled.{listed, signed_number};
+ghost use Rattle.sq_meaning.specs.Spelled.{listed};
 ghost use Rattle.sq_model.specs.Script as model;
 ghost use Rattle.sq_model.specs.Run.{item_of_script};
 ghost use Rattle.sq_run.specs.Action.{item_of};
@@ -13,11 +13,11 @@ use crate::action::{Action, CallAction, ShowAction};
 use crate::refusal::RefusalName;
 use sq_items::Items;
 use sq_lex::Name;
-use sq_scope::{number_value, text_value};
+use sq_scope::{signed_value, text_value};
 use sq_session::Session;
 use sq_store::Store;
-use sq_tree::{Argument, Arguments, CommaList, ScriptItem, Sign, SignedNumber};
-use sq_value::{Decimal, Value};
+use sq_tree::{Argument, Arguments, CommaList, ScriptItem};
+use sq_value::Value;
 use std::alloc::{AllocError, Global};
 
 /// Why an item is not taken.
@@ -126,18 +126,7 @@ fn value_of(alloc: Global, argument: &Argument) -> Result<Value, AllocError>
 {
     match argument {
         Argument::Null => Ok(Value::Null),
-        Argument::Number(number) => Ok(Value::Num(number_of(number))),
+        Argument::Number(number) => Ok(Value::Num(signed_value(*number))),
         Argument::Text(characters) => text_value(alloc, characters),
-    }
-}
-
-/// The number of a numeric literal.
-fn number_of(literal: &SignedNumber) -> Decimal
-    ensures { result ≡ signed_number literal.now }
-{
-    let number = number_value(literal.number);
-    match literal.sign {
-        Some(Sign::Minus) => number.neg(),
-        Some(Sign::Plus) | None => number,
     }
 }

@@ -11,5 +11,7 @@ mod texts;
 
 pub use perform::run;
 pub use refusal::{Refusal, RefusalName, RunFault};
-pub use sq_catalog::Limits;
+pub use sq_catalog::{Limits, RefusalName as SchemaRefusalName};
+pub use sq_lex::LexFaultKind;
+pub use sq_module::ModuleRefusalName;
 pub use sq_out::{Out, OutFault, OutOf};

@@ -17,8 +17,9 @@ use std::alloc::{AllocError, Global};
 
 /// Reads schema, module and script texts, makes the script's calls in memory, and writes the report.
 ///
-/// All schemas are read and defined first, then the modules, then the script; the first refusal is answered, and nothing
-/// is written before all are accepted. The lines of a script item are written in one go.
+/// Schemas come first, then modules, then the script, and all texts of a kind are parsed before any is checked for what it
+/// means. The first refusal is answered, and nothing is written before all are accepted. The lines of a script item are
+/// written in one go.
 pub fn run<S: Store, W: Out>(
     alloc: Global,
     schemas: &[Vec<u8>],
@@ -39,10 +40,10 @@ pub fn run<S: Store, W: Out>(
     ensures still { OnOk result (W.failed out.new ≡ false) }
     ensures failed { IfErr result (λ fault. W.failed out.new ≡ is_write fault) }
 
-    // A text is refused for its tokens with the first fault of its reading, and for its grammar only where no tree of
-    // depth at most 32 spells it; it is the first such of its kind. For its meaning the script is refused at its
-    // first item that the session does not take. A module is refused only where all schemas spell trees, the script
-    // only where all modules do, too.
+    // A text is refused for its tokens with the first fault of its reading, for its grammar only where no tree spells it,
+    // and for its depth only where each tree that spells it is deeper than `MAX_DEPTH` brackets; those of its kind before
+    // it spell trees. For its meaning the script is refused at its first item that the session does not take. A module is
+    // refused only where all schemas spell trees, the script only where all modules do, too.
     ensures refused { IfErr result (RefusedText (texts schemas.now) (texts modules.now) script.now) }
     ensures order { IfErr result (InOrder (texts schemas.now) (texts modules.now)) }
 {

@@ -9,7 +9,7 @@ use Rattle.sqmod.specs.declared.fault.Fault.TheVariants.{Unread, Refused, Output
 use Rattle.sqmod.specs.declared.fault.Source.TheVariants.{Schema, Module, Script}
 use Rattle.sqmod.specs.declared.texts.Texts.{Texts}
 
--- a text of each file
+-- as many texts as files
 pub record AreTexts (request : Request) (texts : Texts) : Type 0 where
   pub schemas : length texts.schemas.items ≡ length request.schemas.items
   pub modules : length texts.modules.items ≡ length request.modules.items

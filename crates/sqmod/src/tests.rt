@@ -1,13 +1,15 @@
-//! What the command line asks for, and what the program prints to standard error.
+//! What the command line asks for, which file is reported as not read, and what the program prints to standard error.
 ghost use Rattle.std.specs.Prelude.{IsTrue};
 ghost use Rattle.sqmod.specs.Request.{NamesFile};
 
 use crate::command_line::{Request, read_request};
 use crate::fault::{Fault, Source};
 use crate::recorder::Recorder;
+use crate::texts::read_texts;
 use crate::{refuse_words, report};
 use sq_run::{Refusal, RefusalName};
 use std::alloc::{AllocError, Global};
+use std::rt::Files;
 use std::test::Fail;
 
 /// The words of a line, each parted from the next by a blank.
@@ -175,6 +177,56 @@ fn is_refused(alloc: Global, line: &str, text: &str) -> Result<bool, Fail> {
 fn refuses_words(rt: HostRuntime) -> Result<(), Fail> {
     for (line, text) in REFUSED {
         assert!(rt; is_refused(rt.alloc(), line, text)?, "{line}");
+    }
+    Ok(())
+}
+
+/// Lines that name files, each with the fault of the first that can't be read. `/dev/null` is empty, and no file is below it.
+const FILES: [(&str, Option<Fault>); 6] = [
+    (
+        "sqmod run --schema /dev/null --module /dev/null --script /dev/null",
+        None,
+    ),
+    (
+        "sqmod run --script /dev/null/a --module /dev/null/b --schema /dev/null/c --schema /dev/null/d",
+        Some(Fault::Unread(Source::Schema(0))),
+    ),
+    (
+        "sqmod run --schema /dev/null --schema /dev/null/a --schema /dev/null/b --module /dev/null/c --script /dev/null/d",
+        Some(Fault::Unread(Source::Schema(1))),
+    ),
+    (
+        "sqmod run --script /dev/null/a --module /dev/null/b --schema /dev/null --module /dev/null/c",
+        Some(Fault::Unread(Source::Module(0))),
+    ),
+    (
+        "sqmod run --module /dev/null --module /dev/null/a --script /dev/null/b",
+        Some(Fault::Unread(Source::Module(1))),
+    ),
+    (
+        "sqmod run --script /dev/null/a --schema /dev/null --module /dev/null",
+        Some(Fault::Unread(Source::Script)),
+    ),
+];
+
+/// Whether reading the files that a line names comes to this fault, or to none.
+fn is_read_up_to<R: Files + AllocGlobal>(
+    rt: &R,
+    line: &str,
+    fault: Option<Fault>,
+) -> Result<bool, Fail> {
+    let words = words_of(rt.alloc(), line)?;
+    let request = read_request(rt.alloc(), words.as_slice())?;
+    match read_texts(rt, &request) {
+        Ok(_) => Ok(fault.is_none()),
+        Err(unread) => Ok(fault == Some(unread)),
+    }
+}
+
+#[test]
+fn names_the_first_unread_file(rt: HostRuntime) -> Result<(), Fail> {
+    for (line, fault) in FILES {
+        assert!(rt; is_read_up_to(&rt, line, fault)?, "{line}");
     }
     Ok(())
 }
