@@ -18,8 +18,8 @@ pub use condition::{
 pub use expression::{Aggregate, BoundExpr, Input, Operation, Operator, Place, SetFunctionCall};
 pub use fault::BindFault;
 pub use names::{
-    Action, BaseColumn, BaseTable, Column, ColumnDefault, Cursors, KnownCursor, Leaf, Names,
-    ObjectColumn, ParameterDesc, Reference, TableBody, TableDesc, View,
+    Action, BaseColumn, BaseTable, Column, ColumnDefault, KnownCursor, Leaf, Names, ObjectColumn,
+    ParameterDesc, Reference, TableBody, TableDesc, View,
 };
 pub use query::{
     BoundCursor, BoundQuery, BoundTerm, BoundUnion, CursorBody, SortColumn, Target, UpdatableQuery,

@@ -82,25 +82,7 @@ pub trait Names {
     ghost kinds_of_views: { (names : Self) (place : ℕ) (kinds : List AnyKind) → column_kinds names (at_place.View place) ≡ Ok kinds → IsViewQuery (column_kinds names) (view_queries names) place kinds };
 }
 
-/// The cursors of a module.
-pub trait Cursors {
-    ghost use Rattle.std.specs.Prelude.{ℕ, Some, slice_get};
-    ghost use Rattle.sq_value.specs.declared.domain.Kind.{Kind as AnyKind};
-    ghost use Rattle.sq_bound.specs.WellFormed.{kinds_of_results};
-
-    /// How many cursors all modules have.
-    ghost cursor_count: { Self → ℕ };
-
-    /// The kinds of each cursor's columns.
-    ghost cursor_kinds: { Self → List (List AnyKind) };
-
-    /// The cursor of this name, where there is one and its query has no fault.
-    fn cursor(&self, name: Name) -> Option<KnownCursor<'_>>
-        ensures number { IfSome result (λ known. known.number < cursor_count self.now) }
-        ensures columns { IfSome result (λ known. slice_get (cursor_kinds self.now) known.number ≡ Some (kinds_of_results known.cursor.now.columns)) };
-}
-
-/// A cursor's number in its module, and the cursor.
+/// A cursor's number among the cursors of all modules, and the cursor.
 #[derive(Clone, Copy)]
 pub struct KnownCursor<'a> {
     pub number: usize,

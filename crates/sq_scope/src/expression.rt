@@ -378,13 +378,14 @@ fn column_value(
 
 /// What is found in a column reference.
 pub fn column_findings(found: FoundColumn) -> Findings
+    requires { found.place.item + 1 < 2 ^ 64 }
     ensures ungrouped { result.has_ungrouped ≡ (nat_eq found.place.depth 0 && not found.is_grouped) }
-    ensures items { found.place.item + 1 < 2 ^ 64 → found.place.depth ≡ 0 → found.place.item < result.items }
-    ensures outer { found.place.item + 1 < 2 ^ 64 → found.place.depth ≡ 1 → found.place.item < result.outer_items }
+    ensures items { found.place.depth ≡ 0 → found.place.item < result.items }
+    ensures outer { found.place.depth ≡ 1 → found.place.item < result.outer_items }
     ensures reach { result.reach ≡ found.place.depth }
 {
     let Place { depth, item, .. } = found.place;
-    let needed = item.saturating_add(1);
+    let needed = item + 1;
     Findings {
         items: if depth == 0 { needed } else { 0 },
         outer_items: if depth == 1 { needed } else { 0 },

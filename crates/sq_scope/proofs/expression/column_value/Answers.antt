@@ -32,7 +32,7 @@ pub returns-clause-reads : goal.returns-clause-reads
 returns-clause-reads c =
     let found = c.in_ok-found.found in
     subst (ExprReadsItems c.and.result.items) (sym (expr_of-Column [] found.place)) (λ near.
-    let here = c.column_findings.ensures.items c.in_ok-found.ensures.numbered near in
+    let here = c.column_findings.ensures.items near in
     omega (arith, c.and.ensures.items, here))
 
 pub returns-clause-reach : goal.returns-clause-reach
@@ -42,7 +42,7 @@ returns-clause-reach c =
     let small = c.in_ok-found.ensures.numbered in
     let further = c.and.ensures.reach.1 in
     column_reaches all place (bound.Column place) (subst (λ (d : ℕ). d ≤ all.reach) c.column_findings.ensures.reach further.reach)
-    (λ near. let here = c.column_findings.ensures.outer small near in omega (arith, further.items, here)) (λ far. small) (λ functions. expr_of-Column functions place)
+    (λ near. let here = c.column_findings.ensures.outer near in omega (arith, further.items, here)) (λ far. small) (λ functions. expr_of-Column functions place)
 
 pub returns-clause-outward : goal.returns-clause-outward
 returns-clause-outward c = c.and.ensures.reach.0

@@ -23,4 +23,4 @@ returns-clause-reach c = λ before.
     let further = c.and.ensures.reach.1 in
     let inside : place.depth ≤ all.reach = subst (λ (d : ℕ). d ≤ all.reach) c.column_findings.ensures.reach further.reach in
     reaches.place_further (outward c.args.findings) all c.args.columns.now c.push.new.self place c.in_ok-push.ensures.ok c.and.ensures.reach.0
-    (omega (arith, inside), (λ near. let here = c.column_findings.ensures.outer small near in omega (arith, further.items, here)), (λ far. small)) before
+    (omega (arith, inside), (λ near. let here = c.column_findings.ensures.outer near in omega (arith, further.items, here)), (λ far. small)) before
