@@ -1,5 +1,5 @@
 -- The groups of a grouped query (ISO/IEC 9075:1992, 7.7).
-use Rattle.std.specs.Prelude.{◌≡◌, ℕ, List, [], map, slice_get, Option, Some, Vec, Ok}
+use Rattle.std.specs.Prelude.{List, [], map, Option, Vec, Ok}
 use Rattle.std.specs.Borrow.{Bor}
 use Rattle.std.specs.declared.alloc.Global.{Global}
 use Rattle.sq_value.specs.declared.value.Value.{Value}
@@ -55,7 +55,3 @@ group_seen group = (lent group.line.items, group.functions.items)
 
 abbrev pub groups_in : Vec Group Global → List (Line × List Value)
 groups_in groups = map group_seen groups.items
-
--- one of these
-abbrev pub IsAmong : {A : Type 0} → List A → A → Type 0
-IsAmong xs x = (n : ℕ) × (slice_get xs n ≡ Some x)

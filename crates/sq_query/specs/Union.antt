@@ -20,17 +20,12 @@ use Rattle.sq_bound.specs.declared.condition.BoundSpecification.{BoundSpecificat
 use Rattle.sq_bound.specs.declared.condition.TablePlace.{TablePlace}
 use Rattle.sq_bound.specs.declared.query.BoundQuery.{BoundQuery}
 use Rattle.sq_bound.specs.declared.query.BoundTerm.{BoundTerm}
-use Rattle.sq_bound.specs.declared.query.BoundTerm.TheVariants.{Specification}
 use Rattle.sq_expression.specs.Fault.{HasRows}
 use Rattle.sq_expression.specs.Frame.{table_rows}
 use Rattle.sq_expression.specs.Lines.{env_around}
 use Rattle.sq_query.specs.Needed.{ReadsSelect}
 use Rattle.sq_expression.specs.declared.context.Context.{Context}
 use Rattle.sq_expression.specs.declared.fault.Fault.{Fault}
-
--- the term is this query specification
-abbrev pub IsSpecification : BoundTerm → BoundSpecification → Type 0
-IsSpecification term s = term ≡ Specification s
 
 -- ---- what is read
 
