@@ -11,7 +11,7 @@ PARTS = {
     "Status": "## Statuses\n\nSQLSTATE (ISO/IEC 9075:1992, 22.1) and SQLCODE of a call. `S1L00` and the codes below zero are own choices.",
     "Text": "## Refusals of any text\n\nFor its tokens or its grammar. Exit status 2; nothing is written.",
     "Schema": "## Refusals of schemas\n\nOf several in one element, the first of this list is answered.",
-    "Module": "## Refusals of modules\n\nOf several in one module, `TwoModules` goes first, then this order.",
+    "Module": "## Refusals of modules\n\nIf a module has several, `TwoModules` is reported first, then the others in the order below.",
     "Script": "## Refusals of scripts",
     "Fault": "## Statements that are not well formed\n\nEach call of the procedure answers 42000. The name of the fault isn't printed.",
 }
