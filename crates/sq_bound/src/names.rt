@@ -140,6 +140,7 @@ pub struct BaseTable {
     pub references: Items<Reference>,
     pub checks: Items<BoundCond>,
     ghost key_columns: { list_all (are_positions (length columns)) keys ≡ true },
+    ghost primary_there: { option_all (λ key. nat_lt key (length keys)) primary_key ≡ true },
     ghost referencing: { list_all (λ r. are_positions (length columns) r.by_key) references ≡ true },
 }
 

@@ -137,7 +137,7 @@ impl Catalog {
     {
         self.add_schema(text, 0, &tree.first)?;
         for (number, schema) in tree.rest.as_slice().iter().enumerate() {
-            self.add_schema(text, number.saturating_add(1), schema)?;
+            self.add_schema(text, number + 1, schema)?;
         }
         Ok(())
     }
@@ -190,7 +190,7 @@ impl Catalog {
         ensures { OnOk result (full_name.now.user ≡ user) }
     {
         refused_if(full_name.user != user, RefusalName::OtherSchema)?;
-        let tables = self.bases.len().saturating_add(self.views.len());
+        let tables = self.bases.len() + self.views.len();
         refused_if(tables >= MOST_TABLES, RefusalName::TooManyTables)
     }
 

@@ -1,8 +1,8 @@
 //! Keys of a table definition (ISO/IEC 9075:1992, 11.7; that each column is NOT NULL, and the number of columns, are own rules).
 
-ghost use Rattle.std.specs.Prelude.{◌≡◌, true, IfOk, OnOk};
+ghost use Rattle.std.specs.Prelude.{◌≡◌, nat_lt, length, true, IfOk, OnOk};
 ghost use Rattle.std.specs.List.{list_all};
-ghost use Rattle.sq_bound.specs.Names.{are_positions};
+ghost use Rattle.sq_bound.specs.Names.{are_positions, option_all};
 ghost use Rattle.sq_catalog.specs.Written.{column_count};
 
 use crate::fault::{ElementFault, RefusalName, refused_if};
@@ -23,6 +23,7 @@ pub(crate) struct Keys {
     pub has_two_primary: bool,
     /// Whether a column of a key isn't declared NOT NULL.
     pub has_nullable: bool,
+    ghost primary_there: { option_all (λ key. nat_lt key (length columns)) primary ≡ true },
 }
 
 /// The keys with their columns found among the names.
@@ -60,11 +61,12 @@ impl Keys {
     {
         for key in written {
             let columns = self.found_columns(alloc, named, key.columns.as_slice())?;
+            let place = self.columns.len();
+            self.columns.push(columns)?;
             if key.is_primary {
                 self.has_two_primary = self.has_two_primary || self.primary.is_some();
-                self.primary = Some(self.columns.len());
+                self.primary = Some(place);
             }
-            self.columns.push(columns)?;
         }
         Ok(())
     }

@@ -1,6 +1,6 @@
 //! References of a table definition (ISO/IEC 9075:1992, 11.8).
 
-ghost use Rattle.std.specs.Prelude.{◌≡◌, ◌<◌, ℕ, true, length, IfOk, IfSome, OnOk};
+ghost use Rattle.std.specs.Prelude.{◌≡◌, ◌<◌, nat_lt, ℕ, true, length, IfOk, IfSome, OnOk};
 ghost use Rattle.std.specs.List.{All, list_all};
 ghost use Rattle.sq_store.specs.Keys.{keys_at};
 ghost use Rattle.sq_bound.specs.Names.{are_positions, option_all};
@@ -168,6 +168,7 @@ struct Target<'a> {
     columns: &'a [Column],
     keys: &'a [Items<usize>],
     primary: Option<usize>,
+    ghost primary_there: { option_all (λ key. nat_lt key (length keys.now)) primary ≡ true },
     ghost keyed: { list_all (are_positions (length columns.now)) keys.now ≡ true },
 }
 
@@ -387,16 +388,15 @@ fn primary_key(target: Target<'_>) -> Result<ReferencedKey<'_>, ElementFault>
     ensures place { IfOk result (λ key. key.place < length target.entry.keys.now) }
     ensures listed { IfOk result (λ key. are_positions (length target.entry.columns.now) key.listed.now ≡ true) }
 {
-    for (place, key) in target.keys.iter().enumerate() {
-        if target.primary == Some(place) {
-            return Ok(ReferencedKey {
-                place,
-                columns: key.as_slice(),
-                listed: key.as_slice(),
-            });
-        }
-    }
-    Err(BAD_REFERENCE)
+    let Some(place) = target.primary else {
+        return Err(BAD_REFERENCE);
+    };
+    let columns = target.keys[place].as_slice();
+    Ok(ReferencedKey {
+        place,
+        columns,
+        listed: columns,
+    })
 }
 
 /// Whether two lists without repeats have the same columns, in any order.

@@ -4,7 +4,7 @@ ghost use Rattle.std.specs.Prelude.{◌≡◌, ◌∷◌, [], is_err, map, nat_l
 ghost use Rattle.std.specs.List.{All, list_all};
 ghost use Rattle.sq_value.specs.Domain.{IsDomain, FitsKind, kind_of};
 ghost use Rattle.sq_bound.specs.Default.{DefaultIsIn};
-ghost use Rattle.sq_bound.specs.Names.{are_positions, is_kind_at};
+ghost use Rattle.sq_bound.specs.Names.{are_positions, is_kind_at, option_all};
 ghost use Rattle.sq_bound.specs.WellFormed.{base_kinds, kinds_of_columns};
 ghost use Rattle.sq_catalog.specs.Catalog.{Gains, named_by};
 ghost use Rattle.sq_catalog.specs.Reference.{IsFound, is_to, keys_with};
@@ -264,6 +264,7 @@ fn assembled(
     parts: BaseParts,
 ) -> (BaseTable, bool)
     requires keys { list_all (are_positions (length parts.columns)) parts.keys ≡ true }
+    requires primary { option_all (λ key. nat_lt key (length parts.keys)) primary_key ≡ true }
     requires references { list_all (λ r. are_positions (length parts.columns) r.by_key) bound.references ≡ true }
     ensures place { result.0.place ≡ place }
     ensures columns { result.0.columns ≡ parts.columns }
