@@ -1,6 +1,6 @@
 -- Lists whose items all pass a test, and lists that are copied item by item.
-use Rattle.std.proofs.Common.{◌≡◌, ℕ, zero, suc, ◌+◌, ◌<◌, Bool, true, ◌&&◌, List, [], ◌∷◌, ◌++◌, length, get_or, take, map, nat_eq, nat_lt, Some, Result, Ok, Err, refl, ap, sym, subst, ◌∙◌, arith, length-append}
-use Rattle.std.specs.List.{All, list_all, slice_get}
+use Rattle.std.proofs.Common.{◌≡◌, ℕ, zero, suc, ◌+◌, ◌<◌, Bool, true, false, ◌&&◌, ◌||◌, List, [], ◌∷◌, ◌++◌, length, get_or, take, map, nat_eq, nat_lt, Some, Result, Ok, Err, refl, ap, sym, subst, ◌∙◌, arith, length-append}
+use Rattle.std.specs.List.{All, list_all, list_any, slice_get}
 use Rattle.std.specs.Result.{OnErr, OnOk}
 use Rattle.std.proofs.lemmas.Bool.{and_from, and_parts}
 use Rattle.std.proofs.lemmas.Bool.Decides.{nat_tests}
@@ -20,6 +20,11 @@ all_read p [] i x lt e h = absurd (omega arith)
 all_read p (y ∷ ys) zero x lt e h = ap p e ∙ (and_parts (p y) (list_all p ys) h).0
 all_read p (y ∷ ys) (suc i) x lt e h = all_read p ys i x (omega arith) e (and_parts (p y) (list_all p ys) h).1
 
+pub all_read_at : {X : Type 0} (p : X → Bool) (xs : List X) (i : ℕ) (d : X) → i < length xs → list_all p xs ≡ true → p (get_or xs i d) ≡ true
+all_read_at p [] i d lt h = absurd (omega arith)
+all_read_at p (y ∷ ys) zero d lt h = (and_parts (p y) (list_all p ys) h).0
+all_read_at p (y ∷ ys) (suc i) d lt h = all_read_at p ys i d (omega arith) (and_parts (p y) (list_all p ys) h).1
+
 -- a test that passes more
 pub all_weaker : {X : Type 0} (p q : X → Bool) → ((x : X) → p x ≡ true → q x ≡ true) → (xs : List X) → list_all p xs ≡ true → list_all q xs ≡ true
 all_weaker p q more [] h = refl
@@ -36,6 +41,20 @@ is_below i n h = grind (arith, nat_tests)
 
 pub same_number : (n m : ℕ) → nat_eq n m ≡ true → n ≡ m
 same_number n m h = grind (arith, nat_tests)
+
+-- each number of a list is among its numbers
+or_last : (b c : Bool) → c ≡ true → (b || c) ≡ true
+or_last true c h = refl
+or_last false c h = h
+
+same_is : (n : ℕ) → nat_eq n n ≡ true
+same_is n = grind (arith, nat_tests)
+
+pub all_among : (xs : List ℕ) → list_all (λ x. list_any (λ y. nat_eq y x) xs) xs ≡ true
+all_among [] = refl
+all_among (x ∷ xs) =
+    and_from (nat_eq x x || list_any (λ y. nat_eq y x) xs) (list_all (λ z. nat_eq x z || list_any (λ y. nat_eq y z) xs) xs) (ap (λ b. b || list_any (λ y. nat_eq y x) xs) (same_is x))
+    (all_weaker (λ z. list_any (λ y. nat_eq y z) xs) (λ z. nat_eq x z || list_any (λ y. nat_eq y z) xs) (λ z h. or_last (nat_eq x z) (list_any (λ y. nat_eq y z) xs) h) xs (all_among xs))
 
 -- a position that is read
 pub position_read : (n : ℕ) (ps : List ℕ) (i p : ℕ) → are_positions n ps ≡ true → i < length ps → p ≡ get_or ps i p → p < n

@@ -1,6 +1,7 @@
 -- References of a table definition, and the keys that they are to (ISO/IEC 9075:1992, 11.8).
-use Rattle.std.specs.Prelude.{◌≡◌, ℕ, nat_lt, Bool, true, ◌&&◌, List, [], ◌∷◌, ◌++◌, length, Option, None, Some, IfSome}
+use Rattle.std.specs.Prelude.{◌≡◌, ℕ, nat_eq, nat_lt, Bool, true, ◌&&◌, List, [], ◌∷◌, ◌++◌, length, Option, None, Some, IfSome}
 use Rattle.std.specs.Borrow.{Bor}
+use Rattle.std.specs.List.{list_all, list_any}
 use Rattle.sq_store.specs.Keys.{Keys, keys_at}
 use Rattle.sq_bound.specs.Fits.{keys_of_bases}
 use Rattle.sq_bound.specs.Names.{are_positions, option_all}
@@ -20,6 +21,10 @@ pub record IsFound (bases : List BaseTable) (columns : ℕ) (f : FoundReference)
   pub own : are_positions columns f.columns ≡ true
   pub stored : IfSome f.earlier (λ t. IsStored bases t.now)
   pub listed : option_all (are_positions (target_width columns f.earlier)) f.listed ≡ true
+
+-- each column of a key is among those that are listed
+abbrev pub are_listed : List ℕ → List ℕ → Bool
+are_listed listed key = list_all (λ column. list_any (λ other. nat_eq other column) listed) key
 
 -- the keys of base tables, and then those of the one that is being defined
 abbrev pub keys_with : List BaseTable → Keys → List Keys

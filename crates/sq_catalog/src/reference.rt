@@ -1,10 +1,10 @@
 //! References of a table definition (ISO/IEC 9075:1992, 11.8).
 
-ghost use Rattle.std.specs.Prelude.{◌≡◌, ◌<◌, nat_lt, ℕ, true, length, IfOk, IfSome, OnOk};
-ghost use Rattle.std.specs.List.{All, list_all};
+ghost use Rattle.std.specs.Prelude.{◌≡◌, ◌+◌, ◌<◌, nat_eq, nat_lt, ℕ, true, length, IfOk, IfSome, OnOk};
+ghost use Rattle.std.specs.List.{All, list_all, list_any};
 ghost use Rattle.sq_store.specs.Keys.{keys_at};
 ghost use Rattle.sq_bound.specs.Names.{are_positions, option_all};
-ghost use Rattle.sq_catalog.specs.Reference.{IsFound, is_to, keys_with, target_width};
+ghost use Rattle.sq_catalog.specs.Reference.{IsFound, are_listed, is_to, keys_with, target_width};
 ghost use Rattle.sq_catalog.specs.Stored.{IsStored};
 ghost use Rattle.sq_catalog.specs.Written.{column_count};
 
@@ -322,8 +322,10 @@ fn bound_reference<'a>(
 ) -> Result<Reference, ElementFault>
     requires own { are_positions (length own.columns.now) reference.now.columns ≡ true }
     requires listed { are_positions (length target.columns.now) key.listed.now ≡ true }
+    requires same { are_listed key.listed.now key.columns.now ≡ true }
     ensures place { IfOk result (λ bound. (bound.table ≡ target.entry.place) × (bound.key ≡ key.entry.place)) }
     ensures by_key { IfOk result (λ bound. are_positions (length own.entry.columns.now) bound.by_key ≡ true) }
+    ensures paired { IfOk result (λ bound. length bound.by_key ≡ length key.entry.columns.now) }
 {
     let columns = reference.columns.as_slice();
     if columns.len() != key.listed.len()
@@ -355,6 +357,7 @@ fn referenced_key<'a>(
     requires { option_all (are_positions (length target.columns.now)) listed.now ≡ true }
     ensures place { IfOk result (λ key. key.place < length target.entry.keys.now) }
     ensures listed { IfOk result (λ key. are_positions (length target.entry.columns.now) key.listed.now ≡ true) }
+    ensures same { IfOk result (λ key. are_listed key.listed.now key.columns.now ≡ true) }
 {
     match listed {
         Some(listed) => listed_key(target, listed.as_slice()),
@@ -369,6 +372,7 @@ fn listed_key<'a>(
 ) -> Result<ReferencedKey<'a>, ElementFault>
     ensures place { IfOk result (λ key. key.place < length target.entry.keys.now) }
     ensures listed { IfOk result (λ key. key.listed.now ≡ listed.now) }
+    ensures same { IfOk result (λ key. are_listed key.listed.now key.columns.now ≡ true) }
 {
     for (place, key) in target.keys.iter().enumerate() {
         let columns = key.as_slice();
@@ -384,9 +388,11 @@ fn listed_key<'a>(
 }
 
 /// The primary key, if the table has one.
+#[tactic(auto, using(crate::proofs::Listed::all_among))]
 fn primary_key(target: Target<'_>) -> Result<ReferencedKey<'_>, ElementFault>
     ensures place { IfOk result (λ key. key.place < length target.entry.keys.now) }
     ensures listed { IfOk result (λ key. are_positions (length target.entry.columns.now) key.listed.now ≡ true) }
+    ensures same { IfOk result (λ key. are_listed key.listed.now key.columns.now ≡ true) }
 {
     let Some(place) = target.primary else {
         return Err(BAD_REFERENCE);
@@ -400,8 +406,23 @@ fn primary_key(target: Target<'_>) -> Result<ReferencedKey<'_>, ElementFault>
 }
 
 /// Whether two lists without repeats have the same columns, in any order.
-fn are_the_same(key: &[usize], listed: &[usize]) -> bool {
-    key.len() == listed.len() && key.iter().all(|column| listed.contains(column))
+fn are_the_same(key: &[usize], listed: &[usize]) -> bool
+    ensures { result ≡ true → are_listed listed.now key.now ≡ true }
+{
+    key.len() == listed.len() && are_all_listed(key, listed)
+}
+
+/// Whether each column of a key is among those that are listed.
+fn are_all_listed(key: &[usize], listed: &[usize]) -> bool
+    ensures { result ≡ are_listed listed.now key.now }
+{
+    key.iter().all(|column| is_among(listed, *column))
+}
+
+fn is_among(listed: &[usize], column: usize) -> bool
+    ensures { result ≡ list_any (λ other. nat_eq other column) listed.now }
+{
+    listed.contains(&column)
 }
 
 /// Whether each two paired columns are both numbers or both texts.
@@ -430,8 +451,10 @@ fn in_key_order(
     listed: &[usize],
     columns: &[usize],
 ) -> Result<Items<usize>, ElementFault>
-    requires { length listed.now ≡ length columns.now }
-    ensures { IfOk result (λ ordered. (width : ℕ) → are_positions width columns.now ≡ true → are_positions width ordered ≡ true) }
+    requires pairs { length listed.now ≡ length columns.now }
+    requires same { are_listed listed.now key.now ≡ true }
+    ensures paired { IfOk result (λ ordered. length ordered ≡ length key.now) }
+    ensures positions { IfOk result (λ ordered. (width : ℕ) → are_positions width columns.now ≡ true → are_positions width ordered ≡ true) }
 {
     let mut ordered = Items::new(alloc);
     for key_column in key {
@@ -447,13 +470,16 @@ fn push_paired(
     listed: &[usize],
     columns: &[usize],
 ) -> Result<(), ElementFault>
-    requires { length listed.now ≡ length columns.now }
-    ensures { OnOk result ((width : ℕ) → are_positions width columns.now ≡ true → are_positions width ordered.old ≡ true → are_positions width ordered.new ≡ true) }
+    requires pairs { length listed.now ≡ length columns.now }
+    requires listed { list_any (λ other. nat_eq other key_column) listed.now ≡ true }
+    ensures paired { OnOk result (length ordered.new ≡ length ordered.old + 1) }
+    ensures positions { OnOk result ((width : ℕ) → are_positions width columns.now ≡ true → are_positions width ordered.old ≡ true → are_positions width ordered.new ≡ true) }
 {
     for (pair, other) in listed.iter().enumerate() {
         if *other == key_column {
             ordered.push(columns[pair])?;
+            return Ok(());
         }
     }
-    Ok(())
+    unreachable!()
 }

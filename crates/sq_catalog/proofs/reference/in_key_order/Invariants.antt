@@ -1,6 +1,9 @@
-use Rattle.std.proofs.Common.{◌≡◌, ℕ, true}
+use Rattle.std.proofs.Common.{◌≡◌, ℕ, true, length}
 use Rattle.sq_bound.specs.Names.{are_positions}
 use Rattle.sq_catalog.proofs.reference.in_key_order.Given as goal
 
 abbrev pub invariant-loop-key_column : goal.invariant-loop-key_column
-invariant-loop-key_column l = (width : ℕ) → are_positions width l.columns ≡ true → are_positions width l.ordered ≡ true
+invariant-loop-key_column l = record {
+  paired : length l.ordered ≡ l.key_column-index;
+  positions : (width : ℕ) → are_positions width l.columns ≡ true → are_positions width l.ordered ≡ true;
+}

@@ -1,6 +1,9 @@
-use Rattle.std.proofs.Common.{◌≡◌, ℕ, true}
-use Rattle.sq_bound.specs.Names.{are_positions}
+use Rattle.std.proofs.Common.{◌≡◌, false, nat_eq, take}
+use Rattle.std.specs.List.{list_any}
 use Rattle.sq_catalog.proofs.reference.push_paired.Given as goal
 
 abbrev pub invariant-loop-pair : goal.invariant-loop-pair
-invariant-loop-pair l = (width : ℕ) → are_positions width l.columns ≡ true → are_positions width l.initial.ordered ≡ true → are_positions width l.ordered ≡ true
+invariant-loop-pair l = record {
+  kept : l.ordered ≡ l.fn.ordered;
+  passed : list_any (λ other. nat_eq other l.key_column) (take l.pair l.listed) ≡ false;
+}
