@@ -1,5 +1,5 @@
 -- What is stored is what is assigned, with the statuses of its faults.
-use Rattle.std.proofs.Common.{◌≡◌, ◌≢◌, Result, Ok, Err, absurd, subst, sym}
+use Rattle.std.proofs.Common.{◌≡◌, Result, Ok, Err, subst}
 use Rattle.sq_value.specs.Storing.{IsStored, stored}
 use Rattle.sq_value.specs.declared.domain.Domain.{Domain}
 use Rattle.sq_value.specs.declared.fault.StoreFault.{StoreFault}
@@ -8,8 +8,6 @@ use Rattle.sq_value.specs.declared.value.Value.{Value}
 use Rattle.sq_meaning.specs.Assignment.{IsStoreOutcome, assigned}
 use Rattle.sq_meaning.proofs.AssignmentLaws.{store_statuses}
 use Rattle.sq_query.specs.Fault.{Meets, fault_of_storing}
-use Rattle.sq_query.specs.declared.fault.Fault.{Fault}
-use Rattle.sq_query.specs.declared.fault.Fault.TheVariants as fault
 
 outcome : (d : Domain) (v : Value) (r : Result Value StoreFault) → stored d v ≡ r → IsStoreOutcome r (assigned d v)
 outcome d v r h = let P : Result Value StoreFault → Type 0 = λ x. IsStoreOutcome x (assigned d v) in subst P h (store_statuses d v)
@@ -21,9 +19,3 @@ pub err_meets : (d : Domain) (v : Value) (f : StoreFault) → IsStored (Err f) (
 err_meets d v Range h = outcome d v (Err Range) h
 err_meets d v TooLong h = outcome d v (Err TooLong) h
 err_meets d v NoMemory h = tt
-
--- what is stored never wants memory
-pub stored_wants_none : (d : Domain) (v : Value) (f : StoreFault) → Err f ≡ stored d v → Err {A = Value} (fault_of_storing f) ≢ Err fault.NoMemory
-stored_wants_none d v Range h = λ is. cc
-stored_wants_none d v TooLong h = λ is. cc
-stored_wants_none d v NoMemory h = absurd (outcome d v (Err NoMemory) (sym h))
