@@ -49,6 +49,11 @@ impl Findings {
         ensures can_fail { result.can_fail ≡ (self.can_fail || other.can_fail) }
         ensures items { result.items ≡ max self.items other.items }
         ensures reach { NoFurther (outward self) (outward result) × NoFurther (outward other) (outward result) }
+        ensures outermost { result.reads_outermost ≡ (self.reads_outermost || other.reads_outermost) }
+        ensures subquery { result.has_subquery ≡ (self.has_subquery || other.has_subquery) }
+        ensures user { result.has_user ≡ (self.has_user || other.has_user) }
+        ensures privilege { result.lacks_privilege ≡ (self.lacks_privilege || other.lacks_privilege) }
+        ensures grant_option { result.lacks_grant_option ≡ (self.lacks_grant_option || other.lacks_grant_option) }
     {
         Findings {
             items: self.items.max(other.items),
