@@ -5,7 +5,7 @@ ghost use Rattle.std.specs.Option.{option_copied};
 ghost use Rattle.sq_meaning.specs.Assignment as spec;
 ghost use Rattle.sq_expression.specs.Fault.{Meets};
 ghost use Rattle.sq_query.specs.MayRead.{MayEnd};
-ghost use Rattle.sq_query.specs.declared.fault.Fault.TheVariants.{NoMemory};
+ghost use Rattle.sq_expression.specs.declared.fault.Fault.TheVariants.{NoMemory};
 ghost use Rattle.sq_query.specs.Row.{line_of};
 ghost use Rattle.sq_value.specs.Domain.{FitsKind, IsDomain, IsInDomain, is_of_numbers};
 ghost use Rattle.sq_value.specs.Memory.{takes_memory};
@@ -34,7 +34,7 @@ pub(crate) fn stored_value<N: Names, S: Store>(
 }
 
 /// A value as a domain stores it, or the status for which it can't be stored. Null and a number take no memory.
-#[tactic(auto, using(crate::proofs::Stored::ok_meets, crate::proofs::Stored::err_meets, crate::proofs::Stored::stored_wants_none))]
+#[tactic(auto, using(crate::proofs::Stored::ok_meets, crate::proofs::Stored::err_meets))]
 pub fn assigned(alloc: Global, domain: Domain, value: &Value) -> Result<Value, Fault>
     requires domain { IsDomain domain }
     requires kind { FitsKind domain value.now }
