@@ -10,6 +10,7 @@ pub mod Found
 pub mod GoOn
 pub mod Holding
 pub mod Kept
+pub mod Listing
 pub mod Named
 pub mod NextNumber
 pub mod Opened

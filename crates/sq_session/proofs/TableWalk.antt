@@ -10,7 +10,7 @@ use Rattle.sq_session.specs.Walk.{rows_between, rows_from}
 use Rattle.sq_store.proofs.Rises.{rows_rise_at, next_at}
 
 -- below all numbers, these are all rows
-rows_from_low : (low number : ℕ) (rs : List Numbered) (next : ℕ) → rising_between low rs next ≡ true → number ≤ low → rows_from number rs ≡ rs
+pub rows_from_low : (low number : ℕ) (rs : List Numbered) (next : ℕ) → rising_between low rs next ≡ true → number ≤ low → rows_from number rs ≡ rs
 rows_from_low low number [] next h le = refl
 rows_from_low low number (r ∷ rs) next h le = grind (arith, common_steps, rows_from_low (r.number + 1) number rs next)
 

@@ -1,10 +1,12 @@
 -- The cursors of a session: one for each that a module declares, closed or over what that one goes over (ISO/IEC 9075:1992,
 -- 4.21).
-use Rattle.std.specs.Prelude.{◌≡◌, ⊤, ℕ, Bool, true, false, ◌&&◌, nat_eq, List, [], ◌∷◌, slice_get, IfSome}
+use Rattle.std.specs.Prelude.{◌≡◌, ⊤, ℕ, Bool, true, false, ◌&&◌, nat_eq, List, [], ◌∷◌, slice_get, slice_index_or, IfSome}
 use Rattle.std.specs.List.{AllZip}
 use Rattle.sq_value.specs.declared.domain.Kind.{Kind}
 use Rattle.sq_value.specs.declared.value.Value.{Value}
-use Rattle.sq_meaning.specs.WellFormed.{AreRowsOf, IsRowOf}
+use Rattle.sq_store.specs.Content.{Content, table_at}
+use Rattle.sq_meaning.specs.Status.{well_formed}
+use Rattle.sq_meaning.specs.WellFormed.{AreRowsOf, Has, IsRowOf}
 use Rattle.sq_bound.specs.Fits.{AreInDomains, holds, keys_of_bases}
 use Rattle.sq_bound.specs.WellFormed.{IsCursor, TableKinds, kinds_of_results}
 use Rattle.sq_bound.specs.declared.names.BaseTable.{BaseTable}
@@ -12,10 +14,12 @@ use Rattle.sq_bound.specs.declared.query.BoundCursor.{BoundCursor}
 use Rattle.sq_bound.specs.declared.statement.BoundStatement.{BoundStatement}
 use Rattle.sq_bound.specs.declared.statement.BoundStatement.TheVariants as statement
 use Rattle.sq_module.specs.declared.program.DeclaredCursor.{DeclaredCursor}
-use Rattle.sq_session.specs.Kind.{Over, over_of}
+use Rattle.sq_session.specs.Kind.{Over, conditions_in, over_of}
 use Rattle.sq_session.specs.State.{State}
+use Rattle.sq_session.specs.Walk.{numbers_meant}
 use Rattle.sq_session.specs.declared.cursor.CursorState.{CursorState}
 use Rattle.sq_session.specs.declared.cursor.CursorState.TheVariants as cursor
+use Rattle.sq_session.specs.declared.walk.ListedCursor.{ListedCursor}
 use Rattle.sq_session.specs.declared.walk.WalkingCursor.{WalkingCursor}
 
 -- ---- what an open cursor goes over
@@ -100,6 +104,20 @@ IsWhole columns bases declared s =
     × AreInDomains bases s.tables × AreInDomains bases s.committed × HaveKept columns declared s.cursors
 
 -- ---- an UPDATE
+
+-- the numbers of the rows that a cursor that walks still has in these tables
+abbrev pub numbers_left : DeclaredCursor → Content → WalkingCursor → List ℕ
+numbers_left d tables c = numbers_meant (conditions_in d.cursor.body) c.values d.user c.next c.mark (table_at tables c.table).rows
+
+-- the list that is made for a cursor has the numbers that are left to its walk
+abbrev pub IsLeftTo : DeclaredCursor → Content → List ℕ → CursorState → Type 0
+IsLeftTo d tables numbers cursor.Closed = ⊥
+IsLeftTo d tables numbers (cursor.Rows c) = ⊥
+IsLeftTo d tables numbers (cursor.Numbers c) = ⊥
+IsLeftTo d tables numbers (cursor.Walking c) = numbers ≡ numbers_left d tables c
+
+abbrev pub IsLeft : List DeclaredCursor → Content → List CursorState → ListedCursor → Type 0
+IsLeft declared tables cursors l = Has (λ d. IsLeftTo d tables l.numbers (slice_index_or cursors l.number cursor.Closed)) (well_formed (slice_get declared l.number))
 
 -- a cursor that walks may go on over numbers, and is on the row that it was on; any other stays as it is
 abbrev pub WalksOn : WalkingCursor → CursorState → Type 0

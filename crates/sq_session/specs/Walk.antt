@@ -1,6 +1,6 @@
 -- A cursor that walks over a base table (ISO/IEC 9075:1992, 13.3): the rows that it comes to, and what a walk asks, so that its
 -- conditions answer no status.
-use Rattle.std.specs.Prelude.{◌≡◌, ℕ, Bool, true, false, nat_le, nat_lt, filter, find, List, [], ◌∷◌, Option, Ok, Err}
+use Rattle.std.specs.Prelude.{◌≡◌, ℕ, Bool, true, false, nat_le, nat_lt, filter, find, map, List, [], ◌∷◌, Option, Ok, Err}
 use Rattle.std.specs.List.{AllByRecursion}
 use Rattle.sq_lex.specs.declared.name.Name.{Name}
 use Rattle.sq_value.specs.declared.domain.Kind.{Kind}
@@ -44,6 +44,10 @@ is_meant conditions values user r = is_yes (are_true (λ c. truth (by_place no_t
 -- the first of which they are
 abbrev pub first_meant : List BoundCond → List Value → Name → (from mark : ℕ) → List Numbered → Option Numbered
 first_meant conditions values user from mark rows = find (is_meant conditions values user) (rows_between from mark rows)
+
+-- the numbers of all of which they are, in the order of the rows
+abbrev pub numbers_meant : List BoundCond → List Value → Name → (from mark : ℕ) → List Numbered → List ℕ
+numbers_meant conditions values user from mark rows = map (λ r. r.number) (filter (is_meant conditions values user) (rows_between from mark rows))
 
 -- ---- what a walk asks
 

@@ -4,6 +4,7 @@
 //! conditions read. So the rows that are left are listed before an UPDATE of a column that they read.
 
 ghost use Rattle.std.specs.Prelude.{◌≡◌, ◌≤◌, ◌<◌, ℕ, length, true, Some, IfOk, IfSome, option_map};
+ghost use Rattle.std.specs.List.{AllByRecursion};
 ghost use Rattle.sq_bound.specs.Fits.{AreInDomains, FitsBody, holds};
 ghost use Rattle.sq_bound.specs.WellFormed.{base_kinds};
 ghost use Rattle.sq_catalog.specs.Catalog.{column_kinds};
@@ -13,10 +14,10 @@ ghost use Rattle.sq_query.specs.Target.{conditions_of};
 ghost use Rattle.sq_module.specs.Program.{CursorsFit};
 ghost use Rattle.sq_session.specs.Kind.{over_of};
 ghost use Rattle.sq_store.specs.Content.{table_at};
-ghost use Rattle.sq_session.specs.Cursors.{GoesOn, HaveKept, MayKeep, are_over, is_over};
+ghost use Rattle.sq_session.specs.Cursors.{GoesOn, HaveKept, IsLeft, MayKeep, are_over, is_over, numbers_left};
 ghost use Rattle.sq_session.specs.Fetch.{row_on};
 ghost use Rattle.sq_session.specs.Open.{walk_before};
-ghost use Rattle.sq_session.specs.Walk.{AreRowsUnder, IsQuietWith, first_meant, is_meant};
+ghost use Rattle.sq_session.specs.Walk.{AreRowsUnder, IsQuietWith, first_meant, is_meant, numbers_meant};
 
 use crate::called::Called;
 use crate::cursor::{CursorState, NumbersCursor};
@@ -172,6 +173,7 @@ pub(crate) fn listed_walks<S: Store>(
     requires rows { holds called.now.catalog.now.bases (S.content_now store.now) ≡ true }
     requires kept { HaveKept (column_kinds called.now.catalog.now) called.now.cursors.now cursors.now }
     requires domains { AreInDomains called.now.catalog.now.bases (S.content_now store.now) }
+    ensures { IfOk result (λ listed. AllByRecursion (IsLeft called.now.cursors.now (S.content_now store.now) cursors.now) listed.items) }
 {
     let mut listed = Vec::new(called.alloc);
     for (number, cursor) in cursors.iter().enumerate() {
@@ -199,6 +201,7 @@ fn listed_walk<S: Store>(
     requires fit { FitsBody called.now.catalog.now.bases declared.now.cursor.body }
     requires kept { MayKeep (column_kinds called.now.catalog.now) declared.now.cursor walk.now.values }
     requires domains { AreInDomains called.now.catalog.now.bases (S.content_now store.now) }
+    ensures { IfOk result (λ listed. IfSome listed (λ numbers. numbers ≡ numbers_left declared.now (S.content_now store.now) walk.now)) }
 {
     let query = match &declared.cursor.body {
         CursorBody::Updatable(query) => query,
@@ -232,6 +235,7 @@ fn rest_of_walk<S: Store>(
     requires there { cursor.now.table < length (S.content_now store.now) }
     requires quiet { IsQuietWith (column_kinds called.now.catalog.now) target.now cursor.now.values }
     requires rows { AreRowsUnder target.now (table_at (S.content_now store.now) cursor.now.table).rows }
+    ensures { IfOk result (λ numbers. numbers ≡ numbers_meant (conditions_of target.now) cursor.now.values user cursor.now.next cursor.now.mark (table_at (S.content_now store.now) cursor.now.table).rows) }
 {
     let walk = Walk {
         alloc: called.alloc,
@@ -254,6 +258,7 @@ fn numbers_from<S: Store>(
     requires there { walk.now.table < length (S.content_now store.now) }
     requires quiet { IsQuietWith (column_kinds walk.now.catalog.now) walk.now.target.now walk.now.values.now }
     requires rows { AreRowsUnder walk.now.target.now (table_at (S.content_now store.now) walk.now.table).rows }
+    ensures { IfOk result (λ numbers. numbers ≡ numbers_meant (conditions_of walk.now.target.now) walk.now.values.now walk.now.user from mark (table_at (S.content_now store.now) walk.now.table).rows) }
 {
     let mut numbers = Items::new(walk.alloc);
     let mut meter = Meter::new();
