@@ -28,6 +28,5 @@ pub mod TargetRows
 pub mod Terms
 pub mod UnionRows
 pub mod Unions
-pub mod ValuesFound
 pub mod ViewsThere
 pub mod Walk

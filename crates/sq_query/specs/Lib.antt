@@ -1,5 +1,4 @@
 pub mod Key
-pub mod Kinds
 pub mod MayRead
 pub mod Needed
 pub mod Order
