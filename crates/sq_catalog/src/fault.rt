@@ -1,6 +1,7 @@
 //! Why schema texts are refused.
 
 ghost use Rattle.std.specs.Prelude.{◌≡◌, false, OnOk};
+ghost use Rattle.sq_catalog.specs.Fault.{refused_as};
 
 use sq_bound::BindFault;
 use std::alloc::AllocError;
@@ -99,8 +100,10 @@ pub(crate) fn refused_if(is_wrong: bool, name: RefusalName) -> Result<(), Elemen
     }
 }
 
-/// A binding fault inside an element, which is refused by one name.
-pub(crate) fn refused_as(fault: BindFault, name: RefusalName) -> ElementFault {
+/// A binding fault inside an element, which is refused by one name; running out of memory is no refusal.
+pub(crate) fn refused_as(fault: BindFault, name: RefusalName) -> ElementFault
+    ensures { result ≡ refused_as fault name }
+{
     match fault {
         BindFault::NoMemory => ElementFault::NoMemory,
         _ => ElementFault::Refused(name),
