@@ -1,12 +1,14 @@
 //! Values as the columns of a base table store them (ISO/IEC 9075:1992, 9.2).
 
-ghost use Rattle.std.specs.Prelude.{◌≡◌, ◌↔◌, IfErr, IfOk, IsTrue};
+ghost use Rattle.std.specs.Prelude.{◌≡◌, ◌≢◌, ◌↔◌, Err, IfErr, IfOk, IsTrue, false};
 ghost use Rattle.std.specs.Option.{option_copied};
 ghost use Rattle.sq_meaning.specs.Assignment as spec;
 ghost use Rattle.sq_query.specs.Fault.{Meets};
 ghost use Rattle.sq_query.specs.MayRead.{MayEnd};
+ghost use Rattle.sq_query.specs.declared.fault.Fault.TheVariants.{NoMemory};
 ghost use Rattle.sq_query.specs.Row.{line_of};
 ghost use Rattle.sq_value.specs.Domain.{FitsKind, IsDomain, IsInDomain, is_of_numbers};
+ghost use Rattle.sq_value.specs.Memory.{takes_memory};
 ghost use Rattle.sq_change.specs.Given.{IsStorable};
 
 use crate::setting::Setting;
@@ -31,13 +33,14 @@ pub(crate) fn stored_value<N: Names, S: Store>(
     assigned(setting.alloc, column.domain, &value)
 }
 
-/// A value as a domain stores it, or the status for which it can't be stored.
+/// A value as a domain stores it, or the status for which it can't be stored. Null and a number take no memory.
 #[tactic(auto, using(crate::proofs::Stored::ok_meets, crate::proofs::Stored::err_meets))]
 pub fn assigned(alloc: Global, domain: Domain, value: &Value) -> Result<Value, Fault>
     requires domain { IsDomain domain }
     requires kind { FitsKind domain value.now }
     ensures fit { Meets result (spec.assigned domain value.now) }
     ensures in_domain { IfOk result (IsInDomain domain) }
+    ensures memory { takes_memory value.now ≡ false → result ≢ Err NoMemory }
     ensures right { IfErr result MayEnd }
 {
     match store(alloc, value, domain) {
