@@ -25,8 +25,10 @@ use sq_query::Inputs;
 use sq_store::{Change, Meter, Store};
 use std::alloc::Global;
 
-/// Performs an insert statement (ISO/IEC 9075:1992, 13.8). All new rows are made before any is tested: row numbers
-/// first, then check options, NOT NULL and CHECK, keys, references. A well-formed statement never ends with 42000.
+/// Performs an insert statement (ISO/IEC 9075:1992, 13.8). All new rows are made before any is tested. Faults come in this
+/// order: those of the query; 02000 where it has no row; those of values and of storing them, row by row; S1L00 where there are
+/// too few row numbers; check options; NOT NULL and CHECK, row by row; keys; references. A well-formed statement never ends with
+/// 42000.
 #[tactic(auto, using(crate::proofs::Made::inserts))]
 pub fn insert<N: Names, S: Store>(
     alloc: Global,
@@ -96,7 +98,9 @@ fn inserted<N: Names, S: Store>(
 
 /// Performs an update statement (13.9, 13.10). `on` is the number of the row that the cursor is on, for a positioned one.
 /// The store keeps the tables of the names and their keys, the statement is over one of these tables, and its set clauses
-/// are for columns of it and well formed. A well-formed statement never ends with 42000.
+/// are for columns of it and well formed. All rows are changed before any is tested. Faults come in this order: those of the
+/// search condition; 02000 where it keeps no row; those of values and of storing them, row by row; check options; NOT NULL and
+/// CHECK, row by row; keys; references, to and from the rows. A well-formed statement never ends with 42000.
 #[tactic(auto, using(crate::proofs::Made::updates))]
 pub fn update<N: Names, S: Store>(
     alloc: Global,
@@ -187,8 +191,8 @@ fn changed(
 }
 
 /// Performs a delete statement (13.6, 13.7). `on` is the number of the row that the cursor is on, for a positioned one. The
-/// store keeps the tables of the names and their keys, and the statement is over one of these tables. A well-formed one
-/// never ends with 42000.
+/// store keeps the tables of the names and their keys, and the statement is over one of these tables. Faults come in this order:
+/// those of the search condition; 02000 where it keeps no row; references to the rows. A well-formed one never ends with 42000.
 #[tactic(auto, using(crate::proofs::Made::deletes, crate::proofs::Applied::removals_wide))]
 pub fn delete<N: Names, S: Store>(
     alloc: Global,

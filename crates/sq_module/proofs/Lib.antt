@@ -1,4 +1,6 @@
 pub mod Fitting
 pub mod Names
+pub mod Openers
 pub mod Opening
+pub mod Places
 pub mod Written

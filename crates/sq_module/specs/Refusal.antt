@@ -1,7 +1,83 @@
--- Which module a refusal is of.
-use Rattle.std.specs.Prelude.{◌≡◌, ◌<◌, ℕ, ⊤}
+-- Which modules are refused for their cursors and status parameters (ISO/IEC 9075:1992, 12.1 and 12.3; that exactly one procedure
+-- opens each cursor is an own rule), and which module a refusal is of.
+use Rattle.std.specs.Prelude.{◌≡◌, ◌<◌, ◌==◌, ◌&&◌, ◌||◌, ℕ, Bool, false, true, List, None, Option, Some, count_by, nat_lt, not, ⊤}
+use Rattle.std.specs.List.{AllByRecursion, list_any}
+use Rattle.sq_lex.specs.declared.name.Name.{Name}
+use Rattle.sq_tree.specs.declared.module.Declaration.{Declaration}
+use Rattle.sq_tree.specs.declared.module.Declaration.TheVariants as declaration
+use Rattle.sq_tree.specs.declared.module.ModuleItem.{ModuleItem}
+use Rattle.sq_tree.specs.declared.module.ModuleItem.TheVariants as item
+use Rattle.sq_tree.specs.declared.module.ModuleText.{ModuleText}
+use Rattle.sq_tree.specs.declared.statement.Statement.{Statement}
+use Rattle.sq_tree.specs.declared.statement.Statement.TheVariants as statement
+use Rattle.sq_module.specs.Program.{same_name}
+use Rattle.sq_module.specs.Written.{declarations_of}
+use Rattle.sq_module.specs.declared.opener.Openers.{Openers}
 use Rattle.sq_module.specs.declared.refusal.SessionFault.{SessionFault}
 use Rattle.sq_module.specs.declared.refusal.SessionFault.TheVariants.{Refused, NoMemory}
+
+-- ---- exactly one procedure opens each cursor
+
+abbrev pub opened_by : Statement → Option Name
+opened_by (statement.Open cursor) = Some cursor
+opened_by _ = None
+
+-- the cursor that an item opens, if it is a procedure with such a statement
+abbrev pub opened_in : ModuleItem → Option Name
+opened_in (item.Procedure p) = opened_by p.statement
+opened_in (item.Cursor c) = None
+
+abbrev pub is_name : Name → Option Name → Bool
+is_name name None = false
+is_name name (Some other) = same_name name other
+
+-- how many procedures open the cursor
+abbrev pub opener_count : List ModuleItem → Name → ℕ
+opener_count items cursor = count_by (λ i. is_name cursor (opened_in i)) items
+
+-- the item is a cursor that not exactly one procedure opens
+abbrev pub has_open_count : List ModuleItem → ModuleItem → Bool
+has_open_count items (item.Cursor c) = not (opener_count items c.name == 1)
+has_open_count items (item.Procedure p) = false
+
+-- the cursors that procedures among these items open, and those that two or more of them do
+pub record AreOpeners (items : List ModuleItem) (openers : Openers) : Type 0 where
+  pub opened : (cursor : Name) → list_any (same_name cursor) openers.opened.keys ≡ nat_lt 0 (opener_count items cursor)
+  pub shared : (cursor : Name) → list_any (same_name cursor) openers.shared.keys ≡ nat_lt 1 (opener_count items cursor)
+
+-- ---- status parameters (12.3)
+
+abbrev pub is_sqlcode : Declaration → Bool
+is_sqlcode declaration.Sqlcode = true
+is_sqlcode _ = false
+
+abbrev pub is_sqlstate : Declaration → Bool
+is_sqlstate declaration.Sqlstate = true
+is_sqlstate _ = false
+
+-- neither SQLCODE nor SQLSTATE, or one of them more than once
+abbrev pub are_bad_counts : ℕ → ℕ → Bool
+are_bad_counts codes states = codes == 0 && states == 0 || nat_lt 1 codes || nat_lt 1 states
+
+abbrev pub has_bad_status : List Declaration → Bool
+has_bad_status ds = are_bad_counts (count_by is_sqlcode ds) (count_by is_sqlstate ds)
+
+-- the item is a procedure whose status parameters are so
+abbrev pub has_status_fault : ModuleItem → Bool
+has_status_fault (item.Procedure p) = has_bad_status (declarations_of p.declarations)
+has_status_fault (item.Cursor c) = false
+
+-- ---- modules
+
+-- exactly one procedure opens each cursor, and each procedure has SQLCODE, SQLSTATE or both, each once at most
+pub record IsAdmissible (items : List ModuleItem) : Type 0 where
+  pub opened : list_any (has_open_count items) items ≡ false
+  pub status : list_any has_status_fault items ≡ false
+
+abbrev pub AreAdmissible : List ModuleText → Type 0
+AreAdmissible modules = AllByRecursion (λ m. IsAdmissible m.items) modules
+
+-- ---- which module is refused
 
 -- the module of this number is refused
 abbrev pub IsOfModule : ℕ → SessionFault → Type 0

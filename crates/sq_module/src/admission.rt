@@ -1,7 +1,7 @@
 //! Which modules are refused (ISO/IEC 9075:1992, 12.1 to 12.3 and 13.1; that exactly one procedure opens each cursor is an
 //! own rule).
 
-ghost use Rattle.std.specs.Prelude.{◌≡◌, [], ◌∷◌, ◌++◌, true, false, IfErr, IfOk, List, None, OnOk, length};
+ghost use Rattle.std.specs.Prelude.{◌≡◌, [], ◌∷◌, ◌++◌, true, false, IfErr, IfOk, List, None, OnOk, length, position};
 ghost use Rattle.std.specs.List.{AllByRecursion, IsAmong, list_any};
 ghost use Rattle.sq_tree.specs.declared.module.ModuleItem.TheVariants.{Cursor as CursorItem};
 ghost use Rattle.sq_tree.specs.declared.module.ModuleItem.{ModuleItem as AnyItem};
@@ -9,7 +9,7 @@ ghost use Rattle.sq_module.specs.declared.admission.AdmittedModule.{AdmittedModu
 ghost use Rattle.sq_module.specs.Admitted.{admitted_procedures, module_keys, procedure_names};
 ghost use Rattle.sq_module.specs.Program.{AreNew, HaveNames, declared_procedures, module_procedures, name_in, names_in, same_name};
 ghost use Rattle.sq_module.specs.Written.{AreOfTexts, Declare, IsCursorIn, IsOfText, IsProcedureOf, declarations_of};
-ghost use Rattle.sq_module.specs.Refusal.{IsOfModule, IsOfSomeModule};
+ghost use Rattle.sq_module.specs.Refusal.{AreAdmissible, IsAdmissible, IsOfModule, IsOfSomeModule, has_open_count, has_status_fault};
 
 use crate::declared::{has_bad_status, is_new, listed, parameters_of};
 use crate::opener::Openers;
@@ -38,7 +38,7 @@ pub struct AdmittedProcedure<'a> {
     pub parameters: Items<ParameterDesc>,
 }
 
-/// The modules, or the first refusal, module by module.
+/// The modules, or the first refusal: module by module, and within a module in the order of `ModuleRefusalName`.
 pub fn admit<'a>(
     alloc: Global,
     modules: &'a [ModuleText],
@@ -46,6 +46,7 @@ pub fn admit<'a>(
     ensures names { IfOk result (λ _. HaveNames [] modules.now) }
     ensures declared { IfOk result (λ admitted. admitted_procedures admitted.items ≡ declared_procedures modules.now) }
     ensures written { IfOk result (λ admitted. AreOfTexts modules.now admitted.items) }
+    ensures admissible { IfOk result (λ _. AreAdmissible modules.now) }
     ensures refused { IfErr result (IsOfSomeModule (length modules.now)) }
 {
     let mut names = IndexSet::new(alloc);
@@ -64,6 +65,7 @@ fn admit_all<'a>(
     ensures names { IfOk result (λ _. HaveNames [] modules.now) }
     ensures declared { IfOk result (λ admitted. admitted_procedures admitted.items ≡ declared_procedures modules.now) }
     ensures written { IfOk result (λ admitted. AreOfTexts modules.now admitted.items) }
+    ensures admissible { IfOk result (λ _. AreAdmissible modules.now) }
     ensures refused { IfErr result (IsOfSomeModule (length modules.now)) }
 {
     let mut admitted = Vec::new(alloc);
@@ -90,6 +92,7 @@ fn admit_next<'a>(
     ensures names { OnOk result (AreNew [] (names_in «module».now.items)) }
     ensures declared { OnOk result (admitted_procedures admitted.new.items ≡ admitted_procedures admitted.old.items ++ module_procedures «module».now) }
     ensures written { OnOk result ((one : Admitted) × (admitted.new.items ≡ admitted.old.items ++ one ∷ []) × IsOfText «module».now one) }
+    ensures admissible { OnOk result (IsAdmissible «module».now.items) }
     ensures refused { IfErr result (IsOfModule text) }
 {
     if !is_new(names, module.name)? {
@@ -114,6 +117,7 @@ fn admit_module<'a>(
     ensures names { IfOk result (λ _. AreNew [] (names_in «module».now.items)) }
     ensures declared { IfOk result (λ admitted. module_keys admitted ≡ module_procedures «module».now) }
     ensures written { IfOk result (IsOfText «module».now) }
+    ensures admissible { IfOk result (λ _. IsAdmissible «module».now.items) }
     ensures refused { IfErr result (IsOfModule text) }
 {
     let items = module.items.as_slice();
@@ -142,6 +146,7 @@ fn admit_procedures<'a>(
 ) -> Result<Vec<AdmittedProcedure<'a>>, SessionFault>
     ensures declared { IfOk result (λ admitted. procedure_names admitted.items ≡ names_in items.now) }
     ensures written { IfOk result (λ admitted. AllByRecursion (IsProcedureOf items.now) admitted.items) }
+    ensures admissible { IfOk result (λ _. IsAdmissible items.now) }
     ensures refused { IfErr result (IsOfModule text) }
 {
     let place = without_one_opener(alloc, items)?;
@@ -252,7 +257,9 @@ fn add_cursor<'a>(
 }
 
 /// The first cursor that not exactly one procedure opens.
-fn without_one_opener(alloc: Global, items: &[ModuleItem]) -> Result<Option<usize>, AllocError> {
+fn without_one_opener(alloc: Global, items: &[ModuleItem]) -> Result<Option<usize>, AllocError>
+    ensures { IfOk result (λ place. place ≡ position (has_open_count items.now) items.now) }
+{
     let openers = Openers::of(alloc, items)?;
     let place = openers.first_without_one(items);
     drop(openers);
@@ -260,16 +267,28 @@ fn without_one_opener(alloc: Global, items: &[ModuleItem]) -> Result<Option<usiz
 }
 
 /// The first procedure without a status parameter, or with one twice.
-fn with_bad_status(alloc: Global, items: &[ModuleItem]) -> Result<Option<usize>, AllocError> {
+fn with_bad_status(alloc: Global, items: &[ModuleItem]) -> Result<Option<usize>, AllocError>
+    ensures { IfOk result (λ place. place ≡ position has_status_fault items.now) }
+{
     for (place, item) in items.iter().enumerate() {
-        if let ModuleItem::Procedure(procedure) = item {
-            let declarations = listed(alloc, &procedure.declarations)?;
-            if has_bad_status(declarations.as_slice()) {
-                return Ok(Some(place));
-            }
+        if is_of_bad_status(alloc, item)? {
+            return Ok(Some(place));
         }
     }
     Ok(None)
+}
+
+/// Whether the item is a procedure without a status parameter, or with one twice.
+fn is_of_bad_status(alloc: Global, item: &ModuleItem) -> Result<bool, AllocError>
+    ensures { IfOk result (λ is. is ≡ has_status_fault item.now) }
+{
+    match item {
+        ModuleItem::Procedure(procedure) => {
+            let declarations = listed(alloc, &procedure.declarations)?;
+            Ok(has_bad_status(declarations.as_slice()))
+        }
+        ModuleItem::Cursor(_) => Ok(false),
+    }
 }
 
 /// The procedures with their parameters, or the refusal of the first that has a parameter declared twice or of a bad type,

@@ -1,9 +1,11 @@
 //! Declarations of parameters (ISO/IEC 9075:1992, 12.3).
 
-ghost use Rattle.std.specs.Prelude.{◌≡◌, [], ◌∷◌, ◌++◌, flat_map, map, true, false, IfOk, IfSome, Some};
+ghost use Rattle.std.specs.Prelude.{◌≡◌, [], ◌∷◌, ◌++◌, count_by, flat_map, map, not, true, false, IfOk, IfSome, OnOk, Some};
 ghost use Rattle.std.specs.List.{list_any};
+ghost use Rattle.indexmap.specs.IndexSet.{insert_key};
 ghost use Rattle.sq_meaning.specs.Spelled.{domain_of as domain_meant};
 ghost use Rattle.sq_module.specs.Program.{same_name};
+ghost use Rattle.sq_module.specs.Refusal.{are_bad_counts, has_bad_status, is_sqlcode, is_sqlstate};
 ghost use Rattle.sq_module.specs.Written.{Declare, declarations_of, named_as, named_in};
 
 use indexmap::IndexSet;
@@ -61,21 +63,52 @@ fn bare(
 }
 
 /// Whether there is no status parameter, or one twice.
-pub(crate) fn has_bad_status(declarations: &[Declaration]) -> bool {
-    let mut codes: usize = 0;
-    let mut states: usize = 0;
-    for declaration in declarations {
-        match declaration {
-            Declaration::Sqlcode => codes = codes.saturating_add(1),
-            Declaration::Sqlstate => states = states.saturating_add(1),
-            Declaration::Parameter(..) => {}
-        }
-    }
+pub(crate) fn has_bad_status(declarations: &[Declaration]) -> bool
+    ensures { result ≡ has_bad_status declarations.now }
+{
+    are_bad_counts(code_count(declarations), state_count(declarations))
+}
+
+fn code_count(declarations: &[Declaration]) -> usize
+    ensures { result ≡ count_by is_sqlcode declarations.now }
+{
+    declarations.iter().filter(|d| is_sqlcode(d)).count()
+}
+
+fn state_count(declarations: &[Declaration]) -> usize
+    ensures { result ≡ count_by is_sqlstate declarations.now }
+{
+    declarations.iter().filter(|d| is_sqlstate(d)).count()
+}
+
+fn are_bad_counts(codes: usize, states: usize) -> bool
+    ensures { result ≡ are_bad_counts codes states }
+{
     (codes == 0 && states == 0) || codes > 1 || states > 1
+}
+
+fn is_sqlcode(declaration: &Declaration) -> bool
+    ensures { result ≡ is_sqlcode declaration.now }
+{
+    match declaration {
+        Declaration::Sqlcode => true,
+        Declaration::Sqlstate | Declaration::Parameter(..) => false,
+    }
+}
+
+fn is_sqlstate(declaration: &Declaration) -> bool
+    ensures { result ≡ is_sqlstate declaration.now }
+{
+    match declaration {
+        Declaration::Sqlstate => true,
+        Declaration::Sqlcode | Declaration::Parameter(..) => false,
+    }
 }
 
 /// Adds a name; whether it was not there.
 pub(crate) fn is_new(names: &mut IndexSet<Name>, name: Name) -> Result<bool, AllocError>
+    ensures answer { IfOk result (λ is. is ≡ not (list_any (same_name name) names.old.keys)) }
+    ensures keys { OnOk result (names.new.keys ≡ insert_key same_name names.old.keys name) }
     ensures new { IfOk result (λ is. is ≡ true → list_any (same_name name) names.old.keys ≡ false) }
     ensures last { IfOk result (λ is. is ≡ true → names.new.keys ≡ names.old.keys ++ name ∷ []) }
 {

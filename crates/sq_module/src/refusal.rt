@@ -5,7 +5,8 @@ ghost use Rattle.std.specs.Prelude.{◌≡◌};
 use std::alloc::{AllocError, AllocFailed};
 use thiserror::Error;
 
-/// What is wrong with a module, a cursor or a procedure (ISO/IEC 9075:1992, 12.1 to 12.3 and 13.1).
+/// What is wrong with a module, a cursor or a procedure (ISO/IEC 9075:1992, 12.1 to 12.3 and 13.1). Where several hold in one
+/// module, the first in this order is answered: each is looked for over the whole module before the next.
 #[derive(Clone, Copy, Debug, PartialEq, Eq, Error)]
 pub enum ModuleRefusalName {
     /// An earlier module has the name.

@@ -67,7 +67,7 @@ impl<S: Store> Model for Session<S> {
 
 impl<S: Store> Session<S> {
     /// A session of these modules over a store of the catalog's tables and keys, with all cursors closed; or the first refusal,
-    /// module by module.
+    /// module by module, and within a module in the order of `ModuleRefusalName`.
     #[tactic(auto, using(crate::proofs::Named::of_modules))]
     pub fn new(
         alloc: Global,
@@ -159,7 +159,9 @@ impl<S: Store> Session<S> {
     }
 
     /// Makes one call of the procedure with this number, with these values for its named parameters in the order in
-    /// which they are declared.
+    /// which they are declared. Without such a procedure, or where its statement has a fault, the status is 42000. A
+    /// parameter without a value, or with one that it can't store, starts as with null; values past the last parameter are
+    /// not read. Where memory runs out the session is as it was.
     #[tactic(auto, using(crate::proofs::Failed::kept_by_failure))]
     pub fn call(
         &mut self,

@@ -1,6 +1,7 @@
 use Rattle.std.proofs.Common.{◌≡◌, [], map, take}
 use Rattle.sq_module.specs.Admitted.{admitted_procedures}
 use Rattle.sq_module.specs.Program.{HaveNames, declared_procedures}
+use Rattle.sq_module.specs.Refusal.{AreAdmissible}
 use Rattle.sq_module.specs.Written.{AreOfTexts}
 use Rattle.sq_module.proofs.admission.admit_all.Given as goal
 
@@ -10,4 +11,5 @@ invariant-loop-text l = record {
   names : HaveNames [] (take l.text l.modules);
   declared : admitted_procedures l.admitted.items ≡ declared_procedures (take l.text l.modules);
   written : AreOfTexts l.modules l.admitted.items;
+  admissible : AreAdmissible (take l.text l.modules);
 }
