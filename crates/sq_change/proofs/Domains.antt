@@ -1,8 +1,10 @@
 -- Rows whose values are in the domains of their columns.
-use Rattle.std.proofs.Common.{◌≡◌, ℕ, zero, suc, ◌<◌, Bool, true, false, nat_eq, nat_lt, not, is_some, List, [], ◌∷◌, ◌++◌, length, map, find, Option, None, Some, IfSome, get_or, slice_get, slice_set, take, ◌+◌, refl, sym, subst, arith, add-one}
+use Rattle.std.proofs.Common.{◌≡◌, ℕ, zero, suc, ◌<◌, Bool, true, false, nat_eq, not, List, [], ◌∷◌, ◌++◌, length, map, find, Option, None, Some, IfSome, get_or, min, slice_get, slice_set, take, ◌+◌, refl, sym, subst, arith, add-one}
 use Rattle.std.specs.Borrow.{Bor}
-use Rattle.std.specs.List.{AllByRecursion, position}
-use Rattle.std.proofs.lemmas.Bool.{eqb-true, ltb-true}
+use Rattle.std.specs.List.{AllByRecursion, AllZip, position}
+use Rattle.std.proofs.Math.Seq.{take-length, take-suc}
+use Rattle.std.proofs.lemmas.Slice.Zip.{AllZip-long, all_zipped_more}
+use Rattle.std.proofs.lemmas.Bool.{eqb-true}
 use Rattle.std.proofs.lemmas.List.Quantifiers.{position-Some}
 use Rattle.std.proofs.lemmas.List.Elements.{All-from_recursion, All-contains}
 use Rattle.sq_value.specs.Domain.{IsInDomain}
@@ -22,6 +24,7 @@ use Rattle.sq_bound.specs.declared.statement.ChangeTarget.{ChangeTarget}
 use Rattle.sq_meaning.proofs.AnswerLaws.{all_appended, all_filtered}
 use Rattle.sq_change.specs.Changed.{AreRowsPut, Removals}
 use Rattle.sq_change.specs.Given.{AreStored, IsStoredFor}
+use Rattle.sq_change.proofs.Storable.{zipped_at}
 
 -- ---- the rows of a table
 
@@ -135,38 +138,40 @@ there [] i lt = absurd (omega arith)
 there (y ∷ ys) zero lt = (y, refl)
 there (y ∷ ys) (suc i) lt = there ys i (omega arith)
 
-stored_at : (columns : List ObjectColumn) (values : List Value) (i : ℕ) (c : ObjectColumn) (v : Value) → AreStored columns values → i < length columns → c ≡ get_or columns i c → i < length values
-    → v ≡ get_or values i v → IsInDomain c.domain v
-stored_at [] values i c v h lt e within at = absurd (omega arith)
-stored_at (d ∷ columns) [] i c v h lt e within at = absurd (omega arith)
-stored_at (d ∷ columns) (w ∷ values) zero c v h lt e within at = subst (λ (x : ObjectColumn). IsInDomain x.domain v) (sym e) (subst (λ (x : Value). IsInDomain d.domain x) (sym at) h.0)
-stored_at (d ∷ columns) (w ∷ values) (suc i) c v h lt e within at = stored_at columns values i c v h.1 (omega arith) e (omega arith) at
-
 -- the value where the column at a position is listed
 stored_where : (columns : List ObjectColumn) (values : List Value) (place i : ℕ) (v : Value) → AreStored columns values → i < length columns → ((d : ObjectColumn) → nat_eq (get_or columns i d).position place ≡ true)
-    → i < length values → v ≡ get_or values i v → IsStoredFor columns place v
-stored_where columns values place i v h lt is within at =
+    → v ≡ get_or values i v → IsStoredFor columns place v
+stored_where columns values place i v h lt is at =
     let c = there columns i lt in
     let named : nat_eq c.0.position place ≡ true = subst (λ (x : ObjectColumn). nat_eq x.position place ≡ true) (sym c.1) (is c.0) in
-    (c.0, (i, lt, sym c.1), eqb-true c.0.position place named, stored_at columns values i c.0 v h lt c.1 within at)
+    (c.0, (i, lt, sym c.1), eqb-true c.0.position place named, zipped_at (λ d w. IsInDomain d.domain w) columns values i c.0 v h lt c.1 at)
 
-pub found_stored : (columns : List ObjectColumn) (values : List Value) (place i : ℕ) (r : Option (Bor Value)) → AreStored columns values → position (λ c. nat_eq c.position place) columns ≡ Some i
-    → is_some r ≡ nat_lt i (length values) → IfSome r (λ v. v.now ≡ get_or values i v.now) → IfSome r (λ v. IsStoredFor columns place v.now)
-found_stored columns values place i None h e some at = tt
-found_stored [] values place i (Some v) h e some at = cc
-found_stored (c ∷ columns) values place i (Some v) h e some at =
+-- there is a value for each column that is listed
+pub listed_within : (columns : List ObjectColumn) (values : List Value) (place i : ℕ) → AreStored columns values → position (λ c. nat_eq c.position place) columns ≡ Some i → i < length values
+listed_within [] values place i h e = cc
+listed_within (c ∷ columns) values place i h e =
     let test : ObjectColumn → Bool = λ x. nat_eq x.position place in
-    stored_where (c ∷ columns) values place i v.now h (position-Some test (c ∷ columns) i c e).0 (λ d. (position-Some test (c ∷ columns) i d e).1) (ltb-true i (length values) (sym some)) at
+    omega (arith, AllZip-long (λ d w. IsInDomain d.domain w) (c ∷ columns) values h, (position-Some test (c ∷ columns) i c e).0)
 
-pub none_stored : (columns : List ObjectColumn) → AreStored columns []
-none_stored [] = tt
-none_stored (c ∷ columns) = tt
+pub found_stored : (columns : List ObjectColumn) (values : List Value) (place i : ℕ) (v : Value) → AreStored columns values → position (λ c. nat_eq c.position place) columns ≡ Some i
+    → v ≡ get_or values i v → IsStoredFor columns place v
+found_stored [] values place i v h e at = cc
+found_stored (c ∷ columns) values place i v h e at =
+    let test : ObjectColumn → Bool = λ x. nat_eq x.position place in
+    stored_where (c ∷ columns) values place i v h (position-Some test (c ∷ columns) i c e).0 (λ d. (position-Some test (c ∷ columns) i d e).1) at
 
-pub stored_push : (columns : List ObjectColumn) (values : List Value) (c : ObjectColumn) (v : Value) → AreStored columns values → c ≡ get_or columns (length values) c → IsInDomain c.domain v
-    → AreStored columns (values ++ v ∷ [])
-stored_push [] values c v h e is = tt
-stored_push (d ∷ columns) [] c v h e is = let p : c ≡ d = e in (subst (λ (x : ObjectColumn). IsInDomain x.domain v) p is, none_stored columns)
-stored_push (d ∷ columns) (w ∷ values) c v h e is = (h.0, stored_push columns values c v h.1 e is)
+-- one more value of a row
+pub stored_push : (columns : List ObjectColumn) (i : ℕ) (values : List Value) (c : ObjectColumn) (v : Value) → i < length columns → c ≡ get_or columns i c → AreStored (take i columns) values → IsInDomain c.domain v
+    → AreStored (take (i + 1) columns) (values ++ v ∷ [])
+stored_push columns i values c v lt e h is =
+    rw (add-one, take-suc columns i c lt, ← e) (all_zipped_more (λ d w. IsInDomain d.domain w) (take i columns) values c v h is)
+
+-- where the loop over as many other elements has ended
+pub stored_all : {X : Type 0} (P : ObjectColumn → X → Type 0) (columns : List ObjectColumn) (xs : List X) (n : ℕ) (values : List Value) → AllZip P columns xs → n ≡ min (length columns) (length xs)
+    → AreStored (take n columns) values → AreStored columns values
+stored_all P columns xs n values h e stored =
+    let all : n ≡ length columns = omega (arith, AllZip-long P columns xs h) in
+    subst (λ (cs : List ObjectColumn). AreStored cs values) (take-length columns) (subst (λ k. AreStored (take k columns) values) all stored)
 
 domain_at : (columns : List BaseColumn) (place : ℕ) (column : BaseColumn) (d : Domain) → place < length columns → column ≡ get_or columns place column → slice_get (map (λ c. c.domain) columns) place ≡ Some d → d ≡ column.domain
 domain_at [] place column d lt e at = absurd (omega arith)

@@ -1,5 +1,5 @@
 -- The values that insert and update statements give (ISO/IEC 9075:1992, 13.8 to 13.10).
-use Rattle.std.specs.Prelude.{⊤, ◌≡◌, ℕ, List, [], ◌∷◌, Result, IfOk, IfErr}
+use Rattle.std.specs.Prelude.{◌≡◌, ℕ, List, [], ◌∷◌, Result, IfOk, IfErr}
 use Rattle.std.specs.List.{AllByRecursion, AllZip, Contains}
 use Rattle.sq_lex.specs.declared.name.Name.{Name}
 use Rattle.sq_store.specs.Content.{Content}
@@ -22,11 +22,9 @@ use Rattle.sq_query.specs.MayRead.{MayEnd, MayRead}
 use Rattle.sq_query.specs.Row.{HasValueOn}
 use Rattle.sq_expression.specs.declared.fault.Fault.{Fault}
 
--- each value is in the domain of its column
+-- a value for each column, in its domain
 abbrev pub AreStored : List ObjectColumn → List Value → Type 0
-AreStored [] values = ⊤
-AreStored (c ∷ columns) [] = ⊤
-AreStored (c ∷ columns) (v ∷ values) = IsInDomain c.domain v × AreStored columns values
+AreStored = AllZip (λ c v. IsInDomain c.domain v)
 
 -- the value is in the domain of a column at this position
 abbrev pub IsStoredFor : List ObjectColumn → ℕ → Value → Type 0

@@ -1,14 +1,15 @@
 //! What new and changed rows have to meet: check options, NOT NULL and CHECK (ISO/IEC 9075:1992, 11.4, 11.9, 11.19).
 
-ghost use Rattle.std.specs.Prelude.{◌≡◌, List, take, IfErr};
+ghost use Rattle.std.specs.Prelude.{◌≡◌, length, true, List, take, IfErr};
 ghost use Rattle.std.specs.List.{AllByRecursion};
 ghost use Rattle.sq_value.specs.declared.domain.Kind.{Kind};
 ghost use Rattle.sq_value.specs.declared.value.Value.{Value as AnyValue};
+ghost use Rattle.sq_store.specs.Change.{rows_put};
 ghost use Rattle.sq_meaning.specs.Status.{Outcome};
 ghost use Rattle.sq_bound.specs.declared.condition.TablePlace.{TablePlace};
 ghost use Rattle.sq_query.specs.MayRead.{MayEnd, MayRead};
 ghost use Rattle.sq_query.specs.Row.{IsOnRow};
-ghost use Rattle.sq_change.specs.Changed.{AreOnRowsPut};
+ghost use Rattle.sq_change.specs.Changed.{AreOnRowsPut, are_wide};
 
 use crate::row::{is_null, row_put};
 use crate::setting::Setting;
@@ -76,6 +77,7 @@ pub(crate) fn rows_satisfied<N: Names, S: Store>(
     table: &BaseTable,
     changes: &[Change],
 ) -> Result<(), Fault>
+    requires { are_wide (length table.now.columns) (rows_put changes.now) ≡ true }
     ensures { (parameters : List Kind) (tables : TablePlace → Outcome (List (List AnyValue)))
         → MayRead (N.base_tables setting.now.names.now) (N.view_queries setting.now.names.now) (N.column_kinds setting.now.names.now)
         (S.content_now setting.now.store.now) setting.now.user setting.now.parameters.now parameters tables
@@ -95,6 +97,7 @@ fn row_satisfied<N: Names, S: Store>(
     table: &BaseTable,
     row: &Row,
 ) -> Result<(), Fault>
+    requires { length row.now ≡ length table.now.columns }
     ensures { (parameters : List Kind) (tables : TablePlace → Outcome (List (List AnyValue)))
         → MayRead (N.base_tables setting.now.names.now) (N.view_queries setting.now.names.now) (N.column_kinds setting.now.names.now)
         (S.content_now setting.now.store.now) setting.now.user setting.now.parameters.now parameters tables
@@ -110,9 +113,11 @@ fn row_satisfied<N: Names, S: Store>(
 }
 
 /// Whether a column is null that may not be.
-fn lacks_value(table: &BaseTable, row: &[Value]) -> bool {
-    for (column, value) in table.columns.as_slice().iter().zip(row) {
-        if column.not_null && is_null(value) {
+fn lacks_value(table: &BaseTable, row: &[Value]) -> bool
+    requires { length row.now ≡ length table.now.columns }
+{
+    for (place, column) in table.columns.as_slice().iter().enumerate() {
+        if column.not_null && is_null(&row[place]) {
             return true;
         }
     }

@@ -198,7 +198,8 @@ fn given_at<'a>(columns: &[ObjectColumn], given: &'a [Value], place: usize) -> O
     requires { AreStored columns.now given.now }
     ensures { IfSome result (λ value. IsStoredFor columns.now place value.now) }
 {
-    given.get(listed_at(columns, place)?)
+    let listed = listed_at(columns, place)?;
+    Some(&given[listed])
 }
 
 /// Where the column at a place is listed.

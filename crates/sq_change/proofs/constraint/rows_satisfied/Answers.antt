@@ -1,9 +1,13 @@
-use Rattle.std.proofs.Common.{arith}
+use Rattle.std.proofs.Common.{length, arith}
 use Rattle.std.specs.List.{AllByRecursion}
 use Rattle.sq_query.specs.Row.{IsOnRow}
-use Rattle.sq_change.proofs.Applied.{put_so}
+use Rattle.sq_change.proofs.Applied.{put_so, row_wide}
 use Rattle.sq_change.proofs.Endings.{ends_so}
 use Rattle.sq_change.proofs.constraint.rows_satisfied.Goals as goal
+
+pub row_satisfied-requires : goal.row_satisfied-requires
+row_satisfied-requires g c =
+    row_wide (length c.args.table.now.columns) c.args.changes.now c.loop-change.change-index c.change-item.result c.in-Some.row.now c.requires (omega arith) c.change-item.is c.in-Some.ensures
 
 pub returns-in_err-row_satisfied : goal.returns-in_err-row_satisfied
 returns-in_err-row_satisfied g c = λ parameters tables may on.

@@ -1,9 +1,6 @@
-use Rattle.std.proofs.Common.{◌≡◌, length}
+use Rattle.std.proofs.Common.{length, take}
 use Rattle.sq_change.specs.Given.{AreStored}
 use Rattle.sq_change.proofs.given.given_values.Given as goal
 
 abbrev pub invariant-loop-column : goal.invariant-loop-column
-invariant-loop-column g l = record {
-  count : length l.row ≡ length l.yielded;
-  stored : AreStored l.columns l.row;
-}
+invariant-loop-column g l = AreStored (take (length l.yielded) l.columns) l.row

@@ -1,9 +1,6 @@
-use Rattle.std.proofs.Common.{◌≡◌, length}
+use Rattle.std.proofs.Common.{length, take}
 use Rattle.sq_change.specs.Given.{AreStored}
 use Rattle.sq_change.proofs.given.stored_row.Given as goal
 
 abbrev pub invariant-loop-column : goal.invariant-loop-column
-invariant-loop-column l = record {
-  count : length l.stored ≡ length l.yielded;
-  stored : AreStored l.columns l.stored;
-}
+invariant-loop-column l = AreStored (take (length l.yielded) l.columns) l.stored
