@@ -1,5 +1,5 @@
 -- That a bound statement is the one that is written (ISO/IEC 9075:1992, 13.2 to 13.10, 14.3 and 14.4).
-use Rattle.std.specs.Prelude.{◌≡◌, ⊤, ℕ, true, false, List, Option, None, Some, IsSome, Ok, unwrap_or}
+use Rattle.std.specs.Prelude.{◌≡◌, ⊤, ℕ, true, false, List, Option, None, Some, IfSome, IsSome, Ok, unwrap_or}
 use Rattle.std.specs.List.{AllZip}
 use Rattle.sq_lex.specs.declared.name.Name.{Name}
 use Rattle.sq_value.specs.declared.domain.Domain.{Domain}
@@ -82,11 +82,13 @@ IsFetchOf IsNumberOf parameters f bound =
 abbrev pub IsCursorOf : Cursor → BoundCursor → Type 0
 IsCursorOf c bound = (bound.insensitive ≡ c.insensitive) × (bound.scroll ≡ c.scroll)
 
--- what is under the table of the written name, which is the user's where no schema is written (5.4)
-pub record IsUnder (user : Name) (t : TableName) (leaf : Leaf) : Type 0 where
+-- what is under the table of the written name, which is the user's where no schema is written (5.4): that base table itself, if it
+-- is one. The places of base tables are given by their owners and names
+pub record IsUnder (base_number : Name → Name → Option ℕ) (user : Name) (t : TableName) (leaf : Leaf) : Type 0 where
   pub table : TableDesc
   pub is_named : same_table (table_of user t) (record { user = table.user; name = table.name }) ≡ true
   pub is_under : table.leaf ≡ Some leaf
+  pub is_base : IfSome (base_number table.user table.name) (λ place. leaf.table.place ≡ place)
 
 -- ---- statements
 
@@ -99,14 +101,14 @@ IsTargetOf IsNumberOf _ _ = ⊥
 
 -- a statement in a module of the user: its cursors have the numbers that their names have, its targets are parameters of the written
 -- names, and the rows that it changes are under the table of the written name
-abbrev pub IsStatementOf : (Name → ℕ → Type 0) → Name → List ParameterDesc → Statement → BoundStatement → Type 0
-IsStatementOf IsNumberOf user parameters (tree.Open name) (statement.Open n) = IsNumberOf name n
-IsStatementOf IsNumberOf user parameters (tree.Fetch f) (statement.Fetch bound) = IsFetchOf IsNumberOf parameters f bound
-IsStatementOf IsNumberOf user parameters (tree.Close name) (statement.Close n) = IsNumberOf name n
-IsStatementOf IsNumberOf user parameters (tree.Select s) (statement.Select bound) = AreOutputsOf parameters bound.outputs (listed s.targets)
-IsStatementOf IsNumberOf user parameters (tree.Insert i) (statement.Insert bound) = IsUnder user i.table bound.leaf
-IsStatementOf IsNumberOf user parameters (tree.Update u) (statement.Update bound) = IsUnder user u.table (under bound.target) × IsTargetOf IsNumberOf u.target bound.target
-IsStatementOf IsNumberOf user parameters (tree.Delete d) (statement.Delete t) = IsUnder user d.table (under t) × IsTargetOf IsNumberOf d.target t
-IsStatementOf IsNumberOf user parameters (tree.Commit work) statement.Commit = ⊤
-IsStatementOf IsNumberOf user parameters (tree.Rollback work) statement.Rollback = ⊤
-IsStatementOf IsNumberOf user parameters _ _ = ⊥
+abbrev pub IsStatementOf : (Name → Name → Option ℕ) → (Name → ℕ → Type 0) → Name → List ParameterDesc → Statement → BoundStatement → Type 0
+IsStatementOf base_number IsNumberOf user parameters (tree.Open name) (statement.Open n) = IsNumberOf name n
+IsStatementOf base_number IsNumberOf user parameters (tree.Fetch f) (statement.Fetch bound) = IsFetchOf IsNumberOf parameters f bound
+IsStatementOf base_number IsNumberOf user parameters (tree.Close name) (statement.Close n) = IsNumberOf name n
+IsStatementOf base_number IsNumberOf user parameters (tree.Select s) (statement.Select bound) = AreOutputsOf parameters bound.outputs (listed s.targets)
+IsStatementOf base_number IsNumberOf user parameters (tree.Insert i) (statement.Insert bound) = IsUnder base_number user i.table bound.leaf
+IsStatementOf base_number IsNumberOf user parameters (tree.Update u) (statement.Update bound) = IsUnder base_number user u.table (under bound.target) × IsTargetOf IsNumberOf u.target bound.target
+IsStatementOf base_number IsNumberOf user parameters (tree.Delete d) (statement.Delete t) = IsUnder base_number user d.table (under t) × IsTargetOf IsNumberOf d.target t
+IsStatementOf base_number IsNumberOf user parameters (tree.Commit work) statement.Commit = ⊤
+IsStatementOf base_number IsNumberOf user parameters (tree.Rollback work) statement.Rollback = ⊤
+IsStatementOf base_number IsNumberOf user parameters _ _ = ⊥

@@ -42,7 +42,7 @@ fn changed_table<N: Names>(
 ) -> Result<Under<'_>, BindFault>
     ensures base { IfOk result (λ under. IsBase (N.base_tables names.now) under.leaf.now.table) }
     ensures leaf { IfOk result (λ under. IsLeaf (N.column_kinds names.now) under.leaf.now) }
-    ensures named { IfOk result (λ under. IsUnder user written under.leaf.now) }
+    ensures named { IfOk result (λ under. IsUnder (N.base_number names.now) user written under.leaf.now) }
 {
     let table = named_table(names, user, written)?;
     match under_table(table) {
@@ -193,7 +193,7 @@ pub(crate) fn bind_insert<N: Names>(
     requires { IsOutermost environment.now }
     ensures base { IfOk result (λ found. IsBase (N.base_tables names.now) found.part.leaf.table) }
     ensures leaf { IfOk result (λ found. IsLeaf (N.column_kinds names.now) found.part.leaf) }
-    ensures table { IfOk result (λ found. IsUnder environment.now.user insert.now.table found.part.leaf) }
+    ensures table { IfOk result (λ found. IsUnder (N.base_number names.now) environment.now.user insert.now.table found.part.leaf) }
     ensures columns { IfOk result (λ found. AllByRecursion (IsColumnOf found.part.leaf.table) found.part.columns) }
     ensures source { IfOk result (λ found. IsSource (N.column_kinds names.now) (kinds_of_parameters environment.now.parameters.now) found.part.columns found.part.source) }
 {
@@ -442,7 +442,7 @@ pub(crate) fn bind_delete<N: Names, C: Cursors>(
 ) -> Result<Found<ChangeTarget>, BindFault>
     requires { IsOutermost environment.now }
     ensures fits { IfOk result (λ found. FitsTarget (N.base_tables names.now) (C.cursor_count cursors.now) found.part) }
-    ensures table { IfOk result (λ found. IsUnder environment.now.user delete.now.table (leaf_of found.part)) }
+    ensures table { IfOk result (λ found. IsUnder (N.base_number names.now) environment.now.user delete.now.table (leaf_of found.part)) }
     ensures well_formed { IfOk result (λ found. IsChangeTarget (N.column_kinds names.now) (kinds_of_parameters environment.now.parameters.now) found.part) }
     ensures written { IfOk result (λ found. IsTargetOf (λ name number. C.number_of cursors.now name ≡ Some number) delete.now.target found.part) }
 {
@@ -488,7 +488,7 @@ pub(crate) fn bind_update<N: Names, C: Cursors>(
 ) -> Result<Found<BoundUpdate>, BindFault>
     requires { IsOutermost environment.now }
     ensures target { IfOk result (λ found. FitsTarget (N.base_tables names.now) (C.cursor_count cursors.now) found.part.target) }
-    ensures table { IfOk result (λ found. IsUnder environment.now.user update.now.table (leaf_of found.part.target)) }
+    ensures table { IfOk result (λ found. IsUnder (N.base_number names.now) environment.now.user update.now.table (leaf_of found.part.target)) }
     ensures written { IfOk result (λ found. IsTargetOf (λ name number. C.number_of cursors.now name ≡ Some number) update.now.target found.part.target) }
     ensures columns { IfOk result (λ found. are_columns (length (leaf_of found.part.target).table.columns) found.part.assignments ≡ true) }
     ensures well_formed { IfOk result (λ found. IsChangeTarget (N.column_kinds names.now) (kinds_of_parameters environment.now.parameters.now) found.part.target) }

@@ -1,6 +1,6 @@
 //! Statements of procedures, cursors, views and CHECK conditions.
 
-ghost use Rattle.std.specs.Prelude.{◌≡◌, ◌<◌, [], length, refl, slice_get, true, IfOk, IfSome, Ok, Some, false};
+ghost use Rattle.std.specs.Prelude.{None, ◌≡◌, ◌<◌, [], length, refl, slice_get, true, IfOk, IfSome, Ok, Some, false};
 ghost use Rattle.sq_bound.specs.NumberedQuery.{CursorHasNumbers};
 ghost use Rattle.sq_bound.specs.Fits.{FitsCursor, FitsQuery, FitsStatement, are_parameters};
 ghost use Rattle.sq_bound.specs.WellFormed.{IsCond, IsCursor, IsDistance, IsOrientation, IsSelect, IsStatement, IsUpdatable, TakeKinds, kinds_of_columns, kinds_of_parameters, kinds_of_results, kinds_of_select, of_base_at, only};
@@ -121,6 +121,8 @@ struct OwnColumns<'a> {
 impl Names for OwnColumns<'_> {
     ghost base_tables = { λ _. [] };
 
+    ghost base_number = { λ _ _ _. None };
+
     ghost view_queries = { λ _. [] };
 
     ghost column_kinds = { λ own. only own.place (kinds_of_columns own.columns.now) };
@@ -232,7 +234,7 @@ pub fn bind_statement<N: Names, C: Cursors>(
 ) -> Result<BoundStatement, BindFault>
     ensures fits { IfOk result (FitsStatement (N.base_tables names.now) (C.cursor_count cursors.now) (length parameters.now)) }
     ensures well_formed { IfOk result (IsStatement (N.column_kinds names.now) (C.cursor_kinds cursors.now) (kinds_of_parameters parameters.now)) }
-    ensures written { IfOk result (IsStatementOf (λ name number. C.number_of cursors.now name ≡ Some number) user parameters.now statement.now) }
+    ensures written { IfOk result (IsStatementOf (N.base_number names.now) (λ name number. C.number_of cursors.now name ≡ Some number) user parameters.now statement.now) }
 {
     let environment = Environment::new(alloc, user, parameters);
     let mut numbers = SubqueryNumbers::new();
@@ -249,7 +251,7 @@ fn statement_of<N: Names, C: Cursors>(
     requires { IsOutermost environment.now }
     ensures fits { IfOk result (FitsStatement (N.base_tables names.now) (C.cursor_count cursors.now) (length environment.now.parameters.now)) }
     ensures well_formed { IfOk result (IsStatement (N.column_kinds names.now) (C.cursor_kinds cursors.now) (kinds_of_parameters environment.now.parameters.now)) }
-    ensures written { IfOk result (IsStatementOf (λ name number. C.number_of cursors.now name ≡ Some number) environment.now.user environment.now.parameters.now statement.now) }
+    ensures written { IfOk result (IsStatementOf (N.base_number names.now) (λ name number. C.number_of cursors.now name ≡ Some number) environment.now.user environment.now.parameters.now statement.now) }
 {
     match statement {
         Statement::Open(name) => Ok(BoundStatement::Open(known(cursors, *name)?.number)),

@@ -1,6 +1,6 @@
 -- What a bound tree names is there: the tree fits the base tables, the cursors and the parameters that it was bound for.
 -- (Own notion: names are places in bound trees, ISO/IEC 9075:1992 knows none.)
-use Rattle.std.specs.Prelude.{⊤, ◌≡◌, ◌<◌, ℕ, nat_eq, nat_lt, Bool, true, false, ◌&&◌, List, [], ◌∷◌, length, map, Some, IfSome, slice_get}
+use Rattle.std.specs.Prelude.{⊤, ◌≡◌, ◌<◌, ℕ, nat_eq, nat_lt, Bool, true, false, ◌&&◌, List, [], ◌∷◌, length, map, Option, Some, IfSome, slice_get}
 use Rattle.std.specs.List.{AllByRecursion, AllZip, list_all}
 use Rattle.sq_value.specs.Domain.{IsInDomain}
 use Rattle.sq_value.specs.declared.value.Value.{Value}
@@ -34,6 +34,10 @@ IsBase bases b = slice_get bases b.place ≡ Some b
 -- so does the one under a base table or an updatable view
 abbrev pub IsOver : List BaseTable → TableDesc → Type 0
 IsOver bases t = IfSome t.leaf (λ l. IsBase bases l.table)
+
+-- what is under the base table at a place, if the table is that one, is that base table itself
+abbrev pub IsBaseAt : Option ℕ → TableDesc → Type 0
+IsBaseAt number t = IfSome number (λ place. IfSome t.leaf (λ l. l.table.place ≡ place))
 
 -- the keys of each base table
 abbrev pub keys_of_bases : List BaseTable → List Keys

@@ -50,26 +50,35 @@ fn made<S: Store>(
             arguments,
         } = item
         {
-            calls.push(called(alloc, session, *module, *procedure, arguments)?)?;
+            match called(alloc, session, *module, *procedure, arguments)? {
+                Some(facts) => calls.push(facts)?,
+                None => return Ok(Vec::new(alloc)),
+            }
         }
     }
     Ok(calls)
 }
 
+/// A call that is made; none where the session does not take it.
 fn called<S: Store>(
     alloc: Global,
     session: &mut Session<S>,
     module: Name,
     name: Name,
     arguments: &Arguments,
-) -> Result<Facts, AllocError> {
-    let procedure = session.procedure(module, name).unwrap_or(usize::MAX);
+) -> Result<Option<Facts>, AllocError> {
+    let Some(procedure) = session.procedure(module, name) else {
+        return Ok(None);
+    };
     let values = values_of(alloc, arguments)?;
+    if !session.fits(procedure, values.as_slice()) {
+        return Ok(None);
+    }
     let reply = session.call(alloc, procedure, values.as_slice())?;
-    Ok(Facts {
+    Ok(Some(Facts {
         fault: session.fault(procedure),
         reads: reply.reads,
-    })
+    }))
 }
 
 fn values_of(alloc: Global, arguments: &Arguments) -> Result<Items<Value>, AllocError> {

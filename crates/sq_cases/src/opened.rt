@@ -1,5 +1,5 @@
 //! The session that the texts of a run open.
-ghost use Rattle.std.specs.Prelude.{◌≡◌, ◌≤◌, length, IfOk};
+ghost use Rattle.std.specs.Prelude.{◌≡◌, ◌≤◌, length, IfOk, IfSome};
 ghost use Rattle.sq_store.specs.Content.{no_rows};
 ghost use Rattle.sq_bound.specs.Fits.{keys_of_bases};
 
@@ -50,7 +50,8 @@ fn session_over<S: Store>(
     modules: &[ModuleText],
     limits: Limits,
 ) -> Option<Session<S>>
-    requires { limits.row_numbers ≤ MOST_ROW_NUMBERS }
+    requires numbers { limits.row_numbers ≤ MOST_ROW_NUMBERS }
+    requires bases { length catalog.bases ≡ length catalog.tables }
 {
     match store_of::<S>(alloc, &catalog, limits) {
         Ok(store) => Session::new(alloc, catalog, modules, store).ok(),
@@ -75,7 +76,9 @@ fn store_of<S: Store>(alloc: Global, catalog: &Catalog, limits: Limits) -> Resul
     store
 }
 
-fn catalog_of(alloc: Global, texts: &[Vec<u8>], limits: Limits) -> Option<Catalog> {
+fn catalog_of(alloc: Global, texts: &[Vec<u8>], limits: Limits) -> Option<Catalog>
+    ensures bases { IfSome result (λ c. length c.bases ≡ length c.tables) }
+{
     let mut trees = Vec::new(alloc);
     for text in texts {
         let tree = schema_of(alloc, text.as_slice())?;

@@ -13,6 +13,7 @@ use Rattle.sq_bound.specs.declared.condition.TablePlace.{TablePlace}
 use Rattle.sq_bound.specs.declared.condition.TablePlace.TheVariants.{Base, View}
 use Rattle.sq_bound.specs.declared.names.BaseTable.{BaseTable}
 use Rattle.sq_bound.specs.declared.names.Column.{Column}
+use Rattle.sq_bound.specs.declared.names.Leaf.{Leaf}
 use Rattle.sq_bound.specs.declared.names.TableBody.{TableBody}
 use Rattle.sq_bound.specs.declared.names.TableBody.TheVariants as body
 use Rattle.sq_bound.specs.declared.names.TableDesc.{TableDesc}
@@ -24,10 +25,16 @@ abbrev pub IsBody : List BaseTable → ℕ → TableBody → Type 0
 IsBody bases columns (body.Base b) = IsBase bases b × (columns ≡ length b.columns)
 IsBody bases columns (body.View v) = ⊤
 
+-- a base table is under itself
+abbrev pub IsUnderItself : TableBody → Option Leaf → Type 0
+IsUnderItself (body.Base b) under = IfSome under (λ l. l.table ≡ b)
+IsUnderItself (body.View v) under = ⊤
+
 -- a base table, or a view, over these base tables
 pub record IsStored (bases : List BaseTable) (t : TableDesc) : Type 0 where
   pub over : IsOver bases t
   pub body : IsBody bases (length t.columns) t.body
+  pub itself : IsUnderItself t.body t.leaf
 
 -- all that stand under a name are
 abbrev pub AreStored : List BaseTable → List (FullName × TableDesc) → Type 0

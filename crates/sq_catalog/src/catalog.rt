@@ -3,7 +3,7 @@
 ghost use Rattle.std.specs.Prelude.{◌≡◌, ◌<◌, List, [], ◌∷◌, ◌++◌, true, IfErr, IfOk, IfSome, IsSome, None, OnErr, OnOk, is_none, length, map};
 ghost use Rattle.std.specs.Map.{keys_of};
 ghost use Rattle.sq_store.specs.Keys.{keys_of as keys_given};
-ghost use Rattle.sq_bound.specs.Fits.{all_refer, keys_of_bases};
+ghost use Rattle.sq_bound.specs.Fits.{IsBaseAt, all_refer, keys_of_bases};
 ghost use Rattle.sq_meaning.specs.WellFormed.{HasValue};
 ghost use Rattle.sq_bound.specs.WellFormed.{IsTable, IsViewAmong, TableKinds, place_of};
 ghost use Rattle.sq_bound.specs.declared.names.BaseTable.{BaseTable as Base};
@@ -238,6 +238,7 @@ impl Catalog {
         ensures view { IfSome result (λ entry. IsViewAmong self.now.views entry.1.now.body) }
         ensures well_formed { IfSome result (λ entry. IsTable (column_kinds self.now) entry.1.now) }
         ensures named { IfSome result (λ entry. IsNamed full_name.now entry.1.now) }
+        ensures base { IfSome result (λ entry. IsBaseAt (table_number self.now.tables full_name.now.user full_name.now.name) entry.1.now) }
     {
         match self.bases.get_full(full_name) {
             Some((place, _, table)) => Some((TablePlace::Base(place), table)),
@@ -396,6 +397,8 @@ fn key_columns(alloc: Global, keys: &[Items<usize>]) -> Result<Vec<Vec<usize>>, 
 
 impl Names for Catalog {
     ghost base_tables = { λ c. c.bases };
+
+    ghost base_number = { λ c. table_number c.tables };
 
     ghost view_queries = { λ c. c.views };
 

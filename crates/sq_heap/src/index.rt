@@ -1,6 +1,6 @@
 //! A hashed index of the rows in slots, for one key.
 
-ghost use Rattle.std.specs.Prelude.{◌≡◌, ◌<◌, ◌≤◌, ◌∷◌, [], length, true, IfOk, MatchOption, OnOk};
+ghost use Rattle.std.specs.Prelude.{◌≡◌, ◌<◌, ◌≤◌, ◌^◌, ◌∷◌, [], length, true, IfOk, MatchOption, OnOk};
 ghost use Rattle.std.specs.List.{list_all};
 ghost use Rattle.sq_heap.specs.Chain.{are_falling, chain_of, is_within};
 
@@ -62,8 +62,10 @@ impl Index {
     }
 
     /// Whether so many entries more would make it slow.
-    pub(crate) fn is_full(&self, more: usize) -> bool {
-        self.entries.len().saturating_add(more) > self.heads.len()
+    pub(crate) fn is_full(&self, more: usize) -> bool
+        requires { more < 2 ^ 63 }
+    {
+        self.entries.len() + more > self.heads.len()
     }
 
     /// The chain in which the entries under a hash are: one more than the place of its last entry, or 0.

@@ -24,19 +24,21 @@ pub(crate) fn empty_indexes(alloc: Global, keys: &[Items<usize>]) -> Result<Vec<
     Ok(indexes)
 }
 
-/// An index with room for so many entries, and with those of the rows in slots and of the rows that undoing brings back.
+/// An index with the entries of the rows in slots and of the rows that undoing brings back. It has room for twice as many,
+/// and for a count of others.
 pub(crate) fn index_of(
     alloc: Global,
     columns: Items<usize>,
-    count: usize,
     slots: &[Option<Row>],
     undo: &[Undo],
+    others: usize,
 ) -> Result<Index, AllocError>
+    requires { others < 2 ^ 63 }
     ensures columns { IfOk result (λ index. index.columns ≡ columns) }
     ensures slots { IfOk result (λ index. slots_hold (is_in index) 0 slots.now ≡ true) }
     ensures undo { IfOk result (λ index. undo_holds (is_in index) undo.now ≡ true) }
 {
-    let mut index = Index::new(alloc, columns, count)?;
+    let mut index = Index::new(alloc, columns, (slots.len() + undo.len()) * 2 + others)?;
     enter_slots(&mut index, slots)?;
     enter_undo(&mut index, undo)?;
     Ok(index)
@@ -104,6 +106,7 @@ fn enter_change(indexes: &mut Vec<Index>, change: &Change, next: usize) -> Resul
             Ok(next + 1)
         }
         Change::Replace(number, row) => {
+            // No row has the number 0, and an entry for a row that isn't put in does no harm.
             enter_all(indexes, row.as_slice(), number.saturating_sub(1) as usize)?;
             Ok(next)
         }

@@ -1,6 +1,6 @@
 //! Rows found by their keys, and whether they share them.
 
-ghost use Rattle.std.specs.Prelude.{◌≡◌, find, false, true, Some, None, MatchOption};
+ghost use Rattle.std.specs.Prelude.{◌≡◌, find, false, true, length, Some, None, MatchOption};
 ghost use Rattle.std.specs.Cmp.Lexicographic.{pointwise};
 ghost use Rattle.std.specs.List.{list_any};
 ghost use Rattle.std.specs.Option.{option_copied};
@@ -10,6 +10,7 @@ ghost use Rattle.sq_store.specs.Keys.{are_distinct, has_columns, has_key};
 ghost use Rattle.sq_heap.specs.Alone.{all_alone, is_alone, slots_have};
 ghost use Rattle.sq_heap.specs.Index.{bucket_of, is_in, named, names_key, names_other, slots_hold};
 ghost use Rattle.sq_heap.specs.Slots.{rows_from, slot_at};
+ghost use Rattle.sq_heap.specs.Undo.{fits};
 
 use crate::hash::{hash_of_key, hash_of_row};
 use crate::index::{Entry, Index};
@@ -108,14 +109,15 @@ fn has_other(slots: &[Option<Row>], index: &Index, row: &[Value], at: usize, has
 }
 
 /// Whether no changed row shares the key of an index with another row.
-#[tactic(auto, using(crate::proofs::Columns::columns_of_slot))]
+#[tactic(auto, using(crate::proofs::Columns::columns_of_slot, crate::proofs::Rows::slot_is, crate::proofs::Back::fits_at))]
 pub(crate) fn all_alone(slots: &[Option<Row>], index: &Index, changes: &[Undo]) -> bool
     requires columns { slots_have index.now.columns slots.now ≡ true }
     requires entered { slots_hold (is_in index.now) 0 slots.now ≡ true }
+    requires changes { fits (length slots.now) changes.now ≡ true }
     ensures { result ≡ all_alone index.now.columns slots.now changes.now }
 {
     for change in changes {
-        if let Some(Some(row)) = slots.get(change.at) {
+        if let Some(row) = &slots[change.at] {
             if !is_alone(slots, index, row.as_slice(), change.at) {
                 return false;
             }

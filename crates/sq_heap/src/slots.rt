@@ -98,10 +98,11 @@ impl Slots {
             (first_from (table_of self.now.list.items) number ≡ None)
             (λ r. first_from (table_of self.now.list.items) number ≡ Some (record { number = r.0; row = r.1.now })) }
     {
+        // Rows are numbered from 1 on; from 0 on the first one is the first, too.
         let mut at = number.saturating_sub(1) as usize;
         while at < self.list.len() {
             if self.is_gap(at) {
-                at = at.saturating_add(BLOCK);
+                at += BLOCK;
             } else if let Some(row) = &self.list[at] {
                 return Some((at as u64 + 1, row));
             } else {
@@ -147,9 +148,8 @@ impl Slots {
         requires { 0 < length self.old.list.items }
         ensures { self.new.list.items ≡ take (length self.old.list.items - 1) self.old.list.items }
     {
-        if let Some(last) = self.list.pop() {
-            self.counts[self.list.len() / BLOCK] -= rows_of(&last);
-        }
+        let last = self.list.pop().unwrap();
+        self.counts[self.list.len() / BLOCK] -= rows_of(&last);
     }
 
     /// Puts a row into a slot, or empties it. What was there comes back.

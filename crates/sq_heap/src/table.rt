@@ -215,6 +215,7 @@ impl HeapTable {
     /// Makes each index anew that so many entries more would make slow.
     #[tactic(auto, using(crate::proofs::Entries::same_length))]
     fn renew_all(&mut self, alloc: Global, count: usize) -> Result<(), AllocError>
+        requires { count < 2 ^ 63 }
         ensures slots { self.new.slots ≡ self.old.slots }
         ensures undo { self.new.undo ≡ self.old.undo }
         ensures keys { keys_of self.new.indexes.items ≡ keys_of self.old.indexes.items }
@@ -229,20 +230,15 @@ impl HeapTable {
 
     /// Makes an index anew, with the entries of the rows that are there or that undoing brings back, and room for more.
     fn renew(&mut self, alloc: Global, key: usize, count: usize) -> Result<(), AllocError>
-        requires { key < length self.old.indexes.items }
+        requires key { key < length self.old.indexes.items }
+        requires count { count < 2 ^ 63 }
         ensures slots { self.new.slots ≡ self.old.slots }
         ensures undo { self.new.undo ≡ self.old.undo }
         ensures keys { keys_of self.new.indexes.items ≡ keys_of self.old.indexes.items }
     {
         let columns = Items::from_slice(alloc, self.indexes[key].columns())?;
-        let rows = self.slots.len().saturating_add(self.undo.len());
-        let index = index_of(
-            alloc,
-            columns,
-            rows.saturating_mul(2).saturating_add(count),
-            self.slots.as_slice(),
-            self.undo.as_slice(),
-        )?;
+        let slots = self.slots.as_slice();
+        let index = index_of(alloc, columns, slots, self.undo.as_slice(), count)?;
         self.indexes[key] = index;
         Ok(())
     }
@@ -294,11 +290,10 @@ impl HeapTable {
         ensures undo { (from : ℕ) → from < length self.old.undo.items → take from self.new.undo.items ≡ take from self.old.undo.items }
         ensures indexes { self.new.indexes ≡ self.old.indexes }
     {
-        if let Some(Undo { at, old }) = self.undo.pop() {
-            match old {
-                Some(row) => drop(self.slots.put(at, Some(row))),
-                None => self.slots.pop(),
-            }
+        let Undo { at, old } = self.undo.pop().unwrap();
+        match old {
+            Some(row) => drop(self.slots.put(at, Some(row))),
+            None => self.slots.pop(),
         }
     }
 

@@ -1,3 +1,4 @@
+pub mod Apart
 pub mod Fitting
 pub mod Names
 pub mod Openers

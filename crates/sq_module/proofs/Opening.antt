@@ -1,16 +1,27 @@
 -- Cursors that procedures open, where cursors come behind the others.
-use Rattle.std.proofs.Common.{◌≡◌, ℕ, zero, suc, ◌+◌, ◌<◌, List, [], ◌∷◌, ◌++◌, length, take, get_or, append_assoc, Option, Some, None, IfSome, slice_get, Result, Ok, Err, IfOk, sym, ap, ◌∙◌, subst, arith}
+use Rattle.std.proofs.Common.{◌≡◌, ℕ, zero, suc, ◌+◌, ◌<◌, ◌≤◌, Bool, true, false, ◌&&◌, if◌then◌else◌, List, [], ◌∷◌, ◌++◌, length, length-append, nat_lt, take, get_or, append_assoc, Option, Some, None, IfSome, slice_get, Result, Ok, Err, IfOk, refl, sym, ap, ap₂, ◌∙◌, subst, arith}
+use Rattle.std.proofs.lemmas.Bool.{and_parts, lt-ltb, ltb-true}
 use Rattle.std.proofs.lemmas.List.{take_more}
+use Rattle.std.specs.List.{list_all}
+use Rattle.std.specs.Prelude.{⊤}
+use Rattle.std.specs.Map.{lookup}
+use Rattle.std.specs.Option.{option_map}
+use Rattle.indexmap.specs.IndexMap.{insert_entry}
 use Rattle.indexmap.proofs.SetLemmas.{AllZip-push}
+use Rattle.sq_lex.specs.declared.name.Name.{Name}
 use Rattle.sq_value.specs.declared.domain.Kind.{Kind}
+use Rattle.sq_tree.specs.declared.statement.Statement.{Statement}
+use Rattle.sq_tree.specs.declared.statement.Statement.TheVariants as tree
 use Rattle.sq_meaning.specs.Status.{well_formed}
 use Rattle.sq_meaning.specs.WellFormed.{Has}
 use Rattle.sq_bound.specs.declared.fault.BindFault.{BindFault}
 use Rattle.sq_bound.specs.declared.statement.BoundStatement.{BoundStatement}
 use Rattle.sq_bound.specs.declared.statement.BoundStatement.TheVariants as statement
-use Rattle.sq_bound.specs.WellFormed.{IsCursor, TableKinds, kinds_of_parameters}
-use Rattle.sq_module.specs.Opened.{AreOpened, Grow, IsOpened}
-use Rattle.sq_module.specs.Program.{OpensWellFormed, ProcedureOpens, ProceduresOpen}
+use Rattle.sq_bound.specs.WellFormed.{IsCursor, TableKinds, kinds_of_parameters, kinds_of_results}
+use Rattle.sq_bound.specs.declared.names.ParameterDesc.{ParameterDesc}
+use Rattle.sq_bind.specs.Written.{IsStatementOf}
+use Rattle.sq_module.specs.Opened.{AreOpened, AreThere, Grow, IsOpened}
+use Rattle.sq_module.specs.Program.{OpensWellFormed, ProcedureOpens, ProceduresOpen, kinds_of_cursors, same_name}
 use Rattle.sq_module.specs.declared.admission.AdmittedProcedure.{AdmittedProcedure}
 use Rattle.sq_module.specs.declared.program.BoundProcedure.{BoundProcedure}
 use Rattle.sq_module.specs.declared.program.DeclaredCursor.{DeclaredCursor}
@@ -111,3 +122,77 @@ opened_below columns cursors parameters n h = there_below (λ (c : DeclaredCurso
 pub opened_fits : (columns : TableKinds) (cursors : List DeclaredCursor) (p : AdmittedProcedure) (o : Option ℕ) → IsOpened columns cursors p o → IfSome o (λ n. n < length cursors)
 opened_fits columns cursors p None h = tt
 opened_fits columns cursors p (Some n) h = opened_below columns cursors (kinds_of_parameters p.parameters) n h
+
+-- ---- the numbers that names have
+
+below_more : (n m : ℕ) → n ≤ m → (numbers : List (Name × ℕ)) → AreThere n numbers → AreThere m numbers
+below_more n m le [] h = refl
+below_more n m le (e ∷ es) h =
+    let both = and_parts (nat_lt e.1 n) (list_all (λ x. nat_lt x.1 n) es) h in
+    ap₂ (λ a b. a && b) (lt-ltb e.1 m (omega (arith, ltb-true e.1 n both.0))) (below_more n m le es both.1)
+
+below_entered : (n : ℕ) (numbers : List (Name × ℕ)) (name : Name) (v : ℕ) → AreThere n numbers → v < n → AreThere n (insert_entry same_name numbers name v)
+below_entered n [] name v h lt = ap (λ b. b && true) (lt-ltb v n lt)
+below_entered n (e ∷ es) name v h lt =
+    let both = and_parts (nat_lt e.1 n) (list_all (λ x. nat_lt x.1 n) es) h in
+    by (same_name name e.0) refl both.0 both.1 (below_entered n es name v both.1 lt)
+  where
+    by : (b : Bool) → same_name name e.0 ≡ b → nat_lt e.1 n ≡ true → AreThere n es → AreThere n (insert_entry same_name es name v) → AreThere n (insert_entry same_name (e ∷ es) name v)
+    by true same one all rest = rw same (ap₂ (λ a b. a && b) (lt-ltb v n lt) all)
+    by false same one all rest = rw same (ap₂ (λ a b. a && b) one rest)
+
+-- with that of the last cursor
+pub numbers_there : (cursors new : List DeclaredCursor) (numbers after : List (Name × ℕ)) (name : Name) (n : ℕ) (d : DeclaredCursor) → new ≡ cursors ++ d ∷ []
+    → after ≡ insert_entry same_name numbers name n → n ≡ length cursors → AreThere (length cursors) numbers → AreThere (length new) after
+numbers_there cursors new numbers after name n d is entered last h =
+    let count : length new ≡ length cursors + 1 = omega (arith, ap length is, length-append cursors (d ∷ [])) in
+    subst (AreThere (length new)) (sym entered)
+    (below_entered (length new) numbers name n (below_more (length cursors) (length new) (omega (arith, count)) numbers h) (omega (arith, count, last)))
+
+pub number_there : (n : ℕ) (numbers : List (Name × ℕ)) (name : Name) (v : ℕ) → AreThere n numbers → lookup (same_name name) numbers ≡ Some v → v < n
+number_there n [] name v h is = cc
+number_there n (e ∷ es) name v h is =
+    let both = and_parts (nat_lt e.1 n) (list_all (λ x. nat_lt x.1 n) es) h in
+    by (same_name name e.0) refl is both.0 (λ found. number_there n es name v both.1 found)
+  where
+    by : (b : Bool) → same_name name e.0 ≡ b → (if b then Some e.1 else lookup (same_name name) es) ≡ Some v → nat_lt e.1 n ≡ true → (lookup (same_name name) es ≡ Some v → v < n) → v < n
+    by true same found one rest = let value : e.1 ≡ v = cc in subst (λ x. x < n) value (ltb-true e.1 n one)
+    by false same found one rest = rest found
+
+-- ---- statements that open no cursor
+
+pub opens_none : (base_number : Name → Name → Option ℕ) → (R : Name → ℕ → Type 0) (columns : TableKinds) (cursors : List DeclaredCursor) (user : Name) (ps : List ParameterDesc) (kinds : List Kind) (s : Statement) (b : BoundStatement)
+    → ((name : Name) → s ≡ tree.Open name → ⊥) → IsStatementOf base_number R user ps s b → OpensWellFormed columns cursors kinds b
+opens_none base_number R columns cursors user ps kinds (tree.Open name) (statement.Open n) other h = absurd (other name refl)
+opens_none base_number R columns cursors user ps kinds s (statement.Open n) other h = absurd h
+opens_none base_number R columns cursors user ps kinds s (statement.Fetch f) other h = tt
+opens_none base_number R columns cursors user ps kinds s (statement.Close n) other h = tt
+opens_none base_number R columns cursors user ps kinds s (statement.Select t) other h = tt
+opens_none base_number R columns cursors user ps kinds s (statement.Insert i) other h = tt
+opens_none base_number R columns cursors user ps kinds s (statement.Update u) other h = tt
+opens_none base_number R columns cursors user ps kinds s (statement.Delete t) other h = tt
+opens_none base_number R columns cursors user ps kinds s statement.Commit other h = tt
+opens_none base_number R columns cursors user ps kinds s statement.Rollback other h = tt
+
+pub opens_no_other : (base_number : Name → Name → Option ℕ) → (R : Name → ℕ → Type 0) (columns : TableKinds) (cursors : List DeclaredCursor) (user : Name) (ps : List ParameterDesc) (kinds : List Kind) (s : Statement) (r : Result BoundStatement BindFault)
+    → ((name : Name) → s ≡ tree.Open name → ⊥) → IfOk r (IsStatementOf base_number R user ps s) → IfOk r (OpensWellFormed columns cursors kinds)
+opens_no_other base_number R columns cursors user ps kinds s (Ok b) other h = opens_none base_number R columns cursors user ps kinds s b other h
+opens_no_other base_number R columns cursors user ps kinds s (Err e) other h = tt
+
+-- ---- OPEN of the cursor that was bound for a procedure
+
+pub open_is : (P : BoundStatement → Type 0) (r : Result BoundStatement BindFault) (o : Option ℕ) → IfOk r (λ s. option_map statement.Open o ≡ Some s) → IfSome o (λ n. P (statement.Open n)) → IfOk r P
+open_is P (Ok s) (Some n) e h = let same : statement.Open n ≡ s = cc in subst P same h
+open_is P (Ok s) None e h = cc
+open_is P (Err x) o e h = tt
+
+pub any_open : (o : Option ℕ) → IfSome o (λ n. ⊤)
+any_open (Some n) = tt
+any_open None = tt
+
+-- ---- the cursor with a number
+
+pub kinds_there : (cursors : List DeclaredCursor) (n : ℕ) (d : DeclaredCursor) → n < length cursors → d ≡ get_or cursors n d → slice_get (kinds_of_cursors cursors) n ≡ Some (kinds_of_results d.cursor.columns)
+kinds_there [] n d lt is = let no : ⊥ = omega (arith, lt) in absurd no
+kinds_there (c ∷ cursors) zero d lt is = ap (λ (x : DeclaredCursor). Some (kinds_of_results x.cursor.columns)) (sym is)
+kinds_there (c ∷ cursors) (suc n) d lt is = kinds_there cursors n d (omega (arith, lt)) is

@@ -32,6 +32,7 @@ use Rattle.sq_module.specs.declared.admission.AdmittedProcedure.{AdmittedProcedu
 use Rattle.sq_module.specs.declared.program.BoundProcedure.{BoundProcedure}
 use Rattle.sq_module.specs.declared.program.DeclaredCursor.{DeclaredCursor}
 use Rattle.sq_module.specs.declared.program.ProcedureName.{ProcedureName}
+use Rattle.sq_module.specs.Admitted.{OpensEachOnce}
 use Rattle.sq_module.specs.Opened.{Grow}
 use Rattle.sq_module.specs.Program.{same_name, same_procedure}
 use Rattle.sq_module.specs.Written.{AreFromTexts, AreNumbers, AreOfTexts, IsBoundFrom, IsCursorIn, IsCursorNamed, IsDeclaredFrom, IsFromTexts, IsNumberOf, IsOfText, IsStatementIn, OpenNamed, OpensNamed}
@@ -74,8 +75,8 @@ added_next f xs i x start now next lt is before e =
     e ∙ ap (λ l. l ++ f x) before ∙ append_assoc start (flat_map f (take i xs)) (f x) ∙ ap (λ l. start ++ l) (sym (flat_more f xs i x lt is))
 
 pub of_texts_next : (texts : List ModuleText) (m : ModuleText) (admitted new : List AdmittedModule) → IsAmong texts m
-    → (one : AdmittedModule) × (new ≡ admitted ++ one ∷ []) × IsOfText m one → AreOfTexts texts admitted → AreOfTexts texts new
-of_texts_next texts m admitted new there (one, is, of) all =
+    → (one : AdmittedModule) × (new ≡ admitted ++ one ∷ []) × IsOfText m one × OpensEachOnce one → AreOfTexts texts admitted → AreOfTexts texts new
+of_texts_next texts m admitted new there (one, is, of, once) all =
     rw is (all_last (λ a. (t : ModuleText) × IsAmong texts t × IsOfText t a) admitted one all (m, there, of))
 
 -- ---- statements, where the cursors' numbers are known otherwise
@@ -88,18 +89,18 @@ target_where R S f None (target.Positioned p) h = absurd h
 target_where R S f (Some (rows.Condition c)) (target.Positioned p) h = absurd h
 target_where R S f (Some (rows.CurrentOf name)) (target.Searched t) h = absurd h
 
-pub statement_where : (R S : Name → ℕ → Type 0) → ((name : Name) (n : ℕ) → R name n → S name n) → (user : Name) (parameters : List ParameterDesc) (s : Statement) (b : BoundStatement)
-    → IsStatementOf R user parameters s b → IsStatementOf S user parameters s b
-statement_where R S f user parameters (tree.Open name) (statement.Open n) h = f name n h
-statement_where R S f user parameters (tree.Fetch t) (statement.Fetch b) h = (f t.cursor b.cursor h.0, h.1, h.2)
-statement_where R S f user parameters (tree.Close name) (statement.Close n) h = f name n h
-statement_where R S f user parameters (tree.Select t) (statement.Select b) h = h
-statement_where R S f user parameters (tree.Insert t) (statement.Insert b) h = h
-statement_where R S f user parameters (tree.Update t) (statement.Update b) h = (h.0, target_where R S f t.target b.target h.1)
-statement_where R S f user parameters (tree.Delete t) (statement.Delete b) h = (h.0, target_where R S f t.target b h.1)
-statement_where R S f user parameters (tree.Commit w) statement.Commit h = h
-statement_where R S f user parameters (tree.Rollback w) statement.Rollback h = h
-statement_where R S f user parameters s b h = absurd h
+pub statement_where : (base_number : Name → Name → Option ℕ) → (R S : Name → ℕ → Type 0) → ((name : Name) (n : ℕ) → R name n → S name n) → (user : Name) (parameters : List ParameterDesc) (s : Statement) (b : BoundStatement)
+    → IsStatementOf base_number R user parameters s b → IsStatementOf base_number S user parameters s b
+statement_where base_number R S f user parameters (tree.Open name) (statement.Open n) h = f name n h
+statement_where base_number R S f user parameters (tree.Fetch t) (statement.Fetch b) h = (f t.cursor b.cursor h.0, h.1, h.2)
+statement_where base_number R S f user parameters (tree.Close name) (statement.Close n) h = f name n h
+statement_where base_number R S f user parameters (tree.Select t) (statement.Select b) h = h
+statement_where base_number R S f user parameters (tree.Insert t) (statement.Insert b) h = h
+statement_where base_number R S f user parameters (tree.Update t) (statement.Update b) h = (h.0, target_where R S f t.target b.target h.1)
+statement_where base_number R S f user parameters (tree.Delete t) (statement.Delete b) h = (h.0, target_where R S f t.target b h.1)
+statement_where base_number R S f user parameters (tree.Commit w) statement.Commit h = h
+statement_where base_number R S f user parameters (tree.Rollback w) statement.Rollback h = h
+statement_where base_number R S f user parameters s b h = absurd h
 
 -- ---- more cursors
 
@@ -108,24 +109,24 @@ number_more m cursors more name n h = record {
   cursor = h.cursor;
   among = h.among;
   named = h.named;
-  bound = there_still (IsDeclaredFrom m.authorization h.cursor) cursors more n h.bound;
+  bound = there_still (IsDeclaredFrom m h.cursor) cursors more n h.bound;
 }
 
-statement_more : (m : ModuleText) (cursors more : List DeclaredCursor) (parameters : List ParameterDesc) (s : Statement) (b : BoundStatement)
-    → IsStatementIn m cursors parameters s b → IsStatementIn m (cursors ++ more) parameters s b
-statement_more m cursors more parameters s b h = statement_where (IsNumberOf m cursors) (IsNumberOf m (cursors ++ more)) (number_more m cursors more) m.authorization parameters s b h
+statement_more : (base_number : Name → Name → Option ℕ) → (m : ModuleText) (cursors more : List DeclaredCursor) (parameters : List ParameterDesc) (s : Statement) (b : BoundStatement)
+    → IsStatementIn base_number m cursors parameters s b → IsStatementIn base_number m (cursors ++ more) parameters s b
+statement_more base_number m cursors more parameters s b h = statement_where base_number (IsNumberOf m cursors) (IsNumberOf m (cursors ++ more)) (number_more m cursors more) m.authorization parameters s b h
 
-bound_more : (m : ModuleText) (cursors more : List DeclaredCursor) (p : Procedure) (b : BoundProcedure) → IsBoundFrom m cursors p b → IsBoundFrom m (cursors ++ more) p b
-bound_more m cursors more p b h = record { user = h.user; parameters = h.parameters; statement = by b.statement h.statement }
+bound_more : (base_number : Name → Name → Option ℕ) → (m : ModuleText) (cursors more : List DeclaredCursor) (p : Procedure) (b : BoundProcedure) → IsBoundFrom base_number m cursors p b → IsBoundFrom base_number m (cursors ++ more) p b
+bound_more base_number m cursors more p b h = record { user = h.user; parameters = h.parameters; statement = by b.statement h.statement }
   where
-    by : (r : Result BoundStatement BindFault) → IfOk r (IsStatementIn m cursors b.parameters p.statement) → IfOk r (IsStatementIn m (cursors ++ more) b.parameters p.statement)
-    by (Ok s) stands = statement_more m cursors more b.parameters p.statement s stands
+    by : (r : Result BoundStatement BindFault) → IfOk r (IsStatementIn base_number m cursors b.parameters p.statement) → IfOk r (IsStatementIn base_number m (cursors ++ more) b.parameters p.statement)
+    by (Ok s) stands = statement_more base_number m cursors more b.parameters p.statement s stands
     by (Err e) stands = tt
 
-from_texts_more : (texts : List ModuleText) (cursors more : List DeclaredCursor) (procedures : List (ProcedureName × BoundProcedure)) → AreFromTexts texts cursors procedures
-    → AreFromTexts texts (cursors ++ more) procedures
-from_texts_more texts cursors more [] h = tt
-from_texts_more texts cursors more (e ∷ es) h = (
+from_texts_more : (base_number : Name → Name → Option ℕ) → (texts : List ModuleText) (cursors more : List DeclaredCursor) (procedures : List (ProcedureName × BoundProcedure)) → AreFromTexts base_number texts cursors procedures
+    → AreFromTexts base_number texts (cursors ++ more) procedures
+from_texts_more base_number texts cursors more [] h = tt
+from_texts_more base_number texts cursors more (e ∷ es) h = (
   record {
     text = h.0.text;
     among = h.0.among;
@@ -133,56 +134,61 @@ from_texts_more texts cursors more (e ∷ es) h = (
     procedure = h.0.procedure;
     is_item = h.0.is_item;
     is_named = h.0.is_named;
-    bound = bound_more h.0.text cursors more h.0.procedure e.1 h.0.bound;
+    bound = bound_more base_number h.0.text cursors more h.0.procedure e.1 h.0.bound;
   },
-  from_texts_more texts cursors more es h.1,
+  from_texts_more base_number texts cursors more es h.1,
 )
 
 numbers_more : (m : ModuleText) (cursors more : List DeclaredCursor) (numbers : List (Name × ℕ)) → AreNumbers m cursors numbers → AreNumbers m (cursors ++ more) numbers
 numbers_more m cursors more [] h = tt
 numbers_more m cursors more (e ∷ es) h = (number_more m cursors more e.0 e.1 h.0, numbers_more m cursors more es h.1)
 
-opens_named_more : (m : ModuleText) (cursors more : List DeclaredCursor) (p : AdmittedProcedure) (o : Option ℕ) → OpensNamed m cursors p o → OpensNamed m (cursors ++ more) p o
-opens_named_more m cursors more p None h = tt
-opens_named_more m cursors more p (Some n) h = statement_more m cursors more p.parameters p.procedure.now.statement (statement.Open n) h
+opens_named_more : (base_number : Name → Name → Option ℕ) → (m : ModuleText) (cursors more : List DeclaredCursor) (p : AdmittedProcedure) (o : Option ℕ) → OpensNamed base_number m cursors p o → OpensNamed base_number m (cursors ++ more) p o
+opens_named_more base_number m cursors more p None h = tt
+opens_named_more base_number m cursors more p (Some n) h = statement_more base_number m cursors more p.parameters p.procedure.now.statement (statement.Open n) h
 
-open_named_more : (m : ModuleText) (cursors more : List DeclaredCursor) (ps : List AdmittedProcedure) (os : List (Option ℕ)) → OpenNamed m cursors ps os → OpenNamed m (cursors ++ more) ps os
-open_named_more m cursors more [] [] h = tt
-open_named_more m cursors more [] (o ∷ os) h = absurd h
-open_named_more m cursors more (p ∷ ps) [] h = absurd h
-open_named_more m cursors more (p ∷ ps) (o ∷ os) h = (opens_named_more m cursors more p o h.0, open_named_more m cursors more ps os h.1)
+open_named_more : (base_number : Name → Name → Option ℕ) → (m : ModuleText) (cursors more : List DeclaredCursor) (ps : List AdmittedProcedure) (os : List (Option ℕ)) → OpenNamed base_number m cursors ps os → OpenNamed base_number m (cursors ++ more) ps os
+open_named_more base_number m cursors more [] [] h = tt
+open_named_more base_number m cursors more [] (o ∷ os) h = absurd h
+open_named_more base_number m cursors more (p ∷ ps) [] h = absurd h
+open_named_more base_number m cursors more (p ∷ ps) (o ∷ os) h = (opens_named_more base_number m cursors more p o h.0, open_named_more base_number m cursors more ps os h.1)
 
-pub from_texts_grown : (texts : List ModuleText) (old new : List DeclaredCursor) (procedures : List (ProcedureName × BoundProcedure)) → Grow old new → AreFromTexts texts old procedures
-    → AreFromTexts texts new procedures
-from_texts_grown texts old new procedures grown h = subst (λ cs. AreFromTexts texts cs procedures) (sym grown.1) (from_texts_more texts old grown.0 procedures h)
+pub from_texts_grown : (base_number : Name → Name → Option ℕ) → (texts : List ModuleText) (old new : List DeclaredCursor) (procedures : List (ProcedureName × BoundProcedure)) → Grow old new → AreFromTexts base_number texts old procedures
+    → AreFromTexts base_number texts new procedures
+from_texts_grown base_number texts old new procedures grown h = subst (λ cs. AreFromTexts base_number texts cs procedures) (sym grown.1) (from_texts_more base_number texts old grown.0 procedures h)
 
 -- one procedure more, with cursors behind those that were there
-pub named_next : (m : ModuleText) (old new : List DeclaredCursor) (ps : List AdmittedProcedure) (i : ℕ) (p : AdmittedProcedure) (os : List (Option ℕ)) (o : Option ℕ) → i < length ps → p ≡ get_or ps i p
-    → Grow old new → OpenNamed m old (take i ps) os → OpensNamed m new p o → OpenNamed m new (take (i + 1) ps) (os ++ o ∷ [])
-named_next m old new ps i p os o lt is grown h one =
-    let wide : OpenNamed m new (take i ps) os = subst (λ cs. OpenNamed m cs (take i ps) os) (sym grown.1) (open_named_more m old grown.0 (take i ps) os h) in
-    subst (λ qs. OpenNamed m new qs (os ++ o ∷ [])) (ap (λ q. take i ps ++ q ∷ []) is ∙ sym (take_more ps i p lt)) (AllZip-push (OpensNamed m new) (take i ps) os p o wide one)
+pub named_next : (base_number : Name → Name → Option ℕ) → (m : ModuleText) (old new : List DeclaredCursor) (ps : List AdmittedProcedure) (i : ℕ) (p : AdmittedProcedure) (os : List (Option ℕ)) (o : Option ℕ) → i < length ps → p ≡ get_or ps i p
+    → Grow old new → OpenNamed base_number m old (take i ps) os → OpensNamed base_number m new p o → OpenNamed base_number m new (take (i + 1) ps) (os ++ o ∷ [])
+named_next base_number m old new ps i p os o lt is grown h one =
+    let wide : OpenNamed base_number m new (take i ps) os = subst (λ cs. OpenNamed base_number m cs (take i ps) os) (sym grown.1) (open_named_more base_number m old grown.0 (take i ps) os h) in
+    subst (λ qs. OpenNamed base_number m new qs (os ++ o ∷ [])) (ap (λ q. take i ps ++ q ∷ []) is ∙ sym (take_more ps i p lt)) (AllZip-push (OpensNamed base_number m new) (take i ps) os p o wide one)
 
-pub named_at : (m : ModuleText) (cursors : List DeclaredCursor) (ps : List AdmittedProcedure) (os : List (Option ℕ)) (i : ℕ) (p : AdmittedProcedure) (d : Option ℕ) → OpenNamed m cursors ps os
-    → i < length ps → p ≡ get_or ps i p → OpensNamed m cursors p (get_or os i d)
-named_at m cursors [] os i p d h lt is = let no : ⊥ = omega (arith, lt) in absurd no
-named_at m cursors (q ∷ ps) [] i p d h lt is = absurd h
-named_at m cursors (q ∷ ps) (r ∷ os) zero p d h lt is = subst (λ x. OpensNamed m cursors x r) (sym is) h.0
-named_at m cursors (q ∷ ps) (r ∷ os) (suc i) p d h lt is = named_at m cursors ps os i p d h.1 (omega (arith, lt)) is
+pub named_at : (base_number : Name → Name → Option ℕ) → (m : ModuleText) (cursors : List DeclaredCursor) (ps : List AdmittedProcedure) (os : List (Option ℕ)) (i : ℕ) (p : AdmittedProcedure) (d : Option ℕ) → OpenNamed base_number m cursors ps os
+    → i < length ps → p ≡ get_or ps i p → OpensNamed base_number m cursors p (get_or os i d)
+named_at base_number m cursors [] os i p d h lt is = let no : ⊥ = omega (arith, lt) in absurd no
+named_at base_number m cursors (q ∷ ps) [] i p d h lt is = absurd h
+named_at base_number m cursors (q ∷ ps) (r ∷ os) zero p d h lt is = subst (λ x. OpensNamed base_number m cursors x r) (sym is) h.0
+named_at base_number m cursors (q ∷ ps) (r ∷ os) (suc i) p d h lt is = named_at base_number m cursors ps os i p d h.1 (omega (arith, lt)) is
 
 -- ---- one cursor more
 
 -- the last cursor, bound from the one of this name
-pub number_last : (m : ModuleText) (cursors new : List DeclaredCursor) (user name : Name) (bound : Result BoundCursor BindFault) (c : BoundCursor) (d : DeclaredCursor) → bound ≡ Ok c → d.user ≡ user
-    → d.cursor ≡ c → new ≡ cursors ++ d ∷ [] → IsCursorNamed m user name bound → IsNumberOf m new name (length cursors)
-number_last m cursors new user name bound c d is_bound of_user of_cursor is h =
+pub number_last : (m : ModuleText) (a : AdmittedModule) (cursors new : List DeclaredCursor) (name : Name) (bound : Result BoundCursor BindFault) (c : BoundCursor) (d : DeclaredCursor) → bound ≡ Ok c
+    → d.«module» ≡ a.name → d.name ≡ name → d.user ≡ a.user → d.cursor ≡ c → new ≡ cursors ++ d ∷ [] → IsOfText m a → IsCursorNamed m name bound → IsNumberOf m new name (length cursors)
+number_last m a cursors new name bound c d is_bound of_module of_name of_user of_cursor is of h =
     let written : IsCursorOf h.cursor c = subst (λ (r : Result BoundCursor BindFault). IfOk r (IsCursorOf h.cursor)) is_bound h.bound_is in
+    let one : IsDeclaredFrom m h.cursor d = record {
+      of_module = of_module ∙ of.name;
+      named = of_name ∙ sym h.named;
+      user = of_user ∙ of.user;
+      words = subst (IsCursorOf h.cursor) (sym of_cursor) written;
+    } in
     record {
       cursor = h.cursor;
       among = h.among;
       named = h.named;
-      bound = subst (λ cs. Has (IsDeclaredFrom m.authorization h.cursor) (well_formed (slice_get cs (length cursors)))) (sym is)
-          (last_there (IsDeclaredFrom m.authorization h.cursor) cursors d (of_user ∙ h.user_is, subst (IsCursorOf h.cursor) (sym of_cursor) written));
+      bound = subst (λ cs. Has (IsDeclaredFrom m h.cursor) (well_formed (slice_get cs (length cursors)))) (sym is) (last_there (IsDeclaredFrom m h.cursor) cursors d one);
     }
 
 -- the numbers with that of the last cursor
@@ -221,25 +227,25 @@ cursor_found items (e ∷ es) name c all is = by (same_name name e.0) refl is (�
     by false same found rest = rest found
 
 -- a statement whose cursors have these numbers
-pub statement_found : (m : ModuleText) (cursors : List DeclaredCursor) (numbers : List (Name × ℕ)) (user : Name) (parameters : List ParameterDesc) (s : Statement) (r : Result BoundStatement BindFault)
-    → user ≡ m.authorization → AreNumbers m cursors numbers → IfOk r (IsStatementOf (λ name n. lookup (same_name name) numbers ≡ Some n) user parameters s)
-    → IfOk r (IsStatementIn m cursors parameters s)
-statement_found m cursors numbers user parameters s (Ok b) is are h =
-    subst (λ u. IsStatementOf (IsNumberOf m cursors) u parameters s b) is
-    (statement_where (λ name n. lookup (same_name name) numbers ≡ Some n) (IsNumberOf m cursors) (λ name n. number_found m cursors numbers name n are) user parameters s b h)
-statement_found m cursors numbers user parameters s (Err e) is are h = tt
+pub statement_found : (base_number : Name → Name → Option ℕ) → (m : ModuleText) (cursors : List DeclaredCursor) (numbers : List (Name × ℕ)) (user : Name) (parameters : List ParameterDesc) (s : Statement) (r : Result BoundStatement BindFault)
+    → user ≡ m.authorization → AreNumbers m cursors numbers → IfOk r (IsStatementOf base_number (λ name n. lookup (same_name name) numbers ≡ Some n) user parameters s)
+    → IfOk r (IsStatementIn base_number m cursors parameters s)
+statement_found base_number m cursors numbers user parameters s (Ok b) is are h =
+    subst (λ u. IsStatementOf base_number (IsNumberOf m cursors) u parameters s b) is
+    (statement_where base_number (λ name n. lookup (same_name name) numbers ≡ Some n) (IsNumberOf m cursors) (λ name n. number_found m cursors numbers name n are) user parameters s b h)
+statement_found base_number m cursors numbers user parameters s (Err e) is are h = tt
 
 -- a procedure more, or another of that name
-pub procedure_next : (texts : List ModuleText) (m : ModuleText) (cursors : List DeclaredCursor) (procedures more : List (ProcedureName × BoundProcedure)) (name : ProcedureName) (p : Procedure) (b : BoundProcedure)
-    → more ≡ insert_entry same_procedure procedures name b → IsAmong texts m → name.«module» ≡ m.name → IsAmong m.items (item.Procedure p) → name.name ≡ p.name → IsBoundFrom m cursors p b
-    → AreFromTexts texts cursors procedures → AreFromTexts texts cursors more
-procedure_next texts m cursors procedures more name p b is among named is_item is_named bound all =
-    subst (AreFromTexts texts cursors) (sym is) (all_entries same_procedure (IsFromTexts texts cursors) procedures name b same one all)
+pub procedure_next : (base_number : Name → Name → Option ℕ) → (texts : List ModuleText) (m : ModuleText) (cursors : List DeclaredCursor) (procedures more : List (ProcedureName × BoundProcedure)) (name : ProcedureName) (p : Procedure) (b : BoundProcedure)
+    → more ≡ insert_entry same_procedure procedures name b → IsAmong texts m → name.«module» ≡ m.name → IsAmong m.items (item.Procedure p) → name.name ≡ p.name → IsBoundFrom base_number m cursors p b
+    → AreFromTexts base_number texts cursors procedures → AreFromTexts base_number texts cursors more
+procedure_next base_number texts m cursors procedures more name p b is among named is_item is_named bound all =
+    subst (AreFromTexts base_number texts cursors) (sym is) (all_entries same_procedure (IsFromTexts base_number texts cursors) procedures name b same one all)
   where
-    one : IsFromTexts texts cursors (name, b)
+    one : IsFromTexts base_number texts cursors (name, b)
     one = record { text = m; among = among; named = named; procedure = p; is_item = is_item; is_named = is_named; bound = bound }
 
-    same : (q : ProcedureName) → same_procedure name q ≡ true → IsFromTexts texts cursors (q, b)
+    same : (q : ProcedureName) → same_procedure name q ≡ true → IsFromTexts base_number texts cursors (q, b)
     same q h =
         let both = both_true (same_name name.«module» q.«module») (same_name name.name q.name) h in record {
           text = m;

@@ -1,9 +1,15 @@
 -- The cursors that the procedures of a module open, while the module is bound (ISO/IEC 9075:1992, 13.2).
-use Rattle.std.specs.Prelude.{◌≡◌, ℕ, List, ◌++◌, Option, IfSome}
-use Rattle.std.specs.List.{AllZip}
+use Rattle.std.specs.Prelude.{◌≡◌, ℕ, Bool, true, false, List, ◌++◌, Option, IfSome, nat_lt}
+use Rattle.std.specs.List.{AllByRecursion, AllZip, list_all, list_any}
+use Rattle.std.specs.Map.{lookup}
+use Rattle.sq_lex.specs.declared.name.Name.{Name}
 use Rattle.sq_bound.specs.WellFormed.{TableKinds, kinds_of_parameters}
 use Rattle.sq_bound.specs.declared.statement.BoundStatement.TheVariants as statement
-use Rattle.sq_module.specs.Program.{OpensWellFormed}
+use Rattle.sq_module.specs.Admitted.{opened_of, openings}
+use Rattle.sq_module.specs.Program.{OpensWellFormed, same_name}
+use Rattle.sq_module.specs.Refusal.{is_name}
+use Rattle.sq_module.specs.Written.{is_cursor}
+use Rattle.sq_module.specs.declared.admission.AdmittedModule.{AdmittedModule}
 use Rattle.sq_module.specs.declared.admission.AdmittedProcedure.{AdmittedProcedure}
 use Rattle.sq_module.specs.declared.program.DeclaredCursor.{DeclaredCursor}
 
@@ -18,3 +24,29 @@ AreOpened columns cursors = AllZip (IsOpened columns cursors)
 -- cursors come behind those that were there
 abbrev pub Grow : List DeclaredCursor → List DeclaredCursor → Type 0
 Grow old new = (more : List DeclaredCursor) × (new ≡ old ++ more)
+
+-- each number that a name has is that of one of so many cursors
+abbrev pub AreThere : ℕ → List (Name × ℕ) → Type 0
+AreThere cursors numbers = list_all (λ e. nat_lt e.1 cursors) numbers ≡ true
+
+-- ---- which cursors are there while the module is bound
+
+-- a cursor of a module of this name
+abbrev pub is_in : Name → DeclaredCursor → Bool
+is_in «module» c = same_name «module» c.«module»
+
+-- no cursor is of a module of this name
+abbrev pub AreOfOthers : Name → List DeclaredCursor → Type 0
+AreOfOthers «module» cursors = list_any (is_in «module») cursors ≡ false
+
+-- the cursors of the module are among those that these procedures open
+abbrev pub OpenedBy : Name → List AdmittedProcedure → List DeclaredCursor → Type 0
+OpenedBy «module» procedures cursors = AllByRecursion (λ c. is_in «module» c ≡ true → list_any (is_name c.name) (openings procedures) ≡ true) cursors
+
+-- the cursor of this name in the module is not there
+abbrev pub IsNew : Name → List DeclaredCursor → Name → Type 0
+IsNew «module» cursors name = list_any (is_cursor «module» name) cursors ≡ false
+
+-- nor is the one that a procedure opens, if the module has one of that name
+abbrev pub OpensNew : AdmittedModule → List DeclaredCursor → AdmittedProcedure → Type 0
+OpensNew a cursors p = IfSome (opened_of p) (λ name. IfSome (lookup (same_name name) a.cursors.entries) (λ c. IsNew a.name cursors name))

@@ -1,7 +1,7 @@
 -- That what is admitted and bound is what the module texts say (ISO/IEC 9075:1992, 12.1, 12.3 and 13.1).
-use Rattle.std.specs.Prelude.{◌≡◌, ℕ, List, [], ◌∷◌, Option, Some, Result, IfOk, IfSome, flat_map, map, slice_get}
+use Rattle.std.specs.Prelude.{◌≡◌, ⊤, ℕ, Bool, false, ◌&&◌, List, [], ◌∷◌, ◌++◌, Option, Some, Result, IfOk, IfSome, flat_map, map, slice_get}
 use Rattle.std.specs.Borrow.{Bor}
-use Rattle.std.specs.List.{AllByRecursion, AllZip, IsAmong}
+use Rattle.std.specs.List.{AllByRecursion, AllZip, IsAmong, list_any}
 use Rattle.sq_lex.specs.declared.name.Name.{Name}
 use Rattle.sq_value.specs.declared.domain.Domain.{Domain}
 use Rattle.sq_tree.specs.declared.module.Cursor.{Cursor}
@@ -23,6 +23,7 @@ use Rattle.sq_bound.specs.declared.query.BoundCursor.{BoundCursor}
 use Rattle.sq_bound.specs.declared.statement.BoundStatement.{BoundStatement}
 use Rattle.sq_bound.specs.declared.statement.BoundStatement.TheVariants as statement
 use Rattle.sq_bind.specs.Written.{IsCursorOf, IsStatementOf}
+use Rattle.sq_module.specs.Program.{same_name}
 use Rattle.sq_module.specs.declared.program.BoundProcedure.{BoundProcedure}
 use Rattle.sq_module.specs.declared.program.DeclaredCursor.{DeclaredCursor}
 use Rattle.sq_module.specs.declared.program.ProcedureName.{ProcedureName}
@@ -73,44 +74,62 @@ AreOfTexts texts admitted = AllByRecursion (λ a. (m : ModuleText) × IsAmong te
 
 -- ---- what is bound
 
--- a cursor that is bound in a module of the user from this one
-abbrev pub IsDeclaredFrom : Name → Cursor → DeclaredCursor → Type 0
-IsDeclaredFrom user c declared = (declared.user ≡ user) × IsCursorOf c declared.cursor
+-- a cursor is bound from this one of the module: it has the module's name and user, and its name there
+pub record IsDeclaredFrom (m : ModuleText) (c : Cursor) (declared : DeclaredCursor) : Type 0 where
+  pub of_module : declared.«module» ≡ m.name
+  pub named : declared.name ≡ c.name
+  pub user : declared.user ≡ m.authorization
+  pub words : IsCursorOf c declared.cursor
 
--- the cursor with this number is bound from the one of this name in the module
+-- the cursor with this number is the one that the module declares under this name
 pub record IsNumberOf (m : ModuleText) (cursors : List DeclaredCursor) (name : Name) (number : ℕ) : Type 0 where
   pub cursor : Cursor
   pub among : IsAmong m.items (item.Cursor cursor)
   pub named : cursor.name ≡ name
-  pub bound : Has (IsDeclaredFrom m.authorization cursor) (well_formed (slice_get cursors number))
+  pub bound : Has (IsDeclaredFrom m cursor) (well_formed (slice_get cursors number))
 
--- a statement is bound from this one of a procedure with these parameters in the module
-abbrev pub IsStatementIn : ModuleText → List DeclaredCursor → List ParameterDesc → Statement → BoundStatement → Type 0
-IsStatementIn m cursors parameters s bound = IsStatementOf (IsNumberOf m cursors) m.authorization parameters s bound
+-- the cursor is the one of this name in the module
+abbrev pub is_cursor : Name → Name → DeclaredCursor → Bool
+is_cursor «module» name c = same_name «module» c.«module» && same_name name c.name
+
+-- each cursor differs in its module or its name from these and from those before it
+abbrev pub AreApart : List DeclaredCursor → List DeclaredCursor → Type 0
+AreApart before [] = ⊤
+AreApart before (c ∷ cursors) = (list_any (is_cursor c.«module» c.name) before ≡ false) × AreApart (before ++ c ∷ []) cursors
+
+-- a statement is bound from this one of a procedure with these parameters in the module. The places of base tables are given by their
+-- owners and names
+abbrev pub IsStatementIn : (Name → Name → Option ℕ) → ModuleText → List DeclaredCursor → List ParameterDesc → Statement → BoundStatement → Type 0
+IsStatementIn base_number m cursors parameters s bound = IsStatementOf base_number (IsNumberOf m cursors) m.authorization parameters s bound
 
 -- a procedure is bound from this one of the module: its parameters are those that it declares, and its statement, if it has no fault,
 -- is the one that is written
-pub record IsBoundFrom (m : ModuleText) (cursors : List DeclaredCursor) (p : Procedure) (bound : BoundProcedure) : Type 0 where
+pub record IsBoundFrom (base_number : Name → Name → Option ℕ) (m : ModuleText) (cursors : List DeclaredCursor) (p : Procedure) (bound : BoundProcedure) : Type 0 where
   pub user : bound.user ≡ m.authorization
   pub parameters : Declare (declarations_of p.declarations) bound.parameters
-  pub statement : IfOk bound.statement (IsStatementIn m cursors bound.parameters p.statement)
+  pub statement : IfOk bound.statement (IsStatementIn base_number m cursors bound.parameters p.statement)
 
 -- a procedure of a program is bound from the one of its name in the text of its module's name
-pub record IsFromTexts (texts : List ModuleText) (cursors : List DeclaredCursor) (e : ProcedureName × BoundProcedure) : Type 0 where
+pub record IsFromTexts (base_number : Name → Name → Option ℕ) (texts : List ModuleText) (cursors : List DeclaredCursor) (e : ProcedureName × BoundProcedure) : Type 0 where
   pub text : ModuleText
   pub among : IsAmong texts text
   pub named : e.0.«module» ≡ text.name
   pub procedure : Procedure
   pub is_item : IsAmong text.items (item.Procedure procedure)
   pub is_named : e.0.name ≡ procedure.name
-  pub bound : IsBoundFrom text cursors procedure e.1
+  pub bound : IsBoundFrom base_number text cursors procedure e.1
 
-abbrev pub AreFromTexts : List ModuleText → List DeclaredCursor → List (ProcedureName × BoundProcedure) → Type 0
-AreFromTexts texts cursors procedures = AllByRecursion (IsFromTexts texts cursors) procedures
+abbrev pub AreFromTexts : (Name → Name → Option ℕ) → List ModuleText → List DeclaredCursor → List (ProcedureName × BoundProcedure) → Type 0
+AreFromTexts base_number texts cursors procedures = AllByRecursion (IsFromTexts base_number texts cursors) procedures
 
 -- so is each procedure of a program
-abbrev pub IsOfTexts : List ModuleText → Program → Type 0
-IsOfTexts texts p = AreFromTexts texts p.cursors.items p.procedures.entries
+abbrev pub AreFrom : (Name → Name → Option ℕ) → List ModuleText → Program → Type 0
+AreFrom base_number texts p = AreFromTexts base_number texts p.cursors.items p.procedures.entries
+
+-- and no two of its cursors have the same module and name
+pub record IsOfTexts (base_number : Name → Name → Option ℕ) (texts : List ModuleText) (p : Program) : Type 0 where
+  pub procedures : AreFrom base_number texts p
+  pub cursors : AreApart [] p.cursors.items
 
 -- ---- while a module is bound
 
@@ -118,17 +137,16 @@ IsOfTexts texts p = AreFromTexts texts p.cursors.items p.procedures.entries
 abbrev pub AreNumbers : ModuleText → List DeclaredCursor → List (Name × ℕ) → Type 0
 AreNumbers m cursors numbers = AllByRecursion (λ e. IsNumberOf m cursors e.0 e.1) numbers
 
--- a cursor, if it has no fault, is the one of this name in the module
-pub record IsCursorNamed (m : ModuleText) (user name : Name) (bound : Result BoundCursor BindFault) : Type 0 where
+-- a cursor, if it has no fault, is bound from the one of this name in the module
+pub record IsCursorNamed (m : ModuleText) (name : Name) (bound : Result BoundCursor BindFault) : Type 0 where
   pub cursor : Cursor
   pub among : IsAmong m.items (item.Cursor cursor)
   pub named : cursor.name ≡ name
-  pub user_is : user ≡ m.authorization
   pub bound_is : IfOk bound (IsCursorOf cursor)
 
 -- the cursor that a procedure opens, if it opens one without a fault, is that which its OPEN names
-abbrev pub OpensNamed : ModuleText → List DeclaredCursor → AdmittedProcedure → Option ℕ → Type 0
-OpensNamed m cursors p opened = IfSome opened (λ n. IsStatementIn m cursors p.parameters p.procedure.now.statement (statement.Open n))
+abbrev pub OpensNamed : (Name → Name → Option ℕ) → ModuleText → List DeclaredCursor → AdmittedProcedure → Option ℕ → Type 0
+OpensNamed base_number m cursors p opened = IfSome opened (λ n. IsStatementIn base_number m cursors p.parameters p.procedure.now.statement (statement.Open n))
 
-abbrev pub OpenNamed : ModuleText → List DeclaredCursor → List AdmittedProcedure → List (Option ℕ) → Type 0
-OpenNamed m cursors = AllZip (OpensNamed m cursors)
+abbrev pub OpenNamed : (Name → Name → Option ℕ) → ModuleText → List DeclaredCursor → List AdmittedProcedure → List (Option ℕ) → Type 0
+OpenNamed base_number m cursors = AllZip (OpensNamed base_number m cursors)

@@ -1,12 +1,12 @@
 //! Which modules are refused (ISO/IEC 9075:1992, 12.1 to 12.3 and 13.1; that exactly one procedure opens each cursor is an
 //! own rule).
 
-ghost use Rattle.std.specs.Prelude.{◌≡◌, [], ◌∷◌, ◌++◌, true, false, IfErr, IfOk, List, None, OnOk, length, position};
+ghost use Rattle.std.specs.Prelude.{◌≡◌, [], ◌∷◌, ◌++◌, true, false, IfErr, IfOk, List, None, OnOk, flat_map, length, position};
 ghost use Rattle.std.specs.List.{AllByRecursion, IsAmong, list_any};
 ghost use Rattle.sq_tree.specs.declared.module.ModuleItem.TheVariants.{Cursor as CursorItem};
 ghost use Rattle.sq_tree.specs.declared.module.ModuleItem.{ModuleItem as AnyItem};
 ghost use Rattle.sq_module.specs.declared.admission.AdmittedModule.{AdmittedModule as Admitted};
-ghost use Rattle.sq_module.specs.Admitted.{admitted_procedures, module_keys, procedure_names};
+ghost use Rattle.sq_module.specs.Admitted.{AreAdmitted, OpensEachOnce, admitted_procedures, module_keys, opening_in, openings, procedure_names};
 ghost use Rattle.sq_module.specs.Program.{AreNew, HaveNames, declared_procedures, module_procedures, name_in, names_in, same_name};
 ghost use Rattle.sq_module.specs.Written.{AreOfTexts, Declare, IsCursorIn, IsOfText, IsProcedureOf, declarations_of};
 ghost use Rattle.sq_module.specs.Refusal.{AreAdmissible, IsAdmissible, IsOfModule, IsOfSomeModule, has_open_count, has_status_fault};
@@ -46,6 +46,7 @@ pub fn admit<'a>(
     ensures names { IfOk result (λ _. HaveNames [] modules.now) }
     ensures declared { IfOk result (λ admitted. admitted_procedures admitted.items ≡ declared_procedures modules.now) }
     ensures written { IfOk result (λ admitted. AreOfTexts modules.now admitted.items) }
+    ensures admitted { IfOk result (λ admitted. AreAdmitted [] admitted.items) }
     ensures admissible { IfOk result (λ _. AreAdmissible modules.now) }
     ensures refused { IfErr result (IsOfSomeModule (length modules.now)) }
 {
@@ -65,6 +66,7 @@ fn admit_all<'a>(
     ensures names { IfOk result (λ _. HaveNames [] modules.now) }
     ensures declared { IfOk result (λ admitted. admitted_procedures admitted.items ≡ declared_procedures modules.now) }
     ensures written { IfOk result (λ admitted. AreOfTexts modules.now admitted.items) }
+    ensures admitted { IfOk result (λ admitted. AreAdmitted [] admitted.items) }
     ensures admissible { IfOk result (λ _. AreAdmissible modules.now) }
     ensures refused { IfErr result (IsOfSomeModule (length modules.now)) }
 {
@@ -91,7 +93,7 @@ fn admit_next<'a>(
     ensures last { OnOk result (names.new.keys ≡ names.old.keys ++ «module».now.name ∷ []) }
     ensures names { OnOk result (AreNew [] (names_in «module».now.items)) }
     ensures declared { OnOk result (admitted_procedures admitted.new.items ≡ admitted_procedures admitted.old.items ++ module_procedures «module».now) }
-    ensures written { OnOk result ((one : Admitted) × (admitted.new.items ≡ admitted.old.items ++ one ∷ []) × IsOfText «module».now one) }
+    ensures written { OnOk result ((one : Admitted) × (admitted.new.items ≡ admitted.old.items ++ one ∷ []) × IsOfText «module».now one × OpensEachOnce one) }
     ensures admissible { OnOk result (IsAdmissible «module».now.items) }
     ensures refused { IfErr result (IsOfModule text) }
 {
@@ -117,6 +119,7 @@ fn admit_module<'a>(
     ensures names { IfOk result (λ _. AreNew [] (names_in «module».now.items)) }
     ensures declared { IfOk result (λ admitted. module_keys admitted ≡ module_procedures «module».now) }
     ensures written { IfOk result (IsOfText «module».now) }
+    ensures once { IfOk result OpensEachOnce }
     ensures admissible { IfOk result (λ _. IsAdmissible «module».now.items) }
     ensures refused { IfErr result (IsOfModule text) }
 {
@@ -146,6 +149,7 @@ fn admit_procedures<'a>(
 ) -> Result<Vec<AdmittedProcedure<'a>>, SessionFault>
     ensures declared { IfOk result (λ admitted. procedure_names admitted.items ≡ names_in items.now) }
     ensures written { IfOk result (λ admitted. AllByRecursion (IsProcedureOf items.now) admitted.items) }
+    ensures openings { IfOk result (λ admitted. openings admitted.items ≡ flat_map opening_in items.now) }
     ensures admissible { IfOk result (λ _. IsAdmissible items.now) }
     ensures refused { IfErr result (IsOfModule text) }
 {
@@ -300,6 +304,7 @@ fn procedures_of<'a>(
 ) -> Result<Vec<AdmittedProcedure<'a>>, SessionFault>
     ensures declared { IfOk result (λ admitted. procedure_names admitted.items ≡ names_in items.now) }
     ensures written { IfOk result (λ admitted. AllByRecursion (IsProcedureOf items.now) admitted.items) }
+    ensures openings { IfOk result (λ admitted. openings admitted.items ≡ flat_map opening_in items.now) }
     ensures refused { IfErr result (IsOfModule text) }
 {
     let mut procedures = Vec::new(alloc);
@@ -321,6 +326,7 @@ fn add_procedure<'a>(
     item: &'a ModuleItem,
 ) -> Result<(), SessionFault>
     ensures names { OnOk result (procedure_names procedures.new.items ≡ procedure_names procedures.old.items ++ name_in item.now) }
+    ensures openings { OnOk result (openings procedures.new.items ≡ openings procedures.old.items ++ opening_in item.now) }
     ensures written { (items : List AnyItem) → IsAmong items item.now → AllByRecursion (IsProcedureOf items) procedures.old.items → OnOk result (AllByRecursion (IsProcedureOf items) procedures.new.items) }
     ensures refused { IfErr result (IsOfModule text) }
 {

@@ -3,6 +3,7 @@
 #![tactic(auto)]
 
 mod admission;
+mod cursors;
 mod declared;
 mod opener;
 mod program;

@@ -1,29 +1,31 @@
 //! The procedures and cursors of all modules, with their names as places.
 
-ghost use Rattle.std.specs.Prelude.{◌≡◌, ◌<◌, ℕ, [], IfOk, IfSome, List, Ok, OnOk, length, true};
+ghost use Rattle.std.specs.Prelude.{◌≡◌, ◌<◌, ℕ, [], ◌∷◌, ◌++◌, IfOk, IfSome, List, Ok, OnOk, Some, false, length, true};
 ghost use Rattle.std.specs.Map.{keys_of};
-ghost use Rattle.indexmap.specs.IndexMap.{get_by, insert_entry};
-ghost use Rattle.std.specs.List.{IsAmong};
+ghost use Rattle.std.specs.Option.{option_map};
+ghost use Rattle.indexmap.specs.IndexMap.{insert_entry};
+ghost use Rattle.std.specs.List.{IsAmong, list_any};
+ghost use Rattle.sq_lex.specs.declared.name.Name.{Name as AnyName};
+ghost use Rattle.sq_module.specs.Refusal.{is_name};
+ghost use Rattle.sq_module.specs.declared.admission.AdmittedProcedure.{AdmittedProcedure as AnyProcedure};
 ghost use Rattle.sq_tree.specs.declared.module.ModuleText.{ModuleText};
-ghost use Rattle.sq_tree.specs.declared.statement.Statement.{Statement as AnyStatement};
-ghost use Rattle.sq_module.specs.Written.{AreFromTexts, AreNumbers, AreOfTexts, IsBoundFrom, IsCursorNamed, IsNumberOf, IsOfText, IsOfTexts, IsProcedureOf, IsStatementIn, OpenNamed, OpensNamed};
-ghost use Rattle.sq_bound.specs.declared.names.ParameterDesc.{ParameterDesc as AnyParameter};
+ghost use Rattle.sq_module.specs.Written.{AreApart, AreFrom, AreNumbers, AreOfTexts, IsBoundFrom, IsCursorNamed, IsNumberOf, IsOfText, IsOfTexts, IsProcedureOf, IsStatementIn, OpenNamed, OpensNamed};
 ghost use Rattle.indexmap.specs.IndexSet.{insert_key};
 ghost use Rattle.sq_bound.specs.Fits.{FitsCursor, FitsStatement};
-ghost use Rattle.sq_bound.specs.WellFormed.{IsCursor, IsStatement, TableKinds};
+ghost use Rattle.sq_bound.specs.WellFormed.{IsCursor, IsStatement, TableKinds, kinds_of_parameters};
 ghost use Rattle.sq_bound.specs.declared.names.BaseTable.{BaseTable};
-ghost use Rattle.sq_catalog.specs.Catalog.{column_kinds};
-ghost use Rattle.sq_module.specs.Admitted.{admitted_procedures, module_keys, name_of};
-ghost use Rattle.sq_module.specs.Opened.{AreOpened, Grow, IsOpened};
+ghost use Rattle.sq_catalog.specs.Catalog.{column_kinds, table_number};
+ghost use Rattle.sq_module.specs.Admitted.{AreAdmitted, OpensEachOnce, admitted_procedures, module_keys, name_of, openings};
+ghost use Rattle.sq_module.specs.Opened.{AreOfOthers, AreOpened, AreThere, Grow, IsNew, IsOpened, OpenedBy, OpensNew};
 ghost use Rattle.sq_module.specs.Program.{FitsProcedure, FitsProgram, OpensWellFormed, ProcedureIsWellFormed, ProcedureOpens, ProgramIsWellFormed, kinds_of_cursors, same_name, same_procedure, with_procedures};
 ghost use Rattle.sq_bound.specs.declared.statement.BoundStatement.TheVariants.{Open};
-ghost use Rattle.sq_module.specs.declared.program.DeclaredCursor.{DeclaredCursor as AnyCursor};
 ghost use Rattle.sq_value.specs.declared.domain.Kind.{Kind};
 
 use crate::admission::{AdmittedModule, AdmittedProcedure};
+use crate::cursors::ModuleCursors;
 use indexmap::IndexMap;
-use sq_bind::{Cursors, bind_cursor, bind_statement};
-use sq_bound::{BindFault, BoundCursor, BoundStatement, KnownCursor, ParameterDesc};
+use sq_bind::{bind_cursor, bind_statement};
+use sq_bound::{BindFault, BoundCursor, BoundStatement, ParameterDesc};
 use sq_catalog::Catalog;
 use sq_items::Items;
 use sq_lex::Name;
@@ -43,6 +45,9 @@ pub struct BoundProcedure {
 /// A cursor of a module.
 #[derive(Drop)]
 pub struct DeclaredCursor {
+    pub module: Name,
+    /// Its name in the module.
+    pub name: Name,
     /// The user of its module.
     pub user: Name,
     pub cursor: BoundCursor,
@@ -62,32 +67,6 @@ pub struct Program {
     pub cursors: Vec<DeclaredCursor>,
 }
 
-/// The cursors of one module: for each name its number among all cursors.
-#[derive(Clone, Copy)]
-struct ModuleCursors<'a> {
-    numbers: &'a IndexMap<Name, usize>,
-    cursors: &'a [DeclaredCursor],
-}
-
-impl<'a> Cursors for ModuleCursors<'a> {
-    ghost cursor_count = { λ c. length c.cursors.now };
-
-    ghost cursor_kinds = { λ c. kinds_of_cursors c.cursors.now };
-
-    ghost number_of = { λ c name. get_by (same_name name) c.numbers.now };
-
-    fn cursor(&self, name: Name) -> Option<KnownCursor<'_>> {
-        let number = self.numbers.get(&name).copied()?;
-        match self.cursors.get(number) {
-            Some(declared) => Some(KnownCursor {
-                number,
-                cursor: &declared.cursor,
-            }),
-            None => None,
-        }
-    }
-}
-
 impl Program {
     /// The modules, bound one after the other.
     pub fn bind(
@@ -95,10 +74,11 @@ impl Program {
         catalog: &Catalog,
         modules: &[AdmittedModule<'_>],
     ) -> Result<Program, AllocError>
+        requires { AreAdmitted [] modules.now }
         ensures procedures { IfOk result (λ program. keys_of program.procedures.entries ≡ with_procedures [] (admitted_procedures modules.now)) }
         ensures fits { IfOk result (FitsProgram catalog.now.bases) }
         ensures well_formed { IfOk result (ProgramIsWellFormed (column_kinds catalog.now)) }
-        ensures written { (texts : List ModuleText) → AreOfTexts texts modules.now → IfOk result (IsOfTexts texts) }
+        ensures written { (texts : List ModuleText) → AreOfTexts texts modules.now → IfOk result (IsOfTexts (table_number catalog.now.tables) texts) }
     {
         let mut program = Program {
             procedures: IndexMap::new(alloc),
@@ -121,10 +101,14 @@ impl Program {
     ) -> Result<(), AllocError>
         requires fits { FitsProgram catalog.now.bases self.old }
         requires well_formed { ProgramIsWellFormed (column_kinds catalog.now) self.old }
+        requires modules { AreAdmitted [] modules.now }
+        requires others { (name : AnyName) → AreOfOthers name self.old.cursors.items }
+        requires apart { AreApart [] self.old.cursors.items }
         ensures procedures { OnOk result (keys_of self.new.procedures.entries ≡ with_procedures (keys_of self.old.procedures.entries) (admitted_procedures modules.now)) }
         ensures fits { OnOk result (FitsProgram catalog.now.bases self.new) }
         ensures well_formed { OnOk result (ProgramIsWellFormed (column_kinds catalog.now) self.new) }
-        ensures written { (texts : List ModuleText) → AreOfTexts texts modules.now → IsOfTexts texts self.old → OnOk result (IsOfTexts texts self.new) }
+        ensures written { (texts : List ModuleText) → AreOfTexts texts modules.now → AreFrom (table_number catalog.now.tables) texts self.old → OnOk result (AreFrom (table_number catalog.now.tables) texts self.new) }
+        ensures apart { OnOk result (AreApart [] self.new.cursors.items) }
     {
         for module in modules {
             self.add_module(alloc, catalog, module)?;
@@ -140,10 +124,15 @@ impl Program {
     ) -> Result<(), AllocError>
         requires fits { FitsProgram catalog.now.bases self.old }
         requires well_formed { ProgramIsWellFormed (column_kinds catalog.now) self.old }
+        requires others { AreOfOthers «module».now.name self.old.cursors.items }
+        requires once { OpensEachOnce «module».now }
+        requires apart { AreApart [] self.old.cursors.items }
         ensures procedures { OnOk result (keys_of self.new.procedures.entries ≡ with_procedures (keys_of self.old.procedures.entries) (module_keys «module».now)) }
         ensures fits { OnOk result (FitsProgram catalog.now.bases self.new) }
         ensures well_formed { OnOk result (ProgramIsWellFormed (column_kinds catalog.now) self.new) }
-        ensures written { (texts : List ModuleText) (m : ModuleText) → IsAmong texts m → IsOfText m «module».now → IsOfTexts texts self.old → OnOk result (IsOfTexts texts self.new) }
+        ensures written { (texts : List ModuleText) (m : ModuleText) → IsAmong texts m → IsOfText m «module».now → AreFrom (table_number catalog.now.tables) texts self.old → OnOk result (AreFrom (table_number catalog.now.tables) texts self.new) }
+        ensures apart { OnOk result (AreApart [] self.new.cursors.items) }
+        ensures others { (name : AnyName) → same_name name «module».now.name ≡ false → AreOfOthers name self.old.cursors.items → OnOk result (AreOfOthers name self.new.cursors.items) }
     {
         let mut numbers = IndexMap::new(alloc);
         let added = self.add_parts(alloc, catalog, module, &mut numbers);
@@ -161,10 +150,16 @@ impl Program {
     ) -> Result<(), AllocError>
         requires fits { FitsProgram catalog.now.bases self.old }
         requires well_formed { ProgramIsWellFormed (column_kinds catalog.now) self.old }
+        requires there { AreThere (length self.old.cursors.items) numbers.old.entries }
+        requires others { AreOfOthers «module».now.name self.old.cursors.items }
+        requires once { OpensEachOnce «module».now }
+        requires apart { AreApart [] self.old.cursors.items }
         ensures procedures { OnOk result (keys_of self.new.procedures.entries ≡ with_procedures (keys_of self.old.procedures.entries) (module_keys «module».now)) }
         ensures fits { OnOk result (FitsProgram catalog.now.bases self.new) }
         ensures well_formed { OnOk result (ProgramIsWellFormed (column_kinds catalog.now) self.new) }
-        ensures written { (texts : List ModuleText) (m : ModuleText) → IsAmong texts m → IsOfText m «module».now → AreNumbers m self.old.cursors.items numbers.old.entries → IsOfTexts texts self.old → OnOk result (IsOfTexts texts self.new) }
+        ensures written { (texts : List ModuleText) (m : ModuleText) → IsAmong texts m → IsOfText m «module».now → AreNumbers m self.old.cursors.items numbers.old.entries → AreFrom (table_number catalog.now.tables) texts self.old → OnOk result (AreFrom (table_number catalog.now.tables) texts self.new) }
+        ensures apart { OnOk result (AreApart [] self.new.cursors.items) }
+        ensures others { (name : AnyName) → same_name name «module».now.name ≡ false → AreOfOthers name self.old.cursors.items → OnOk result (AreOfOthers name self.new.cursors.items) }
     {
         let opened = self.add_cursors(alloc, catalog, module, numbers)?;
         let added = self.add_procedures(alloc, catalog, module, numbers, opened.as_slice());
@@ -182,12 +177,19 @@ impl Program {
     ) -> Result<Vec<Option<usize>>, AllocError>
         requires fits { FitsProgram catalog.now.bases self.old }
         requires well_formed { ProgramIsWellFormed (column_kinds catalog.now) self.old }
+        requires there { AreThere (length self.old.cursors.items) numbers.old.entries }
+        requires others { AreOfOthers «module».now.name self.old.cursors.items }
+        requires once { OpensEachOnce «module».now }
+        requires apart { AreApart [] self.old.cursors.items }
+        ensures there { OnOk result (AreThere (length self.new.cursors.items) numbers.new.entries) }
         ensures procedures { self.new.procedures ≡ self.old.procedures }
         ensures fits { OnOk result (FitsProgram catalog.now.bases self.new) }
         ensures well_formed { OnOk result (ProgramIsWellFormed (column_kinds catalog.now) self.new) }
         ensures grows { OnOk result (Grow self.old.cursors.items self.new.cursors.items) }
-        ensures written { (m : ModuleText) → IsOfText m «module».now → AreNumbers m self.old.cursors.items numbers.old.entries → IfOk result (λ opened. AreNumbers m self.new.cursors.items numbers.new.entries × OpenNamed m self.new.cursors.items «module».now.procedures.items opened.items) }
+        ensures written { (m : ModuleText) → IsOfText m «module».now → AreNumbers m self.old.cursors.items numbers.old.entries → IfOk result (λ opened. AreNumbers m self.new.cursors.items numbers.new.entries × OpenNamed (table_number catalog.now.tables) m self.new.cursors.items «module».now.procedures.items opened.items) }
         ensures opened { IfOk result (λ opened. AreOpened (column_kinds catalog.now) self.new.cursors.items «module».now.procedures.items opened.items) }
+        ensures apart { OnOk result (AreApart [] self.new.cursors.items) }
+        ensures others { (name : AnyName) → same_name name «module».now.name ≡ false → AreOfOthers name self.old.cursors.items → OnOk result (AreOfOthers name self.new.cursors.items) }
     {
         let mut opened = Vec::new(alloc);
         for opener in module.procedures.as_slice() {
@@ -198,6 +200,7 @@ impl Program {
 
     /// Adds the cursor that a procedure opens, if it is one of the module: its number, if it has no fault. Its parameters
     /// are those of that procedure.
+    #[tactic(auto, using(crate::proofs::Apart::opened_by_more))]
     fn add_opened(
         &mut self,
         alloc: Global,
@@ -208,46 +211,64 @@ impl Program {
     ) -> Result<Option<usize>, AllocError>
         requires fits { FitsProgram catalog.now.bases self.old }
         requires well_formed { ProgramIsWellFormed (column_kinds catalog.now) self.old }
+        requires there { AreThere (length self.old.cursors.items) numbers.old.entries }
+        requires new { OpensNew «module».now self.old.cursors.items opener.now }
+        requires apart { AreApart [] self.old.cursors.items }
+        ensures there { OnOk result (AreThere (length self.new.cursors.items) numbers.new.entries) }
         ensures procedures { self.new.procedures ≡ self.old.procedures }
         ensures fits { OnOk result (FitsProgram catalog.now.bases self.new) }
         ensures well_formed { OnOk result (ProgramIsWellFormed (column_kinds catalog.now) self.new) }
-        ensures written { (m : ModuleText) → IsOfText m «module».now → AreNumbers m self.old.cursors.items numbers.old.entries → IfOk result (λ opened. AreNumbers m self.new.cursors.items numbers.new.entries × OpensNamed m self.new.cursors.items opener.now opened) }
+        ensures written { (m : ModuleText) → IsOfText m «module».now → AreNumbers m self.old.cursors.items numbers.old.entries → IfOk result (λ opened. AreNumbers m self.new.cursors.items numbers.new.entries × OpensNamed (table_number catalog.now.tables) m self.new.cursors.items opener.now opened) }
         ensures grows { OnOk result (Grow self.old.cursors.items self.new.cursors.items) }
         ensures opened { IfOk result (IsOpened (column_kinds catalog.now) self.new.cursors.items opener.now) }
+        ensures apart { OnOk result (AreApart [] self.new.cursors.items) }
+        ensures others { (name : AnyName) → same_name name «module».now.name ≡ false → AreOfOthers name self.old.cursors.items → OnOk result (AreOfOthers name self.new.cursors.items) }
+        ensures opened_by { (before : List AnyProcedure) → OpenedBy «module».now.name before self.old.cursors.items → OnOk result (OpenedBy «module».now.name (before ++ opener.now ∷ []) self.new.cursors.items) }
     {
         let Statement::Open(name) = &opener.procedure.statement else {
             return Ok(None);
         };
         match module.cursors.get(name) {
             Some(cursor) => {
-                let user = module.user;
                 let parameters = opener.parameters.as_slice();
-                let bound = bind_cursor(alloc, catalog, user, parameters, cursor);
-                self.add_cursor(numbers, user, *name, bound)
+                let bound = bind_cursor(alloc, catalog, module.user, parameters, cursor);
+                self.add_cursor(numbers, module, *name, bound)
             }
             None => Ok(None),
         }
     }
 
-    /// Adds a cursor, if it has no fault: its number among all cursors.
+    /// Adds the cursor of this name of a module, if it has no fault: its number among all cursors.
     fn add_cursor(
         &mut self,
         numbers: &mut IndexMap<Name, usize>,
-        user: Name,
+        module: &AdmittedModule<'_>,
         name: Name,
         bound: Result<BoundCursor, BindFault>,
     ) -> Result<Option<usize>, AllocError>
+        requires there { AreThere (length self.old.cursors.items) numbers.old.entries }
+        requires new { IsNew «module».now.name self.old.cursors.items name }
+        requires apart { AreApart [] self.old.cursors.items }
+        ensures there { OnOk result (AreThere (length self.new.cursors.items) numbers.new.entries) }
         ensures procedures { self.new.procedures ≡ self.old.procedures }
         ensures fits { (bases : List BaseTable) → FitsProgram bases self.old → IfOk bound (FitsCursor bases) → OnOk result (FitsProgram bases self.new) }
         ensures well_formed { (columns : TableKinds) (parameters : List Kind) → ProgramIsWellFormed columns self.old → IfOk bound (IsCursor columns parameters) → OnOk result (ProgramIsWellFormed columns self.new) }
-        ensures written { (m : ModuleText) → IsCursorNamed m user name bound → AreNumbers m self.old.cursors.items numbers.old.entries → IfOk result (λ opened. AreNumbers m self.new.cursors.items numbers.new.entries × IfSome opened (IsNumberOf m self.new.cursors.items name)) }
+        ensures written { (m : ModuleText) → IsOfText m «module».now → IsCursorNamed m name bound → AreNumbers m self.old.cursors.items numbers.old.entries → IfOk result (λ opened. AreNumbers m self.new.cursors.items numbers.new.entries × IfSome opened (IsNumberOf m self.new.cursors.items name)) }
         ensures grows { OnOk result (Grow self.old.cursors.items self.new.cursors.items) }
         ensures opened { (columns : TableKinds) (parameters : List Kind) → IfOk bound (IsCursor columns parameters) → IfOk result (λ opened. IfSome opened (λ number. OpensWellFormed columns self.new.cursors.items parameters (Open number))) }
+        ensures apart { OnOk result (AreApart [] self.new.cursors.items) }
+        ensures others { (name : AnyName) → same_name name «module».now.name ≡ false → AreOfOthers name self.old.cursors.items → OnOk result (AreOfOthers name self.new.cursors.items) }
+        ensures opened_by { (procedures : List AnyProcedure) → list_any (is_name name) (openings procedures) ≡ true → OpenedBy «module».now.name procedures self.old.cursors.items → OnOk result (OpenedBy «module».now.name procedures self.new.cursors.items) }
     {
         match without_fault(bound)? {
             Some(cursor) => {
                 let number = self.cursors.len();
-                self.cursors.push(DeclaredCursor { user, cursor })?;
+                self.cursors.push(DeclaredCursor {
+                    module: module.name,
+                    name,
+                    user: module.user,
+                    cursor,
+                })?;
                 named(numbers.insert(name, number).is_ok())?;
                 Ok(Some(number))
             }
@@ -265,12 +286,14 @@ impl Program {
         opened: &[Option<usize>],
     ) -> Result<(), AllocError>
         requires opened { AreOpened (column_kinds catalog.now) self.old.cursors.items «module».now.procedures.items opened.now }
+        requires there { AreThere (length self.old.cursors.items) numbers.now.entries }
         requires fits { FitsProgram catalog.now.bases self.old }
         requires well_formed { ProgramIsWellFormed (column_kinds catalog.now) self.old }
         ensures procedures { OnOk result (keys_of self.new.procedures.entries ≡ with_procedures (keys_of self.old.procedures.entries) (module_keys «module».now)) }
         ensures fits { OnOk result (FitsProgram catalog.now.bases self.new) }
         ensures well_formed { OnOk result (ProgramIsWellFormed (column_kinds catalog.now) self.new) }
-        ensures written { (texts : List ModuleText) (m : ModuleText) → IsAmong texts m → IsOfText m «module».now → AreNumbers m self.old.cursors.items numbers.now.entries → OpenNamed m self.old.cursors.items «module».now.procedures.items opened.now → IsOfTexts texts self.old → OnOk result (IsOfTexts texts self.new) }
+        ensures written { (texts : List ModuleText) (m : ModuleText) → IsAmong texts m → IsOfText m «module».now → AreNumbers m self.old.cursors.items numbers.now.entries → OpenNamed (table_number catalog.now.tables) m self.old.cursors.items «module».now.procedures.items opened.now → AreFrom (table_number catalog.now.tables) texts self.old → OnOk result (AreFrom (table_number catalog.now.tables) texts self.new) }
+        ensures cursors { OnOk result (self.new.cursors ≡ self.old.cursors) }
     {
         for (place, admitted) in module.procedures.as_slice().iter().enumerate() {
             self.add_procedure(alloc, catalog, module, numbers, admitted, opened[place])?;
@@ -288,13 +311,14 @@ impl Program {
         opened: Option<usize>,
     ) -> Result<(), AllocError>
         requires opened { IsOpened (column_kinds catalog.now) self.old.cursors.items admitted.now opened }
+        requires there { AreThere (length self.old.cursors.items) numbers.now.entries }
         requires fits { FitsProgram catalog.now.bases self.old }
         requires well_formed { ProgramIsWellFormed (column_kinds catalog.now) self.old }
         ensures cursors { self.new.cursors ≡ self.old.cursors }
         ensures procedures { OnOk result (keys_of self.new.procedures.entries ≡ insert_key same_procedure (keys_of self.old.procedures.entries) (name_of «module».now.name admitted.now)) }
         ensures fits { OnOk result (FitsProgram catalog.now.bases self.new) }
         ensures well_formed { OnOk result (ProgramIsWellFormed (column_kinds catalog.now) self.new) }
-        ensures written { (texts : List ModuleText) (m : ModuleText) → IsAmong texts m → IsOfText m «module».now → IsProcedureOf m.items admitted.now → AreNumbers m self.old.cursors.items numbers.now.entries → OpensNamed m self.old.cursors.items admitted.now opened → IsOfTexts texts self.old → OnOk result (IsOfTexts texts self.new) }
+        ensures written { (texts : List ModuleText) (m : ModuleText) → IsAmong texts m → IsOfText m «module».now → IsProcedureOf m.items admitted.now → AreNumbers m self.old.cursors.items numbers.now.entries → OpensNamed (table_number catalog.now.tables) m self.old.cursors.items admitted.now opened → AreFrom (table_number catalog.now.tables) texts self.old → OnOk result (AreFrom (table_number catalog.now.tables) texts self.new) }
     {
         let cursors = ModuleCursors {
             numbers,
@@ -322,13 +346,11 @@ fn bound_procedure(
     ensures fits { IfOk result (FitsProcedure catalog.now.bases (length cursors.now.cursors.now)) }
     ensures well_formed { IfOk result (ProcedureIsWellFormed (column_kinds catalog.now) (kinds_of_cursors cursors.now.cursors.now)) }
     ensures opens { IfOk result (ProcedureOpens (column_kinds catalog.now) cursors.now.cursors.now) }
-    ensures written { (m : ModuleText) → user ≡ m.authorization → IsProcedureOf m.items admitted.now → AreNumbers m cursors.now.cursors.now cursors.now.numbers.now.entries → OpensNamed m cursors.now.cursors.now admitted.now opened → IfOk result (IsBoundFrom m cursors.now.cursors.now admitted.now.procedure.now) }
+    ensures written { (m : ModuleText) → user ≡ m.authorization → IsProcedureOf m.items admitted.now → AreNumbers m cursors.now.cursors.now cursors.now.numbers.now.entries → OpensNamed (table_number catalog.now.tables) m cursors.now.cursors.now admitted.now opened → IfOk result (IsBoundFrom (table_number catalog.now.tables) m cursors.now.cursors.now admitted.now.procedure.now) }
 {
-    let parameters = admitted.parameters.as_slice();
-    let written = &admitted.procedure.statement;
-    let bound = bind_statement(alloc, catalog, user, parameters, cursors, written);
-    let statement = with_opened(unless_no_memory(bound)?, opened);
-    match Items::from_slice(alloc, parameters) {
+    let bound = bound_statement(alloc, catalog, user, cursors, admitted, opened);
+    let statement = unless_no_memory(bound)?;
+    match Items::from_slice(alloc, admitted.parameters.as_slice()) {
         Ok(parameters) => Ok(BoundProcedure {
             user,
             parameters,
@@ -341,22 +363,35 @@ fn bound_procedure(
     }
 }
 
-/// The statement of a procedure, where an OPEN is of the cursor that was bound for this procedure. One with a fault is unknown.
-fn with_opened(
-    bound: Result<BoundStatement, BindFault>,
+/// The statement of a procedure. An OPEN is of the cursor that was bound for this procedure.
+fn bound_statement(
+    alloc: Global,
+    catalog: &Catalog,
+    user: Name,
+    cursors: &ModuleCursors<'_>,
+    admitted: &AdmittedProcedure<'_>,
     opened: Option<usize>,
 ) -> Result<BoundStatement, BindFault>
-    ensures fits { (bases : List BaseTable) (cursors parameters : ℕ) → IfSome opened (λ number. number < cursors) → IfOk bound (FitsStatement bases cursors parameters) → IfOk result (FitsStatement bases cursors parameters) }
-    ensures well_formed { (columns : TableKinds) (cursors : List (List Kind)) (parameters : List Kind) → IfOk bound (IsStatement columns cursors parameters) → IfOk result (IsStatement columns cursors parameters) }
-    ensures opens { (columns : TableKinds) (cursors : List AnyCursor) (parameters : List Kind) → IfSome opened (λ number. OpensWellFormed columns cursors parameters (Open number)) → IfOk result (OpensWellFormed columns cursors parameters) }
-    ensures written { (m : ModuleText) (cursors : List AnyCursor) (parameters : List AnyParameter) (s : AnyStatement) → IfOk bound (IsStatementIn m cursors parameters s) → IfSome opened (λ n. IsStatementIn m cursors parameters s (Open n)) → IfOk result (IsStatementIn m cursors parameters s) }
+    requires { IsOpened (column_kinds catalog.now) cursors.now.cursors.now admitted.now opened }
+    ensures fits { IfOk result (FitsStatement catalog.now.bases (length cursors.now.cursors.now) (length admitted.now.parameters)) }
+    ensures well_formed { IfOk result (IsStatement (column_kinds catalog.now) (kinds_of_cursors cursors.now.cursors.now) (kinds_of_parameters admitted.now.parameters)) }
+    ensures opens { IfOk result (OpensWellFormed (column_kinds catalog.now) cursors.now.cursors.now (kinds_of_parameters admitted.now.parameters)) }
+    ensures written { (m : ModuleText) → user ≡ m.authorization → AreNumbers m cursors.now.cursors.now cursors.now.numbers.now.entries → OpensNamed (table_number catalog.now.tables) m cursors.now.cursors.now admitted.now opened → IfOk result (IsStatementIn (table_number catalog.now.tables) m cursors.now.cursors.now admitted.now.parameters admitted.now.procedure.now.statement) }
 {
-    match bound {
-        Ok(BoundStatement::Open(_)) => match opened {
-            Some(number) => Ok(BoundStatement::Open(number)),
-            None => Err(BindFault::UnknownCursor),
-        },
-        bound => bound,
+    let parameters = admitted.parameters.as_slice();
+    match &admitted.procedure.statement {
+        Statement::Open(_) => open_of(opened),
+        written => bind_statement(alloc, catalog, user, parameters, cursors, written),
+    }
+}
+
+/// OPEN of a cursor. Without one, the module declares none of the written name, or its query has a fault.
+fn open_of(opened: Option<usize>) -> Result<BoundStatement, BindFault>
+    ensures { IfOk result (λ statement. option_map Open opened ≡ Some statement) }
+{
+    match opened {
+        Some(number) => Ok(BoundStatement::Open(number)),
+        None => Err(BindFault::UnknownCursor),
     }
 }
 

@@ -1,5 +1,5 @@
-pub mod Found
 pub mod Opened
+pub mod Prepared
 pub mod Refused
 pub mod Spelled
 pub mod Steps

@@ -1,5 +1,5 @@
 -- What schema and module texts open, step by step.
-use Rattle.std.proofs.Common.{◌≡◌, ◌∙◌, List, length, Result, Ok, Err}
+use Rattle.std.proofs.Common.{◌≡◌, ◌∙◌, List, length, Result, Ok, Err, subst}
 use Rattle.std.specs.Prelude.{IfOk}
 use Rattle.sq_tree.specs.Schema.{schema_tokens}
 use Rattle.sq_tree.specs.Module.{module_tokens}
@@ -20,7 +20,7 @@ defined_if schemas trees (Ok c) spelled tables bases = record { trees = trees; s
 defined_if schemas trees (Err fault) spelled tables bases = tables
 
 pub holds_if : (tables : List FullName) (modules : List Bytes) (trees : List ModuleText) (answer : Result Session TextFault) → AllSpell module_tokens modules trees
-    → IfOk answer (λ s. s.tables ≡ tables) → IfOk answer (λ s. names_of s.procedures ≡ declared_procedures trees) → IfOk answer (λ s. AreOfModules trees s.procedures) → IfOk answer IsStart
+    → IfOk answer (λ s. s.tables ≡ tables) → IfOk answer (λ s. names_of s.procedures ≡ declared_procedures trees) → IfOk answer (λ s. AreOfModules tables trees s.procedures) → IfOk answer IsStart
     → IfOk answer (Holds tables modules)
 holds_if tables modules trees (Ok s) spelled are procedures written start = record { trees = trees; spelled = spelled; tables_are = are; procedures = procedures; written = written; start = start }
 holds_if tables modules trees (Err fault) spelled are procedures written start = are
@@ -31,5 +31,5 @@ opened_by schemas modules c s defined holds = record {
   module_trees = holds.trees;
   schemas_spell = defined.spelled;
   modules_spell = holds.spelled;
-  is_opened = record { tables = holds.tables_are ∙ defined.tables; procedures = holds.procedures; written = holds.written; start = holds.start };
+  is_opened = record { tables = holds.tables_are ∙ defined.tables; procedures = holds.procedures; written = subst (λ tables. AreOfModules tables holds.trees s.procedures) defined.tables holds.written; start = holds.start };
 }

@@ -25,7 +25,7 @@ use Rattle.sq_session.specs.Session.{Session, procedure_number}
 use Rattle.sq_run.specs.Fault.{IsItemFault, IsItemRefusal, IsOfItem, IsPlacedIfAny, IsPlacedIn, IsRefusalIfAny, IsScriptRefusal, IsUntaken}
 use Rattle.sq_run.specs.Action.{item_of}
 use Rattle.sq_run.specs.Asked.{AreActions}
-use Rattle.sq_run.specs.Steps.{IsFound}
+use Rattle.sq_run.specs.Steps.{IsPrepared}
 use Rattle.sq_run.specs.declared.action.Action.{Action}
 use Rattle.sq_run.specs.Items.{IsTaken, call_fault, item_fault, table_fault}
 use Rattle.sq_run.specs.Refused.{IsFirstItem, IsRefusedScript, Matter, Meaning, StandsAt, matter}
@@ -66,8 +66,8 @@ actions_more items i x actions a lt e are same =
     map-append item_of actions (a ∷ []) ∙ ap₂ (λ these one. these ++ one ∷ []) are same ∙ sym (map-append item_of_script (take i items) (x ∷ []))
     ∙ ap (map item_of_script) (sym (item_at items i x lt e))
 
-pub found_more : (s : Session) (actions : List Action) (a : Action) → All (IsFound s) actions → IsFound s a → All (IsFound s) (actions ++ a ∷ [])
-found_more s actions a before here = All-append (IsFound s) actions (a ∷ []) before (All-cons (IsFound s) a [] here (All-nil (IsFound s)))
+pub prepared_more : (s : Session) (actions : List Action) (a : Action) → All (IsPrepared s) actions → IsPrepared s a → All (IsPrepared s) (actions ++ a ∷ [])
+prepared_more s actions a before here = All-append (IsPrepared s) actions (a ∷ []) before (All-cons (IsPrepared s) a [] here (All-nil (IsPrepared s)))
 
 -- ---- where an item stands
 

@@ -24,7 +24,7 @@ pub record Holds (tables : List FullName) (modules : List Bytes) (s : Session) :
   pub spelled : AllSpell module_tokens modules trees
   pub tables_are : s.tables ≡ tables
   pub procedures : names_of s.procedures ≡ declared_procedures trees
-  pub written : AreOfModules trees s.procedures
+  pub written : AreOfModules tables trees s.procedures
   pub start : IsStart s
 
 -- a session of trees that the texts spell

@@ -50,11 +50,11 @@ pub record IsStart (s : Session) : Type 0 where
   pub closed : AreClosed s.state.cursors
 
 -- a session of these trees, as it is before the first call: its tables and procedures are those that they declare, in their order,
--- and the procedures are bound as they are written
+-- and the procedures are bound as they are written over those tables
 pub record IsOpened (schemas : List SchemaText) (modules : List ModuleText) (s : Session) : Type 0 where
   pub tables : s.tables ≡ declared_tables schemas
   pub procedures : names_of s.procedures ≡ declared_procedures modules
-  pub written : AreOfModules modules s.procedures
+  pub written : AreOfModules (declared_tables schemas) modules s.procedures
   pub start : IsStart s
 
 -- Trees that the texts spell, a session of them as it is before the first call, which takes each item of the script, and what it is asked for: these

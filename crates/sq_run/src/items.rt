@@ -7,7 +7,7 @@ ghost use Rattle.sq_model.specs.Run.{item_of_script};
 ghost use Rattle.sq_run.specs.Action.{item_of};
 ghost use Rattle.sq_run.specs.Fault.{IsItemFault};
 ghost use Rattle.sq_run.specs.Items.{IsTaken, item_fault};
-ghost use Rattle.sq_run.specs.Steps.{IsFound};
+ghost use Rattle.sq_run.specs.Steps.{IsPrepared};
 
 use crate::action::{Action, CallAction, ShowAction};
 use crate::refusal::RefusalName;
@@ -45,7 +45,7 @@ pub(crate) fn action_of<S: Store>(
     item: &ScriptItem,
 ) -> Result<Action, ItemFault>
     ensures action { IfOk result (λ action. item_of action ≡ item_of_script item.now) }
-    ensures found { IfOk result (IsFound session.now) }
+    ensures prepared { IfOk result (IsPrepared session.now) }
     ensures taken { IfOk result (λ _. IsTaken session.now item.now) }
     ensures refused { IfErr result (IsItemFault (item_fault session.now item.now)) }
 {
@@ -68,7 +68,7 @@ fn called<S: Store>(
     arguments: &Arguments,
 ) -> Result<Action, ItemFault>
     ensures action { IfOk result (λ action. item_of action ≡ item_of_script (script.Call «module» name arguments.now)) }
-    ensures found { IfOk result (IsFound session.now) }
+    ensures prepared { IfOk result (IsPrepared session.now) }
     ensures taken { IfOk result (λ _. IsTaken session.now (script.Call «module» name arguments.now)) }
     ensures refused { IfErr result (IsItemFault (item_fault session.now (script.Call «module» name arguments.now))) }
 {
@@ -89,7 +89,7 @@ fn called<S: Store>(
 
 fn shown<S: Store>(session: &Session<S>, user: Name, name: Name) -> Result<Action, ItemFault>
     ensures action { IfOk result (λ action. item_of action ≡ item_of_script (script.Table user name)) }
-    ensures found { IfOk result (IsFound session.now) }
+    ensures prepared { IfOk result (IsPrepared session.now) }
     ensures taken { IfOk result (λ _. IsTaken session.now (script.Table user name)) }
     ensures refused { IfErr result (IsItemFault (item_fault session.now (script.Table user name))) }
 {

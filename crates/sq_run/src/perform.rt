@@ -1,7 +1,7 @@
 ghost use Rattle.std.specs.Prelude.{◌≡◌, ◌≤◌, false, All, IfErr, IfOk, OnOk};
 ghost use Rattle.sq_run.specs.Refused.{InOrder, RefusedText};
 ghost use Rattle.sq_run.specs.Run.{Run, texts};
-ghost use Rattle.sq_run.specs.Steps.{IsFound, Reported, Step};
+ghost use Rattle.sq_run.specs.Steps.{IsPrepared, Reported, Step};
 ghost use Rattle.sq_run.specs.Performed.{IsScriptStop, Performed};
 ghost use Rattle.sq_run.specs.Stop.{StoppedAt, Wrote, is_write};
 
@@ -80,7 +80,7 @@ fn perform_all<S: Store, W: Out>(
     actions: &[Action],
     out: &mut W,
 ) -> Result<(), RunFault>
-    requires found { All (IsFound session.old) actions.now }
+    requires prepared { All (IsPrepared session.old) actions.now }
     requires open_out { W.failed out.old ≡ false }
     ensures report { OnOk result (Reported actions.now session.old (W.taken out.old) (W.taken out.new)) }
     ensures stopped { IfErr result (StoppedAt actions.now session.old (W.taken out.old) (W.taken out.new)) }
@@ -101,12 +101,13 @@ fn perform_all<S: Store, W: Out>(
 }
 
 /// Performs an item, and gives its lines.
+#[tactic(auto, using(crate::proofs::Prepared::table_there))]
 fn perform<S: Store>(
     alloc: Global,
     session: &mut Session<S>,
     action: &Action,
 ) -> Result<Vec<u8>, AllocError>
-    requires { IsFound session.old action.now }
+    requires { IsPrepared session.old action.now }
     ensures step { IfOk result (λ lines. Step action.now session.old lines.items session.new) }
     ensures procedures { session.new.procedures ≡ session.old.procedures }
     ensures tables { session.new.tables ≡ session.old.tables }

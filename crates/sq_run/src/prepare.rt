@@ -14,7 +14,7 @@ ghost use Rattle.sq_run.specs.Opened.{Defined, Holds, Opened};
 ghost use Rattle.sq_run.specs.Items.{IsTaken};
 ghost use Rattle.sq_run.specs.Run.{AllSpell, IsStart, SomeTrees, Spells, texts};
 ghost use Rattle.sq_run.specs.Asked.{AreActions, AreAsked};
-ghost use Rattle.sq_run.specs.Steps.{IsFound};
+ghost use Rattle.sq_run.specs.Steps.{IsPrepared};
 
 use crate::action::Action;
 use crate::items::{ItemFault, action_of};
@@ -58,7 +58,7 @@ pub(crate) fn read_script<S: Store>(
     script: &[u8],
 ) -> Result<Vec<Action>, RunFault>
     ensures asked { IfOk result (λ actions. AreAsked session.now script.now actions.items) }
-    ensures found { IfOk result (λ actions. All (IsFound session.now) actions.items) }
+    ensures prepared { IfOk result (λ actions. All (IsPrepared session.now) actions.items) }
     ensures refused { IfErr result (IsScriptFault session.now script.now) }
 {
     match actions_of(alloc, session, script) {
@@ -165,7 +165,7 @@ fn session_from<S: Store>(
     requires spelled { AllSpell module_tokens (texts modules.now) trees.now }
     ensures tables { IfOk result (λ s. s.tables ≡ catalog.tables) }
     ensures procedures { IfOk result (λ s. names_of s.procedures ≡ declared_procedures trees.now) }
-    ensures written { IfOk result (λ s. AreOfModules trees.now s.procedures) }
+    ensures written { IfOk result (λ s. AreOfModules catalog.tables trees.now s.procedures) }
     ensures start { IfOk result IsStart }
     ensures refused { IfErr result (SomeRefused module_tokens module_depth (texts modules.now)) }
 {
@@ -188,7 +188,7 @@ fn session_over<S: Store>(
     requires bases { length catalog.bases ≡ length catalog.tables }
     ensures tables { IfOk result (λ s. s.tables ≡ catalog.tables) }
     ensures procedures { IfOk result (λ s. names_of s.procedures ≡ declared_procedures modules.now) }
-    ensures written { IfOk result (λ s. AreOfModules modules.now s.procedures) }
+    ensures written { IfOk result (λ s. AreOfModules catalog.tables modules.now s.procedures) }
     ensures start { IfOk result IsStart }
     ensures refused { IfErr result (IsOfSomeModule (length modules.now)) }
 {
@@ -243,7 +243,7 @@ fn actions_of<S: Store>(
     script: &[u8],
 ) -> Result<Vec<Action>, TextFault>
     ensures asked { IfOk result (λ actions. AreAsked session.now script.now actions.items) }
-    ensures found { IfOk result (λ actions. All (IsFound session.now) actions.items) }
+    ensures prepared { IfOk result (λ actions. All (IsPrepared session.now) actions.items) }
     ensures refused { IfErr result (IsScriptRefusal session.now script.now) }
 {
     let tree = read_text::<ScriptText>(alloc, 0, script)?;
@@ -262,7 +262,7 @@ fn actions_in<S: Store>(
 ) -> Result<Vec<Action>, TextFault>
     requires { Spells script.now (script_tokens tree.now) }
     ensures actions { IfOk result (λ actions. AreActions tree.now.items actions.items) }
-    ensures found { IfOk result (λ actions. All (IsFound session.now) actions.items) }
+    ensures prepared { IfOk result (λ actions. All (IsPrepared session.now) actions.items) }
     ensures taken { IfOk result (λ _. All (IsTaken session.now) tree.now.items) }
     ensures refused { IfErr result (IsUntaken session.now script.now) }
 {

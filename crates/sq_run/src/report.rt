@@ -1,5 +1,5 @@
 //! The lines of the report.
-ghost use Rattle.std.specs.Prelude.{◌≡◌, ◌++◌, codes, decimal, map, OnOk, IfOk};
+ghost use Rattle.std.specs.Prelude.{◌≡◌, ◌<◌, ◌++◌, codes, decimal, length, map, OnOk, IfOk};
 ghost use Rattle.std.specs.List.{flat_map};
 ghost use Rattle.sq_store.specs.Content.{table_at};
 ghost use Rattle.sq_model.specs.Report as report;
@@ -96,6 +96,7 @@ pub(crate) fn table_lines<S: Store>(
     session: &Session<S>,
     shown: &ShowAction,
 ) -> Result<Vec<u8>, AllocError>
+    requires { shown.now.table < length session.now.tables }
     ensures { IfOk result (λ lines. lines.items ≡ report.table_lines (table_of shown.now) (table_at session.now.state.tables shown.now.table)) }
 {
     let rows = session.rows(alloc, shown.table)?;

@@ -4,7 +4,7 @@ ghost use Rattle.std.specs.Prelude.{◌≡◌, ℕ, ◌||◌, ◌++◌, ◌∷�
 ghost use Rattle.std.specs.List.{AllZip};
 ghost use Rattle.sq_meaning.specs.Spelled.{table_of};
 ghost use Rattle.sq_meaning.specs.WellFormed.{of_lines};
-ghost use Rattle.sq_bound.specs.Fits.{IsOver};
+ghost use Rattle.sq_bound.specs.Fits.{IsBaseAt, IsOver};
 ghost use Rattle.sq_bound.specs.WellFormed.{IsTable, Levels, TableKinds, kinds_of_parameters, place_of};
 ghost use Rattle.sq_bound.specs.declared.condition.TablePlace.{TablePlace as AnyPlace};
 ghost use Rattle.sq_bound.specs.declared.expression.Place.{Place as ColumnPlace};
@@ -59,6 +59,7 @@ pub fn named_table<N: Names>(
     ensures over { IfOk result (λ table. IsOver (N.base_tables names.now) table.now) }
     ensures well_formed { IfOk result (λ table. IsTable (N.column_kinds names.now) table.now) }
     ensures named { IfOk result (λ table. table_of user written ≡ record { user = table.now.user; name = table.now.name }) }
+    ensures base { IfOk result (λ table. IsBaseAt (N.base_number names.now table.now.user table.now.name) table.now) }
 {
     let owner = written.schema.unwrap_or(user);
     match names.table(owner, written.table) {

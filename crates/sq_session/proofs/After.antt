@@ -3,7 +3,7 @@ use Rattle.std.proofs.Common.{◌≡◌, ◌∙◌, ℕ, Bool, true, false, nat_
 use Rattle.std.proofs.lemmas.Grind.{common_steps}
 use Rattle.sq_lex.specs.declared.name.Name.{Name}
 use Rattle.sq_value.specs.declared.value.Value.{Value}
-use Rattle.sq_store.specs.Content.{Content, table_at}
+use Rattle.sq_store.specs.Content.{Content}
 use Rattle.sq_bound.specs.Fits.{AreInDomains, holds, keys_of_bases}
 use Rattle.sq_bound.specs.WellFormed.{TableKinds}
 use Rattle.sq_bound.specs.declared.names.BaseTable.{BaseTable}
@@ -13,18 +13,17 @@ use Rattle.sq_bound.specs.declared.statement.BoundStatement.TheVariants as state
 use Rattle.sq_bound.specs.declared.statement.ChangeTarget.{ChangeTarget}
 use Rattle.sq_bound.specs.declared.statement.ChangeTarget.TheVariants as target
 use Rattle.sq_meaning.specs.Status.{Outcome}
-use Rattle.sq_model.proofs.Bind.{bind_ok}
 use Rattle.sq_bound.specs.declared.statement.PositionedTarget.{PositionedTarget}
 use Rattle.sq_change.specs.Statement.{Deletes, Inserts, Updates}
 use Rattle.sq_module.specs.declared.program.DeclaredCursor.{DeclaredCursor}
 use Rattle.sq_expression.specs.declared.fault.Fault.{Fault}
 use Rattle.sq_session.specs.Cursors.{IsWhole, OpenHaveKept, are_over, is_over, is_over_numbers, is_over_table}
-use Rattle.sq_session.specs.Fetch.{come_to_number, come_to_row, come_to_walk, over_numbers, over_rows, over_walk, row_on, shown_fetched}
-use Rattle.sq_session.specs.Kind.{Fetching, Over, delete_kind, fetching, kind_of, opening, over_at, update_kind}
+use Rattle.sq_session.specs.Fetch.{come_to_number, come_to_row, come_to_walk, over_numbers, over_rows, over_walk}
+use Rattle.sq_session.specs.Kind.{Fetching, Over, Updating, delete_kind, fetching, kind_of, opening, over_at, update_kind, updating}
 use Rattle.sq_session.specs.Open.{IsOpenOver, before_numbers, before_rows, numbers_opened, rows_opened, walk_before}
 use Rattle.sq_session.specs.Schemas.{Schemas}
-use Rattle.sq_session.specs.State.{State, committed_state, cursor_at, is_open, next_number, off_row, rolled_back, with_cursor}
-use Rattle.sq_session.specs.Step.{ChangesIf, ChangesTo, Comes, DeletesIf, MayCloseIf, MayDeleteAt, MayFetchFrom, MayOpenIf, MayStep, MayUpdateAt, OpensAs, UpdatesIf, ending, is_on_row, is_success, on_row}
+use Rattle.sq_session.specs.State.{State, committed_state, cursor_at, is_open, off_row, rolled_back, with_cursor}
+use Rattle.sq_session.specs.Step.{ChangesIf, ChangesTo, Comes, DeletesIf, MayCloseIf, MayDeleteAt, MayFetchFrom, MayOpenIf, MayStep, MayUpdateAt, OpensAs, UpdatesIf, ending, is_on_row, is_success, on_row, walks_listed}
 use Rattle.sq_session.specs.declared.cursor.CursorState.{CursorState}
 use Rattle.sq_session.specs.declared.cursor.CursorState.TheVariants as cursor
 use Rattle.sq_session.specs.declared.cursor.NumbersCursor.{NumbersCursor}
@@ -32,7 +31,7 @@ use Rattle.sq_session.specs.declared.cursor.RowsCursor.{RowsCursor}
 use Rattle.sq_session.specs.declared.reply.Done.{Done}
 use Rattle.sq_session.specs.declared.walk.WalkingCursor.{WalkingCursor}
 use Rattle.sq_session.proofs.Kept.{kept_after}
-use Rattle.sq_session.proofs.Reached.{walk_kept}
+use Rattle.sq_session.proofs.Reached.{number_kept, walk_kept}
 use Rattle.sq_session.proofs.Over.{closed_over, go_on_over, put_closed, put_like, put_off, put_over}
 
 -- the session is whole but for the tables now, of which a statement says itself that they hold rows for the base tables, with
@@ -88,16 +87,10 @@ come_rows : (bases : List BaseTable) (ds : List DeclaredCursor) (c : RowsCursor)
 come_rows bases ds c (Ok come) n b d a at has h = with_one bases ds b n (cursor.Rows come.0) a has (put_like ds b.cursors n (cursor.Rows c) (cursor.Rows come.0) has.2 at (λ o is. is)) h.1
 come_rows bases ds c (Err st) n b d a at has h = same bases ds b a has h.1
 
-number_table : (f : Fetching) (tables : Content) (c : NumbersCursor) (come : NumbersCursor × Done) → come_to_number f tables c ≡ Ok come → come.0.table ≡ c.table
-number_table f tables c come e =
-    let t = table_at tables c.table in
-    let shown = bind_ok (shown_fetched f (row_on t (next_number t c).on)) (λ d. Ok (next_number t c, d)) come e in
-    sym (ap (λ x. x.0.table) (ok_same (next_number t c, shown.0) come (Ok (next_number t c, shown.0)) refl shown.2))
-
 come_numbers : (bases : List BaseTable) (ds : List DeclaredCursor) (f : Fetching) (c : NumbersCursor) (o : Outcome (NumbersCursor × Done)) (b : State) (d : Done) (a : State)
     → cursor_at b f.cursor ≡ cursor.Numbers c → come_to_number f b.tables c ≡ o → Others bases ds b → Comes (over_numbers o) f.cursor b d a → Others bases ds a
 come_numbers bases ds f c (Ok come) b d a at e has h =
-    let table = number_table f b.tables c come e in
+    let table = ap (λ (x : NumbersCursor). x.table) (number_kept f b.tables c come e) in
     with_one bases ds b f.cursor (cursor.Numbers come.0) a has
     (put_like ds b.cursors f.cursor (cursor.Numbers c) (cursor.Numbers come.0) has.2 at (λ o is. subst (λ (x : ℕ). is_over_numbers o x ≡ true) (sym table) is)) h.1
 come_numbers bases ds f c (Err st) b d a at e has h = same bases ds b a has h.1
@@ -140,33 +133,26 @@ changes_if : (bases : List BaseTable) (ds : List DeclaredCursor) (s : Bool) (Cha
 changes_if bases ds true Changes b a has h = changes_to bases ds Changes b a has h
 changes_if bases ds false Changes b a has h = same bases ds b a has h
 
-updates_if : (bases : List BaseTable) (ds : List DeclaredCursor) (s : Bool) (Changes : Content → Content → Type 0) (b a : State) → Others bases ds b → UpdatesIf s Changes b a → Others bases ds a
-updates_if bases ds true Changes b a has h =
-    let committed : a.committed ≡ b.committed = ap (λ s. s.committed) h.0 in
-    let keys : a.keys ≡ b.keys = ap (λ s. s.keys) h.0 in (
-      subst (λ (c : Content). holds bases c ≡ true) (sym committed) has.0,
-      keys ∙ has.1,
-      go_on_over ds b.cursors a.cursors h.2 has.2,
-      subst (λ (c : Content). AreInDomains bases c) (sym committed) has.3,
-    )
-updates_if bases ds false Changes b a has h = same bases ds b a has h
+updates_if : (bases : List BaseTable) (ds : List DeclaredCursor) (s : Bool) (u : Updating) (Changes : Content → Content → Type 0) (b a : State) → Others bases ds b → UpdatesIf s u Changes b a → Others bases ds a
+updates_if bases ds true u Changes b a has h = changes_to bases ds Changes (walks_listed u b) a (has.0, has.1, go_on_over u b.tables u.cursors ds b.cursors has.2, has.3) h
+updates_if bases ds false u Changes b a has h = same bases ds b a has h
 
 deletes_if : (bases : List BaseTable) (ds : List DeclaredCursor) (s : Bool) (p : PositionedTarget) (b a : State) → Others bases ds b → DeletesIf s p b a → Others bases ds a
 deletes_if bases ds true p b a has h =
     changes_to bases ds (Deletes (target.Positioned p) (on_row b p)) (with_cursor b p.cursor (off_row (cursor_at b p.cursor))) a (has.0, has.1, put_off ds b.cursors p.cursor has.2, has.3) h
 deletes_if bases ds false p b a has h = same bases ds b a has h
 
-update_at : (bases : List BaseTable) (ds : List DeclaredCursor) (r : Bool) (p : PositionedTarget) (b : State) (d : Done) (a : State) → Others bases ds b → MayUpdateAt r p b d a → Others bases ds a
-update_at bases ds true p b d a has h = updates_if bases ds (is_success d.status) (Updates (target.Positioned p) (on_row b p)) b a has h.1
-update_at bases ds false p b d a has h = same bases ds b a has h.1
+update_at : (bases : List BaseTable) (ds : List DeclaredCursor) (r : Bool) (u : Updating) (p : PositionedTarget) (b : State) (d : Done) (a : State) → Others bases ds b → MayUpdateAt r u p b d a → Others bases ds a
+update_at bases ds true u p b d a has h = updates_if bases ds (is_success d.status) u (Updates (target.Positioned p) (on_row b p)) b a has h.1
+update_at bases ds false u p b d a has h = same bases ds b a has h.1
 
 delete_at : (bases : List BaseTable) (ds : List DeclaredCursor) (r : Bool) (p : PositionedTarget) (b : State) (d : Done) (a : State) → Others bases ds b → MayDeleteAt r p b d a → Others bases ds a
 delete_at bases ds true p b d a has h = deletes_if bases ds (is_success d.status) p b a has h.1
 delete_at bases ds false p b d a has h = same bases ds b a has h.1
 
-of_update : (sc : Schemas) (bases : List BaseTable) (ds : List DeclaredCursor) (t : ChangeTarget) (vs : List Value) (b : State) (d : Done) (a : State) → Others bases ds b → MayStep sc (update_kind t) vs b d a → Others bases ds a
-of_update sc bases ds (target.Searched t) vs b d a has h = updates_if bases ds (is_success d.status) (Updates (target.Searched t) None) b a has h.1
-of_update sc bases ds (target.Positioned p) vs b d a has h = update_at bases ds (is_on_row b p) p b d a has h
+of_update : (sc : Schemas) (bases : List BaseTable) (ds : List DeclaredCursor) (u : Updating) (t : ChangeTarget) (vs : List Value) (b : State) (d : Done) (a : State) → Others bases ds b → MayStep sc (update_kind u t) vs b d a → Others bases ds a
+of_update sc bases ds u (target.Searched t) vs b d a has h = updates_if bases ds (is_success d.status) u (Updates (target.Searched t) None) b a has h.1
+of_update sc bases ds u (target.Positioned p) vs b d a has h = update_at bases ds (is_on_row b p) u p b d a has h
 
 of_delete : (sc : Schemas) (bases : List BaseTable) (ds : List DeclaredCursor) (t : ChangeTarget) (vs : List Value) (b : State) (d : Done) (a : State) → Others bases ds b → MayStep sc (delete_kind t) vs b d a → Others bases ds a
 of_delete sc bases ds (target.Searched t) vs b d a has h = changes_if bases ds (is_success d.status) (Deletes (target.Searched t) None) b a has h.1
@@ -181,7 +167,7 @@ after_statement sc columns bases ds user ps (statement.Fetch f) vs b d a has h =
 after_statement sc columns bases ds user ps (statement.Close n) vs b d a has h = close_if bases ds (is_open (cursor_at b n)) n b d a (has.1, has.2, has.3, has.5) h
 after_statement sc columns bases ds user ps (statement.Select s) vs b d a has h = same bases ds b a (has.1, has.2, has.3, has.5) h.0
 after_statement sc columns bases ds user ps (statement.Insert i) vs b d a has h = changes_if bases ds (is_success d.status) (Inserts i.base) b a (has.1, has.2, has.3, has.5) h.1
-after_statement sc columns bases ds user ps (statement.Update u) vs b d a has h = of_update sc bases ds u.target vs b d a (has.1, has.2, has.3, has.5) h
+after_statement sc columns bases ds user ps (statement.Update u) vs b d a has h = of_update sc bases ds (updating ds u) u.target vs b d a (has.1, has.2, has.3, has.5) h
 after_statement sc columns bases ds user ps (statement.Delete t) vs b d a has h = of_delete sc bases ds t vs b d a (has.1, has.2, has.3, has.5) h
 after_statement sc columns bases ds user ps statement.Commit vs b d a has h = same bases ds (committed_state b) a (has.0, has.2, closed_over ds b.cursors has.3, has.4) h.1
 after_statement sc columns bases ds user ps statement.Rollback vs b d a has h = same bases ds (rolled_back b) a (has.1, has.2, closed_over ds b.cursors has.3, has.5) h.1

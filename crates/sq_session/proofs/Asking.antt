@@ -55,10 +55,10 @@ pub rows_kept : (columns : TableKinds) (d : BoundCursor) (q : BoundQuery) (r : R
 rows_kept columns d q (Err f) e h = tt
 rows_kept columns d q (Ok cursor.Closed) e h = tt
 rows_kept columns d q (Ok (cursor.Rows c)) e h = subst (λ (kinds : List Kind). AreRowsOf kinds c.rows) (sym e) h
-rows_kept columns d q (Ok (cursor.Numbers c)) e h = tt
+rows_kept columns d q (Ok (cursor.Numbers c)) e h = absurd h
 rows_kept columns d q (Ok (cursor.Walking c)) e h = absurd h
 
--- an updatable cursor keeps no rows, and one that walks the values of the parameters
+-- an updatable cursor has passed none of its numbers, and one that walks the values of the parameters
 walk_kept : (columns : TableKinds) (d : BoundCursor) (values : List Value) (tables : Content) (table : ℕ) (c : CursorState) → MayKeep columns d values
     → (◌≡◌ {A = Outcome CursorState} (Ok c) (Ok (cursor.Walking (walk_before tables table values)))) → HasKept columns d c
 walk_kept columns d values tables table c may h =
@@ -68,7 +68,7 @@ walk_kept columns d values tables table c may h =
 numbers_kept : (columns : TableKinds) (d : BoundCursor) (table : ℕ) (found : Outcome (List ℕ)) (c : CursorState) → Ok c ≡ numbers_opened table found → HasKept columns d c
 numbers_kept columns d table (Ok numbers) c e =
     let same : c ≡ cursor.Numbers (record { table = table; numbers = numbers; passed = 0; on = None }) = cc in
-    subst (λ (x : CursorState). HasKept columns d x) (sym same) tt
+    subst (λ (x : CursorState). HasKept columns d x) (sym same) (omega arith)
 numbers_kept columns d table (Err st) c e = cc
 
 by_quiet : (columns : TableKinds) (d : BoundCursor) (values : List Value) (tables : Content) (quiet : Bool) (base : ℕ) (c : CursorState) → MayKeep columns d values

@@ -7,7 +7,7 @@ use Rattle.sq_bound.specs.declared.statement.PositionedTarget.{PositionedTarget}
 use Rattle.sq_change.specs.Statement.{Deletes, Inserts, Updates}
 use Rattle.sq_meaning.specs.Status.{Outcome}
 use Rattle.sq_session.specs.Fetch.{come_to_number, come_to_row, come_to_walk, over_numbers, over_rows, over_walk}
-use Rattle.sq_session.specs.Kind.{Fetching, Kind, Opening, read_parameters}
+use Rattle.sq_session.specs.Kind.{Fetching, Kind, Opening, Updating, read_parameters}
 use Rattle.sq_session.specs.Parameter.{started_values}
 use Rattle.sq_session.specs.Schemas.{Schemas}
 use Rattle.sq_session.specs.State.{State, committed_state, cursor_at, is_open, rolled_back}
@@ -52,17 +52,17 @@ changes_if : (s : Bool) (Changes : Content → Content → Type 0) (b a : State)
 changes_if true Changes b a h e = cc
 changes_if false Changes b a h e = same b a h
 
-updates_if : (s : Bool) (Changes : Content → Content → Type 0) (b a : State) → UpdatesIf s Changes b a → s ≡ false → Kept b a
-updates_if true Changes b a h e = cc
-updates_if false Changes b a h e = same b a h
+updates_if : (s : Bool) (u : Updating) (Changes : Content → Content → Type 0) (b a : State) → UpdatesIf s u Changes b a → s ≡ false → Kept b a
+updates_if true u Changes b a h e = cc
+updates_if false u Changes b a h e = same b a h
 
 deletes_if : (s : Bool) (p : PositionedTarget) (b a : State) → DeletesIf s p b a → s ≡ false → Kept b a
 deletes_if true p b a h e = cc
 deletes_if false p b a h e = same b a h
 
-update_at : (r : Bool) (p : PositionedTarget) (b : State) (d : Done) (a : State) → MayUpdateAt r p b d a → is_success d.status ≡ false → Kept b a
-update_at true p b d a h e = updates_if (is_success d.status) (Updates (target.Positioned p) (on_row b p)) b a h.1 e
-update_at false p b d a h e = same b a h.1
+update_at : (r : Bool) (u : Updating) (p : PositionedTarget) (b : State) (d : Done) (a : State) → MayUpdateAt r u p b d a → is_success d.status ≡ false → Kept b a
+update_at true u p b d a h e = updates_if (is_success d.status) u (Updates (target.Positioned p) (on_row b p)) b a h.1 e
+update_at false u p b d a h e = same b a h.1
 
 delete_at : (r : Bool) (p : PositionedTarget) (b : State) (d : Done) (a : State) → MayDeleteAt r p b d a → is_success d.status ≡ false → Kept b a
 delete_at true p b d a h e = deletes_if (is_success d.status) p b a h.1 e
@@ -79,9 +79,9 @@ step sc (Kind.fetches f) vs b d a h e = fetch_from (cursor_at b f.cursor) f vs b
 step sc (Kind.closes n) vs b d a h e = close_if (is_open (cursor_at b n)) n b d a h
 step sc (Kind.selects s) vs b d a h e = same b a h.0
 step sc (Kind.inserts base) vs b d a h e = changes_if (is_success d.status) (Inserts base) b a h.1 e
-step sc (Kind.updates t) vs b d a h e = updates_if (is_success d.status) (Updates (target.Searched t) None) b a h.1 e
+step sc (Kind.updates u t) vs b d a h e = updates_if (is_success d.status) u (Updates (target.Searched t) None) b a h.1 e
 step sc (Kind.deletes t) vs b d a h e = changes_if (is_success d.status) (Deletes (target.Searched t) None) b a h.1 e
-step sc (Kind.updates_at p) vs b d a h e = update_at (is_on_row b p) p b d a h e
+step sc (Kind.updates_at u p) vs b d a h e = update_at (is_on_row b p) u p b d a h e
 step sc (Kind.deletes_at p) vs b d a h e = delete_at (is_on_row b p) p b d a h e
 step sc Kind.commits vs b d a h e = ends (committed_state b) b d a h e
 step sc Kind.rolls_back vs b d a h e = ends (rolled_back b) b d a h e

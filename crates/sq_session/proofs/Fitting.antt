@@ -1,5 +1,5 @@
 -- Values that parameters can store.
-use Rattle.std.proofs.Common.{rules, ◌≡◌, ◌+◌, ◌<◌, ◌≤◌, ◌&&◌, ◌∙◌, ℕ, zero, suc, Bool, true, false, List, [], ◌∷◌, drop, get_or, length, map, take, Some, None, Result, refl, sym, ap, ap₂, arith}
+use Rattle.std.proofs.Common.{rules, ◌≡◌, ◌+◌, ◌<◌, ◌≤◌, ◌&&◌, ◌∙◌, ℕ, zero, suc, Bool, true, false, List, [], ◌∷◌, drop, get_or, length, map, take, Some, None, Result, Err, refl, sym, ap, ap₂, true≢false, arith}
 use Rattle.std.proofs.lemmas.List.{drop_more}
 use Rattle.std.specs.Prelude.{is_ok, if◌then◌else◌}
 use Rattle.sq_value.specs.Domain.{FitsKind}
@@ -14,6 +14,7 @@ use Rattle.sq_value.specs.declared.value.Value.TheVariants.{Null, Num, Chars}
 use Rattle.sq_bound.specs.declared.names.ParameterDesc.{ParameterDesc}
 use Rattle.sq_model.specs.Script.{fit, fits_in}
 use Rattle.sq_session.specs.Parameter.{declared}
+use Rattle.sq_session.proofs.Holding.{both}
 
 kept : (b : Bool) (t : List ℕ) → b ≡ is_ok (text_or_too_long (if b then Some t else None))
 kept true t = refl
@@ -39,6 +40,26 @@ number_unfit (Numeric p s) (Num n) small unfit = absurd (unfit (search rules))
 number_unfit (Char k) (Num n) small unfit = refl
 number_unfit (VarChar k) (Num n) small unfit = refl
 number_unfit d (Chars t) small unfit = cc
+
+-- ---- a value that fits
+
+-- it is null, a number for a domain of numbers, or a text for one of texts
+pub kind_fits : (d : Domain) (v : Value) → fits_in d v ≡ true → FitsKind d v
+kind_fits d Null h = tt
+kind_fits Small (Num n) h = search rules
+kind_fits Int (Num n) h = search rules
+kind_fits (Numeric p s) (Num n) h = search rules
+kind_fits (Char k) (Num n) h = cc
+kind_fits (VarChar k) (Num n) h = cc
+kind_fits Small (Chars t) h = cc
+kind_fits Int (Chars t) h = cc
+kind_fits (Numeric p s) (Chars t) h = cc
+kind_fits (Char k) (Chars t) h = search rules
+kind_fits (VarChar k) (Chars t) h = search rules
+
+-- storing it has no fault
+pub is_stored : (d : Domain) (v : Value) (fault : StoreFault) → fits_in d v ≡ true → ¬ (stored d v ≡ Err fault)
+is_stored d v fault h e = true≢false (sym h ∙ ap is_ok e)
 
 -- ---- one parameter after the other
 
@@ -92,3 +113,21 @@ fit_uneven (p ∷ ps) (v ∷ vs) h = by (fits_in p.domain v) (fit_uneven ps vs (
     by : (b : Bool) → false ≡ fit (map declared ps) vs → false ≡ (b && fit (map declared ps) vs)
     by true rest = rest
     by false rest = refl
+
+-- ---- values that fit
+
+pub fit_even : (ps : List ParameterDesc) (vs : List Value) → fit (map declared ps) vs ≡ true → length ps ≡ length vs
+fit_even [] [] h = refl
+fit_even [] (v ∷ vs) h = cc
+fit_even (p ∷ ps) [] h = cc
+fit_even (p ∷ ps) (v ∷ vs) h = ap suc (fit_even ps vs (both (fits_in p.domain v) (fit (map declared ps) vs) h).1)
+
+-- each fits the parameter at its place
+pub fit_at : (ps : List ParameterDesc) (vs : List Value) (i : ℕ) (p : ParameterDesc) (v : Value) → fit (map declared ps) vs ≡ true → i < length ps → i < length vs
+    → p ≡ get_or ps i p → v ≡ get_or vs i v → fits_in p.domain v ≡ true
+fit_at [] vs i p v h lt in_values at_p at_v = absurd (omega (arith, lt))
+fit_at (q ∷ ps) [] i p v h lt in_values at_p at_v = absurd (omega (arith, in_values))
+fit_at (q ∷ ps) (u ∷ vs) zero p v h lt in_values at_p at_v =
+    ap₂ (λ (r : ParameterDesc) w. fits_in r.domain w) at_p at_v ∙ (both (fits_in q.domain u) (fit (map declared ps) vs) h).0
+fit_at (q ∷ ps) (u ∷ vs) (suc i) p v h lt in_values at_p at_v =
+    fit_at ps vs i p v (both (fits_in q.domain u) (fit (map declared ps) vs) h).1 (omega (arith, lt)) (omega (arith, in_values)) at_p at_v

@@ -1,10 +1,12 @@
 -- What is known of the statement of the procedure that is found.
-use Rattle.std.proofs.Common.{◌≡◌, ℕ, zero, suc, List, [], ◌∷◌, slice_get, Some, None, Ok, Err, subst, arith}
+use Rattle.std.proofs.Common.{◌≡◌, ℕ, zero, suc, List, [], ◌∷◌, length, slice_get, Some, None, Ok, Err, subst, arith}
 use Rattle.std.specs.List.{AllByRecursion}
+use Rattle.sq_bound.specs.Fits.{FitsStatement}
 use Rattle.sq_bound.specs.WellFormed.{TableKinds, kinds_of_parameters}
 use Rattle.sq_bound.specs.declared.fault.BindFault.{BindFault}
+use Rattle.sq_bound.specs.declared.names.BaseTable.{BaseTable}
 use Rattle.sq_bound.specs.declared.statement.BoundStatement.{BoundStatement}
-use Rattle.sq_module.specs.Program.{ProcedureIsWellFormed, ProcedureOpens, ProceduresAreWellFormed, ProceduresOpen, kinds_of_cursors}
+use Rattle.sq_module.specs.Program.{FitsProcedure, ProcedureIsWellFormed, ProcedureOpens, ProceduresAreWellFormed, ProceduresFit, ProceduresOpen, kinds_of_cursors}
 use Rattle.sq_module.specs.declared.program.BoundProcedure.{BoundProcedure}
 use Rattle.sq_module.specs.declared.program.DeclaredCursor.{DeclaredCursor}
 use Rattle.sq_module.specs.declared.program.ProcedureName.{ProcedureName}
@@ -27,6 +29,13 @@ asked_at columns cs es n e s at is formed opened =
     let one : ProcedureIsWellFormed columns (kinds_of_cursors cs) e.1 = held_at (λ (x : Entry). ProcedureIsWellFormed columns (kinds_of_cursors cs) x.1) es n e formed at in
     let two : ProcedureOpens columns cs e.1 = held_at (λ (x : Entry). ProcedureOpens columns cs x.1) es n e opened at in
     (rw is at one, rw is at two)
+
+-- it fits the base tables and the cursors, where those of all procedures do
+pub fitting_at : (bases : List BaseTable) (cursors : ℕ) (es : List Entry) (n : ℕ) (e : Entry) (s : BoundStatement) → slice_get es n ≡ Some e → e.1.statement ≡ Ok s
+    → ProceduresFit bases cursors es → FitsStatement bases cursors (length e.1.parameters) s
+fitting_at bases cursors es n e s at is fit =
+    let one : FitsProcedure bases cursors e.1 = held_at (λ (x : Entry). FitsProcedure bases cursors x.1) es n e fit at in
+    rw is at one
 
 -- one with a fault is of no kind
 pub no_kind_is : (cs : List DeclaredCursor) (es : List Entry) (n : ℕ) (e : Entry) (f : BindFault) → slice_get es n ≡ Some e → e.1.statement ≡ Err f → kind_at (procedures_of cs es) n ≡ None

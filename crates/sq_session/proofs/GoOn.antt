@@ -1,44 +1,96 @@
--- Cursors that go on over numbers, one after the other.
-use Rattle.std.proofs.Common.{◌<◌, ℕ, zero, suc, List, [], ◌∷◌, length, slice_set, slice_index_or, refl, arith}
-use Rattle.sq_session.specs.Cursors.{GoOn, GoesOn, WalksOn}
+-- Cursors that go on over lists, one after the other.
+use Rattle.std.proofs.Common.{◌≡◌, ◌++◌, ◌+◌, ◌<◌, ◌≤◌, ℕ, zero, suc, Bool, true, false, List, [], ◌∷◌, length, get_or, take, slice_set, Some, None, refl, ap, sym, subst, ◌∙◌, add-one, arith}
+use Rattle.std.specs.Bool.{then_some}
+use Rattle.std.proofs.lemmas.List.{length-set, take_all}
+use Rattle.std.proofs.lemmas.List.Sums.{fold-append}
+use Rattle.sq_store.specs.Content.{Content}
+use Rattle.sq_module.specs.declared.program.DeclaredCursor.{DeclaredCursor}
+use Rattle.sq_session.specs.Cursors.{AreThere, go_on, goes_on, listed, put, put_all, reads}
+use Rattle.sq_session.specs.Kind.{Updating}
 use Rattle.sq_session.specs.declared.cursor.CursorState.{CursorState}
 use Rattle.sq_session.specs.declared.cursor.CursorState.TheVariants as cursor
+use Rattle.sq_session.specs.declared.cursor.NumbersCursor.{NumbersCursor}
+use Rattle.sq_session.specs.declared.walk.ListedCursor.{ListedCursor}
 use Rattle.sq_session.specs.declared.walk.WalkingCursor.{WalkingCursor}
 
 -- ---- one cursor
 
-pub goes_on_same : (c : CursorState) → GoesOn c c
-goes_on_same cursor.Closed = refl
-goes_on_same (cursor.Rows c) = refl
-goes_on_same (cursor.Numbers c) = refl
-goes_on_same (cursor.Walking c) = refl
+-- where it reads what changes
+pub goes_on_listed : (u : Updating) (tables : Content) (d : DeclaredCursor) (w : WalkingCursor) → reads u d w ≡ true → goes_on u tables d (cursor.Walking w) ≡ cursor.Numbers (listed d tables w)
+goes_on_listed u tables d w h = rw h refl
 
-walks_on_then : (w : WalkingCursor) (b c : CursorState) → WalksOn w b → GoesOn b c → WalksOn w c
-walks_on_then w cursor.Closed c h k = absurd h
-walks_on_then w (cursor.Rows d) c h k = absurd h
-walks_on_then w (cursor.Numbers d) c h k = rw k h
-walks_on_then w (cursor.Walking d) c h k = rw h at k
+pub goes_on_walking : (u : Updating) (tables : Content) (d : DeclaredCursor) (w : WalkingCursor) → reads u d w ≡ false → goes_on u tables d (cursor.Walking w) ≡ cursor.Walking w
+goes_on_walking u tables d w h = rw h refl
 
-goes_on_then : (a b c : CursorState) → GoesOn a b → GoesOn b c → GoesOn a c
-goes_on_then cursor.Closed b c h k = rw h at k
-goes_on_then (cursor.Rows d) b c h k = rw h at k
-goes_on_then (cursor.Numbers d) b c h k = rw h at k
-goes_on_then (cursor.Walking d) b c h k = walks_on_then d b c h k
+-- the list that is made where it does, and there alone
+pub some_listed : (b : Bool) (x y : NumbersCursor) → Some x ≡ then_some b y → (b ≡ true) × (x ≡ y)
+some_listed true x y h = (refl, cc)
+some_listed false x y h = cc
 
--- ---- all cursors
+pub none_listed : (b : Bool) (y : NumbersCursor) → None ≡ then_some b y → b ≡ false
+none_listed true y h = cc
+none_listed false y h = refl
 
-pub go_on_none : (cs : List CursorState) → GoOn cs cs
-go_on_none [] = tt
-go_on_none (c ∷ cs) = (goes_on_same c, go_on_none cs)
+-- one that does not walk stays as it is
+pub goes_on_same : (u : Updating) (tables : Content) (d : DeclaredCursor) (c : CursorState) → ((w : WalkingCursor) → c ≡ cursor.Walking w → ⊥) → goes_on u tables d c ≡ c
+goes_on_same u tables d cursor.Closed h = refl
+goes_on_same u tables d (cursor.Rows c) h = refl
+goes_on_same u tables d (cursor.Numbers c) h = refl
+goes_on_same u tables d (cursor.Walking c) h = absurd (h c refl)
 
-pub go_on_then : (xs ys zs : List CursorState) → GoOn xs ys → GoOn ys zs → GoOn xs zs
-go_on_then [] [] zs h k = k
-go_on_then [] (y ∷ ys) zs h k = absurd h
-go_on_then (x ∷ xs) [] zs h k = absurd h
-go_on_then (x ∷ xs) (y ∷ ys) [] h k = absurd k
-go_on_then (x ∷ xs) (y ∷ ys) (z ∷ zs) h k = (goes_on_then x y z h.0 k.0, go_on_then xs ys zs h.1 k.1)
+-- ---- the first cursors
 
-pub go_on_put : (cs : List CursorState) (n : ℕ) (c : CursorState) → GoesOn (slice_index_or cs n cursor.Closed) c → n < length cs → GoOn cs (slice_set cs n c)
-go_on_put [] n c h lt = absurd (omega (arith, lt))
-go_on_put (x ∷ xs) zero c h lt = (h, go_on_none xs)
-go_on_put (x ∷ xs) (suc n) c h lt = (goes_on_same x, go_on_put xs n c h (omega (arith, lt)))
+module _ (u : Updating) (tables : Content) where
+  put_suc : (ds : List DeclaredCursor) (cs : List CursorState) (n : ℕ) (d : DeclaredCursor) (c x : CursorState) → n < length ds → goes_on u tables (get_or ds n d) (get_or cs n c) ≡ x
+      → slice_set (go_on u tables (take n ds) cs) n x ≡ go_on u tables (take (suc n) ds) cs
+  put_suc [] cs n d c x lt h = absurd (omega (arith, lt))
+  put_suc (y ∷ ds) [] zero d c x lt h = refl
+  put_suc (y ∷ ds) [] (suc n) d c x lt h = refl
+  put_suc (y ∷ ds) (e ∷ cs) zero d c x lt h = ap (λ z. z ∷ cs) (sym h)
+  put_suc (y ∷ ds) (e ∷ cs) (suc n) d c x lt h = ap (λ zs. goes_on u tables y e ∷ zs) (put_suc ds cs n d c x (omega (arith, lt)) h)
+
+  same_suc : (ds : List DeclaredCursor) (cs : List CursorState) (n : ℕ) (d : DeclaredCursor) (c : CursorState) → n < length ds → goes_on u tables (get_or ds n d) (get_or cs n c) ≡ get_or cs n c
+      → go_on u tables (take n ds) cs ≡ go_on u tables (take (suc n) ds) cs
+  same_suc [] cs n d c lt h = absurd (omega (arith, lt))
+  same_suc (y ∷ ds) [] zero d c lt h = refl
+  same_suc (y ∷ ds) [] (suc n) d c lt h = refl
+  same_suc (y ∷ ds) (e ∷ cs) zero d c lt h = ap (λ z. z ∷ cs) (sym h)
+  same_suc (y ∷ ds) (e ∷ cs) (suc n) d c lt h = ap (λ zs. goes_on u tables y e ∷ zs) (same_suc ds cs n d c (omega (arith, lt)) h)
+
+  -- the next one is put in place
+  pub listed_next : (ds : List DeclaredCursor) (cs : List CursorState) (ls : List ListedCursor) (n : ℕ) (d : DeclaredCursor) (c : CursorState) (l : NumbersCursor) → n < length ds
+      → goes_on u tables (get_or ds n d) (get_or cs n c) ≡ cursor.Numbers l → put_all cs ls ≡ go_on u tables (take n ds) cs
+      → put_all cs (ls ++ record { number = n; cursor = l } ∷ []) ≡ go_on u tables (take (n + 1) ds) cs
+  listed_next ds cs ls n d c l lt h so_far =
+      fold-append put cs ls (record { number = n; cursor = l } ∷ [])
+      ∙ ap (λ xs. slice_set xs n (cursor.Numbers l)) so_far
+      ∙ put_suc ds cs n d c (cursor.Numbers l) lt h
+      ∙ ap (λ m. go_on u tables (take m ds) cs) (sym (add-one n))
+
+  -- the next one stays as it is
+  pub same_next : (ds : List DeclaredCursor) (cs xs : List CursorState) (n : ℕ) (d : DeclaredCursor) (c : CursorState) → n < length ds
+      → goes_on u tables (get_or ds n d) (get_or cs n c) ≡ get_or cs n c → xs ≡ go_on u tables (take n ds) cs → xs ≡ go_on u tables (take (n + 1) ds) cs
+  same_next ds cs xs n d c lt h so_far = so_far ∙ same_suc ds cs n d c lt h ∙ ap (λ m. go_on u tables (take m ds) cs) (sym (add-one n))
+
+  -- so does one that does not walk
+  pub idle_next : (ds : List DeclaredCursor) (cs xs : List CursorState) (n : ℕ) (c : CursorState) → n < length ds
+      → ((d : DeclaredCursor) → goes_on u tables d (get_or cs n c) ≡ get_or cs n c) → xs ≡ go_on u tables (take n ds) cs → xs ≡ go_on u tables (take (n + 1) ds) cs
+  idle_next [] cs xs n c lt h so_far = absurd (omega (arith, lt))
+  idle_next (y ∷ ds) cs xs n c lt h so_far = same_next (y ∷ ds) cs xs n y c lt (h (get_or (y ∷ ds) n y)) so_far
+
+  -- in the end all do
+  pub listed_all : (ds : List DeclaredCursor) (cs xs : List CursorState) (n : ℕ) → length ds ≤ n → xs ≡ go_on u tables (take n ds) cs → xs ≡ go_on u tables ds cs
+  listed_all ds cs xs n enough so_far = so_far ∙ ap (λ es. go_on u tables es cs) (take_all n ds enough)
+
+-- ---- lists of cursors that there are
+
+pub there_more : (count : ℕ) (ls : List ListedCursor) (l : ListedCursor) → AreThere count ls → l.number < count → AreThere count (ls ++ l ∷ [])
+there_more count [] l h lt = (lt, tt)
+there_more count (x ∷ ls) l h lt = (h.0, there_more count ls l h.1 lt)
+
+pub put_there : (cs : List CursorState) (l : ListedCursor) (ls : List ListedCursor) → AreThere (length cs) ls → AreThere (length (put cs l)) ls
+put_there cs l ls h = subst (λ count. AreThere count ls) (sym (length-set cs l.number (cursor.Numbers l.cursor))) h
+
+pub none_left : (ls : List ListedCursor) → length ls ≡ 0 → ls ≡ []
+none_left [] h = refl
+none_left (l ∷ ls) h = absurd (omega (arith, h))

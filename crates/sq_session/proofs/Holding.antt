@@ -59,6 +59,13 @@ keys_count [] (b ∷ bases) h = cc
 keys_count (x ∷ given) [] h = cc
 keys_count (x ∷ given) (b ∷ bases) h = let rest : keys_of given ≡ keys_of_bases bases = cc in ap suc (keys_count given bases rest)
 
+-- there are as many tables as base tables
+pub as_many_tables : (bases : List BaseTable) (tables : Content) → holds bases tables ≡ true → length bases ≡ length tables
+as_many_tables [] [] h = refl
+as_many_tables [] (t ∷ ts) h = none h
+as_many_tables (b ∷ bases) [] h = none h
+as_many_tables (b ∷ bases) (t ∷ ts) h = ap suc (as_many_tables bases ts (both (have_width (length b.columns) t.rows) (holds bases ts) h).1)
+
 -- ---- the table of a base table
 
 parts : (b : BaseTable) (bases : List BaseTable) (t : Table) (ts : Content) → holds (b ∷ bases) (t ∷ ts) ≡ true → (have_width (length b.columns) t.rows ≡ true) × (holds bases ts ≡ true)

@@ -1,8 +1,8 @@
 -- Open cursors keep the rows that they have listed, and the values with which they were opened.
-use Rattle.std.proofs.Common.{◌≡◌, ℕ, zero, suc, Bool, true, false, List, [], ◌∷◌, length, get_or, None, replicate, slice_index_or, slice_set, Ok, Err, refl, ap, sym, subst}
+use Rattle.std.proofs.Common.{◌≡◌, ◌≤◌, ℕ, zero, suc, Bool, true, false, if◌then◌else◌, arith, List, [], ◌∷◌, length, get_or, None, replicate, slice_index_or, slice_set, Ok, Err, refl, ap, sym, subst}
 use Rattle.sq_lex.specs.declared.name.Name.{Name}
 use Rattle.sq_value.specs.declared.value.Value.{Value}
-use Rattle.sq_store.specs.Content.{Content}
+use Rattle.sq_store.specs.Content.{Content, table_at}
 use Rattle.sq_meaning.specs.Status.{Outcome}
 use Rattle.sq_meaning.specs.WellFormed.{AreRowsOf}
 use Rattle.sq_model.proofs.Bind.{bind_ok}
@@ -17,19 +17,19 @@ use Rattle.sq_bound.specs.declared.statement.ChangeTarget.TheVariants as target
 use Rattle.sq_bound.specs.declared.statement.PositionedTarget.{PositionedTarget}
 use Rattle.sq_change.specs.Statement.{Deletes, Inserts, Updates}
 use Rattle.sq_module.specs.declared.program.DeclaredCursor.{DeclaredCursor}
-use Rattle.sq_session.specs.Cursors.{GoOn, GoesOn, HasKept, HaveKept, MayKeep, OpenHaveKept, WalksOn}
+use Rattle.sq_session.specs.Cursors.{HasKept, HaveKept, MayKeep, OpenHaveKept, go_on, goes_on, listed, reads}
 use Rattle.sq_session.specs.Fetch.{come_to_number, come_to_row, come_to_walk, over_numbers, over_rows, over_walk, place_reached, row_come_to, row_fetched}
-use Rattle.sq_session.specs.Kind.{Fetching, delete_kind, fetching, kind_of, update_kind}
+use Rattle.sq_session.specs.Kind.{Fetching, Updating, delete_kind, fetching, kind_of, update_kind, updating}
 use Rattle.sq_session.specs.Schemas.{Schemas}
-use Rattle.sq_session.specs.State.{State, all_closed, committed_state, cursor_at, is_open, off_row, rolled_back, with_cursor}
-use Rattle.sq_session.specs.Step.{ChangesIf, ChangesTo, Comes, DeletesIf, MayCloseIf, MayDeleteAt, MayFetchFrom, MayStep, MayUpdateAt, UpdatesIf, is_on_row, is_success, on_row}
+use Rattle.sq_session.specs.State.{State, all_closed, committed_state, cursor_at, is_open, next_number, off_row, rolled_back, with_cursor}
+use Rattle.sq_session.specs.Step.{ChangesIf, ChangesTo, Comes, DeletesIf, MayCloseIf, MayDeleteAt, MayFetchFrom, MayStep, MayUpdateAt, UpdatesIf, is_on_row, is_success, on_row, walks_listed}
 use Rattle.sq_session.specs.declared.cursor.CursorState.{CursorState}
 use Rattle.sq_session.specs.declared.cursor.CursorState.TheVariants as cursor
 use Rattle.sq_session.specs.declared.cursor.NumbersCursor.{NumbersCursor}
 use Rattle.sq_session.specs.declared.cursor.RowsCursor.{RowsCursor}
 use Rattle.sq_session.specs.declared.reply.Done.{Done}
 use Rattle.sq_session.specs.declared.walk.WalkingCursor.{WalkingCursor}
-use Rattle.sq_session.proofs.Reached.{walk_kept}
+use Rattle.sq_session.proofs.Reached.{number_kept, walk_kept}
 
 module _ (columns : TableKinds) where
   -- ---- a cursor that is put in place of another
@@ -65,24 +65,23 @@ module _ (columns : TableKinds) where
   closed_kept (d ∷ ds) [] h = absurd h
   closed_kept (d ∷ ds) (x ∷ xs) h = (tt, closed_kept ds xs h.1)
 
-  walks_on : (k : BoundCursor) (w : WalkingCursor) (a : CursorState) → WalksOn w a → HasKept columns k (cursor.Walking w) → HasKept columns k a
-  walks_on k w cursor.Closed g h = tt
-  walks_on k w (cursor.Rows c) g h = absurd g
-  walks_on k w (cursor.Numbers c) g h = tt
-  walks_on k w (cursor.Walking c) g h = rw g h
+  -- a list that is put in place of a walk has passed none of its numbers
+  listed_kept : (tables : Content) (k : BoundCursor) (d : DeclaredCursor) (w : WalkingCursor) (b : Bool) → HasKept columns k (cursor.Walking w)
+      → HasKept columns k (if b then cursor.Numbers (listed d tables w) else cursor.Walking w)
+  listed_kept tables k d w true h = omega arith
+  listed_kept tables k d w false h = h
 
-  goes_on : (k : BoundCursor) (b a : CursorState) → GoesOn b a → HasKept columns k b → HasKept columns k a
-  goes_on k cursor.Closed a g h = rw g h
-  goes_on k (cursor.Rows c) a g h = rw g h
-  goes_on k (cursor.Numbers c) a g h = rw g h
-  goes_on k (cursor.Walking c) a g h = walks_on k c a g h
+  goes_on_kept : (u : Updating) (tables : Content) (k : BoundCursor) (d : DeclaredCursor) (c : CursorState) → HasKept columns k c → HasKept columns k (goes_on u tables d c)
+  goes_on_kept u tables k d cursor.Closed h = h
+  goes_on_kept u tables k d (cursor.Rows c) h = h
+  goes_on_kept u tables k d (cursor.Numbers c) h = h
+  goes_on_kept u tables k d (cursor.Walking c) h = listed_kept tables k d c (reads u d c) h
 
-  go_on : (ds : List DeclaredCursor) (xs ys : List CursorState) → GoOn xs ys → HaveKept columns ds xs → HaveKept columns ds ys
-  go_on ds [] [] g h = h
-  go_on ds [] (y ∷ ys) g h = absurd g
-  go_on ds (x ∷ xs) [] g h = absurd g
-  go_on [] (x ∷ xs) (y ∷ ys) g h = absurd h
-  go_on (d ∷ ds) (x ∷ xs) (y ∷ ys) g h = (goes_on d.cursor x y g.0 h.0, go_on ds xs ys g.1 h.1)
+  go_on_kept : (u : Updating) (tables : Content) (es ds : List DeclaredCursor) (cs : List CursorState) → HaveKept columns ds cs → HaveKept columns ds (go_on u tables es cs)
+  go_on_kept u tables [] ds cs h = h
+  go_on_kept u tables (e ∷ es) ds [] h = h
+  go_on_kept u tables (e ∷ es) [] (c ∷ cs) h = absurd h
+  go_on_kept u tables (e ∷ es) (d ∷ ds) (c ∷ cs) h = (goes_on_kept u tables d.cursor e c h.0, go_on_kept u tables es ds cs h.1)
 
   off_kept : (k : BoundCursor) (c : CursorState) → HasKept columns k c → HasKept columns k (off_row c)
   off_kept k cursor.Closed h = h
@@ -115,10 +114,19 @@ module _ (columns : TableKinds) where
       (put_like ds b.cursors f.cursor (cursor.Rows c) (cursor.Rows come.0) has at (λ k is. subst (λ (rs : List (List Value)). AreRowsOf (kinds_of_results k.columns) rs) (sym rows) is)) h.1
   come_rows ds f vs c (Err st) b d a at e has h = same ds b a has h.1
 
-  come_numbers : (ds : List DeclaredCursor) (o : Outcome (NumbersCursor × Done)) (n : ℕ) (b : State) (d : Done) (a : State) → HaveKept columns ds b.cursors → Comes (over_numbers o) n b d a → HaveKept columns ds a.cursors
-  come_numbers ds (Ok come) n b d a has h =
-      same ds (with_cursor b n (cursor.Numbers come.0)) a (put_like ds b.cursors n (cursor_at b n) (cursor.Numbers come.0) has refl (λ k is. tt)) h.1
-  come_numbers ds (Err st) n b d a has h = same ds b a has h.1
+  -- one over numbers passes no more than it has
+  number_passed : (f : Fetching) (tables : Content) (c : NumbersCursor) (come : NumbersCursor × Done) → come_to_number f tables c ≡ Ok come → come.0.passed ≤ length come.0.numbers
+  number_passed f tables c come e =
+      let next = next_number (table_at tables c.table) c in
+      let few : next.passed ≤ length next.numbers = omega arith in
+      subst (λ (x : NumbersCursor). x.passed ≤ length x.numbers) (sym (number_kept f tables c come e)) few
+
+  come_numbers : (ds : List DeclaredCursor) (f : Fetching) (c : NumbersCursor) (o : Outcome (NumbersCursor × Done)) (b : State) (d : Done) (a : State)
+      → come_to_number f b.tables c ≡ o → HaveKept columns ds b.cursors → Comes (over_numbers o) f.cursor b d a → HaveKept columns ds a.cursors
+  come_numbers ds f c (Ok come) b d a e has h =
+      same ds (with_cursor b f.cursor (cursor.Numbers come.0)) a
+      (put_like ds b.cursors f.cursor (cursor_at b f.cursor) (cursor.Numbers come.0) has refl (λ k is. number_passed f b.tables c come e)) h.1
+  come_numbers ds f c (Err st) b d a e has h = same ds b a has h.1
 
   come_walk : (ds : List DeclaredCursor) (f : Fetching) (c : WalkingCursor) (o : Outcome (WalkingCursor × Done)) (b : State) (d : Done) (a : State)
       → cursor_at b f.cursor ≡ cursor.Walking c → come_to_walk f b.tables c ≡ o → HaveKept columns ds b.cursors → Comes (over_walk o) f.cursor b d a → HaveKept columns ds a.cursors
@@ -132,7 +140,7 @@ module _ (columns : TableKinds) where
       → MayFetchFrom c f vs b d a → HaveKept columns ds a.cursors
   fetch_from ds cursor.Closed f vs b d a at has h = same ds b a has h.1
   fetch_from ds (cursor.Rows c) f vs b d a at has h = come_rows ds f vs c (come_to_row f vs c) b d a at refl has h
-  fetch_from ds (cursor.Numbers c) f vs b d a at has h = come_numbers ds (come_to_number f b.tables c) f.cursor b d a has h
+  fetch_from ds (cursor.Numbers c) f vs b d a at has h = come_numbers ds f c (come_to_number f b.tables c) b d a refl has h
   fetch_from ds (cursor.Walking c) f vs b d a at has h = come_walk ds f c (come_to_walk f b.tables c) b d a at refl has h
 
   -- ---- CLOSE
@@ -152,9 +160,9 @@ module _ (columns : TableKinds) where
   changes_if ds true Changes b a has h = changes_to ds Changes b a has h
   changes_if ds false Changes b a has h = same ds b a has h
 
-  updates_if : (ds : List DeclaredCursor) (s : Bool) (Changes : Content → Content → Type 0) (b a : State) → HaveKept columns ds b.cursors → UpdatesIf s Changes b a → HaveKept columns ds a.cursors
-  updates_if ds true Changes b a has h = go_on ds b.cursors a.cursors h.2 has
-  updates_if ds false Changes b a has h = same ds b a has h
+  updates_if : (ds : List DeclaredCursor) (s : Bool) (u : Updating) (Changes : Content → Content → Type 0) (b a : State) → HaveKept columns ds b.cursors → UpdatesIf s u Changes b a → HaveKept columns ds a.cursors
+  updates_if ds true u Changes b a has h = changes_to ds Changes (walks_listed u b) a (go_on_kept u b.tables u.cursors ds b.cursors has) h
+  updates_if ds false u Changes b a has h = same ds b a has h
 
   deletes_if : (ds : List DeclaredCursor) (s : Bool) (p : PositionedTarget) (b a : State) → HaveKept columns ds b.cursors → DeletesIf s p b a → HaveKept columns ds a.cursors
   deletes_if ds true p b a has h =
@@ -162,17 +170,17 @@ module _ (columns : TableKinds) where
       (put_like ds b.cursors p.cursor (cursor_at b p.cursor) (off_row (cursor_at b p.cursor)) has refl (λ k is. off_kept k (cursor_at b p.cursor) is)) h
   deletes_if ds false p b a has h = same ds b a has h
 
-  update_at : (ds : List DeclaredCursor) (r : Bool) (p : PositionedTarget) (b : State) (d : Done) (a : State) → HaveKept columns ds b.cursors → MayUpdateAt r p b d a → HaveKept columns ds a.cursors
-  update_at ds true p b d a has h = updates_if ds (is_success d.status) (Updates (target.Positioned p) (on_row b p)) b a has h.1
-  update_at ds false p b d a has h = same ds b a has h.1
+  update_at : (ds : List DeclaredCursor) (r : Bool) (u : Updating) (p : PositionedTarget) (b : State) (d : Done) (a : State) → HaveKept columns ds b.cursors → MayUpdateAt r u p b d a → HaveKept columns ds a.cursors
+  update_at ds true u p b d a has h = updates_if ds (is_success d.status) u (Updates (target.Positioned p) (on_row b p)) b a has h.1
+  update_at ds false u p b d a has h = same ds b a has h.1
 
   delete_at : (ds : List DeclaredCursor) (r : Bool) (p : PositionedTarget) (b : State) (d : Done) (a : State) → HaveKept columns ds b.cursors → MayDeleteAt r p b d a → HaveKept columns ds a.cursors
   delete_at ds true p b d a has h = deletes_if ds (is_success d.status) p b a has h.1
   delete_at ds false p b d a has h = same ds b a has h.1
 
-  of_update : (sc : Schemas) (ds : List DeclaredCursor) (t : ChangeTarget) (vs : List Value) (b : State) (d : Done) (a : State) → HaveKept columns ds b.cursors → MayStep sc (update_kind t) vs b d a → HaveKept columns ds a.cursors
-  of_update sc ds (target.Searched t) vs b d a has h = updates_if ds (is_success d.status) (Updates (target.Searched t) None) b a has h.1
-  of_update sc ds (target.Positioned p) vs b d a has h = update_at ds (is_on_row b p) p b d a has h
+  of_update : (sc : Schemas) (ds : List DeclaredCursor) (u : Updating) (t : ChangeTarget) (vs : List Value) (b : State) (d : Done) (a : State) → HaveKept columns ds b.cursors → MayStep sc (update_kind u t) vs b d a → HaveKept columns ds a.cursors
+  of_update sc ds u (target.Searched t) vs b d a has h = updates_if ds (is_success d.status) u (Updates (target.Searched t) None) b a has h.1
+  of_update sc ds u (target.Positioned p) vs b d a has h = update_at ds (is_on_row b p) u p b d a has h
 
   of_delete : (sc : Schemas) (ds : List DeclaredCursor) (t : ChangeTarget) (vs : List Value) (b : State) (d : Done) (a : State) → HaveKept columns ds b.cursors → MayStep sc (delete_kind t) vs b d a → HaveKept columns ds a.cursors
   of_delete sc ds (target.Searched t) vs b d a has h = changes_if ds (is_success d.status) (Deletes (target.Searched t) None) b a has h.1
@@ -199,7 +207,7 @@ module _ (columns : TableKinds) where
   kept_after sc ds user ps (statement.Close n) vs b d a has opened h = close_if ds (is_open (cursor_at b n)) n b d a has h
   kept_after sc ds user ps (statement.Select s) vs b d a has opened h = same ds b a has h.0
   kept_after sc ds user ps (statement.Insert i) vs b d a has opened h = changes_if ds (is_success d.status) (Inserts i.base) b a has h.1
-  kept_after sc ds user ps (statement.Update u) vs b d a has opened h = of_update sc ds u.target vs b d a has h
+  kept_after sc ds user ps (statement.Update u) vs b d a has opened h = of_update sc ds (updating ds u) u.target vs b d a has h
   kept_after sc ds user ps (statement.Delete t) vs b d a has opened h = of_delete sc ds t vs b d a has h
   kept_after sc ds user ps statement.Commit vs b d a has opened h = same ds (committed_state b) a (closed_kept ds b.cursors has) h.1
   kept_after sc ds user ps statement.Rollback vs b d a has opened h = same ds (rolled_back b) a (closed_kept ds b.cursors has) h.1

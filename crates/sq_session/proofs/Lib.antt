@@ -1,5 +1,6 @@
 pub mod After
 pub mod Asking
+pub mod Assigned
 pub mod Closed
 pub mod Coming
 pub mod Failed
@@ -26,3 +27,4 @@ pub mod Started
 pub mod TableWalk
 pub mod Taken
 pub mod Targets
+pub mod Unread

@@ -1,6 +1,5 @@
 -- The numbers of the rows that are left to a walk.
-use Rattle.std.proofs.Common.{◌≡◌, ◌∙◌, ℕ, ◌+◌, ◌<◌, ◌≤◌, zero, suc, Bool, true, false, nat_le, nat_lt, List, [], ◌∷◌, ◌++◌, length, get_or, arith, refl, sym, Some, None, find, filter, map, subst, ap}
-use Rattle.std.specs.List.{AllByRecursion}
+use Rattle.std.proofs.Common.{◌≡◌, ◌∙◌, ℕ, ◌+◌, ◌≤◌, Bool, true, false, nat_le, nat_lt, List, [], ◌∷◌, arith, refl, sym, Some, None, find, filter, map, subst, ap}
 use Rattle.std.proofs.lemmas.Grind.{common_steps}
 use Rattle.sq_store.specs.declared.table.Numbered.{Numbered}
 use Rattle.sq_store.specs.Content.{Content, table_at}
@@ -9,12 +8,6 @@ use Rattle.sq_store.proofs.Rises.{rows_rise_at}
 use Rattle.sq_lex.specs.declared.name.Name.{Name}
 use Rattle.sq_value.specs.declared.value.Value.{Value}
 use Rattle.sq_bound.specs.declared.condition.BoundCond.{BoundCond}
-use Rattle.sq_module.specs.declared.program.DeclaredCursor.{DeclaredCursor}
-use Rattle.sq_session.specs.Cursors.{IsLeft, numbers_left}
-use Rattle.sq_session.specs.declared.cursor.CursorState.{CursorState}
-use Rattle.sq_session.specs.declared.cursor.CursorState.TheVariants as cursor
-use Rattle.sq_session.specs.declared.walk.ListedCursor.{ListedCursor}
-use Rattle.sq_session.specs.declared.walk.WalkingCursor.{WalkingCursor}
 use Rattle.sq_session.specs.Walk.{first_meant, is_meant, numbers_meant, rows_between}
 use Rattle.sq_session.proofs.TableWalk.{rows_from_low}
 
@@ -101,18 +94,3 @@ numbers_next row_numbers content table conditions values user from mark f h e =
 pub numbers_end : (conditions : List BoundCond) (values : List Value) (user : Name) (from mark : ℕ) (rows : List Numbered)
     → first_meant conditions values user from mark rows ≡ None → numbers_meant conditions values user from mark rows ≡ []
 numbers_end conditions values user from mark rows e = ap (map (λ (r : Numbered). r.number)) (none_pass (is_meant conditions values user) (rows_between from mark rows) e)
-
--- ---- the lists that are made of walks
-
--- a list of what is left to the cursor that is declared with a number
-pub left_here : (ds : List DeclaredCursor) (tables : Content) (cs : List CursorState) (n : ℕ) (d : DeclaredCursor) (k : CursorState) (w : WalkingCursor) (numbers : List ℕ) → n < length ds → n < length cs
-    → get_or cs n k ≡ cursor.Walking w → numbers ≡ numbers_left (get_or ds n d) tables w → IsLeft ds tables cs (record { number = n; numbers = numbers })
-left_here [] tables cs n d k w numbers there here walks e = absurd (omega (arith, there))
-left_here (x ∷ ds) tables [] n d k w numbers there here walks e = absurd (omega (arith, here))
-left_here (x ∷ ds) tables (c ∷ cs) zero d k w numbers there here walks e = rw walks e
-left_here (x ∷ ds) tables (c ∷ cs) (suc n) d k w numbers there here walks e = left_here ds tables cs n d k w numbers (omega (arith, there)) (omega (arith, here)) walks e
-
-pub left_more : (ds : List DeclaredCursor) (tables : Content) (cs : List CursorState) (ls : List ListedCursor) (l : ListedCursor) → AllByRecursion (IsLeft ds tables cs) ls → IsLeft ds tables cs l
-    → AllByRecursion (IsLeft ds tables cs) (ls ++ l ∷ [])
-left_more ds tables cs [] l h k = (k, tt)
-left_more ds tables cs (x ∷ ls) l h k = (h.0, left_more ds tables cs ls l h.1 k)

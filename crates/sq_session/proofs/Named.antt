@@ -1,13 +1,15 @@
 -- Procedures by their names and numbers.
-use Rattle.std.proofs.Common.{◌≡◌, ◌&&◌, ◌+◌, ℕ, zero, suc, Bool, not, cond, List, [], ◌∷◌, length, map, nat_eq, nat_lt, position, Some, None, slice_get, Ok, Err, refl, ap, ap₂, arith}
+use Rattle.std.proofs.Common.{true, ◌≡◌, ◌&&◌, ◌+◌, ◌<◌, ℕ, zero, suc, Bool, not, cond, List, [], ◌∷◌, length, map, nat_eq, nat_lt, position, Some, None, slice_get, Ok, Err, refl, ap, ap₂, arith}
 use Rattle.std.specs.Cmp.Lexicographic.{pointwise}
 use Rattle.std.specs.List.{position_or_len}
-use Rattle.std.specs.Map.{keys_of}
+use Rattle.std.specs.Map.{keys_of, values_of}
 use Rattle.sq_lex.specs.declared.name.Name.{Name}
 use Rattle.sq_value.specs.declared.value.Value.{Value}
 use Rattle.sq_tree.specs.declared.module.ModuleText.{ModuleText}
 use Rattle.sq_model.specs.Script.{fit}
 use Rattle.sq_bound.specs.declared.fault.BindFault.{BindFault}
+use Rattle.sq_catalog.specs.Catalog.{table_number}
+use Rattle.sq_catalog.specs.declared.catalog.FullName.{FullName}
 use Rattle.sq_bound.specs.declared.statement.BoundStatement.{BoundStatement}
 use Rattle.sq_module.specs.declared.program.BoundProcedure.{BoundProcedure}
 use Rattle.sq_module.specs.declared.program.DeclaredCursor.{DeclaredCursor}
@@ -54,6 +56,18 @@ fits_are cs [] n e values h = cc
 fits_are cs (x ∷ es) zero e values h = let same : x ≡ e = cc in ap (λ (y : Entry). fit (map declared y.1.parameters) values) same
 fits_are cs (x ∷ es) (suc n) e values h = fits_are cs es n e values h
 
+-- a procedure that takes values is there
+pub fits_there : (cs : List DeclaredCursor) (es : List Entry) (n : ℕ) (values : List Value) → fits_at (procedures_of cs es) n values ≡ true → n < length es
+fits_there cs [] n values h = cc
+fits_there cs (e ∷ es) zero values h = omega arith
+fits_there cs (e ∷ es) (suc n) values h = omega (arith, fits_there cs es n values h)
+
+-- the entry of the procedure of a number
+pub entry_of : (es : List Entry) (n : ℕ) (p : BoundProcedure) → slice_get (values_of es) n ≡ Some p → (k : ProcedureName) × (slice_get es n ≡ Some (k, p))
+entry_of [] n p h = cc
+entry_of (e ∷ es) zero p h = let same : e.1 ≡ p = cc in (e.0, ap (λ (q : BoundProcedure). Some (e.0, q)) same)
+entry_of (e ∷ es) (suc n) p h = entry_of es n p h
+
 -- the names of a program's procedures are its keys
 pub names_are : (cs : List DeclaredCursor) (es : List Entry) → names_of (procedures_of cs es) ≡ keys_of es
 names_are cs [] = refl
@@ -61,5 +75,5 @@ names_are cs (e ∷ es) = ap (λ names. e.0 ∷ names) (names_are cs es)
 
 -- ---- procedures of module texts
 
-pub of_modules : (modules : List ModuleText) (p : Program) (procedures : List Procedure) → IsOfTexts modules p → procedures ≡ procedures_of p.cursors.items p.procedures.entries → AreOfModules modules procedures
-of_modules modules p procedures is_of are = record { program = p; is_of = is_of; are = are }
+pub of_modules : (tables : List FullName) (modules : List ModuleText) (p : Program) (procedures : List Procedure) → IsOfTexts (table_number tables) modules p → procedures ≡ procedures_of p.cursors.items p.procedures.entries → AreOfModules tables modules procedures
+of_modules tables modules p procedures is_of are = record { program = p; is_of = is_of; are = are }

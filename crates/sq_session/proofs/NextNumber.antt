@@ -22,12 +22,6 @@ all_gone t xs i le h =
     let short = prefix_len-le-length (λ x. not (is_there t x)) xs in
     omega (arith, h, k, le, short)
 
--- what is dropped past the end
-pub drop_min : (n : ℕ) (xs : List ℕ) → drop (min n (length xs)) xs ≡ drop n xs
-drop_min zero xs = let k : min 0 (length xs) ≡ 0 = omega arith in ap (λ m. drop m xs) k
-drop_min (suc n) [] = let k : min (suc n) 0 ≡ 0 = omega arith in ap (λ m. drop {A = ℕ} m []) k
-drop_min (suc n) (x ∷ xs) = let k : min (suc n) (suc (length xs)) ≡ suc (min n (length xs)) = omega arith in ap (λ m. drop m (x ∷ xs)) k ∙ drop_min n xs
-
 pub get_past : (xs : List ℕ) → slice_get xs (length xs) ≡ None
 get_past [] = refl
 get_past (x ∷ xs) = get_past xs
@@ -38,22 +32,22 @@ get_there (x ∷ xs) zero d lt = refl
 get_there (x ∷ xs) (suc i) d lt = get_there xs i d (omega (arith, lt))
 
 -- the numbers that are looked at are those that are left
-pub left_is : (p q : ℕ) (xs : List ℕ) → q ≡ min p (length xs) → take (length xs - q) (drop q xs) ≡ drop p xs
-left_is p q xs e = take_rest xs q ∙ ap (λ n. drop n xs) e ∙ drop_min p xs
+pub left_is : (p : ℕ) (xs : List ℕ) → take (length xs - p) (drop p xs) ≡ drop p xs
+left_is p xs = take_rest xs p
 
 -- where one is there
-pub reached : (t : Table) (all xs : List ℕ) (p q i : ℕ) → q ≡ min p (length all) → xs ≡ drop p all → i < length xs → LooksOn t xs i → is_there t (get_or xs i 0) ≡ true
-    → (slice_get (drop p all) (position_or_len (is_there t) (drop p all)) ≡ Some (get_or xs i 0)) × (min (length all) (p + position_or_len (is_there t) (drop p all) + 1) ≡ q + i + 1)
-reached t all xs p q i eq e lt h there =
+pub reached : (t : Table) (all xs : List ℕ) (p i : ℕ) → p ≤ length all → xs ≡ drop p all → i < length xs → LooksOn t xs i → is_there t (get_or xs i 0) ≡ true
+    → (slice_get (drop p all) (position_or_len (is_there t) (drop p all)) ≡ Some (get_or xs i 0)) × (min (length all) (p + position_or_len (is_there t) (drop p all) + 1) ≡ p + i + 1)
+reached t all xs p i few e lt h there =
     let at : position_or_len (is_there t) (drop p all) ≡ i = subst (λ z. position_or_len (is_there t) z ≡ i) e (found t xs i 0 lt there h) in
     let long : length xs ≡ length (drop p all) = ap length e in
     let got : slice_get xs i ≡ Some (get_or xs i 0) = get_there xs i 0 lt in
-    (ap (slice_get (drop p all)) at ∙ ap (λ z. slice_get z i) (sym e) ∙ got, omega (arith, at, eq, long, lt, length-drop p all))
+    (ap (slice_get (drop p all)) at ∙ ap (λ z. slice_get z i) (sym e) ∙ got, omega (arith, at, few, long, lt, length-drop p all))
 
 -- where none is
-pub none_there : (t : Table) (all xs : List ℕ) (p q i : ℕ) → q ≡ min p (length all) → xs ≡ drop p all → length xs ≤ i → LooksOn t xs i
+pub none_there : (t : Table) (all xs : List ℕ) (p i : ℕ) → p ≤ length all → xs ≡ drop p all → length xs ≤ i → LooksOn t xs i
     → (slice_get (drop p all) (position_or_len (is_there t) (drop p all)) ≡ None) × (min (length all) (p + position_or_len (is_there t) (drop p all) + 1) ≡ length all)
-none_there t all xs p q i eq e le h =
+none_there t all xs p i few e le h =
     let at : position_or_len (is_there t) (drop p all) ≡ length xs = subst (λ z. position_or_len (is_there t) z ≡ length xs) e (all_gone t xs i le h) in
     let long : length xs ≡ length (drop p all) = ap length e in
-    (ap (slice_get (drop p all)) (at ∙ long) ∙ get_past (drop p all), omega (arith, at, eq, long, length-drop p all))
+    (ap (slice_get (drop p all)) (at ∙ long) ∙ get_past (drop p all), omega (arith, at, few, long, length-drop p all))

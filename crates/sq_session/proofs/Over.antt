@@ -1,5 +1,5 @@
 -- Each cursor goes over what the declared one does.
-use Rattle.std.proofs.Common.{if◌then◌else◌, ◌≡◌, ◌<◌, ℕ, zero, suc, Bool, true, false, nat_eq, List, [], ◌∷◌, length, get_or, replicate, slice_index_or, slice_set, refl, ap, sym, subst, arith}
+use Rattle.std.proofs.Common.{if◌then◌else◌, ◌≡◌, ◌<◌, ℕ, zero, suc, Bool, true, false, List, [], ◌∷◌, length, get_or, replicate, slice_index_or, slice_set, refl, ap, subst, arith}
 use Rattle.std.proofs.lemmas.Bool.{eqb-true}
 use Rattle.sq_store.specs.Content.{Content}
 use Rattle.sq_bound.specs.Fits.{FitsBody, holds}
@@ -8,8 +8,8 @@ use Rattle.sq_bound.specs.declared.query.CursorBody.{CursorBody}
 use Rattle.sq_bound.specs.declared.query.CursorBody.TheVariants as body
 use Rattle.sq_module.specs.Program.{CursorsFit}
 use Rattle.sq_module.specs.declared.program.DeclaredCursor.{DeclaredCursor}
-use Rattle.sq_session.specs.Cursors.{GoOn, GoesOn, WalksOn, are_over, is_over, is_over_numbers, is_over_table, is_updatable}
-use Rattle.sq_session.specs.Kind.{Over, columns_at, columns_of, over_at, over_of}
+use Rattle.sq_session.specs.Cursors.{are_over, go_on, goes_on, is_over, is_over_numbers, is_over_table, is_updatable, listed, reads}
+use Rattle.sq_session.specs.Kind.{Over, Updating, columns_at, columns_of, over_at, over_of}
 use Rattle.sq_session.specs.State.{all_closed, off_row}
 use Rattle.sq_session.specs.declared.cursor.CursorState.{CursorState}
 use Rattle.sq_session.specs.declared.cursor.CursorState.TheVariants as cursor
@@ -134,28 +134,25 @@ pub start_over : (ds : List DeclaredCursor) → are_over ds (replicate (length d
 start_over [] = refl
 start_over (d ∷ ds) = next_over d ds cursor.Closed (replicate (length ds) cursor.Closed) refl (start_over ds)
 
-walks_on_over : (o : Over) (w : WalkingCursor) (a : CursorState) → WalksOn w a → is_over o (cursor.Walking w) ≡ true → is_over o a ≡ true
-walks_on_over o w cursor.Closed g h = absurd g
-walks_on_over o w (cursor.Rows c) g h = absurd g
-walks_on_over Over.rows w (cursor.Numbers c) g h = none h
-walks_on_over (Over.numbers t) w (cursor.Numbers c) g h = none h
-walks_on_over (Over.walk t) w (cursor.Numbers c) g h = subst (λ (x : ℕ). nat_eq t x ≡ true) (sym g.0) h
-walks_on_over o w (cursor.Walking c) g h = rw g h
+-- a list is over the table that was walked
+listed_over : (o : Over) (tables : Content) (d : DeclaredCursor) (w : WalkingCursor) (b : Bool) → is_over o (cursor.Walking w) ≡ true
+    → is_over o (if b then cursor.Numbers (listed d tables w) else cursor.Walking w) ≡ true
+listed_over o tables d w true h = as_numbers o w.table h
+listed_over o tables d w false h = h
 
-goes_on_over : (o : Over) (b a : CursorState) → GoesOn b a → is_over o b ≡ true → is_over o a ≡ true
-goes_on_over o cursor.Closed a g h = rw g h
-goes_on_over o (cursor.Rows c) a g h = rw g h
-goes_on_over o (cursor.Numbers c) a g h = rw g h
-goes_on_over o (cursor.Walking c) a g h = walks_on_over o c a g h
+goes_on_over : (u : Updating) (tables : Content) (o : Over) (d : DeclaredCursor) (c : CursorState) → is_over o c ≡ true → is_over o (goes_on u tables d c) ≡ true
+goes_on_over u tables o d cursor.Closed h = h
+goes_on_over u tables o d (cursor.Rows c) h = h
+goes_on_over u tables o d (cursor.Numbers c) h = h
+goes_on_over u tables o d (cursor.Walking c) h = listed_over o tables d c (reads u d c) h
 
-pub go_on_over : (ds : List DeclaredCursor) (xs ys : List CursorState) → GoOn xs ys → are_over ds xs ≡ true → are_over ds ys ≡ true
-go_on_over ds [] [] g h = h
-go_on_over ds [] (y ∷ ys) g h = absurd g
-go_on_over ds (x ∷ xs) [] g h = absurd g
-go_on_over [] (x ∷ xs) (y ∷ ys) g h = some_over x xs h
-go_on_over (d ∷ ds) (x ∷ xs) (y ∷ ys) g h =
-    let k = first_over d ds x xs h in
-    next_over d ds y ys (goes_on_over (over_of d.cursor.body) x y g.0 k.0) (go_on_over ds xs ys g.1 k.1)
+pub go_on_over : (u : Updating) (tables : Content) (es ds : List DeclaredCursor) (cs : List CursorState) → are_over ds cs ≡ true → are_over ds (go_on u tables es cs) ≡ true
+go_on_over u tables [] ds cs h = h
+go_on_over u tables (e ∷ es) ds [] h = h
+go_on_over u tables (e ∷ es) [] (c ∷ cs) h = some_over c cs h
+go_on_over u tables (e ∷ es) (d ∷ ds) (c ∷ cs) h =
+    let k = first_over d ds c cs h in
+    next_over d ds (goes_on u tables e c) (go_on u tables es cs) (goes_on_over u tables (over_of d.cursor.body) e c k.0) (go_on_over u tables es ds cs k.1)
 
 -- ---- the base table under an open cursor
 

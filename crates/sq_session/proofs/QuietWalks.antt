@@ -1,5 +1,5 @@
 -- The conditions of a walk answer no status, and what a declared cursor gives of that.
-use Rattle.std.proofs.Common.{◌≡◌, ◌<◌, ℕ, zero, suc, Bool, true, false, ◌&&◌, ◌++◌, nat_le, List, [], ◌∷◌, length, get_or, map, slice_get, if◌then◌else◌, Option, Some, None, Ok, Err, IfSome, refl, sym, ◌∙◌, subst, arith}
+use Rattle.std.proofs.Common.{◌≡◌, ◌<◌, ◌≤◌, ℕ, zero, suc, Bool, true, false, ◌&&◌, ◌++◌, nat_le, List, [], ◌∷◌, length, get_or, map, slice_get, if◌then◌else◌, Option, Some, None, Ok, Err, IfSome, refl, sym, ◌∙◌, subst, arith}
 use Rattle.std.proofs.lemmas.Bool.{eqb-true}
 use Rattle.std.specs.List.{AllByRecursion, list_any}
 use Rattle.sq_lex.specs.declared.name.Name.{Name}
@@ -43,6 +43,7 @@ use Rattle.sq_session.specs.Kind.{IsDeclaredAt, Over, columns_at, conditions_at,
 use Rattle.sq_session.specs.Walk.{AreRowsUnder, IsQuietWith, is_meant, no_tables}
 use Rattle.sq_session.specs.declared.cursor.CursorState.{CursorState}
 use Rattle.sq_session.specs.declared.cursor.CursorState.TheVariants as cursor
+use Rattle.sq_session.specs.declared.cursor.NumbersCursor.{NumbersCursor}
 use Rattle.sq_session.specs.declared.walk.WalkingCursor.{WalkingCursor}
 use Rattle.sq_session.proofs.Coming.{row_kinds, rows_in}
 use Rattle.sq_session.proofs.Holding.{none}
@@ -189,6 +190,12 @@ kept_here columns [] (x ∷ cs) n d c h lt = absurd h
 kept_here columns (y ∷ ds) [] n d c h lt = absurd h
 kept_here columns (y ∷ ds) (x ∷ cs) zero d c h lt = h.0
 kept_here columns (y ∷ ds) (x ∷ cs) (suc n) d c h lt = kept_here columns ds cs n d c h.1 (omega (arith, lt))
+
+-- one over numbers has passed no more than it has
+pub passed_there : (columns : TableKinds) (ds : List DeclaredCursor) (n : ℕ) (c : NumbersCursor) → is_over (over_at ds n) (cursor.Numbers c) ≡ true → HasKeptAt columns ds n (cursor.Numbers c) → c.passed ≤ length c.numbers
+passed_there columns [] n c over h = none over
+passed_there columns (d ∷ ds) zero c over h = h
+passed_there columns (d ∷ ds) (suc n) c over h = passed_there columns ds n c over h
 
 pub fits_here : (bases : List BaseTable) (ds : List DeclaredCursor) (n : ℕ) (d : DeclaredCursor) → CursorsFit bases ds → n < length ds → FitsBody bases (get_or ds n d).cursor.body
 fits_here bases [] n d fit lt = absurd (omega (arith, lt))

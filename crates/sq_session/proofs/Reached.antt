@@ -57,6 +57,13 @@ comes_to_fault f tables c columns p n row (fault.Status s) known on_is p_is ther
     comes_to f tables c p (Some n) on_is p_is ∙ ap (λ o. and_then o (λ x. Ok (record c { passed = p; on = Some n }, x))) (reply_there f (table_at tables c.table) n row columns (Err (status_of s)) known there done)
 comes_to_fault f tables c columns p n row fault.NoMemory known on_is p_is there done = tt
 
+-- it has passed numbers alone
+pub number_kept : (f : Fetching) (tables : Content) (c : NumbersCursor) (come : NumbersCursor × Done) → come_to_number f tables c ≡ Ok come → come.0 ≡ next_number (table_at tables c.table) c
+number_kept f tables c come e =
+    let next = next_number (table_at tables c.table) c in
+    let shown = bind_ok (shown_fetched f (row_on (table_at tables c.table) next.on)) (λ d. Ok (next, d)) come e in
+    sym (ap (λ (x : NumbersCursor × Done). x.0) (ok_same (next, shown.0) come (Ok (next, shown.0)) refl shown.2))
+
 -- ---- a cursor that walks
 
 -- it keeps its table and its values, and is before the same mark

@@ -8,16 +8,16 @@ use Rattle.sq_bound.specs.declared.statement.BoundStatement.TheVariants as state
 use Rattle.sq_bound.specs.declared.statement.ChangeTarget.{ChangeTarget}
 use Rattle.sq_bound.specs.declared.statement.ChangeTarget.TheVariants as target
 use Rattle.sq_module.specs.declared.program.DeclaredCursor.{DeclaredCursor}
-use Rattle.sq_session.specs.Kind.{delete_kind, kind_of, read_parameters, update_kind}
+use Rattle.sq_session.specs.Kind.{Updating, delete_kind, kind_of, read_parameters, update_kind, updating}
 use Rattle.sq_session.specs.Parameter.{started_values}
 use Rattle.sq_session.specs.Schemas.{Schemas}
 use Rattle.sq_session.specs.State.{State}
 use Rattle.sq_session.specs.Step.{MayStep}
 use Rattle.sq_session.specs.declared.reply.Done.{Done}
 
-of_update : (sc : Schemas) (t : ChangeTarget) (vs ws : List Value) (b : State) (d : Done) (a : State) → MayStep sc (update_kind t) vs b d a → MayStep sc (update_kind t) ws b d a
-of_update sc (target.Searched t) vs ws b d a h = h
-of_update sc (target.Positioned p) vs ws b d a h = h
+of_update : (sc : Schemas) (u : Updating) (t : ChangeTarget) (vs ws : List Value) (b : State) (d : Done) (a : State) → MayStep sc (update_kind u t) vs b d a → MayStep sc (update_kind u t) ws b d a
+of_update sc u (target.Searched t) vs ws b d a h = h
+of_update sc u (target.Positioned p) vs ws b d a h = h
 
 of_delete : (sc : Schemas) (t : ChangeTarget) (vs ws : List Value) (b : State) (d : Done) (a : State) → MayStep sc (delete_kind t) vs b d a → MayStep sc (delete_kind t) ws b d a
 of_delete sc (target.Searched t) vs ws b d a h = h
@@ -30,7 +30,7 @@ done_as_read sc cs user ps (statement.Fetch f) vs b d a h = h
 done_as_read sc cs user ps (statement.Close n) vs b d a h = h
 done_as_read sc cs user ps (statement.Select s) vs b d a h = h
 done_as_read sc cs user ps (statement.Insert i) vs b d a h = h
-done_as_read sc cs user ps (statement.Update u) vs b d a h = of_update sc u.target _ _ b d a h
+done_as_read sc cs user ps (statement.Update u) vs b d a h = of_update sc (updating cs u) u.target _ _ b d a h
 done_as_read sc cs user ps (statement.Delete t) vs b d a h = of_delete sc t _ _ b d a h
 done_as_read sc cs user ps statement.Commit vs b d a h = h
 done_as_read sc cs user ps statement.Rollback vs b d a h = h

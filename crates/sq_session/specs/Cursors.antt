@@ -1,12 +1,11 @@
 -- The cursors of a session: one for each that a module declares, closed or over what that one goes over (ISO/IEC 9075:1992,
 -- 4.21).
-use Rattle.std.specs.Prelude.{◌≡◌, ⊤, ℕ, Bool, true, false, ◌&&◌, nat_eq, List, [], ◌∷◌, slice_get, slice_index_or, IfSome}
-use Rattle.std.specs.List.{AllZip}
+use Rattle.std.specs.Prelude.{◌≡◌, ◌≤◌, ◌<◌, ⊤, ℕ, Bool, true, false, ◌&&◌, if◌then◌else◌, nat_eq, List, [], ◌∷◌, fold, length, slice_get, slice_set, IfSome}
+use Rattle.std.specs.List.{AllByRecursion, AllZip}
 use Rattle.sq_value.specs.declared.domain.Kind.{Kind}
 use Rattle.sq_value.specs.declared.value.Value.{Value}
 use Rattle.sq_store.specs.Content.{Content, table_at}
-use Rattle.sq_meaning.specs.Status.{well_formed}
-use Rattle.sq_meaning.specs.WellFormed.{AreRowsOf, Has, IsRowOf}
+use Rattle.sq_meaning.specs.WellFormed.{AreRowsOf, IsRowOf}
 use Rattle.sq_bound.specs.Fits.{AreInDomains, holds, keys_of_bases}
 use Rattle.sq_bound.specs.WellFormed.{IsCursor, TableKinds, kinds_of_results}
 use Rattle.sq_bound.specs.declared.names.BaseTable.{BaseTable}
@@ -14,11 +13,13 @@ use Rattle.sq_bound.specs.declared.query.BoundCursor.{BoundCursor}
 use Rattle.sq_bound.specs.declared.statement.BoundStatement.{BoundStatement}
 use Rattle.sq_bound.specs.declared.statement.BoundStatement.TheVariants as statement
 use Rattle.sq_module.specs.declared.program.DeclaredCursor.{DeclaredCursor}
-use Rattle.sq_session.specs.Kind.{Over, conditions_in, over_of}
+use Rattle.sq_session.specs.Kind.{Over, Updating, conditions_in, over_of}
+use Rattle.sq_session.specs.Reads.{one_reads}
 use Rattle.sq_session.specs.State.{State}
 use Rattle.sq_session.specs.Walk.{numbers_meant}
 use Rattle.sq_session.specs.declared.cursor.CursorState.{CursorState}
 use Rattle.sq_session.specs.declared.cursor.CursorState.TheVariants as cursor
+use Rattle.sq_session.specs.declared.cursor.NumbersCursor.{NumbersCursor}
 use Rattle.sq_session.specs.declared.walk.ListedCursor.{ListedCursor}
 use Rattle.sq_session.specs.declared.walk.WalkingCursor.{WalkingCursor}
 
@@ -74,11 +75,12 @@ pub record MayKeep (columns : TableKinds) (declared : BoundCursor) (values : Lis
   pub is_cursor : IsCursor columns parameters declared
   pub given : IsRowOf parameters values
 
--- one over rows has listed rows of the kinds of its columns; one that walks keeps the values of the parameters it was opened with
+-- one over rows has listed rows of the kinds of its columns; one over numbers has passed no more than it has; one that walks keeps
+-- the values of the parameters that it was opened with
 abbrev pub HasKept : TableKinds → BoundCursor → CursorState → Type 0
 HasKept columns declared cursor.Closed = ⊤
 HasKept columns declared (cursor.Rows c) = AreRowsOf (kinds_of_results declared.columns) c.rows
-HasKept columns declared (cursor.Numbers c) = ⊤
+HasKept columns declared (cursor.Numbers c) = c.passed ≤ length c.numbers
 HasKept columns declared (cursor.Walking c) = MayKeep columns declared c.values
 
 -- where the cursor is the one that is declared with a number
@@ -109,31 +111,35 @@ IsWhole columns bases declared s =
 abbrev pub numbers_left : DeclaredCursor → Content → WalkingCursor → List ℕ
 numbers_left d tables c = numbers_meant (conditions_in d.cursor.body) c.values d.user c.next c.mark (table_at tables c.table).rows
 
--- the list that is made for a cursor has the numbers that are left to its walk
-abbrev pub IsLeftTo : DeclaredCursor → Content → List ℕ → CursorState → Type 0
-IsLeftTo d tables numbers cursor.Closed = ⊥
-IsLeftTo d tables numbers (cursor.Rows c) = ⊥
-IsLeftTo d tables numbers (cursor.Numbers c) = ⊥
-IsLeftTo d tables numbers (cursor.Walking c) = numbers ≡ numbers_left d tables c
+-- a cursor over those numbers in place of one that walks, on the row that that one is on
+abbrev pub listed : DeclaredCursor → Content → WalkingCursor → NumbersCursor
+listed d tables c = record { table = c.table; numbers = numbers_left d tables c; passed = 0; on = c.on }
 
-abbrev pub IsLeft : List DeclaredCursor → Content → List CursorState → ListedCursor → Type 0
-IsLeft declared tables cursors l = Has (λ d. IsLeftTo d tables l.numbers (slice_index_or cursors l.number cursor.Closed)) (well_formed (slice_get declared l.number))
+-- whether one that walks goes over the base table that changes, and its conditions read what changes
+abbrev pub reads : Updating → DeclaredCursor → WalkingCursor → Bool
+reads u d c = nat_eq c.table u.base && one_reads u.assignments (conditions_in d.cursor.body)
 
--- a cursor that walks may go on over numbers, and is on the row that it was on; any other stays as it is
-abbrev pub WalksOn : WalkingCursor → CursorState → Type 0
-WalksOn c cursor.Closed = ⊥
-WalksOn c (cursor.Rows d) = ⊥
-WalksOn c (cursor.Numbers d) = (d.table ≡ c.table) × (d.on ≡ c.on)
-WalksOn c (cursor.Walking d) = d ≡ c
+-- then it goes on over the numbers; any other cursor stays as it is
+abbrev pub goes_on : Updating → Content → DeclaredCursor → CursorState → CursorState
+goes_on u tables d cursor.Closed = cursor.Closed
+goes_on u tables d (cursor.Rows c) = cursor.Rows c
+goes_on u tables d (cursor.Numbers c) = cursor.Numbers c
+goes_on u tables d (cursor.Walking c) = if reads u d c then cursor.Numbers (listed d tables c) else cursor.Walking c
 
-abbrev pub GoesOn : CursorState → CursorState → Type 0
-GoesOn cursor.Closed after = after ≡ cursor.Closed
-GoesOn (cursor.Rows c) after = after ≡ cursor.Rows c
-GoesOn (cursor.Numbers c) after = after ≡ cursor.Numbers c
-GoesOn (cursor.Walking c) after = WalksOn c after
+-- each of the cursors that these are
+abbrev pub go_on : Updating → Content → List DeclaredCursor → List CursorState → List CursorState
+go_on u tables [] cs = cs
+go_on u tables (d ∷ ds) [] = []
+go_on u tables (d ∷ ds) (c ∷ cs) = goes_on u tables d c ∷ go_on u tables ds cs
 
-abbrev pub GoOn : List CursorState → List CursorState → Type 0
-GoOn [] [] = ⊤
-GoOn [] (a ∷ after) = ⊥
-GoOn (b ∷ before) [] = ⊥
-GoOn (b ∷ before) (a ∷ after) = GoesOn b a × GoOn before after
+-- ---- lists that are made before an UPDATE, and put in place of walks after it
+
+abbrev pub put : List CursorState → ListedCursor → List CursorState
+put cursors l = slice_set cursors l.number (cursor.Numbers l.cursor)
+
+abbrev pub put_all : List CursorState → List ListedCursor → List CursorState
+put_all cursors lists = fold put cursors lists
+
+-- each is of a cursor that there is
+abbrev pub AreThere : ℕ → List ListedCursor → Type 0
+AreThere count lists = AllByRecursion (λ l. l.number < count) lists

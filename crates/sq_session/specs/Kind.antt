@@ -15,15 +15,18 @@ use Rattle.sq_bound.specs.declared.query.CursorBody.{CursorBody}
 use Rattle.sq_bound.specs.declared.query.CursorBody.TheVariants as body
 use Rattle.sq_bound.specs.declared.query.Target.{Target}
 use Rattle.sq_bound.specs.declared.query.UpdatableQuery.{UpdatableQuery}
+use Rattle.sq_bound.specs.declared.statement.BoundAssignment.{BoundAssignment}
 use Rattle.sq_bound.specs.declared.statement.BoundFetch.{BoundFetch}
 use Rattle.sq_bound.specs.declared.statement.BoundSelect.{BoundSelect}
 use Rattle.sq_bound.specs.declared.statement.BoundStatement.{BoundStatement}
 use Rattle.sq_bound.specs.declared.statement.BoundStatement.TheVariants as statement
+use Rattle.sq_bound.specs.declared.statement.BoundUpdate.{BoundUpdate}
 use Rattle.sq_bound.specs.declared.statement.ChangeTarget.{ChangeTarget}
 use Rattle.sq_bound.specs.declared.statement.ChangeTarget.TheVariants as target
 use Rattle.sq_bound.specs.declared.statement.FetchOrientation.{FetchOrientation}
 use Rattle.sq_bound.specs.declared.statement.Output.{Output}
 use Rattle.sq_bound.specs.declared.statement.PositionedTarget.{PositionedTarget}
+use Rattle.sq_change.specs.Statement.{base_of}
 use Rattle.sq_module.specs.declared.program.DeclaredCursor.{DeclaredCursor}
 use Rattle.sq_query.specs.Target.{conditions_of}
 
@@ -121,6 +124,16 @@ pub record Selecting : Type 0 where
 abbrev pub selecting : Name → List ParameterDesc → BoundSelect → Selecting
 selecting user parameters s = record { query = s.query; user = user; parameters = parameters; targets = s.outputs }
 
+-- UPDATE (13.9, 13.10): the base table that it changes, the columns that get values, and the cursors that modules declare, whose
+-- conditions may read them
+pub record Updating : Type 0 where
+  pub base : ℕ
+  pub assignments : List BoundAssignment
+  pub cursors : List DeclaredCursor
+
+abbrev pub updating : List DeclaredCursor → BoundUpdate → Updating
+updating cursors u = record { base = base_of u.target; assignments = u.assignments; cursors = cursors }
+
 -- ---- statements
 
 -- CLOSE names a cursor by its number, and INSERT a base table by its place
@@ -130,16 +143,16 @@ pub data Kind : Type 0 where
   closes : ℕ → Kind
   selects : Selecting → Kind
   inserts : ℕ → Kind
-  updates : Target → Kind
+  updates : Updating → Target → Kind
   deletes : Target → Kind
-  updates_at : PositionedTarget → Kind
+  updates_at : Updating → PositionedTarget → Kind
   deletes_at : PositionedTarget → Kind
   commits : Kind
   rolls_back : Kind
 
-abbrev pub update_kind : ChangeTarget → Kind
-update_kind (target.Searched t) = Kind.updates t
-update_kind (target.Positioned p) = Kind.updates_at p
+abbrev pub update_kind : Updating → ChangeTarget → Kind
+update_kind u (target.Searched t) = Kind.updates u t
+update_kind u (target.Positioned p) = Kind.updates_at u p
 
 abbrev pub delete_kind : ChangeTarget → Kind
 delete_kind (target.Searched t) = Kind.deletes t
@@ -152,7 +165,7 @@ kind_of cursors user parameters (statement.Fetch f) = Kind.fetches (fetching cur
 kind_of cursors user parameters (statement.Close number) = Kind.closes number
 kind_of cursors user parameters (statement.Select s) = Kind.selects (selecting user parameters s)
 kind_of cursors user parameters (statement.Insert i) = Kind.inserts i.base
-kind_of cursors user parameters (statement.Update u) = update_kind u.target
+kind_of cursors user parameters (statement.Update u) = update_kind (updating cursors u) u.target
 kind_of cursors user parameters (statement.Delete t) = delete_kind t
 kind_of cursors user parameters statement.Commit = Kind.commits
 kind_of cursors user parameters statement.Rollback = Kind.rolls_back

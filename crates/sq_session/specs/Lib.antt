@@ -5,6 +5,7 @@ pub mod Kind
 pub mod Lent
 pub mod Open
 pub mod Parameter
+pub mod Reads
 pub mod Schemas
 pub mod Session
 pub mod State

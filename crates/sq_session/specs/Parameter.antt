@@ -1,6 +1,6 @@
 -- The parameters of a call (ISO/IEC 9075:1992, 12.3).
-use Rattle.std.specs.Prelude.{◌≡◌, List, [], ◌∷◌}
-use Rattle.std.specs.List.{AllZip}
+use Rattle.std.specs.Prelude.{◌≡◌, List, map}
+use Rattle.std.specs.List.{AllZip, zip}
 use Rattle.sq_value.specs.Domain.{IsOfKind}
 use Rattle.sq_value.specs.declared.domain.Kind.{Kind}
 use Rattle.sq_value.specs.declared.value.Value.{Value}
@@ -13,11 +13,9 @@ use Rattle.sq_model.specs.Parameter.{started}
 abbrev pub declared : ParameterDesc → Declared
 declared p = record { name = p.name; domain = p.domain }
 
--- the values at which they start: what is handed in, stored; without a value, as with null
+-- the values at which they start, each with the one that is handed in for it
 abbrev pub started_values : List ParameterDesc → List Value → List Value
-started_values [] values = []
-started_values (p ∷ parameters) [] = started p.domain Null ∷ started_values parameters []
-started_values (p ∷ parameters) (v ∷ values) = started p.domain v ∷ started_values parameters values
+started_values parameters values = map (λ p. started p.0.domain p.1) (zip parameters values)
 
 -- while a call runs each parameter has a value of its kind, and not null
 abbrev pub IsGiven : Kind → Value → Type 0

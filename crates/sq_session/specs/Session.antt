@@ -4,6 +4,7 @@ use Rattle.std.specs.Cmp.Lexicographic.{pointwise}
 use Rattle.std.specs.Result.{result_map_both}
 use Rattle.sq_lex.specs.declared.name.Name.{Name}
 use Rattle.sq_tree.specs.declared.module.ModuleText.{ModuleText}
+use Rattle.sq_catalog.specs.Catalog.{table_number}
 use Rattle.sq_catalog.specs.declared.catalog.FullName.{FullName}
 use Rattle.sq_module.specs.declared.program.BoundProcedure.{BoundProcedure}
 use Rattle.sq_module.specs.declared.program.DeclaredCursor.{DeclaredCursor}
@@ -51,8 +52,8 @@ name_of p = record { «module» = p.«module»; name = p.name }
 abbrev pub names_of : List Procedure → List ProcedureName
 names_of procedures = map name_of procedures
 
--- the procedures are those of a program that is bound from these modules (12.1 and 12.3)
-pub record AreOfModules (modules : List ModuleText) (procedures : List Procedure) : Type 0 where
+-- the procedures are those of a program that is bound from these modules over base tables of these names (12.1 and 12.3)
+pub record AreOfModules (tables : List FullName) (modules : List ModuleText) (procedures : List Procedure) : Type 0 where
   pub program : Program
-  pub is_of : IsOfTexts modules program
+  pub is_of : IsOfTexts (table_number tables) modules program
   pub are : procedures ≡ procedures_of program.cursors.items program.procedures.entries

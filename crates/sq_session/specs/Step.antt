@@ -25,9 +25,9 @@ use Rattle.sq_query.specs.Table.{AreMeant}
 use Rattle.sq_expression.specs.declared.fault.Fault.{Fault}
 use Rattle.sq_expression.specs.declared.fault.Fault.TheVariants as fault
 use Rattle.sq_model.specs.Machine.{single_row}
-use Rattle.sq_session.specs.Cursors.{GoOn}
+use Rattle.sq_session.specs.Cursors.{go_on}
 use Rattle.sq_session.specs.Fetch.{come_to_number, come_to_row, come_to_walk, over_numbers, over_rows, over_walk}
-use Rattle.sq_session.specs.Kind.{Fetching, Kind, Opening, Selecting, read_parameters}
+use Rattle.sq_session.specs.Kind.{Fetching, Kind, Opening, Selecting, Updating, read_parameters}
 use Rattle.sq_session.specs.Open.{IsMeantIfAny, IsOpenOver}
 use Rattle.sq_session.specs.Parameter.{started_values}
 use Rattle.sq_session.specs.Schemas.{Schemas}
@@ -130,13 +130,16 @@ ChangesIf false Changes before after = after ≡ before
 abbrev pub MayChange : (Content → Content → Type 0) → State → Done → State → Type 0
 MayChange Changes before d after = (d.outputs ≡ []) × ChangesIf (is_success d.status) Changes before after
 
--- an UPDATE may also let cursors that walk go on over numbers
-abbrev pub UpdatesIf : Bool → (Content → Content → Type 0) → State → State → Type 0
-UpdatesIf true Changes before after = (after ≡ record before { tables = after.tables; cursors = after.cursors }) × Changes before.tables after.tables × GoOn before.cursors after.cursors
-UpdatesIf false Changes before after = after ≡ before
+-- cursors that walk and read what an UPDATE changes go on over the numbers that were left to them before it
+abbrev pub walks_listed : Updating → State → State
+walks_listed u s = record s { cursors = go_on u s.tables u.cursors s.cursors }
 
-abbrev pub MayUpdate : (Content → Content → Type 0) → State → Done → State → Type 0
-MayUpdate Changes before d after = (d.outputs ≡ []) × UpdatesIf (is_success d.status) Changes before after
+abbrev pub UpdatesIf : Bool → Updating → (Content → Content → Type 0) → State → State → Type 0
+UpdatesIf true u Changes before after = ChangesTo Changes (walks_listed u before) after
+UpdatesIf false u Changes before after = after ≡ before
+
+abbrev pub MayUpdate : Updating → (Content → Content → Type 0) → State → Done → State → Type 0
+MayUpdate u Changes before d after = (d.outputs ≡ []) × UpdatesIf (is_success d.status) u Changes before after
 
 -- whether the cursor is on a row that is there
 abbrev pub is_on_row : State → PositionedTarget → Bool
@@ -156,9 +159,9 @@ abbrev pub number_meant : State → ChangeTarget → Option ℕ
 number_meant s (target.Searched t) = None
 number_meant s (target.Positioned p) = on_row s p
 
-abbrev pub MayUpdateAt : Bool → PositionedTarget → State → Done → State → Type 0
-MayUpdateAt true p before d after = MayUpdate (Updates (target.Positioned p) (on_row before p)) before d after
-MayUpdateAt false p before d after = Refuses status.InvalidCursorState before d after
+abbrev pub MayUpdateAt : Bool → Updating → PositionedTarget → State → Done → State → Type 0
+MayUpdateAt true u p before d after = MayUpdate u (Updates (target.Positioned p) (on_row before p)) before d after
+MayUpdateAt false u p before d after = Refuses status.InvalidCursorState before d after
 
 -- a positioned DELETE takes its cursor off the row
 abbrev pub DeletesIf : Bool → PositionedTarget → State → State → Type 0
@@ -181,9 +184,9 @@ MayStep s (Kind.fetches f) values before d after = MayFetch f values before d af
 MayStep s (Kind.closes number) values before d after = MayClose number before d after
 MayStep s (Kind.selects select) values before d after = (after ≡ before) × Selects s select values before.tables d
 MayStep s (Kind.inserts base) values before d after = MayChange (Inserts base) before d after
-MayStep s (Kind.updates t) values before d after = MayUpdate (Updates (target.Searched t) None) before d after
+MayStep s (Kind.updates u t) values before d after = MayUpdate u (Updates (target.Searched t) None) before d after
 MayStep s (Kind.deletes t) values before d after = MayChange (Deletes (target.Searched t) None) before d after
-MayStep s (Kind.updates_at p) values before d after = MayUpdateAt (is_on_row before p) p before d after
+MayStep s (Kind.updates_at u p) values before d after = MayUpdateAt (is_on_row before p) u p before d after
 MayStep s (Kind.deletes_at p) values before d after = MayDeleteAt (is_on_row before p) p before d after
 MayStep s Kind.commits values before d after = Ends (committed_state before) d after
 MayStep s Kind.rolls_back values before d after = Ends (rolled_back before) d after
@@ -196,8 +199,8 @@ EndsRight d = IsNoSyntaxError d.status
 abbrev pub HasTables : Schemas → Content → Type 0
 HasTables s tables = (user : Name) → (shown : TablePlace → Outcome (List Row)) × AreMeant s.views tables user shown
 
--- The call of a procedure that hands in these values. A statement with a fault, and a procedure that is not there, end with 42000 and
--- change nothing; a statement without a fault does not end so.
+-- The call of a procedure that hands in these values. A statement with a fault ends with 42000 and changes nothing; one without a fault
+-- does not end so.
 abbrev pub MayCall : Schemas → Option Kind → List Value → State → Done → State → Type 0
 MayCall s None values before d after = Refuses status.SyntaxErrorOrAccessRuleViolation before d after
 MayCall s (Some k) values before d after = MayStep s k (started_values (read_parameters k) values) before d after × EndsRight d × HasTables s before.tables

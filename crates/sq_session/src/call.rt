@@ -1,15 +1,16 @@
 //! A call: a procedure's statement with the values that are handed in (ISO/IEC 9075:1992, 12.3).
 
-ghost use Rattle.std.specs.Prelude.{◌≡◌, false, length, IfOk, IfSome, IsSome, None, OnErr, Some, true};
+ghost use Rattle.std.specs.Prelude.{◌≡◌, false, length, map, IfOk, IfSome, IsSome, None, OnErr, Some, true};
 ghost use Rattle.sq_bound.specs.Fits.{AreInDomains, FitsStatement, holds};
 ghost use Rattle.sq_bound.specs.WellFormed.{kinds_of_parameters};
 ghost use Rattle.sq_catalog.specs.Catalog.{column_kinds};
 ghost use Rattle.sq_module.specs.Program.{CursorsAreWellFormed, CursorsFit, FitsProgram, ProgramIsWellFormed};
 ghost use Rattle.sq_expression.specs.declared.fault.Fault.TheVariants as fault;
+ghost use Rattle.sq_model.specs.Script.{fit};
 ghost use Rattle.sq_session.specs.Asked.{IsAsked};
 ghost use Rattle.sq_session.specs.Cursors.{IsWhole, OpenHaveKept};
-ghost use Rattle.sq_session.specs.Kind.{kind_at, kind_of, needs_memory, takes_memory};
-ghost use Rattle.sq_session.specs.Parameter.{AreGiven, started_values};
+ghost use Rattle.sq_session.specs.Kind.{fits_at, kind_at, kind_of, needs_memory, takes_memory};
+ghost use Rattle.sq_session.specs.Parameter.{AreGiven, declared, started_values};
 ghost use Rattle.sq_session.specs.Schemas.{schemas_of};
 ghost use Rattle.sq_session.specs.Session.{procedures_of};
 ghost use Rattle.sq_session.specs.Step.{EndsRight, MayCall, MayStep, ending};
@@ -38,6 +39,7 @@ pub(crate) fn call<S: Store>(
 ) -> Result<Done, Fault>
     requires fits { FitsProgram catalog.now.bases program.now }
     requires well_formed { ProgramIsWellFormed (column_kinds catalog.now) program.now }
+    requires values_fit { fits_at (procedures_of program.now.cursors.items program.now.procedures.entries) procedure values.now ≡ true }
     requires whole { IsWhole (column_kinds catalog.now) catalog.now.bases program.now.cursors.items machine.old }
     ensures step { IfSome (ending result) (λ d.
         MayCall (schemas_of catalog.now) (kind_at (procedures_of program.now.cursors.items program.now.procedures.entries) procedure) values.now machine.old d machine.new) }
@@ -45,9 +47,7 @@ pub(crate) fn call<S: Store>(
     ensures err { OnErr result (machine.new ≡ machine.old) }
     ensures memory { needs_memory (kind_at (procedures_of program.now.cursors.items program.now.procedures.entries) procedure) ≡ false → IsSome (ending result) }
 {
-    let Some((_, procedure)) = program.procedures.get_index(procedure) else {
-        return Err(Fault::NOT_WELL_FORMED);
-    };
+    let procedure = &program.procedures[procedure];
     match &procedure.statement {
         Ok(statement) => performed(
             alloc, catalog, program, procedure, statement, values, machine, meter,
@@ -72,6 +72,7 @@ fn performed<S: Store>(
     requires asked { IsAsked (column_kinds catalog.now) program.now.cursors.items (kinds_of_parameters procedure.now.parameters) statement.now }
     requires fit { CursorsFit catalog.now.bases program.now.cursors.items }
     requires well_formed { CursorsAreWellFormed (column_kinds catalog.now) program.now.cursors.items }
+    requires values_fit { fit (map declared procedure.now.parameters) values.now ≡ true }
     requires whole { IsWhole (column_kinds catalog.now) catalog.now.bases program.now.cursors.items machine.old }
     ensures rows { holds catalog.now.bases machine.new.tables ≡ true }
     ensures in_domains { AreInDomains catalog.now.bases machine.new.tables }
@@ -108,6 +109,7 @@ fn with_values<S: Store>(
     requires asked { IsAsked (column_kinds catalog.now) program.now.cursors.items (kinds_of_parameters procedure.now.parameters) statement.now }
     requires fit { CursorsFit catalog.now.bases program.now.cursors.items }
     requires well_formed { CursorsAreWellFormed (column_kinds catalog.now) program.now.cursors.items }
+    requires values_fit { fit (map declared procedure.now.parameters) values.now ≡ true }
     requires whole { IsWhole (column_kinds catalog.now) catalog.now.bases program.now.cursors.items machine.old }
     requires memory { takes_memory (kind_of program.now.cursors.items procedure.now.user procedure.now.parameters statement.now) ≡ true }
     ensures rows { holds catalog.now.bases machine.new.tables ≡ true }

@@ -1,6 +1,6 @@
 //! Cursors, and the place that a FETCH reaches (ISO/IEC 9075:1992, 4.21 and 13.3).
 
-ghost use Rattle.std.specs.Prelude.{◌≡◌, ◌<◌, ◌^◌, IfSome, length, MatchOption, None, Ok, Some, option_copied};
+ghost use Rattle.std.specs.Prelude.{◌≡◌, ◌≤◌, ◌<◌, ◌^◌, IfSome, length, MatchOption, None, Ok, Some, option_copied};
 ghost use Rattle.sq_model.specs.Cursor.{bounded, row_at as row_of};
 ghost use Rattle.sq_store.specs.Content.{table_at};
 ghost use Rattle.sq_session.specs.State.{next_number, number_on};
@@ -30,7 +30,7 @@ pub struct NumbersCursor {
     /// The place of the base table.
     pub table: usize,
     pub numbers: Items<u64>,
-    /// How many of them are passed.
+    /// How many of them are passed; no more than there are.
     pub passed: usize,
     /// The number that the cursor is on.
     pub on: Option<u64>,
@@ -143,17 +143,17 @@ pub(crate) fn next_there<'a, S: Store>(
     cursor: &NumbersCursor,
     meter: &mut Meter,
 ) -> Option<Reached<'a>>
-    requires { cursor.now.table < length (S.content_now store.now) }
+    requires there { cursor.now.table < length (S.content_now store.now) }
+    requires passed { cursor.now.passed ≤ length cursor.now.numbers }
     ensures row { IfSome result (λ r. row_on (table_at (S.content_now store.now) cursor.now.table) (Some r.number) ≡ Some r.row.now) }
     ensures next { let next = next_number (table_at (S.content_now store.now) cursor.now.table) cursor.now in
         MatchOption result ((next.on ≡ None) × (next.passed ≡ length cursor.now.numbers)) (λ r. (next.on ≡ Some r.number) × (next.passed ≡ r.passed)) }
 {
-    let numbers = cursor.numbers.as_slice();
-    let passed = cursor.passed.min(numbers.len());
-    for (place, number) in numbers[passed..].iter().enumerate() {
+    let left = &cursor.numbers.as_slice()[cursor.passed..];
+    for (place, number) in left.iter().enumerate() {
         if let Some(row) = store.row(cursor.table, *number, meter) {
             return Some(Reached {
-                passed: passed + place + 1,
+                passed: cursor.passed + place + 1,
                 number: *number,
                 row,
             });

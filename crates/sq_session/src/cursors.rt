@@ -1,11 +1,11 @@
 //! The cursors of a session, by their numbers.
 
 ghost use Rattle.std.specs.Prelude.{◌≡◌, ◌<◌, length, replicate, slice_index_or, slice_set, IfOk};
-ghost use Rattle.sq_session.specs.Cursors.{GoOn};
+ghost use Rattle.sq_session.specs.Cursors.{AreThere, put_all};
 ghost use Rattle.sq_session.specs.State.{all_closed, off_row};
 
 use crate::cursor::CursorState;
-use crate::walk::{ListedCursor, list_walk};
+use crate::walk::ListedCursor;
 use std::alloc::{AllocError, Global};
 
 /// So many closed cursors.
@@ -47,24 +47,12 @@ fn off_row(cursor: &mut CursorState)
     }
 }
 
-/// Turns walks into cursors over the lists of numbers that were made of them.
-#[tactic(auto, using(crate::proofs::GoOn::go_on_none, crate::proofs::GoOn::go_on_then))]
-pub(crate) fn put_lists(cursors: &mut [CursorState], listed: Vec<ListedCursor>)
-    ensures { GoOn cursors.old cursors.new }
+/// Puts cursors over lists in place of those that walk.
+pub(crate) fn put_lists(cursors: &mut [CursorState], lists: Vec<ListedCursor>)
+    requires { AreThere (length cursors.old) lists.items }
+    ensures { cursors.new ≡ put_all cursors.old lists.items }
 {
-    for one in listed {
-        put_list(cursors, one);
-    }
-}
-
-#[tactic(auto, using(crate::proofs::GoOn::go_on_none, crate::proofs::GoOn::go_on_put))]
-fn put_list(cursors: &mut [CursorState], listed: ListedCursor)
-    ensures { GoOn cursors.old cursors.new }
-{
-    let ListedCursor { number, numbers } = listed;
-    if number < cursors.len() {
-        list_walk(&mut cursors[number], numbers);
-    } else {
-        drop(numbers);
+    for list in lists {
+        cursors[list.number] = CursorState::Numbers(list.cursor);
     }
 }

@@ -1,6 +1,6 @@
 //! FETCH (ISO/IEC 9075:1992, 13.3).
 
-ghost use Rattle.std.specs.Prelude.{◌≡◌, ◌<◌, length, true, IfOk, IfSome, OnErr};
+ghost use Rattle.std.specs.Prelude.{◌≡◌, ◌≤◌, ◌<◌, length, true, IfOk, IfSome, OnErr};
 ghost use Rattle.sq_value.specs.Key.{in_columns};
 ghost use Rattle.sq_bound.specs.Fits.{AreInDomains, are_parameters, holds};
 ghost use Rattle.sq_bound.specs.Names.{are_positions};
@@ -125,6 +125,7 @@ fn fetch_number<S: Store>(
     requires fit { CursorsFit called.now.catalog.now.bases called.now.cursors.now }
     requires rows { holds called.now.catalog.now.bases (S.content_now store.now) ≡ true }
     requires taken { MayTakeShown (fetching called.now.cursors.now called.now.procedure.now.user called.now.procedure.now.parameters fetch.now) (table_at (S.content_now store.now) cursor.old.table) }
+    requires passed { cursor.old.passed ≤ length cursor.old.numbers }
     ensures comes { HasCome result cursor.new (come_to_number (fetching called.now.cursors.now called.now.procedure.now.user called.now.procedure.now.parameters fetch.now) (S.content_now store.now) cursor.old) }
     ensures err { OnErr result (cursor.new ≡ cursor.old) }
     ensures right { IfSome (ending result) EndsRight }

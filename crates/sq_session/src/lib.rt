@@ -6,7 +6,7 @@
 //! its catalog, and its tables have rows for the base tables. Its cursors and statements are well formed, each of its parameters
 //! has a value of its kind while a call runs, and the rows that an open cursor has listed are of the kinds of its columns. So no
 //! statement sets a text parameter from a number, has more or fewer targets than a row has values, or fetches by a
-//! parameter that is no number; and a call answers 42000 exactly where its procedure has a fault or is not there.
+//! parameter that is no number; and a call answers 42000 exactly where its procedure has a fault.
 #![tactic(auto)]
 
 mod call;

@@ -13,7 +13,7 @@ ghost use Rattle.sq_expression.specs.declared.fault.Failure.TheVariants as failu
 ghost use Rattle.sq_expression.specs.declared.fault.Fault.TheVariants as fault;
 ghost use Rattle.sq_session.specs.Cursors.{HaveKept, IsWhole};
 ghost use Rattle.sq_session.specs.Fetch.{IsFetch};
-ghost use Rattle.sq_session.specs.Kind.{delete_kind, fetching, opening, selecting, update_kind};
+ghost use Rattle.sq_session.specs.Kind.{delete_kind, fetching, opening, selecting, update_kind, updating};
 ghost use Rattle.sq_session.specs.Parameter.{AreGiven};
 ghost use Rattle.sq_session.specs.Schemas.{schemas_of};
 ghost use Rattle.sq_session.specs.State.{committed_state, rolled_back};
@@ -249,12 +249,12 @@ impl<S: Store> Machine<S> {
         requires whole { IsWhole (column_kinds called.now.catalog.now) called.now.catalog.now.bases called.now.cursors.now self.old }
         ensures rows { holds called.now.catalog.now.bases self.new.tables ≡ true }
         ensures in_domains { AreInDomains called.now.catalog.now.bases self.new.tables }
-        ensures step { IfSome (ending result) (λ d. MayStep (schemas_of called.now.catalog.now) (update_kind statement.now.target) called.now.values.now self.old d self.new) }
+        ensures step { IfSome (ending result) (λ d. MayStep (schemas_of called.now.catalog.now) (update_kind (updating called.now.cursors.now statement.now) statement.now.target) called.now.values.now self.old d self.new) }
         ensures right { IfSome (ending result) EndsRight }
         ensures err { OnErr result (self.new ≡ self.old) }
     {
         let on = self.current(called, &statement.target)?;
-        let listed = listed_walks(called, statement, self.cursors.as_slice(), &self.store)?;
+        let lists = listed_walks(called, statement, self.cursors.as_slice(), &self.store)?;
         let updated = update(
             called.alloc,
             called.catalog,
@@ -266,11 +266,11 @@ impl<S: Store> Machine<S> {
         );
         match updated {
             Ok(()) => {
-                put_lists(self.cursors.as_mut_slice(), listed);
+                put_lists(self.cursors.as_mut_slice(), lists);
                 Ok(Done::successful(called.alloc))
             }
             Err(fault) => {
-                drop(listed);
+                drop(lists);
                 Err(fault)
             }
         }

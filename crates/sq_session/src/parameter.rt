@@ -1,8 +1,7 @@
 //! The parameters of a call: which values they take, and at which they start (ISO/IEC 9075:1992, 12.3).
 
-ghost use Rattle.std.specs.Prelude.{◌≡◌, ◌==◌, false, map, IfOk};
+ghost use Rattle.std.specs.Prelude.{◌≡◌, ◌==◌, false, true, map, IfOk};
 ghost use Rattle.std.specs.List.{list_all};
-ghost use Rattle.sq_value.specs.Domain.{FitsKind};
 ghost use Rattle.sq_value.specs.Memory.{takes_memory};
 ghost use Rattle.sq_value.specs.Text.{only_blanks_past};
 ghost use Rattle.sq_model.specs.Parameter.{started};
@@ -70,57 +69,39 @@ fn are_blanks(codes: &[u8]) -> bool
     codes.iter().all(|code| *code == b' ')
 }
 
-/// The values at which the parameters start: what is handed in, stored; without a value, as with null.
-#[tactic(auto, using(crate::proofs::Started::started_first, crate::proofs::Started::started_next, crate::proofs::Started::started_missing, crate::proofs::Started::started_all, crate::proofs::Started::given_all))]
+/// The values at which the parameters start.
 pub(crate) fn started_values(
     alloc: Global,
     parameters: &[ParameterDesc],
     values: &[Value],
 ) -> Result<Items<Value>, AllocError>
+    requires { fit (map declared parameters.now) values.now ≡ true }
     ensures started { IfOk result (λ started. started ≡ started_values parameters.now values.now) }
     ensures given { IfOk result (AreGiven (kinds_of_parameters parameters.now)) }
 {
     let mut started = Items::new(alloc);
-    for (place, parameter) in parameters.iter().enumerate() {
-        match values.get(place) {
-            Some(value) => started.push(started_value(alloc, *parameter, value)?)?,
-            None => started.push(start_value(alloc, parameter.domain)?)?,
-        }
+    for (parameter, value) in parameters.iter().zip(values) {
+        started.push(started_value(alloc, *parameter, value)?)?;
     }
     Ok(started)
 }
 
-/// Null starts a parameter at zero, at blanks or at the empty text (own rule).
-#[tactic(auto, using(crate::proofs::Started::starts_null, crate::proofs::Started::starts_unfit))]
+/// What is handed in, stored; null starts a parameter at zero, at blanks or at the empty text (own rule).
+#[tactic(auto, using(crate::proofs::Started::starts_null, crate::proofs::Started::starts_stored, crate::proofs::Fitting::kind_fits, crate::proofs::Fitting::is_stored))]
 fn started_value(
     alloc: Global,
     parameter: ParameterDesc,
     value: &Value,
 ) -> Result<Value, AllocError>
+    requires { fits_in parameter.domain value.now ≡ true }
     ensures { IfOk result (λ v. v ≡ started parameter.domain value.now) }
 {
     match value {
         Value::Null => start_value(alloc, parameter.domain),
-        _ if fits_kind(parameter.domain, value) => stored_or_first(alloc, parameter, value),
-        _ => start_value(alloc, parameter.domain),
-    }
-}
-
-/// What is handed in, stored; where it can't be, what null starts the parameter at.
-#[tactic(auto, using(crate::proofs::Started::starts_stored, crate::proofs::Started::starts_range, crate::proofs::Started::starts_too_long))]
-fn stored_or_first(
-    alloc: Global,
-    parameter: ParameterDesc,
-    value: &Value,
-) -> Result<Value, AllocError>
-    requires kind { FitsKind parameter.domain value.now }
-    requires given { ¬ (value.now ≡ Value.Null) }
-    ensures { IfOk result (λ v. v ≡ started parameter.domain value.now) }
-{
-    match store(alloc, value, parameter.domain) {
-        Ok(stored) => Ok(stored),
-        Err(StoreFault::Range) => start_value(alloc, parameter.domain),
-        Err(StoreFault::TooLong) => start_value(alloc, parameter.domain),
-        Err(StoreFault::NoMemory) => Err(AllocError),
+        _ => match store(alloc, value, parameter.domain) {
+            Ok(stored) => Ok(stored),
+            Err(StoreFault::NoMemory) => Err(AllocError),
+            Err(StoreFault::Range | StoreFault::TooLong) => unreachable!(),
+        },
     }
 }

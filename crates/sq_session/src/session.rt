@@ -41,12 +41,14 @@ pub struct Session<S: Store> {
 
 impl<S: Store> Model for Session<S> {
     ghost use Rattle.std.specs.Coded.{codes};
+    ghost use Rattle.std.specs.Prelude.{◌≡◌, length};
     ghost use Rattle.sq_bound.specs.contracts.condition.BoundCond as condition;
     ghost use Rattle.sq_bound.specs.contracts.condition.BoundSpecification as specification;
     ghost use Rattle.sq_bound.specs.contracts.condition.Predicate as predicate;
     ghost use Rattle.sq_bound.specs.contracts.expression.BoundExpr as expression;
     ghost use Rattle.sq_bound.specs.contracts.names.BaseColumn as column;
     ghost use Rattle.sq_bound.specs.contracts.names.BaseTable as base;
+    ghost use Rattle.sq_bound.specs.contracts.names.ObjectColumn as object;
     ghost use Rattle.sq_bound.specs.contracts.names.ParameterDesc as parameter;
     ghost use Rattle.sq_bound.specs.contracts.query.BoundQuery as query;
     ghost use Rattle.sq_bound.specs.contracts.query.BoundTerm as term;
@@ -58,11 +60,11 @@ impl<S: Store> Model for Session<S> {
 
     ghost Value = { Session };
 
-    ghost coded = { Prim.hlevel (codes, base.the_row.coded, parameter.the_row.coded, column.the_row.coded, condition.the_row.coded, predicate.the_row.coded, specification.the_row.coded, expression.the_row.coded, query.the_row.coded, term.the_row.coded) };
+    ghost coded = { Prim.hlevel (codes, base.the_row.coded, parameter.the_row.coded, object.the_row.coded, column.the_row.coded, condition.the_row.coded, predicate.the_row.coded, specification.the_row.coded, expression.the_row.coded, query.the_row.coded, term.the_row.coded) };
 
     ghost view = { λ s. record { procedures = procedures_of s.program.cursors.items s.program.procedures.entries; tables = s.catalog.tables; schemas = schemas_of s.catalog; state = s.machine } };
 
-    ghost invariant = { λ s. FitsProgram s.catalog.bases s.program × ProgramIsWellFormed (column_kinds s.catalog) s.program × IsWhole (column_kinds s.catalog) s.catalog.bases s.program.cursors.items s.machine };
+    ghost invariant = { λ s. (length s.catalog.bases ≡ length s.catalog.tables) × FitsProgram s.catalog.bases s.program × ProgramIsWellFormed (column_kinds s.catalog) s.program × IsWhole (column_kinds s.catalog) s.catalog.bases s.program.cursors.items s.machine };
 }
 
 impl<S: Store> Session<S> {
@@ -78,9 +80,10 @@ impl<S: Store> Session<S> {
         requires tables { AreInDomains catalog.bases (S.content_now store) }
         requires committed { AreInDomains catalog.bases (S.committed store) }
         requires keys { S.key_columns store ≡ keys_of_bases catalog.bases }
+        requires bases { length catalog.bases ≡ length catalog.tables }
         ensures start { IfOk result (λ s. (s.state.tables ≡ S.content_now store) × (s.state.committed ≡ S.committed store) × AreClosed s.state.cursors) }
         ensures procedures { IfOk result (λ s. names_of s.procedures ≡ declared_procedures modules.now) }
-        ensures written { IfOk result (λ s. AreOfModules modules.now s.procedures) }
+        ensures written { IfOk result (λ s. AreOfModules catalog.tables modules.now s.procedures) }
         ensures tables { IfOk result (λ s. s.tables ≡ catalog.tables) }
         ensures schemas { IfOk result (λ s. s.schemas ≡ schemas_of catalog) }
         ensures refused { IfErr result (IsOfSomeModule (length modules.now)) }
@@ -108,6 +111,7 @@ impl<S: Store> Session<S> {
         requires tables { AreInDomains catalog.bases (S.content_now store) }
         requires committed { AreInDomains catalog.bases (S.committed store) }
         requires keys { S.key_columns store ≡ keys_of_bases catalog.bases }
+        requires bases { length catalog.bases ≡ length catalog.tables }
         ensures start { IfOk result (λ s. (s.state.tables ≡ S.content_now store) × (s.state.committed ≡ S.committed store) × AreClosed s.state.cursors) }
         ensures procedures { IfOk result (λ s. names_of s.procedures ≡ keys_of program.procedures.entries) }
         ensures program { IfOk result (λ s. s.procedures ≡ procedures_of program.cursors.items program.procedures.entries) }
@@ -159,9 +163,8 @@ impl<S: Store> Session<S> {
     }
 
     /// Makes one call of the procedure with this number, with these values for its named parameters in the order in
-    /// which they are declared. Without such a procedure, or where its statement has a fault, the status is 42000. A
-    /// parameter without a value, or with one that it can't store, starts as with null; values past the last parameter are
-    /// not read. Where memory runs out the session is as it was.
+    /// which they are declared. Where its statement has a fault the status is 42000. Where memory runs out the session is as
+    /// it was.
     #[tactic(auto, using(crate::proofs::Failed::kept_by_failure))]
     pub fn call(
         &mut self,
@@ -169,6 +172,7 @@ impl<S: Store> Session<S> {
         procedure: usize,
         values: &[Value],
     ) -> Result<Reply, AllocError>
+        requires fits { fits_at self.old.procedures procedure values.now ≡ true }
         ensures step { IfOk result (λ r.
             MayCall self.old.schemas (kind_at self.old.procedures procedure) values.now self.old.state (record { status = r.status; outputs = r.outputs }) self.new.state) }
         ensures kept { IfOk result (λ r. is_success r.status ≡ false → self.new.state.tables ≡ self.old.state.tables) }
@@ -199,15 +203,13 @@ impl<S: Store> Session<S> {
         self.catalog.base(user, name)
     }
 
-    /// The rows of the base table at a place, as they are now, with their numbers; none where there is no such table.
+    /// The rows of the base table at a place, as they are now, with their numbers.
+    #[tactic(auto, using(crate::proofs::Holding::as_many_tables))]
     pub fn rows(&self, alloc: Global, table: usize) -> Result<Vec<(u64, &Row)>, AllocError>
+        requires { table < length self.now.tables }
         ensures { IfOk result (λ rows. map lent rows.items ≡ (table_at self.now.state.tables table).rows) }
     {
-        let store = &self.machine.store;
-        if table >= store.table_count() {
-            return Ok(Vec::new(alloc));
-        }
-        rows_of(alloc, store, table)
+        rows_of(alloc, &self.machine.store, table)
     }
 }
 
@@ -219,7 +221,7 @@ fn program_of(
     modules: &[ModuleText],
 ) -> Result<Program, SessionFault>
     ensures procedures { IfOk result (λ program. keys_of program.procedures.entries ≡ declared_procedures modules.now) }
-    ensures written { IfOk result (IsOfTexts modules.now) }
+    ensures written { IfOk result (IsOfTexts (table_number catalog.now.tables) modules.now) }
     ensures fits { IfOk result (λ program. FitsProgram catalog.now.bases program) }
     ensures well_formed { IfOk result (ProgramIsWellFormed (column_kinds catalog.now)) }
     ensures refused { IfErr result (IsOfSomeModule (length modules.now)) }

@@ -3,8 +3,8 @@
 //! Such a cursor means the same rows as a list of their numbers made at OPEN, as long as no UPDATE changes what its
 //! conditions read. So the rows that are left are listed before an UPDATE of a column that they read.
 
-ghost use Rattle.std.specs.Prelude.{◌≡◌, ◌≤◌, ◌<◌, ℕ, length, true, Some, IfOk, IfSome, option_map};
-ghost use Rattle.std.specs.List.{AllByRecursion};
+ghost use Rattle.std.specs.Prelude.{◌≡◌, ◌&&◌, ◌≤◌, ◌<◌, ℕ, length, nat_eq, true, Some, IfOk, IfSome, option_map};
+ghost use Rattle.std.specs.Bool.{then_some};
 ghost use Rattle.sq_bound.specs.Fits.{AreInDomains, FitsBody, holds};
 ghost use Rattle.sq_bound.specs.WellFormed.{base_kinds};
 ghost use Rattle.sq_catalog.specs.Catalog.{column_kinds};
@@ -12,16 +12,18 @@ ghost use Rattle.sq_meaning.specs.WellFormed.{IsRowOf};
 ghost use Rattle.sq_query.specs.Table.{numbered_row};
 ghost use Rattle.sq_query.specs.Target.{conditions_of};
 ghost use Rattle.sq_module.specs.Program.{CursorsFit};
-ghost use Rattle.sq_session.specs.Kind.{over_of};
+ghost use Rattle.sq_change.specs.Statement.{base_of};
+ghost use Rattle.sq_session.specs.Kind.{over_of, updating};
 ghost use Rattle.sq_store.specs.Content.{table_at};
-ghost use Rattle.sq_session.specs.Cursors.{GoesOn, HaveKept, IsLeft, MayKeep, are_over, is_over, numbers_left};
+ghost use Rattle.sq_session.specs.Cursors.{AreThere, HaveKept, MayKeep, are_over, go_on, is_over, listed, put_all, reads};
 ghost use Rattle.sq_session.specs.Fetch.{row_on};
+ghost use Rattle.sq_session.specs.Reads.{one_reads};
 ghost use Rattle.sq_session.specs.Open.{walk_before};
 ghost use Rattle.sq_session.specs.Walk.{AreRowsUnder, IsQuietWith, first_meant, is_meant, numbers_meant};
 
 use crate::called::Called;
 use crate::cursor::{CursorState, NumbersCursor};
-use crate::reads::reads_assigned;
+use crate::reads::target_reads;
 use sq_bound::{BoundUpdate, ChangeTarget, CursorBody, Target};
 use sq_catalog::Catalog;
 use sq_expression::Fault;
@@ -152,15 +154,15 @@ pub(crate) fn next_of_walk<'s, S: Store>(
     next_chosen(&walk, store, cursor.next, cursor.mark, meter)
 }
 
-/// A cursor, and the numbers of the rows that are left to it.
+/// The number of a cursor that walks, and the cursor over a list that takes its place.
 #[derive(Drop)]
 pub(crate) struct ListedCursor {
     pub(crate) number: usize,
-    pub(crate) numbers: Items<u64>,
+    pub(crate) cursor: NumbersCursor,
 }
 
-/// For each cursor that walks, and whose conditions read what an UPDATE changes, the numbers of the rows that are left to
-/// it.
+/// For each cursor that walks, and whose conditions read what an UPDATE changes, a cursor over the numbers of the rows
+/// that are left to it.
 #[tactic(auto, using(crate::proofs::Over::as_many))]
 pub(crate) fn listed_walks<S: Store>(
     called: &Called<'_>,
@@ -173,51 +175,69 @@ pub(crate) fn listed_walks<S: Store>(
     requires rows { holds called.now.catalog.now.bases (S.content_now store.now) ≡ true }
     requires kept { HaveKept (column_kinds called.now.catalog.now) called.now.cursors.now cursors.now }
     requires domains { AreInDomains called.now.catalog.now.bases (S.content_now store.now) }
-    ensures { IfOk result (λ listed. AllByRecursion (IsLeft called.now.cursors.now (S.content_now store.now) cursors.now) listed.items) }
+    ensures there { IfOk result (λ lists. AreThere (length cursors.now) lists.items) }
+    ensures lists { IfOk result (λ lists. put_all cursors.now lists.items
+        ≡ go_on (updating called.now.cursors.now statement.now) (S.content_now store.now) called.now.cursors.now cursors.now) }
 {
-    let mut listed = Vec::new(called.alloc);
+    let mut lists = Vec::new(called.alloc);
     for (number, cursor) in cursors.iter().enumerate() {
         if let CursorState::Walking(walk) = cursor {
             let declared = &called.cursors[number];
-            if let Some(numbers) = listed_walk(called, declared, statement, store, walk)? {
-                listed.push(ListedCursor { number, numbers })?;
+            match listed_walk(called, declared, statement, store, walk)? {
+                Some(list) => lists.push(ListedCursor {
+                    number,
+                    cursor: list,
+                })?,
+                None => {}
             }
         }
     }
-    Ok(listed)
+    Ok(lists)
 }
 
-/// The numbers of the rows that are left to the walk of a cursor, if it is over the base table that an UPDATE changes
-/// and its conditions read a column that is assigned to.
+/// A cursor over the numbers of the rows that are left to the walk of a declared cursor, if it is over the base table that
+/// an UPDATE changes and its conditions read a column that is assigned to.
 fn listed_walk<S: Store>(
     called: &Called<'_>,
     declared: &DeclaredCursor,
     statement: &BoundUpdate,
     store: &S,
     walk: &WalkingCursor,
-) -> Result<Option<Items<u64>>, AllocError>
+) -> Result<Option<NumbersCursor>, AllocError>
     requires over { is_over (over_of declared.now.cursor.body) (CursorState.Walking walk.now) ≡ true }
     requires there { walk.now.table < length (S.content_now store.now) }
     requires fit { FitsBody called.now.catalog.now.bases declared.now.cursor.body }
     requires kept { MayKeep (column_kinds called.now.catalog.now) declared.now.cursor walk.now.values }
     requires domains { AreInDomains called.now.catalog.now.bases (S.content_now store.now) }
-    ensures { IfOk result (λ listed. IfSome listed (λ numbers. numbers ≡ numbers_left declared.now (S.content_now store.now) walk.now)) }
+    ensures { IfOk result (λ list. list ≡ then_some (reads (updating called.now.cursors.now statement.now) declared.now walk.now) (listed declared.now (S.content_now store.now) walk.now)) }
 {
     let query = match &declared.cursor.body {
         CursorBody::Updatable(query) => query,
         CursorBody::Rows(..) => unreachable!(),
     };
-    let is_read = walk.table == base_of(&statement.target)
-        && reads_assigned(&query.target, statement.assignments.as_slice());
-    if !is_read {
+    if !is_read(statement, walk.table, &query.target) {
         return Ok(None);
     }
     let numbers = rest_of_walk(called, declared.user, &query.target, store, walk)?;
-    Ok(Some(numbers))
+    Ok(Some(NumbersCursor {
+        table: walk.table,
+        numbers,
+        passed: 0,
+        on: walk.on,
+    }))
+}
+
+/// Whether an UPDATE changes the base table that is walked, and a column of it that the conditions of the target read.
+fn is_read(statement: &BoundUpdate, table: usize, target: &Target) -> bool
+    ensures { result ≡ (nat_eq table (base_of statement.now.target) && one_reads statement.now.assignments (conditions_of target.now)) }
+{
+    table == base_of(&statement.target) && target_reads(target, statement.assignments.as_slice())
 }
 
 /// The place of the base table that a statement changes.
-fn base_of(target: &ChangeTarget) -> usize {
+fn base_of(target: &ChangeTarget) -> usize
+    ensures { result ≡ base_of target.now }
+{
     match target {
         ChangeTarget::Searched(target) => target.base,
         ChangeTarget::Positioned(positioned) => positioned.base,
@@ -268,21 +288,4 @@ fn numbers_from<S: Store>(
         number = found + 1;
     }
     Ok(numbers)
-}
-
-/// Lets a cursor that walks go on over a list.
-#[tactic(auto, using(crate::proofs::GoOn::goes_on_same))]
-pub(crate) fn list_walk(cursor: &mut CursorState, numbers: Items<u64>)
-    ensures { GoesOn cursor.old cursor.new }
-{
-    if let CursorState::Walking(walk) = cursor {
-        *cursor = CursorState::Numbers(NumbersCursor {
-            table: walk.table,
-            numbers,
-            passed: 0,
-            on: walk.on,
-        });
-    } else {
-        drop(numbers);
-    }
 }

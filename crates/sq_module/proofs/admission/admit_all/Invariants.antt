@@ -1,5 +1,5 @@
 use Rattle.std.proofs.Common.{◌≡◌, [], map, take}
-use Rattle.sq_module.specs.Admitted.{admitted_procedures}
+use Rattle.sq_module.specs.Admitted.{AreAdmitted, admitted_procedures}
 use Rattle.sq_module.specs.Program.{HaveNames, declared_procedures}
 use Rattle.sq_module.specs.Refusal.{AreAdmissible}
 use Rattle.sq_module.specs.Written.{AreOfTexts}
@@ -11,5 +11,7 @@ invariant-loop-text l = record {
   names : HaveNames [] (take l.text l.modules);
   declared : admitted_procedures l.admitted.items ≡ declared_procedures (take l.text l.modules);
   written : AreOfTexts l.modules l.admitted.items;
+  named : l.names.keys ≡ map (λ a. a.name) l.admitted.items;
+  admitted : AreAdmitted [] l.admitted.items;
   admissible : AreAdmissible (take l.text l.modules);
 }

@@ -1,5 +1,5 @@
-use Rattle.std.proofs.Common.{◌≡◌, take}
-use Rattle.sq_module.specs.Admitted.{procedure_names}
+use Rattle.std.proofs.Common.{◌≡◌, flat_map, take}
+use Rattle.sq_module.specs.Admitted.{opening_in, openings, procedure_names}
 use Rattle.sq_module.specs.Program.{names_in}
 use Rattle.sq_module.specs.Written.{IsProcedureOf}
 use Rattle.std.specs.List.{AllByRecursion}
@@ -8,5 +8,6 @@ use Rattle.sq_module.proofs.admission.procedures_of.Given as goal
 abbrev pub invariant-loop-place : goal.invariant-loop-place
 invariant-loop-place l = record {
   names : procedure_names l.procedures.items ≡ names_in (take l.place l.items);
+  openings : openings l.procedures.items ≡ flat_map opening_in (take l.place l.items);
   written : AllByRecursion (IsProcedureOf l.items) l.procedures.items;
 }

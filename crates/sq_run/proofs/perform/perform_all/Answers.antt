@@ -1,13 +1,13 @@
 use Rattle.std.proofs.Common.{◌≡◌, ap, sym, ◌∙◌, arith, length}
 use Rattle.sq_run.specs.Steps.{Step}
-use Rattle.sq_run.proofs.Found.{found_at}
+use Rattle.sq_run.proofs.Prepared.{prepared_at}
 use Rattle.sq_run.proofs.Steps.{stopped_write, wrote_more}
 use Rattle.sq_run.proofs.perform.perform_all.Goals as goal
 
 pub perform-requires : goal.perform-requires
 perform-requires g c =
-    found_at c.args.actions.now c.loop-done.done c.index-actions-done.result c.args.session.now c.loop-done.session
-    c.loop-done-test.true c.index-actions-done.is c.loop-done.invariant.procedures c.loop-done.invariant.tables c.requires.found
+    prepared_at c.args.actions.now c.loop-done.done c.index-actions-done.result c.args.session.now c.loop-done.session
+    c.loop-done-test.true c.index-actions-done.is c.loop-done.invariant.procedures c.loop-done.invariant.tables c.requires.prepared
 
 pub returns-in-Err-clause-stopped : goal.returns-in-Err-clause-stopped
 returns-in-Err-clause-stopped g c =

@@ -1,4 +1,4 @@
-use Rattle.sq_run.proofs.Taken.{actions_more, first_untaken, found_more, taken_more}
+use Rattle.sq_run.proofs.Taken.{actions_more, first_untaken, prepared_more, taken_more}
 use Rattle.sq_run.proofs.prepare.actions_in.Goals as goal
 
 pub returns-in-Err-clause-refused : goal.returns-in-Err-clause-refused
@@ -17,6 +17,6 @@ loop-place-preserved g c =
     rw c.in_ok-push-in-Ok.ensures.items
     (record {
       are = actions_more items c.loop-place.place c.index-items-place.result c.loop-place.actions.items c.in-Ok.action lt is before.are c.in-Ok.ensures.action;
-      found = found_more c.args.session.now c.loop-place.actions.items c.in-Ok.action before.found c.in-Ok.ensures.found;
+      prepared = prepared_more c.args.session.now c.loop-place.actions.items c.in-Ok.action before.prepared c.in-Ok.ensures.prepared;
       taken = taken_more c.args.session.now items c.loop-place.place c.index-items-place.result lt is before.taken c.in-Ok.ensures.taken;
     })

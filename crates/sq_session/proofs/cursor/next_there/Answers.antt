@@ -1,4 +1,4 @@
-use Rattle.std.proofs.Common.{◌≡◌, ap, drop, is_some, length, min, subst, ◌∙◌}
+use Rattle.std.proofs.Common.{ap, drop, is_some, ◌∙◌}
 use Rattle.std.specs.Option.{option_map}
 use Rattle.sq_store.specs.Content.{table_at}
 use Rattle.sq_store.specs.declared.table.Numbered.{Numbered}
@@ -9,20 +9,16 @@ pub returns-in-Some-clause-next : goal.returns-in-Some-clause-next
 returns-in-Some-clause-next g c =
     let t = table_at (g.S.Store.content_now c.args.store.now) c.args.cursor.now.table in
     let p = c.args.cursor.now.passed in
-    let q = c.min-passed.result in
-    let e = c.as_slice-numbers.ensures in
-    reached t c.args.cursor.now.numbers _ p q c.loop-place.place (subst (λ z. q ≡ min p (length z)) e c.min-passed.ensures)
-    (left_is p q c.as_slice-numbers.result.now c.min-passed.ensures ∙ ap (λ z. drop p z) e)
+    reached t c.args.cursor.now.numbers _ p c.loop-place.place c.requires.passed
+    (left_is p c.as_slice.result.now ∙ ap (λ z. drop p z) c.as_slice.ensures)
     c.loop-place-test.true c.loop-place.invariant (ap is_some c.in-Some.ensures.row)
 
 pub returns-clause-next : goal.returns-clause-next
 returns-clause-next g c =
     let t = table_at (g.S.Store.content_now c.args.store.now) c.args.cursor.now.table in
     let p = c.args.cursor.now.passed in
-    let q = c.min-passed.result in
-    let e = c.as_slice-numbers.ensures in
-    none_there t c.args.cursor.now.numbers _ p q c.loop-place.place (subst (λ z. q ≡ min p (length z)) e c.min-passed.ensures)
-    (left_is p q c.as_slice-numbers.result.now c.min-passed.ensures ∙ ap (λ z. drop p z) e)
+    none_there t c.args.cursor.now.numbers _ p c.loop-place.place c.requires.passed
+    (left_is p c.as_slice.result.now ∙ ap (λ z. drop p z) c.as_slice.ensures)
     c.loop-place-test.false c.loop-place.invariant
 
 pub returns-in-Some-clause-row : goal.returns-in-Some-clause-row

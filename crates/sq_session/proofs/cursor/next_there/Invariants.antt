@@ -3,4 +3,4 @@ use Rattle.sq_session.proofs.NextNumber.{LooksOn}
 use Rattle.sq_session.proofs.cursor.next_there.Given as goal
 
 abbrev pub invariant-loop-place : goal.invariant-loop-place
-invariant-loop-place g l = LooksOn (table_at (g.S.Store.content_now l.store) l.cursor.table) l.number-items l.place
+invariant-loop-place g l = LooksOn (table_at (g.S.Store.content_now l.store) l.cursor.table) l.left l.place

@@ -1,5 +1,6 @@
+use Rattle.std.proofs.Common.{length}
 use Rattle.sq_session.proofs.Started.{IsStarted}
 use Rattle.sq_session.proofs.parameter.started_values.Given as goal
 
-abbrev pub invariant-loop-place : goal.invariant-loop-place
-invariant-loop-place l = IsStarted l.parameters l.values l.place l.started
+abbrev pub invariant-loop-parameter : goal.invariant-loop-parameter
+invariant-loop-parameter l = IsStarted l.parameters l.values (length l.yielded) l.started

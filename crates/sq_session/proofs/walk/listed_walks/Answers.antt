@@ -1,15 +1,15 @@
-use Rattle.std.proofs.Common.{◌≡◌, ◌<◌, ◌∙◌, ◌++◌, ◌∷◌, [], arith, length, true, slice_index_or, subst, sym}
-use Rattle.std.specs.List.{AllByRecursion}
+use Rattle.std.proofs.Common.{◌≡◌, ◌<◌, ◌≤◌, ◌∙◌, ◌++◌, ◌∷◌, [], ap, arith, length, true, slice_index_or, subst, sym}
 use Rattle.sq_catalog.specs.Catalog.{column_kinds}
-use Rattle.sq_session.specs.Cursors.{HasKept, IsLeft, is_over, numbers_left}
-use Rattle.sq_session.specs.Kind.{over_of}
+use Rattle.sq_module.specs.declared.program.DeclaredCursor.{DeclaredCursor}
+use Rattle.sq_session.specs.Cursors.{HasKept, goes_on, is_over, listed, reads}
+use Rattle.sq_session.specs.Kind.{over_of, updating}
 use Rattle.sq_session.specs.declared.cursor.CursorState.{CursorState}
 use Rattle.sq_session.specs.declared.cursor.CursorState.TheVariants as cursor
 use Rattle.sq_session.specs.declared.walk.ListedCursor.{ListedCursor}
-use Rattle.sq_session.proofs.Listing.{left_here, left_more}
+use Rattle.sq_session.proofs.GoOn.{goes_on_listed, goes_on_same, goes_on_walking, idle_next, listed_all, listed_next, none_listed, same_next, some_listed, there_more}
 use Rattle.sq_session.proofs.Over.{as_many, over_here, over_there, walk_there}
 use Rattle.sq_session.proofs.QuietWalks.{fits_here, kept_here}
-use Rattle.sq_session.proofs.walk.listed_walks.Goals.{in-Walking+in_ok-numbers+in-Some+in_ok-push, in-Walking+in_ok-numbers+in_default-2, in_default}
+use Rattle.sq_session.proofs.walk.listed_walks.Goals.{in-Walking+in_ok-list+in-Some+in_ok-push-in-Some, in-Walking+in_ok-list+in-None, in_default}
 use Rattle.sq_session.proofs.walk.listed_walks.Goals as goal
 
 pub listed_walk-requires-clause-over : goal.listed_walk-requires-clause-over
@@ -59,18 +59,40 @@ loop-number-preserved g c =
     let declared = c.args.called.now.cursors.now in
     let cursors = c.args.cursors.now in
     let tables = g.S.Store.content_now c.args.store.now in
+    let u = updating declared c.args.statement.now in
     let number = c.loop-number.number in
     let there : number < length declared = omega (arith, as_many declared cursors c.requires.cursors, c.loop-number-test.true) in
-    let so_far : AllByRecursion (IsLeft declared tables cursors) c.loop-number.listed.items = c.loop-number.invariant in
+    let so_far = c.loop-number.invariant in
     elim c.match-cursor.branch [
-      | in-Walking+in_ok-numbers+in-Some+in_ok-push w ↦ (
+      | in-Walking+in_ok-list+in-Some+in_ok-push-in-Some w ↦ (
+          let d = slice_index_or declared number w.index-called-number.result in
           let walks : slice_index_or cursors number c.index-cursors-number.result ≡ cursor.Walking w.in-Walking.walk = sym c.index-cursors-number.is ∙ w.in-Walking.is in
-          let left : w.in-Some.numbers ≡ numbers_left (slice_index_or declared number w.index-called-number.result) tables w.in-Walking.walk = rw w.in-Some.is at w.in_ok-numbers.ensures in
-          let one : ListedCursor = record { number = number; numbers = w.in-Some.numbers } in
-          let here : IsLeft declared tables cursors one =
-          left_here declared tables cursors number w.index-called-number.result c.index-cursors-number.result w.in-Walking.walk w.in-Some.numbers there c.loop-number-test.true walks left in
-          let pushed : w.push.new.self.items ≡ c.loop-number.listed.items ++ one ∷ [] = w.in_ok-push.ensures.items in
-          rw (w.listed-is, pushed) (left_more declared tables cursors c.loop-number.listed.items one so_far here))
-      | in-Walking+in_ok-numbers+in_default-2 w ↦ rw w.listed-is so_far
-      | in_default w ↦ rw w.listed-is so_far
+          let is = some_listed (reads u d w.in-Walking.walk) w.in-Some.list (listed d tables w.in-Walking.walk) (rw w.in-Some.is at w.in_ok-list.ensures) in
+          let goes : goes_on u tables d (slice_index_or cursors number c.index-cursors-number.result) ≡ cursor.Numbers w.in-Some.list =
+          ap (goes_on u tables d) walks ∙ goes_on_listed u tables d w.in-Walking.walk is.0 ∙ ap (λ l. cursor.Numbers l) (sym is.1) in
+          let one : ListedCursor = record { number = number; cursor = w.in-Some.list } in
+          let pushed : w.push.new.self.items ≡ c.loop-number.lists.items ++ one ∷ [] = w.in_ok-push-in-Some.ensures.items in
+          rw (w.lists-is, pushed) (
+            listed_next u tables declared cursors c.loop-number.lists.items number w.index-called-number.result c.index-cursors-number.result w.in-Some.list there goes so_far.0,
+            there_more (length cursors) c.loop-number.lists.items one so_far.1 c.loop-number-test.true,
+          ))
+      | in-Walking+in_ok-list+in-None w ↦ (
+          let d = slice_index_or declared number w.index-called-number.result in
+          let walks : slice_index_or cursors number c.index-cursors-number.result ≡ cursor.Walking w.in-Walking.walk = sym c.index-cursors-number.is ∙ w.in-Walking.is in
+          let not = none_listed (reads u d w.in-Walking.walk) (listed d tables w.in-Walking.walk) (rw w.in-None.is at w.in_ok-list.ensures) in
+          let stays : goes_on u tables d (slice_index_or cursors number c.index-cursors-number.result) ≡ slice_index_or cursors number c.index-cursors-number.result =
+          ap (goes_on u tables d) walks ∙ goes_on_walking u tables d w.in-Walking.walk not ∙ sym walks in
+          rw w.lists-is (same_next u tables declared cursors _ number w.index-called-number.result c.index-cursors-number.result there stays so_far.0, so_far.1))
+      | in_default w ↦ (
+          let here = c.index-cursors-number.is in
+          let idle : (d : DeclaredCursor) → goes_on u tables d (slice_index_or cursors number c.index-cursors-number.result) ≡ slice_index_or cursors number c.index-cursors-number.result =
+          λ d. ap (goes_on u tables d) (sym here) ∙ goes_on_same u tables d c.index-cursors-number.result w.in_default.not-Walking ∙ here in
+          rw w.lists-is (idle_next u tables declared cursors _ number c.index-cursors-number.result there idle so_far.0, so_far.1))
     ]
+
+pub returns-clause-lists : goal.returns-clause-lists
+returns-clause-lists g c =
+    let declared = c.args.called.now.cursors.now in
+    let cursors = c.args.cursors.now in
+    let enough : length declared ≤ c.loop-number.number = omega (arith, as_many declared cursors c.requires.cursors, c.loop-number-test.false) in
+    listed_all (updating declared c.args.statement.now) (g.S.Store.content_now c.args.store.now) declared cursors _ c.loop-number.number enough c.loop-number.invariant.0

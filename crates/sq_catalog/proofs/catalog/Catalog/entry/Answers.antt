@@ -1,11 +1,12 @@
 use Rattle.std.proofs.Common.{subst, sym}
+use Rattle.sq_bound.specs.Fits.{IsBaseAt}
 use Rattle.sq_bound.specs.WellFormed.{IsViewAmong}
 use Rattle.sq_bound.specs.declared.condition.TablePlace.TheVariants.{Base}
-use Rattle.sq_catalog.specs.Catalog.{Catalog}
+use Rattle.sq_catalog.specs.Catalog.{Catalog, table_number}
 use Rattle.sq_catalog.specs.Stored.{IsStored}
 use Rattle.sq_catalog.proofs.Extending.{table_read}
 use Rattle.sq_catalog.proofs.Added.{stands_at}
-use Rattle.sq_catalog.proofs.Stored.{named_at, stored_at}
+use Rattle.sq_catalog.proofs.Stored.{base_at, named_at, stored_at}
 use Rattle.sq_catalog.proofs.ViewQueries.{base_among, view_read}
 use Rattle.sq_catalog.proofs.catalog.Catalog.entry.Goals as goal
 
@@ -37,3 +38,10 @@ pub returns-in-Some-get_full-clause-view : goal.returns-in-Some-get_full-clause-
 returns-in-Some-get_full-clause-view c =
     subst (λ (s : Catalog). IsViewAmong s.views c.in-Some-get_full.table.now.body) c.self.view_is
     (view_read c.self.inside.views.entries c.in-Some-get_full.place c.in-Some-get_full.field-0-1.now c.in-Some-get_full.table.now c.self.invariant.6 c.in-Some-get_full.ensures.entry)
+
+pub returns-in-Some-clause-base : goal.returns-in-Some-clause-base
+returns-in-Some-clause-base c =
+    subst (λ (s : Catalog). IsBaseAt (table_number s.tables c.args.full_name.now.user c.args.full_name.now.name) c.in-Some.table.now) c.self.view_is
+    (base_at _ c.in-Some.table.now c.in-Some.place c.in-Some.ensures.index
+    (stored_at c.self.inside.base_tables.items c.self.inside.bases.entries c.in-Some.place c.in-Some.field-0-1.now c.in-Some.table.now c.self.invariant.0 c.in-Some.ensures.entry).itself
+    (stands_at Base c.self.inside.bases.entries c.in-Some.place c.in-Some.field-0-1.now c.in-Some.table.now c.self.invariant.5 c.in-Some.ensures.entry))

@@ -1,4 +1,4 @@
-use Rattle.std.proofs.Common.{◌≡◌, ◌∙◌, ◌-◌, ◌++◌, ◌∷◌, [], List, None, Some, ap, arith, length, slice_set, sym, take, true}
+use Rattle.std.proofs.Common.{◌≡◌, ◌∙◌, ◌-◌, ◌++◌, ◌∷◌, [], List, None, Some, ap, arith, length, option_to_list, slice_set, sym, take, true}
 use Rattle.std.proofs.lemmas.Grind.{common_steps}
 use Rattle.sq_heap.specs.Slots.{Slot}
 use Rattle.sq_heap.specs.Undo.{before_change, fits, is_last_or_in}
@@ -13,16 +13,16 @@ invariant_of-self c =
     let slots = c.args.self.now.slots.list.items in
     let rest = c.pop.new.self.items in
     let xs = c.args.self.now.indexes.items in
-    let u = c.in-Some.field-0 in
-    let split : c.args.self.now.undo.items ≡ c.pop.new.self.items ++ c.in-Some.field-0 ∷ [] = c.in-Some.ensures.items in
+    let u = c.unwrap-at.result in
+    let split : c.args.self.now.undo.items ≡ c.pop.new.self.items ++ c.unwrap-at.result ∷ [] = c.pop.ensures.items ∙ ap (λ o. rest ++ option_to_list o) c.unwrap-at.ensures in
     let whole : fits (length slots) (rest ++ u ∷ []) ≡ true = ap (fits (length slots)) (sym split) ∙ c.args.self.now.undoable in
-    let some : c.in-Some.field-0.old ≡ Some c.in-Some-old.row = cc in
-    let items : c.put.new.self.list.items ≡ slice_set c.args.self.now.slots.list.items c.in-Some.field-0.at (Some c.in-Some-old.row) = cc in
+    let some : c.unwrap-at.result.old ≡ Some c.in-Some.row = cc in
+    let items : c.put.new.self.list.items ≡ slice_set c.args.self.now.slots.list.items c.unwrap-at.result.at (Some c.in-Some.row) = cc in
     let undone : undo_holds (in_all xs) (rest ++ u ∷ []) ≡ true = ap (undo_holds (in_all xs)) (sym split) ∙ c.args.self.now.undo_entered in
     record {
       undoable = ap (λ (ss : List Slot). fits (length ss) rest) items ∙ ap (λ (o : Slot). fits (length (before_change slots u.at o)) rest) (sym some) ∙ undone_fits slots rest u whole;
       entered = ap (slots_hold (in_all xs) 0) items
-          ∙ holds_set (in_all xs) 0 slots u.at (Some c.in-Some-old.row) u.at (omega arith) c.args.self.now.entered (ap (slot_holds (in_all xs) u.at) (sym some) ∙ undo_last (in_all xs) rest u undone);
+          ∙ holds_set (in_all xs) 0 slots u.at (Some c.in-Some.row) u.at (omega arith) c.args.self.now.entered (ap (slot_holds (in_all xs) u.at) (sym some) ∙ undo_last (in_all xs) rest u undone);
       undo_entered = undo_rest (in_all xs) rest u undone;
     }
 
@@ -31,13 +31,13 @@ invariant_of-self-in-None c =
     let slots = c.args.self.now.slots.list.items in
     let rest = c.pop.new.self.items in
     let xs = c.args.self.now.indexes.items in
-    let u = c.in-Some.field-0 in
-    let split : c.args.self.now.undo.items ≡ c.pop.new.self.items ++ c.in-Some.field-0 ∷ [] = c.in-Some.ensures.items in
+    let u = c.unwrap-at.result in
+    let split : c.args.self.now.undo.items ≡ c.pop.new.self.items ++ c.unwrap-at.result ∷ [] = c.pop.ensures.items ∙ ap (λ o. rest ++ option_to_list o) c.unwrap-at.ensures in
     let whole : fits (length slots) (rest ++ u ∷ []) ≡ true = ap (fits (length slots)) (sym split) ∙ c.args.self.now.undoable in
-    let none : c.in-Some.field-0.old ≡ None = cc in
+    let none : c.unwrap-at.result.old ≡ None = cc in
     let last : is_last_or_in (length slots) u.at None ≡ true = ap (is_last_or_in (length slots) u.at) (sym none) ∙ fits_last (length slots) rest u whole in
-    let at : length c.args.self.now.slots.list.items - 1 ≡ c.in-Some.field-0.at = grind (arith, common_steps) in
-    let items : c.pop-in-None.new.self.list.items ≡ take c.in-Some.field-0.at c.args.self.now.slots.list.items = c.pop-in-None.ensures ∙ ap (λ n. take n slots) at in
+    let at : length c.args.self.now.slots.list.items - 1 ≡ c.unwrap-at.result.at = grind (arith, common_steps) in
+    let items : c.pop-in-None.new.self.list.items ≡ take c.unwrap-at.result.at c.args.self.now.slots.list.items = c.pop-in-None.ensures ∙ ap (λ n. take n slots) at in
     let undone : undo_holds (in_all xs) (rest ++ u ∷ []) ≡ true = ap (undo_holds (in_all xs)) (sym split) ∙ c.args.self.now.undo_entered in
     record {
       undoable = ap (λ (ss : List Slot). fits (length ss) rest) items ∙ ap (λ (o : Slot). fits (length (before_change slots u.at o)) rest) (sym none) ∙ undone_fits slots rest u whole;

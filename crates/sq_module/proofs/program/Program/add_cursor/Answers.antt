@@ -4,8 +4,9 @@ use Rattle.sq_bound.specs.WellFormed.{IsCursor}
 use Rattle.sq_bound.specs.declared.statement.BoundStatement.TheVariants as statement
 use Rattle.sq_bind.proofs.Changes.{on_ok}
 use Rattle.sq_module.specs.Program.{OpensWellFormed}
+use Rattle.sq_module.proofs.Apart.{apart_next, opened_by_next, others_next}
 use Rattle.sq_module.proofs.Fitting.{cursor_added, cursor_stands, is_bound, of_bound}
-use Rattle.sq_module.proofs.Opening.{last_opened}
+use Rattle.sq_module.proofs.Opening.{last_opened, numbers_there}
 use Rattle.sq_module.specs.Written.{IsNumberOf}
 use Rattle.sq_module.proofs.Written.{number_last, numbers_next}
 use Rattle.sq_module.proofs.program.Program.add_cursor.Goals as goal
@@ -29,8 +30,23 @@ returns-in_ok-named-in-Some-clause-opened c =
 
 pub returns-in_ok-named-in-Some-clause-written : goal.returns-in_ok-named-in-Some-clause-written
 returns-in_ok-named-in-Some-clause-written c =
-    λ m named numbers.
-    let last = number_last m _ _ _ _ c.args.bound _ _ (is_bound c.args.bound c.in_ok-cursor.field-0 _ c.in_ok-cursor.ensures c.in-Some.is) refl refl c.in_ok-push-in-Some.ensures.items named in
+    λ m of named numbers.
+    let last = number_last m c.args.«module».now _ _ _ c.args.bound _ _ (is_bound c.args.bound c.in_ok-cursor.field-0 _ c.in_ok-cursor.ensures c.in-Some.is) refl refl refl refl
+    c.in_ok-push-in-Some.ensures.items of named in
     let one : IsNumberOf m c.push.new.self.items c.args.name c.len-number.result
     = subst (λ n. IsNumberOf m c.push.new.self.items c.args.name n) (sym (c.len-number.ensures ∙ c.args.self.now.cursors.ok.0)) last in
     (numbers_next m _ _ _ _ c.args.name c.len-number.result _ c.in_ok-push-in-Some.ensures.items (on_ok c.insert.result _ c.insert.ensures.entries (sym c.is_ok.ensures.value ∙ c.in_ok-named-in-Some.ensures)) one numbers, one)
+
+pub returns-in_ok-named-in-Some-clause-there : goal.returns-in_ok-named-in-Some-clause-there
+returns-in_ok-named-in-Some-clause-there c =
+    numbers_there _ _ _ _ c.args.name c.len-number.result _ c.in_ok-push-in-Some.ensures.items (on_ok c.insert.result _ c.insert.ensures.entries (sym c.is_ok.ensures.value ∙ c.in_ok-named-in-Some.ensures))
+    (c.len-number.ensures ∙ c.args.self.now.cursors.ok.0) c.requires.there
+
+pub returns-in_ok-named-in-Some-clause-apart : goal.returns-in_ok-named-in-Some-clause-apart
+returns-in_ok-named-in-Some-clause-apart c = apart_next _ _ c.args.«module».now.name c.args.name _ c.in_ok-push-in-Some.ensures.items refl refl c.requires.new c.requires.apart
+
+pub returns-in_ok-named-in-Some-clause-others : goal.returns-in_ok-named-in-Some-clause-others
+returns-in_ok-named-in-Some-clause-others c = λ name other of. others_next name _ _ c.args.«module».now.name _ c.in_ok-push-in-Some.ensures.items refl other of
+
+pub returns-in_ok-named-in-Some-clause-opened_by : goal.returns-in_ok-named-in-Some-clause-opened_by
+returns-in_ok-named-in-Some-clause-opened_by c = λ procedures some all. opened_by_next c.args.«module».now.name procedures _ _ c.args.name _ c.in_ok-push-in-Some.ensures.items refl some all

@@ -1,9 +1,12 @@
-use Rattle.std.proofs.Common.{IfOk, IfSome, subst, sym}
+use Rattle.std.proofs.Common.{[], ◌∷◌, ◌++◌, IfOk, IfSome, ap, refl, subst, sym}
+use Rattle.std.proofs.lemmas.List.{append-nil}
 use Rattle.sq_bound.specs.WellFormed.{kinds_of_parameters}
 use Rattle.sq_bound.specs.declared.statement.BoundStatement.TheVariants as statement
-use Rattle.sq_catalog.specs.Catalog.{column_kinds}
+use Rattle.sq_catalog.specs.Catalog.{column_kinds, table_number}
 use Rattle.sq_module.specs.Program.{OpensWellFormed}
 use Rattle.sq_module.specs.Written.{AreNumbers, IsCursorNamed, IsStatementIn}
+use Rattle.sq_module.specs.Refusal.{opened_by}
+use Rattle.sq_module.proofs.Apart.{new_found, opened_by_more, opens_last}
 use Rattle.sq_module.proofs.Written.{cursor_found}
 use Rattle.sq_module.proofs.program.Program.add_opened.Goals as goal
 
@@ -17,8 +20,31 @@ pub returns-in-Some-clause-written : goal.returns-in-Some-clause-written
 returns-in-Some-clause-written c =
     λ m of numbers.
     let found = cursor_found m.items c.args.«module».now.cursors.entries c.in-Open.name _ of.cursors (sym c.in-Some.ensures.value) in
-    let named : IsCursorNamed m c.args.«module».now.user c.in-Open.name c.bind_cursor-bound.result
-    = record { cursor = _; among = found.0; named = found.1; user_is = of.user; bound_is = c.bind_cursor-bound.ensures.written } in
+    let named : IsCursorNamed m c.in-Open.name c.bind_cursor-bound.result = record { cursor = _; among = found.0; named = found.1; bound_is = c.bind_cursor-bound.ensures.written } in
     let new = c.add_cursor.new.self.cursors.items in
-    subst (λ s. IfOk c.add_cursor.result (λ o. AreNumbers m new c.add_cursor.new.numbers.entries × IfSome o (λ n. IsStatementIn m new c.args.opener.now.parameters s (statement.Open n)))) (sym c.in-Open.is)
-    (c.add_cursor.ensures.written m named numbers)
+    subst (λ s. IfOk c.add_cursor.result (λ o. AreNumbers m new c.add_cursor.new.numbers.entries × IfSome o (λ n. IsStatementIn (table_number c.args.catalog.now.tables) m new c.args.opener.now.parameters s (statement.Open n)))) (sym c.in-Open.is)
+    (c.add_cursor.ensures.written m of named numbers)
+
+pub add_cursor-requires-clause-new : goal.add_cursor-requires-clause-new
+add_cursor-requires-clause-new c =
+    new_found c.args.«module».now c.args.self.now.cursors.items c.args.opener.now c.in-Open.name _ c.in-Open.is (sym c.in-Some.ensures.value) c.requires.new
+
+pub returns-in-Some-clause-opened_by : goal.returns-in-Some-clause-opened_by
+returns-in-Some-clause-opened_by c =
+    λ before all.
+    c.add_cursor.ensures.opened_by (before ++ c.args.opener.now ∷ []) (opens_last before c.args.opener.now c.in-Open.name (ap opened_by c.in-Open.is))
+    (opened_by_more c.args.«module».now.name before c.args.opener.now c.args.self.now.cursors.items all)
+
+pub returns-in_default : goal.returns-in_default
+returns-in_default c = record {
+  there = c.requires.there;
+  procedures = refl;
+  fits = c.requires.fits;
+  well_formed = c.requires.well_formed;
+  written = λ m of numbers. (numbers, tt);
+  grows = ([], sym (append-nil c.args.self.now.cursors.items));
+  opened = tt;
+  apart = c.requires.apart;
+  others = λ name other of. of;
+  opened_by = λ before all. opened_by_more c.args.«module».now.name before c.args.opener.now c.args.self.now.cursors.items all;
+}

@@ -2,10 +2,10 @@ use Rattle.std.proofs.Common.{◌≡◌, List, map, take}
 use Rattle.std.specs.Map.{keys_of}
 use Rattle.std.specs.List.{IsAmong}
 use Rattle.sq_tree.specs.declared.module.ModuleText.{ModuleText}
-use Rattle.sq_catalog.specs.Catalog.{column_kinds}
+use Rattle.sq_catalog.specs.Catalog.{column_kinds, table_number}
 use Rattle.sq_module.specs.Admitted.{name_of}
 use Rattle.sq_module.specs.Program.{FitsProgram, ProgramIsWellFormed, with_procedures}
-use Rattle.sq_module.specs.Written.{AreNumbers, IsOfText, IsOfTexts, OpenNamed}
+use Rattle.sq_module.specs.Written.{AreNumbers, IsOfText, AreFrom, OpenNamed}
 use Rattle.sq_module.proofs.program.Program.add_procedures.Given as goal
 
 abbrev pub invariant-loop-place : goal.invariant-loop-place
@@ -15,5 +15,5 @@ invariant-loop-place l = record {
   fits : FitsProgram l.catalog.bases l.self;
   well_formed : ProgramIsWellFormed (column_kinds l.catalog) l.self;
   written : (texts : List ModuleText) (m : ModuleText) → IsAmong texts m → IsOfText m l.«module» → AreNumbers m l.fn.self.cursors.items l.numbers.entries
-      → OpenNamed m l.fn.self.cursors.items l.«module».procedures.items l.opened → IsOfTexts texts l.fn.self → IsOfTexts texts l.self;
+      → OpenNamed (table_number l.catalog.tables) m l.fn.self.cursors.items l.«module».procedures.items l.opened → AreFrom (table_number l.catalog.tables) texts l.fn.self → AreFrom (table_number l.catalog.tables) texts l.self;
 }
