@@ -5,9 +5,12 @@ use Rattle.std.specs.Option.{option_map}
 use Rattle.std.specs.Prelude.{slice_get, ◌&&◌, Result, IfOk, IfSome}
 use Rattle.std.specs.List.{AllByRecursion, AllZip, list_all}
 use Rattle.sq_lex.specs.declared.name.Name.{Name}
+use Rattle.sq_meaning.proofs.AnswerLaws.{all_weaker}
+use Rattle.sq_meaning.specs.Environment.{Row}
 use Rattle.sq_meaning.specs.Kind.{kind, select_kinds}
-use Rattle.sq_meaning.specs.Status.{Outcome, ◌>>=◌, and_then, each, well_formed}
-use Rattle.sq_meaning.specs.WellFormed.{kind_there, kinds_by_place}
+use Rattle.sq_meaning.specs.Placed.{by_place}
+use Rattle.sq_meaning.specs.Status.{Outcome, ◌>>=◌, and_then, each, not_well_formed, well_formed}
+use Rattle.sq_meaning.specs.WellFormed.{HasValue, IsDeclaredAt, WellFormedSelect, WellFormedTable, kind_there, kinds_by_place}
 use Rattle.sq_bound.proofs.ConditionLaws.{select_of-out}
 use Rattle.sq_bound.proofs.ExpressionLaws.{expr_of-Column}
 use Rattle.sq_bound.specs.Condition.{groups_if, groups_of}
@@ -31,9 +34,19 @@ use Rattle.sq_scope.proofs.Levels as levels
 use Rattle.sq_scope.specs.declared.findings.Found.{Found}
 use Rattle.sq_value.specs.Domain.{kind_of}
 use Rattle.sq_value.specs.declared.domain.Kind.{Kind}
-use Rattle.sq_bind.specs.Updatable.{AreLeaves, HaveKinds, IsAmong, IsLeafOf}
+use Rattle.sq_bind.specs.Updatable.{AreColumns, AreLeaves, HaveKinds, IsAmong, IsLeafOf}
 use Rattle.sq_bind.proofs.Joins.{goes_on}
 use Rattle.sq_bind.proofs.Zipped.{zipped_weaker}
+
+-- ---- the tables that a query reads
+
+-- each is there
+pub tables_there : (columns : TableKinds) (parameters : List Kind) (q : BoundSpecification) → IsSelect columns parameters [] q → AllByRecursion (λ t. HasValue (columns t)) (out-BoundSpecification q).from.tables
+tables_there columns parameters q h =
+    let o = out-BoundSpecification q in
+    let rows_of : TablePlace → Outcome (List Row) = λ t. not_well_formed in
+    let there = subst (WellFormedSelect (by_place rows_of) (kinds_by_place columns parameters) (IsDeclaredAt parameters) []) (select_of-out q) (h.stands rows_of) in
+    all_weaker (WellFormedTable (by_place rows_of) (kinds_by_place columns parameters) (IsDeclaredAt parameters)) (λ t. HasValue (columns t)) (λ t w. w.0) o.from.tables there.0
 
 -- ---- the kinds that a query shows
 
@@ -170,3 +183,19 @@ updatable_found columns parameters kinds leaf named target positions t (Some f) 
       subst (IsTarget columns parameters) h.1 targeted,
       subst (λ (l : Leaf). HaveKinds (base_kinds l.table) f.1.columns kinds) (sym same) there,
     )
+
+-- ---- columns alone
+
+are_columns : (own : List Column) (es : List BoundExpr) (ps : List ℕ) → AreLeaves own es ps → AreColumns es
+are_columns own [] ps h = tt
+are_columns own (e ∷ es) [] h = absurd h
+are_columns own (e ∷ es) (p ∷ ps) h = ((h.0.0, h.0.1), are_columns own es ps h.1)
+
+-- the select list of an updatable query is columns alone
+pub columns_found : (own : List Column) (es list : List BoundExpr) (named : Result (Option (List ℕ)) BindFault) (target : Target) (positions : Option (List ℕ)) (found : Option ((Name × Name) × UpdatableQuery))
+    → IfOk named (λ o. IfSome o (AreLeaves own es)) → named ≡ Ok positions → es ≡ list → IfSome found (λ f. (positions ≡ Some f.1.columns) × (target ≡ f.1.target)) → IfSome found (λ _. AreColumns list)
+columns_found own es list named target positions None are n is h = tt {0}
+columns_found own es list named target positions (Some f) are n is h =
+    let some : IfSome positions (AreLeaves own es) = subst (λ (r : Result (Option (List ℕ)) BindFault). IfOk r (λ o. IfSome o (AreLeaves own es))) n are in
+    let there : AreLeaves own es f.1.columns = subst (λ (o : Option (List ℕ)). IfSome o (AreLeaves own es)) h.0 some in
+    subst AreColumns is (are_columns own es f.1.columns there)

@@ -1,32 +1,26 @@
 -- Query expressions, term by term: what they are made of, and the kinds of their columns.
-use Rattle.std.proofs.Common.{◌≡◌, Bool, true, false, ◌&&◌, List, [], ◌∷◌, ◌++◌, take, Option, Some, None, Ok, Err, refl, sym, ap, subst, ◌∙◌, eq-eqb}
+use Rattle.std.proofs.Common.{◌≡◌, Bool, true, false, ◌&&◌, List, [], ◌∷◌, ◌++◌, take, Option, Some, Ok, Err, refl, sym, ap, subst, ◌∙◌, eq-eqb}
 use Rattle.std.proofs.lemmas.Grind.{fold-append}
 use Rattle.std.proofs.lemmas.List.Folds.{list_all-append}
 use Rattle.std.proofs.lemmas.List.{append-nil, flat_map_more, map-append}
-use Rattle.std.specs.Prelude.{IfOk, IfSome, Result, is_ok, MatchOption, if◌then◌else◌, flat_map, fold}
+use Rattle.std.specs.Prelude.{IfOk, IfSome, Result, is_ok, if◌then◌else◌, flat_map, fold}
 use Rattle.std.specs.Cmp.Lexicographic.{pointwise}
 use Rattle.std.specs.List.{AllByRecursion}
 use Rattle.std.specs.Result.{result_ok}
-use Rattle.sq_lex.specs.declared.name.Name.{Name}
 use Rattle.sq_value.specs.declared.domain.Kind.{Kind}
 use Rattle.sq_value.specs.declared.domain.Kind.TheVariants.{Num, Chars, Vary}
 use Rattle.sq_meaning.proofs.AnswerLaws.{all_appended}
 use Rattle.sq_meaning.specs.Kind.{common_kind, common_kinds}
 use Rattle.sq_meaning.specs.Status.{Outcome, ◌>>=◌, not_well_formed}
 use Rattle.sq_bound.proofs.JoinedLaws.{joined_kinds-out, specifications_of-out, term_kinds-Bracketed, term_kinds-Specification, term_specifications-Bracketed, term_specifications-Specification, union_kinds-out, union_specifications-out}
-use Rattle.sq_bound.specs.Joined.{Kinds, are_bounded, brought_kinds, joined_kinds, kept_kinds, specifications_of, term_kinds, term_specifications, union_kinds, union_specifications}
+use Rattle.sq_bound.specs.Joined.{Kinds, are_bounded, brought_kinds, kept_kinds, specifications_of, term_kinds, term_specifications, union_kinds, union_specifications}
 use Rattle.sq_bound.specs.Names.{is_bounded, same_kind}
-use Rattle.sq_bound.specs.WellFormed.{IsCursor, IsCursorBody, IsQuery, IsSelect, IsUpdatable, TableKinds, kinds_of_query, kinds_of_results, kinds_of_select}
+use Rattle.sq_bound.specs.WellFormed.{IsQuery, IsSelect, TableKinds, kinds_of_query, kinds_of_results}
 use Rattle.sq_bound.specs.declared.condition.BoundSpecification.{BoundSpecification, out-BoundSpecification}
 use Rattle.sq_bound.specs.declared.condition.ResultColumn.{ResultColumn}
-use Rattle.sq_bound.specs.declared.query.BoundCursor.{BoundCursor}
 use Rattle.sq_bound.specs.declared.query.BoundQuery.{BoundQuery, out-BoundQuery}
-use Rattle.sq_bound.specs.declared.query.BoundTerm.{BoundTerm}
 use Rattle.sq_bound.specs.declared.query.BoundTerm.TheVariants as bound
 use Rattle.sq_bound.specs.declared.query.BoundUnion.{BoundUnion}
-use Rattle.sq_bound.specs.declared.query.CursorBody.TheVariants.{Rows, Updatable}
-use Rattle.sq_bound.specs.declared.query.SortColumn.{SortColumn}
-use Rattle.sq_bound.specs.declared.query.UpdatableQuery.{UpdatableQuery}
 use Rattle.sq_bind.specs.WellFormed.{AreCommon, IsTerm}
 use Rattle.sq_bind.specs.declared.query.Joined.{Joined}
 use Rattle.sq_bind.specs.declared.query.Term.{Term}
@@ -179,50 +173,16 @@ common_along j k t u columns same e f g h = record {
   bounded = ap (λ cs. are_bounded (kinds_of_results cs)) (sym g) ∙ h.bounded;
 }
 
--- ---- cursors
-
-pub cursor_is : (columns : TableKinds) (parameters : List Kind) (q : BoundQuery) (order : List SortColumn) (shown : List ResultColumn) (found : Option ((Name × Name) × UpdatableQuery)) (cursor : BoundCursor)
-    → IsQuery columns parameters q → shown ≡ (out-BoundQuery q).columns → IfSome found (λ over. IsUpdatable columns parameters (kinds_of_results (out-BoundQuery q).columns) over.1)
-    → MatchOption found (cursor.body ≡ Rows q order) (λ over. cursor.body ≡ Updatable over.1) → cursor.columns ≡ shown → IsCursor columns parameters cursor
-cursor_is columns parameters q order shown None cursor h same u body c =
-    subst (IsCursorBody columns parameters (kinds_of_results cursor.columns)) (sym body) (h, ap kinds_of_results (c ∙ same))
-cursor_is columns parameters q order shown (Some over) cursor h same u body c =
-    subst (IsCursorBody columns parameters (kinds_of_results cursor.columns)) (sym body)
-    (subst (λ (cs : List ResultColumn). IsUpdatable columns parameters (kinds_of_results cs) over.1) (sym (c ∙ same)) u)
-
 -- ---- what has a value
 
 pub on_value : {A E : Type 0} (P : A → Type 0) (r : Result A E) (x : A) → r ≡ Ok x → IfOk r P → P x
 on_value P r x e h = subst (λ o. IfOk o P) e h
+
+pub on_found : {A E : Type 0} (P : A → Type 0) (r : Result (Option A) E) (o : Option A) (x : A) → r ≡ Ok o → o ≡ Some x → IfOk r (λ found. IfSome found P) → P x
+on_found P r o x e f h = subst (λ found. IfSome found P) f (on_value (λ found. IfSome found P) r o e h)
 
 -- what a value that is kept is, where the test is passed
 pub on_kept : {A B E F : Type 0} (P : A → Type 0) (kept : Result A E) (part : A) (test : Result B F) → IfOk kept (λ x. x ≡ part) → IfOk kept (λ x. is_ok test ≡ true)
     → (is_ok test ≡ true → P part) → IfOk kept P
 on_kept P (Ok x) part test same passed f = subst P (sym same) (f passed)
 on_kept P (Err e) part test same passed f = same
-
--- ---- the only query specification
-
--- a query expression of one term is that term
-pub of_only : (columns : TableKinds) (parameters kinds : List Kind) (q : BoundQuery) → (out-BoundQuery q).rest ≡ [] → AllByRecursion (IsSelect columns parameters []) (specifications_of q) → joined_kinds q ≡ Ok kinds
-    → AllByRecursion (IsSelect columns parameters []) (term_specifications (out-BoundQuery q).first) × (term_kinds (out-BoundQuery q).first ≡ Ok kinds)
-unfolding joined_from
-of_only columns parameters kinds q none h k =
-    let o = out-BoundQuery q in
-    let made : specifications_of q ≡ term_specifications o.first =
-    specifications_of-out q ∙ ap (λ rest. term_specifications o.first ++ flat_map union_specifications rest) none ∙ append-nil (term_specifications o.first) in
-    let joined : (term_kinds o.first >>= kept_kinds o.columns) ≡ Ok kinds =
-    sym (joined_kinds-out q ∙ ap (λ rest. joined_from (term_kinds o.first) rest >>= kept_kinds o.columns) none) ∙ k in
-    (subst (AllByRecursion (IsSelect columns parameters [])) made h, kept_from o.columns (term_kinds o.first) kinds joined)
-
-pub only_specification : (columns : TableKinds) (parameters kinds : List Kind) (t : BoundTerm) (s : BoundSpecification) → t ≡ bound.Specification s → AllByRecursion (IsSelect columns parameters []) (term_specifications t)
-    → term_kinds t ≡ Ok kinds → IsSelect columns parameters [] s × (kinds_of_select s ≡ kinds)
-only_specification columns parameters kinds t s e h k =
-    let there : AllByRecursion (IsSelect columns parameters []) (s ∷ []) = subst (AllByRecursion (IsSelect columns parameters [])) (ap term_specifications e ∙ term_specifications-Specification s) h in
-    let same : Ok (kinds_of_select s) ≡ Ok kinds = sym (ap term_kinds e ∙ term_kinds-Specification s) ∙ k in
-    (there.0, cc (same))
-
-pub only_bracketed : (columns : TableKinds) (parameters kinds : List Kind) (t : BoundTerm) (q : BoundQuery) → t ≡ bound.Bracketed q → AllByRecursion (IsSelect columns parameters []) (term_specifications t)
-    → term_kinds t ≡ Ok kinds → AllByRecursion (IsSelect columns parameters []) (specifications_of q) × (joined_kinds q ≡ Ok kinds)
-only_bracketed columns parameters kinds t q e h k =
-    (subst (AllByRecursion (IsSelect columns parameters [])) (ap term_specifications e ∙ term_specifications-Bracketed q) h, sym (ap term_kinds e ∙ term_kinds-Bracketed q) ∙ k)

@@ -1,22 +1,16 @@
 -- Numbers of the subqueries in query expressions, term by term.
-use Rattle.std.proofs.Common.{◌≡◌, ℕ, List, [], ◌∷◌, ◌++◌, Option, Some, None, sym, subst}
-use Rattle.std.specs.Prelude.{MatchOption}
+use Rattle.std.proofs.Common.{◌≡◌, ℕ, List, [], ◌∷◌, ◌++◌, sym, subst}
 use Rattle.sq_meaning.proofs.AnswerLaws.{all_appended, all_weaker}
 use Rattle.sq_bound.proofs.JoinedLaws.{term_specifications-Bracketed, term_specifications-Specification}
 use Rattle.sq_bound.proofs.Nested.{select_more}
 use Rattle.sq_bound.proofs.Numbered.{both_numbered, part_numbered}
 use Rattle.sq_bound.specs.Joined.{specifications_of, term_specifications}
 use Rattle.sq_bound.specs.Numbered.{AreNumbered, EachWith, IsNumbered, SelectWith}
-use Rattle.sq_bound.specs.NumberedQuery.{CursorHasNumbers, QueryWith}
+use Rattle.sq_bound.specs.NumberedQuery.{QueryWith}
 use Rattle.sq_bound.specs.declared.condition.BoundSpecification.{BoundSpecification}
-use Rattle.sq_bound.specs.declared.query.BoundCursor.{BoundCursor}
 use Rattle.sq_bound.specs.declared.query.BoundQuery.{BoundQuery, out-BoundQuery}
 use Rattle.sq_bound.specs.declared.query.BoundTerm.TheVariants as bound
 use Rattle.sq_bound.specs.declared.query.BoundUnion.{BoundUnion}
-use Rattle.sq_bound.specs.declared.query.CursorBody.TheVariants.{Rows, Updatable}
-use Rattle.sq_bound.specs.declared.query.SortColumn.{SortColumn}
-use Rattle.sq_bound.specs.declared.query.UpdatableQuery.{UpdatableQuery}
-use Rattle.sq_lex.specs.declared.name.Name.{Name}
 use Rattle.sq_bind.proofs.Joins.{first_specifications, further_specifications}
 use Rattle.sq_bind.specs.Numbering.{TermNumbering}
 use Rattle.sq_bind.specs.declared.query.Term.{Term}
@@ -48,10 +42,3 @@ pub further_numbering : (a b c : ℕ) (before q : BoundQuery) (u : BoundUnion) (
     → u.term ≡ t.term → AreNumbered QueryWith a b before → TermNumbering b c t → AreNumbered QueryWith a c q
 further_numbering a b c before q u t first rest side h k =
     subst (AreNumbered (EachWith SelectWith) a c) (sym (further_specifications before q u t first rest side)) (joined_lists a b c (specifications_of before) (term_specifications t.term) h k)
-
--- ---- cursors
-
-pub cursor_numbers : (a b : ℕ) (q : BoundQuery) (order : List SortColumn) (found : Option ((Name × Name) × UpdatableQuery)) (cursor : BoundCursor)
-    → MatchOption found (cursor.body ≡ Rows q order) (λ over. cursor.body ≡ Updatable over.1) → AreNumbered QueryWith a b q → CursorHasNumbers cursor.body
-cursor_numbers a b q order None cursor body h = subst CursorHasNumbers (sym body) (a, (b, h))
-cursor_numbers a b q order (Some over) cursor body h = subst CursorHasNumbers (sym body) tt

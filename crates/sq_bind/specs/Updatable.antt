@@ -1,11 +1,19 @@
 -- Columns of updatable queries (ISO/IEC 9075:1992, 7.9; own rule).
 use Rattle.std.specs.Prelude.{◌≡◌, ◌<◌, ℕ, List, Some, length, map, slice_get}
-use Rattle.std.specs.List.{AllZip}
+use Rattle.std.specs.List.{AllByRecursion, AllZip}
 use Rattle.sq_bound.specs.declared.expression.BoundExpr.{BoundExpr}
 use Rattle.sq_bound.specs.declared.expression.BoundExpr.TheVariants as expr
 use Rattle.sq_bound.specs.declared.expression.Place.{Place}
 use Rattle.sq_bound.specs.declared.names.Column.{Column}
 use Rattle.sq_value.specs.declared.domain.Kind.{Kind}
+
+-- the expression is a column
+abbrev pub IsColumn : BoundExpr → Type 0
+IsColumn e = (p : Place) × (e ≡ expr.Column p)
+
+-- so is each of these expressions
+abbrev pub AreColumns : List BoundExpr → Type 0
+AreColumns = AllByRecursion IsColumn
 
 -- an expression that is a column is one of these
 abbrev pub IsAmong : List Column → BoundExpr → Type 0

@@ -195,7 +195,8 @@ pub(crate) fn bind_insert<N: Names>(
     ensures leaf { IfOk result (λ found. IsLeaf (N.column_kinds names.now) found.part.leaf) }
     ensures table { IfOk result (λ found. IsUnder (N.base_number names.now) environment.now.user insert.now.table found.part.leaf) }
     ensures columns { IfOk result (λ found. AllByRecursion (IsColumnOf found.part.leaf.table) found.part.columns) }
-    ensures source { IfOk result (λ found. IsSource (N.column_kinds names.now) (kinds_of_parameters environment.now.parameters.now) found.part.columns found.part.source) }
+    ensures source { IfOk result (λ found. IsSource (N.column_kinds names.now) (kinds_of_parameters environment.now.parameters.now)
+        found.part.columns found.part.source) }
 {
     let under = changed_table(names, environment.user, insert.table)?;
     let parts = insert_parts(insert, names, environment, under, numbers)?;
@@ -239,7 +240,8 @@ fn insert_parts<N: Names>(
 ) -> Result<(Items<ObjectColumn>, Found<InsertedRows>), BindFault>
     requires { IsOutermost environment.now }
     ensures columns { IfOk result (λ parts. AllByRecursion (IsColumnOf under.entry.leaf.now.table) parts.0) }
-    ensures source { IfOk result (λ parts. IsSource (N.column_kinds names.now) (kinds_of_parameters environment.now.parameters.now) parts.0 parts.1.part) }
+    ensures source { IfOk result (λ parts. IsSource (N.column_kinds names.now) (kinds_of_parameters environment.now.parameters.now) parts.0
+        parts.1.part) }
 {
     let receivers = insert_receivers(environment.alloc, under, &insert.columns)?;
     let columns = object_columns(environment.alloc, receivers.as_slice());
@@ -270,7 +272,8 @@ fn insert_source<N: Names>(
     numbers: &mut SubqueryNumbers,
 ) -> Result<Found<InsertedRows>, BindFault>
     requires { IsOutermost environment.now }
-    ensures { IfOk result (λ found. IsSource (N.column_kinds names.now) (kinds_of_parameters environment.now.parameters.now) (objects_of receivers.now) found.part) }
+    ensures { IfOk result (λ found. IsSource (N.column_kinds names.now) (kinds_of_parameters environment.now.parameters.now)
+        (objects_of receivers.now) found.part) }
 {
     match source {
         InsertSource::Values(list) => insert_values(list, environment, receivers),
@@ -322,7 +325,8 @@ fn insert_values(
     receivers: &[Receiver],
 ) -> Result<Found<InsertedRows>, BindFault>
     requires { IsOutermost environment.now }
-    ensures { (columns : TableKinds) → IfOk result (λ found. IsSource columns (kinds_of_parameters environment.now.parameters.now) (objects_of receivers.now) found.part) }
+    ensures { (columns : TableKinds)
+        → IfOk result (λ found. IsSource columns (kinds_of_parameters environment.now.parameters.now) (objects_of receivers.now) found.part) }
 {
     let Some((first, others)) = receivers.split_first() else {
         return Err(BindFault::CountMismatch);
@@ -369,7 +373,8 @@ fn change_target<'s, N: Names, C: Cursors>(
     requires outermost { IsOutermost environment.now }
     ensures leaf { IfOk result (λ found. leaf_of found.part ≡ under.entry.leaf.now) }
     ensures cursor { IfOk result (λ found. is_cursor (C.cursor_count cursors.now) found.part ≡ true) }
-    ensures well_formed { IfOk result (λ found. IsChangeTarget (N.column_kinds names.now) (kinds_of_parameters environment.now.parameters.now) found.part) }
+    ensures well_formed { IfOk result (λ found. IsChangeTarget (N.column_kinds names.now)
+        (kinds_of_parameters environment.now.parameters.now) found.part) }
     ensures written { IfOk result (λ found. IsTargetOf (λ name number. C.number_of cursors.now name ≡ Some number) target.now found.part) }
 {
     match target {
@@ -403,8 +408,10 @@ fn positioned<C: Cursors>(
 ) -> Result<Found<ChangeTarget>, BindFault>
     ensures leaf { IfOk result (λ found. leaf_of found.part ≡ under.entry.leaf.now) }
     ensures cursor { IfOk result (λ found. is_cursor (C.cursor_count cursors.now) found.part ≡ true) }
-    ensures well_formed { (columns : TableKinds) (parameters : List KindOf) → IsLeaf columns under.entry.leaf.now → IfOk result (λ found. IsChangeTarget columns parameters found.part) }
-    ensures written { IfOk result (λ found. IsTargetOf (λ name number. C.number_of cursors.now name ≡ Some number) (Some (CurrentOf name)) found.part) }
+    ensures well_formed { (columns : TableKinds) (parameters : List KindOf) → IsLeaf columns under.entry.leaf.now
+        → IfOk result (λ found. IsChangeTarget columns parameters found.part) }
+    ensures written { IfOk result (λ found. IsTargetOf (λ name number. C.number_of cursors.now name ≡ Some number) (Some (CurrentOf name))
+        found.part) }
 {
     let Some(known) = cursors.cursor(name) else {
         return Err(BindFault::UnknownCursor);
@@ -443,8 +450,10 @@ pub(crate) fn bind_delete<N: Names, C: Cursors>(
     requires { IsOutermost environment.now }
     ensures fits { IfOk result (λ found. FitsTarget (N.base_tables names.now) (C.cursor_count cursors.now) found.part) }
     ensures table { IfOk result (λ found. IsUnder (N.base_number names.now) environment.now.user delete.now.table (leaf_of found.part)) }
-    ensures well_formed { IfOk result (λ found. IsChangeTarget (N.column_kinds names.now) (kinds_of_parameters environment.now.parameters.now) found.part) }
-    ensures written { IfOk result (λ found. IsTargetOf (λ name number. C.number_of cursors.now name ≡ Some number) delete.now.target found.part) }
+    ensures well_formed { IfOk result (λ found. IsChangeTarget (N.column_kinds names.now)
+        (kinds_of_parameters environment.now.parameters.now) found.part) }
+    ensures written { IfOk result (λ found. IsTargetOf (λ name number. C.number_of cursors.now name ≡ Some number) delete.now.target
+        found.part) }
 {
     let under = changed_table(names, environment.user, delete.table)?;
     let item = item_over(environment.alloc, under.table, None, true)?;
@@ -488,12 +497,17 @@ pub(crate) fn bind_update<N: Names, C: Cursors>(
 ) -> Result<Found<BoundUpdate>, BindFault>
     requires { IsOutermost environment.now }
     ensures target { IfOk result (λ found. FitsTarget (N.base_tables names.now) (C.cursor_count cursors.now) found.part.target) }
-    ensures table { IfOk result (λ found. IsUnder (N.base_number names.now) environment.now.user update.now.table (leaf_of found.part.target)) }
-    ensures written { IfOk result (λ found. IsTargetOf (λ name number. C.number_of cursors.now name ≡ Some number) update.now.target found.part.target) }
+    ensures table { IfOk result (λ found. IsUnder (N.base_number names.now) environment.now.user update.now.table
+        (leaf_of found.part.target)) }
+    ensures written { IfOk result (λ found. IsTargetOf (λ name number. C.number_of cursors.now name ≡ Some number) update.now.target
+        found.part.target) }
     ensures columns { IfOk result (λ found. are_columns (length (leaf_of found.part.target).table.columns) found.part.assignments ≡ true) }
-    ensures well_formed { IfOk result (λ found. IsChangeTarget (N.column_kinds names.now) (kinds_of_parameters environment.now.parameters.now) found.part.target) }
-    ensures assigned { IfOk result (λ found. AllByRecursion (IsAssignment (N.column_kinds names.now) (kinds_of_parameters environment.now.parameters.now) (leaf_of found.part.target).table) found.part.assignments) }
-    ensures objects { IfOk result (λ found. AllByRecursion (λ a. IsColumnOf (leaf_of found.part.target).table a.column) found.part.assignments) }
+    ensures well_formed { IfOk result (λ found. IsChangeTarget (N.column_kinds names.now)
+        (kinds_of_parameters environment.now.parameters.now) found.part.target) }
+    ensures assigned { IfOk result (λ found. AllByRecursion (IsAssignment (N.column_kinds names.now)
+        (kinds_of_parameters environment.now.parameters.now) (leaf_of found.part.target).table) found.part.assignments) }
+    ensures objects { IfOk result (λ found. AllByRecursion (λ a. IsColumnOf (leaf_of found.part.target).table a.column)
+        found.part.assignments) }
 {
     let under = changed_table(names, environment.user, update.table)?;
     let item = item_over(environment.alloc, under.table, None, true)?;
@@ -529,7 +543,8 @@ fn assignments_of<'s, N: Names>(
     requires item { IsItemOver (N.column_kinds names.now) (Base under.leaf.now.table.place) item.now }
     requires outermost { IsOutermost environment.now }
     ensures columns { IfOk result (λ assignments. are_columns (length under.entry.leaf.now.table.columns) assignments.bound ≡ true) }
-    ensures assigned { IfOk result (λ assignments. AllByRecursion (IsAssignment (N.column_kinds names.now) (kinds_of_parameters environment.now.parameters.now) under.entry.leaf.now.table) assignments.bound) }
+    ensures assigned { IfOk result (λ assignments. AllByRecursion (IsAssignment (N.column_kinds names.now)
+        (kinds_of_parameters environment.now.parameters.now) under.entry.leaf.now.table) assignments.bound) }
 {
     let scope = environment.scope_over(from_ref(item), None);
     assignments_within(list, names, &environment.within(scope), under)
@@ -543,7 +558,8 @@ fn assignments_within<N: Names>(
 ) -> Result<Assignments, BindFault>
     requires { AreLevelsIn (N.column_kinds names.now) (of_base under.leaf.now.table) environment.now }
     ensures columns { IfOk result (λ assignments. are_columns (length under.entry.leaf.now.table.columns) assignments.bound ≡ true) }
-    ensures assigned { IfOk result (λ assignments. AllByRecursion (IsAssignment (N.column_kinds names.now) (kinds_of_parameters environment.now.parameters.now) under.entry.leaf.now.table) assignments.bound) }
+    ensures assigned { IfOk result (λ assignments. AllByRecursion (IsAssignment (N.column_kinds names.now)
+        (kinds_of_parameters environment.now.parameters.now) under.entry.leaf.now.table) assignments.bound) }
 {
     let mut assignments = Assignments {
         receivers: Items::new(environment.alloc),
@@ -567,9 +583,11 @@ impl Assignments {
     ) -> Result<(), BindFault>
         requires levels { AreLevelsIn (N.column_kinds names.now) (of_base under.leaf.now.table) environment.now }
         requires columns { are_columns (length under.leaf.now.table.columns) self.old.bound ≡ true }
-        requires assigned { AllByRecursion (IsAssignment (N.column_kinds names.now) (kinds_of_parameters environment.now.parameters.now) under.leaf.now.table) self.old.bound }
+        requires assigned { AllByRecursion (IsAssignment (N.column_kinds names.now) (kinds_of_parameters environment.now.parameters.now)
+            under.leaf.now.table) self.old.bound }
         ensures columns { OnOk result (are_columns (length under.entry.leaf.now.table.columns) self.new.bound ≡ true) }
-        ensures assigned { OnOk result (AllByRecursion (IsAssignment (N.column_kinds names.now) (kinds_of_parameters environment.now.parameters.now) under.entry.leaf.now.table) self.new.bound) }
+        ensures assigned { OnOk result (AllByRecursion (IsAssignment (N.column_kinds names.now)
+            (kinds_of_parameters environment.now.parameters.now) under.entry.leaf.now.table) self.new.bound) }
     {
         let receiver = receiver_of(under, assignment.column)?;
         push_receiver(&mut self.receivers, receiver)?;

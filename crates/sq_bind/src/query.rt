@@ -1,21 +1,19 @@
 //! Query expressions and cursors (ISO/IEC 9075:1992, 7.10, 13.1).
 
-ghost use Rattle.std.specs.Prelude.{◌≡◌, ℕ, [], List, IfOk, IfSome, MatchOption, Ok, Some};
+ghost use Rattle.std.specs.Prelude.{◌≡◌, ℕ, [], List, IfOk, Some};
 ghost use Rattle.std.specs.Result.{result_ok};
-ghost use Rattle.std.specs.List.{AllByRecursion};
 ghost use Rattle.sq_value.specs.declared.domain.Kind.{Kind as AnyKind};
 ghost use Rattle.sq_meaning.specs.Kind.{common_kind};
 ghost use Rattle.sq_bind.specs.Numbering.{QueryNumbering, TermNumbering};
-ghost use Rattle.sq_bound.specs.Numbered.{SelectWith};
-ghost use Rattle.sq_bound.specs.NumberedQuery.{CursorHasNumbers};
+ghost use Rattle.sq_bound.specs.Numbered.{AreNumbered, SelectWith};
+ghost use Rattle.sq_bound.specs.NumberedQuery.{CursorHasNumbers, QueryWith};
 ghost use Rattle.sq_select.specs.Numbering.{Numbering};
 ghost use Rattle.sq_bind.specs.WellFormed.{AreCommon, IsJoined, IsOutermost, IsTerm};
 ghost use Rattle.sq_bind.specs.Written.{IsCursorOf};
 ghost use Rattle.sq_bound.specs.Fits.{FitsCursor, FitsQuery};
-ghost use Rattle.sq_bound.specs.Joined.{joined_kinds, specifications_of, term_kinds, term_specifications};
-ghost use Rattle.sq_bound.specs.WellFormed.{IsCursor, IsQuery, IsSelect, IsUpdatable, TableKinds, kinds_of_parameters, kinds_of_query, kinds_of_select};
+ghost use Rattle.sq_bound.specs.WellFormed.{BasesAreThere, IsCursor, IsQuery, IsSelect, IsUpdatable, TableKinds, kinds_of_parameters, kinds_of_select};
+ghost use Rattle.sq_bound.specs.declared.names.BaseTable.{BaseTable as AnyTable};
 ghost use Rattle.sq_bound.specs.declared.query.BoundQuery.{out-BoundQuery};
-ghost use Rattle.sq_bound.specs.declared.query.CursorBody.TheVariants.{Rows, Updatable};
 
 use crate::updatable::bind_updatable;
 use sq_bound::{
@@ -24,7 +22,7 @@ use sq_bound::{
 };
 use sq_items::{Boxed, Items};
 use sq_lex::{Name, Number};
-use sq_scope::{Environment, both, is_whole, kept, number_value, union_kind};
+use sq_scope::{Environment, Found, both, is_whole, kept, number_value, union_kind};
 use sq_select::{SubqueryNumbers, SubqueryResult, bind_select};
 use sq_tree::{
     CommaList, Cursor, Query, QuerySpecification, QueryTerm, SortDirection, SortKey,
@@ -109,7 +107,8 @@ fn copied(alloc: Global, columns: &Items<ResultColumn>) -> Result<Items<ResultCo
 }
 
 fn specification_term(alloc: Global, query: SubqueryResult) -> TermResult
-    ensures well_formed { (tables : TableKinds) (parameters : List AnyKind) → IfOk query (λ found. IsSelect tables parameters [] found.part) → IfOk result (IsTerm tables parameters) }
+    ensures well_formed { (tables : TableKinds) (parameters : List AnyKind) → IfOk query (λ found. IsSelect tables parameters [] found.part)
+        → IfOk result (IsTerm tables parameters) }
     ensures numbering { (a b : ℕ) → IfOk query (Numbering SelectWith a b) → IfOk result (TermNumbering a b) }
 {
     let found = query?;
@@ -124,7 +123,8 @@ fn specification_term(alloc: Global, query: SubqueryResult) -> TermResult
 }
 
 fn bracketed_term(alloc: Global, query: JoinedResult) -> TermResult
-    ensures well_formed { (tables : TableKinds) (parameters : List AnyKind) → IfOk query (IsJoined tables parameters) → IfOk result (IsTerm tables parameters) }
+    ensures well_formed { (tables : TableKinds) (parameters : List AnyKind) → IfOk query (IsJoined tables parameters)
+        → IfOk result (IsTerm tables parameters) }
     ensures numbering { (a b : ℕ) → IfOk query (QueryNumbering a b) → IfOk result (TermNumbering a b) }
 {
     let Joined {
@@ -147,7 +147,8 @@ fn boxed_query(alloc: Global, query: BoundQuery) -> Result<Boxed<BoundQuery>, Bi
 }
 
 fn started(alloc: Global, term: TermResult) -> JoinedResult
-    ensures well_formed { (tables : TableKinds) (parameters : List AnyKind) → IfOk term (IsTerm tables parameters) → IfOk result (IsJoined tables parameters) }
+    ensures well_formed { (tables : TableKinds) (parameters : List AnyKind) → IfOk term (IsTerm tables parameters)
+        → IfOk result (IsJoined tables parameters) }
     ensures numbering { (a b : ℕ) → IfOk term (TermNumbering a b) → IfOk result (QueryNumbering a b) }
 {
     let Term {
@@ -168,7 +169,8 @@ fn started(alloc: Global, term: TermResult) -> JoinedResult
 /// The query expression with a further term.
 fn with_union(alloc: Global, joined: JoinedResult, all: bool, term: TermResult) -> JoinedResult
     ensures numbering { (a b c : ℕ) → IfOk joined (QueryNumbering a b) → IfOk term (TermNumbering b c) → IfOk result (QueryNumbering a c) }
-    ensures well_formed { (tables : TableKinds) (parameters : List AnyKind) → IfOk joined (IsJoined tables parameters) → IfOk term (IsTerm tables parameters) → IfOk result (IsJoined tables parameters) }
+    ensures well_formed { (tables : TableKinds) (parameters : List AnyKind) → IfOk joined (IsJoined tables parameters)
+        → IfOk term (IsTerm tables parameters) → IfOk result (IsJoined tables parameters) }
 {
     let (joined, term) = both(joined, term)?;
     let columns = common_columns(
@@ -190,7 +192,9 @@ fn push_union(
     copy: Items<ResultColumn>,
 ) -> JoinedResult
     ensures numbering { (a b c : ℕ) → QueryNumbering a b joined → TermNumbering b c term → IfOk result (QueryNumbering a c) }
-    ensures well_formed { (tables : TableKinds) (parameters : List AnyKind) → AreCommon (out-BoundQuery joined.query).columns term.columns columns → copy ≡ columns → IsJoined tables parameters joined → IsTerm tables parameters term → IfOk result (IsJoined tables parameters) }
+    ensures well_formed { (tables : TableKinds) (parameters : List AnyKind)
+        → AreCommon (out-BoundQuery joined.query).columns term.columns columns → copy ≡ columns → IsJoined tables parameters joined
+        → IsTerm tables parameters term → IfOk result (IsJoined tables parameters) }
 {
     let BoundQuery {
         first,
@@ -342,48 +346,13 @@ fn sole_term(term: &QueryTerm) -> Option<&QuerySpecification> {
     }
 }
 
-/// The query specification that a bound query expression is, if there is no UNION.
-#[cycle(sole_bound)]
-fn sole_bound(query: &BoundQuery) -> Option<&BoundSpecification>
-    ensures { (tables : TableKinds) (parameters kinds : List AnyKind) → AllByRecursion (IsSelect tables parameters []) (specifications_of query.now) → joined_kinds query.now ≡ Ok kinds → IfSome result (λ only. IsSelect tables parameters [] only.now × (kinds_of_select only.now ≡ kinds)) }
-{
-    if query.rest.is_empty() {
-        sole_bound_term(&query.first)
-    } else {
-        None
-    }
-}
-
-#[cycle(sole_bound)]
-fn sole_bound_term(term: &BoundTerm) -> Option<&BoundSpecification>
-    ensures { (tables : TableKinds) (parameters kinds : List AnyKind) → AllByRecursion (IsSelect tables parameters []) (term_specifications term.now) → term_kinds term.now ≡ Ok kinds → IfSome result (λ only. IsSelect tables parameters [] only.now × (kinds_of_select only.now ≡ kinds)) }
-{
-    match term {
-        BoundTerm::Specification(query) => Some(query),
-        BoundTerm::Bracketed(query) => sole_bound(query.get()),
-    }
-}
-
-/// What an updatable cursor is over, if the cursor is updatable (13.1; own rule): its query is, and neither ORDER BY nor
-/// SCROLL nor INSENSITIVE is written.
-fn updatable_cursor<N: Names>(
-    cursor: &Cursor,
-    bound: &BoundQuery,
-    names: &N,
-    environment: &Environment<'_>,
-    numbers: &mut SubqueryNumbers,
-) -> Result<Option<((Name, Name), UpdatableQuery)>, BindFault>
-    requires outermost { IsOutermost environment.now }
-    requires bound { IsQuery (N.column_kinds names.now) (kinds_of_parameters environment.now.parameters.now) bound.now }
-    ensures fits { IfOk result (λ found. IfSome found (λ query. FitsQuery (N.base_tables names.now) query.1)) }
-    ensures well_formed { IfOk result (λ found. IfSome found (λ query. IsUpdatable (N.column_kinds names.now) (kinds_of_parameters environment.now.parameters.now) (kinds_of_query bound.now) query.1)) }
-{
+/// The query specification that a cursor's query is, where the cursor may be updatable (13.1; own rule): there is no UNION, and
+/// neither ORDER BY nor SCROLL nor INSENSITIVE is written.
+fn plain_specification(cursor: &Cursor) -> Option<&QuerySpecification> {
     if cursor.insensitive || cursor.scroll || cursor.order_by.is_some() {
-        return Ok(None);
-    }
-    match (sole_specification(&cursor.query), sole_bound(bound)) {
-        (Some(query), Some(bound)) => bind_updatable(query, bound, names, environment, numbers),
-        _ => Ok(None),
+        None
+    } else {
+        sole_specification(&cursor.query)
     }
 }
 
@@ -394,56 +363,143 @@ pub(crate) fn cursor_of<N: Names>(
     environment: &Environment<'_>,
     numbers: &mut SubqueryNumbers,
 ) -> Result<BoundCursor, BindFault>
-    requires { IsOutermost environment.now }
+    requires bases { BasesAreThere (N.base_tables names.now) (N.column_kinds names.now) }
+    requires outermost { IsOutermost environment.now }
     ensures fits { IfOk result (FitsCursor (N.base_tables names.now)) }
     ensures well_formed { IfOk result (IsCursor (N.column_kinds names.now) (kinds_of_parameters environment.now.parameters.now)) }
     ensures written { IfOk result (IsCursorOf cursor.now) }
     ensures numbered { IfOk result (λ cursor. CursorHasNumbers cursor.body) }
 {
+    match plain_specification(cursor) {
+        Some(query) => specification_cursor(cursor, query, names, environment, numbers),
+        None => {
+            let query = bind_query(&cursor.query, names, environment, numbers);
+            query_cursor(environment.alloc, cursor, query)
+        }
+    }
+}
+
+/// A cursor of a query specification alone: it is updatable, if that is.
+fn specification_cursor<N: Names>(
+    cursor: &Cursor,
+    query: &QuerySpecification,
+    names: &N,
+    environment: &Environment<'_>,
+    numbers: &mut SubqueryNumbers,
+) -> Result<BoundCursor, BindFault>
+    requires bases { BasesAreThere (N.base_tables names.now) (N.column_kinds names.now) }
+    requires outermost { IsOutermost environment.now }
+    ensures fits { IfOk result (FitsCursor (N.base_tables names.now)) }
+    ensures well_formed { IfOk result (IsCursor (N.column_kinds names.now) (kinds_of_parameters environment.now.parameters.now)) }
+    ensures written { IfOk result (IsCursorOf cursor.now) }
+    ensures numbered { IfOk result (λ cursor. CursorHasNumbers cursor.body) }
+{
+    let found = bind_select(
+        &query.table,
+        query.quantifier,
+        &query.list,
+        names,
+        environment,
+        numbers,
+    )?;
+    if found.findings.lacks_privilege {
+        drop(found);
+        return Err(BindFault::PrivilegeMissing);
+    }
+    let updatable = bind_updatable(query, &found.part, names, environment, numbers);
+    let (found, updatable) = both(Ok(found), updatable)?;
+    match updatable {
+        Some(over) => updatable_cursor(environment.alloc, cursor, found, over),
+        None => read_cursor(environment.alloc, cursor, found),
+    }
+}
+
+/// A cursor of a query expression, which is not updatable.
+fn query_cursor(
+    alloc: Global,
+    cursor: &Cursor,
+    query: JoinedResult,
+) -> Result<BoundCursor, BindFault>
+    ensures fits { (bases : List AnyTable) → IfOk result (FitsCursor bases) }
+    ensures well_formed { (tables : TableKinds) (parameters : List AnyKind) → IfOk query (IsJoined tables parameters)
+        → IfOk result (IsCursor tables parameters) }
+    ensures written { IfOk result (IsCursorOf cursor.now) }
+    ensures numbered { (a b : ℕ) → IfOk query (QueryNumbering a b) → IfOk result (λ cursor. CursorHasNumbers cursor.body) }
+{
     let Joined {
         query,
         lacks_privilege,
-    } = bind_query(&cursor.query, names, environment, numbers)?;
-    let sorts = sort_columns(
-        environment.alloc,
-        query.columns.as_slice(),
-        &cursor.order_by,
-    );
+    } = query?;
+    let sorts = sort_columns(alloc, query.columns.as_slice(), &cursor.order_by);
     let (query, sorts) = both(Ok(query), sorts)?;
     if lacks_privilege {
         drop(query);
         return Err(BindFault::PrivilegeMissing);
     }
-    let updatable = updatable_cursor(cursor, &query, names, environment, numbers);
-    let columns = copied(environment.alloc, &query.columns);
-    let ((query, columns), updatable) = both(both(Ok(query), columns), updatable)?;
-    Ok(whole_cursor(cursor, query, sorts, columns, updatable))
+    rows_cursor(alloc, cursor, query, sorts)
 }
 
-fn whole_cursor(
+/// A cursor of a query specification that is not updatable.
+fn read_cursor(
+    alloc: Global,
+    cursor: &Cursor,
+    query: Found<BoundSpecification>,
+) -> Result<BoundCursor, BindFault>
+    ensures fits { (bases : List AnyTable) → IfOk result (FitsCursor bases) }
+    ensures well_formed { (tables : TableKinds) (parameters : List AnyKind) → IsSelect tables parameters [] query.part
+        → IfOk result (IsCursor tables parameters) }
+    ensures written { IfOk result (IsCursorOf cursor.now) }
+    ensures numbered { (a b : ℕ) → Numbering SelectWith a b query → IfOk result (λ cursor. CursorHasNumbers cursor.body) }
+{
+    let joined = started(alloc, specification_term(alloc, Ok(query)))?;
+    rows_cursor(alloc, cursor, joined.query, Items::new(alloc))
+}
+
+/// A cursor over the rows of a query expression, in the order of sort columns.
+fn rows_cursor(
+    alloc: Global,
     cursor: &Cursor,
     query: BoundQuery,
     sorts: Items<SortColumn>,
-    columns: Items<ResultColumn>,
-    updatable: Option<((Name, Name), UpdatableQuery)>,
-) -> BoundCursor
-    ensures body { MatchOption updatable (result.body ≡ Rows query sorts) (λ over. result.body ≡ Updatable over.1) }
-    ensures columns { result.columns ≡ columns }
-    ensures written { IsCursorOf cursor.now result }
+) -> Result<BoundCursor, BindFault>
+    ensures fits { (bases : List AnyTable) → IfOk result (FitsCursor bases) }
+    ensures well_formed { (tables : TableKinds) (parameters : List AnyKind) → IsQuery tables parameters query
+        → IfOk result (IsCursor tables parameters) }
+    ensures written { IfOk result (IsCursorOf cursor.now) }
+    ensures numbered { (a b : ℕ) → AreNumbered QueryWith a b query → IfOk result (λ cursor. CursorHasNumbers cursor.body) }
 {
-    let (table, body) = match updatable {
-        None => (None, CursorBody::Rows(query, sorts)),
-        Some((table, updatable)) => {
-            drop(query);
-            drop(sorts);
-            (Some(table), CursorBody::Updatable(updatable))
-        }
-    };
-    BoundCursor {
+    let columns = copied(alloc, &query.columns);
+    let ((query, sorts), columns) = both(Ok((query, sorts)), columns)?;
+    Ok(BoundCursor {
         insensitive: cursor.insensitive,
         scroll: cursor.scroll,
-        table,
+        table: None,
         columns,
-        body,
-    }
+        body: CursorBody::Rows(query, sorts),
+    })
+}
+
+/// A cursor over rows of a base table, with the owner and the name of the table that its query specification names.
+fn updatable_cursor(
+    alloc: Global,
+    cursor: &Cursor,
+    query: Found<BoundSpecification>,
+    over: ((Name, Name), UpdatableQuery),
+) -> Result<BoundCursor, BindFault>
+    ensures fits { (bases : List AnyTable) → FitsQuery bases over.1 → IfOk result (FitsCursor bases) }
+    ensures well_formed { (tables : TableKinds) (parameters : List AnyKind)
+        → IsUpdatable tables parameters (kinds_of_select query.part) over.1 → IfOk result (IsCursor tables parameters) }
+    ensures written { IfOk result (IsCursorOf cursor.now) }
+    ensures numbered { IfOk result (λ cursor. CursorHasNumbers cursor.body) }
+{
+    let columns = copied(alloc, &query.part.columns);
+    drop(query);
+    let ((table, updatable), columns) = both(Ok(over), columns)?;
+    Ok(BoundCursor {
+        insensitive: cursor.insensitive,
+        scroll: cursor.scroll,
+        table: Some(table),
+        columns,
+        body: CursorBody::Updatable(updatable),
+    })
 }

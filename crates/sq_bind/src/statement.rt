@@ -3,14 +3,16 @@
 ghost use Rattle.std.specs.Prelude.{None, ◌≡◌, ◌<◌, [], length, refl, slice_get, true, IfOk, IfSome, Ok, Some, false};
 ghost use Rattle.sq_bound.specs.NumberedQuery.{CursorHasNumbers};
 ghost use Rattle.sq_bound.specs.Fits.{FitsCursor, FitsQuery, FitsStatement, are_parameters};
-ghost use Rattle.sq_bound.specs.WellFormed.{IsCond, IsCursor, IsDistance, IsOrientation, IsSelect, IsStatement, IsUpdatable, TakeKinds, kinds_of_columns, kinds_of_parameters, kinds_of_results, kinds_of_select, of_base_at, only};
+ghost use Rattle.sq_bound.specs.WellFormed.{BasesAreThere, IsCond, IsCursor, IsDistance, IsOrientation, IsSelect, IsStatement, IsUpdatable, TakeKinds, kinds_of_columns, kinds_of_parameters, kinds_of_results, kinds_of_select, of_base_at, only};
 ghost use Rattle.sq_bound.specs.declared.condition.BoundCond.{BoundCond as BoundTree};
+ghost use Rattle.sq_bound.specs.declared.condition.BoundSpecification.{out-BoundSpecification};
 ghost use Rattle.sq_bound.specs.declared.condition.TablePlace.TheVariants.{Base};
 ghost use Rattle.sq_meaning.specs.Status.{well_formed};
 ghost use Rattle.sq_meaning.specs.WellFormed.{Has};
 ghost use Rattle.sq_scope.specs.WellFormed.{IsItemOver};
 ghost use Rattle.sq_scope.specs.declared.findings.Found.{Found as FoundPart};
 ghost use Rattle.sq_bind.specs.NoBases.{no_base, no_view};
+ghost use Rattle.sq_bind.specs.Updatable.{AreColumns};
 ghost use Rattle.sq_bind.specs.WellFormed.{IsOutermost};
 ghost use Rattle.sq_bind.specs.Written.{AreOutputsOf, IsCursorOf, IsDistanceOf, IsFetchOf, IsOrientationOf, IsStatementOf, orientation_of};
 ghost use Rattle.sq_meaning.specs.Spelled.{has_point, listed, signed_number};
@@ -49,6 +51,7 @@ pub fn bind_cursor<N: Names>(
     parameters: &[ParameterDesc],
     cursor: &Cursor,
 ) -> Result<BoundCursor, BindFault>
+    requires { BasesAreThere (N.base_tables names.now) (N.column_kinds names.now) }
     ensures fits { IfOk result (FitsCursor (N.base_tables names.now)) }
     ensures well_formed { IfOk result (IsCursor (N.column_kinds names.now) (kinds_of_parameters parameters.now)) }
     ensures written { IfOk result (IsCursorOf cursor.now) }
@@ -77,9 +80,12 @@ pub fn bind_view<N: Names>(
     user: Name,
     query: &QuerySpecification,
 ) -> Result<BoundView, BindFault>
+    requires { BasesAreThere (N.base_tables names.now) (N.column_kinds names.now) }
     ensures fits { IfOk result (λ view. IfSome view.updatable (λ over. FitsQuery (N.base_tables names.now) over.1)) }
     ensures well_formed { IfOk result (λ view. IsSelect (N.column_kinds names.now) [] [] view.query) }
-    ensures updatable { IfOk result (λ view. IfSome view.updatable (λ over. IsUpdatable (N.column_kinds names.now) [] (kinds_of_select view.query) over.1)) }
+    ensures updatable { IfOk result (λ view. IfSome view.updatable (λ over. IsUpdatable (N.column_kinds names.now) []
+        (kinds_of_select view.query) over.1)) }
+    ensures columns { IfOk result (λ view. IfSome view.updatable (λ _. AreColumns (out-BoundSpecification view.query).list)) }
 {
     let environment = Environment::new(alloc, user, &[]);
     let mut numbers = SubqueryNumbers::new();
@@ -196,7 +202,8 @@ fn checked_over<'s>(
 ) -> Result<BoundCond, BindFault>
     requires item { IsItemOver (only own.now.place (kinds_of_columns own.now.columns.now)) (Base own.now.place) item.now }
     requires outermost { IsOutermost environment.now }
-    ensures { IfOk result (IsCond (only own.now.place (kinds_of_columns own.now.columns.now)) (kinds_of_parameters environment.now.parameters.now) (of_base_at own.now.place) []) }
+    ensures { IfOk result (IsCond (only own.now.place (kinds_of_columns own.now.columns.now))
+        (kinds_of_parameters environment.now.parameters.now) (of_base_at own.now.place) []) }
 {
     let scope = environment.scope_over(from_ref(item), None);
     let mut functions = SetFunctions::forbidden(environment.alloc);
@@ -233,8 +240,10 @@ pub fn bind_statement<N: Names, C: Cursors>(
     statement: &Statement,
 ) -> Result<BoundStatement, BindFault>
     ensures fits { IfOk result (FitsStatement (N.base_tables names.now) (C.cursor_count cursors.now) (length parameters.now)) }
-    ensures well_formed { IfOk result (IsStatement (N.column_kinds names.now) (C.cursor_kinds cursors.now) (kinds_of_parameters parameters.now)) }
-    ensures written { IfOk result (IsStatementOf (N.base_number names.now) (λ name number. C.number_of cursors.now name ≡ Some number) user parameters.now statement.now) }
+    ensures well_formed { IfOk result (IsStatement (N.column_kinds names.now) (C.cursor_kinds cursors.now)
+        (kinds_of_parameters parameters.now)) }
+    ensures written { IfOk result (IsStatementOf (N.base_number names.now) (λ name number. C.number_of cursors.now name ≡ Some number) user
+        parameters.now statement.now) }
 {
     let environment = Environment::new(alloc, user, parameters);
     let mut numbers = SubqueryNumbers::new();
@@ -249,9 +258,12 @@ fn statement_of<N: Names, C: Cursors>(
     numbers: &mut SubqueryNumbers,
 ) -> Result<BoundStatement, BindFault>
     requires { IsOutermost environment.now }
-    ensures fits { IfOk result (FitsStatement (N.base_tables names.now) (C.cursor_count cursors.now) (length environment.now.parameters.now)) }
-    ensures well_formed { IfOk result (IsStatement (N.column_kinds names.now) (C.cursor_kinds cursors.now) (kinds_of_parameters environment.now.parameters.now)) }
-    ensures written { IfOk result (IsStatementOf (N.base_number names.now) (λ name number. C.number_of cursors.now name ≡ Some number) environment.now.user environment.now.parameters.now statement.now) }
+    ensures fits { IfOk result (FitsStatement (N.base_tables names.now) (C.cursor_count cursors.now)
+        (length environment.now.parameters.now)) }
+    ensures well_formed { IfOk result (IsStatement (N.column_kinds names.now) (C.cursor_kinds cursors.now)
+        (kinds_of_parameters environment.now.parameters.now)) }
+    ensures written { IfOk result (IsStatementOf (N.base_number names.now) (λ name number. C.number_of cursors.now name ≡ Some number)
+        environment.now.user environment.now.parameters.now statement.now) }
 {
     match statement {
         Statement::Open(name) => Ok(BoundStatement::Open(known(cursors, *name)?.number)),
@@ -311,7 +323,8 @@ fn deleting(delete: Found<ChangeTarget>) -> Result<BoundStatement, BindFault>
 fn known<C: Cursors>(cursors: &C, name: Name) -> Result<KnownCursor<'_>, BindFault>
     ensures named { IfOk result (λ known. C.number_of cursors.now name ≡ Some known.number) }
     ensures number { IfOk result (λ known. known.number < C.cursor_count cursors.now) }
-    ensures columns { IfOk result (λ known. slice_get (C.cursor_kinds cursors.now) known.number ≡ Some (kinds_of_results known.cursor.now.columns)) }
+    ensures columns { IfOk result (λ known. slice_get (C.cursor_kinds cursors.now) known.number ≡ Some
+        (kinds_of_results known.cursor.now.columns)) }
 {
     match cursors.cursor(name) {
         Some(known) => Ok(known),
@@ -328,8 +341,10 @@ fn bind_row<N: Names>(
 ) -> Result<BoundSelect, BindFault>
     requires { IsOutermost environment.now }
     ensures parameters { IfOk result (λ row. are_parameters (length environment.now.parameters.now) row.outputs ≡ true) }
-    ensures query { IfOk result (λ row. IsSelect (N.column_kinds names.now) (kinds_of_parameters environment.now.parameters.now) [] row.query) }
-    ensures kinds { IfOk result (λ row. TakeKinds (kinds_of_parameters environment.now.parameters.now) row.outputs (kinds_of_select row.query)) }
+    ensures query { IfOk result (λ row. IsSelect (N.column_kinds names.now) (kinds_of_parameters environment.now.parameters.now) []
+        row.query) }
+    ensures kinds { IfOk result (λ row. TakeKinds (kinds_of_parameters environment.now.parameters.now) row.outputs
+        (kinds_of_select row.query)) }
     ensures written { IfOk result (λ row. AreOutputsOf environment.now.parameters.now row.outputs (listed select.now.targets)) }
 {
     let query = bind_select(
@@ -360,8 +375,10 @@ fn bind_fetch<C: Cursors>(
     ensures cursor { IfOk result (λ bound. bound.cursor < C.cursor_count cursors.now) }
     ensures outputs { IfOk result (λ bound. are_parameters (length environment.now.parameters.now) bound.outputs ≡ true) }
     ensures orientation { IfOk result (λ bound. IsOrientation (kinds_of_parameters environment.now.parameters.now) bound.orientation) }
-    ensures kinds { IfOk result (λ bound. Has (TakeKinds (kinds_of_parameters environment.now.parameters.now) bound.outputs) (well_formed (slice_get (C.cursor_kinds cursors.now) bound.cursor))) }
-    ensures written { IfOk result (IsFetchOf (λ name number. C.number_of cursors.now name ≡ Some number) environment.now.parameters.now fetch.now) }
+    ensures kinds { IfOk result (λ bound. Has (TakeKinds (kinds_of_parameters environment.now.parameters.now) bound.outputs)
+        (well_formed (slice_get (C.cursor_kinds cursors.now) bound.cursor))) }
+    ensures written { IfOk result (IsFetchOf (λ name number. C.number_of cursors.now name ≡ Some number) environment.now.parameters.now
+        fetch.now) }
 {
     let known = known(cursors, fetch.cursor)?;
     let parameters = environment.parameters;

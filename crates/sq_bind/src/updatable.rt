@@ -2,20 +2,21 @@
 
 ghost use Rattle.std.specs.Prelude.{◌≡◌, ◌∷◌, [], is_some, nat_lt, length, true, Ok, Some, IfOk, IfSome};
 ghost use Rattle.std.specs.List.{AllByRecursion, list_all};
-ghost use Rattle.sq_bound.specs.Fits.{FitsQuery, IsBase};
+ghost use Rattle.sq_bound.specs.Fits.{FitsQuery, IsBase, IsOver};
 ghost use Rattle.sq_bound.specs.Names.{is_kind_at, option_all};
 ghost use Rattle.sq_bound.specs.Quiet.{is_sure};
-ghost use Rattle.sq_bound.specs.WellFormed.{IsLeaf, IsSelect, IsTarget, IsUpdatable, base_kinds, kinds_of_columns, kinds_of_parameters, kinds_of_select};
+ghost use Rattle.sq_bound.specs.WellFormed.{BasesAreThere, IsLeaf, IsSelect, IsTable, IsTarget, IsUpdatable, base_kinds, kinds_of_columns, kinds_of_parameters, kinds_of_select, place_of};
 ghost use Rattle.sq_bound.specs.declared.condition.BoundSpecification.{out-BoundSpecification};
 ghost use Rattle.sq_bound.specs.declared.condition.TablePlace.{TablePlace as AnyPlace};
 ghost use Rattle.sq_bound.specs.declared.condition.TablePlace.TheVariants.{Base};
+ghost use Rattle.sq_meaning.specs.WellFormed.{HasValue};
 ghost use Rattle.sq_scope.specs.WellFormed.{IsItemOver};
 ghost use Rattle.sq_bind.specs.WellFormed.{IsOutermost};
-ghost use Rattle.sq_bind.specs.Updatable.{AreLeaves, IsAmong, IsLeafOf};
+ghost use Rattle.sq_bind.specs.Updatable.{AreColumns, AreLeaves, IsAmong, IsLeafOf};
 
 use sq_bound::{
     BindFault, BoundCond, BoundConj, BoundExpr, BoundSpecification, BoundTest, Column, Leaf, Names,
-    Predicate, Shared, TableBody, TableDesc, Target, UpdatableQuery, is_sure,
+    Predicate, Shared, TableBody, TableDesc, TablePlace, Target, UpdatableQuery, is_sure,
 };
 use sq_items::Items;
 use sq_lex::Name;
@@ -28,13 +29,32 @@ use std::slice::from_ref;
 /// The table of the only FROM item of a query without DISTINCT, GROUP BY, HAVING and set functions, if the table has rows of a
 /// base table under it.
 fn only_table<'a, N: Names>(bound: &BoundSpecification, names: &'a N) -> Option<Under<'a>>
+    requires bases { BasesAreThere (N.base_tables names.now) (N.column_kinds names.now) }
+    requires tables { AllByRecursion (λ t. HasValue (N.column_kinds names.now t)) (out-BoundSpecification bound.now).from.tables }
     ensures base { IfSome result (λ under. IsBase (N.base_tables names.now) under.leaf.now.table) }
     ensures leaf { IfSome result (λ under. IsLeaf (N.column_kinds names.now) under.leaf.now) }
-    ensures from { IfSome result (λ under. (t : AnyPlace) × ((out-BoundSpecification bound.now).from.tables ≡ t ∷ []) × (N.column_kinds names.now t ≡ Ok (kinds_of_columns under.table.now.columns))) }
+    ensures from { IfSome result (λ under. (t : AnyPlace) × ((out-BoundSpecification bound.now).from.tables ≡ t ∷ []) × (N.column_kinds
+        names.now t ≡ Ok (kinds_of_columns under.table.now.columns))) }
 {
     match bound.from.tables.as_slice() {
-        [place] if !bound.distinct && bound.grouping.is_none() => { under_table(names.at(*place)?) }
+        [place] if !bound.distinct && bound.grouping.is_none() => {
+            under_table(table_at(names, *place))
+        }
         _ => None,
+    }
+}
+
+/// A table that is there.
+fn table_at<N: Names>(names: &N, place: TablePlace) -> &TableDesc
+    requires bases { BasesAreThere (N.base_tables names.now) (N.column_kinds names.now) }
+    requires there { HasValue (N.column_kinds names.now place) }
+    ensures over { IsOver (N.base_tables names.now) result.now }
+    ensures well_formed { IsTable (N.column_kinds names.now) result.now }
+    ensures place { place_of result.now.body ≡ place }
+{
+    match names.at(place) {
+        Some(table) => table,
+        None => unreachable!(),
     }
 }
 
@@ -47,10 +67,13 @@ pub(crate) fn bind_updatable<N: Names>(
     environment: &Environment<'_>,
     numbers: &mut SubqueryNumbers,
 ) -> Result<Option<((Name, Name), UpdatableQuery)>, BindFault>
+    requires bases { BasesAreThere (N.base_tables names.now) (N.column_kinds names.now) }
     requires outermost { IsOutermost environment.now }
     requires bound { IsSelect (N.column_kinds names.now) (kinds_of_parameters environment.now.parameters.now) [] bound.now }
     ensures fits { IfOk result (λ found. IfSome found (λ query. FitsQuery (N.base_tables names.now) query.1)) }
-    ensures well_formed { IfOk result (λ found. IfSome found (λ query. IsUpdatable (N.column_kinds names.now) (kinds_of_parameters environment.now.parameters.now) (kinds_of_select bound.now) query.1)) }
+    ensures well_formed { IfOk result (λ found. IfSome found (λ query. IsUpdatable (N.column_kinds names.now)
+        (kinds_of_parameters environment.now.parameters.now) (kinds_of_select bound.now) query.1)) }
+    ensures columns { IfOk result (λ found. IfSome found (λ _. AreColumns (out-BoundSpecification bound.now).list)) }
 {
     match only_table(bound, names) {
         Some(under) => updatable_over(under, query, bound, names, environment, numbers),
@@ -68,11 +91,14 @@ fn updatable_over<N: Names>(
 ) -> Result<Option<((Name, Name), UpdatableQuery)>, BindFault>
     requires base { IsBase (N.base_tables names.now) under.leaf.now.table }
     requires leaf { IsLeaf (N.column_kinds names.now) under.leaf.now }
-    requires from { (t : AnyPlace) × ((out-BoundSpecification bound.now).from.tables ≡ t ∷ []) × (N.column_kinds names.now t ≡ Ok (kinds_of_columns under.table.now.columns)) }
+    requires from { (t : AnyPlace) × ((out-BoundSpecification bound.now).from.tables ≡ t ∷ [])
+        × (N.column_kinds names.now t ≡ Ok (kinds_of_columns under.table.now.columns)) }
     requires outermost { IsOutermost environment.now }
     requires bound { IsSelect (N.column_kinds names.now) (kinds_of_parameters environment.now.parameters.now) [] bound.now }
     ensures fits { IfOk result (λ found. IfSome found (λ query. FitsQuery (N.base_tables names.now) query.1)) }
-    ensures well_formed { IfOk result (λ found. IfSome found (λ query. IsUpdatable (N.column_kinds names.now) (kinds_of_parameters environment.now.parameters.now) (kinds_of_select bound.now) query.1)) }
+    ensures well_formed { IfOk result (λ found. IfSome found (λ query. IsUpdatable (N.column_kinds names.now)
+        (kinds_of_parameters environment.now.parameters.now) (kinds_of_select bound.now) query.1)) }
+    ensures columns { IfOk result (λ found. IfSome found (λ _. AreColumns (out-BoundSpecification bound.now).list)) }
 {
     let correlation = correlation_of(&query.table.from.first);
     let item = item_over(environment.alloc, under.table, correlation, true)?;
@@ -231,7 +257,8 @@ pub(crate) fn bind_target<'s, N: Names>(
     requires item { IsItemOver (N.column_kinds names.now) (Base under.leaf.now.table.place) item.now }
     requires outermost { IsOutermost environment.now }
     ensures leaf { IfOk result (λ found. found.part.leaf ≡ under.entry.leaf.now) }
-    ensures well_formed { IfOk result (λ found. IsTarget (N.column_kinds names.now) (kinds_of_parameters environment.now.parameters.now) found.part) }
+    ensures well_formed { IfOk result (λ found. IsTarget (N.column_kinds names.now) (kinds_of_parameters environment.now.parameters.now)
+        found.part) }
     ensures condition { IfOk result (λ found. is_some found.part.condition ≡ is_some cond.entry) }
 {
     let Some(cond) = cond else {

@@ -7,7 +7,7 @@ use Rattle.sq_bound.specs.Fits.{FitsQuery, IsBase, IsOver, refers}
 use Rattle.sq_bound.specs.Names.{is_kind_at}
 use Rattle.sq_bound.specs.WellFormed.{IsCond, IsLeaf, IsSelect, IsTable, IsUpdatable, TableKinds, base_kinds, kinds_of_columns, kinds_of_select, of_base_at, only, place_of}
 use Rattle.sq_bound.specs.declared.condition.BoundCond.{BoundCond}
-use Rattle.sq_bound.specs.declared.condition.BoundSpecification.{BoundSpecification}
+use Rattle.sq_bound.specs.declared.condition.BoundSpecification.{BoundSpecification, out-BoundSpecification}
 use Rattle.sq_bound.specs.declared.query.UpdatableQuery.{UpdatableQuery}
 use Rattle.sq_bound.specs.declared.condition.TablePlace.{TablePlace}
 use Rattle.sq_bound.specs.declared.condition.TablePlace.TheVariants.{Base, View}
@@ -17,6 +17,7 @@ use Rattle.sq_bound.specs.declared.names.Leaf.{Leaf}
 use Rattle.sq_bound.specs.declared.names.TableBody.{TableBody}
 use Rattle.sq_bound.specs.declared.names.TableBody.TheVariants as body
 use Rattle.sq_bound.specs.declared.names.TableDesc.{TableDesc}
+use Rattle.sq_bind.specs.Updatable.{AreColumns}
 use Rattle.sq_catalog.specs.Catalog.{Catalog, column_kinds, kinds_at}
 use Rattle.sq_catalog.specs.declared.catalog.FullName.{FullName}
 
@@ -119,8 +120,9 @@ pub record IsNextView (c : Catalog) (name : FullName) (t : TableDesc) : Type 0 w
   pub leaf : IfSome t.leaf (IsLeaf (column_kinds c))
   pub body : IsViewOver (column_kinds c) (kinds_of_columns t.columns) t.body
 
--- a view's query, bound over the tables and views of a catalog, and what it is where it is updatable
+-- a view's query, bound over the tables and views of a catalog, and what it is where it is updatable: then it selects columns alone
 pub record IsBoundOver (c : Catalog) (q : BoundSpecification) (updatable : Option ((Name × Name) × UpdatableQuery)) : Type 0 where
   pub fits : IfSome updatable (λ over. FitsQuery c.bases over.1)
   pub query : IsSelect (column_kinds c) [] [] q
   pub target : IfSome updatable (λ over. IsUpdatable (column_kinds c) [] (kinds_of_select q) over.1)
+  pub columns : IfSome updatable (λ over. AreColumns (out-BoundSpecification q).list)

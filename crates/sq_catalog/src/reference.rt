@@ -118,7 +118,8 @@ fn listed_columns(
     earlier: Option<&TableDesc>,
     to: &References,
 ) -> Result<Option<Items<usize>>, ElementFault>
-    ensures { IfOk result (λ listed. option_all (are_positions (target_width (column_count own.now.columns.now) earlier.entry)) listed ≡ true) }
+    ensures { IfOk result (λ listed. option_all (are_positions (target_width (column_count own.now.columns.now) earlier.entry))
+        listed ≡ true) }
 {
     match &to.columns {
         Some(list) => {
@@ -186,7 +187,8 @@ fn target_of<'a>(
     earlier: Option<&'a TableDesc>,
 ) -> Result<Target<'a>, ElementFault>
     requires { IfSome earlier (λ table. IsStored own.before.now table.now) }
-    ensures keys { IfOk result (λ target. keys_at (keys_with own.entry.before.now own.entry.keys.now.columns) target.place ≡ target.keys.now) }
+    ensures keys { IfOk result (λ target. keys_at (keys_with own.entry.before.now own.entry.keys.now.columns)
+        target.place ≡ target.keys.now) }
     ensures columns { IfOk result (λ target. length target.columns.now ≡ target_width (length own.entry.columns.now) earlier.entry) }
 {
     match earlier {
@@ -202,7 +204,8 @@ fn target_of<'a>(
 
 fn base_target<'a>(own: OwnKeys<'a>, table: &'a TableDesc) -> Result<Target<'a>, ElementFault>
     requires { IsStored own.before.now table.now }
-    ensures keys { IfOk result (λ target. keys_at (keys_with own.entry.before.now own.entry.keys.now.columns) target.place ≡ target.keys.now) }
+    ensures keys { IfOk result (λ target. keys_at (keys_with own.entry.before.now own.entry.keys.now.columns)
+        target.place ≡ target.keys.now) }
     ensures columns { IfOk result (λ target. length target.columns.now ≡ length table.now.columns) }
 {
     match &table.body {
@@ -235,7 +238,8 @@ pub(crate) fn bound_references<'a>(
     found: &'a [FoundReference<'a>],
 ) -> Result<BoundReferences, ElementFault>
     requires { All (IsFound own.before.now (length own.columns.now)) found.now }
-    ensures { IfOk result (λ bound. list_all (is_to (keys_with own.entry.before.now own.entry.keys.now.columns) (length own.entry.columns.now)) bound.references ≡ true) }
+    ensures { IfOk result (λ bound. list_all (is_to (keys_with own.entry.before.now own.entry.keys.now.columns)
+        (length own.entry.columns.now)) bound.references ≡ true) }
 {
     let mut bound = BoundReferences {
         references: Items::new(catalog.alloc()),
@@ -259,8 +263,10 @@ impl BoundReferences {
         found: &'a [FoundReference<'a>],
     ) -> Result<(), ElementFault>
         requires found { All (IsFound own.before.now (length own.columns.now)) found.now }
-        requires bound { list_all (is_to (keys_with own.before.now own.keys.now.columns) (length own.columns.now)) self.old.references ≡ true }
-        ensures { OnOk result (list_all (is_to (keys_with own.entry.before.now own.entry.keys.now.columns) (length own.entry.columns.now)) self.new.references ≡ true) }
+        requires bound { list_all (is_to (keys_with own.before.now own.keys.now.columns) (length own.columns.now))
+            self.old.references ≡ true }
+        ensures { OnOk result (list_all (is_to (keys_with own.entry.before.now own.entry.keys.now.columns) (length own.entry.columns.now))
+            self.new.references ≡ true) }
     {
         for reference in found {
             self.add(catalog, user, own, reference)?;
@@ -276,8 +282,10 @@ impl BoundReferences {
         reference: &'a FoundReference<'a>,
     ) -> Result<(), ElementFault>
         requires found { IsFound own.before.now (length own.columns.now) reference.now }
-        requires bound { list_all (is_to (keys_with own.before.now own.keys.now.columns) (length own.columns.now)) self.old.references ≡ true }
-        ensures { OnOk result (list_all (is_to (keys_with own.entry.before.now own.entry.keys.now.columns) (length own.entry.columns.now)) self.new.references ≡ true) }
+        requires bound { list_all (is_to (keys_with own.before.now own.keys.now.columns) (length own.columns.now))
+            self.old.references ≡ true }
+        ensures { OnOk result (list_all (is_to (keys_with own.entry.before.now own.entry.keys.now.columns) (length own.entry.columns.now))
+            self.new.references ≡ true) }
     {
         let target = target_of(own, reference.earlier)?;
         let key = referenced_key(target, &reference.listed)?;
@@ -473,7 +481,8 @@ fn push_paired(
     requires pairs { length listed.now ≡ length columns.now }
     requires listed { list_any (λ other. nat_eq other key_column) listed.now ≡ true }
     ensures paired { OnOk result (length ordered.new ≡ length ordered.old + 1) }
-    ensures positions { OnOk result ((width : ℕ) → are_positions width columns.now ≡ true → are_positions width ordered.old ≡ true → are_positions width ordered.new ≡ true) }
+    ensures positions { OnOk result ((width : ℕ) → are_positions width columns.now ≡ true → are_positions width
+        ordered.old ≡ true → are_positions width ordered.new ≡ true) }
 {
     for (pair, other) in listed.iter().enumerate() {
         if *other == key_column {

@@ -166,7 +166,8 @@ impl Catalog {
         ensures kinds { IfOk result (λ base. base_kinds base ≡ kinds_of_columns columns.now) }
         ensures place { IfOk result (λ base. base.place ≡ length self.now.bases) }
         ensures checks { IfOk result (λ base. AreChecksAt (length self.now.bases) (kinds_of_columns columns.now) base.checks) }
-        ensures refer { IfOk result (λ base. list_all (is_to (keys_with self.now.bases base.keys) (length columns.now)) base.references ≡ true) }
+        ensures refer { IfOk result (λ base. list_all (is_to (keys_with self.now.bases base.keys) (length columns.now))
+            base.references ≡ true) }
     {
         draft.check_keys()?;
         let (base, may_reference) = self.base_of(user, name, columns, draft)?;
@@ -193,7 +194,8 @@ impl Catalog {
         ensures kinds { IfOk result (λ made. base_kinds made.0 ≡ kinds_of_columns columns.now) }
         ensures place { IfOk result (λ made. made.0.place ≡ length self.now.bases) }
         ensures checks { IfOk result (λ made. AreChecksAt (length self.now.bases) (kinds_of_columns columns.now) made.0.checks) }
-        ensures refer { IfOk result (λ made. list_all (is_to (keys_with self.now.bases made.0.keys) (length columns.now)) made.0.references ≡ true) }
+        ensures refer { IfOk result (λ made. list_all (is_to (keys_with self.now.bases made.0.keys) (length columns.now))
+            made.0.references ≡ true) }
     {
         let own = OwnKeys {
             before: self.bases(),

@@ -7,6 +7,7 @@ ghost use Rattle.sq_bound.specs.Fits.{IsBase};
 ghost use Rattle.sq_bound.specs.Names.{option_all};
 ghost use Rattle.sq_bound.specs.Quiet.{are_sure, is_sure};
 ghost use Rattle.sq_bound.specs.WellFormed.{IsLeaf, IsSelect, IsTarget, IsUpdatable, TableKinds, base_kinds, kinds_of_columns, kinds_of_results, kinds_of_select};
+ghost use Rattle.sq_bind.specs.Updatable.{AreColumns, IsColumn};
 ghost use Rattle.sq_catalog.specs.Catalog.{Gains, column_kinds};
 ghost use Rattle.sq_catalog.specs.Stored.{AreColumnsOver, IsBoundOver, IsNextView};
 ghost use Rattle.sq_catalog.specs.View.{conditions_with};
@@ -111,6 +112,7 @@ impl Catalog {
         definition: &ViewDefinition,
         bound: &BoundView,
     ) -> Result<Items<OwnerGrant>, ElementFault>
+        requires { IsBoundOver self.now bound.now.query bound.now.updatable }
         ensures { OnOk result (name.now.user ≡ user) }
     {
         self.check_view(user, name, definition, bound)?;
@@ -134,11 +136,9 @@ impl Catalog {
     }
 
     /// What the owner of a view holds on it: SELECT, and on an updatable view what the owner holds on the table underneath.
-    fn owner_grants(
-        &self,
-        user: Name,
-        bound: &BoundView,
-    ) -> Result<Items<OwnerGrant>, ElementFault> {
+    fn owner_grants(&self, user: Name, bound: &BoundView) -> Result<Items<OwnerGrant>, ElementFault>
+        requires { IsBoundOver self.now bound.now.query bound.now.updatable }
+    {
         let mut grants = Items::new(self.alloc());
         grants.push(OwnerGrant {
             privilege: Privilege {
@@ -152,26 +152,26 @@ impl Catalog {
                 user: under.0,
                 name: under.1,
             };
-            self.push_followed(&mut grants, user, &under, &bound.query)?;
+            self.push_followed(&mut grants, user, &under, bound.query.list.as_slice())?;
         }
         Ok(grants)
     }
 
-    /// INSERT, DELETE and, column by column, UPDATE as they are held on the table underneath.
+    /// INSERT, DELETE and, for each of the view's columns, UPDATE as they are held on the table underneath.
     fn push_followed(
         &self,
         grants: &mut Items<OwnerGrant>,
         user: Name,
         under: &FullName,
-        query: &BoundSpecification,
-    ) -> Result<(), ElementFault> {
+        columns: &[BoundExpr],
+    ) -> Result<(), ElementFault>
+        requires { AreColumns columns.now }
+    {
         self.push_if_held(grants, user, under, Action::Insert, None, None)?;
         self.push_if_held(grants, user, under, Action::Delete, None, None)?;
-        for (position, expr) in query.list.as_slice().iter().enumerate() {
-            if let BoundExpr::Column(place) = expr {
-                let below = Some(place.column);
-                self.push_if_held(grants, user, under, Action::Update, below, Some(position))?;
-            }
+        for (position, column) in columns.iter().enumerate() {
+            let below = Some(column_position(column));
+            self.push_if_held(grants, user, under, Action::Update, below, Some(position))?;
         }
         Ok(())
     }
@@ -320,6 +320,16 @@ impl Catalog {
             }),
             leaf: Some(leaf),
         }
+    }
+}
+
+/// The position of a column in its table.
+fn column_position(column: &BoundExpr) -> usize
+    requires { IsColumn column.now }
+{
+    match column {
+        BoundExpr::Column(place) => place.column,
+        _ => unreachable!(),
     }
 }
 
@@ -537,7 +547,8 @@ fn placed_columns(
     below: &[usize],
 ) -> Result<Items<Column>, ElementFault>
     requires { length below.now ≡ length columns.now }
-    ensures { IfOk result (λ placed. (base : List Kind) → AllZip (λ p k. slice_get base p ≡ Some k) below.now (kinds_of_columns columns.now) → AreColumnsOver base (kinds_of_columns columns.now) placed) }
+    ensures { IfOk result (λ placed. (base : List Kind) → AllZip (λ p k. slice_get base p ≡ Some k) below.now
+        (kinds_of_columns columns.now) → AreColumnsOver base (kinds_of_columns columns.now) placed) }
 {
     let mut placed = Items::new(alloc);
     for (position, column) in columns.iter().enumerate() {

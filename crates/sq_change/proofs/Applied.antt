@@ -10,7 +10,7 @@ use Rattle.sq_store.specs.Change.{insert_count, rows_put}
 use Rattle.sq_bound.specs.Fits.{under}
 use Rattle.sq_bound.specs.declared.statement.ChangeTarget.{ChangeTarget}
 use Rattle.sq_bound.specs.declared.statement.ChangeTarget.TheVariants as target
-use Rattle.sq_change.specs.Changed.{Removals, Replacements, are_replacements, are_wide}
+use Rattle.sq_change.specs.Changed.{AreReplacements, Removals, Replacements, are_wide}
 use Rattle.sq_change.specs.Statement.{base_of}
 
 -- ---- new rows
@@ -21,11 +21,13 @@ fewer_inserted (Insert row ∷ changes) = omega (arith, fewer_inserted changes)
 fewer_inserted (Replace number row ∷ changes) = omega (arith, fewer_inserted changes)
 fewer_inserted (Remove number ∷ changes) = omega (arith, fewer_inserted changes)
 
-none_inserted : (numbers : List ℕ) (changes : List Change) → are_replacements numbers changes ≡ true → insert_count changes ≡ 0
-none_inserted numbers [] h = refl
-none_inserted numbers (Insert row ∷ changes) h = cc
-none_inserted numbers (Replace number row ∷ changes) h = none_inserted numbers changes (grind (arith, common_steps))
-none_inserted numbers (Remove number ∷ changes) h = cc
+none_inserted : (numbers : List ℕ) (changes : List Change) → AreReplacements numbers changes → insert_count changes ≡ 0
+none_inserted [] [] h = refl
+none_inserted [] (change ∷ changes) h = absurd h
+none_inserted (n ∷ numbers) [] h = absurd h
+none_inserted (n ∷ numbers) (Insert row ∷ changes) h = absurd h.0
+none_inserted (n ∷ numbers) (Replace number row ∷ changes) h = none_inserted numbers changes h.1
+none_inserted (n ∷ numbers) (Remove number ∷ changes) h = absurd h.0
 
 removed_none : (numbers : List ℕ) → insert_count (map Remove numbers) ≡ 0
 removed_none [] = refl

@@ -160,11 +160,14 @@ found_stored (c ∷ columns) values place i v h e at =
     let test : ObjectColumn → Bool = λ x. nat_eq x.position place in
     stored_where (c ∷ columns) values place i v h (position-Some test (c ∷ columns) i c e).0 (λ d. (position-Some test (c ∷ columns) i d e).1) at
 
+-- one more, for the next of the others
+pub zipped_push : {X Y : Type 0} (P : X → Y → Type 0) (xs : List X) (i : ℕ) (ys : List Y) (x : X) (y : Y) → i < length xs → x ≡ get_or xs i x → AllZip P (take i xs) ys → P x y → AllZip P (take (i + 1) xs) (ys ++ y ∷ [])
+zipped_push P xs i ys x y lt e h is = rw (add-one, take-suc xs i x lt, ← e) (all_zipped_more P (take i xs) ys x y h is)
+
 -- one more value of a row
 pub stored_push : (columns : List ObjectColumn) (i : ℕ) (values : List Value) (c : ObjectColumn) (v : Value) → i < length columns → c ≡ get_or columns i c → AreStored (take i columns) values → IsInDomain c.domain v
     → AreStored (take (i + 1) columns) (values ++ v ∷ [])
-stored_push columns i values c v lt e h is =
-    rw (add-one, take-suc columns i c lt, ← e) (all_zipped_more (λ d w. IsInDomain d.domain w) (take i columns) values c v h is)
+stored_push columns i values c v lt e h is = zipped_push (λ d w. IsInDomain d.domain w) columns i values c v lt e h is
 
 -- where the loop over as many other elements has ended
 pub stored_all : {X : Type 0} (P : ObjectColumn → X → Type 0) (columns : List ObjectColumn) (xs : List X) (n : ℕ) (values : List Value) → AllZip P columns xs → n ≡ min (length columns) (length xs)

@@ -2,7 +2,6 @@
 use Rattle.std.proofs.Common.{◌≡◌, ◌<◌, ℕ, true, List, [], ◌∷◌, length, Option, Result, Ok, Err, map, refl, subst, arith}
 use Rattle.std.specs.Prelude.{IfOk, Vec}
 use Rattle.std.specs.declared.alloc.Global.{Global}
-use Rattle.std.proofs.lemmas.Grind.{common_steps}
 use Rattle.sq_store.specs.declared.change.Change.{Change}
 use Rattle.sq_store.specs.declared.change.Change.TheVariants.{Insert, Replace, Remove}
 use Rattle.sq_store.specs.declared.table.Numbered.{Numbered}
@@ -12,9 +11,9 @@ use Rattle.sq_store.specs.Content.{Content, changed_by, inserted, removed, repla
 use Rattle.sq_bound.specs.Fits.{under}
 use Rattle.sq_expression.specs.declared.fault.Fault.{Fault}
 use Rattle.sq_bound.specs.declared.statement.ChangeTarget.{ChangeTarget}
-use Rattle.sq_change.specs.Changed.{Removals, Replacements, are_insertions, are_replacements}
+use Rattle.sq_change.specs.Changed.{AreReplacements, Removals, Replacements, are_insertions}
 use Rattle.sq_change.specs.declared.complete.Changed.{Changed}
-use Rattle.sq_change.specs.Statement.{Chosen, Deletes, Inserts, Updates, are_numbered, with_replaced, with_rows, without}
+use Rattle.sq_change.specs.Statement.{Chosen, Deletes, Inserts, Updates, with_replaced, with_rows, without}
 use Rattle.sq_change.proofs.Applied.{base_under}
 
 -- ---- INSERT
@@ -48,17 +47,21 @@ rows_replaced (Insert row ∷ changes) = rows_replaced changes
 rows_replaced (Replace number row ∷ changes) = record { number = number; row = row } ∷ rows_replaced changes
 rows_replaced (Remove number ∷ changes) = rows_replaced changes
 
-all_replaced : (numbers : List ℕ) (t : Table) (changes : List Change) → are_replacements numbers changes ≡ true → changed_by t changes ≡ with_replaced t (rows_replaced changes)
-all_replaced numbers t [] h = refl
-all_replaced numbers t (Insert row ∷ changes) h = cc
-all_replaced numbers t (Replace number row ∷ changes) h = all_replaced numbers (replaced t number row) changes (grind (arith, common_steps))
-all_replaced numbers t (Remove number ∷ changes) h = cc
+all_replaced : (numbers : List ℕ) (t : Table) (changes : List Change) → AreReplacements numbers changes → changed_by t changes ≡ with_replaced t (rows_replaced changes)
+all_replaced [] t [] h = refl
+all_replaced [] t (change ∷ changes) h = absurd h
+all_replaced (n ∷ numbers) t [] h = absurd h
+all_replaced (n ∷ numbers) t (Insert row ∷ changes) h = absurd h.0
+all_replaced (n ∷ numbers) t (Replace number row ∷ changes) h = all_replaced numbers (replaced t number row) changes h.1
+all_replaced (n ∷ numbers) t (Remove number ∷ changes) h = absurd h.0
 
-replaced_numbered : (numbers : List ℕ) (changes : List Change) → are_replacements numbers changes ≡ true → are_numbered numbers (rows_replaced changes) ≡ true
-replaced_numbered numbers [] h = refl
-replaced_numbered numbers (Insert row ∷ changes) h = cc
-replaced_numbered numbers (Replace number row ∷ changes) h = let k = replaced_numbered numbers changes (grind (arith, common_steps)) in grind (arith, common_steps)
-replaced_numbered numbers (Remove number ∷ changes) h = cc
+replaced_numbered : (numbers : List ℕ) (changes : List Change) → AreReplacements numbers changes → map (λ (r : Numbered). r.number) (rows_replaced changes) ≡ numbers
+replaced_numbered [] [] h = refl
+replaced_numbered [] (change ∷ changes) h = absurd h
+replaced_numbered (n ∷ numbers) [] h = absurd h
+replaced_numbered (n ∷ numbers) (Insert row ∷ changes) h = absurd h.0
+replaced_numbered (n ∷ numbers) (Replace number row ∷ changes) h = λ i. h.0 i ∷ replaced_numbered numbers changes h.1 i
+replaced_numbered (n ∷ numbers) (Remove number ∷ changes) h = absurd h.0
 
 pub updates : (t : ChangeTarget) (on : Option ℕ) (before after : Content) (changes : List Change) → Replacements t on changes
     → after ≡ with_table before (under t).table.place (changed_by (table_at before (under t).table.place) changes) → Updates t on before after
@@ -86,10 +89,10 @@ deletes t on before after changes h made = record {
 
 -- changes of the chosen rows, whatever else comes of them
 pub replacements_kept : (t : ChangeTarget) (on : Option ℕ) (numbers : List ℕ) (changes : Result (Vec Change Global) Fault) (r : Result Changed Fault) → Chosen t on numbers
-    → IfOk changes (λ cs. are_replacements numbers cs.items ≡ true) → IfOk r (λ changed. changes ≡ Ok changed.changes) → IfOk r (λ changed. Replacements t on changed.changes.items)
+    → IfOk changes (λ cs. AreReplacements numbers cs.items) → IfOk r (λ changed. changes ≡ Ok changed.changes) → IfOk r (λ changed. Replacements t on changed.changes.items)
 replacements_kept t on numbers changes (Err f) chosen all same = tt
 replacements_kept t on numbers changes (Ok changed) chosen all same = record {
   numbers = numbers;
   chosen = chosen;
-  all = subst (λ (o : Result (Vec Change Global) Fault). IfOk o (λ cs. are_replacements numbers cs.items ≡ true)) same all;
+  all = subst (λ (o : Result (Vec Change Global) Fault). IfOk o (λ cs. AreReplacements numbers cs.items)) same all;
 }

@@ -1,6 +1,6 @@
 -- What a statement is going to change, by its kind.
 use Rattle.std.specs.Prelude.{◌≡◌, ℕ, Bool, true, false, List, length, map, nat_eq, Option}
-use Rattle.std.specs.List.{AllByRecursion, list_all, list_any}
+use Rattle.std.specs.List.{AllByRecursion, AllZip, list_all}
 use Rattle.sq_value.specs.declared.domain.Kind.{Kind}
 use Rattle.sq_value.specs.declared.value.Value.{Value}
 use Rattle.sq_store.specs.declared.change.Change.{Change}
@@ -35,19 +35,20 @@ is_insertion (Remove number) = false
 abbrev pub are_insertions : List Change → Bool
 are_insertions changes = list_all is_insertion changes
 
--- only other rows under some of the numbers
-abbrev pub is_replacement : List ℕ → Change → Bool
-is_replacement numbers (Insert row) = false
-is_replacement numbers (Replace number row) = list_any (nat_eq number) numbers
-is_replacement numbers (Remove number) = false
+-- another row under this number
+abbrev pub IsReplacement : ℕ → Change → Type 0
+IsReplacement number (Insert row) = ⊥
+IsReplacement number (Replace n row) = n ≡ number
+IsReplacement number (Remove n) = ⊥
 
-abbrev pub are_replacements : List ℕ → List Change → Bool
-are_replacements numbers changes = list_all (is_replacement numbers) changes
+-- another row under each of the numbers
+abbrev pub AreReplacements : List ℕ → List Change → Type 0
+AreReplacements = AllZip IsReplacement
 
 pub record Replacements (t : ChangeTarget) (on : Option ℕ) (changes : List Change) : Type 0 where
   pub numbers : List ℕ
   pub chosen : Chosen t on numbers
-  pub all : are_replacements numbers changes ≡ true
+  pub all : AreReplacements numbers changes
 
 -- the removal of the rows under the numbers
 pub record Removals (t : ChangeTarget) (on : Option ℕ) (changes : List Change) : Type 0 where

@@ -10,13 +10,14 @@ use Rattle.sq_value.specs.declared.domain.Kind.{Kind}
 use Rattle.sq_meaning.specs.Environment.{Row, Line}
 use Rattle.sq_meaning.specs.Status.{Outcome}
 use Rattle.sq_meaning.specs.WellFormed.{IsRowOf}
-use Rattle.sq_bound.specs.WellFormed.{TableKinds, IsSource, IsAssignment}
+use Rattle.sq_bound.specs.WellFormed.{TableKinds, IsChangeTarget, IsSource, IsAssignment}
 use Rattle.sq_bound.specs.declared.condition.BoundSpecification.{BoundSpecification}
 use Rattle.sq_bound.specs.declared.condition.TablePlace.{TablePlace}
 use Rattle.sq_bound.specs.declared.expression.BoundExpr.{BoundExpr}
 use Rattle.sq_bound.specs.declared.names.BaseTable.{BaseTable}
 use Rattle.sq_bound.specs.declared.names.ObjectColumn.{ObjectColumn}
 use Rattle.sq_bound.specs.declared.statement.BoundAssignment.{BoundAssignment}
+use Rattle.sq_bound.specs.declared.statement.ChangeTarget.{ChangeTarget}
 use Rattle.sq_bound.specs.declared.statement.InsertedRows.{InsertedRows}
 use Rattle.sq_query.specs.MayRead.{MayEnd, MayRead}
 use Rattle.sq_query.specs.Row.{HasValueOn}
@@ -59,7 +60,16 @@ pub record MayGive (bases : List BaseTable) (queries : List BoundSpecification) 
   pub reads : MayRead bases queries columns content user values parameters tables
   pub given : IsSource columns parameters objects source
 
--- so are the set clauses of an update statement of the base table
+-- a statement may find the rows that it changes: its conditions are well formed where the parameters, which have these values, are
+-- of some kinds, and may read these tables
+pub record MayChoose (bases : List BaseTable) (queries : List BoundSpecification) (columns : TableKinds) (content : Content) (user : Name)
+    (values : List Value) (t : ChangeTarget) : Type 0 where
+  pub parameters : List Kind
+  pub tables : TablePlace → Outcome (List Row)
+  pub reads : MayRead bases queries columns content user values parameters tables
+  pub target : IsChangeTarget columns parameters t
+
+-- the set clauses of an update statement of the base table are well formed where the parameters are of some kinds
 pub record MayAssign (columns : TableKinds) (values : List Value) (table : BaseTable) (assignments : List BoundAssignment) : Type 0 where
   pub parameters : List Kind
   pub inputs : IsRowOf parameters values

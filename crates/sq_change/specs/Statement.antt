@@ -1,7 +1,6 @@
 -- What INSERT, UPDATE and DELETE do to the tables where they succeed (ISO/IEC 9075:1992, 13.6 to 13.10): one base table
 -- changes, and no other. Which rows a search condition keeps, and which values are stored, is not said here.
-use Rattle.std.specs.Prelude.{⊤, IsSome, ◌≡◌, ◌<◌, ℕ, Bool, true, List, [], ◌∷◌, length, Option, None, Some, fold, nat_eq}
-use Rattle.std.specs.List.{list_all, list_any}
+use Rattle.std.specs.Prelude.{⊤, IsSome, ◌≡◌, ◌<◌, ℕ, List, [], ◌∷◌, length, map, Option, None, Some, fold}
 use Rattle.sq_value.specs.declared.value.Value.{Value}
 use Rattle.sq_store.specs.declared.table.Numbered.{Numbered}
 use Rattle.sq_store.specs.declared.table.Table.{Table}
@@ -48,15 +47,12 @@ Chosen (target.Positioned p) on numbers = IsOn on numbers
 abbrev pub with_replaced : Table → List Numbered → Table
 with_replaced t rows = fold (λ u r. replaced u r.number r.row) t rows
 
-abbrev pub are_numbered : List ℕ → List Numbered → Bool
-are_numbered numbers rows = list_all (λ r. list_any (nat_eq r.number) numbers) rows
-
--- rows under chosen numbers change, and none comes or goes
+-- each of the chosen rows changes, and none comes or goes
 pub record Updates (t : ChangeTarget) (on : Option ℕ) (before after : Content) : Type 0 where
   pub numbers : List ℕ
   pub chosen : Chosen t on numbers
   pub rows : List Numbered
-  pub numbered : are_numbered numbers rows ≡ true
+  pub numbered : map (λ r. r.number) rows ≡ numbers
   pub done : after ≡ with_table before (base_of t) (with_replaced (table_at before (base_of t)) rows)
 
 -- ---- DELETE (13.6, 13.7)

@@ -9,7 +9,7 @@ ghost use Rattle.sq_store.specs.Content.{changed_by, table_at, with_table};
 ghost use Rattle.sq_store.specs.Keys.{has_keys, keys_at};
 ghost use Rattle.sq_meaning.specs.Status.{Outcome};
 ghost use Rattle.sq_bound.specs.Fits.{AreInDomains, IsBase, holds, keys_of_bases};
-ghost use Rattle.sq_bound.specs.WellFormed.{IsLeaf};
+ghost use Rattle.sq_bound.specs.WellFormed.{BasesAreThere, IsLeaf};
 ghost use Rattle.sq_bound.specs.declared.condition.TablePlace.{TablePlace};
 ghost use Rattle.sq_query.specs.MayRead.{MayEnd, MayRead};
 ghost use Rattle.sq_change.specs.Changed.{AreRowsPut, are_wide};
@@ -47,10 +47,13 @@ pub(crate) fn complete<N: Names, S: Store>(
     requires tables { holds (N.base_tables names.now) (S.content_now store.old) ≡ true }
     requires in_domains { AreInDomains (N.base_tables names.now) (S.content_now store.old) }
     requires keys { S.key_columns store.old ≡ keys_of_bases (N.base_tables names.now) }
+    requires there { BasesAreThere (N.base_tables names.now) (N.column_kinds names.now) }
+    requires leaf { IsLeaf (N.column_kinds names.now) leaf.now }
     requires base { IsBase (N.base_tables names.now) leaf.now.table }
     requires wide { are_wide (length leaf.now.table.columns) (rows_put changed.changes.items) ≡ true }
     requires domains { AreRowsPut leaf.now.table.columns changed.changes.items }
-    requires numbers { insert_count changed.changes.items ≤ S.row_numbers store.old + 1 - (table_at (S.content_now store.old) leaf.now.table.place).next }
+    requires numbers { insert_count changed.changes.items ≤ S.row_numbers store.old + 1 -
+        (table_at (S.content_now store.old) leaf.now.table.place).next }
     ensures ok { OnOk result (S.content_now store.new
         ≡ with_table (S.content_now store.old) leaf.now.table.place (changed_by (table_at (S.content_now store.old) leaf.now.table.place) changed.changes.items)) }
     ensures err { OnErr result (S.content_now store.new ≡ S.content_now store.old) }
@@ -61,7 +64,7 @@ pub(crate) fn complete<N: Names, S: Store>(
     ensures numbers { S.row_numbers store.new ≡ S.row_numbers store.old }
     ensures right { (kinds : List Kind) (tables : TablePlace → Outcome (List (List AnyValue)))
         → MayRead (N.base_tables names.now) (N.view_queries names.now) (N.column_kinds names.now) (S.content_now store.old) user parameters.now kinds tables
-        → IsLeaf (N.column_kinds names.now) leaf.now → IfErr result MayEnd }
+        → IfErr result MayEnd }
 {
     let table = leaf.table.get();
     let setting = Setting::new(alloc, names, &*store, user, parameters);
@@ -95,13 +98,15 @@ fn rows_admitted<N: Names, S: Store>(
     changed: &Changed,
 ) -> Result<Vec<Referenced>, Fault>
     requires keys { S.key_columns setting.now.store.now ≡ keys_of_bases (N.base_tables setting.now.names.now) }
+    requires there { BasesAreThere (N.base_tables setting.now.names.now) (N.column_kinds setting.now.names.now) }
+    requires leaf { IsLeaf (N.column_kinds setting.now.names.now) leaf.now }
     requires base { IsBase (N.base_tables setting.now.names.now) leaf.now.table }
     requires wide { are_wide (length leaf.now.table.columns) (rows_put changed.now.changes.items) ≡ true }
     ensures known { IfOk result (λ referenced. are_of_keys (S.key_columns setting.now.store.now) referenced.items ≡ true) }
     ensures right { (parameters : List Kind) (tables : TablePlace → Outcome (List (List AnyValue)))
         → MayRead (N.base_tables setting.now.names.now) (N.view_queries setting.now.names.now) (N.column_kinds setting.now.names.now)
         (S.content_now setting.now.store.now) setting.now.user setting.now.parameters.now parameters tables
-        → IsLeaf (N.column_kinds setting.now.names.now) leaf.now → AreRowsPut leaf.now.table.columns changed.now.changes.items → IfErr result MayEnd }
+        → AreRowsPut leaf.now.table.columns changed.now.changes.items → IfErr result MayEnd }
 {
     let changes = changed.changes.as_slice();
     let table = leaf.table.get();

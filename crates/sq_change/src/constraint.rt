@@ -8,6 +8,7 @@ ghost use Rattle.sq_store.specs.Change.{rows_put};
 ghost use Rattle.sq_meaning.specs.Status.{Outcome};
 ghost use Rattle.sq_bound.specs.declared.condition.TablePlace.{TablePlace};
 ghost use Rattle.sq_query.specs.MayRead.{MayEnd, MayRead};
+ghost use Rattle.sq_query.specs.Needed.{FindsCond, FindsConds};
 ghost use Rattle.sq_query.specs.Row.{IsOnRow};
 ghost use Rattle.sq_change.specs.Changed.{AreOnRowsPut, are_wide};
 
@@ -24,6 +25,7 @@ pub(crate) fn check_options_met<N: Names, S: Store>(
     leaf: &Leaf,
     changes: &[Change],
 ) -> Result<(), Fault>
+    requires { FindsConds (N.base_tables setting.now.names.now) (N.column_kinds setting.now.names.now) leaf.now.conditions }
     ensures { (parameters : List Kind) (tables : TablePlace → Outcome (List (List AnyValue)))
         → MayRead (N.base_tables setting.now.names.now) (N.view_queries setting.now.names.now) (N.column_kinds setting.now.names.now)
         (S.content_now setting.now.store.now) setting.now.user setting.now.parameters.now parameters tables
@@ -51,6 +53,7 @@ fn meets_check_option<N: Names, S: Store>(
     conditions: &[Shared<BoundCond>],
     row: &Row,
 ) -> Result<(), Fault>
+    requires { FindsConds (N.base_tables setting.now.names.now) (N.column_kinds setting.now.names.now) conditions.now }
     ensures { (parameters : List Kind) (tables : TablePlace → Outcome (List (List AnyValue)))
         → MayRead (N.base_tables setting.now.names.now) (N.view_queries setting.now.names.now) (N.column_kinds setting.now.names.now)
         (S.content_now setting.now.store.now) setting.now.user setting.now.parameters.now parameters tables
@@ -77,7 +80,8 @@ pub(crate) fn rows_satisfied<N: Names, S: Store>(
     table: &BaseTable,
     changes: &[Change],
 ) -> Result<(), Fault>
-    requires { are_wide (length table.now.columns) (rows_put changes.now) ≡ true }
+    requires wide { are_wide (length table.now.columns) (rows_put changes.now) ≡ true }
+    requires finds { FindsConds (N.base_tables setting.now.names.now) (N.column_kinds setting.now.names.now) table.now.checks }
     ensures { (parameters : List Kind) (tables : TablePlace → Outcome (List (List AnyValue)))
         → MayRead (N.base_tables setting.now.names.now) (N.view_queries setting.now.names.now) (N.column_kinds setting.now.names.now)
         (S.content_now setting.now.store.now) setting.now.user setting.now.parameters.now parameters tables
@@ -97,7 +101,8 @@ fn row_satisfied<N: Names, S: Store>(
     table: &BaseTable,
     row: &Row,
 ) -> Result<(), Fault>
-    requires { length row.now ≡ length table.now.columns }
+    requires wide { length row.now ≡ length table.now.columns }
+    requires finds { FindsConds (N.base_tables setting.now.names.now) (N.column_kinds setting.now.names.now) table.now.checks }
     ensures { (parameters : List Kind) (tables : TablePlace → Outcome (List (List AnyValue)))
         → MayRead (N.base_tables setting.now.names.now) (N.view_queries setting.now.names.now) (N.column_kinds setting.now.names.now)
         (S.content_now setting.now.store.now) setting.now.user setting.now.parameters.now parameters tables
@@ -130,6 +135,7 @@ fn check_satisfied<N: Names, S: Store>(
     check: &BoundCond,
     row: &Row,
 ) -> Result<(), Fault>
+    requires { FindsCond (N.base_tables setting.now.names.now) (N.column_kinds setting.now.names.now) check.now }
     ensures { (parameters : List Kind) (tables : TablePlace → Outcome (List (List AnyValue)))
         → MayRead (N.base_tables setting.now.names.now) (N.view_queries setting.now.names.now) (N.column_kinds setting.now.names.now)
         (S.content_now setting.now.store.now) setting.now.user setting.now.parameters.now parameters tables

@@ -12,6 +12,7 @@ ghost use Rattle.sq_bound.specs.Fits.{IsColumnOf, IsRowIn};
 ghost use Rattle.sq_bound.specs.WellFormed.{IsSelect, kinds_of_select};
 ghost use Rattle.sq_bound.specs.declared.condition.TablePlace.{TablePlace};
 ghost use Rattle.sq_query.specs.MayRead.{MayEnd, MayRead};
+ghost use Rattle.sq_query.specs.Needed.{FindsSelect};
 ghost use Rattle.sq_change.specs.Changed.{AreRowsPut, are_insertions, are_wide};
 ghost use Rattle.sq_change.specs.Given.{AreStorable, AreStored, FitColumns, IsStoredFor, MayGive};
 
@@ -98,6 +99,7 @@ fn rows_found<N: Names, S: Store>(
     query: &BoundSpecification,
     meter: &mut Meter,
 ) -> Result<Vec<Row>, Fault>
+    requires { FindsSelect (N.base_tables setting.now.names.now) (N.column_kinds setting.now.names.now) query.now }
     ensures some { IfOk result (λ rows. 0 < vec_len rows) }
     ensures kinds { (parameters : List Kind) (tables : TablePlace → Outcome (List (List AnyValue)))
         → MayRead (N.base_tables setting.now.names.now) (N.view_queries setting.now.names.now) (N.column_kinds setting.now.names.now)

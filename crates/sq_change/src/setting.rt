@@ -7,6 +7,7 @@ ghost use Rattle.sq_value.specs.declared.value.Value.{Value as AnyValue};
 ghost use Rattle.sq_meaning.specs.Status.{Outcome};
 ghost use Rattle.sq_bound.specs.declared.condition.TablePlace.{TablePlace};
 ghost use Rattle.sq_query.specs.MayRead.{MayEnd, MayRead};
+ghost use Rattle.sq_query.specs.Needed.{FindsCond};
 ghost use Rattle.sq_query.specs.Row.{line_of, HasValueOn, IsOnRow};
 
 use sq_bound::{BoundCond, BoundExpr, Names};
@@ -69,6 +70,7 @@ impl<'a, N: Names, S: Store> Setting<'a, N, S> {
 
     /// Whether a condition holds of a row of a base table.
     pub(crate) fn truth(&self, condition: &BoundCond, row: &Row) -> Result<Truth, Fault>
+        requires { FindsCond (N.base_tables self.now.names.now) (N.column_kinds self.now.names.now) condition.now }
         ensures { (parameters : List Kind) (tables : TablePlace → Outcome (List (List AnyValue)))
             → MayRead (N.base_tables self.now.names.now) (N.view_queries self.now.names.now) (N.column_kinds self.now.names.now)
             (S.content_now self.now.store.now) self.now.user self.now.parameters.now parameters tables

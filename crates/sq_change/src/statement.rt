@@ -1,18 +1,14 @@
 //! The three statements that change a table.
 
-ghost use Rattle.std.specs.Prelude.{◌≡◌, ◌<◌, ◌≤◌, ◌+◌, ◌-◌, true, length, vec_len, List, IfErr, IfOk, Ok, OnErr, OnOk};
+ghost use Rattle.std.specs.Prelude.{◌≡◌, ◌<◌, ◌≤◌, ◌+◌, ◌-◌, true, length, vec_len, IfErr, IfOk, IfSome, IsSome, Ok, OnErr, OnOk};
 ghost use Rattle.std.specs.List.{AllByRecursion};
-ghost use Rattle.sq_value.specs.declared.domain.Kind.{Kind};
-ghost use Rattle.sq_value.specs.declared.value.Value.{Value as AnyValue};
 ghost use Rattle.sq_store.specs.Change.{insert_count, rows_put};
-ghost use Rattle.sq_store.specs.Content.{table_at};
-ghost use Rattle.sq_meaning.specs.Status.{Outcome};
+ghost use Rattle.sq_store.specs.Content.{row_at, table_at};
 ghost use Rattle.sq_bound.specs.Fits.{AreInDomains, IsBase, IsColumnOf, are_columns, holds, keys_of_bases, under};
-ghost use Rattle.sq_bound.specs.WellFormed.{IsAssignment, IsChangeTarget, IsLeaf, IsSource};
-ghost use Rattle.sq_bound.specs.declared.condition.TablePlace.{TablePlace};
-ghost use Rattle.sq_query.specs.MayRead.{MayEnd, MayRead};
+ghost use Rattle.sq_bound.specs.WellFormed.{IsLeaf};
+ghost use Rattle.sq_query.specs.MayRead.{MayEnd};
 ghost use Rattle.sq_change.specs.Changed.{AreRowsPut, Removals, Replacements, are_insertions, are_wide};
-ghost use Rattle.sq_change.specs.Given.{MayAssign, MayGive};
+ghost use Rattle.sq_change.specs.Given.{MayAssign, MayChoose, MayGive};
 ghost use Rattle.sq_change.specs.Statement.{Deletes, Inserts, IsGiven, Updates};
 
 use crate::complete::{Changed, complete};
@@ -41,6 +37,7 @@ pub fn insert<N: Names, S: Store>(
     requires tables { holds (N.base_tables names.now) (S.content_now store.old) ≡ true }
     requires in_domains { AreInDomains (N.base_tables names.now) (S.content_now store.old) }
     requires keys { S.key_columns store.old ≡ keys_of_bases (N.base_tables names.now) }
+    requires leaf { IsLeaf (N.column_kinds names.now) insert.now.leaf }
     requires base { IsBase (N.base_tables names.now) insert.now.leaf.table }
     requires columns { AllByRecursion (IsColumnOf insert.now.leaf.table) insert.now.columns }
     requires given { MayGive (N.base_tables names.now) (N.view_queries names.now) (N.column_kinds names.now)
@@ -52,11 +49,7 @@ pub fn insert<N: Names, S: Store>(
     ensures committed { S.committed store.new ≡ S.committed store.old }
     ensures keys { S.key_columns store.new ≡ S.key_columns store.old }
     ensures numbers { S.row_numbers store.new ≡ S.row_numbers store.old }
-    ensures right { (parameters : List Kind) (tables : TablePlace → Outcome (List (List AnyValue)))
-        → MayRead (N.base_tables names.now) (N.view_queries names.now) (N.column_kinds names.now)
-        (S.content_now store.old) inputs.entry.user inputs.entry.parameters.now parameters tables
-        → IsLeaf (N.column_kinds names.now) insert.now.leaf
-        → IsSource (N.column_kinds names.now) parameters insert.now.columns insert.now.source → IfErr result MayEnd }
+    ensures right { IfErr result MayEnd }
 {
     let Inputs { user, parameters } = inputs;
     let setting = Setting::new(alloc, names, &*store, user, parameters);
@@ -112,6 +105,9 @@ pub fn update<N: Names, S: Store>(
     meter: &mut Meter,
 ) -> Result<(), Fault>
     requires given { IsGiven update.now.target on }
+    requires may { MayChoose (N.base_tables names.now) (N.view_queries names.now) (N.column_kinds names.now)
+        (S.content_now store.old) inputs.user inputs.parameters.now update.now.target }
+    requires there { IfSome on (λ n. IsSome (row_at (table_at (S.content_now store.old) (under update.now.target).table.place) n)) }
     requires tables { holds (N.base_tables names.now) (S.content_now store.old) ≡ true }
     requires in_domains { AreInDomains (N.base_tables names.now) (S.content_now store.old) }
     requires keys { S.key_columns store.old ≡ keys_of_bases (N.base_tables names.now) }
@@ -126,11 +122,7 @@ pub fn update<N: Names, S: Store>(
     ensures committed { S.committed store.new ≡ S.committed store.old }
     ensures keys { S.key_columns store.new ≡ S.key_columns store.old }
     ensures numbers { S.row_numbers store.new ≡ S.row_numbers store.old }
-    ensures right { (parameters : List Kind) (tables : TablePlace → Outcome (List (List AnyValue)))
-        → MayRead (N.base_tables names.now) (N.view_queries names.now) (N.column_kinds names.now)
-        (S.content_now store.old) inputs.entry.user inputs.entry.parameters.now parameters tables
-        → IsChangeTarget (N.column_kinds names.now) parameters update.now.target
-        → AllByRecursion (IsAssignment (N.column_kinds names.now) parameters (under update.now.target).table) update.now.assignments → IfErr result MayEnd }
+    ensures right { IfErr result MayEnd }
 {
     let Inputs { user, parameters } = inputs;
     let setting = Setting::new(alloc, names, &*store, user, parameters);
@@ -147,19 +139,22 @@ fn updated<N: Names, S: Store>(
     meter: &mut Meter,
 ) -> Result<Changed, Fault>
     requires given { IsGiven update.now.target on }
+    requires may { MayChoose (N.base_tables setting.now.names.now) (N.view_queries setting.now.names.now) (N.column_kinds setting.now.names.now)
+        (S.content_now setting.now.store.now) setting.now.user setting.now.parameters.now update.now.target }
+    requires there { IfSome on (λ n. IsSome (row_at (table_at (S.content_now setting.now.store.now) (under update.now.target).table.place)
+        n)) }
     requires tables { holds (N.base_tables setting.now.names.now) (S.content_now setting.now.store.now) ≡ true }
     requires base { IsBase (N.base_tables setting.now.names.now) (under update.now.target).table }
     requires columns { are_columns (length (under update.now.target).table.columns) update.now.assignments ≡ true }
     requires in_domains { AreInDomains (N.base_tables setting.now.names.now) (S.content_now setting.now.store.now) }
     requires domains { AllByRecursion (λ a. IsColumnOf (under update.now.target).table a.column) update.now.assignments }
-    requires assigned { MayAssign (N.column_kinds setting.now.names.now) setting.now.parameters.now (under update.now.target).table update.now.assignments }
+    requires assigned { MayAssign (N.column_kinds setting.now.names.now) setting.now.parameters.now (under update.now.target).table
+        update.now.assignments }
     ensures replacements { IfOk result (λ changed. Replacements update.now.target on changed.changes.items) }
-    ensures wide { IfOk result (λ changed. are_wide (length (under update.now.target).table.columns) (rows_put changed.changes.items) ≡ true) }
+    ensures wide { IfOk result (λ changed. are_wide (length (under update.now.target).table.columns)
+        (rows_put changed.changes.items) ≡ true) }
     ensures in_domains { IfOk result (λ changed. AreRowsPut (under update.now.target).table.columns changed.changes.items) }
-    ensures right { (parameters : List Kind) (tables : TablePlace → Outcome (List (List AnyValue)))
-        → MayRead (N.base_tables setting.now.names.now) (N.view_queries setting.now.names.now) (N.column_kinds setting.now.names.now)
-        (S.content_now setting.now.store.now) setting.now.user setting.now.parameters.now parameters tables
-        → IsChangeTarget (N.column_kinds setting.now.names.now) parameters update.now.target → IfErr result MayEnd }
+    ensures right { IfErr result MayEnd }
 {
     let table = leaf_under(&update.target).table.get();
     let assignments = update.assignments.as_slice();
@@ -204,6 +199,8 @@ pub fn delete<N: Names, S: Store>(
     meter: &mut Meter,
 ) -> Result<(), Fault>
     requires given { IsGiven target.now on }
+    requires may { MayChoose (N.base_tables names.now) (N.view_queries names.now) (N.column_kinds names.now)
+        (S.content_now store.old) inputs.user inputs.parameters.now target.now }
     requires tables { holds (N.base_tables names.now) (S.content_now store.old) ≡ true }
     requires in_domains { AreInDomains (N.base_tables names.now) (S.content_now store.old) }
     requires keys { S.key_columns store.old ≡ keys_of_bases (N.base_tables names.now) }
@@ -215,10 +212,7 @@ pub fn delete<N: Names, S: Store>(
     ensures committed { S.committed store.new ≡ S.committed store.old }
     ensures keys { S.key_columns store.new ≡ S.key_columns store.old }
     ensures numbers { S.row_numbers store.new ≡ S.row_numbers store.old }
-    ensures right { (parameters : List Kind) (tables : TablePlace → Outcome (List (List AnyValue)))
-        → MayRead (N.base_tables names.now) (N.view_queries names.now) (N.column_kinds names.now)
-        (S.content_now store.old) inputs.entry.user inputs.entry.parameters.now parameters tables
-        → IsChangeTarget (N.column_kinds names.now) parameters target.now → IfErr result MayEnd }
+    ensures right { IfErr result MayEnd }
 {
     let Inputs { user, parameters } = inputs;
     let setting = Setting::new(alloc, names, &*store, user, parameters);
@@ -234,12 +228,11 @@ fn deleted<N: Names, S: Store>(
     on: Option<u64>,
     meter: &mut Meter,
 ) -> Result<Changed, Fault>
-    requires { IsGiven target.now on }
+    requires given { IsGiven target.now on }
+    requires may { MayChoose (N.base_tables setting.now.names.now) (N.view_queries setting.now.names.now) (N.column_kinds setting.now.names.now)
+        (S.content_now setting.now.store.now) setting.now.user setting.now.parameters.now target.now }
     ensures removals { IfOk result (λ changed. Removals target.now on changed.changes.items) }
-    ensures right { (parameters : List Kind) (tables : TablePlace → Outcome (List (List AnyValue)))
-        → MayRead (N.base_tables setting.now.names.now) (N.view_queries setting.now.names.now) (N.column_kinds setting.now.names.now)
-        (S.content_now setting.now.store.now) setting.now.user setting.now.parameters.now parameters tables
-        → IsChangeTarget (N.column_kinds setting.now.names.now) parameters target.now → IfErr result MayEnd }
+    ensures right { IfErr result MayEnd }
 {
     let numbers = numbers_changed(setting, target, on, meter)?;
     let changes = removed(setting.alloc, numbers.as_slice());

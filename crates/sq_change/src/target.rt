@@ -1,18 +1,15 @@
 //! The rows that UPDATE and DELETE change (ISO/IEC 9075:1992, 13.6, 13.7, 13.9 and 13.10).
 
-ghost use Rattle.std.specs.Prelude.{◌≡◌, ◌<◌, ◌∷◌, [], length, map, true, List, IfErr, IfOk, OnOk};
+ghost use Rattle.std.specs.Prelude.{◌≡◌, ◌<◌, ◌∷◌, [], length, map, true, IfErr, IfOk, IfSome, IsSome, OnOk, Some};
 ghost use Rattle.std.specs.List.{AllByRecursion};
-ghost use Rattle.sq_value.specs.declared.domain.Kind.{Kind};
-ghost use Rattle.sq_value.specs.declared.value.Value.{Value as AnyValue};
 ghost use Rattle.sq_store.specs.Change.{rows_put};
-ghost use Rattle.sq_meaning.specs.Status.{Outcome};
+ghost use Rattle.sq_store.specs.Content.{row_at, table_at};
 ghost use Rattle.sq_bound.specs.Fits.{AreInDomains, IsBase, IsColumnOf, IsRowIn, are_columns, holds, under};
 ghost use Rattle.sq_bound.specs.declared.names.BaseTable.{BaseTable as AnyTable};
-ghost use Rattle.sq_bound.specs.WellFormed.{IsChangeTarget};
-ghost use Rattle.sq_bound.specs.declared.condition.TablePlace.{TablePlace};
-ghost use Rattle.sq_query.specs.MayRead.{MayEnd, MayRead};
-ghost use Rattle.sq_change.specs.Changed.{AreRowsPut, are_replacements, are_wide};
-ghost use Rattle.sq_change.specs.Given.{AreAssignable, IsStorable, MayAssign};
+ghost use Rattle.sq_query.specs.MayRead.{MayEnd};
+ghost use Rattle.sq_query.specs.Target.{AreNumbersOf};
+ghost use Rattle.sq_change.specs.Changed.{AreReplacements, AreRowsPut, are_wide};
+ghost use Rattle.sq_change.specs.Given.{AreAssignable, IsStorable, MayAssign, MayChoose};
 ghost use Rattle.sq_change.specs.Statement.{Chosen, IsGiven};
 
 use crate::setting::Setting;
@@ -43,12 +40,13 @@ pub(crate) fn numbers_changed<N: Names, S: Store>(
     on: Option<u64>,
     meter: &mut Meter,
 ) -> Result<Vec<u64>, Fault>
-    requires { IsGiven target.now on }
+    requires given { IsGiven target.now on }
+    requires may { MayChoose (N.base_tables setting.now.names.now) (N.view_queries setting.now.names.now) (N.column_kinds setting.now.names.now)
+        (S.content_now setting.now.store.now) setting.now.user setting.now.parameters.now target.now }
     ensures chosen { IfOk result (λ numbers. Chosen target.now on numbers.items) }
-    ensures right { (parameters : List Kind) (tables : TablePlace → Outcome (List (List AnyValue)))
-        → MayRead (N.base_tables setting.now.names.now) (N.view_queries setting.now.names.now) (N.column_kinds setting.now.names.now)
-        (S.content_now setting.now.store.now) setting.now.user setting.now.parameters.now parameters tables
-        → IsChangeTarget (N.column_kinds setting.now.names.now) parameters target.now → IfErr result MayEnd }
+    ensures there { IfSome on (λ n. IsSome (row_at (table_at (S.content_now setting.now.store.now) (under target.now).table.place) n))
+        → IfOk result (λ numbers. AreNumbersOf (table_at (S.content_now setting.now.store.now) (under target.now).table.place) numbers.items) }
+    ensures right { IfErr result MayEnd }
 {
     match target {
         ChangeTarget::Searched(target) => {
@@ -89,26 +87,41 @@ pub(crate) fn replaced<N: Names, S: Store>(
     assignments: &[BoundAssignment],
     numbers: &[u64],
 ) -> Result<Vec<Change>, Fault>
+    requires there { AreNumbersOf (table_at (S.content_now setting.now.store.now) table.now.place) numbers.now }
     requires tables { holds (N.base_tables setting.now.names.now) (S.content_now setting.now.store.now) ≡ true }
     requires base { IsBase (N.base_tables setting.now.names.now) table.now }
     requires columns { are_columns (length table.now.columns) assignments.now ≡ true }
     requires in_domains { AreInDomains (N.base_tables setting.now.names.now) (S.content_now setting.now.store.now) }
     requires domains { AllByRecursion (λ a. IsColumnOf table.now a.column) assignments.now }
     requires assigned { MayAssign (N.column_kinds setting.now.names.now) setting.now.parameters.now table.now assignments.now }
-    ensures replacements { IfOk result (λ changes. are_replacements numbers.now changes.items ≡ true) }
+    ensures replacements { IfOk result (λ changes. AreReplacements numbers.now changes.items) }
     ensures wide { IfOk result (λ changes. are_wide (length table.now.columns) (rows_put changes.items) ≡ true) }
     ensures in_domains { IfOk result (λ changes. AreRowsPut table.now.columns changes.items) }
     ensures right { IfErr result MayEnd }
 {
     let mut changes = Vec::new(setting.alloc);
-    let mut meter = Meter::new();
     for number in numbers {
-        if let Some(row) = setting.store.row(table.place, *number, &mut meter) {
-            let row = updated_row(setting, assignments, row)?;
-            changes.push(Change::Replace(*number, row))?;
-        }
+        let row = updated_row(setting, assignments, row_under(setting, table, *number))?;
+        changes.push(Change::Replace(*number, row))?;
     }
     Ok(changes)
+}
+
+/// The row under a number. It isn't counted: whoever found the number has read it.
+fn row_under<'a, N: Names, S: Store>(
+    setting: &Setting<'a, N, S>,
+    table: &BaseTable,
+    number: u64,
+) -> &'a Row
+    requires place { table.now.place < length (S.content_now setting.now.store.now) }
+    requires there { IsSome (row_at (table_at (S.content_now setting.now.store.now) table.now.place) number) }
+    ensures { row_at (table_at (S.content_now setting.now.store.now) table.now.place) number ≡ Some
+        (record { number = number; row = result.now }) }
+{
+    match setting.store.row(table.place, number, &mut Meter::new()) {
+        Some(row) => row,
+        None => unreachable!(),
+    }
 }
 
 /// A row after the set clauses, which read the values before.
@@ -139,8 +152,10 @@ fn assign<N: Names, S: Store>(
     updated: &mut [Value],
 ) -> Result<(), Fault>
     requires position { assignment.now.column.position < length updated.old }
-    requires storable { IsStorable assignment.now.column.domain assignment.now.value (row.now ∷ []) setting.now.parameters.now setting.now.user }
-    ensures in_domains { OnOk result ((t : AnyTable) → IsColumnOf t assignment.now.column → IsRowIn t.columns updated.old → IsRowIn t.columns updated.new) }
+    requires storable { IsStorable assignment.now.column.domain assignment.now.value (row.now ∷ []) setting.now.parameters.now
+        setting.now.user }
+    ensures in_domains { OnOk result ((t : AnyTable) → IsColumnOf t assignment.now.column → IsRowIn t.columns updated.old → IsRowIn
+        t.columns updated.new) }
     ensures right { IfErr result MayEnd }
 {
     let column = assignment.column;

@@ -1,5 +1,5 @@
 -- What is kept of the subqueries of a statement that read no column of a query around them: each is evaluated at most once.
-use Rattle.std.specs.Prelude.{◌≡◌, ℕ, nat_eq, List, IfSome, Ok}
+use Rattle.std.specs.Prelude.{◌≡◌, ℕ, nat_eq, List, IfSome, Ok, Err}
 use Rattle.std.specs.Borrow.{Bor}
 use Rattle.std.specs.List.{AllByRecursion}
 use Rattle.indexmap.specs.IndexMap.{get}
@@ -8,14 +8,16 @@ use Rattle.sq_value.specs.declared.truth.Truth.{Truth}
 use Rattle.sq_meaning.specs.Status.{Outcome, ◌>>=◌}
 use Rattle.sq_meaning.specs.Environment.{Row}
 use Rattle.sq_meaning.specs.Query.{has_rows}
-use Rattle.sq_expression.specs.Fault.{IsRight, Means}
-use Rattle.sq_expression.specs.Frame.{lent, table_rows, view_outcome}
+use Rattle.sq_expression.specs.Fault.{IsRight, Means, status_of}
+use Rattle.sq_expression.specs.Frame.{lent, table_rows}
 use Rattle.sq_expression.specs.Index.{IsIndexBy}
 use Rattle.sq_condition.specs.Members.{AreOf}
 use Rattle.sq_expression.specs.declared.context.Context.{Context}
 use Rattle.sq_expression.specs.declared.index.Index.{Index}
 use Rattle.sq_condition.specs.declared.memo.Memo.{Memo}
+use Rattle.sq_condition.specs.declared.memo.KeptRows.{KeptRows}
 use Rattle.sq_condition.specs.declared.memo.Outcome.{Outcome as Kept}
+use Rattle.sq_condition.specs.declared.memo.Outcome.TheVariants as kept
 use Rattle.sq_condition.specs.declared.memo.TableColumn.{TableColumn}
 
 -- what a subquery ends with: its rows, or a status
@@ -33,10 +35,14 @@ Meant = ℕ → MeantRows
 abbrev pub existing : MeantRows → MeantTruth
 existing rows = rows >>= λ rs. Ok (known (has_rows rs))
 
--- what a subquery ended with, as it is kept, where that is right; its members are those of its rows
-pub record IsKept (kept : Kept) (meant : MeantRows) : Type 0 where
-  pub ended : IsRight meant → meant ≡ view_outcome kept.rows.items kept.failure
-  pub members : IfSome kept.members (λ members. AreOf members kept.rows.items)
+-- the members that are kept with rows are those of the rows
+abbrev pub HasMembers : KeptRows → Type 0
+HasMembers found = IfSome found.members (λ members. AreOf members found.rows.items)
+
+-- what a subquery ended with, as it is kept, where that is right
+abbrev pub IsKept : Kept → MeantRows → Type 0
+IsKept (kept.Rows found) meant = (IsRight meant → meant ≡ Ok found.rows.items) × HasMembers found
+IsKept (kept.Status failure) meant = IsRight meant → meant ≡ Err (status_of failure)
 
 -- an index of a table's rows by their values in a column
 pub record IsTableIndex (context : Context) (at : TableColumn) (index : Index) : Type 0 where

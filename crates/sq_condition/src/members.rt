@@ -109,7 +109,8 @@ impl Members {
     /// Whether one of the values is equal to this one (8.7): false among none, and unknown where a null might be it.
     #[tactic(auto, using(crate::proofs::Membership::among_rows))]
     pub(crate) fn has(&self, alloc: Global, value: &Value) -> Result<Truth, Fault>
-        ensures { (rows : List (List AnyValue)) → AreOf self.now rows → Meets result (Ok (compared_with_rows Equal quantifier.Any value.now rows)) }
+        ensures { (rows : List (List AnyValue)) → AreOf self.now rows
+            → Meets result (Ok (compared_with_rows Equal quantifier.Any value.now rows)) }
     {
         if self.has_key(alloc, value)? {
             Ok(Truth::True)

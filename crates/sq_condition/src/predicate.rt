@@ -56,7 +56,8 @@ pub(crate) fn between_truth(
     frame: &Frame<'_>,
     context: &Context<'_>,
 ) -> Result<Truth, Fault>
-    ensures { Meets result (truth_in frame.now context.now (between (on_line frame.now operand.now) (on_line frame.now low.now) (on_line frame.now high.now))) }
+    ensures { Meets result (truth_in frame.now context.now (between (on_line frame.now operand.now) (on_line frame.now low.now)
+        (on_line frame.now high.now))) }
 {
     let above = comparison_truth(Comparison::GreaterOrEqual, operand, low, frame, context)?;
     if above == Truth::False {
@@ -94,7 +95,8 @@ pub(crate) fn like_truth(
     frame: &Frame<'_>,
     context: &Context<'_>,
 ) -> Result<Truth, Fault>
-    ensures { Meets result (truth_in frame.now context.now (like (on_line frame.now text.now) (on_line frame.now pattern.now) (option_map (on_line frame.now) escape.now))) }
+    ensures { Meets result (truth_in frame.now context.now (like (on_line frame.now text.now) (on_line frame.now pattern.now)
+        (option_map (on_line frame.now) escape.now))) }
 {
     let text = value(text, frame, context)?;
     like_pattern(text.get(), pattern, escape, frame, context)
@@ -107,7 +109,8 @@ fn like_pattern(
     frame: &Frame<'_>,
     context: &Context<'_>,
 ) -> Result<Truth, Fault>
-    ensures { Meets result (truth_in frame.now context.now (like (literal text.now) (on_line frame.now pattern.now) (option_map (on_line frame.now) escape.now))) }
+    ensures { Meets result (truth_in frame.now context.now (like (literal text.now) (on_line frame.now pattern.now)
+        (option_map (on_line frame.now) escape.now))) }
 {
     let pattern = value(pattern, frame, context)?;
     match escape {
@@ -123,7 +126,8 @@ fn like_escape(
     frame: &Frame<'_>,
     context: &Context<'_>,
 ) -> Result<Truth, Fault>
-    ensures { Meets result (truth_in frame.now context.now (like (literal text.now) (literal pattern.now) (Some (on_line frame.now escape.now)))) }
+    ensures { Meets result (truth_in frame.now context.now (like (literal text.now) (literal pattern.now)
+        (Some (on_line frame.now escape.now)))) }
 {
     let escape = value(escape, frame, context)?;
     like_or_status(text, pattern, Some(escape.get()))

@@ -49,7 +49,8 @@ fn product(left: Decimal, right: Decimal) -> Result<Value, Fault>
 }
 
 fn quotient(left: Decimal, right: Decimal) -> Result<Value, Fault>
-    ensures { Meets result (with_places (max left.scale right.scale + right.scale - left.scale) (number_outcome (number.divided left right))) }
+    ensures { Meets result (with_places (max left.scale right.scale + right.scale - left.scale)
+        (number_outcome (number.divided left right))) }
 {
     let scale = left.scale().max(right.scale());
     if scale + right.scale() - left.scale() > GREATEST_SCALE {

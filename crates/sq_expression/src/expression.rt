@@ -183,7 +183,8 @@ pub(crate) fn row_of(
     frame: &Frame<'_>,
     context: &Context<'_>,
 ) -> Result<Row, Fault>
-    ensures { Meets result (each (λ e. meaning.value (reading context.now) e (env_of frame.now context.now)) (map (on_line frame.now) exprs.now)) }
+    ensures { Meets result (each (λ e. meaning.value (reading context.now) e (env_of frame.now context.now))
+        (map (on_line frame.now) exprs.now)) }
 {
     let mut row = row_with_room(context.alloc, exprs.len())?;
     for expr in exprs {

@@ -72,7 +72,8 @@ fn column_groups<'a>(
     outer: Option<&Frame<'_>>,
     context: &Context<'_>,
 ) -> Result<Vec<Group<'a>>, Fault>
-    ensures { MeetsAs groups_in result (and_then (classes_of columns.now outer.entry context.now (lines_lent lines.now)) (each (seen_of_group (map call_of calls.now) outer.entry context.now))) }
+    ensures { MeetsAs groups_in result (and_then (classes_of columns.now outer.entry context.now (lines_lent lines.now))
+        (each (seen_of_group (map call_of calls.now) outer.entry context.now))) }
 {
     let classes = classes_of(columns, lines, outer, context)?;
     groups_of(calls, classes.lists.as_slice(), outer, context)
@@ -180,7 +181,8 @@ pub fn add_group_if<'a>(
     group: Group<'a>,
     groups: &mut Vec<Group<'a>>,
 ) -> Result<(), Fault>
-    ensures { (o : Outcome Bool) → Meets is_kept o → MeetsAs (λ done. map group_seen groups.new.items) result (and_then o (λ kept. Ok (map group_seen groups.old.items ++ (if kept then group_seen group.entry ∷ [] else [])))) }
+    ensures { (o : Outcome Bool) → Meets is_kept o → MeetsAs (λ done. map group_seen groups.new.items) result
+        (and_then o (λ kept. Ok (map group_seen groups.old.items ++ (if kept then group_seen group.entry ∷ [] else [])))) }
 {
     match is_kept {
         Ok(true) => {

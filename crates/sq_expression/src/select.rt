@@ -29,7 +29,8 @@ pub fn shown_lines<'a>(
     outer: Option<&'a Frame<'a>>,
     context: &Context<'_>,
 ) -> Result<Vec<Row>, Fault>
-    ensures { HasRows result (and_then (each (λ line. row_shown [] list.now (line_env line outer.entry context.now) context.now) (lines_in lines.now)) (λ rows. Ok (rows_left is_distinct rows))) }
+    ensures { HasRows result (and_then (each (λ line. row_shown [] list.now (line_env line outer.entry context.now) context.now)
+        (lines_in lines.now)) (λ rows. Ok (rows_left is_distinct rows))) }
 {
     let lent = lines.lend(context.alloc)?;
     let rows = rows_of_lines(list, lent.as_slice(), outer, context);
@@ -43,7 +44,8 @@ fn rows_of_lines(
     outer: Option<&Frame<'_>>,
     context: &Context<'_>,
 ) -> Result<Vec<Row>, Fault>
-    ensures { HasRows result (each (λ line. row_shown [] list.now (line_env line outer.entry context.now) context.now) (lines_lent lines.now)) }
+    ensures { HasRows result (each (λ line. row_shown [] list.now (line_env line outer.entry context.now) context.now)
+        (lines_lent lines.now)) }
 {
     let mut rows = Vec::new(context.alloc);
     for line in lines {
@@ -72,7 +74,8 @@ pub fn shown_groups(
     outer: Option<&Frame<'_>>,
     context: &Context<'_>,
 ) -> Result<Vec<Row>, Fault>
-    ensures { HasRows result (and_then (each (row_seen list.now outer.entry context.now) (map group_seen groups.now)) (λ rows. Ok (rows_left is_distinct rows))) }
+    ensures { HasRows result (and_then (each (row_seen list.now outer.entry context.now) (map group_seen groups.now))
+        (λ rows. Ok (rows_left is_distinct rows))) }
 {
     let rows = rows_of_groups(list, groups, outer, context);
     left(is_distinct, context.alloc, rows)
@@ -108,7 +111,8 @@ fn row_of_group(
 
 /// The rows that DISTINCT leaves, or their fault.
 fn left(is_distinct: bool, alloc: Global, rows: Result<Vec<Row>, Fault>) -> Result<Vec<Row>, Fault>
-    ensures { (o : Outcome (List (List AnyValue))) → HasRows rows o → HasRows result (and_then o (λ found. Ok (rows_left is_distinct found))) }
+    ensures { (o : Outcome (List (List AnyValue))) → HasRows rows o
+        → HasRows result (and_then o (λ found. Ok (rows_left is_distinct found))) }
 {
     let rows = rows?;
     distinct_if(is_distinct, alloc, rows)

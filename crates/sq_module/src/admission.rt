@@ -92,8 +92,10 @@ fn admit_next<'a>(
     ensures new { OnOk result (list_any (same_name «module».now.name) names.old.keys ≡ false) }
     ensures last { OnOk result (names.new.keys ≡ names.old.keys ++ «module».now.name ∷ []) }
     ensures names { OnOk result (AreNew [] (names_in «module».now.items)) }
-    ensures declared { OnOk result (admitted_procedures admitted.new.items ≡ admitted_procedures admitted.old.items ++ module_procedures «module».now) }
-    ensures written { OnOk result ((one : Admitted) × (admitted.new.items ≡ admitted.old.items ++ one ∷ []) × IsOfText «module».now one × OpensEachOnce one) }
+    ensures declared { OnOk result (admitted_procedures admitted.new.items ≡ admitted_procedures admitted.old.items ++ module_procedures
+        «module».now) }
+    ensures written { OnOk result ((one : Admitted) × (admitted.new.items ≡ admitted.old.items ++ one ∷ []) × IsOfText «module».now
+        one × OpensEachOnce one) }
     ensures admissible { OnOk result (IsAdmissible «module».now.items) }
     ensures refused { IfErr result (IsOfModule text) }
 {
@@ -236,7 +238,8 @@ fn add_item<'a>(
     item: &'a ModuleItem,
 ) -> Result<(), SessionFault>
     ensures refused { IfErr result (IsOfModule text) }
-    ensures written { (items : List AnyItem) → IsAmong items item.now → AllByRecursion (IsCursorIn items) cursors.old.entries → OnOk result (AllByRecursion (IsCursorIn items) cursors.new.entries) }
+    ensures written { (items : List AnyItem) → IsAmong items item.now → AllByRecursion (IsCursorIn items) cursors.old.entries
+        → OnOk result (AllByRecursion (IsCursorIn items) cursors.new.entries) }
 {
     match item {
         ModuleItem::Cursor(cursor) => add_cursor(cursors, text, place, cursor),
@@ -251,7 +254,8 @@ fn add_cursor<'a>(
     cursor: &'a Cursor,
 ) -> Result<(), SessionFault>
     ensures refused { IfErr result (IsOfModule text) }
-    ensures written { (items : List AnyItem) → IsAmong items (CursorItem cursor.now) → AllByRecursion (IsCursorIn items) cursors.old.entries → OnOk result (AllByRecursion (IsCursorIn items) cursors.new.entries) }
+    ensures written { (items : List AnyItem) → IsAmong items (CursorItem cursor.now) → AllByRecursion (IsCursorIn items) cursors.old.entries
+        → OnOk result (AllByRecursion (IsCursorIn items) cursors.new.entries) }
 {
     match cursors.insert(cursor.name, cursor) {
         Ok(None) => Ok(()),
@@ -327,7 +331,8 @@ fn add_procedure<'a>(
 ) -> Result<(), SessionFault>
     ensures names { OnOk result (procedure_names procedures.new.items ≡ procedure_names procedures.old.items ++ name_in item.now) }
     ensures openings { OnOk result (openings procedures.new.items ≡ openings procedures.old.items ++ opening_in item.now) }
-    ensures written { (items : List AnyItem) → IsAmong items item.now → AllByRecursion (IsProcedureOf items) procedures.old.items → OnOk result (AllByRecursion (IsProcedureOf items) procedures.new.items) }
+    ensures written { (items : List AnyItem) → IsAmong items item.now → AllByRecursion (IsProcedureOf items) procedures.old.items
+        → OnOk result (AllByRecursion (IsProcedureOf items) procedures.new.items) }
     ensures refused { IfErr result (IsOfModule text) }
 {
     match item {

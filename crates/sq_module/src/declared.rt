@@ -150,7 +150,8 @@ fn are_added(
     parameters: &mut Items<ParameterDesc>,
     declarations: &[Declaration],
 ) -> Result<bool, AllocError>
-    ensures { IfOk result (λ is. is ≡ true → map named_as parameters.new ≡ map named_as parameters.old ++ flat_map named_in declarations.now) }
+    ensures { IfOk result (λ is. is ≡ true → map named_as parameters.new ≡ map named_as parameters.old ++ flat_map
+        named_in declarations.now) }
 {
     for declaration in declarations {
         if !is_taken(names, parameters, declaration)? {
@@ -180,7 +181,8 @@ fn is_added(
     name: Name,
     data_type: &DataType,
 ) -> Result<bool, AllocError>
-    ensures { IfOk result (λ is. is ≡ true → map named_as parameters.new ≡ map named_as parameters.old ++ (name, domain_meant data_type.now) ∷ []) }
+    ensures { IfOk result (λ is. is ≡ true → map named_as parameters.new ≡ map named_as
+        parameters.old ++ (name, domain_meant data_type.now) ∷ []) }
 {
     if !is_new(names, name)? {
         return Ok(false);

@@ -61,7 +61,8 @@ impl Openers {
 
     fn add(&mut self, cursor: Name) -> Result<(), AllocError>
         ensures opened { OnOk result (self.new.opened.keys ≡ insert_key same_name self.old.opened.keys cursor) }
-        ensures shared { OnOk result (self.new.shared.keys ≡ if list_any (same_name cursor) self.old.opened.keys then insert_key same_name self.old.shared.keys cursor else self.old.shared.keys) }
+        ensures shared { OnOk result (self.new.shared.keys ≡ if list_any (same_name cursor) self.old.opened.keys then insert_key same_name
+            self.old.shared.keys cursor else self.old.shared.keys) }
     {
         if !is_new(&mut self.opened, cursor)? {
             is_new(&mut self.shared, cursor)?;

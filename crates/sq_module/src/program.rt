@@ -75,10 +75,12 @@ impl Program {
         modules: &[AdmittedModule<'_>],
     ) -> Result<Program, AllocError>
         requires { AreAdmitted [] modules.now }
-        ensures procedures { IfOk result (λ program. keys_of program.procedures.entries ≡ with_procedures [] (admitted_procedures modules.now)) }
+        ensures procedures { IfOk result (λ program. keys_of program.procedures.entries ≡ with_procedures []
+            (admitted_procedures modules.now)) }
         ensures fits { IfOk result (FitsProgram catalog.now.bases) }
         ensures well_formed { IfOk result (ProgramIsWellFormed (column_kinds catalog.now)) }
-        ensures written { (texts : List ModuleText) → AreOfTexts texts modules.now → IfOk result (IsOfTexts (table_number catalog.now.tables) texts) }
+        ensures written { (texts : List ModuleText) → AreOfTexts texts modules.now
+            → IfOk result (IsOfTexts (table_number catalog.now.tables) texts) }
     {
         let mut program = Program {
             procedures: IndexMap::new(alloc),
@@ -104,10 +106,13 @@ impl Program {
         requires modules { AreAdmitted [] modules.now }
         requires others { (name : AnyName) → AreOfOthers name self.old.cursors.items }
         requires apart { AreApart [] self.old.cursors.items }
-        ensures procedures { OnOk result (keys_of self.new.procedures.entries ≡ with_procedures (keys_of self.old.procedures.entries) (admitted_procedures modules.now)) }
+        ensures procedures { OnOk result (keys_of self.new.procedures.entries ≡ with_procedures (keys_of self.old.procedures.entries)
+            (admitted_procedures modules.now)) }
         ensures fits { OnOk result (FitsProgram catalog.now.bases self.new) }
         ensures well_formed { OnOk result (ProgramIsWellFormed (column_kinds catalog.now) self.new) }
-        ensures written { (texts : List ModuleText) → AreOfTexts texts modules.now → AreFrom (table_number catalog.now.tables) texts self.old → OnOk result (AreFrom (table_number catalog.now.tables) texts self.new) }
+        ensures written { (texts : List ModuleText) → AreOfTexts texts modules.now
+            → AreFrom (table_number catalog.now.tables) texts self.old
+            → OnOk result (AreFrom (table_number catalog.now.tables) texts self.new) }
         ensures apart { OnOk result (AreApart [] self.new.cursors.items) }
     {
         for module in modules {
@@ -127,12 +132,16 @@ impl Program {
         requires others { AreOfOthers «module».now.name self.old.cursors.items }
         requires once { OpensEachOnce «module».now }
         requires apart { AreApart [] self.old.cursors.items }
-        ensures procedures { OnOk result (keys_of self.new.procedures.entries ≡ with_procedures (keys_of self.old.procedures.entries) (module_keys «module».now)) }
+        ensures procedures { OnOk result (keys_of self.new.procedures.entries ≡ with_procedures (keys_of self.old.procedures.entries)
+            (module_keys «module».now)) }
         ensures fits { OnOk result (FitsProgram catalog.now.bases self.new) }
         ensures well_formed { OnOk result (ProgramIsWellFormed (column_kinds catalog.now) self.new) }
-        ensures written { (texts : List ModuleText) (m : ModuleText) → IsAmong texts m → IsOfText m «module».now → AreFrom (table_number catalog.now.tables) texts self.old → OnOk result (AreFrom (table_number catalog.now.tables) texts self.new) }
+        ensures written { (texts : List ModuleText) (m : ModuleText) → IsAmong texts m → IsOfText m «module».now
+            → AreFrom (table_number catalog.now.tables) texts self.old
+            → OnOk result (AreFrom (table_number catalog.now.tables) texts self.new) }
         ensures apart { OnOk result (AreApart [] self.new.cursors.items) }
-        ensures others { (name : AnyName) → same_name name «module».now.name ≡ false → AreOfOthers name self.old.cursors.items → OnOk result (AreOfOthers name self.new.cursors.items) }
+        ensures others { (name : AnyName) → same_name name «module».now.name ≡ false → AreOfOthers name self.old.cursors.items
+            → OnOk result (AreOfOthers name self.new.cursors.items) }
     {
         let mut numbers = IndexMap::new(alloc);
         let added = self.add_parts(alloc, catalog, module, &mut numbers);
@@ -154,12 +163,16 @@ impl Program {
         requires others { AreOfOthers «module».now.name self.old.cursors.items }
         requires once { OpensEachOnce «module».now }
         requires apart { AreApart [] self.old.cursors.items }
-        ensures procedures { OnOk result (keys_of self.new.procedures.entries ≡ with_procedures (keys_of self.old.procedures.entries) (module_keys «module».now)) }
+        ensures procedures { OnOk result (keys_of self.new.procedures.entries ≡ with_procedures (keys_of self.old.procedures.entries)
+            (module_keys «module».now)) }
         ensures fits { OnOk result (FitsProgram catalog.now.bases self.new) }
         ensures well_formed { OnOk result (ProgramIsWellFormed (column_kinds catalog.now) self.new) }
-        ensures written { (texts : List ModuleText) (m : ModuleText) → IsAmong texts m → IsOfText m «module».now → AreNumbers m self.old.cursors.items numbers.old.entries → AreFrom (table_number catalog.now.tables) texts self.old → OnOk result (AreFrom (table_number catalog.now.tables) texts self.new) }
+        ensures written { (texts : List ModuleText) (m : ModuleText) → IsAmong texts m → IsOfText m «module».now
+            → AreNumbers m self.old.cursors.items numbers.old.entries → AreFrom (table_number catalog.now.tables) texts self.old
+            → OnOk result (AreFrom (table_number catalog.now.tables) texts self.new) }
         ensures apart { OnOk result (AreApart [] self.new.cursors.items) }
-        ensures others { (name : AnyName) → same_name name «module».now.name ≡ false → AreOfOthers name self.old.cursors.items → OnOk result (AreOfOthers name self.new.cursors.items) }
+        ensures others { (name : AnyName) → same_name name «module».now.name ≡ false → AreOfOthers name self.old.cursors.items
+            → OnOk result (AreOfOthers name self.new.cursors.items) }
     {
         let opened = self.add_cursors(alloc, catalog, module, numbers)?;
         let added = self.add_procedures(alloc, catalog, module, numbers, opened.as_slice());
@@ -186,10 +199,14 @@ impl Program {
         ensures fits { OnOk result (FitsProgram catalog.now.bases self.new) }
         ensures well_formed { OnOk result (ProgramIsWellFormed (column_kinds catalog.now) self.new) }
         ensures grows { OnOk result (Grow self.old.cursors.items self.new.cursors.items) }
-        ensures written { (m : ModuleText) → IsOfText m «module».now → AreNumbers m self.old.cursors.items numbers.old.entries → IfOk result (λ opened. AreNumbers m self.new.cursors.items numbers.new.entries × OpenNamed (table_number catalog.now.tables) m self.new.cursors.items «module».now.procedures.items opened.items) }
-        ensures opened { IfOk result (λ opened. AreOpened (column_kinds catalog.now) self.new.cursors.items «module».now.procedures.items opened.items) }
+        ensures written { (m : ModuleText) → IsOfText m «module».now → AreNumbers m self.old.cursors.items numbers.old.entries
+            → IfOk result (λ opened. AreNumbers m self.new.cursors.items numbers.new.entries × OpenNamed (table_number catalog.now.tables) m
+            self.new.cursors.items «module».now.procedures.items opened.items) }
+        ensures opened { IfOk result (λ opened. AreOpened (column_kinds catalog.now) self.new.cursors.items «module».now.procedures.items
+            opened.items) }
         ensures apart { OnOk result (AreApart [] self.new.cursors.items) }
-        ensures others { (name : AnyName) → same_name name «module».now.name ≡ false → AreOfOthers name self.old.cursors.items → OnOk result (AreOfOthers name self.new.cursors.items) }
+        ensures others { (name : AnyName) → same_name name «module».now.name ≡ false → AreOfOthers name self.old.cursors.items
+            → OnOk result (AreOfOthers name self.new.cursors.items) }
     {
         let mut opened = Vec::new(alloc);
         for opener in module.procedures.as_slice() {
@@ -218,12 +235,16 @@ impl Program {
         ensures procedures { self.new.procedures ≡ self.old.procedures }
         ensures fits { OnOk result (FitsProgram catalog.now.bases self.new) }
         ensures well_formed { OnOk result (ProgramIsWellFormed (column_kinds catalog.now) self.new) }
-        ensures written { (m : ModuleText) → IsOfText m «module».now → AreNumbers m self.old.cursors.items numbers.old.entries → IfOk result (λ opened. AreNumbers m self.new.cursors.items numbers.new.entries × OpensNamed (table_number catalog.now.tables) m self.new.cursors.items opener.now opened) }
+        ensures written { (m : ModuleText) → IsOfText m «module».now → AreNumbers m self.old.cursors.items numbers.old.entries
+            → IfOk result (λ opened. AreNumbers m self.new.cursors.items numbers.new.entries × OpensNamed (table_number catalog.now.tables)
+            m self.new.cursors.items opener.now opened) }
         ensures grows { OnOk result (Grow self.old.cursors.items self.new.cursors.items) }
         ensures opened { IfOk result (IsOpened (column_kinds catalog.now) self.new.cursors.items opener.now) }
         ensures apart { OnOk result (AreApart [] self.new.cursors.items) }
-        ensures others { (name : AnyName) → same_name name «module».now.name ≡ false → AreOfOthers name self.old.cursors.items → OnOk result (AreOfOthers name self.new.cursors.items) }
-        ensures opened_by { (before : List AnyProcedure) → OpenedBy «module».now.name before self.old.cursors.items → OnOk result (OpenedBy «module».now.name (before ++ opener.now ∷ []) self.new.cursors.items) }
+        ensures others { (name : AnyName) → same_name name «module».now.name ≡ false → AreOfOthers name self.old.cursors.items
+            → OnOk result (AreOfOthers name self.new.cursors.items) }
+        ensures opened_by { (before : List AnyProcedure) → OpenedBy «module».now.name before self.old.cursors.items
+            → OnOk result (OpenedBy «module».now.name (before ++ opener.now ∷ []) self.new.cursors.items) }
     {
         let Statement::Open(name) = &opener.procedure.statement else {
             return Ok(None);
@@ -251,14 +272,23 @@ impl Program {
         requires apart { AreApart [] self.old.cursors.items }
         ensures there { OnOk result (AreThere (length self.new.cursors.items) numbers.new.entries) }
         ensures procedures { self.new.procedures ≡ self.old.procedures }
-        ensures fits { (bases : List BaseTable) → FitsProgram bases self.old → IfOk bound (FitsCursor bases) → OnOk result (FitsProgram bases self.new) }
-        ensures well_formed { (columns : TableKinds) (parameters : List Kind) → ProgramIsWellFormed columns self.old → IfOk bound (IsCursor columns parameters) → OnOk result (ProgramIsWellFormed columns self.new) }
-        ensures written { (m : ModuleText) → IsOfText m «module».now → IsCursorNamed m name bound → AreNumbers m self.old.cursors.items numbers.old.entries → IfOk result (λ opened. AreNumbers m self.new.cursors.items numbers.new.entries × IfSome opened (IsNumberOf m self.new.cursors.items name)) }
+        ensures fits { (bases : List BaseTable) → FitsProgram bases self.old → IfOk bound (FitsCursor bases)
+            → OnOk result (FitsProgram bases self.new) }
+        ensures well_formed { (columns : TableKinds) (parameters : List Kind) → ProgramIsWellFormed columns self.old
+            → IfOk bound (IsCursor columns parameters) → OnOk result (ProgramIsWellFormed columns self.new) }
+        ensures written { (m : ModuleText) → IsOfText m «module».now → IsCursorNamed m name bound
+            → AreNumbers m self.old.cursors.items numbers.old.entries
+            → IfOk result (λ opened. AreNumbers m self.new.cursors.items numbers.new.entries × IfSome opened
+            (IsNumberOf m self.new.cursors.items name)) }
         ensures grows { OnOk result (Grow self.old.cursors.items self.new.cursors.items) }
-        ensures opened { (columns : TableKinds) (parameters : List Kind) → IfOk bound (IsCursor columns parameters) → IfOk result (λ opened. IfSome opened (λ number. OpensWellFormed columns self.new.cursors.items parameters (Open number))) }
+        ensures opened { (columns : TableKinds) (parameters : List Kind) → IfOk bound (IsCursor columns parameters)
+            → IfOk result (λ opened. IfSome opened (λ number. OpensWellFormed columns self.new.cursors.items parameters (Open number))) }
         ensures apart { OnOk result (AreApart [] self.new.cursors.items) }
-        ensures others { (name : AnyName) → same_name name «module».now.name ≡ false → AreOfOthers name self.old.cursors.items → OnOk result (AreOfOthers name self.new.cursors.items) }
-        ensures opened_by { (procedures : List AnyProcedure) → list_any (is_name name) (openings procedures) ≡ true → OpenedBy «module».now.name procedures self.old.cursors.items → OnOk result (OpenedBy «module».now.name procedures self.new.cursors.items) }
+        ensures others { (name : AnyName) → same_name name «module».now.name ≡ false → AreOfOthers name self.old.cursors.items
+            → OnOk result (AreOfOthers name self.new.cursors.items) }
+        ensures opened_by { (procedures : List AnyProcedure) → list_any (is_name name) (openings procedures) ≡ true
+            → OpenedBy «module».now.name procedures self.old.cursors.items
+            → OnOk result (OpenedBy «module».now.name procedures self.new.cursors.items) }
     {
         match without_fault(bound)? {
             Some(cursor) => {
@@ -289,10 +319,15 @@ impl Program {
         requires there { AreThere (length self.old.cursors.items) numbers.now.entries }
         requires fits { FitsProgram catalog.now.bases self.old }
         requires well_formed { ProgramIsWellFormed (column_kinds catalog.now) self.old }
-        ensures procedures { OnOk result (keys_of self.new.procedures.entries ≡ with_procedures (keys_of self.old.procedures.entries) (module_keys «module».now)) }
+        ensures procedures { OnOk result (keys_of self.new.procedures.entries ≡ with_procedures (keys_of self.old.procedures.entries)
+            (module_keys «module».now)) }
         ensures fits { OnOk result (FitsProgram catalog.now.bases self.new) }
         ensures well_formed { OnOk result (ProgramIsWellFormed (column_kinds catalog.now) self.new) }
-        ensures written { (texts : List ModuleText) (m : ModuleText) → IsAmong texts m → IsOfText m «module».now → AreNumbers m self.old.cursors.items numbers.now.entries → OpenNamed (table_number catalog.now.tables) m self.old.cursors.items «module».now.procedures.items opened.now → AreFrom (table_number catalog.now.tables) texts self.old → OnOk result (AreFrom (table_number catalog.now.tables) texts self.new) }
+        ensures written { (texts : List ModuleText) (m : ModuleText) → IsAmong texts m → IsOfText m «module».now
+            → AreNumbers m self.old.cursors.items numbers.now.entries
+            → OpenNamed (table_number catalog.now.tables) m self.old.cursors.items «module».now.procedures.items opened.now
+            → AreFrom (table_number catalog.now.tables) texts self.old
+            → OnOk result (AreFrom (table_number catalog.now.tables) texts self.new) }
         ensures cursors { OnOk result (self.new.cursors ≡ self.old.cursors) }
     {
         for (place, admitted) in module.procedures.as_slice().iter().enumerate() {
@@ -315,10 +350,15 @@ impl Program {
         requires fits { FitsProgram catalog.now.bases self.old }
         requires well_formed { ProgramIsWellFormed (column_kinds catalog.now) self.old }
         ensures cursors { self.new.cursors ≡ self.old.cursors }
-        ensures procedures { OnOk result (keys_of self.new.procedures.entries ≡ insert_key same_procedure (keys_of self.old.procedures.entries) (name_of «module».now.name admitted.now)) }
+        ensures procedures { OnOk result (keys_of self.new.procedures.entries ≡ insert_key same_procedure
+            (keys_of self.old.procedures.entries) (name_of «module».now.name admitted.now)) }
         ensures fits { OnOk result (FitsProgram catalog.now.bases self.new) }
         ensures well_formed { OnOk result (ProgramIsWellFormed (column_kinds catalog.now) self.new) }
-        ensures written { (texts : List ModuleText) (m : ModuleText) → IsAmong texts m → IsOfText m «module».now → IsProcedureOf m.items admitted.now → AreNumbers m self.old.cursors.items numbers.now.entries → OpensNamed (table_number catalog.now.tables) m self.old.cursors.items admitted.now opened → AreFrom (table_number catalog.now.tables) texts self.old → OnOk result (AreFrom (table_number catalog.now.tables) texts self.new) }
+        ensures written { (texts : List ModuleText) (m : ModuleText) → IsAmong texts m → IsOfText m «module».now
+            → IsProcedureOf m.items admitted.now → AreNumbers m self.old.cursors.items numbers.now.entries
+            → OpensNamed (table_number catalog.now.tables) m self.old.cursors.items admitted.now opened
+            → AreFrom (table_number catalog.now.tables) texts self.old
+            → OnOk result (AreFrom (table_number catalog.now.tables) texts self.new) }
     {
         let cursors = ModuleCursors {
             numbers,
@@ -346,7 +386,10 @@ fn bound_procedure(
     ensures fits { IfOk result (FitsProcedure catalog.now.bases (length cursors.now.cursors.now)) }
     ensures well_formed { IfOk result (ProcedureIsWellFormed (column_kinds catalog.now) (kinds_of_cursors cursors.now.cursors.now)) }
     ensures opens { IfOk result (ProcedureOpens (column_kinds catalog.now) cursors.now.cursors.now) }
-    ensures written { (m : ModuleText) → user ≡ m.authorization → IsProcedureOf m.items admitted.now → AreNumbers m cursors.now.cursors.now cursors.now.numbers.now.entries → OpensNamed (table_number catalog.now.tables) m cursors.now.cursors.now admitted.now opened → IfOk result (IsBoundFrom (table_number catalog.now.tables) m cursors.now.cursors.now admitted.now.procedure.now) }
+    ensures written { (m : ModuleText) → user ≡ m.authorization → IsProcedureOf m.items admitted.now
+        → AreNumbers m cursors.now.cursors.now cursors.now.numbers.now.entries
+        → OpensNamed (table_number catalog.now.tables) m cursors.now.cursors.now admitted.now opened
+        → IfOk result (IsBoundFrom (table_number catalog.now.tables) m cursors.now.cursors.now admitted.now.procedure.now) }
 {
     let bound = bound_statement(alloc, catalog, user, cursors, admitted, opened);
     let statement = unless_no_memory(bound)?;
@@ -374,9 +417,14 @@ fn bound_statement(
 ) -> Result<BoundStatement, BindFault>
     requires { IsOpened (column_kinds catalog.now) cursors.now.cursors.now admitted.now opened }
     ensures fits { IfOk result (FitsStatement catalog.now.bases (length cursors.now.cursors.now) (length admitted.now.parameters)) }
-    ensures well_formed { IfOk result (IsStatement (column_kinds catalog.now) (kinds_of_cursors cursors.now.cursors.now) (kinds_of_parameters admitted.now.parameters)) }
-    ensures opens { IfOk result (OpensWellFormed (column_kinds catalog.now) cursors.now.cursors.now (kinds_of_parameters admitted.now.parameters)) }
-    ensures written { (m : ModuleText) → user ≡ m.authorization → AreNumbers m cursors.now.cursors.now cursors.now.numbers.now.entries → OpensNamed (table_number catalog.now.tables) m cursors.now.cursors.now admitted.now opened → IfOk result (IsStatementIn (table_number catalog.now.tables) m cursors.now.cursors.now admitted.now.parameters admitted.now.procedure.now.statement) }
+    ensures well_formed { IfOk result (IsStatement (column_kinds catalog.now) (kinds_of_cursors cursors.now.cursors.now)
+        (kinds_of_parameters admitted.now.parameters)) }
+    ensures opens { IfOk result (OpensWellFormed (column_kinds catalog.now) cursors.now.cursors.now
+        (kinds_of_parameters admitted.now.parameters)) }
+    ensures written { (m : ModuleText) → user ≡ m.authorization → AreNumbers m cursors.now.cursors.now cursors.now.numbers.now.entries
+        → OpensNamed (table_number catalog.now.tables) m cursors.now.cursors.now admitted.now opened
+        → IfOk result (IsStatementIn (table_number catalog.now.tables) m cursors.now.cursors.now admitted.now.parameters
+        admitted.now.procedure.now.statement) }
 {
     let parameters = admitted.parameters.as_slice();
     match &admitted.procedure.statement {

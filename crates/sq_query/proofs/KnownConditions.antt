@@ -16,7 +16,7 @@ use Rattle.sq_store.specs.declared.table.Numbered.{Numbered}
 use Rattle.sq_store.specs.declared.table.Table.{Table}
 use Rattle.sq_meaning.specs.Environment.{Row}
 use Rattle.sq_meaning.specs.Query.{is_true}
-use Rattle.sq_meaning.specs.Status.{Outcome, and_then, each, kept, not_well_formed}
+use Rattle.sq_meaning.specs.Status.{Outcome, and_then, each, kept}
 use Rattle.sq_meaning.specs.WellFormed.{Answers, Has, HasValue, IsRowOf}
 use Rattle.sq_meaning.proofs.AnswerLaws.{all_appended, all_weaker, kept_answers, then_answers, valued}
 use Rattle.sq_bound.specs.Condition.{cond_of}
@@ -48,7 +48,7 @@ use Rattle.sq_query.proofs.Fitting.{ends_right}
 use Rattle.sq_query.proofs.KeyedRows.{both_are}
 use Rattle.sq_query.proofs.KindsOfTables.{KindsAreOf, stored_kinds}
 use Rattle.sq_query.proofs.KnownQueries.{known_cond_of}
-use Rattle.sq_query.proofs.NeededViews.{cond_reads, cond_reads_weaker}
+use Rattle.sq_query.proofs.NeededViews.{cond_reads_weaker}
 use Rattle.sq_query.proofs.OnlyOne.{found_is}
 use Rattle.sq_query.proofs.ReadAs.{cond_read_as}
 use Rattle.sq_query.proofs.ReadRows.{truth_answers}
@@ -78,18 +78,7 @@ module _ (columns : TableKinds) (parameters : List Kind) (place : ℕ) where
   abbrev IsOnBase : BoundCond → Type 0
   IsOnBase = IsCond columns parameters (of_base_at place) []
 
-  abbrev Reads : BoundCond → Type 0
-  Reads c = ReadsCond (λ t. HasValue (columns t)) (cond_of [] c)
-
-  one_reads_known : (c : BoundCond) → IsOnBase c → Reads c
-  one_reads_known c well =
-      subst (ReadsCond (λ t. HasValue (columns t))) (sym (well.is_tree [])) (cond_reads (λ t. not_well_formed) columns parameters well.tree (of_base_at place) (well.stands (λ t. not_well_formed)))
-
-  -- the tables that they read are known
-  pub all_read_known : (cs : List BoundCond) → AllByRecursion IsOnBase cs → AllByRecursion Reads cs
-  all_read_known = all_weaker IsOnBase Reads one_reads_known
-
-  -- and so are their subqueries
+  -- their subqueries are known
   pub all_known_in : (context : Context) (cs : List BoundCond) → AllByRecursion IsOnBase cs → AreKnownIn context cs
   all_known_in context [] well = tt
   all_known_in context (c ∷ cs) well = (known_cond_of context c well.0.notes well.0.numbers, all_known_in context cs well.1)

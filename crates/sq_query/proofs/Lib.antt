@@ -1,9 +1,10 @@
 pub mod Added
 pub mod AnyTables
 pub mod Bases
-pub mod Bounded
+pub mod Bringable
 pub mod Chosen
 pub mod ChosenRows
+pub mod Finds
 pub mod Fitting
 pub mod JoinedTerms
 pub mod KeyTests
@@ -14,6 +15,7 @@ pub mod KnownQueries
 pub mod Levels
 pub mod MeantTables
 pub mod NeededViews
+pub mod NumbersThere
 pub mod OnlyOne
 pub mod ReadAs
 pub mod ReadRows

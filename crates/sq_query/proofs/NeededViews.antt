@@ -155,25 +155,25 @@ from_none queries needed last behind place at none so_far p from here =
 
 -- ---- while the needs of views are added
 
-pub record GoesOn (columns : TableKinds) (queries : List BoundSpecification) (there : Type 0) (old now : Needed) (last behind : ℕ) : Type 0 where
+pub record GoesOn (columns : TableKinds) (queries : List BoundSpecification) (old now : Needed) (last behind : ℕ) : Type 0 where
   pub more : NeedsMore old now
-  pub known : AreKnown columns old → AreKnown columns now
+  pub known : AreKnown columns now
   pub ends : EndsAt now last
-  pub closed : there → AreKnown columns old → IsClosedFrom queries now last behind
+  pub closed : IsClosedFrom queries now last behind
 
-module _ (columns : TableKinds) (queries : List BoundSpecification) (there : Type 0) (old : Needed) (last : ℕ) where
-  pub goes_on_with : (before after : Needed) (behind place : ℕ) → place + behind ≡ last → IsNeeded before (View place) → NeedsMore before after → (AreKnown columns before → AreKnown columns after) → AddsBefore place before after
-      → (there → HasValue (columns (View place)) → IsClosedAt queries after place) → GoesOn columns queries there old before last behind → GoesOn columns queries there old after last (behind + 1)
+module _ (columns : TableKinds) (queries : List BoundSpecification) (old : Needed) (last : ℕ) where
+  pub goes_on_with : (before after : Needed) (behind place : ℕ) → place + behind ≡ last → IsNeeded before (View place) → NeedsMore before after → AreKnown columns after → AddsBefore place before after
+      → IsClosedAt queries after place → GoesOn columns queries old before last behind → GoesOn columns queries old after last (behind + 1)
   goes_on_with before after behind place at here more known earlier closed so_far = record {
     more = λ t h. more t (so_far.more t h);
-    known = λ h. known (so_far.known h);
+    known = known;
     ends = ends_more queries before after last behind place at earlier so_far.ends;
-    closed = λ stands first. from_more queries before after last behind place at more earlier (closed stands (so_far.known first (View place) here)) (so_far.closed stands first);
+    closed = from_more queries before after last behind place at more earlier closed so_far.closed;
   }
 
-  pub goes_on_without : (now : Needed) (behind place : ℕ) → place + behind ≡ last → list_any (is place) now.views.items ≡ false → GoesOn columns queries there old now last behind → GoesOn columns queries there old now last (behind + 1)
+  pub goes_on_without : (now : Needed) (behind place : ℕ) → place + behind ≡ last → list_any (is place) now.views.items ≡ false → GoesOn columns queries old now last behind → GoesOn columns queries old now last (behind + 1)
   goes_on_without now behind place at none so_far =
-      record { more = so_far.more; known = so_far.known; ends = so_far.ends; closed = λ stands first. from_none queries now last behind place at none (so_far.closed stands first) }
+      record { more = so_far.more; known = so_far.known; ends = so_far.ends; closed = from_none queries now last behind place at none so_far.closed }
 
-  pub goes_to_end : (now : Needed) (behind : ℕ) → last < behind → GoesOn columns queries there old now last behind → there → AreKnown columns old → (place : ℕ) → IsNeeded now (View place) → IsClosedAt queries now place
-  goes_to_end now behind past so_far stands first place here = let beyond : last < place + behind = omega arith in so_far.closed stands first place beyond here
+  pub goes_to_end : (now : Needed) (behind : ℕ) → last < behind → GoesOn columns queries old now last behind → (place : ℕ) → IsNeeded now (View place) → IsClosedAt queries now place
+  goes_to_end now behind past so_far place here = let beyond : last < place + behind = omega arith in so_far.closed place beyond here

@@ -1,17 +1,17 @@
 -- The tables that a statement reads were read as they are meant.
-use Rattle.std.proofs.Common.{◌≡◌, ℕ, List, [], ◌∷◌, Option, Some, None, Result, refl, sym, subst, ◌∙◌, Ok, Err}
+use Rattle.std.proofs.Common.{◌≡◌, ℕ, List, [], ◌∷◌, Option, Some, None, Result, refl, subst, ◌∙◌, Ok, Err}
 use Rattle.std.specs.Prelude.{⊤, find, nat_eq, IfOk}
 use Rattle.std.specs.List.{AllByRecursion}
 use Rattle.std.specs.Option.{option_map}
 use Rattle.sq_value.specs.declared.domain.Kind.{Kind}
 use Rattle.sq_value.specs.declared.truth.Truth.{Truth}
 use Rattle.sq_store.specs.Content.{Content}
-use Rattle.sq_meaning.specs.Status.{Outcome, and_then, each, well_formed, not_well_formed}
+use Rattle.sq_meaning.specs.Status.{Outcome, and_then, each, well_formed}
 use Rattle.sq_meaning.specs.Environment.{Row}
-use Rattle.sq_meaning.specs.WellFormed.{Answers, HasValue}
+use Rattle.sq_meaning.specs.WellFormed.{Answers}
 use Rattle.sq_bound.specs.Condition.{cond_of, select_of}
 use Rattle.sq_bound.specs.Expression.{PlacedExpr}
-use Rattle.sq_bound.specs.WellFormed.{TableKinds, IsSelect, of_base_at}
+use Rattle.sq_bound.specs.WellFormed.{TableKinds}
 use Rattle.sq_bound.specs.declared.condition.BoundCond.{BoundCond}
 use Rattle.sq_bound.specs.declared.condition.BoundSpecification.{BoundSpecification}
 use Rattle.sq_bound.specs.declared.condition.TablePlace.{TablePlace}
@@ -31,7 +31,7 @@ use Rattle.sq_expression.specs.declared.table.BaseRows.{BaseRows}
 use Rattle.sq_query.specs.declared.view.Tables.{Tables}
 use Rattle.sq_query.proofs.Fitting.{answers_right}
 use Rattle.sq_query.proofs.KnownQueries.{known_cond_of}
-use Rattle.sq_query.proofs.NeededViews.{cond_reads, cond_reads_weaker, reads_known, reads_weaker}
+use Rattle.sq_query.proofs.NeededViews.{cond_reads_weaker, reads_weaker}
 use Rattle.sq_query.proofs.SameTables.{same_truth}
 
 -- ---- what was read stands in the context
@@ -83,17 +83,7 @@ module _ {E : Type 0} (r : Result Needed E) (content : Content) (read : Tables) 
         each_read n as_meant [] needs = tt
         each_read n as_meant (t ∷ ts) needs = (select_read_as n as_meant t needs.0, each_read n as_meant ts needs.1)
 
--- ---- what well-formed query specifications read is known
-
-pub all_reads_known : (columns : TableKinds) (parameters : List Kind) (ss : List BoundSpecification) → AllByRecursion (IsSelect columns parameters []) ss → AllByRecursion (λ s. ReadsSelect (λ t. HasValue (columns t)) (select_of s)) ss
-all_reads_known columns parameters [] well = tt
-all_reads_known columns parameters (s ∷ ss) well = (reads_known columns parameters [] s well.0, all_reads_known columns parameters ss well.1)
-
 -- ---- conditions on a row
-
-pub cond_reads_known : (columns : TableKinds) (parameters : List Kind) (row : Row) (c : BoundCond) → IsOnRow columns parameters row c → ReadsCond (λ t. HasValue (columns t)) (cond_of [] c)
-cond_reads_known columns parameters row c on =
-    subst (ReadsCond (λ t. HasValue (columns t))) (sym (on.well.is_tree [])) (cond_reads (λ t. not_well_formed) columns parameters on.well.tree (of_base_at on.place) (on.well.stands (λ t. not_well_formed)))
 
 -- its truth is that over the tables that it reads
 pub truth_of_cond : (context : Context) (tables : TablePlace → Outcome (List Row)) (columns : TableKinds) (parameters : List Kind) (row : Row) (c : BoundCond) (result : Result Truth Fault) → IsOnRow columns parameters row c

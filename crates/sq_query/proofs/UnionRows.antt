@@ -40,7 +40,7 @@ use Rattle.sq_query.specs.Union.{AreBringable, AreFitting, HasUnionRows, HasTerm
 use Rattle.sq_expression.specs.declared.context.Context.{Context}
 use Rattle.sq_expression.specs.declared.fault.Fault.{Fault}
 use Rattle.sq_expression.specs.declared.fault.Fault.TheVariants as fault
-use Rattle.sq_query.proofs.Bounded.{all_bounded, both_bringable}
+use Rattle.sq_query.proofs.Bringable.{both_bringable}
 use Rattle.sq_query.proofs.JoinedTerms.{IsJoined, all_left, all_right, all_within, opened, kept_are, sides, kinds_so_far, query_of_term}
 use Rattle.sq_query.proofs.Fitting.{exact, query_fits}
 use Rattle.sq_query.proofs.KeyedRows.{inputs_are}
@@ -327,10 +327,12 @@ module _ (q : BoundQuery) where
             let known = known_so_far noted (i + 1) in
             let lefts = found_kinds (query_so_far q i) joined.ls left (are_kinds columns parameters tables may.well i joined.ls joined.lefts) (so_far columns parameters tables may noted) in
             let rights = found_kinds (term_of u.term) joined.rs right.items (term_known columns parameters tables u.term term_read.well joined.rs joined.rights) (term columns parameters tables term_read joined.rs joined.rights) in
-            subst (λ (ks : List Kind). AreBringable ks (left ++ right.items)) joined.noted (both_bringable joined.ls joined.rs known.0 left right.items lefts rights joined.common (all_bounded known.0 joined.bounded))
+            subst (λ (ks : List Kind). AreBringable ks (left ++ right.items)) joined.noted (both_bringable joined.ls joined.rs known.0 left right.items lefts rights joined.common)
 
-      pub next_meant : (right : Vec (List Value) Global) (out : List Row) → HasTermRows (Ok right) u.term context → joined_rows u.all (kinds_of_results u.columns) (left ++ right.items) ≡ Ok out → AreMeant q context (i + 1) out
-      next_meant right out term found columns parameters tables may noted = next_rows columns parameters tables may noted right term ∙ found
+      pub next_meant : (right out : Vec (List Value) Global) → HasTermRows (Ok right) u.term context
+          → (AreBringable (kinds_of_results u.columns) (left ++ right.items) → HasRows (Ok out) (joined_rows u.all (kinds_of_results u.columns) (left ++ right.items))) → AreMeant q context (i + 1) out.items
+      next_meant right out term join columns parameters tables may noted =
+          next_rows columns parameters tables may noted right term ∙ join (bringable columns parameters tables may noted right term)
 
       pub term_failed : (e : Fault) → HasTermRows (Err e) u.term context → HasUnionRows (Err e) q context
       term_failed e term columns parameters tables may noted =

@@ -4,11 +4,15 @@ use Rattle.std.specs.List.{AllByRecursion, list_any}
 use Rattle.sq_meaning.specs.Syntax.{Conds, compare, compare_subquery, compare_quantified, between, in_subquery, in_list, like, is_null, exists, negated, conjunction, disjunction, no_cond, a_cond, absent, present, select}
 use Rattle.sq_meaning.specs.Placed.{Placed}
 use Rattle.sq_meaning.specs.WellFormed.{HasValue}
-use Rattle.sq_bound.specs.Condition.{PlacedCond, PlacedClause, PlacedSelect, select_of}
-use Rattle.sq_bound.specs.WellFormed.{TableKinds}
+use Rattle.sq_bound.specs.Condition.{PlacedCond, PlacedClause, PlacedSelect, cond_of, select_of}
+use Rattle.sq_bound.specs.Joined.{specifications_of}
+use Rattle.sq_bound.specs.WellFormed.{BasesAreThere, TableKinds}
+use Rattle.sq_bound.specs.declared.condition.BoundCond.{BoundCond}
 use Rattle.sq_bound.specs.declared.condition.BoundSpecification.{BoundSpecification}
 use Rattle.sq_bound.specs.declared.condition.TablePlace.{TablePlace}
 use Rattle.sq_bound.specs.declared.condition.TablePlace.TheVariants.{Base, View}
+use Rattle.sq_bound.specs.declared.names.BaseTable.{BaseTable}
+use Rattle.sq_bound.specs.declared.query.BoundQuery.{BoundQuery}
 use Rattle.sq_query.specs.declared.needed.Needed.{Needed}
 
 -- these base tables and no view
@@ -60,6 +64,25 @@ module _ (P : TablePlace → Type 0) where
 
     pub ReadsSelect : PlacedSelect → Type 0
     ReadsSelect (select distinct list from filter by having) = AllByRecursion P from × ReadsClause filter × ReadsClause having
+
+-- ---- the tables that a statement reads are there
+
+-- the base tables that are known are there, and so is each table in the FROM clauses of a query specification, subqueries included
+abbrev pub FindsSelect : List BaseTable → TableKinds → BoundSpecification → Type 0
+FindsSelect bases columns s = BasesAreThere bases columns × ReadsSelect (λ t. HasValue (columns t)) (select_of s)
+
+-- of each query specification in a query expression
+abbrev pub FindsQuery : List BaseTable → TableKinds → BoundQuery → Type 0
+FindsQuery bases columns q = BasesAreThere bases columns × AllByRecursion (λ s. ReadsSelect (λ t. HasValue (columns t)) (select_of s)) (specifications_of q)
+
+-- of the subqueries of conditions
+abbrev pub FindsCond : List BaseTable → TableKinds → BoundCond → Type 0
+FindsCond bases columns c = BasesAreThere bases columns × ReadsCond (λ t. HasValue (columns t)) (cond_of [] c)
+
+abbrev pub FindsConds : List BaseTable → TableKinds → List BoundCond → Type 0
+FindsConds bases columns cs = BasesAreThere bases columns × AllByRecursion (λ c. ReadsCond (λ t. HasValue (columns t)) (cond_of [] c)) cs
+
+-- ---- the tables that are needed
 
 -- a table is among them
 abbrev pub IsNeeded : Needed → TablePlace → Type 0

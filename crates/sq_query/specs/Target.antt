@@ -1,12 +1,13 @@
 -- The rows of a base table that a statement may change (ISO/IEC 9075:1992, 13.6 to 13.10).
-use Rattle.std.specs.Prelude.{◌≡◌, ℕ, map, Vec, Bool, true, false, if◌then◌else◌, List, [], ◌∷◌, ◌++◌, Option, Some, None, Result, Ok}
+use Rattle.std.specs.Prelude.{◌≡◌, ℕ, map, Vec, Bool, true, false, if◌then◌else◌, List, [], ◌∷◌, ◌++◌, Option, Some, None, IsSome, Result, Ok}
 use Rattle.std.specs.List.{list_any, AllByRecursion}
 use Rattle.std.specs.declared.alloc.Global.{Global}
 use Rattle.sq_lex.specs.declared.name.Name.{Name}
 use Rattle.sq_value.specs.declared.truth.Truth.{Truth}
 use Rattle.sq_value.specs.declared.value.Value.{Value}
-use Rattle.sq_store.specs.Content.{Content}
+use Rattle.sq_store.specs.Content.{Content, row_at}
 use Rattle.sq_store.specs.declared.table.Numbered.{Numbered}
+use Rattle.sq_store.specs.declared.table.Table.{Table}
 use Rattle.sq_meaning.specs.Status.{Outcome, ◌>>=◌, kept}
 use Rattle.sq_meaning.specs.Environment.{Row}
 use Rattle.sq_meaning.specs.Placed.{by_place}
@@ -66,6 +67,10 @@ numbers_chosen test xs rows = chosen test xs rows >>= λ found. Ok (map (λ r. r
 
 abbrev pub numbers_in : Vec ℕ Global → List ℕ
 numbers_in numbers = numbers.items
+
+-- each is the number of a row
+abbrev pub AreNumbersOf : Table → List ℕ → Type 0
+AreNumbersOf table numbers = AllByRecursion (λ n. IsSome (row_at table n)) numbers
 
 -- of a target whose conditions have no subquery: the numbers of the rows of its base table for which they are true
 abbrev pub HasNumbers : Result (Vec ℕ Global) Fault → Target → Content → List Value → Name → Type 0

@@ -62,11 +62,9 @@ HasTermRows result term context =
 
 -- ---- both sides of UNION
 
--- a value that may be brought to a kind: a number of no greater scale, which is at most 18, and a text
--- where the length is at most 240 (own rules)
+-- a value that may be brought to a kind: of a number the scale isn't greater
 abbrev pub MayBeBrought : Kind → Value → Type 0
-MayBeBrought (kind.Num s) (Num n) = (n.scale ≤ s) × (s ≤ 18)
-MayBeBrought (kind.Chars n) (Chars t) = n ≤ 240
+MayBeBrought (kind.Num s) (Num n) = n.scale ≤ s
 MayBeBrought _ _ = ⊤
 
 abbrev pub IsBringable : List Kind → Row → Type 0

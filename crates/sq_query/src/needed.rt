@@ -1,6 +1,6 @@
 //! Which tables a statement reads.
 
-ghost use Rattle.std.specs.Prelude.{◌≡◌, ◌≤◌, ℕ, List, [], false, fold, nat_eq, slice_get, IfOk, IfSome, IsSome, OnOk, Some};
+ghost use Rattle.std.specs.Prelude.{◌≡◌, ◌≤◌, ℕ, List, [], false, fold, nat_eq, slice_get, IfOk, OnOk, Some};
 ghost use Rattle.std.specs.List.{AllByRecursion, list_any};
 ghost use Rattle.sq_meaning.specs.WellFormed.{HasValue};
 ghost use Rattle.sq_bound.specs.Condition.{cond_of, conj_of, predicate_of, clause_of, select_of};
@@ -41,7 +41,8 @@ impl Needed {
         query: &BoundSpecification,
     ) -> Result<Needed, AllocError>
         ensures reads { IfOk result (λ needed. ReadsSelect (IsNeeded needed) (select_of query.now)) }
-        ensures known { (columns : TableKinds) → ReadsSelect (λ t. HasValue (columns t)) (select_of query.now) → IfOk result (AreKnown columns) }
+        ensures known { (columns : TableKinds) → ReadsSelect (λ t. HasValue (columns t)) (select_of query.now)
+            → IfOk result (AreKnown columns) }
     {
         let mut needed = Needed::new(alloc);
         needed.add_of_specification(query)?;
@@ -50,8 +51,11 @@ impl Needed {
 
     /// The tables in the FROM clauses of a query expression.
     pub(crate) fn of_query(alloc: Global, query: &BoundQuery) -> Result<Needed, AllocError>
-        ensures reads { IfOk result (λ needed. AllByRecursion (λ s. ReadsSelect (IsNeeded needed) (select_of s)) (specifications_of query.now)) }
-        ensures known { (columns : TableKinds) → AllByRecursion (λ s. ReadsSelect (λ t. HasValue (columns t)) (select_of s)) (specifications_of query.now) → IfOk result (AreKnown columns) }
+        ensures reads { IfOk result (λ needed. AllByRecursion (λ s. ReadsSelect (IsNeeded needed) (select_of s))
+            (specifications_of query.now)) }
+        ensures known { (columns : TableKinds)
+            → AllByRecursion (λ s. ReadsSelect (λ t. HasValue (columns t)) (select_of s)) (specifications_of query.now)
+            → IfOk result (AreKnown columns) }
     {
         let mut needed = Needed::new(alloc);
         needed.add_of_query(query)?;
@@ -61,8 +65,10 @@ impl Needed {
     /// The tables in the FROM clauses of a condition's subqueries.
     pub(crate) fn of_condition(alloc: Global, condition: &BoundCond) -> Result<Needed, AllocError>
         ensures plain { has_subquery (cond_of [] condition.now) ≡ false → IfOk result NeedsNone }
-        ensures reads { IfOk result (λ needed. (functions : List PlacedExpr) → ReadsCond (IsNeeded needed) (cond_of functions condition.now)) }
-        ensures known { (columns : TableKinds) (functions : List PlacedExpr) → ReadsCond (λ t. HasValue (columns t)) (cond_of functions condition.now) → IfOk result (AreKnown columns) }
+        ensures reads { IfOk result (λ needed. (functions : List PlacedExpr) → ReadsCond (IsNeeded needed)
+            (cond_of functions condition.now)) }
+        ensures known { (columns : TableKinds) (functions : List PlacedExpr)
+            → ReadsCond (λ t. HasValue (columns t)) (cond_of functions condition.now) → IfOk result (AreKnown columns) }
     {
         let mut needed = Needed::new(alloc);
         needed.add_of_condition(condition)?;
@@ -82,10 +88,12 @@ impl Needed {
 
     /// Adds what the needed views need in turn. A view names only earlier ones.
     pub(crate) fn add_of_views<N: Names>(&mut self, names: &N) -> Result<(), AllocError>
+        requires there { BasesAreThere (N.base_tables names.now) (N.column_kinds names.now) }
+        requires known { AreKnown (N.column_kinds names.now) self.old }
         ensures none { self.old.views.items ≡ [] → OnOk result (self.new ≡ self.old) }
         ensures more { OnOk result (NeedsMore self.old self.new) }
-        ensures known { AreKnown (N.column_kinds names.now) self.old → OnOk result (AreKnown (N.column_kinds names.now) self.new) }
-        ensures closed { BasesAreThere (N.base_tables names.now) (N.column_kinds names.now) → AreKnown (N.column_kinds names.now) self.old → OnOk result (IsClosed (N.view_queries names.now) self.new) }
+        ensures known { OnOk result (AreKnown (N.column_kinds names.now) self.new) }
+        ensures closed { OnOk result (IsClosed (N.view_queries names.now) self.new) }
     {
         if self.views.is_empty() {
             return Ok(());
@@ -102,15 +110,14 @@ impl Needed {
 
     /// Adds what the view at a place needs: it names only earlier views.
     fn add_of_view<N: Names>(&mut self, names: &N, place: usize) -> Result<(), AllocError>
+        requires there { BasesAreThere (N.base_tables names.now) (N.column_kinds names.now) }
+        requires known { HasValue (N.column_kinds names.now (at_place.View place)) }
         ensures more { OnOk result (NeedsMore self.old self.new) }
         ensures known { AreKnown (N.column_kinds names.now) self.old → OnOk result (AreKnown (N.column_kinds names.now) self.new) }
         ensures earlier { OnOk result (AddsBefore place self.old self.new) }
-        ensures closed { BasesAreThere (N.base_tables names.now) (N.column_kinds names.now) → HasValue (N.column_kinds names.now (at_place.View place)) → OnOk result (IsClosedAt (N.view_queries names.now) self.new place) }
+        ensures closed { OnOk result (IsClosedAt (N.view_queries names.now) self.new place) }
     {
-        match view_at(names, place) {
-            Some(view) => self.add_of_specification(&view.query),
-            None => Ok(()),
-        }
+        self.add_of_specification(&view_at(names, place).query)
     }
 
     fn add(&mut self, table: TablePlace) -> Result<(), AllocError>
@@ -166,7 +173,8 @@ impl Needed {
         condition: &Option<BoundCond>,
     ) -> Result<(), AllocError>
         ensures plain { clause_has_subquery (clause_of [] condition.now) ≡ false → OnOk result (self.new ≡ self.old) }
-        ensures adds { (functions : List PlacedExpr) → OnOk result (Adds self.old (clause_tables (clause_of functions condition.now)) self.new) }
+        ensures adds { (functions : List PlacedExpr)
+            → OnOk result (Adds self.old (clause_tables (clause_of functions condition.now)) self.new) }
     {
         match condition {
             Some(condition) => self.add_of_condition(condition),
@@ -199,7 +207,8 @@ impl Needed {
     #[cycle(needed_of_cond)]
     fn add_of_predicate(&mut self, predicate: &Predicate) -> Result<(), AllocError>
         ensures plain { has_subquery (predicate_of [] predicate.now) ≡ false → OnOk result (self.new ≡ self.old) }
-        ensures adds { (functions : List PlacedExpr) → OnOk result (Adds self.old (cond_tables (predicate_of functions predicate.now)) self.new) }
+        ensures adds { (functions : List PlacedExpr)
+            → OnOk result (Adds self.old (cond_tables (predicate_of functions predicate.now)) self.new) }
     {
         match predicate {
             Predicate::CompareQuery(_, _, _, query) => self.add_of_specification(query.get()),
@@ -228,16 +237,17 @@ pub(crate) fn is_among(place: usize, places: &[usize]) -> bool
 }
 
 /// The view at a place.
-pub(crate) fn view_at<N: Names>(names: &N, place: usize) -> Option<&View>
-    ensures is { IfSome result (λ view. IsViewAt (N.column_kinds names.now) place view.now) }
-    ensures among { IfSome result (λ view. slice_get (N.view_queries names.now) place ≡ Some view.now.query) }
-    ensures there { BasesAreThere (N.base_tables names.now) (N.column_kinds names.now) → HasValue (N.column_kinds names.now (at_place.View place)) → IsSome result }
+pub(crate) fn view_at<N: Names>(names: &N, place: usize) -> &View
+    requires there { BasesAreThere (N.base_tables names.now) (N.column_kinds names.now) }
+    requires known { HasValue (N.column_kinds names.now (at_place.View place)) }
+    ensures is { IsViewAt (N.column_kinds names.now) place result.now }
+    ensures among { slice_get (N.view_queries names.now) place ≡ Some result.now.query }
 {
-    match names.at(TablePlace::View(place)) {
-        Some(table) => match &table.body {
-            TableBody::View(view) => Some(view),
-            TableBody::Base(_) => None,
-        },
-        None => None,
+    let Some(table) = names.at(TablePlace::View(place)) else {
+        unreachable!()
+    };
+    match &table.body {
+        TableBody::View(view) => view,
+        TableBody::Base(_) => unreachable!(),
     }
 }

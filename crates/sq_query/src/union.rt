@@ -1,6 +1,6 @@
 //! The rows of a query expression (ISO/IEC 9075:1992, 7.10).
 
-ghost use Rattle.std.specs.Prelude.{◌≡◌, ◌++◌, Ok, IfOk};
+ghost use Rattle.std.specs.Prelude.{◌≤◌, ◌++◌, Ok};
 ghost use Rattle.sq_value.specs.Storing.{IsStored};
 ghost use Rattle.sq_value.specs.declared.domain.Kind.TheVariants.{Num, Chars};
 ghost use Rattle.sq_value.specs.declared.value.Value.{Value as AnyValue};
@@ -12,12 +12,9 @@ ghost use Rattle.sq_query.specs.Union.{HasUnionRows, HasTermRows, MayBeBrought, 
 
 use sq_bound::{BoundQuery, BoundTerm, BoundUnion, ResultColumn};
 use sq_condition::outermost_rows;
-use sq_expression::{Context, Fault, GREATEST_SCALE, distinct_rows, number_value};
+use sq_expression::{Context, Fault, distinct_rows, number_value};
 use sq_value::{Decimal, Domain, Kind, Row, StoreFault, Value, store};
 use std::alloc::Global;
-
-/// The greatest length of a text.
-const GREATEST_LENGTH: u16 = 240;
 
 /// The rows of a query expression: terms are joined from left to right.
 #[cycle(query_rows)]
@@ -54,8 +51,8 @@ fn joined(
     right: Vec<Row>,
     alloc: Global,
 ) -> Result<Vec<Row>, Fault>
-    ensures found { IfOk result (λ rows. joined_rows union.now.all (kinds_of_results union.now.columns) (left.items ++ right.items) ≡ Ok rows.items) }
-    ensures rows { AreBringable (kinds_of_results union.now.columns) (left.items ++ right.items) → HasRows result (joined_rows union.now.all (kinds_of_results union.now.columns) (left.items ++ right.items)) }
+    ensures { AreBringable (kinds_of_results union.now.columns) (left.items ++ right.items)
+        → HasRows result (joined_rows union.now.all (kinds_of_results union.now.columns) (left.items ++ right.items)) }
 {
     let found = both(left, right)?;
     let brought = rows_brought_to(union.columns.as_slice(), found.as_slice(), alloc);
@@ -78,8 +75,8 @@ fn both(left: Vec<Row>, right: Vec<Row>) -> Result<Vec<Row>, Fault>
 }
 
 fn rows_brought_to(columns: &[ResultColumn], rows: &[Row], alloc: Global) -> Result<Vec<Row>, Fault>
-    ensures found { IfOk result (λ brought. each (meaning.row_brought_to (kinds_of_results columns.now)) rows.now ≡ Ok brought.items) }
-    ensures rows { AreBringable (kinds_of_results columns.now) rows.now → HasRows result (each (meaning.row_brought_to (kinds_of_results columns.now)) rows.now) }
+    ensures { AreBringable (kinds_of_results columns.now) rows.now
+        → HasRows result (each (meaning.row_brought_to (kinds_of_results columns.now)) rows.now) }
 {
     let mut brought = Vec::new(alloc);
     for row in rows {
@@ -90,12 +87,12 @@ fn rows_brought_to(columns: &[ResultColumn], rows: &[Row], alloc: Global) -> Res
 }
 
 fn row_brought_to(columns: &[ResultColumn], row: &[Value], alloc: Global) -> Result<Row, Fault>
-    ensures found { IfOk result (λ brought. meaning.row_brought_to (kinds_of_results columns.now) row.now ≡ Ok brought) }
-    ensures row { IsBringable (kinds_of_results columns.now) row.now → Meets result (meaning.row_brought_to (kinds_of_results columns.now) row.now) }
+    ensures { IsBringable (kinds_of_results columns.now) row.now
+        → Meets result (meaning.row_brought_to (kinds_of_results columns.now) row.now) }
 {
     let mut brought = Row::new(alloc);
     for (column, value) in columns.iter().zip(row) {
-        let value = brought_to(column.kind, value, alloc)?;
+        let value = brought_to(*column, value, alloc)?;
         brought.push(value)?;
     }
     Ok(brought)
@@ -103,11 +100,11 @@ fn row_brought_to(columns: &[ResultColumn], row: &[Value], alloc: Global) -> Res
 
 /// A value as a column of a UNION has it: a number at the scale, a fixed text padded with blanks to the length, a varying
 /// text as it is.
-fn brought_to(kind: Kind, value: &Value, alloc: Global) -> Result<Value, Fault>
-    ensures found { IfOk result (λ brought. meaning.brought_to kind value.now ≡ Ok brought) }
-    ensures value { MayBeBrought kind value.now → Meets result (meaning.brought_to kind value.now) }
+#[tactic(auto, using(crate::proofs::Bringable::bounded_scale, crate::proofs::Bringable::bounded_length))]
+fn brought_to(column: ResultColumn, value: &Value, alloc: Global) -> Result<Value, Fault>
+    ensures { MayBeBrought column.kind value.now → Meets result (meaning.brought_to column.kind value.now) }
 {
-    match (kind, value) {
+    match (column.kind, value) {
         (_, Value::Null) => Ok(Value::Null),
         (Kind::Num(scale), Value::Num(number)) => at_scale(scale, *number),
         (Kind::Chars(length), Value::Chars(text)) => {
@@ -120,28 +117,23 @@ fn brought_to(kind: Kind, value: &Value, alloc: Global) -> Result<Value, Fault>
 
 /// The number at a scale that is no smaller than its own.
 fn at_scale(scale: u8, number: Decimal) -> Result<Value, Fault>
-    ensures found { IfOk result (λ brought. meaning.brought_to (Num scale) (Value.Num number) ≡ Ok brought) }
-    ensures value { MayBeBrought (Num scale) (Value.Num number) → Meets result (meaning.brought_to (Num scale) (Value.Num number)) }
+    requires { scale ≤ 18 }
+    ensures { MayBeBrought (Num scale) (Value.Num number) → Meets result (meaning.brought_to (Num scale) (Value.Num number)) }
 {
-    if scale > GREATEST_SCALE || number.scale() > scale {
-        return Err(Fault::NOT_WELL_FORMED);
-    }
     number_value(number.add(Decimal::new(0, scale)))
 }
 
 /// A text of a length, with blanks behind it up to another one.
 fn padded(text: &Value, from: usize, to: u16, alloc: Global) -> Result<Value, Fault>
-    requires { IsTextOf from text.now }
-    ensures found { IfOk result (λ brought. meaning.brought_to (Chars to) text.now ≡ Ok brought) }
-    ensures value { MayBeBrought (Chars to) text.now → Meets result (meaning.brought_to (Chars to) text.now) }
+    requires text { IsTextOf from text.now }
+    requires length { to ≤ 240 }
+    ensures { Meets result (meaning.brought_to (Chars to) text.now) }
 {
     if from >= to as usize {
-        return Ok(text.copy(alloc)?);
+        Ok(text.copy(alloc)?)
+    } else {
+        stored(store(alloc, text, Domain::Char(to)))
     }
-    if to > GREATEST_LENGTH {
-        return Err(Fault::NOT_WELL_FORMED);
-    }
-    stored(store(alloc, text, Domain::Char(to)))
 }
 
 /// The value that was stored, or the status of its fault.

@@ -40,8 +40,13 @@ pub(crate) fn tables_of<'a, N: Names, S: Store>(
     call: &Context<'_>,
     meter: &mut Meter,
 ) -> Result<Tables<'a>, Fault>
-    ensures meant { BasesAreThere (N.base_tables names.now) (N.column_kinds names.now) → AreInDomains (N.base_tables names.now) (S.content_now store.now) → (tables : TablePlace → Outcome (List Row)) → AreMeant (N.view_queries names.now) (S.content_now store.now) call.now.user tables → IfOk needed (AreKnown (N.column_kinds names.now)) → IsAnswered result × IfOk result (λ read. IfOk needed (λ n. ReadsAsMeant n (rows_read read) tables)) }
-    ensures bases { (places : List ℕ) → IfOk needed (NeedsBases places) → MeetsAs bases_of result (each (stored_base (S.content_now store.now)) places) }
+    requires there { BasesAreThere (N.base_tables names.now) (N.column_kinds names.now) }
+    requires known { IfOk needed (AreKnown (N.column_kinds names.now)) }
+    ensures meant { AreInDomains (N.base_tables names.now) (S.content_now store.now) → (tables : TablePlace → Outcome (List Row))
+        → AreMeant (N.view_queries names.now) (S.content_now store.now) call.now.user tables → IsAnswered result
+        × IfOk result (λ read. IfOk needed (λ n. ReadsAsMeant n (rows_read read) tables)) }
+    ensures bases { (places : List ℕ) → IfOk needed (NeedsBases places)
+        → MeetsAs bases_of result (each (stored_base (S.content_now store.now)) places) }
 {
     let mut needed = needed?;
     needed.add_of_views(names)?;
@@ -55,8 +60,14 @@ fn tables_at<'a, N: Names, S: Store>(
     call: &Context<'_>,
     meter: &mut Meter,
 ) -> Result<Tables<'a>, Fault>
-    ensures meant { BasesAreThere (N.base_tables names.now) (N.column_kinds names.now) → AreInDomains (N.base_tables names.now) (S.content_now store.now) → (tables : TablePlace → Outcome (List Row)) → AreMeant (N.view_queries names.now) (S.content_now store.now) call.now.user tables → AreKnown (N.column_kinds names.now) needed.now → IsClosed (N.view_queries names.now) needed.now → IsAnswered result × IfOk result (λ read. ReadsAsMeant needed.now (rows_read read) tables) }
-    ensures bases { (places : List ℕ) → NeedsBases places needed.now → MeetsAs bases_of result (each (stored_base (S.content_now store.now)) places) }
+    requires there { BasesAreThere (N.base_tables names.now) (N.column_kinds names.now) }
+    requires known { AreKnown (N.column_kinds names.now) needed.now }
+    ensures meant { AreInDomains (N.base_tables names.now) (S.content_now store.now) → (tables : TablePlace → Outcome (List Row))
+        → AreMeant (N.view_queries names.now) (S.content_now store.now) call.now.user tables
+        → IsClosed (N.view_queries names.now) needed.now → IsAnswered result
+        × IfOk result (λ read. ReadsAsMeant needed.now (rows_read read) tables) }
+    ensures bases { (places : List ℕ) → NeedsBases places needed.now
+        → MeetsAs bases_of result (each (stored_base (S.content_now store.now)) places) }
 {
     let bases = base_tables(call.alloc, store, needed.bases.as_slice(), meter)?;
     match view_tables(call.alloc, names, needed, bases.as_slice(), call.user) {
@@ -69,8 +80,7 @@ fn tables_at<'a, N: Names, S: Store>(
 }
 
 /// The rows of the needed views. A view names only earlier ones, so they are evaluated by rising places. What a view
-/// shows depends on the tables and the user alone, and on no parameter and no query around. A place without a view is
-/// no table that is read.
+/// shows depends on the tables and the user alone, and on no parameter and no query around.
 fn view_tables<N: Names>(
     alloc: Global,
     names: &N,
@@ -78,15 +88,19 @@ fn view_tables<N: Names>(
     bases: &[BaseRows<'_>],
     user: Name,
 ) -> Result<Vec<ViewRows>, Fault>
+    requires there { BasesAreThere (N.base_tables names.now) (N.column_kinds names.now) }
+    requires known { AreKnown (N.column_kinds names.now) needed.now }
     ensures answered { IsAnswered result }
-    ensures meant { BasesAreThere (N.base_tables names.now) (N.column_kinds names.now) → (tables : TablePlace → Outcome (List Row)) → CanBeRead (N.column_kinds names.now) (N.view_queries names.now) user needed.now tables → ((place : ℕ) → IsNeeded needed.now (Base place) → rows_among bases.now [] (Base place) ≡ tables (Base place)) → IfOk result (λ views. ReadsAsMeant needed.now (rows_among bases.now views.items) tables) }
+    ensures meant { (tables : TablePlace → Outcome (List Row))
+        → CanBeRead (N.column_kinds names.now) (N.view_queries names.now) user needed.now tables
+        → ((place : ℕ) → IsNeeded needed.now (Base place) → rows_among bases.now [] (Base place) ≡ tables (Base place))
+        → IfOk result (λ views. ReadsAsMeant needed.now (rows_among bases.now views.items) tables) }
 {
     let mut views = Vec::new(alloc);
     for place in 0..=needed.last_view() {
         if is_among(place, needed.views.as_slice()) {
-            if let Some(view) = view_at(names, place) {
-                views.push(view_rows(alloc, view, place, user, &*bases, views.as_slice())?)?;
-            }
+            let view = view_at(names, place);
+            views.push(view_rows(alloc, view, place, user, &*bases, views.as_slice())?)?;
         }
     }
     Ok(views)
@@ -103,7 +117,10 @@ fn view_rows<'a>(
 ) -> Result<ViewRows, Fault>
     ensures answered { IsAnswered result }
     ensures place { IfOk result (λ view. view.place ≡ place) }
-    ensures meant { (tables : TablePlace → Outcome (List Row)) → SelectIsNoted view.now.query → HaveNumbers SelectWith view.now.query → ReadsSelect (λ t. rows_among bases.now views.now t ≡ tables t) (select_of view.now.query) → IsRight (rows_of_view tables user view.now.query) → IfOk result (λ read. view_outcome read.rows.items read.failure ≡ rows_of_view tables user view.now.query) }
+    ensures meant { (tables : TablePlace → Outcome (List Row)) → SelectIsNoted view.now.query → HaveNumbers SelectWith view.now.query
+        → ReadsSelect (λ t. rows_among bases.now views.now t ≡ tables t) (select_of view.now.query)
+        → IsRight (rows_of_view tables user view.now.query)
+        → IfOk result (λ read. view_outcome read.rows.items read.failure ≡ rows_of_view tables user view.now.query) }
 {
     let context = Context {
         alloc,
@@ -123,7 +140,8 @@ fn outcome_of_view(
 ) -> Result<ViewRows, Fault>
     ensures answered { IsAnswered result }
     ensures place { IfOk result (λ view. view.place ≡ place) }
-    ensures meant { (outcome : Outcome (List Row)) → HasRows rows outcome → IfOk result (λ view. view_outcome view.rows.items view.failure ≡ outcome) }
+    ensures meant { (outcome : Outcome (List Row)) → HasRows rows outcome
+        → IfOk result (λ view. view_outcome view.rows.items view.failure ≡ outcome) }
 {
     match rows {
         Ok(rows) => Ok(ViewRows {

@@ -32,7 +32,8 @@ pub fn run<S: Store, W: Out>(
     requires open_out { W.failed out.old ≡ false }
 
     // All is written: the report of a run of the trees that the texts spell.
-    ensures report { OnOk result ((r : Run (texts schemas.now) (texts modules.now) script.now) × Reported r.actions r.start (W.taken out.old) (W.taken out.new)) }
+    ensures report { OnOk result ((r : Run (texts schemas.now) (texts modules.now) script.now) × Reported r.actions r.start
+        (W.taken out.old) (W.taken out.new)) }
 
     // After a refusal nothing was written; after running out of memory, only complete items; after an output fault, a
     // prefix of the report. The output has failed exactly where there is an output fault.

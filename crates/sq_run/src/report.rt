@@ -97,7 +97,8 @@ pub(crate) fn table_lines<S: Store>(
     shown: &ShowAction,
 ) -> Result<Vec<u8>, AllocError>
     requires { shown.now.table < length session.now.tables }
-    ensures { IfOk result (λ lines. lines.items ≡ report.table_lines (table_of shown.now) (table_at session.now.state.tables shown.now.table)) }
+    ensures { IfOk result (λ lines. lines.items ≡ report.table_lines (table_of shown.now)
+        (table_at session.now.state.tables shown.now.table)) }
 {
     let rows = session.rows(alloc, shown.table)?;
     let mut lines = table_line(alloc, shown.user, shown.name, rows.len())?;

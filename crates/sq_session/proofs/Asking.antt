@@ -7,15 +7,16 @@ use Rattle.sq_store.specs.Content.{Content}
 use Rattle.sq_meaning.specs.Status.{Outcome}
 use Rattle.sq_bound.specs.Fits.{AreInDomains, under}
 use Rattle.sq_meaning.specs.WellFormed.{AreRowsOf}
-use Rattle.sq_bound.specs.WellFormed.{IsCursor, IsStatement, TableKinds, kinds_of_query, kinds_of_results}
+use Rattle.sq_bound.specs.WellFormed.{IsChangeTarget, IsCursor, IsStatement, TableKinds, kinds_of_query, kinds_of_results}
 use Rattle.sq_bound.specs.declared.query.BoundCursor.{BoundCursor}
 use Rattle.sq_bound.specs.declared.query.BoundQuery.{BoundQuery}
 use Rattle.sq_bound.specs.declared.query.Target.{Target}
 use Rattle.sq_bound.specs.declared.statement.BoundInsert.{BoundInsert}
 use Rattle.sq_bound.specs.declared.statement.BoundStatement.TheVariants as statement
 use Rattle.sq_bound.specs.declared.statement.BoundUpdate.{BoundUpdate}
+use Rattle.sq_bound.specs.declared.statement.ChangeTarget.{ChangeTarget}
 use Rattle.sq_catalog.specs.Catalog.{Catalog, column_kinds}
-use Rattle.sq_change.specs.Given.{MayAssign, MayGive}
+use Rattle.sq_change.specs.Given.{MayAssign, MayChoose, MayGive}
 use Rattle.sq_module.specs.Program.{OpensWellFormed}
 use Rattle.sq_module.specs.declared.program.DeclaredCursor.{DeclaredCursor}
 use Rattle.sq_expression.specs.declared.fault.Fault.{Fault}
@@ -29,13 +30,19 @@ use Rattle.sq_session.specs.declared.cursor.CursorState.TheVariants as cursor
 use Rattle.sq_session.proofs.Reading.{some_tables}
 use Rattle.sq_session.proofs.Started.{given_row}
 
--- ---- INSERT and UPDATE
+-- ---- INSERT, UPDATE and DELETE
 
 pub may_give : (c : Catalog) (cursors : List (List Kind)) (tables : Content) (user : Name) (kinds : List Kind) (values : List Value) (i : BoundInsert) → AreGiven kinds values → AreInDomains c.bases tables
     → IsStatement (column_kinds c) cursors kinds (statement.Insert i) → MayGive c.bases c.views (column_kinds c) tables user values i.columns i.source
 may_give c cursors tables user kinds values i given in_domains h =
     let some = some_tables c tables user kinds values given in_domains in
     record { parameters = kinds; tables = some.0; reads = some.1; given = h.2 }
+
+pub may_choose : (c : Catalog) (tables : Content) (user : Name) (kinds : List Kind) (values : List Value) (t : ChangeTarget) → AreGiven kinds values → AreInDomains c.bases tables
+    → IsChangeTarget (column_kinds c) kinds t → MayChoose c.bases c.views (column_kinds c) tables user values t
+may_choose c tables user kinds values t given in_domains h =
+    let some = some_tables c tables user kinds values given in_domains in
+    record { parameters = kinds; tables = some.0; reads = some.1; target = h }
 
 pub may_assign : (columns : TableKinds) (cursors : List (List Kind)) (kinds : List Kind) (values : List Value) (u : BoundUpdate) → AreGiven kinds values
     → IsStatement columns cursors kinds (statement.Update u) → MayAssign columns values (under u.target).table u.assignments

@@ -45,7 +45,8 @@ pub(crate) fn call<S: Store>(
         MayCall (schemas_of catalog.now) (kind_at (procedures_of program.now.cursors.items program.now.procedures.entries) procedure) values.now machine.old d machine.new) }
     ensures whole { IsWhole (column_kinds catalog.now) catalog.now.bases program.now.cursors.items machine.new }
     ensures err { OnErr result (machine.new ≡ machine.old) }
-    ensures memory { needs_memory (kind_at (procedures_of program.now.cursors.items program.now.procedures.entries) procedure) ≡ false → IsSome (ending result) }
+    ensures memory { needs_memory (kind_at (procedures_of program.now.cursors.items program.now.procedures.entries) procedure) ≡ false
+        → IsSome (ending result) }
 {
     let procedure = &program.procedures[procedure];
     match &procedure.statement {
@@ -69,7 +70,8 @@ fn performed<S: Store>(
     meter: &mut Meter,
 ) -> Result<Done, Fault>
     requires fits { FitsStatement catalog.now.bases (length program.now.cursors.items) (length procedure.now.parameters) statement.now }
-    requires asked { IsAsked (column_kinds catalog.now) program.now.cursors.items (kinds_of_parameters procedure.now.parameters) statement.now }
+    requires asked { IsAsked (column_kinds catalog.now) program.now.cursors.items (kinds_of_parameters procedure.now.parameters)
+        statement.now }
     requires fit { CursorsFit catalog.now.bases program.now.cursors.items }
     requires well_formed { CursorsAreWellFormed (column_kinds catalog.now) program.now.cursors.items }
     requires values_fit { fit (map declared procedure.now.parameters) values.now ≡ true }
@@ -80,7 +82,8 @@ fn performed<S: Store>(
     ensures step { IfSome (ending result) (λ d. MayStep (schemas_of catalog.now) (kind_of program.now.cursors.items procedure.now.user procedure.now.parameters statement.now)
         (started_values procedure.now.parameters values.now) machine.old d machine.new) }
     ensures err { OnErr result (machine.new ≡ machine.old) }
-    ensures memory { takes_memory (kind_of program.now.cursors.items procedure.now.user procedure.now.parameters statement.now) ≡ false → IsSome (ending result) }
+    ensures memory { takes_memory (kind_of program.now.cursors.items procedure.now.user procedure.now.parameters statement.now) ≡ false
+        → IsSome (ending result) }
     ensures right { IfSome (ending result) EndsRight }
 {
     match statement {
@@ -106,7 +109,8 @@ fn with_values<S: Store>(
     meter: &mut Meter,
 ) -> Result<Done, Fault>
     requires fits { FitsStatement catalog.now.bases (length program.now.cursors.items) (length procedure.now.parameters) statement.now }
-    requires asked { IsAsked (column_kinds catalog.now) program.now.cursors.items (kinds_of_parameters procedure.now.parameters) statement.now }
+    requires asked { IsAsked (column_kinds catalog.now) program.now.cursors.items (kinds_of_parameters procedure.now.parameters)
+        statement.now }
     requires fit { CursorsFit catalog.now.bases program.now.cursors.items }
     requires well_formed { CursorsAreWellFormed (column_kinds catalog.now) program.now.cursors.items }
     requires values_fit { fit (map declared procedure.now.parameters) values.now ≡ true }
@@ -140,13 +144,16 @@ fn performed_with<S: Store>(
     machine: &mut Machine<S>,
     meter: &mut Meter,
 ) -> Result<Done, Fault>
-    requires fits { FitsStatement called.now.catalog.now.bases (length called.now.cursors.now) (length called.now.procedure.now.parameters) statement.now }
-    requires asked { IsAsked (column_kinds called.now.catalog.now) called.now.cursors.now (kinds_of_parameters called.now.procedure.now.parameters) statement.now }
+    requires fits { FitsStatement called.now.catalog.now.bases (length called.now.cursors.now) (length called.now.procedure.now.parameters)
+        statement.now }
+    requires asked { IsAsked (column_kinds called.now.catalog.now) called.now.cursors.now
+        (kinds_of_parameters called.now.procedure.now.parameters) statement.now }
     requires given { AreGiven (kinds_of_parameters called.now.procedure.now.parameters) called.now.values.now }
     requires fit { CursorsFit called.now.catalog.now.bases called.now.cursors.now }
     requires well_formed { CursorsAreWellFormed (column_kinds called.now.catalog.now) called.now.cursors.now }
     requires whole { IsWhole (column_kinds called.now.catalog.now) called.now.catalog.now.bases called.now.cursors.now machine.old }
-    requires memory { takes_memory (kind_of called.now.cursors.now called.now.procedure.now.user called.now.procedure.now.parameters statement.now) ≡ true }
+    requires memory { takes_memory (kind_of called.now.cursors.now called.now.procedure.now.user called.now.procedure.now.parameters
+        statement.now) ≡ true }
     ensures rows { holds called.now.catalog.now.bases machine.new.tables ≡ true }
     ensures in_domains { AreInDomains called.now.catalog.now.bases machine.new.tables }
     ensures opened { OpenHaveKept (column_kinds called.now.catalog.now) called.now.cursors.now statement.now machine.new.cursors }

@@ -71,7 +71,8 @@ fn fetch_cursor<S: Store>(
     requires fit { CursorsFit called.now.catalog.now.bases called.now.cursors.now }
     requires rows { holds called.now.catalog.now.bases (S.content_now store.now) ≡ true }
     requires place { MeansPlace called.now.values.now fetch.now.orientation }
-    requires taken { MayTakeFrom (fetching called.now.cursors.now called.now.procedure.now.user called.now.procedure.now.parameters fetch.now) (S.content_now store.now) cursor.old }
+    requires taken { MayTakeFrom (fetching called.now.cursors.now called.now.procedure.now.user called.now.procedure.now.parameters
+        fetch.now) (S.content_now store.now) cursor.old }
     requires kept { HasKeptAt (column_kinds called.now.catalog.now) called.now.cursors.now fetch.now.cursor cursor.old }
     requires domains { AreInDomains called.now.catalog.now.bases (S.content_now store.now) }
     ensures fetched { HasFetched (fetching called.now.cursors.now called.now.procedure.now.user called.now.procedure.now.parameters fetch.now) called.now.values.now (S.content_now store.now)
@@ -97,7 +98,8 @@ fn fetch_row(
     requires targets { are_parameters (length called.now.procedure.now.parameters) fetch.now.outputs ≡ true }
     requires place { MeansPlace called.now.values.now fetch.now.orientation }
     requires taken { MayTakeRows called.now.procedure.now.parameters fetch.now.outputs cursor.old.rows }
-    ensures comes { HasCome result cursor.new (come_to_row (fetching called.now.cursors.now called.now.procedure.now.user called.now.procedure.now.parameters fetch.now) called.now.values.now cursor.old) }
+    ensures comes { HasCome result cursor.new (come_to_row (fetching called.now.cursors.now called.now.procedure.now.user
+        called.now.procedure.now.parameters fetch.now) called.now.values.now cursor.old) }
     ensures err { OnErr result (cursor.new ≡ cursor.old) }
     ensures right { IfSome (ending result) EndsRight }
 {
@@ -124,9 +126,11 @@ fn fetch_number<S: Store>(
     requires targets { are_parameters (length called.now.procedure.now.parameters) fetch.now.outputs ≡ true }
     requires fit { CursorsFit called.now.catalog.now.bases called.now.cursors.now }
     requires rows { holds called.now.catalog.now.bases (S.content_now store.now) ≡ true }
-    requires taken { MayTakeShown (fetching called.now.cursors.now called.now.procedure.now.user called.now.procedure.now.parameters fetch.now) (table_at (S.content_now store.now) cursor.old.table) }
+    requires taken { MayTakeShown (fetching called.now.cursors.now called.now.procedure.now.user called.now.procedure.now.parameters
+        fetch.now) (table_at (S.content_now store.now) cursor.old.table) }
     requires passed { cursor.old.passed ≤ length cursor.old.numbers }
-    ensures comes { HasCome result cursor.new (come_to_number (fetching called.now.cursors.now called.now.procedure.now.user called.now.procedure.now.parameters fetch.now) (S.content_now store.now) cursor.old) }
+    ensures comes { HasCome result cursor.new (come_to_number (fetching called.now.cursors.now called.now.procedure.now.user
+        called.now.procedure.now.parameters fetch.now) (S.content_now store.now) cursor.old) }
     ensures err { OnErr result (cursor.new ≡ cursor.old) }
     ensures right { IfSome (ending result) EndsRight }
 {
@@ -159,10 +163,12 @@ fn fetch_walk<S: Store>(
     requires targets { are_parameters (length called.now.procedure.now.parameters) fetch.now.outputs ≡ true }
     requires fit { CursorsFit called.now.catalog.now.bases called.now.cursors.now }
     requires rows { holds called.now.catalog.now.bases (S.content_now store.now) ≡ true }
-    requires taken { MayTakeShown (fetching called.now.cursors.now called.now.procedure.now.user called.now.procedure.now.parameters fetch.now) (table_at (S.content_now store.now) walk.old.table) }
+    requires taken { MayTakeShown (fetching called.now.cursors.now called.now.procedure.now.user called.now.procedure.now.parameters
+        fetch.now) (table_at (S.content_now store.now) walk.old.table) }
     requires kept { HasKeptAt (column_kinds called.now.catalog.now) called.now.cursors.now fetch.now.cursor (CursorState.Walking walk.old) }
     requires domains { AreInDomains called.now.catalog.now.bases (S.content_now store.now) }
-    ensures comes { HasCome result walk.new (come_to_walk (fetching called.now.cursors.now called.now.procedure.now.user called.now.procedure.now.parameters fetch.now) (S.content_now store.now) walk.old) }
+    ensures comes { HasCome result walk.new (come_to_walk (fetching called.now.cursors.now called.now.procedure.now.user
+        called.now.procedure.now.parameters fetch.now) (S.content_now store.now) walk.old) }
     ensures err { OnErr result (walk.new ≡ walk.old) }
     ensures right { IfSome (ending result) EndsRight }
 {

@@ -7,6 +7,7 @@ ghost use Rattle.sq_bound.specs.WellFormed.{IsSelect, IsStatement, TakeKinds, ki
 ghost use Rattle.sq_bound.specs.declared.statement.BoundStatement.TheVariants.{Delete, Insert, Open, Update};
 ghost use Rattle.sq_catalog.specs.Catalog.{column_kinds};
 ghost use Rattle.sq_change.specs.Statement.{Inserts, IsGiven};
+ghost use Rattle.sq_store.specs.Content.{row_at, table_at};
 ghost use Rattle.sq_meaning.specs.declared.status.Status.TheVariants as status;
 ghost use Rattle.sq_module.specs.Program.{CursorsAreWellFormed, CursorsFit, OpensWellFormed, kinds_of_cursors};
 ghost use Rattle.sq_expression.specs.declared.fault.Failure.TheVariants as failure;
@@ -77,7 +78,8 @@ impl<S: Store> Machine<S> {
         requires there { number < length called.now.cursors.now }
         requires fit { CursorsFit called.now.catalog.now.bases called.now.cursors.now }
         requires whole { IsWhole (column_kinds called.now.catalog.now) called.now.catalog.now.bases called.now.cursors.now self.old }
-        requires asked { OpensWellFormed (column_kinds called.now.catalog.now) called.now.cursors.now (kinds_of_parameters called.now.procedure.now.parameters) (Open number) }
+        requires asked { OpensWellFormed (column_kinds called.now.catalog.now) called.now.cursors.now
+            (kinds_of_parameters called.now.procedure.now.parameters) (Open number) }
         requires given { AreGiven (kinds_of_parameters called.now.procedure.now.parameters) called.now.values.now }
         ensures kept { HaveKept (column_kinds called.now.catalog.now) called.now.cursors.now self.new.cursors }
         ensures step { IfSome (ending result) (λ d. MayOpen (schemas_of called.now.catalog.now) (opening called.now.cursors.now called.now.procedure.now.user called.now.procedure.now.parameters number)
@@ -102,10 +104,13 @@ impl<S: Store> Machine<S> {
         requires there { number < length called.now.cursors.now }
         requires fit { CursorsFit called.now.catalog.now.bases called.now.cursors.now }
         requires whole { IsWhole (column_kinds called.now.catalog.now) called.now.catalog.now.bases called.now.cursors.now self.old }
-        requires asked { OpensWellFormed (column_kinds called.now.catalog.now) called.now.cursors.now (kinds_of_parameters called.now.procedure.now.parameters) (Open number) }
+        requires asked { OpensWellFormed (column_kinds called.now.catalog.now) called.now.cursors.now
+            (kinds_of_parameters called.now.procedure.now.parameters) (Open number) }
         requires given { AreGiven (kinds_of_parameters called.now.procedure.now.parameters) called.now.values.now }
         ensures kept { HaveKept (column_kinds called.now.catalog.now) called.now.cursors.now self.new.cursors }
-        ensures step { IfSome (ending result) (λ d. MayOpenClosed (schemas_of called.now.catalog.now) (opening called.now.cursors.now called.now.procedure.now.user called.now.procedure.now.parameters number) called.now.values.now self.old d self.new) }
+        ensures step { IfSome (ending result) (λ d. MayOpenClosed (schemas_of called.now.catalog.now)
+            (opening called.now.cursors.now called.now.procedure.now.user called.now.procedure.now.parameters number)
+            called.now.values.now self.old d self.new) }
         ensures right { IfSome (ending result) EndsRight }
         ensures tables { self.new.tables ≡ self.old.tables }
         ensures err { OnErr result (self.new ≡ self.old) }
@@ -130,7 +135,8 @@ impl<S: Store> Machine<S> {
         requires targets { are_parameters (length called.now.procedure.now.parameters) fetch.now.outputs ≡ true }
         requires fit { CursorsFit called.now.catalog.now.bases called.now.cursors.now }
         requires whole { IsWhole (column_kinds called.now.catalog.now) called.now.catalog.now.bases called.now.cursors.now self.old }
-        requires asked { IsFetch (kinds_of_cursors called.now.cursors.now) (kinds_of_parameters called.now.procedure.now.parameters) fetch.now }
+        requires asked { IsFetch (kinds_of_cursors called.now.cursors.now) (kinds_of_parameters called.now.procedure.now.parameters)
+            fetch.now }
         requires given { AreGiven (kinds_of_parameters called.now.procedure.now.parameters) called.now.values.now }
         requires well_formed { CursorsAreWellFormed (column_kinds called.now.catalog.now) called.now.cursors.now }
         ensures step { IfSome (ending result) (λ d. MayFetch (fetching called.now.cursors.now called.now.procedure.now.user called.now.procedure.now.parameters fetch.now)
@@ -175,11 +181,14 @@ impl<S: Store> Machine<S> {
         meter: &mut Meter,
     ) -> Result<Done, Fault>
         requires targets { are_parameters (length called.now.procedure.now.parameters) select.now.outputs ≡ true }
-        requires query { IsSelect (column_kinds called.now.catalog.now) (kinds_of_parameters called.now.procedure.now.parameters) [] select.now.query }
-        requires taken { TakeKinds (kinds_of_parameters called.now.procedure.now.parameters) select.now.outputs (kinds_of_select select.now.query) }
+        requires query { IsSelect (column_kinds called.now.catalog.now) (kinds_of_parameters called.now.procedure.now.parameters) []
+            select.now.query }
+        requires taken { TakeKinds (kinds_of_parameters called.now.procedure.now.parameters) select.now.outputs
+            (kinds_of_select select.now.query) }
         requires given { AreGiven (kinds_of_parameters called.now.procedure.now.parameters) called.now.values.now }
         requires in_domains { AreInDomains called.now.catalog.now.bases self.now.tables }
-        ensures step { IfSome (ending result) (Selects (schemas_of called.now.catalog.now) (selecting called.now.procedure.now.user called.now.procedure.now.parameters select.now) called.now.values.now self.now.tables) }
+        ensures step { IfSome (ending result) (Selects (schemas_of called.now.catalog.now)
+            (selecting called.now.procedure.now.user called.now.procedure.now.parameters select.now) called.now.values.now self.now.tables) }
         ensures right { IfSome (ending result) EndsRight }
     {
         let found = specification_rows(
@@ -209,7 +218,8 @@ impl<S: Store> Machine<S> {
         meter: &mut Meter,
     ) -> Result<Done, Fault>
         requires fits { IsBase called.now.catalog.now.bases statement.now.leaf.table }
-        requires asked { IsStatement (column_kinds called.now.catalog.now) (kinds_of_cursors called.now.cursors.now) (kinds_of_parameters called.now.procedure.now.parameters) (Insert statement.now) }
+        requires asked { IsStatement (column_kinds called.now.catalog.now) (kinds_of_cursors called.now.cursors.now)
+            (kinds_of_parameters called.now.procedure.now.parameters) (Insert statement.now) }
         requires given { AreGiven (kinds_of_parameters called.now.procedure.now.parameters) called.now.values.now }
         requires whole { IsWhole (column_kinds called.now.catalog.now) called.now.catalog.now.bases called.now.cursors.now self.old }
         ensures step { IfSome (ending result) (λ d. MayChange (Inserts statement.now.base) self.old d self.new) }
@@ -243,13 +253,15 @@ impl<S: Store> Machine<S> {
         requires target { FitsTarget called.now.catalog.now.bases (length called.now.cursors.now) statement.now.target }
         requires columns { are_columns (length (under statement.now.target).table.columns) statement.now.assignments ≡ true }
         requires domains { AllByRecursion (λ a. IsColumnOf (under statement.now.target).table a.column) statement.now.assignments }
-        requires asked { IsStatement (column_kinds called.now.catalog.now) (kinds_of_cursors called.now.cursors.now) (kinds_of_parameters called.now.procedure.now.parameters) (Update statement.now) }
+        requires asked { IsStatement (column_kinds called.now.catalog.now) (kinds_of_cursors called.now.cursors.now)
+            (kinds_of_parameters called.now.procedure.now.parameters) (Update statement.now) }
         requires given { AreGiven (kinds_of_parameters called.now.procedure.now.parameters) called.now.values.now }
         requires fit { CursorsFit called.now.catalog.now.bases called.now.cursors.now }
         requires whole { IsWhole (column_kinds called.now.catalog.now) called.now.catalog.now.bases called.now.cursors.now self.old }
         ensures rows { holds called.now.catalog.now.bases self.new.tables ≡ true }
         ensures in_domains { AreInDomains called.now.catalog.now.bases self.new.tables }
-        ensures step { IfSome (ending result) (λ d. MayStep (schemas_of called.now.catalog.now) (update_kind (updating called.now.cursors.now statement.now) statement.now.target) called.now.values.now self.old d self.new) }
+        ensures step { IfSome (ending result) (λ d. MayStep (schemas_of called.now.catalog.now)
+            (update_kind (updating called.now.cursors.now statement.now) statement.now.target) called.now.values.now self.old d self.new) }
         ensures right { IfSome (ending result) EndsRight }
         ensures err { OnErr result (self.new ≡ self.old) }
     {
@@ -285,12 +297,14 @@ impl<S: Store> Machine<S> {
         meter: &mut Meter,
     ) -> Result<Done, Fault>
         requires target { FitsTarget called.now.catalog.now.bases (length called.now.cursors.now) target.now }
-        requires asked { IsStatement (column_kinds called.now.catalog.now) (kinds_of_cursors called.now.cursors.now) (kinds_of_parameters called.now.procedure.now.parameters) (Delete target.now) }
+        requires asked { IsStatement (column_kinds called.now.catalog.now) (kinds_of_cursors called.now.cursors.now)
+            (kinds_of_parameters called.now.procedure.now.parameters) (Delete target.now) }
         requires given { AreGiven (kinds_of_parameters called.now.procedure.now.parameters) called.now.values.now }
         requires whole { IsWhole (column_kinds called.now.catalog.now) called.now.catalog.now.bases called.now.cursors.now self.old }
         ensures rows { holds called.now.catalog.now.bases self.new.tables ≡ true }
         ensures in_domains { AreInDomains called.now.catalog.now.bases self.new.tables }
-        ensures step { IfSome (ending result) (λ d. MayStep (schemas_of called.now.catalog.now) (delete_kind target.now) called.now.values.now self.old d self.new) }
+        ensures step { IfSome (ending result) (λ d. MayStep (schemas_of called.now.catalog.now) (delete_kind target.now)
+            called.now.values.now self.old d self.new) }
         ensures right { IfSome (ending result) EndsRight }
         ensures err { OnErr result (self.new ≡ self.old) }
     {
@@ -340,6 +354,7 @@ impl<S: Store> Machine<S> {
         ensures ready { is_ok result ≡ is_ready self.now target.now }
         ensures given { IfOk result (IsGiven target.now) }
         ensures on { IfOk result (λ on. on ≡ number_meant self.now target.now) }
+        ensures there { IfOk result (λ on. IfSome on (λ n. IsSome (row_at (table_at self.now.tables (under target.now).table.place) n))) }
         ensures refused { IfErr result (λ f. f ≡ fault.Status failure.InvalidCursorState) }
     {
         match target {
@@ -357,6 +372,7 @@ impl<S: Store> Machine<S> {
         requires table { positioned.now.base < length self.now.tables }
         ensures there { is_some result ≡ is_on_row self.now positioned.now }
         ensures on { IfSome result (λ number. on_row self.now positioned.now ≡ Some number) }
+        ensures row { IfSome result (λ number. IsSome (row_at (table_at self.now.tables positioned.now.base) number)) }
     {
         let number = number_on(&self.cursors[positioned.cursor])?;
         match self.store.row(positioned.base, number, &mut Meter::new()) {

@@ -38,7 +38,8 @@ pub(crate) fn open_closed<S: Store>(
     requires cursors { are_over called.now.cursors.now cursors.old ≡ true }
     requires rows { holds called.now.catalog.now.bases (S.content_now store.now) ≡ true }
     requires kept { HaveKept (column_kinds called.now.catalog.now) called.now.cursors.now cursors.old }
-    requires asked { OpensWellFormed (column_kinds called.now.catalog.now) called.now.cursors.now (kinds_of_parameters called.now.procedure.now.parameters) (Open number) }
+    requires asked { OpensWellFormed (column_kinds called.now.catalog.now) called.now.cursors.now
+        (kinds_of_parameters called.now.procedure.now.parameters) (Open number) }
     requires given { AreGiven (kinds_of_parameters called.now.procedure.now.parameters) called.now.values.now }
     requires domains { AreInDomains called.now.catalog.now.bases (S.content_now store.now) }
     ensures kept { HaveKept (column_kinds called.now.catalog.now) called.now.cursors.now cursors.new }
@@ -70,7 +71,9 @@ fn opened<S: Store>(
     requires asked { IsCursor (column_kinds called.now.catalog.now) (kinds_of_parameters called.now.procedure.now.parameters) cursor.now }
     requires given { AreGiven (kinds_of_parameters called.now.procedure.now.parameters) called.now.values.now }
     requires domains { AreInDomains called.now.catalog.now.bases (S.content_now store.now) }
-    ensures opened { HasOpened (over_of cursor.now.body) (IsMeant (schemas_of called.now.catalog.now) cursor.now.body called.now.procedure.now.user called.now.procedure.now.parameters called.now.values.now (S.content_now store.now)) called.now.values.now (S.content_now store.now) result }
+    ensures opened { HasOpened (over_of cursor.now.body) (IsMeant (schemas_of called.now.catalog.now) cursor.now.body
+        called.now.procedure.now.user called.now.procedure.now.parameters called.now.values.now (S.content_now store.now))
+        called.now.values.now (S.content_now store.now) result }
     ensures kept { IfOk result (HasKept (column_kinds called.now.catalog.now) cursor.now) }
     ensures right { IfErr result MayEnd }
 {
@@ -93,7 +96,9 @@ fn opened_over_rows<S: Store>(
     requires asked { IsQuery (column_kinds called.now.catalog.now) (kinds_of_parameters called.now.procedure.now.parameters) query.now }
     requires given { AreGiven (kinds_of_parameters called.now.procedure.now.parameters) called.now.values.now }
     requires domains { AreInDomains called.now.catalog.now.bases (S.content_now store.now) }
-    ensures opened { HasOpened Over.rows (RowsAreMeant (schemas_of called.now.catalog.now) query.now order.now called.now.procedure.now.user called.now.procedure.now.parameters called.now.values.now (S.content_now store.now)) called.now.values.now (S.content_now store.now) result }
+    ensures opened { HasOpened Over.rows (RowsAreMeant (schemas_of called.now.catalog.now) query.now order.now called.now.procedure.now.user
+        called.now.procedure.now.parameters called.now.values.now (S.content_now store.now)) called.now.values.now
+        (S.content_now store.now) result }
     ensures rows { IfOk result (HasListed (kinds_of_query query.now)) }
     ensures right { IfErr result MayEnd }
 {
@@ -127,7 +132,9 @@ fn opened_over<S: Store>(
     requires asked { IsTarget (column_kinds called.now.catalog.now) (kinds_of_parameters called.now.procedure.now.parameters) target.now }
     requires given { AreGiven (kinds_of_parameters called.now.procedure.now.parameters) called.now.values.now }
     requires domains { AreInDomains called.now.catalog.now.bases (S.content_now store.now) }
-    ensures opened { HasOpened (over_target target.now) (TargetIsMeant (schemas_of called.now.catalog.now) target.now called.now.procedure.now.user called.now.values.now (S.content_now store.now)) called.now.values.now (S.content_now store.now) result }
+    ensures opened { HasOpened (over_target target.now) (TargetIsMeant (schemas_of called.now.catalog.now) target.now
+        called.now.procedure.now.user called.now.values.now (S.content_now store.now)) called.now.values.now
+        (S.content_now store.now) result }
     ensures right { IfErr result MayEnd }
 {
     if target.is_quiet {
@@ -160,7 +167,9 @@ fn opened_over_numbers<S: Store>(
     requires asked { IsTarget (column_kinds called.now.catalog.now) (kinds_of_parameters called.now.procedure.now.parameters) target.now }
     requires given { AreGiven (kinds_of_parameters called.now.procedure.now.parameters) called.now.values.now }
     requires domains { AreInDomains called.now.catalog.now.bases (S.content_now store.now) }
-    ensures opened { HasOpened (Over.numbers target.now.base) (NumbersAreMeant (schemas_of called.now.catalog.now) target.now called.now.procedure.now.user called.now.values.now (S.content_now store.now)) called.now.values.now (S.content_now store.now) result }
+    ensures opened { HasOpened (Over.numbers target.now.base) (NumbersAreMeant (schemas_of called.now.catalog.now) target.now
+        called.now.procedure.now.user called.now.values.now (S.content_now store.now)) called.now.values.now
+        (S.content_now store.now) result }
     ensures right { IfErr result MayEnd }
 {
     let found = numbers_of(

@@ -81,7 +81,8 @@ impl<S: Store> Session<S> {
         requires committed { AreInDomains catalog.bases (S.committed store) }
         requires keys { S.key_columns store ≡ keys_of_bases catalog.bases }
         requires bases { length catalog.bases ≡ length catalog.tables }
-        ensures start { IfOk result (λ s. (s.state.tables ≡ S.content_now store) × (s.state.committed ≡ S.committed store) × AreClosed s.state.cursors) }
+        ensures start { IfOk result (λ s. (s.state.tables ≡ S.content_now store) × (s.state.committed ≡ S.committed store) × AreClosed
+            s.state.cursors) }
         ensures procedures { IfOk result (λ s. names_of s.procedures ≡ declared_procedures modules.now) }
         ensures written { IfOk result (λ s. AreOfModules catalog.tables modules.now s.procedures) }
         ensures tables { IfOk result (λ s. s.tables ≡ catalog.tables) }
@@ -112,7 +113,8 @@ impl<S: Store> Session<S> {
         requires committed { AreInDomains catalog.bases (S.committed store) }
         requires keys { S.key_columns store ≡ keys_of_bases catalog.bases }
         requires bases { length catalog.bases ≡ length catalog.tables }
-        ensures start { IfOk result (λ s. (s.state.tables ≡ S.content_now store) × (s.state.committed ≡ S.committed store) × AreClosed s.state.cursors) }
+        ensures start { IfOk result (λ s. (s.state.tables ≡ S.content_now store) × (s.state.committed ≡ S.committed store) × AreClosed
+            s.state.cursors) }
         ensures procedures { IfOk result (λ s. names_of s.procedures ≡ keys_of program.procedures.entries) }
         ensures program { IfOk result (λ s. s.procedures ≡ procedures_of program.cursors.items program.procedures.entries) }
         ensures tables { IfOk result (λ s. s.tables ≡ catalog.tables) }
@@ -179,7 +181,8 @@ impl<S: Store> Session<S> {
         ensures procedures { self.new.procedures ≡ self.old.procedures }
         ensures tables { self.new.tables ≡ self.old.tables }
         ensures schemas { self.new.schemas ≡ self.old.schemas }
-        ensures in_domains { AreInDomains self.new.schemas.bases self.new.state.tables × AreInDomains self.new.schemas.bases self.new.state.committed }
+        ensures in_domains { AreInDomains self.new.schemas.bases self.new.state.tables
+            × AreInDomains self.new.schemas.bases self.new.state.committed }
         ensures err { OnErr result (self.new ≡ self.old) }
         ensures memory { needs_memory (kind_at self.old.procedures procedure) ≡ false → IsOk result }
     {

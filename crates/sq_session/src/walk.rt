@@ -85,7 +85,8 @@ impl<'a> Walk<'a> {
     fn is_chosen<S: Store>(&self, row: &Row, store: &S) -> Result<bool, AllocError>
         requires quiet { IsQuietWith (column_kinds self.now.catalog.now) self.now.target.now self.now.values.now }
         requires row { IsRowOf (base_kinds self.now.target.now.leaf.table) row.now }
-        ensures { (number : ℕ) → IfOk result (λ chosen. is_meant (conditions_of self.now.target.now) self.now.values.now self.now.user (record { number = number; row = row.now }) ≡ chosen) }
+        ensures { (number : ℕ) → IfOk result (λ chosen. is_meant (conditions_of self.now.target.now) self.now.values.now self.now.user
+            (record { number = number; row = row.now }) ≡ chosen) }
     {
         let inputs = Inputs {
             user: self.user,
@@ -111,9 +112,11 @@ fn next_chosen<'s, S: Store>(
     requires there { walk.now.table < length (S.content_now store.now) }
     requires quiet { IsQuietWith (column_kinds walk.now.catalog.now) walk.now.target.now walk.now.values.now }
     requires rows { AreRowsUnder walk.now.target.now (table_at (S.content_now store.now) walk.now.table).rows }
-    ensures meant { IfOk result (λ found. option_map numbered_row found ≡ first_meant (conditions_of walk.now.target.now) walk.now.values.now walk.now.user from mark (table_at (S.content_now store.now) walk.now.table).rows) }
+    ensures meant { IfOk result (λ found. option_map numbered_row found ≡ first_meant (conditions_of walk.now.target.now)
+        walk.now.values.now walk.now.user from mark (table_at (S.content_now store.now) walk.now.table).rows) }
     ensures found { IfOk result (λ found. IfSome found (λ r. (from ≤ r.0) × (r.0 < mark))) }
-    ensures there { IfOk result (λ found. IfSome found (λ r. row_on (table_at (S.content_now store.now) walk.now.table) (Some r.0) ≡ Some r.1.now)) }
+    ensures there { IfOk result (λ found. IfSome found (λ r. row_on (table_at (S.content_now store.now) walk.now.table) (Some r.0) ≡ Some
+        r.1.now)) }
 {
     let mut number = from;
     while let Some((found, row)) = store.next_from(walk.table, number, meter) {
@@ -139,9 +142,11 @@ pub(crate) fn next_of_walk<'s, S: Store>(
     requires there { cursor.now.table < length (S.content_now store.now) }
     requires quiet { IsQuietWith (column_kinds called.now.catalog.now) target.now cursor.now.values }
     requires rows { AreRowsUnder target.now (table_at (S.content_now store.now) cursor.now.table).rows }
-    ensures meant { IfOk result (λ found. option_map numbered_row found ≡ first_meant (conditions_of target.now) cursor.now.values called.now.procedure.now.user cursor.now.next cursor.now.mark (table_at (S.content_now store.now) cursor.now.table).rows) }
+    ensures meant { IfOk result (λ found. option_map numbered_row found ≡ first_meant (conditions_of target.now) cursor.now.values
+        called.now.procedure.now.user cursor.now.next cursor.now.mark (table_at (S.content_now store.now) cursor.now.table).rows) }
     ensures found { IfOk result (λ found. IfSome found (λ r. (cursor.now.next ≤ r.0) × (r.0 < cursor.now.mark))) }
-    ensures there { IfOk result (λ found. IfSome found (λ r. row_on (table_at (S.content_now store.now) cursor.now.table) (Some r.0) ≡ Some r.1.now)) }
+    ensures there { IfOk result (λ found. IfSome found (λ r. row_on (table_at (S.content_now store.now) cursor.now.table) (Some r.0) ≡ Some
+        r.1.now)) }
 {
     let walk = Walk {
         alloc: called.alloc,
@@ -209,7 +214,8 @@ fn listed_walk<S: Store>(
     requires fit { FitsBody called.now.catalog.now.bases declared.now.cursor.body }
     requires kept { MayKeep (column_kinds called.now.catalog.now) declared.now.cursor walk.now.values }
     requires domains { AreInDomains called.now.catalog.now.bases (S.content_now store.now) }
-    ensures { IfOk result (λ list. list ≡ then_some (reads (updating called.now.cursors.now statement.now) declared.now walk.now) (listed declared.now (S.content_now store.now) walk.now)) }
+    ensures { IfOk result (λ list. list ≡ then_some (reads (updating called.now.cursors.now statement.now) declared.now walk.now)
+        (listed declared.now (S.content_now store.now) walk.now)) }
 {
     let query = match &declared.cursor.body {
         CursorBody::Updatable(query) => query,
@@ -255,7 +261,8 @@ fn rest_of_walk<S: Store>(
     requires there { cursor.now.table < length (S.content_now store.now) }
     requires quiet { IsQuietWith (column_kinds called.now.catalog.now) target.now cursor.now.values }
     requires rows { AreRowsUnder target.now (table_at (S.content_now store.now) cursor.now.table).rows }
-    ensures { IfOk result (λ numbers. numbers ≡ numbers_meant (conditions_of target.now) cursor.now.values user cursor.now.next cursor.now.mark (table_at (S.content_now store.now) cursor.now.table).rows) }
+    ensures { IfOk result (λ numbers. numbers ≡ numbers_meant (conditions_of target.now) cursor.now.values user cursor.now.next
+        cursor.now.mark (table_at (S.content_now store.now) cursor.now.table).rows) }
 {
     let walk = Walk {
         alloc: called.alloc,
@@ -278,7 +285,8 @@ fn numbers_from<S: Store>(
     requires there { walk.now.table < length (S.content_now store.now) }
     requires quiet { IsQuietWith (column_kinds walk.now.catalog.now) walk.now.target.now walk.now.values.now }
     requires rows { AreRowsUnder walk.now.target.now (table_at (S.content_now store.now) walk.now.table).rows }
-    ensures { IfOk result (λ numbers. numbers ≡ numbers_meant (conditions_of walk.now.target.now) walk.now.values.now walk.now.user from mark (table_at (S.content_now store.now) walk.now.table).rows) }
+    ensures { IfOk result (λ numbers. numbers ≡ numbers_meant (conditions_of walk.now.target.now) walk.now.values.now walk.now.user from
+        mark (table_at (S.content_now store.now) walk.now.table).rows) }
 {
     let mut numbers = Items::new(walk.alloc);
     let mut meter = Meter::new();

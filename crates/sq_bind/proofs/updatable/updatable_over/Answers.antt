@@ -1,7 +1,8 @@
 use Rattle.sq_bound.specs.WellFormed.{base_kinds, kinds_of_parameters, kinds_of_select}
+use Rattle.sq_bound.specs.declared.condition.BoundSpecification.{out-BoundSpecification}
 use Rattle.sq_bound.specs.declared.condition.TablePlace.TheVariants.{Base}
 use Rattle.sq_scope.proofs.Levels.{item_at_leaf}
-use Rattle.sq_bind.proofs.Columns.{fits_found, list_among, named_kinds, updatable_found}
+use Rattle.sq_bind.proofs.Columns.{columns_found, fits_found, list_among, named_kinds, updatable_found}
 use Rattle.sq_bind.proofs.updatable.updatable_over.Goals as goal
 
 pub plain_columns-columns-requires : goal.plain_columns-columns-requires
@@ -36,3 +37,8 @@ returns-clause-well_formed g c =
     (named_kinds columns parameters from.0 under.table.now.columns c.as_slice-own.result.now c.args.bound.now c.as_slice.result.now under.leaf.now
     c.plain_columns-columns.result c.requires.bound from.1 from.2 c.as_slice-own.ensures c.as_slice.ensures under.kinds c.plain_columns-columns.ensures)
     c.bind_target-target.ensures.leaf c.bind_target-target.ensures.well_formed c.in_ok-columns.ensures.0 c.in_ok-columns.ensures.1 c.updatable.ensures
+
+pub returns-clause-columns : goal.returns-clause-columns
+returns-clause-columns g c =
+    columns_found c.as_slice-own.result.now c.as_slice.result.now (out-BoundSpecification c.args.bound.now).list c.plain_columns-columns.result c.in_ok-columns.target.part c.in_ok-columns.columns c.updatable.result
+    c.plain_columns-columns.ensures c.in_ok-columns.ensures.0 c.as_slice.ensures c.updatable.ensures

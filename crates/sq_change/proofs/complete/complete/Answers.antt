@@ -12,6 +12,6 @@ apply-requires-clause-columns g c =
     rw c.get-table.ensures (put_have_keys (g.N.Names.base_tables c.args.names.now) (g.S.Store.key_columns c.args.store.now) table c.args.changed.changes.items c.requires.keys c.requires.base c.requires.wide)
 
 pub returns-in-Err-clause-right : goal.returns-in-Err-clause-right
-returns-in-Err-clause-right g c = λ kinds tables may well.
+returns-in-Err-clause-right g c = λ kinds tables may.
     let is = c.new-setting.ensures in
-    c.in-Err.ensures.right kinds tables (rw (is.names, is.store, is.user, is.parameters) may) (rw is.names well) c.requires.domains
+    c.in-Err.ensures.right kinds tables (rw (is.names, is.store, is.user, is.parameters) may) c.requires.domains

@@ -1,3 +1,4 @@
+use Rattle.sq_query.proofs.Finds.{leaf_finds}
 use Rattle.sq_change.proofs.Endings.{ends_so}
 use Rattle.sq_change.proofs.Held.{refers_at}
 use Rattle.sq_change.proofs.OnRows.{conditions_on_rows, checks_on_rows}
@@ -10,16 +11,26 @@ referenced_by-requires-clause-keys g c =
     let table = c.args.leaf.now.table in
     rw c.get-table.ensures (refers_at (g.N.Names.base_tables names) (g.S.Store.key_columns store) table.place table (g.met.N.Names.references names) c.requires.keys c.requires.base)
 
+pub check_options_met-requires : goal.check_options_met-requires
+check_options_met-requires g c =
+    let names = c.args.setting.now.names.now in
+    (leaf_finds (g.N.Names.base_tables names) (g.N.Names.column_kinds names) c.requires.there c.args.leaf.now c.requires.leaf).0
+
+pub rows_satisfied-requires-clause-finds : goal.rows_satisfied-requires-clause-finds
+rows_satisfied-requires-clause-finds g c =
+    let names = c.args.setting.now.names.now in
+    rw c.get-table.ensures (leaf_finds (g.N.Names.base_tables names) (g.N.Names.column_kinds names) c.requires.there c.args.leaf.now c.requires.leaf).1
+
 pub returns-in_err-check_options_met-clause-right : goal.returns-in_err-check_options_met-clause-right
-returns-in_err-check_options_met-clause-right g c = λ parameters tables may well put.
+returns-in_err-check_options_met-clause-right g c = λ parameters tables may put.
     let columns = g.N.Names.column_kinds c.args.setting.now.names.now in
-    let on = conditions_on_rows columns parameters c.args.leaf.now c.args.changed.now.changes.items well put in
+    let on = conditions_on_rows columns parameters c.args.leaf.now c.args.changed.now.changes.items c.requires.leaf put in
     ends_so c.from_residual.result c.in_err-check_options_met.field-0.0 c.from_residual.ensures.1
     (c.in_err-check_options_met.ensures parameters tables may (rw c.as_slice-changes.ensures.value on))
 
 pub returns-in_err-rows_satisfied-clause-right : goal.returns-in_err-rows_satisfied-clause-right
-returns-in_err-rows_satisfied-clause-right g c = λ parameters tables may well put.
+returns-in_err-rows_satisfied-clause-right g c = λ parameters tables may put.
     let columns = g.N.Names.column_kinds c.args.setting.now.names.now in
-    let on = checks_on_rows columns parameters c.args.leaf.now c.args.changed.now.changes.items well put in
+    let on = checks_on_rows columns parameters c.args.leaf.now c.args.changed.now.changes.items c.requires.leaf put in
     ends_so c.from_residual-in_err-rows_satisfied.result c.in_err-rows_satisfied.field-0.0 c.from_residual-in_err-rows_satisfied.ensures.1
     (c.in_err-rows_satisfied.ensures parameters tables may (rw (c.get-table.ensures, c.as_slice-changes.ensures.value) on))

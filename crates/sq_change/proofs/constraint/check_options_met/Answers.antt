@@ -1,10 +1,16 @@
 use Rattle.std.proofs.Common.{arith}
 use Rattle.std.specs.List.{AllByRecursion}
 use Rattle.sq_query.specs.Row.{IsOnRow}
+use Rattle.sq_query.proofs.Finds.{Reads}
 use Rattle.sq_change.proofs.Applied.{put_so}
 use Rattle.sq_change.proofs.Domains.{all_taken}
 use Rattle.sq_change.proofs.Endings.{ends_so}
 use Rattle.sq_change.proofs.constraint.check_options_met.Goals as goal
+
+pub meets_check_option-requires : goal.meets_check_option-requires
+meets_check_option-requires g c =
+    let columns = g.N.Names.column_kinds c.args.setting.now.names.now in
+    (c.requires.0, rw c.demanded-conditions.ensures (all_taken (Reads columns) c.args.leaf.now.demanded c.args.leaf.now.conditions c.requires.1))
 
 pub returns-in_err-meets_check_option : goal.returns-in_err-meets_check_option
 returns-in_err-meets_check_option g c = λ parameters tables may on.

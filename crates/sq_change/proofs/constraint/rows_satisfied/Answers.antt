@@ -5,9 +5,9 @@ use Rattle.sq_change.proofs.Applied.{put_so, row_wide}
 use Rattle.sq_change.proofs.Endings.{ends_so}
 use Rattle.sq_change.proofs.constraint.rows_satisfied.Goals as goal
 
-pub row_satisfied-requires : goal.row_satisfied-requires
-row_satisfied-requires g c =
-    row_wide (length c.args.table.now.columns) c.args.changes.now c.loop-change.change-index c.change-item.result c.in-Some.row.now c.requires (omega arith) c.change-item.is c.in-Some.ensures
+pub row_satisfied-requires-clause-wide : goal.row_satisfied-requires-clause-wide
+row_satisfied-requires-clause-wide g c =
+    row_wide (length c.args.table.now.columns) c.args.changes.now c.loop-change.change-index c.change-item.result c.in-Some.row.now c.requires.wide (omega arith) c.change-item.is c.in-Some.ensures
 
 pub returns-in_err-row_satisfied : goal.returns-in_err-row_satisfied
 returns-in_err-row_satisfied g c = λ parameters tables may on.

@@ -5,6 +5,8 @@ use Rattle.sq_bound.specs.declared.names.ObjectColumn.{ObjectColumn}
 use Rattle.std.specs.List.{AllByRecursion}
 use Rattle.sq_change.specs.Given.{AreStorable, FitColumns}
 use Rattle.sq_query.specs.MayRead.{MayEnd}
+use Rattle.sq_query.specs.Needed.{FindsSelect}
+use Rattle.sq_query.proofs.Finds.{select_finds}
 use Rattle.sq_change.proofs.Endings.{ends_so}
 use Rattle.sq_change.proofs.Storable.{gives_rows, gives_values, query_so}
 use Rattle.sq_change.proofs.given.given_rows.Goals as goal
@@ -18,6 +20,15 @@ given_values-requires g c =
     (gives_values (g.N.Names.base_tables setting.names.now) (g.N.Names.view_queries setting.names.now) (g.N.Names.column_kinds setting.names.now)
     (g.S.Store.content_now setting.store.now) setting.user setting.parameters.now
     insert.columns insert.source c.in-Values.values c.requires.given c.in-Values.is))
+
+pub rows_found-requires : goal.rows_found-requires
+rows_found-requires g c =
+    let setting = c.args.setting.now in
+    let insert = c.args.insert.now in
+    let names = setting.names.now in
+    query_so (g.N.Names.base_tables names) (g.N.Names.view_queries names) (g.N.Names.column_kinds names) (g.S.Store.content_now setting.store.now) setting.user setting.parameters.now
+    insert.columns insert.source c.in-Query.query c.requires.given c.in-Query.is (FindsSelect (g.N.Names.base_tables names) (g.N.Names.column_kinds names) c.in-Query.query)
+    (λ parameters tables may well. select_finds (g.N.Names.base_tables names) (g.N.Names.column_kinds names) may.there parameters c.in-Query.query well)
 
 pub stored_rows-requires : goal.stored_rows-requires
 stored_rows-requires g c =

@@ -12,8 +12,10 @@ returns-clause-replacements g c =
     c.replaced-changes.ensures.replacements c.changed.ensures.changes
 
 pub returns-in_err-numbers-clause-right : goal.returns-in_err-numbers-clause-right
-returns-in_err-numbers-clause-right g c = λ parameters tables may well.
-    ends_so c.from_residual.result c.in_err-numbers.field-0.0 c.from_residual.ensures.1 (c.in_err-numbers.ensures.right parameters tables may well)
+returns-in_err-numbers-clause-right g c = ends_so c.from_residual.result c.in_err-numbers.field-0.0 c.from_residual.ensures.1 c.in_err-numbers.ensures.right
+
+pub replaced-changes-requires-clause-there : goal.replaced-changes-requires-clause-there
+replaced-changes-requires-clause-there g c = rw (c.as_slice.ensures.value, c.get-table.ensures, c.leaf_under.ensures) (c.in_ok-numbers.ensures.there c.requires.there)
 
 pub replaced-changes-requires-clause-domains : goal.replaced-changes-requires-clause-domains
 replaced-changes-requires-clause-domains g c = rw (c.as_slice-assignments.ensures, c.get-table.ensures, c.leaf_under.ensures) c.requires.domains

@@ -5,7 +5,7 @@ use Rattle.sq_meaning.specs.Status.{Outcome, each, and_then}
 use Rattle.sq_meaning.specs.Query.{grouped}
 use Rattle.sq_expression.specs.Frame.{lent}
 use Rattle.sq_expression.specs.Group.{key_of_line, keyed_line, line_lists}
-use Rattle.sq_expression.proofs.ByKeys.{Lent, entry_seen, lists_paired, grouped_is}
+use Rattle.sq_expression.proofs.ByKeys.{Lent, entry_seen, grouped_is}
 use Rattle.sq_expression.proofs.Each.{after_start, each_done, each_failed, each_ends}
 use Rattle.sq_expression.proofs.Groups.{fails_then}
 use Rattle.sq_expression.proofs.Views.{handed_on_as}
@@ -13,9 +13,6 @@ use Rattle.sq_expression.proofs.group.classes_of.Goals as goal
 
 pub loop-line-init : goal.loop-line-init
 loop-line-init c = ([], c.new-classes.ensures, after_start [] _ refl)
-
-pub add-requires : goal.add-requires
-add-requires c = lists_paired c.loop-line.classes c.loop-line.invariant.0 c.loop-line.invariant.1
 
 pub loop-line-preserved : goal.loop-line-preserved
 loop-line-preserved c =

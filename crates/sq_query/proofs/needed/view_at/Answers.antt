@@ -3,10 +3,9 @@ use Rattle.sq_bound.specs.WellFormed.{place_of}
 use Rattle.sq_query.proofs.ViewsThere.{view_there}
 use Rattle.sq_query.proofs.needed.view_at.Goals as goal
 
--- src/needed.rt:205:1
-pub returns-in-View-clause-is : goal.returns-in-View-clause-is
-returns-in-View-clause-is g c =
+pub returns-clause-is : goal.returns-clause-is
+returns-clause-is g c =
     view_there (g.N.Names.column_kinds c.args.names.now) c.in-Some.table.now c.args.place c.in-View.view c.in-Some.ensures.well_formed c.in-Some.ensures.place c.in-View.is
 
-pub returns-in-Base-clause-there : goal.returns-in-Base-clause-there
-returns-in-Base-clause-there g c = λ there known. let no = sym (ap place_of c.in-Base.is) ∙ c.in-Some.ensures.place in absurd cc
+pub unreachable-requires-in-Base : goal.unreachable-requires-in-Base
+unreachable-requires-in-Base g c = let no = sym (ap place_of c.in-Base.is) ∙ c.in-Some.ensures.place in absurd cc

@@ -2,10 +2,13 @@ use Rattle.sq_expression.specs.Fault.{rows_in}
 use Rattle.sq_expression.specs.declared.context.Context.{Context}
 use Rattle.sq_query.specs.declared.view.Tables.{Tables}
 use Rattle.sq_query.proofs.Fitting.{no_answer}
-use Rattle.sq_query.proofs.ReadAs.{all_read_as, all_reads_known}
+use Rattle.sq_query.proofs.ReadAs.{all_read_as}
 use Rattle.sq_query.proofs.TablesMeant.{tables_fit}
 use Rattle.sq_query.proofs.order.rows_of_query.Goals as goal
 use Rattle.sq_bound.specs.Joined.{specifications_of}
+
+pub tables_of-requires-clause-known : goal.tables_of-requires-clause-known
+tables_of-requires-clause-known g c = c.of_query-needed.ensures.known (g.N.Names.column_kinds c.args.names.now) c.requires.1
 
 pub returns-in-Ok : goal.returns-in-Ok
 returns-in-Ok g c = λ parameters tables may well.
@@ -14,8 +17,7 @@ returns-in-Ok g c = λ parameters tables may well.
     let columns = g.N.Names.column_kinds names in
     let specifications = specifications_of c.args.query.now in
     let context : Context = record c.args.call.now { bases = c.as_slice.result; views = c.as_slice-in-Ok.result } in
-    let known = c.of_query-needed.ensures.known columns (all_reads_known columns parameters specifications well.specifications) in
-    let meant = (c.in-Ok.ensures.meant may.there may.in_domains tables may.meant known).1 in
+    let meant = (c.in-Ok.ensures.meant may.in_domains tables may.meant).1 in
     c.outermost_query_rows-rows.ensures columns parameters tables
     (record {
       fitting = tables_fit (g.N.Names.base_tables names) (g.N.Names.view_queries names) columns content c.args.call.now.user tables (g.met.N.Names.kinds_of_bases names) may.there may.in_domains may.meant (g.met.N.Names.kinds_of_views names);
@@ -27,6 +29,4 @@ returns-in-Ok g c = λ parameters tables may well.
 
 pub returns-in-Err : goal.returns-in-Err
 returns-in-Err g c = λ parameters tables may well.
-    let columns = g.N.Names.column_kinds c.args.names.now in
-    let known = c.of_query-needed.ensures.known columns (all_reads_known columns parameters (specifications_of c.args.query.now) well.specifications) in
-    no_answer Tables rows_in c.in-Err.fault _ (c.in-Err.ensures.meant may.there may.in_domains tables may.meant known).0
+    no_answer Tables rows_in c.in-Err.fault _ (c.in-Err.ensures.meant may.in_domains tables may.meant).0

@@ -7,6 +7,8 @@ use Rattle.sq_meaning.specs.Query.{truth}
 use Rattle.sq_meaning.specs.Target.{has_subquery}
 use Rattle.sq_bound.specs.Condition.{cond_of}
 use Rattle.sq_bound.specs.declared.condition.BoundCond.{BoundCond}
+use Rattle.sq_meaning.specs.WellFormed.{HasValue}
+use Rattle.sq_query.specs.Needed.{ReadsCond}
 use Rattle.sq_query.specs.Row.{IsOnRow, outside, truth_on_row}
 use Rattle.sq_query.specs.Target.{conditions_of, are_true}
 use Rattle.sq_expression.proofs.Expressions.{handed_on}
@@ -15,6 +17,14 @@ use Rattle.sq_query.proofs.target.meets_levels.Goals as goal
 
 pub loop-condition-init : goal.loop-condition-init
 loop-condition-init g c = record { plain = λ none tables. refl; meant = λ parameters tables may on. refl }
+
+pub truth_with_tables-requires : goal.truth_with_tables-requires
+truth_with_tables-requires g c =
+    let columns = g.N.Names.column_kinds c.args.names.now in
+    let items = c.as_slice-condition-items.result.now in
+    let same = ap (map (λ (b : Bor BoundCond). b.now)) c.as_slice-condition-items.ensures.value ∙ c.in_ok-levels.ensures in
+    let all = subst (AllByRecursion (λ d. ReadsCond (λ t. HasValue (columns t)) (cond_of [] d))) (sym same) c.requires.1 in
+    (c.requires.0, lent_at (λ (d : BoundCond). ReadsCond (λ t. HasValue (columns t)) (cond_of [] d)) items c.loop-condition.condition-index c.condition-item.result c.loop-condition-test.true c.condition-item.is all)
 
 pub loop-condition-preserved : goal.loop-condition-preserved
 loop-condition-preserved g c =

@@ -6,10 +6,16 @@ use Rattle.sq_meaning.specs.Target.{has_subquery}
 use Rattle.sq_bound.specs.Condition.{cond_of}
 use Rattle.sq_bound.specs.declared.condition.BoundCond.{BoundCond}
 use Rattle.sq_expression.specs.Fault.{MeetsAs}
+use Rattle.sq_query.specs.Needed.{FindsConds}
 use Rattle.sq_query.specs.Table.{stored_numbered}
 use Rattle.sq_query.specs.Target.{AreOnBase, is_true_of, numbers_chosen, numbers_in}
 use Rattle.sq_query.proofs.KnownConditions.{target_on_base}
 use Rattle.sq_query.proofs.target.numbers_by_scan.Goals as goal
+
+pub numbers_meeting-requires : goal.numbers_meeting-requires
+numbers_meeting-requires g c =
+    let same = ap (map (λ (b : Bor BoundCond). b.now)) c.as_slice.ensures.value ∙ c.in_ok-levels.ensures in
+    subst (FindsConds (g.N.Names.base_tables c.args.names.now) (g.N.Names.column_kinds c.args.names.now)) (sym same) c.requires
 
 pub returns-clause-plain : goal.returns-clause-plain
 returns-clause-plain g c = λ none tables.

@@ -8,10 +8,13 @@ use Rattle.sq_query.specs.Target.{is_true_of, numbers_chosen, numbers_in}
 use Rattle.sq_expression.specs.declared.context.Context.{Context}
 use Rattle.sq_query.specs.declared.view.Tables.{Tables}
 use Rattle.sq_query.proofs.Fitting.{exact, fails_so}
-use Rattle.sq_query.proofs.KnownConditions.{all_conds_read_as, all_known_in, all_read_known, numbers_answer, same_numbers}
+use Rattle.sq_query.proofs.KnownConditions.{all_conds_read_as, all_known_in, numbers_answer, same_numbers}
 use Rattle.sq_condition.proofs.Right.{means_as_same}
 use Rattle.sq_expression.proofs.Views.{handed_on_as, answered_fails}
 use Rattle.sq_query.proofs.target.numbers_meeting.Goals as goal
+
+pub tables_of-requires-clause-known : goal.tables_of-requires-clause-known
+tables_of-requires-clause-known g c = c.needed_tables-needed.ensures.known (g.N.Names.column_kinds c.args.names.now) c.requires.1
 
 pub returns-in_err-tables-clause-plain : goal.returns-in_err-tables-clause-plain
 returns-in_err-tables-clause-plain g c = λ none tables.
@@ -20,12 +23,9 @@ returns-in_err-tables-clause-plain g c = λ none tables.
 
 pub returns-in_err-tables-clause-meant : goal.returns-in_err-tables-clause-meant
 returns-in_err-tables-clause-meant g c = λ parameters tables may on.
-    let columns = g.N.Names.column_kinds c.args.names.now in
-    let conditions = map (λ (b : Bor BoundCond). b.now) c.args.levels.now in
-    let known = c.needed_tables-needed.ensures.known columns (all_read_known columns parameters c.args.base conditions on.well) in
     let e = c.in_err-tables.field-0.0 in
     handed_on_as numbers_in c.from_residual.result e _ c.from_residual.ensures.1
-    (fails_so Tables e _ (c.in_err-tables.ensures.meant may.there may.in_domains tables may.meant known).0)
+    (fails_so Tables e _ (c.in_err-tables.ensures.meant may.in_domains tables may.meant).0)
 
 pub returns-clause-plain : goal.returns-clause-plain
 returns-clause-plain g c = λ none tables. c.chosen.ensures.plain _ c.numbered_rows-rows.ensures none tables
@@ -40,8 +40,7 @@ returns-clause-meant g c = λ parameters tables may on.
     let values = c.args.call.now.parameters.now in
     let conditions = map (λ (b : Bor BoundCond). b.now) c.args.levels.now in
     let context : Context = record c.args.call.now { bases = c.as_slice.result; views = c.as_slice-2.result } in
-    let known = c.needed_tables-needed.ensures.known columns (all_read_known columns parameters base conditions on.well) in
-    let meant = (c.in_ok-tables.ensures.meant may.there may.in_domains tables may.meant known).1 in
+    let meant = (c.in_ok-tables.ensures.meant may.in_domains tables may.meant).1 in
     let stored = stored_numbered content base in
     let whole = and_then stored (numbers_chosen (is_true_of tables values user) conditions) in
     let same =

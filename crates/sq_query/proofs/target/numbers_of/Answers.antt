@@ -4,7 +4,13 @@ use Rattle.sq_query.specs.Table.{stored_numbered}
 use Rattle.sq_query.specs.Target.{conditions_of, is_true_of, numbers_chosen, numbers_in}
 use Rattle.sq_query.proofs.Fitting.{never_ends}
 use Rattle.sq_query.proofs.KnownConditions.{numbers_answer, target_on_base}
+use Rattle.sq_query.proofs.NumbersThere.{numbers_there}
 use Rattle.sq_query.proofs.target.numbers_of.Goals as goal
+
+pub returns-in-None-clause-there : goal.returns-in-None-clause-there
+returns-in-None-clause-there g c = λ parameters tables may well.
+    numbers_there c.numbers_by_scan.result (g.S.Store.content_now c.args.store.now) c.args.target.now.base (is_true_of tables c.args.inputs.parameters.now c.args.inputs.user) (conditions_of c.args.target.now)
+    (c.numbers_by_scan.ensures.meant parameters tables may well)
 
 pub returns-in-None-clause-right : goal.returns-in-None-clause-right
 returns-in-None-clause-right g c = λ parameters tables may well.

@@ -9,7 +9,7 @@ query_rows-loop-union-init t c = first_meant c.args.query.now c.args.context.now
 pub query_rows-loop-union-preserved : goal.query_rows-loop-union-preserved
 query_rows-loop-union-preserved t c =
     next_meant c.args.query.now c.args.context.now c.as_slice-union-items.result.now c.loop-union.union-index c.union-item.result c.loop-union.so_far.items
-    c.as_slice-union-items.ensures c.loop-union-test.true c.union-item.is c.loop-union.invariant c.in-Ok.others c.in_ok-so_far-in-Ok.so_far.items c.in-Ok.ensures c.in_ok-so_far-in-Ok.ensures.found
+    c.as_slice-union-items.ensures c.loop-union-test.true c.union-item.is c.loop-union.invariant c.in-Ok.others c.in_ok-so_far-in-Ok.so_far c.in-Ok.ensures c.in_ok-so_far-in-Ok.ensures
 
 pub term_rows-returns-in-Specification : goal.term_rows-returns-in-Specification
 term_rows-returns-in-Specification t c = rows_of_specification c.outermost_rows.result c.args.context.now c.args.term.now _ c.in-Specification.is c.outermost_rows.ensures
@@ -32,7 +32,7 @@ query_rows-returns-in_err-so_far-in-Ok t c =
     let e = c.in_err-so_far-in-Ok.field-0.0 in
     union_handed_on c.from_residual-in_err-so_far-in-Ok.result e c.args.query.now c.args.context.now c.from_residual-in_err-so_far-in-Ok.ensures.1
     (join_failed c.args.query.now c.args.context.now c.as_slice-union-items.result.now c.loop-union.union-index c.union-item.result c.loop-union.so_far.items
-    c.as_slice-union-items.ensures c.loop-union-test.true c.union-item.is c.loop-union.invariant e c.in-Ok.others c.in-Ok.ensures c.in_err-so_far-in-Ok.ensures.rows)
+    c.as_slice-union-items.ensures c.loop-union-test.true c.union-item.is c.loop-union.invariant e c.in-Ok.others c.in-Ok.ensures c.in_err-so_far-in-Ok.ensures)
 
 pub query_rows-returns-in-Err : goal.query_rows-returns-in-Err
 query_rows-returns-in-Err t c =

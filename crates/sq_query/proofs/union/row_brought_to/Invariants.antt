@@ -4,6 +4,7 @@ use Rattle.sq_meaning.specs.QueryExpression.{row_brought_to}
 use Rattle.sq_meaning.specs.Status.{each}
 use Rattle.sq_bound.specs.WellFormed.{kinds_of_results}
 use Rattle.sq_expression.proofs.Each.{after}
+use Rattle.sq_query.specs.Union.{IsBringable}
 use Rattle.sq_query.proofs.Unions.{pair_brought, of_kind}
 use Rattle.sq_query.proofs.union.row_brought_to.Given as goal
 
@@ -11,5 +12,5 @@ abbrev pub invariant-loop-column : goal.invariant-loop-column
 invariant-loop-column l = record {
   can_next : (goal.iterator-loop-column).can_next l.column-iterator;
   is_finite : (goal.iterator-loop-column).is_finite l.column-iterator;
-  brought : row_brought_to (kinds_of_results l.columns) l.row ≡ after l.brought (each pair_brought (map of_kind (drop (length l.yielded) (zip l.columns l.row))));
+  brought : IsBringable (kinds_of_results l.columns) l.row → row_brought_to (kinds_of_results l.columns) l.row ≡ after l.brought (each pair_brought (map of_kind (drop (length l.yielded) (zip l.columns l.row))));
 }

@@ -1,11 +1,18 @@
 use Rattle.std.proofs.Common.{List, subst, sym}
 use Rattle.sq_value.specs.declared.value.Value.{Value}
 use Rattle.sq_bound.specs.WellFormed.{kinds_of_parameters}
+use Rattle.sq_catalog.specs.Catalog.{bases_there, column_kinds}
+use Rattle.sq_query.proofs.Finds.{target_finds}
 use Rattle.sq_session.specs.Parameter.{AreGiven}
 use Rattle.sq_session.specs.Schemas.{schemas_of}
 use Rattle.sq_session.proofs.Opened.{numbers_answered, over_fault_of_numbers, over_numbers}
 use Rattle.sq_session.proofs.Reading.{may_read, some_tables}
 use Rattle.sq_session.proofs.open.opened_over_numbers.Goals as goal
+
+pub numbers_of-found-requires : goal.numbers_of-found-requires
+numbers_of-found-requires g c =
+    let called = c.args.called.now in
+    target_finds called.catalog.now.bases (column_kinds called.catalog.now) (bases_there called.catalog.now) (kinds_of_parameters called.procedure.now.parameters) c.args.target.now c.requires.asked
 
 pub returns-in-Ok-clause-opened : goal.returns-in-Ok-clause-opened
 returns-in-Ok-clause-opened g c =

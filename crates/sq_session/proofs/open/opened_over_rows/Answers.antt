@@ -2,11 +2,18 @@ use Rattle.std.proofs.Common.{List, subst, sym}
 use Rattle.sq_value.specs.declared.value.Value.{Value}
 use Rattle.sq_meaning.specs.WellFormed.{AreRowsOf}
 use Rattle.sq_bound.specs.WellFormed.{kinds_of_parameters, kinds_of_query}
+use Rattle.sq_catalog.specs.Catalog.{bases_there, column_kinds}
+use Rattle.sq_query.proofs.Finds.{query_finds}
 use Rattle.sq_session.specs.Parameter.{AreGiven}
 use Rattle.sq_session.specs.Schemas.{schemas_of}
 use Rattle.sq_session.proofs.Opened.{over_fault_of_rows, over_rows, rows_answered}
 use Rattle.sq_session.proofs.Reading.{may_read, some_tables}
 use Rattle.sq_session.proofs.open.opened_over_rows.Goals as goal
+
+pub ordered_rows-found-requires : goal.ordered_rows-found-requires
+ordered_rows-found-requires g c =
+    let called = c.args.called.now in
+    query_finds called.catalog.now.bases (column_kinds called.catalog.now) (bases_there called.catalog.now) (kinds_of_parameters called.procedure.now.parameters) c.args.query.now c.requires.asked
 
 pub returns-in-Ok-clause-opened : goal.returns-in-Ok-clause-opened
 returns-in-Ok-clause-opened g c =

@@ -4,22 +4,22 @@ use Rattle.sq_query.proofs.Added.{needs_more}
 use Rattle.sq_query.proofs.NeededViews.{view_closed, view_earlier, view_known}
 use Rattle.sq_query.proofs.needed.Needed.add_of_view.Goals as goal
 
-pub returns-in-Some-clause-more : goal.returns-in-Some-clause-more
-returns-in-Some-clause-more g c =
-    on_ok_weaker c.add_of_specification.result (needs_more c.args.self.now c.add_of_specification.new.self (specification_tables c.in-Some.view.now.query)) c.add_of_specification.ensures
+pub returns-clause-more : goal.returns-clause-more
+returns-clause-more g c =
+    on_ok_weaker c.add_of_specification.result (needs_more c.args.self.now c.add_of_specification.new.self (specification_tables c.view_at.result.now.query)) c.add_of_specification.ensures
 
-pub returns-in-Some-clause-known : goal.returns-in-Some-clause-known
-returns-in-Some-clause-known g c = λ known.
+pub returns-clause-known : goal.returns-clause-known
+returns-clause-known g c = λ known.
     on_ok_weaker c.add_of_specification.result
-    (λ adds. view_known (g.N.Names.column_kinds c.args.names.now) c.args.place c.in-Some.view.now.query c.in-Some.ensures.is.0 c.args.self.now c.add_of_specification.new.self adds known) c.add_of_specification.ensures
+    (λ adds. view_known (g.N.Names.column_kinds c.args.names.now) c.args.place c.view_at.result.now.query c.view_at.ensures.is.0 c.args.self.now c.add_of_specification.new.self adds known) c.add_of_specification.ensures
 
-pub returns-in-Some-clause-earlier : goal.returns-in-Some-clause-earlier
-returns-in-Some-clause-earlier g c =
+pub returns-clause-earlier : goal.returns-clause-earlier
+returns-clause-earlier g c =
     on_ok_weaker c.add_of_specification.result
-    (view_earlier (g.N.Names.column_kinds c.args.names.now) c.args.place c.in-Some.view.now.query c.in-Some.ensures.is.0 c.args.self.now c.add_of_specification.new.self) c.add_of_specification.ensures
+    (view_earlier (g.N.Names.column_kinds c.args.names.now) c.args.place c.view_at.result.now.query c.view_at.ensures.is.0 c.args.self.now c.add_of_specification.new.self) c.add_of_specification.ensures
 
-pub returns-in-Some-clause-closed : goal.returns-in-Some-clause-closed
-returns-in-Some-clause-closed g c = λ there known.
+pub returns-clause-closed : goal.returns-clause-closed
+returns-clause-closed g c =
     on_ok_weaker c.add_of_specification.result
-    (λ adds. view_closed (g.N.Names.column_kinds c.args.names.now) c.args.place c.in-Some.view.now.query c.in-Some.ensures.is.0 c.args.self.now c.add_of_specification.new.self adds (g.N.Names.view_queries c.args.names.now) c.in-Some.ensures.among)
+    (λ adds. view_closed (g.N.Names.column_kinds c.args.names.now) c.args.place c.view_at.result.now.query c.view_at.ensures.is.0 c.args.self.now c.add_of_specification.new.self adds (g.N.Names.view_queries c.args.names.now) c.view_at.ensures.among)
     c.add_of_specification.ensures

@@ -1,7 +1,5 @@
-use Rattle.sq_bound.specs.WellFormed.{BasesAreThere}
 use Rattle.sq_query.proofs.NeededViews.{GoesOn}
 use Rattle.sq_query.proofs.needed.Needed.add_of_views.Given as goal
 
 abbrev pub invariant-loop-behind : goal.invariant-loop-behind
-invariant-loop-behind g l =
-    GoesOn (g.N.Names.column_kinds l.names) (g.N.Names.view_queries l.names) (BasesAreThere (g.N.Names.base_tables l.names) (g.N.Names.column_kinds l.names)) l.fn.self l.self l.last l.behind
+invariant-loop-behind g l = GoesOn (g.N.Names.column_kinds l.names) (g.N.Names.view_queries l.names) l.fn.self l.self l.last l.behind

@@ -5,16 +5,17 @@ use Rattle.sq_bound.specs.WellFormed.{kinds_of_parameters}
 use Rattle.sq_session.specs.Parameter.{AreGiven}
 use Rattle.sq_session.specs.State.{State}
 use Rattle.sq_session.proofs.Ending.{fault_right}
-use Rattle.sq_session.proofs.Reading.{some_tables}
+use Rattle.sq_session.proofs.Asking.{may_choose}
 use Rattle.sq_session.proofs.machine.Machine.delete.Goals as goal
 
-pub returns-in-Err-clause-right : goal.returns-in-Err-clause-right
-returns-in-Err-clause-right g c =
+pub delete-deleted-requires-clause-may : goal.delete-deleted-requires-clause-may
+delete-deleted-requires-clause-may g c =
     let called = c.args.called.now in
     let kinds = kinds_of_parameters called.procedure.now.parameters in
     let inputs = c.inputs.result in
     let given = subst (λ (vs : List Value). AreGiven kinds vs) (sym c.inputs.ensures.parameters) c.requires.given in
     let in_domains = subst (λ (m : State). AreInDomains called.catalog.now.bases m.tables) (sym c.self.view_is) c.requires.whole.4 in
-    let some = some_tables called.catalog.now _ inputs.user kinds inputs.parameters.now given in_domains in
-    let right = rw c.in-Err.is at c.delete-deleted.ensures.right kinds some.0 some.1 c.requires.asked in
-    fault_right c.in-Err.fault right
+    may_choose called.catalog.now _ inputs.user kinds inputs.parameters.now c.args.target.now given in_domains c.requires.asked
+
+pub returns-in-Err-clause-right : goal.returns-in-Err-clause-right
+returns-in-Err-clause-right g c = let right = rw c.in-Err.is at c.delete-deleted.ensures.right in fault_right c.in-Err.fault right

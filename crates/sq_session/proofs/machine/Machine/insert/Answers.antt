@@ -7,7 +7,6 @@ use Rattle.sq_session.specs.Parameter.{AreGiven}
 use Rattle.sq_session.specs.State.{State}
 use Rattle.sq_session.proofs.Asking.{may_give}
 use Rattle.sq_session.proofs.Ending.{fault_right}
-use Rattle.sq_session.proofs.Reading.{some_tables}
 use Rattle.sq_session.proofs.machine.Machine.insert.Goals as goal
 
 pub insert-inserted-requires-clause-given : goal.insert-inserted-requires-clause-given
@@ -19,13 +18,8 @@ insert-inserted-requires-clause-given g c =
     let in_domains = subst (λ (m : State). AreInDomains called.catalog.now.bases m.tables) (sym c.self.view_is) c.requires.whole.4 in
     may_give called.catalog.now (kinds_of_cursors called.cursors.now) _ inputs.user kinds inputs.parameters.now c.args.statement.now given in_domains c.requires.asked
 
+pub insert-inserted-requires-clause-leaf : goal.insert-inserted-requires-clause-leaf
+insert-inserted-requires-clause-leaf g c = c.requires.asked.0
+
 pub returns-in-Err-clause-right : goal.returns-in-Err-clause-right
-returns-in-Err-clause-right g c =
-    let called = c.args.called.now in
-    let kinds = kinds_of_parameters called.procedure.now.parameters in
-    let inputs = c.inputs.result in
-    let given = subst (λ (vs : List Value). AreGiven kinds vs) (sym c.inputs.ensures.parameters) c.requires.given in
-    let in_domains = subst (λ (m : State). AreInDomains called.catalog.now.bases m.tables) (sym c.self.view_is) c.requires.whole.4 in
-    let some = some_tables called.catalog.now _ inputs.user kinds inputs.parameters.now given in_domains in
-    let right = rw c.in-Err.is at c.insert-inserted.ensures.right kinds some.0 some.1 c.requires.asked.0 c.requires.asked.2 in
-    fault_right c.in-Err.fault right
+returns-in-Err-clause-right g c = let right = rw c.in-Err.is at c.insert-inserted.ensures.right in fault_right c.in-Err.fault right

@@ -3,6 +3,8 @@ use Rattle.sq_value.specs.declared.value.Value.{Value}
 use Rattle.sq_meaning.specs.WellFormed.{AreRowsOf}
 use Rattle.sq_bound.specs.Fits.{AreInDomains}
 use Rattle.sq_bound.specs.WellFormed.{kinds_of_parameters, kinds_of_select}
+use Rattle.sq_catalog.specs.Catalog.{bases_there, column_kinds}
+use Rattle.sq_query.proofs.Finds.{select_finds}
 use Rattle.sq_session.specs.Kind.{selecting}
 use Rattle.sq_session.specs.Parameter.{AreGiven}
 use Rattle.sq_session.specs.Schemas.{schemas_of}
@@ -13,6 +15,11 @@ use Rattle.sq_session.proofs.Reading.{may_read, some_tables}
 use Rattle.sq_session.proofs.Selected.{IsAnswered, found_meant, selects_from, selects_none}
 use Rattle.sq_session.proofs.Taken.{rows_taken}
 use Rattle.sq_session.proofs.machine.Machine.select.Goals as goal
+
+pub specification_rows-found-requires : goal.specification_rows-found-requires
+specification_rows-found-requires g c =
+    let called = c.args.called.now in
+    select_finds called.catalog.now.bases (column_kinds called.catalog.now) (bases_there called.catalog.now) (kinds_of_parameters called.procedure.now.parameters) c.args.select.now.query c.requires.query
 
 pub returns-in-Ok-clause-step : goal.returns-in-Ok-clause-step
 returns-in-Ok-clause-step g c =

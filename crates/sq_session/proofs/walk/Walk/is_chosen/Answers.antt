@@ -1,6 +1,12 @@
-use Rattle.sq_catalog.specs.Catalog.{column_kinds}
+use Rattle.sq_catalog.specs.Catalog.{bases_there, column_kinds}
+use Rattle.sq_query.proofs.Finds.{target_finds}
 use Rattle.sq_session.proofs.QuietWalks.{meant, no_status}
 use Rattle.sq_session.proofs.walk.Walk.is_chosen.Goals as goal
+
+pub is_chosen-requires : goal.is_chosen-requires
+is_chosen-requires g c =
+    let walk = c.args.self.now in
+    target_finds walk.catalog.now.bases (column_kinds walk.catalog.now) (bases_there walk.catalog.now) c.requires.quiet.parameters walk.target.now c.requires.quiet.is_target
 
 pub unreachable-requires : goal.unreachable-requires
 unreachable-requires g c =

@@ -1,8 +1,7 @@
--- Values of bounded kinds may be brought to the common kinds of UNION (ISO/IEC 9075:1992, 7.10).
-use Rattle.std.proofs.Common.{◌≡◌, ◌≤◌, max, true, List, [], ◌∷◌, ◌++◌, arith, refl, subst, ap, ◌∙◌, Ok, Err}
+-- Values of both sides may be brought to the common kinds of UNION (ISO/IEC 9075:1992, 7.10).
+use Rattle.std.proofs.Common.{◌≡◌, ◌≤◌, ℕ, max, List, [], ◌∷◌, ◌++◌, arith, refl, subst, sym, ap, ◌∙◌, Ok, Err}
 use Rattle.std.proofs.lemmas.Bool.{leb-true}
 use Rattle.std.specs.Prelude.{IfOk}
-use Rattle.std.specs.List.{AllByRecursion}
 use Rattle.sq_value.specs.Domain.{IsOfKind}
 use Rattle.sq_value.specs.declared.domain.Kind.{Kind}
 use Rattle.sq_value.specs.declared.domain.Kind.TheVariants as kind
@@ -13,29 +12,17 @@ use Rattle.sq_meaning.specs.Environment.{Row}
 use Rattle.sq_meaning.specs.Kind.{common_kind, common_kinds}
 use Rattle.sq_meaning.specs.WellFormed.{IsRowOf, AreRowsOf}
 use Rattle.sq_meaning.proofs.AnswerLaws.{all_weaker, all_appended}
-use Rattle.sq_bound.specs.Joined.{are_bounded}
 use Rattle.sq_bound.specs.Names.{is_bounded}
+use Rattle.sq_bound.specs.declared.condition.ResultColumn.{ResultColumn}
 use Rattle.sq_query.specs.Union.{MayBeBrought, IsBringable, AreBringable}
-use Rattle.sq_query.proofs.JoinedTerms.{both_true}
 
--- ---- bounded kinds
+-- ---- the kinds of columns
 
-abbrev IsBounded : Kind → Type 0
-IsBounded (kind.Num s) = s ≤ 18
-IsBounded (kind.Chars n) = n ≤ 240
-IsBounded (kind.Vary n) = n ≤ 240
+pub bounded_scale : (c : ResultColumn) (s : ℕ) → c.kind ≡ kind.Num s → s ≤ 18
+bounded_scale c s is = leb-true s 18 (sym (ap is_bounded is) ∙ c.bounded)
 
-abbrev pub AreBounded : List Kind → Type 0
-AreBounded = AllByRecursion IsBounded
-
-one_bounded : (k : Kind) → is_bounded k ≡ true → IsBounded k
-one_bounded (kind.Num s) h = leb-true s 18 h
-one_bounded (kind.Chars n) h = leb-true n 240 h
-one_bounded (kind.Vary n) h = leb-true n 240 h
-
-pub all_bounded : (ks : List Kind) → are_bounded ks ≡ true → AreBounded ks
-all_bounded [] h = tt
-all_bounded (k ∷ ks) h = let b = both_true (is_bounded k) (are_bounded ks) h in (one_bounded k b.0, all_bounded ks b.1)
+pub bounded_length : (c : ResultColumn) (n : ℕ) → c.kind ≡ kind.Chars n → n ≤ 240
+bounded_length c n is = leb-true n 240 (sym (ap is_bounded is) ∙ c.bounded)
 
 -- ---- the sides of UNION are alike
 
@@ -71,47 +58,44 @@ paired P Q R f (Ok x) (Ok xs) h k = f x xs h k
 
 -- ---- values of a side
 
-abbrev May : Value → Kind → Type 0
-May v c = IsBounded c → MayBeBrought c v
-
-null_may : (o : Outcome Kind) → IfOk o (May Null)
-null_may (Ok (kind.Num s)) = λ b. tt
-null_may (Ok (kind.Chars n)) = λ b. tt
-null_may (Ok (kind.Vary n)) = λ b. tt
+null_may : (o : Outcome Kind) → IfOk o (λ c. MayBeBrought c Null)
+null_may (Ok (kind.Num s)) = tt
+null_may (Ok (kind.Chars n)) = tt
+null_may (Ok (kind.Vary n)) = tt
 null_may (Err s) = tt
 
-value_may : (x y : Kind) (v : Value) → IsOfKind x v → IfOk (common_kind x y) (May v)
+value_may : (x y : Kind) (v : Value) → IsOfKind x v → IfOk (common_kind x y) (λ c. MayBeBrought c v)
 value_may x y Null h = null_may (common_kind x y)
-value_may (kind.Num s) (kind.Num t) (Num n) h = λ b. (omega (arith, h), b)
+value_may (kind.Num s) (kind.Num t) (Num n) h = omega (arith, h)
 value_may (kind.Num s) (kind.Chars l) (Num n) h = tt
 value_may (kind.Num s) (kind.Vary l) (Num n) h = tt
 value_may (kind.Chars k) y (Num n) h = absurd h
 value_may (kind.Vary k) y (Num n) h = absurd h
 value_may (kind.Num s) y (Chars t) h = absurd h
 value_may (kind.Chars k) (kind.Num s) (Chars t) h = tt
-value_may (kind.Chars k) (kind.Chars l) (Chars t) h = λ b. b
-value_may (kind.Chars k) (kind.Vary l) (Chars t) h = λ b. tt
+value_may (kind.Chars k) (kind.Chars l) (Chars t) h = tt
+value_may (kind.Chars k) (kind.Vary l) (Chars t) h = tt
 value_may (kind.Vary k) (kind.Num s) (Chars t) h = tt
-value_may (kind.Vary k) (kind.Chars l) (Chars t) h = λ b. tt
-value_may (kind.Vary k) (kind.Vary l) (Chars t) h = λ b. tt
+value_may (kind.Vary k) (kind.Chars l) (Chars t) h = tt
+value_may (kind.Vary k) (kind.Vary l) (Chars t) h = tt
 
 abbrev MayAll : Row → List Kind → Type 0
-MayAll row cs = AreBounded cs → IsBringable cs row
+MayAll row cs = IsBringable cs row
 
 row_may : (ks ls : List Kind) (row : Row) → IsRowOf ks row → IfOk (common_kinds ks ls) (MayAll row)
-row_may [] [] [] h = λ b. tt
+row_may [] [] [] h = tt
 row_may [] [] (v ∷ row) h = absurd h
 row_may [] (l ∷ ls) row h = tt
 row_may (k ∷ ks) [] row h = tt
 row_may (k ∷ ks) (l ∷ ls) [] h = absurd h
 row_may (k ∷ ks) (l ∷ ls) (v ∷ row) h =
-    paired (May v) (MayAll row) (MayAll (v ∷ row)) (λ c cs p q b. (p b.0, q b.1)) (common_kind k l) (common_kinds ks ls) (value_may k l v h.0) (row_may ks ls row h.1)
+    paired (λ c. MayBeBrought c v) (MayAll row) (MayAll (v ∷ row)) (λ c cs p q. (p, q)) (common_kind k l) (common_kinds ks ls) (value_may k l v h.0) (row_may ks ls row h.1)
 
-rows_may : (ks ls cs : List Kind) (rows : List Row) → AreRowsOf ks rows → common_kinds ks ls ≡ Ok cs → AreBounded cs → AreBringable cs rows
-rows_may ks ls cs rows h is bounded =
-    all_weaker (IsRowOf ks) (IsBringable cs) (λ row p. if_there (MayAll row) (common_kinds ks ls) cs is (row_may ks ls row p) bounded) rows h
+rows_may : (ks ls cs : List Kind) (rows : List Row) → AreRowsOf ks rows → common_kinds ks ls ≡ Ok cs → AreBringable cs rows
+rows_may ks ls cs rows h is =
+    all_weaker (IsRowOf ks) (IsBringable cs) (λ row p. if_there (MayAll row) (common_kinds ks ls) cs is (row_may ks ls row p)) rows h
 
--- the rows of both sides, where the common kinds are bounded
-pub both_bringable : (ls rs cs : List Kind) (left right : List Row) → AreRowsOf ls left → AreRowsOf rs right → common_kinds ls rs ≡ Ok cs → AreBounded cs → AreBringable cs (left ++ right)
-both_bringable ls rs cs left right h k is bounded =
-    all_appended (IsBringable cs) left right (rows_may ls rs cs left h is bounded) (rows_may rs ls cs right k (turned rs ls ∙ is) bounded)
+-- the rows of both sides
+pub both_bringable : (ls rs cs : List Kind) (left right : List Row) → AreRowsOf ls left → AreRowsOf rs right → common_kinds ls rs ≡ Ok cs → AreBringable cs (left ++ right)
+both_bringable ls rs cs left right h k is =
+    all_appended (IsBringable cs) left right (rows_may ls rs cs left h is) (rows_may rs ls cs right k (turned rs ls ∙ is))

@@ -1,0 +1,44 @@
+use Rattle.std.proofs.Common.{◌≡◌, [], rules, subst}
+use Rattle.sq_bound.specs.Fits.{FitsQuery}
+use Rattle.sq_bound.specs.Numbered.{SelectWith}
+use Rattle.sq_bound.specs.WellFormed.{IsSelect, IsUpdatable, kinds_of_parameters, kinds_of_select}
+use Rattle.sq_bound.specs.declared.condition.BoundSpecification.{BoundSpecification}
+use Rattle.sq_scope.specs.declared.findings.Found.{Found}
+use Rattle.sq_select.specs.Numbering.{Numbering}
+use Rattle.sq_bind.proofs.Joins.{on_found}
+use Rattle.sq_bind.proofs.Outermost.{no_levels}
+use Rattle.sq_bind.proofs.query.specification_cursor.Goals as goal
+
+pub bind_updatable-updatable-requires-clause-bound : goal.bind_updatable-updatable-requires-clause-bound
+bind_updatable-updatable-requires-clause-bound g c = c.in_ok-found.ensures.well_formed [] (no_levels (g.N.Names.column_kinds c.args.names.now) c.args.environment.now c.requires.outermost)
+
+pub returns-in-Some-clause-fits : goal.returns-in-Some-clause-fits
+returns-in-Some-clause-fits g c =
+    let bases = g.N.Names.base_tables c.args.names.now in
+    c.updatable_cursor.ensures.fits bases
+    (on_found (λ over. FitsQuery bases over.1) c.bind_updatable-updatable.result c.in_ok-found-2.updatable c.in-Some.over c.in_ok-found-2.ensures.1 c.in-Some.is c.bind_updatable-updatable.ensures.fits)
+
+pub returns-in-Some-clause-well_formed : goal.returns-in-Some-clause-well_formed
+returns-in-Some-clause-well_formed g c =
+    let tables = g.N.Names.column_kinds c.args.names.now in
+    let parameters = kinds_of_parameters c.args.environment.now.parameters.now in
+    let before = c.in_ok-found.found in
+    let same : before ≡ c.in_ok-found-2.found = search rules in
+    c.updatable_cursor.ensures.well_formed tables parameters
+    (subst (λ (found : Found BoundSpecification). IsUpdatable tables parameters (kinds_of_select found.part) c.in-Some.over.1) same
+    (on_found (λ over. IsUpdatable tables parameters (kinds_of_select before.part) over.1) c.bind_updatable-updatable.result c.in_ok-found-2.updatable c.in-Some.over c.in_ok-found-2.ensures.1 c.in-Some.is
+    c.bind_updatable-updatable.ensures.well_formed))
+
+pub returns-in-None-clause-well_formed : goal.returns-in-None-clause-well_formed
+returns-in-None-clause-well_formed g c =
+    let tables = g.N.Names.column_kinds c.args.names.now in
+    let parameters = kinds_of_parameters c.args.environment.now.parameters.now in
+    let same : c.in_ok-found.found ≡ c.in_ok-found-2.found = search rules in
+    c.read_cursor.ensures.well_formed tables parameters
+    (subst (λ (found : Found BoundSpecification). IsSelect tables parameters [] found.part) same (c.in_ok-found.ensures.well_formed [] (no_levels tables c.args.environment.now c.requires.outermost)))
+
+pub returns-in-None-clause-numbered : goal.returns-in-None-clause-numbered
+returns-in-None-clause-numbered g c =
+    let next = c.bind_select.new.numbers in
+    let same : c.in_ok-found.found ≡ c.in_ok-found-2.found = search rules in
+    c.read_cursor.ensures.numbered c.args.numbers.now next (subst (Numbering SelectWith c.args.numbers.now next) same c.in_ok-found.ensures.numbering)
