@@ -1,0 +1,4 @@
+pub mod Given
+pub mod Level
+pub mod Read
+pub mod Uses

@@ -1,7 +1,15 @@
--- What a command line asks for.
-use Rattle.std.specs.Prelude.{ℕ, ◌<◌, List, length, slice_get, Option, Some, ⊤}
+-- The command line, and what it asks for.
+use Rattle.std.specs.Prelude.{ℕ, ◌≡◌, ◌<◌, List, [], length, map, codes, slice_get, Option, Some, ⊤, true, IfSome, IsSome, unwrap_or}
 use Rattle.std.specs.Borrow.{Bor}
-use Rattle.std.specs.Option.{option_map}
+use Rattle.std.specs.Option.{option_map, option_map_or}
+use Rattle.std.specs.Str.Parse.{digits_value, without_leading_plus}
+use Rattle.clap.specs.Simple.{on_top}
+use Rattle.clap.specs.Words.{App, IsUnsignedIn, Row, Rule, Text, all_of, first_of, new_app, new_rule, one_of, subcommand_of, with_rule}
+use Rattle.clap.specs.Words.{with_subcommand}
+use Rattle.clap.specs.declared.builder.action.ArgAction.TheVariants.{Append, Set}
+use Rattle.clap.specs.declared.builder.value_parser.ValueParser.TheVariants.{Unsigned}
+use Rattle.sq_store.specs.declared.store.TheConstants.{MOST_ROW_NUMBERS}
+use Rattle.sqmod.specs.declared.command_line.TheConstants.{USUAL_ROW_NUMBERS}
 use Rattle.sqmod.specs.declared.command_line.Request.{Request}
 use Rattle.sqmod.specs.declared.fault.Source.{Source}
 use Rattle.sqmod.specs.declared.fault.Source.TheVariants.{Schema, Module, Script}
@@ -25,3 +33,61 @@ abbrev pub file_of : Request → Source → Option (List ℕ)
 file_of request (Schema index) = name_at request.schemas.items index
 file_of request (Module index) = name_at request.modules.items index
 file_of request Script = Some request.script.now
+
+-- ---- the command
+
+-- an option `--NAME VALUE`
+abbrev pub value_rule : Text → Rule
+value_rule name = record (new_rule name) { long = Some name; value_names = 1; action = Some Set }
+
+-- one that may be given again and again
+abbrev pub files_rule : Text → Rule
+files_rule name = record (value_rule name) { action = Some Append }
+
+abbrev pub script_rule : Rule
+script_rule = record (value_rule (codes "script")) { required = true }
+
+abbrev pub rows_rule : Rule
+rows_rule = record (value_rule (codes "rows")) { parser = Some (Unsigned 1 MOST_ROW_NUMBERS) }
+
+-- `run [--schema F]... [--module F]... --script F [--rows N]`
+abbrev pub run : App
+run =
+    let with_schemas = with_rule (new_app (codes "run")) (files_rule (codes "schema")) in
+    let with_modules = with_rule with_schemas (files_rule (codes "module")) in
+    with_rule (with_rule with_modules script_rule) rows_rule
+
+-- `sqmod`, of which `run` is the only subcommand and must be given
+abbrev pub sqmod : App
+sqmod =
+    with_subcommand (on_top (λ shape. record shape { subcommand_required = true }) (new_app (codes "sqmod"))) run.top
+
+-- ---- what `run` was given
+
+-- the files that an option gave, in the order of the words
+abbrev pub files_of : Text → List Row → List Text
+files_of option rows = unwrap_or (all_of option rows) []
+
+-- the number that a text reads as
+abbrev pub number_of : Text → ℕ
+number_of text = digits_value 10 (without_leading_plus text)
+
+abbrev pub row_numbers_of : List Row → ℕ
+row_numbers_of rows = option_map_or number_of (one_of (codes "rows") rows) USUAL_ROW_NUMBERS
+
+-- a script, and a number of rows that is in its range if there is one
+abbrev pub IsRun : List Row → Type 0
+IsRun rows = IsSome (first_of (codes "script") rows)
+    × IfSome (one_of (codes "rows") rows) (IsUnsignedIn 1 MOST_ROW_NUMBERS)
+
+-- the request that `run` makes of it
+pub record Makes (rows : List Row) (request : Request) : Type 0 where
+  pub schemas : map (λ file. file.now) request.schemas.items ≡ files_of (codes "schema") rows
+  pub modules : map (λ file. file.now) request.modules.items ≡ files_of (codes "module") rows
+  pub script : Some request.script.now ≡ first_of (codes "script") rows
+  pub row_numbers : request.row_numbers ≡ row_numbers_of rows
+
+-- the words are a call of `run`, and ask for this
+abbrev pub AskFor : List Text → Request → Type 0
+AskFor words request =
+    (rows : List Row) × (subcommand_of sqmod words ≡ Some (codes "run", rows)) × Makes rows request

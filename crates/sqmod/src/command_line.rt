@@ -1,10 +1,12 @@
 //! The command line, read by `clap`.
-ghost use Rattle.std.specs.Prelude.{◌≡◌, ◌≤◌, Some, None, [], IfOk, codes, map, option_map, unwrap_or};
-ghost use Rattle.clap.specs.Words.{found_of, matched_of, one_text, raw_values};
+ghost use Rattle.std.specs.Prelude.{◌≡◌, ◌≤◌, Some, IfOk, false, map, string_bytes};
+ghost use Rattle.clap.specs.Words.{FailsBy, app_of, fault_of, found_of, rows_of, rule_of};
+ghost use Rattle.clap.specs.declared.builder.command.Command.TheViews.{out-Command as fields_of};
+ghost use Rattle.clap.specs.declared.builder.value_parser.ValueParser.TheVariants.{Unsigned};
 ghost use Rattle.sqmod.specs.CommandLine as spec;
 
 use crate::fault::Source;
-use clap::error::ErrorKind;
+use clap::builder::ValueParser;
 use clap::{Arg, ArgAction, ArgMatches, Command, Error, value_parser};
 use sq_store::MOST_ROW_NUMBERS;
 use std::alloc::{AllocError, Global};
@@ -37,51 +39,53 @@ impl<'a> Request<'a> {
 
 /// Reads `sqmod run [--schema F]... [--module F]... --script F [--rows N]`.
 pub(crate) fn read_request<'a>(alloc: Global, words: &'a [String]) -> Result<Request<'a>, Error>
-    ensures { IfOk result (λ request. request.row_numbers ≤ MOST_ROW_NUMBERS) }
+    ensures refused { FailsBy (fault_of spec.sqmod (map string_bytes words.now)) result }
+    ensures asked { IfOk result (spec.AskFor (map string_bytes words.now)) }
+    ensures limited { IfOk result (λ request. request.row_numbers ≤ MOST_ROW_NUMBERS) }
 {
-    let mut command = sqmod_command(alloc)?;
-    let matches = command.try_get_matches_from_mut(words)?;
-    let Some((_, matches)) = matches.subcommand() else {
-        return Err(command.error(ErrorKind::MissingSubcommand, "a subcommand is missing")?);
-    };
-    let Some(script) = matches.get_str("script") else {
-        return Err(command.error(ErrorKind::MissingRequiredArgument, "--script is missing")?);
-    };
+    let command = sqmod_command(alloc)?;
+    let matches = command.try_get_matches_from(words)?;
+    let (_, run) = matches.subcommand().unwrap();
+    Ok(request_of(alloc, run)?)
+}
+
+/// The request that `run` makes of what it was given.
+fn request_of<'a>(alloc: Global, run: &ArgMatches<'a>) -> Result<Request<'a>, AllocError>
+    requires { spec.IsRun (rows_of (found_of run.now)) }
+    ensures made { IfOk result (spec.Makes (rows_of (found_of run.now))) }
+    ensures limited { IfOk result (λ request. request.row_numbers ≤ MOST_ROW_NUMBERS) }
+{
     Ok(Request {
-        schemas: files(alloc, matches, "schema")?,
-        modules: files(alloc, matches, "module")?,
-        script,
-        row_numbers: row_numbers(matches),
+        schemas: files(alloc, run, "schema")?,
+        modules: files(alloc, run, "module")?,
+        script: run.get_str("script").unwrap(),
+        row_numbers: row_numbers(run),
     })
 }
 
 /// The files given by an option, in the order of the words.
-fn files<'a>(
-    alloc: Global,
-    matches: &ArgMatches<'a>,
-    option: &str,
-) -> Result<Vec<&'a str>, AllocError>
+fn files<'a>(alloc: Global, run: &ArgMatches<'a>, option: &str) -> Result<Vec<&'a str>, AllocError>
     ensures { IfOk result (λ files. map (λ file. file.now) files.items
-        ≡ unwrap_or (option_map raw_values (matched_of (found_of matches.now) option.now)) []) }
+        ≡ spec.files_of option.now (rows_of (found_of run.now))) }
 {
-    match matches.get_strs(option) {
+    match run.get_strs(option) {
         Some(files) => Vec::from_slice(alloc, files),
         None => Ok(Vec::new(alloc)),
     }
 }
 
-fn row_numbers(matches: &ArgMatches<'_>) -> u64
+/// How many row numbers each table has.
+fn row_numbers(run: &ArgMatches<'_>) -> u64
+    requires { spec.IsRun (rows_of (found_of run.now)) }
+    ensures given { result ≡ spec.row_numbers_of (rows_of (found_of run.now)) }
     ensures limited { result ≤ MOST_ROW_NUMBERS }
-    ensures usual { one_text (found_of matches.now) (codes "rows") ≡ None → result ≡ USUAL_ROW_NUMBERS }
 {
-    // The option's range already ends here; `min` is for the proof, which doesn't know that range.
-    matches
-        .get_one::<u64>("rows")
-        .unwrap_or(USUAL_ROW_NUMBERS)
-        .min(MOST_ROW_NUMBERS)
+    run.get_one::<u64>("rows").unwrap_or(USUAL_ROW_NUMBERS)
 }
 
-fn sqmod_command<'a>(alloc: Global) -> Result<Command<'a>, AllocError> {
+fn sqmod_command<'a>(alloc: Global) -> Result<Command<'a>, AllocError>
+    ensures app { IfOk result (λ command. app_of command ≡ spec.sqmod) }
+{
     let run = run_command(alloc)?;
     Command::new(alloc, "sqmod")
         .about("Processes SQL-92 schemas and modules, and runs a script of procedure calls")
@@ -89,24 +93,52 @@ fn sqmod_command<'a>(alloc: Global) -> Result<Command<'a>, AllocError> {
         .subcommand(run)
 }
 
-fn run_command<'a>(alloc: Global) -> Result<Command<'a>, AllocError> {
-    let rows = value_option(
-        alloc,
-        "rows",
-        "N",
-        "The row numbers of each table, 1000000 when omitted",
-    )
-    .value_parser(value_parser!(u64).range(1..=MOST_ROW_NUMBERS as i64));
+fn run_command<'a>(alloc: Global) -> Result<Command<'a>, AllocError>
+    ensures app { IfOk result (λ command. app_of command ≡ spec.run) }
+    ensures local { IfOk result (λ command. (fields_of command).has_globals ≡ false) }
+{
     Command::new(alloc, "run")
         .about("Runs a script")
-        .arg(value_option(alloc, "schema", "F", "A file with schemas").action(ArgAction::Append))?
-        .arg(value_option(alloc, "module", "F", "A file with a module").action(ArgAction::Append))?
-        .arg(value_option(alloc, "script", "F", "The file with the script").required(true))?
-        .arg(rows)
+        .arg(files_option(alloc, "schema", "A file with schemas"))?
+        .arg(files_option(alloc, "module", "A file with a module"))?
+        .arg(script_option(alloc))?
+        .arg(rows_option(alloc))
+}
+
+/// An option that may be given again and again.
+fn files_option<'a>(alloc: Global, name: &'a str, help: &'a str) -> Arg<'a>
+    ensures rule { rule_of result ≡ spec.files_rule name.entry.now }
+    ensures local { result.global ≡ false }
+{
+    value_option(alloc, name, "F", help).action(ArgAction::Append)
+}
+
+fn script_option<'a>(alloc: Global) -> Arg<'a>
+    ensures rule { rule_of result ≡ spec.script_rule }
+    ensures local { result.global ≡ false }
+{
+    value_option(alloc, "script", "F", "The file with the script").required(true)
+}
+
+fn rows_option<'a>(alloc: Global) -> Arg<'a>
+    ensures rule { rule_of result ≡ spec.rows_rule }
+    ensures local { result.global ≡ false }
+{
+    let help = "The row numbers of each table, 1000000 when omitted";
+    value_option(alloc, "rows", "N", help).value_parser(row_numbers_parser())
+}
+
+fn row_numbers_parser<'a>() -> ValueParser<'a>
+    ensures { result ≡ Unsigned 1 MOST_ROW_NUMBERS }
+{
+    value_parser!(u64).range(1..=MOST_ROW_NUMBERS as i64)
 }
 
 /// An option `--NAME VALUE`.
-fn value_option<'a>(alloc: Global, name: &'a str, value: &'a str, help: &'a str) -> Arg<'a> {
+fn value_option<'a>(alloc: Global, name: &'a str, value: &'a str, help: &'a str) -> Arg<'a>
+    ensures rule { rule_of result ≡ spec.value_rule name.entry.now }
+    ensures local { result.global ≡ false }
+{
     Arg::new(alloc, name)
         .long(name)
         .value_name(value)

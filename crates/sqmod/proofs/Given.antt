@@ -1,0 +1,162 @@
+-- What `run` was given, where a parse had no fault.
+use Rattle.std.proofs.Common.{◌≡◌, ◌∙◌, ◌<◌, ◌||◌, Bool, cond, true, false, not, refl, sym, ap, subst, arith, true≢false}
+use Rattle.std.proofs.Common.{List, [], ◌∷◌, length, Option, Some, None, is_some}
+use Rattle.std.specs.Prelude.{IfSome, codes, find, option_and_then, option_map, slice_get, unwrap_or}
+use Rattle.std.specs.Option.{option_map_or}
+use Rattle.std.specs.Str.{bytes_eq}
+use Rattle.std.proofs.lemmas.Slice.Eq.{bytes_eq-Decides}
+use Rattle.clap.specs.Facts.{explicit_source}
+use Rattle.clap.specs.Walk.{Row, Rule, Text, answers_to, arg_by_id, first_of, nothing_held, one_of, row_text, rows_after, stop_after}
+use Rattle.clap.specs.Simple.{App, Shape, argument_words, built, entered, is_simple, label_of, names_of, new_shape, rows_at, subcommand_of}
+use Rattle.clap.specs.Takes.{is_given}
+use Rattle.clap.specs.Values.{IsUnsignedIn, read_as, reading_of, refused_kind}
+use Rattle.clap.specs.ValueTests.{accepts}
+use Rattle.clap.specs.declared.builder.value_parser.Reading.{Reading}
+use Rattle.clap.specs.declared.builder.value_parser.ValueParser.{ValueParser}
+use Rattle.clap.specs.declared.builder.value_parser.ValueParser.TheVariants.{Unsigned}
+use Rattle.clap.specs.Kinds.{value_kinds, values_kinds}
+use Rattle.clap.specs.Faults.{check_fault, entered_fault, fault_of, is_simple_and_free, level_fault}
+use Rattle.clap.specs.declared.error.kind.ErrorKind.TheVariants.{MissingRequiredArgument}
+use Rattle.clap.proofs.OnLiterals.{clap_on_literals}
+use Rattle.clap.proofs.ValueTestLemmas.{accepts-Accepts}
+use Rattle.sqmod.specs.CommandLine.{sqmod}
+use Rattle.sq_store.specs.declared.store.TheConstants.{MOST_ROW_NUMBERS}
+use Rattle.sqmod.proofs.Level.{IsPastHelp, level_passed}
+use Rattle.sqmod.proofs.Uses.{AllPassed, Each, IsOption, Passed, neither, some_kind}
+
+-- the command as it is built
+abbrev whole : App
+whole = built sqmod
+
+abbrev run_level : Shape
+run_level = unwrap_or (slice_get whole.subs 0) (new_shape [])
+
+abbrev help_level : Shape
+help_level = unwrap_or (slice_get whole.subs 1) (new_shape [])
+
+pub is_simple_command : is_simple sqmod ≡ true
+is_simple_command = refl
+
+pub is_free_command : is_simple_and_free sqmod ≡ true
+is_free_command = refl
+
+run_options : Each (IsOption run_level.rules) run_level.rules
+unfolding clap_on_literals
+run_options = ((refl, refl), ((refl, refl), ((refl, refl), ((refl, refl), ((refl, refl), tt)))))
+
+top_options : Each (IsOption whole.top.rules) whole.top.rules
+unfolding clap_on_literals
+top_options = ((refl, refl), tt)
+
+-- ---- the subcommand
+
+-- the values that `run` was given passed, and the script was given
+abbrev pub IsSoundRun : List Row → Type 0
+IsSoundRun rows = AllPassed run_level.rules rows × (is_given (codes "script") rows ≡ true)
+
+script_given : (rows : List Row) → check_fault run_level rows false ≡ [] → is_given (codes "script") rows ≡ true
+script_given rows none = go (is_given (codes "script") rows) none
+  where
+    go : (b : Bool) → cond (not b || false) (MissingRequiredArgument ∷ []) [] ≡ [] → b ≡ true
+    go true e = refl
+    go false e = some_kind _ _ e
+
+sound_run : (words : List Text) → level_fault run_level [] nothing_held words false [] ≡ [] → IsSoundRun (rows_at run_level words).1
+sound_run words none =
+    let level = level_passed run_level [] words false [] run_options none in
+    (level.rows, script_given (rows_at run_level words).1 level.checked)
+
+-- a name other than `help` is not that of the subcommand `help`
+no_help : (name : Text) → bytes_eq name (codes "help") ≡ false → answers_to name (label_of help_level) ≡ true → ⊥
+no_help name other named = go (bytes_eq (codes "help") name) refl named
+  where
+    go : (b : Bool) → bytes_eq (codes "help") name ≡ b → (b || false) ≡ true → ⊥
+    go true e h =
+        let same : codes "help" ≡ name = (bytes_eq-Decides (codes "help") name).0 e in
+        let bad : bytes_eq (codes "help") (codes "help") ≡ false = ap (λ n. bytes_eq n (codes "help")) same ∙ other in
+        true≢false bad
+    go false e h = true≢false (sym h)
+
+-- the subcommand that was met is `run`, with what it was given
+abbrev pub MeetsRun : Option (Text × List Row) → Type 0
+MeetsRun met = (rows : List Row) × (met ≡ Some (codes "run", rows)) × IsSoundRun rows
+
+abbrev level_by : Bool → Bool → Option Shape
+level_by is_run is_help = cond is_run (Some run_level) (cond is_help (Some help_level) None)
+
+met_run : (own : List Row) (stop : Option (Text × List Text)) → IsPastHelp whole.top stop → entered_fault whole stop ≡ []
+    → check_fault whole.top own (is_some (entered whole stop)) ≡ [] → MeetsRun (entered whole stop)
+met_run own None past under checked = some_kind _ _ checked
+met_run own (Some p) past under checked =
+    go (answers_to p.0 (label_of run_level)) (answers_to p.0 (label_of help_level)) (no_help p.0 (past refl)) under checked
+  where
+    go : (is_run is_help : Bool) → (is_help ≡ true → ⊥)
+        → option_map_or (λ s. level_fault s [] nothing_held p.1 false []) (level_by is_run is_help) [] ≡ []
+        → check_fault whole.top own (is_some (option_map (λ s. rows_at s p.1) (level_by is_run is_help))) ≡ []
+        → MeetsRun (option_map (λ s. rows_at s p.1) (level_by is_run is_help))
+    go true is_help other e checked = ((rows_at run_level p.1).1, refl, sound_run p.1 e)
+    go false true other e checked = absurd (other refl)
+    go false false other e checked = some_kind _ _ checked
+
+-- words with no fault name `run`
+pub meets_run : (words : List Text) → fault_of sqmod words ≡ [] → MeetsRun (subcommand_of sqmod words)
+meets_run words none =
+    let given = argument_words sqmod words in
+    let stop = stop_after whole.top.rules (names_of whole) given in
+    let level = level_passed whole.top (names_of whole) given (is_some (entered whole stop)) (entered_fault whole stop) top_options none in
+    met_run (rows_after whole.top.rules (names_of whole) given) stop level.stop level.under level.checked
+
+-- ---- what it was given
+
+abbrev row_numbers : ValueParser
+row_numbers = Unsigned 1 MOST_ROW_NUMBERS
+
+-- the row of an argument holds values of it that passed
+passed_row : (c : List Rule) (id : Text) (rows : List Row) (r : Row) → AllPassed c rows → find (λ x. bytes_eq x.id id) rows ≡ Some r
+    → (a : Rule) → arg_by_id c id ≡ Some a → Passed a r
+passed_row c id [] r all found a is = absurd (true≢false (sym (ap is_some found)))
+passed_row c id (x ∷ rest) r all found a is = go (bytes_eq x.id id) refl found (λ later. passed_row c id rest r all.1 later a is)
+  where
+    go : (b : Bool) → bytes_eq x.id id ≡ b → cond b (Some x) (find (λ x. bytes_eq x.id id) rest) ≡ Some r
+        → (find (λ x. bytes_eq x.id id) rest ≡ Some r → Passed a r) → Passed a r
+    go true e here later =
+        let same : x.id ≡ id = (bytes_eq-Decides x.id id).0 e in
+        subst (Passed a) (ap (λ o. unwrap_or o r) here) (all.0 a (ap (arg_by_id c) same ∙ is))
+    go false e there later = later there
+
+first_there : (vs : List Text) → 0 < length vs → is_some (slice_get vs 0) ≡ true
+first_there [] lt = absurd (omega arith)
+first_there (v ∷ vs) lt = refl
+
+pub script_there : (rows : List Row) → IsSoundRun rows → is_some (first_of (codes "script") rows) ≡ true
+script_there rows sound = go (find (λ r. bytes_eq r.id (codes "script")) rows) refl sound.1
+  where
+    go : (o : Option Row) → find (λ r. bytes_eq r.id (codes "script")) rows ≡ o
+        → option_map_or (λ r. explicit_source r.source) o false ≡ true
+        → is_some (option_and_then (λ r. slice_get r.values 0) o) ≡ true
+    go None e given = absurd (true≢false (sym given))
+    go (Some r) e given = first_there r.values (passed_row run_level.rules (codes "script") rows r sound.0 e _ refl).given
+
+-- the first number of rows passed its range
+accepted : (v : Text) (rest : List Text) → values_kinds false row_numbers (v ∷ rest) ≡ [] → IsUnsignedIn 1 MOST_ROW_NUMBERS v
+accepted v rest none =
+    accepts-Accepts false row_numbers v (go (accepts false row_numbers v) (neither (value_kinds false row_numbers v) _ none).0)
+  where
+    go : (b : Bool) → cond b [] (refused_kind row_numbers ∷ []) ≡ [] → b ≡ true
+    go true e = refl
+    go false e = some_kind _ _ e
+
+pub rows_in_range : (rows : List Row) → IsSoundRun rows → IfSome (one_of (codes "rows") rows) (IsUnsignedIn 1 MOST_ROW_NUMBERS)
+rows_in_range rows sound = go (find (λ r. bytes_eq r.id (codes "rows")) rows) refl
+  where
+    first : (vs : List Text) (how : Reading) → how ≡ reading_of row_numbers → values_kinds false row_numbers vs ≡ []
+        → IfSome (option_map (read_as how) (slice_get vs 0)) (IsUnsignedIn 1 MOST_ROW_NUMBERS)
+    first [] how is none = tt
+    first (v ∷ vs) how is none = subst (λ h. IsUnsignedIn 1 MOST_ROW_NUMBERS (read_as h v)) (sym is) (accepted v vs none)
+
+    go : (o : Option Row) → find (λ r. bytes_eq r.id (codes "rows")) rows ≡ o
+        → IfSome (option_and_then row_text o) (IsUnsignedIn 1 MOST_ROW_NUMBERS)
+    go None e = tt
+    go (Some r) e =
+        let passed = passed_row run_level.rules (codes "rows") rows r sound.0 e _ refl in
+        first r.values r.reading passed.reading passed.values
