@@ -1,3 +1,4 @@
+pub mod Examples
 pub mod Given
 pub mod Level
 pub mod Read

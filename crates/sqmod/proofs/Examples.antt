@@ -1,0 +1,74 @@
+-- Command lines, by the definitions: what is refused, by which kind, and what is read of those that are taken.
+use Rattle.std.proofs.Common.{◌≡◌, ℕ, refl, List, [], ◌∷◌, Option, Some}
+use Rattle.std.specs.Prelude.{codes, option_map}
+use Rattle.clap.specs.Words.{Text, fault_of, first_of, subcommand_of}
+use Rattle.clap.specs.declared.error.kind.ErrorKind.TheVariants.{ArgumentConflict, DisplayHelp, MissingRequiredArgument}
+use Rattle.clap.specs.declared.error.kind.ErrorKind.TheVariants.{MissingSubcommand, UnknownArgument, ValueValidation}
+use Rattle.clap.proofs.OnLiterals.{clap_on_literals}
+use Rattle.sqmod.specs.CommandLine.{files_of, row_numbers_of, sqmod}
+
+abbrev call : List Text → List Text
+call words = codes "sqmod" ∷ codes "run" ∷ words
+
+abbrev with_rows : Text → List Text
+with_rows number = call (codes "--script" ∷ codes "c" ∷ codes "--rows" ∷ number ∷ [])
+
+-- what is read of the words
+abbrev read : List Text → Option (List Text × List Text × Option Text × ℕ)
+read words =
+    option_map (λ run. (
+      files_of (codes "schema") run.1,
+      files_of (codes "module") run.1,
+      first_of (codes "script") run.1,
+      row_numbers_of run.1,
+    )) (subcommand_of sqmod words)
+
+all_given : List Text
+all_given =
+    call
+    (codes "--schema" ∷ codes "a" ∷ codes "--script=c" ∷ codes "--module" ∷ codes "m"
+    ∷ codes "--schema" ∷ codes "b" ∷ codes "--rows" ∷ codes "007" ∷ [])
+
+takes_all : fault_of sqmod all_given ≡ []
+unfolding clap_on_literals all_given
+takes_all = refl
+
+reads_all : read all_given ≡ Some (codes "a" ∷ codes "b" ∷ [], codes "m" ∷ [], Some (codes "c"), 7)
+unfolding clap_on_literals all_given
+reads_all = refl
+
+usual_rows : read (call (codes "--script" ∷ codes "c" ∷ [])) ≡ Some ([], [], Some (codes "c"), 1000000)
+unfolding clap_on_literals
+usual_rows = refl
+
+wants_subcommand : fault_of sqmod (codes "sqmod" ∷ []) ≡ MissingSubcommand ∷ []
+unfolding clap_on_literals
+wants_subcommand = refl
+
+wants_script : fault_of sqmod (call []) ≡ MissingRequiredArgument ∷ []
+unfolding clap_on_literals
+wants_script = refl
+
+script_once : fault_of sqmod (call (codes "--script" ∷ codes "c" ∷ codes "--script" ∷ codes "d" ∷ [])) ≡ ArgumentConflict ∷ []
+unfolding clap_on_literals
+script_once = refl
+
+no_rows : fault_of sqmod (with_rows (codes "0")) ≡ ValueValidation ∷ []
+unfolding clap_on_literals
+no_rows = refl
+
+most_rows : fault_of sqmod (with_rows (codes "1000000000")) ≡ []
+unfolding clap_on_literals
+most_rows = refl
+
+too_many_rows : fault_of sqmod (with_rows (codes "1000000001")) ≡ ValueValidation ∷ []
+unfolding clap_on_literals
+too_many_rows = refl
+
+help : fault_of sqmod (codes "sqmod" ∷ codes "--help" ∷ []) ≡ DisplayHelp ∷ []
+unfolding clap_on_literals
+help = refl
+
+other_option : fault_of sqmod (call (codes "--file" ∷ [])) ≡ UnknownArgument ∷ []
+unfolding clap_on_literals
+other_option = refl
