@@ -8,9 +8,11 @@ use Rattle.sq_store.specs.declared.change.Change.{Change}
 use Rattle.sq_store.specs.declared.change.Change.TheVariants.{Insert, Replace, Remove}
 use Rattle.sq_store.specs.Change.{insert_count, rows_put}
 use Rattle.sq_bound.specs.Fits.{under}
+use Rattle.sq_bound.specs.declared.statement.BoundUpdate.{BoundUpdate}
 use Rattle.sq_bound.specs.declared.statement.ChangeTarget.{ChangeTarget}
 use Rattle.sq_bound.specs.declared.statement.ChangeTarget.TheVariants as target
 use Rattle.sq_change.specs.Changed.{AreReplacements, Removals, Replacements, are_wide}
+use Rattle.sq_change.specs.Made.{Seen}
 use Rattle.sq_change.specs.Statement.{base_of}
 
 -- ---- new rows
@@ -34,11 +36,21 @@ removed_none [] = refl
 removed_none (number ∷ numbers) = removed_none numbers
 
 -- UPDATE and DELETE put no new row in
-pub replaced_few : (t : ChangeTarget) (on : Option ℕ) (changes : List Change) (n : ℕ) → Replacements t on changes → insert_count changes ≤ n
-replaced_few t on changes n h = omega (arith, none_inserted h.numbers changes h.all)
+pub replaced_few : (s : Seen) (u : BoundUpdate) (on : Option ℕ) (changes : List Change) (n : ℕ) → Replacements s u on changes → insert_count changes ≤ n
+replaced_few s u on changes n h = omega (arith, none_inserted h.numbers changes h.all)
 
-pub removed_few : (t : ChangeTarget) (on : Option ℕ) (changes : List Change) (n : ℕ) → Removals t on changes → insert_count changes ≤ n
-removed_few t on changes n h = let none : insert_count changes ≡ 0 = rw h.all (removed_none h.numbers) in omega arith
+pub removed_few : (s : Seen) (t : ChangeTarget) (on : Option ℕ) (changes : List Change) (n : ℕ) → Removals s t on changes → insert_count changes ≤ n
+removed_few s t on changes n h = let none : insert_count changes ≡ 0 = rw h.all (removed_none h.numbers) in omega arith
+
+-- one more row
+pub one_put : (changes more : List Change) (row : List Value) → more ≡ changes ++ Insert row ∷ [] → rows_put more ≡ rows_put changes ++ row ∷ []
+one_put changes more row joined = ap rows_put joined ∙ by changes
+  where
+    by : (cs : List Change) → rows_put (cs ++ Insert row ∷ []) ≡ rows_put cs ++ row ∷ []
+    by [] = refl
+    by (Insert other ∷ cs) = ap (λ (rows : List (List Value)). other ∷ rows) (by cs)
+    by (Replace number other ∷ cs) = ap (λ (rows : List (List Value)). other ∷ rows) (by cs)
+    by (Remove number ∷ cs) = by cs
 
 -- ---- how wide rows are
 
@@ -47,8 +59,8 @@ removed_wide n [] = refl
 removed_wide n (number ∷ numbers) = removed_wide n numbers
 
 -- DELETE puts no row in
-pub removals_wide : (t : ChangeTarget) (on : Option ℕ) (changes : List Change) (n : ℕ) → Removals t on changes → are_wide n (rows_put changes) ≡ true
-removals_wide t on changes n h = rw h.all (removed_wide n h.numbers)
+pub removals_wide : (s : Seen) (t : ChangeTarget) (on : Option ℕ) (changes : List Change) (n : ℕ) → Removals s t on changes → are_wide n (rows_put changes) ≡ true
+removals_wide s t on changes n h = rw h.all (removed_wide n h.numbers)
 
 put_more : (change : Change) (changes : List Change) → rows_put (change ∷ changes) ≡ rows_put (change ∷ []) ++ rows_put changes
 put_more (Insert row) changes = refl

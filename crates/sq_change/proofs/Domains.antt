@@ -23,6 +23,7 @@ use Rattle.sq_bound.specs.declared.names.ObjectColumn.{ObjectColumn}
 use Rattle.sq_bound.specs.declared.statement.ChangeTarget.{ChangeTarget}
 use Rattle.sq_meaning.proofs.AnswerLaws.{all_appended, all_filtered}
 use Rattle.sq_change.specs.Changed.{AreRowsPut, Removals}
+use Rattle.sq_change.specs.Made.{Seen}
 use Rattle.sq_change.specs.Given.{AreStored, IsStoredFor}
 use Rattle.sq_change.proofs.Storable.{zipped_at}
 
@@ -100,8 +101,8 @@ removed_in columns [] = tt
 removed_in columns (number ∷ numbers) = removed_in columns numbers
 
 -- DELETE puts no row in
-pub removals_in : (t : ChangeTarget) (on : Option ℕ) (changes : List Change) (columns : List BaseColumn) → Removals t on changes → AreRowsPut columns changes
-removals_in t on changes columns h = subst (λ (cs : List Change). AreRowsPut columns cs) (sym h.all) (removed_in columns h.numbers)
+pub removals_in : (s : Seen) (t : ChangeTarget) (on : Option ℕ) (changes : List Change) (columns : List BaseColumn) → Removals s t on changes → AreRowsPut columns changes
+removals_in s t on changes columns h = subst (λ (cs : List Change). AreRowsPut columns cs) (sym h.all) (removed_in columns h.numbers)
 
 -- ---- a row with another value in a column
 

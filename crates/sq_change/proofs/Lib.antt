@@ -1,9 +1,15 @@
 pub mod Applied
+pub mod Chosen
+pub mod Defaults
 pub mod Domains
 pub mod Endings
 pub mod Fitting
+pub mod GivenRows
 pub mod Held
+pub mod InTurn
 pub mod Made
 pub mod OnRows
+pub mod Outcomes
 pub mod Storable
 pub mod Stored
+pub mod Updated

@@ -88,6 +88,9 @@ module _ (bases : List BaseTable) (queries : List BoundSpecification) (columns :
   given_so : IsSource columns may.parameters objects (inserted.Query q)
   given_so = subst (IsSource columns may.parameters objects) is may.given
 
+  pub query_well : IsSelect columns may.parameters [] q
+  query_well = given_so.0
+
   -- what holds where the query may read some tables holds
   pub query_so : (P : Type 0)
       → ((parameters : List Kind) (tables : TablePlace → Outcome (List Row)) → MayRead bases queries columns content user values parameters tables

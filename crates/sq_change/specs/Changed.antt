@@ -1,18 +1,27 @@
 -- What a statement is going to change, by its kind.
-use Rattle.std.specs.Prelude.{◌≡◌, ℕ, Bool, true, false, List, length, map, nat_eq, Option}
+use Rattle.std.specs.Prelude.{◌≡◌, ℕ, Bool, true, false, List, [], ◌∷◌, length, map, nat_eq, Option, Ok, Vec}
 use Rattle.std.specs.List.{AllByRecursion, AllZip, list_all}
+use Rattle.std.specs.declared.alloc.Global.{Global}
 use Rattle.sq_value.specs.declared.domain.Kind.{Kind}
 use Rattle.sq_value.specs.declared.value.Value.{Value}
 use Rattle.sq_store.specs.declared.change.Change.{Change}
 use Rattle.sq_store.specs.declared.change.Change.TheVariants.{Insert, Replace, Remove}
 use Rattle.sq_store.specs.Change.{rows_put}
+use Rattle.sq_store.specs.declared.table.Numbered.{Numbered}
 use Rattle.sq_bound.specs.Fits.{IsRowIn}
 use Rattle.sq_bound.specs.WellFormed.{TableKinds}
 use Rattle.sq_bound.specs.declared.condition.BoundCond.{BoundCond}
 use Rattle.sq_bound.specs.declared.names.BaseColumn.{BaseColumn}
+use Rattle.sq_bound.specs.declared.statement.BoundUpdate.{BoundUpdate}
 use Rattle.sq_bound.specs.declared.statement.ChangeTarget.{ChangeTarget}
 use Rattle.sq_query.specs.Row.{IsOnRow}
-use Rattle.sq_change.specs.Statement.{Chosen}
+use Rattle.sq_change.specs.Made.{Seen, Shown, rows_updated}
+use Rattle.sq_change.specs.Statement.{Chosen, base_of}
+use Rattle.sq_change.specs.declared.complete.Changed.{Changed}
+
+-- the rows that changes put in a table
+abbrev pub new_rows_in : Vec Change Global → List (List Value)
+new_rows_in changes = rows_put changes.items
 
 -- the rows have a value for each of so many columns
 abbrev pub are_wide : ℕ → List (List Value) → Bool
@@ -45,13 +54,27 @@ IsReplacement number (Remove n) = ⊥
 abbrev pub AreReplacements : List ℕ → List Change → Type 0
 AreReplacements = AllZip IsReplacement
 
-pub record Replacements (t : ChangeTarget) (on : Option ℕ) (changes : List Change) : Type 0 where
+-- the rows that take the place of others, under their numbers
+abbrev pub rows_replaced : List Change → List Numbered
+rows_replaced [] = []
+rows_replaced (Insert row ∷ changes) = rows_replaced changes
+rows_replaced (Replace number row ∷ changes) = record { number = number; row = row } ∷ rows_replaced changes
+rows_replaced (Remove number ∷ changes) = rows_replaced changes
+
+abbrev pub rows_replaced_in : Vec Change Global → List Numbered
+rows_replaced_in changes = rows_replaced changes.items
+
+abbrev pub changed_in : Changed → List Numbered
+changed_in changed = rows_replaced changed.changes.items
+
+pub record Replacements (s : Seen) (u : BoundUpdate) (on : Option ℕ) (changes : List Change) : Type 0 where
   pub numbers : List ℕ
-  pub chosen : Chosen t on numbers
+  pub chosen : Chosen s u.target on numbers
   pub all : AreReplacements numbers changes
+  pub made : (shown : Shown) → rows_updated shown s u.assignments (base_of u.target) numbers ≡ Ok (rows_replaced changes)
 
 -- the removal of the rows under the numbers
-pub record Removals (t : ChangeTarget) (on : Option ℕ) (changes : List Change) : Type 0 where
+pub record Removals (s : Seen) (t : ChangeTarget) (on : Option ℕ) (changes : List Change) : Type 0 where
   pub numbers : List ℕ
-  pub chosen : Chosen t on numbers
+  pub chosen : Chosen s t on numbers
   pub all : changes ≡ map Remove numbers

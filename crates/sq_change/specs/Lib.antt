@@ -1,4 +1,5 @@
 pub mod Changed
 pub mod Given
+pub mod Made
 pub mod Reference
 pub mod Statement

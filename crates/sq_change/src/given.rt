@@ -2,19 +2,24 @@
 
 ghost use Rattle.std.specs.Prelude.{◌≡◌, ◌<◌, [], length, nat_eq, true, vec_len, IfErr, IfOk, IfSome, List};
 ghost use Rattle.std.specs.List.{AllByRecursion, position};
+ghost use Rattle.std.specs.Option.{option_copied};
 ghost use Rattle.sq_value.specs.Domain.{IsInDomain};
 ghost use Rattle.sq_store.specs.Change.{rows_put};
 ghost use Rattle.sq_value.specs.declared.domain.Kind.{Kind};
 ghost use Rattle.sq_value.specs.declared.value.Value.{Value as AnyValue};
-ghost use Rattle.sq_meaning.specs.Status.{Outcome};
+ghost use Rattle.sq_meaning.specs.Status.{Outcome, each};
 ghost use Rattle.sq_meaning.specs.WellFormed.{AreRowsOf};
 ghost use Rattle.sq_bound.specs.Fits.{IsColumnOf, IsRowIn};
 ghost use Rattle.sq_bound.specs.WellFormed.{IsSelect, kinds_of_select};
 ghost use Rattle.sq_bound.specs.declared.condition.TablePlace.{TablePlace};
+ghost use Rattle.sq_expression.specs.Fault.{Meets, MeetsAs, rows_in};
 ghost use Rattle.sq_query.specs.MayRead.{MayEnd, MayRead};
 ghost use Rattle.sq_query.specs.Needed.{FindsSelect};
-ghost use Rattle.sq_change.specs.Changed.{AreRowsPut, are_insertions, are_wide};
+ghost use Rattle.sq_change.specs.Changed.{AreRowsPut, are_insertions, are_wide, new_rows_in};
 ghost use Rattle.sq_change.specs.Given.{AreStorable, AreStored, FitColumns, IsStoredFor, MayGive};
+ghost use Rattle.sq_change.specs.Made.{Shown, or_default, row_completed, row_stored, seen_by, value_at, values_given};
+ghost use Rattle.sq_change.specs.Made.{rows_found, rows_given, rows_made};
+ghost use Rattle.sq_change.specs.Statement.{IsShown};
 
 use crate::setting::Setting;
 use crate::storing::{assigned, stored_value};
@@ -39,6 +44,9 @@ pub(crate) fn new_rows<N: Names, S: Store>(
     requires columns { AllByRecursion (IsColumnOf table.now) insert.now.columns }
     requires given { MayGive (N.base_tables setting.now.names.now) (N.view_queries setting.now.names.now) (N.column_kinds setting.now.names.now)
         (S.content_now setting.now.store.now) setting.now.user setting.now.parameters.now insert.now.columns insert.now.source }
+    ensures made { let seen = seen_by (N.view_queries setting.now.names.now) (S.content_now setting.now.store.now) setting.now.user
+        setting.now.parameters.now in (shown : Shown) → IsShown seen shown
+        → MeetsAs new_rows_in result (rows_made shown seen table.now insert.now.columns insert.now.source) }
     ensures insertions { IfOk result (λ changes. are_insertions changes.items ≡ true) }
     ensures wide { IfOk result (λ changes. are_wide (length table.now.columns) (rows_put changes.items) ≡ true) }
     ensures in_domains { IfOk result (λ changes. AreRowsPut table.now.columns changes.items) }
@@ -57,6 +65,9 @@ fn given_rows<N: Names, S: Store>(
 ) -> Result<Vec<Row>, Fault>
     requires given { MayGive (N.base_tables setting.now.names.now) (N.view_queries setting.now.names.now) (N.column_kinds setting.now.names.now)
         (S.content_now setting.now.store.now) setting.now.user setting.now.parameters.now insert.now.columns insert.now.source }
+    ensures made { let seen = seen_by (N.view_queries setting.now.names.now) (S.content_now setting.now.store.now) setting.now.user
+        setting.now.parameters.now in (shown : Shown) → IsShown seen shown
+        → MeetsAs rows_in result (rows_given shown seen insert.now.columns insert.now.source) }
     ensures some { IfOk result (λ rows. 0 < vec_len rows) }
     ensures stored { IfOk result (λ rows. AllByRecursion (AreStored insert.now.columns) rows.items) }
     ensures right { IfErr result MayEnd }
@@ -83,6 +94,8 @@ fn given_values<N: Names, S: Store>(
     values: &[BoundExpr],
 ) -> Result<Row, Fault>
     requires { AreStorable columns.now values.now setting.now.parameters.now setting.now.user }
+    ensures meant { (shown : Shown) → Meets result (values_given shown (seen_by (N.view_queries setting.now.names.now)
+        (S.content_now setting.now.store.now) setting.now.user setting.now.parameters.now) columns.now values.now) }
     ensures stored { IfOk result (AreStored columns.now) }
     ensures right { IfErr result MayEnd }
 {
@@ -100,6 +113,12 @@ fn rows_found<N: Names, S: Store>(
     meter: &mut Meter,
 ) -> Result<Vec<Row>, Fault>
     requires { FindsSelect (N.base_tables setting.now.names.now) (N.column_kinds setting.now.names.now) query.now }
+    ensures found { let seen = seen_by (N.view_queries setting.now.names.now) (S.content_now setting.now.store.now) setting.now.user
+        setting.now.parameters.now in (parameters : List Kind) (shown : Shown)
+        → MayRead (N.base_tables setting.now.names.now) (N.view_queries setting.now.names.now) (N.column_kinds setting.now.names.now)
+        (S.content_now setting.now.store.now) setting.now.user setting.now.parameters.now parameters shown
+        → IsSelect (N.column_kinds setting.now.names.now) parameters [] query.now
+        → MeetsAs rows_in result (rows_found shown seen query.now) }
     ensures some { IfOk result (λ rows. 0 < vec_len rows) }
     ensures kinds { (parameters : List Kind) (tables : TablePlace → Outcome (List (List AnyValue)))
         → MayRead (N.base_tables setting.now.names.now) (N.view_queries setting.now.names.now) (N.column_kinds setting.now.names.now)
@@ -127,6 +146,7 @@ fn rows_found<N: Names, S: Store>(
 /// Rows as the columns store them.
 fn stored_rows(alloc: Global, columns: &[ObjectColumn], rows: &[Row]) -> Result<Vec<Row>, Fault>
     requires { AllByRecursion (FitColumns columns.now) rows.now }
+    ensures meant { MeetsAs rows_in result (each (row_stored columns.now) rows.now) }
     ensures count { IfOk result (λ stored. vec_len stored ≡ length rows.now) }
     ensures stored { IfOk result (λ stored. AllByRecursion (AreStored columns.now) stored.items) }
     ensures right { IfErr result MayEnd }
@@ -141,6 +161,7 @@ fn stored_rows(alloc: Global, columns: &[ObjectColumn], rows: &[Row]) -> Result<
 /// A row as the columns store it.
 fn stored_row(alloc: Global, columns: &[ObjectColumn], row: &[Value]) -> Result<Row, Fault>
     requires { FitColumns columns.now row.now }
+    ensures meant { Meets result (row_stored columns.now row.now) }
     ensures stored { IfOk result (AreStored columns.now) }
     ensures right { IfErr result MayEnd }
 {
@@ -160,6 +181,7 @@ fn completed_rows<N: Names, S: Store>(
 ) -> Result<Vec<Change>, Fault>
     requires columns { AllByRecursion (IsColumnOf table.now) columns.now }
     requires stored { AllByRecursion (AreStored columns.now) given.now }
+    ensures meant { MeetsAs new_rows_in result (each (row_completed setting.now.user table.now columns.now) given.now) }
     ensures insertions { IfOk result (λ changes. are_insertions changes.items ≡ true) }
     ensures wide { IfOk result (λ changes. are_wide (length table.now.columns) (rows_put changes.items) ≡ true) }
     ensures in_domains { IfOk result (λ changes. AreRowsPut table.now.columns changes.items) }
@@ -183,6 +205,7 @@ fn new_row<N: Names, S: Store>(
 ) -> Result<Row, Fault>
     requires columns { AllByRecursion (IsColumnOf table.now) columns.now }
     requires stored { AreStored columns.now given.now }
+    ensures meant { Meets result (row_completed setting.now.user table.now columns.now given.now) }
     ensures wide { IfOk result (λ row. length row ≡ length table.now.columns) }
     ensures in_domains { IfOk result (IsRowIn table.now.columns) }
     ensures right { IfErr result MayEnd }
@@ -198,7 +221,8 @@ fn new_row<N: Names, S: Store>(
 /// The value that is given for the column at a place.
 fn given_at<'a>(columns: &[ObjectColumn], given: &'a [Value], place: usize) -> Option<&'a Value>
     requires { AreStored columns.now given.now }
-    ensures { IfSome result (λ value. IsStoredFor columns.now place value.now) }
+    ensures stored { IfSome result (λ value. IsStoredFor columns.now place value.now) }
+    ensures given { option_copied result ≡ value_at columns.now given.now place }
 {
     let listed = listed_at(columns, place)?;
     Some(&given[listed])
@@ -218,6 +242,7 @@ fn value_or_default<N: Names, S: Store>(
     given: Option<&Value>,
 ) -> Result<Value, Fault>
     requires { IfSome given (λ value. IsInDomain column.now.domain value.now) }
+    ensures meant { Meets result (or_default setting.now.user column.now (option_copied given.entry)) }
     ensures in_domain { IfOk result (IsInDomain column.now.domain) }
     ensures right { IfErr result MayEnd }
 {

@@ -1,15 +1,17 @@
 //! The three statements that change a table.
 
-ghost use Rattle.std.specs.Prelude.{◌≡◌, ◌<◌, ◌≤◌, ◌+◌, ◌-◌, true, length, vec_len, IfErr, IfOk, IfSome, IsSome, Ok, OnErr, OnOk};
+ghost use Rattle.std.specs.Prelude.{◌≡◌, ◌⊎◌, ◌<◌, ◌≤◌, ◌+◌, ◌-◌, true, length, vec_len, Err, IfErr, IfOk, IfSome, IsSome, Ok, OnErr, OnOk};
 ghost use Rattle.std.specs.List.{AllByRecursion};
 ghost use Rattle.sq_store.specs.Change.{insert_count, rows_put};
 ghost use Rattle.sq_store.specs.Content.{row_at, table_at};
 ghost use Rattle.sq_bound.specs.Fits.{AreInDomains, IsBase, IsColumnOf, are_columns, holds, keys_of_bases, under};
 ghost use Rattle.sq_bound.specs.WellFormed.{IsLeaf};
+ghost use Rattle.sq_expression.specs.Fault.{MeetsAs};
 ghost use Rattle.sq_query.specs.MayRead.{MayEnd};
-ghost use Rattle.sq_change.specs.Changed.{AreRowsPut, Removals, Replacements, are_insertions, are_wide};
+ghost use Rattle.sq_change.specs.Changed.{AreRowsPut, Removals, Replacements, are_insertions, are_wide, changed_in};
 ghost use Rattle.sq_change.specs.Given.{MayAssign, MayChoose, MayGive};
-ghost use Rattle.sq_change.specs.Statement.{Deletes, Inserts, IsGiven, Updates};
+ghost use Rattle.sq_change.specs.Made.{Fails, Shown, numbers_changed, rows_inserted, seen_by};
+ghost use Rattle.sq_change.specs.Statement.{Deletes, FailsAs, Inserts, IsGiven, IsPlain, IsShown, Updates, update_made};
 
 use crate::complete::{Changed, complete};
 use crate::given::new_rows;
@@ -19,13 +21,12 @@ use sq_bound::{BoundInsert, BoundUpdate, ChangeTarget, Names};
 use sq_expression::{Failure, Fault};
 use sq_query::Inputs;
 use sq_store::{Change, Meter, Store};
-use std::alloc::Global;
+use std::alloc::{AllocError, Global};
 
 /// Performs an insert statement (ISO/IEC 9075:1992, 13.8). All new rows are made before any is tested. Faults come in this
 /// order: those of the query; 02000 where it has no row; those of values and of storing them, row by row; S1L00 where there are
 /// too few row numbers; check options; NOT NULL and CHECK, row by row; keys; references. A well-formed statement never ends with
 /// 42000.
-#[tactic(auto, using(crate::proofs::Made::inserts))]
 pub fn insert<N: Names, S: Store>(
     alloc: Global,
     names: &N,
@@ -42,7 +43,10 @@ pub fn insert<N: Names, S: Store>(
     requires columns { AllByRecursion (IsColumnOf insert.now.leaf.table) insert.now.columns }
     requires given { MayGive (N.base_tables names.now) (N.view_queries names.now) (N.column_kinds names.now)
         (S.content_now store.old) inputs.user inputs.parameters.now insert.now.columns insert.now.source }
-    ensures ok { OnOk result (Inserts insert.now.base (S.content_now store.old) (S.content_now store.new)) }
+    ensures ok { let seen = seen_by (N.view_queries names.now) (S.content_now store.old) inputs.entry.user inputs.entry.parameters.now in
+        OnOk result (Inserts seen (S.row_numbers store.old) insert.now (S.content_now store.new)) }
+    ensures fails { let seen = seen_by (N.view_queries names.now) (S.content_now store.old) inputs.entry.user inputs.entry.parameters.now in
+        (shown : Shown) → IsShown seen shown → FailsAs (rows_inserted shown seen (S.row_numbers store.old) insert.now) result }
     ensures err { OnErr result (S.content_now store.new ≡ S.content_now store.old) }
     ensures tables { holds (N.base_tables names.now) (S.content_now store.new) ≡ true }
     ensures in_domains { AreInDomains (N.base_tables names.now) (S.content_now store.new) }
@@ -69,6 +73,9 @@ fn inserted<N: Names, S: Store>(
     requires columns { AllByRecursion (IsColumnOf insert.now.leaf.table) insert.now.columns }
     requires given { MayGive (N.base_tables setting.now.names.now) (N.view_queries setting.now.names.now) (N.column_kinds setting.now.names.now)
         (S.content_now setting.now.store.now) setting.now.user setting.now.parameters.now insert.now.columns insert.now.source }
+    ensures made { let seen = seen_by (N.view_queries setting.now.names.now) (S.content_now setting.now.store.now) setting.now.user
+        setting.now.parameters.now in (shown : Shown) → IsShown seen shown → MeetsAs (λ changed. rows_put changed.changes.items) result
+        (rows_inserted shown seen (S.row_numbers setting.now.store.now) insert.now) }
     ensures insertions { IfOk result (λ changed. are_insertions changed.changes.items ≡ true) }
     ensures some { IfOk result (λ changed. 0 < vec_len changed.changes) }
     ensures wide { IfOk result (λ changed. are_wide (length insert.now.leaf.table.columns) (rows_put changed.changes.items) ≡ true) }
@@ -115,7 +122,10 @@ pub fn update<N: Names, S: Store>(
     requires columns { are_columns (length (under update.now.target).table.columns) update.now.assignments ≡ true }
     requires domains { AllByRecursion (λ a. IsColumnOf (under update.now.target).table a.column) update.now.assignments }
     requires assigned { MayAssign (N.column_kinds names.now) inputs.parameters.now (under update.now.target).table update.now.assignments }
-    ensures ok { OnOk result (Updates update.now.target on (S.content_now store.old) (S.content_now store.new)) }
+    ensures ok { let seen = seen_by (N.view_queries names.now) (S.content_now store.old) inputs.entry.user inputs.entry.parameters.now in
+        OnOk result (Updates seen update.now on (S.content_now store.new)) }
+    ensures fails { let seen = seen_by (N.view_queries names.now) (S.content_now store.old) inputs.entry.user inputs.entry.parameters.now in
+        IsPlain update.now.target → (shown : Shown) → IsShown seen shown → FailsAs (update_made shown seen update.now on) result }
     ensures err { OnErr result (S.content_now store.new ≡ S.content_now store.old) }
     ensures tables { holds (N.base_tables names.now) (S.content_now store.new) ≡ true }
     ensures in_domains { AreInDomains (N.base_tables names.now) (S.content_now store.new) }
@@ -150,7 +160,11 @@ fn updated<N: Names, S: Store>(
     requires domains { AllByRecursion (λ a. IsColumnOf (under update.now.target).table a.column) update.now.assignments }
     requires assigned { MayAssign (N.column_kinds setting.now.names.now) setting.now.parameters.now (under update.now.target).table
         update.now.assignments }
-    ensures replacements { IfOk result (λ changed. Replacements update.now.target on changed.changes.items) }
+    ensures replacements { let seen = seen_by (N.view_queries setting.now.names.now) (S.content_now setting.now.store.now) setting.now.user
+        setting.now.parameters.now in IfOk result (λ changed. Replacements seen update.now on changed.changes.items) }
+    ensures meant { let seen = seen_by (N.view_queries setting.now.names.now) (S.content_now setting.now.store.now) setting.now.user
+        setting.now.parameters.now in IsPlain update.now.target → (shown : Shown) → IsShown seen shown
+        → MeetsAs changed_in result (update_made shown seen update.now on) }
     ensures wide { IfOk result (λ changed. are_wide (length (under update.now.target).table.columns)
         (rows_put changed.changes.items) ≡ true) }
     ensures in_domains { IfOk result (λ changed. AreRowsPut (under update.now.target).table.columns changed.changes.items) }
@@ -167,16 +181,17 @@ fn updated<N: Names, S: Store>(
 /// Changes, and the keys whose values rows may lose by them.
 fn changed(
     changes: Result<Vec<Change>, Fault>,
-    lost_keys: Result<Vec<usize>, Fault>,
+    lost_keys: Result<Vec<usize>, AllocError>,
 ) -> Result<Changed, Fault>
     ensures changes { IfOk result (λ changed. changes ≡ Ok changed.changes) }
-    ensures right { IfErr changes MayEnd → IfErr lost_keys MayEnd → IfErr result MayEnd }
+    ensures fails { IfErr result (λ f. (f ≡ Fault.NoMemory) ⊎ (changes ≡ Err f)) }
+    ensures right { IfErr changes MayEnd → IfErr result MayEnd }
 {
     match (changes, lost_keys) {
         (Ok(changes), Ok(lost_keys)) => Ok(Changed { changes, lost_keys }),
-        (Ok(changes), Err(fault)) => {
+        (Ok(changes), Err(AllocError)) => {
             drop(changes);
-            Err(fault)
+            Err(Fault::NoMemory)
         }
         (Err(fault), lost_keys) => {
             drop(lost_keys);
@@ -205,7 +220,10 @@ pub fn delete<N: Names, S: Store>(
     requires in_domains { AreInDomains (N.base_tables names.now) (S.content_now store.old) }
     requires keys { S.key_columns store.old ≡ keys_of_bases (N.base_tables names.now) }
     requires base { IsBase (N.base_tables names.now) (under target.now).table }
-    ensures ok { OnOk result (Deletes target.now on (S.content_now store.old) (S.content_now store.new)) }
+    ensures ok { let seen = seen_by (N.view_queries names.now) (S.content_now store.old) inputs.entry.user inputs.entry.parameters.now in
+        OnOk result (Deletes seen target.now on (S.content_now store.new)) }
+    ensures fails { let seen = seen_by (N.view_queries names.now) (S.content_now store.old) inputs.entry.user inputs.entry.parameters.now in
+        IsPlain target.now → (shown : Shown) → IsShown seen shown → FailsAs (numbers_changed shown seen target.now on) result }
     ensures err { OnErr result (S.content_now store.new ≡ S.content_now store.old) }
     ensures tables { holds (N.base_tables names.now) (S.content_now store.new) ≡ true }
     ensures in_domains { AreInDomains (N.base_tables names.now) (S.content_now store.new) }
@@ -231,7 +249,11 @@ fn deleted<N: Names, S: Store>(
     requires given { IsGiven target.now on }
     requires may { MayChoose (N.base_tables setting.now.names.now) (N.view_queries setting.now.names.now) (N.column_kinds setting.now.names.now)
         (S.content_now setting.now.store.now) setting.now.user setting.now.parameters.now target.now }
-    ensures removals { IfOk result (λ changed. Removals target.now on changed.changes.items) }
+    ensures removals { let seen = seen_by (N.view_queries setting.now.names.now) (S.content_now setting.now.store.now) setting.now.user
+        setting.now.parameters.now in IfOk result (λ changed. Removals seen target.now on changed.changes.items) }
+    ensures meant { let seen = seen_by (N.view_queries setting.now.names.now) (S.content_now setting.now.store.now) setting.now.user
+        setting.now.parameters.now in IsPlain target.now → (shown : Shown) → IsShown seen shown
+        → IfErr result (λ f. Fails f (numbers_changed shown seen target.now on)) }
     ensures right { IfErr result MayEnd }
 {
     let numbers = numbers_changed(setting, target, on, meter)?;

@@ -10,6 +10,7 @@ ghost use Rattle.sq_query.specs.Row.{line_of};
 ghost use Rattle.sq_value.specs.Domain.{FitsKind, IsDomain, IsInDomain, is_of_numbers};
 ghost use Rattle.sq_value.specs.Memory.{takes_memory};
 ghost use Rattle.sq_change.specs.Given.{IsStorable};
+ghost use Rattle.sq_change.specs.Made.{Shown, seen_by, value_stored};
 
 use crate::setting::Setting;
 use sq_bound::{BoundExpr, Names, ObjectColumn};
@@ -26,6 +27,9 @@ pub(crate) fn stored_value<N: Names, S: Store>(
     row: Option<&Row>,
 ) -> Result<Value, Fault>
     requires { IsStorable column.domain expr.now (line_of (option_copied row)) setting.now.parameters.now setting.now.user }
+    ensures meant { (shown : Shown) → Meets result (value_stored shown (seen_by (N.view_queries setting.now.names.now)
+        (S.content_now setting.now.store.now) setting.now.user setting.now.parameters.now) (line_of (option_copied row.entry))
+        column.domain expr.now) }
     ensures in_domain { IfOk result (IsInDomain column.domain) }
     ensures right { IfErr result MayEnd }
 {

@@ -1,16 +1,18 @@
 //! The rows that UPDATE and DELETE change (ISO/IEC 9075:1992, 13.6, 13.7, 13.9 and 13.10).
 
-ghost use Rattle.std.specs.Prelude.{◌≡◌, ◌<◌, ◌∷◌, [], length, map, true, IfErr, IfOk, IfSome, IsSome, OnOk, Some};
+ghost use Rattle.std.specs.Prelude.{◌≡◌, ◌<◌, ◌∷◌, [], length, map, true, IfErr, IfOk, IfSome, IsSome, Some};
 ghost use Rattle.std.specs.List.{AllByRecursion};
 ghost use Rattle.sq_store.specs.Change.{rows_put};
 ghost use Rattle.sq_store.specs.Content.{row_at, table_at};
 ghost use Rattle.sq_bound.specs.Fits.{AreInDomains, IsBase, IsColumnOf, IsRowIn, are_columns, holds, under};
 ghost use Rattle.sq_bound.specs.declared.names.BaseTable.{BaseTable as AnyTable};
 ghost use Rattle.sq_query.specs.MayRead.{MayEnd};
-ghost use Rattle.sq_query.specs.Target.{AreNumbersOf};
-ghost use Rattle.sq_change.specs.Changed.{AreReplacements, AreRowsPut, are_wide};
-ghost use Rattle.sq_change.specs.Given.{AreAssignable, IsStorable, MayAssign, MayChoose};
-ghost use Rattle.sq_change.specs.Statement.{Chosen, IsGiven};
+ghost use Rattle.sq_query.specs.Target.{AreNumbersOf, numbers_in};
+ghost use Rattle.sq_expression.specs.Fault.{Meets, MeetsAs};
+ghost use Rattle.sq_change.specs.Changed.{AreReplacements, AreRowsPut, are_wide, rows_replaced_in};
+ghost use Rattle.sq_change.specs.Given.{AreAssignable, MayAssign, MayChoose};
+ghost use Rattle.sq_change.specs.Made.{Shown, numbers_changed, row_updated, rows_updated, seen_by};
+ghost use Rattle.sq_change.specs.Statement.{Chosen, IsGiven, IsPlain, IsShown};
 
 use crate::setting::Setting;
 use crate::storing::stored_value;
@@ -20,7 +22,7 @@ use sq_items::Items;
 use sq_query::numbers_of;
 use sq_store::{Change, Meter, Store};
 use sq_value::{Row, Value, copy_row};
-use std::alloc::Global;
+use std::alloc::{AllocError, Global};
 
 /// What is under the table that a statement changes.
 pub(crate) fn leaf_under(target: &ChangeTarget) -> &Leaf
@@ -43,7 +45,11 @@ pub(crate) fn numbers_changed<N: Names, S: Store>(
     requires given { IsGiven target.now on }
     requires may { MayChoose (N.base_tables setting.now.names.now) (N.view_queries setting.now.names.now) (N.column_kinds setting.now.names.now)
         (S.content_now setting.now.store.now) setting.now.user setting.now.parameters.now target.now }
-    ensures chosen { IfOk result (λ numbers. Chosen target.now on numbers.items) }
+    ensures chosen { let seen = seen_by (N.view_queries setting.now.names.now) (S.content_now setting.now.store.now) setting.now.user
+        setting.now.parameters.now in IfOk result (λ numbers. Chosen seen target.now on numbers.items) }
+    ensures meant { let seen = seen_by (N.view_queries setting.now.names.now) (S.content_now setting.now.store.now) setting.now.user
+        setting.now.parameters.now in IsPlain target.now → (shown : Shown) → IsShown seen shown
+        → MeetsAs numbers_in result (numbers_changed shown seen target.now on) }
     ensures there { IfSome on (λ n. IsSome (row_at (table_at (S.content_now setting.now.store.now) (under target.now).table.place) n))
         → IfOk result (λ numbers. AreNumbersOf (table_at (S.content_now setting.now.store.now) (under target.now).table.place) numbers.items) }
     ensures right { IfErr result MayEnd }
@@ -73,6 +79,7 @@ pub(crate) fn numbers_changed<N: Names, S: Store>(
 /// The number of the row that a cursor is on.
 fn only(alloc: Global, number: u64) -> Result<Vec<u64>, Fault>
     ensures only { IfOk result (λ numbers. numbers.items ≡ number ∷ []) }
+    ensures memory { IfErr result (λ f. f ≡ Fault.NoMemory) }
     ensures right { IfErr result MayEnd }
 {
     let mut numbers = Vec::new(alloc);
@@ -95,6 +102,9 @@ pub(crate) fn replaced<N: Names, S: Store>(
     requires domains { AllByRecursion (λ a. IsColumnOf table.now a.column) assignments.now }
     requires assigned { MayAssign (N.column_kinds setting.now.names.now) setting.now.parameters.now table.now assignments.now }
     ensures replacements { IfOk result (λ changes. AreReplacements numbers.now changes.items) }
+    ensures meant { let seen = seen_by (N.view_queries setting.now.names.now) (S.content_now setting.now.store.now) setting.now.user
+        setting.now.parameters.now in (shown : Shown)
+        → MeetsAs rows_replaced_in result (rows_updated shown seen assignments.now table.now.place numbers.now) }
     ensures wide { IfOk result (λ changes. are_wide (length table.now.columns) (rows_put changes.items) ≡ true) }
     ensures in_domains { IfOk result (λ changes. AreRowsPut table.now.columns changes.items) }
     ensures right { IfErr result MayEnd }
@@ -132,6 +142,9 @@ fn updated_row<N: Names, S: Store>(
 ) -> Result<Row, Fault>
     requires columns { are_columns (length row.now) assignments.now ≡ true }
     requires assignable { AreAssignable assignments.now row.now setting.now.parameters.now setting.now.user }
+    ensures meant { let seen = seen_by (N.view_queries setting.now.names.now) (S.content_now setting.now.store.now) setting.now.user
+        setting.now.parameters.now in (shown : Shown)
+        → Meets result (row_updated shown seen assignments.now row.now) }
     ensures wide { IfOk result (λ updated. length updated ≡ length row.now) }
     ensures in_domains { IfOk result (λ updated. (t : AnyTable) → AllByRecursion (λ a. IsColumnOf t a.column) assignments.now → IsRowIn t.columns row.now
         → IsRowIn t.columns updated) }
@@ -139,35 +152,17 @@ fn updated_row<N: Names, S: Store>(
 {
     let mut updated = copy_row(setting.alloc, row.as_slice())?.into_vec();
     for assignment in assignments {
-        assign(setting, assignment, row, updated.as_mut_slice())?;
+        let column = assignment.column;
+        let value = stored_value(setting, column, &assignment.value, Some(row))?;
+        updated[column.position] = value;
     }
     Ok(Items::from_vec(updated))
-}
-
-/// Performs a set clause on a copy of the row.
-fn assign<N: Names, S: Store>(
-    setting: &Setting<'_, N, S>,
-    assignment: &BoundAssignment,
-    row: &Row,
-    updated: &mut [Value],
-) -> Result<(), Fault>
-    requires position { assignment.now.column.position < length updated.old }
-    requires storable { IsStorable assignment.now.column.domain assignment.now.value (row.now ∷ []) setting.now.parameters.now
-        setting.now.user }
-    ensures in_domains { OnOk result ((t : AnyTable) → IsColumnOf t assignment.now.column → IsRowIn t.columns updated.old → IsRowIn
-        t.columns updated.new) }
-    ensures right { IfErr result MayEnd }
-{
-    let column = assignment.column;
-    let value = stored_value(setting, column, &assignment.value, Some(row))?;
-    updated[column.position] = value;
-    Ok(())
 }
 
 /// The removal of the rows under these numbers.
 pub(crate) fn removed(alloc: Global, numbers: &[u64]) -> Result<Vec<Change>, Fault>
     ensures removals { IfOk result (λ changes. changes.items ≡ map Change.Remove numbers.now) }
-    ensures right { IfErr result MayEnd }
+    ensures memory { IfErr result (λ f. f ≡ Fault.NoMemory) }
 {
     Ok(
         numbers
@@ -182,9 +177,7 @@ pub(crate) fn keys_assigned(
     alloc: Global,
     table: &BaseTable,
     assignments: &[BoundAssignment],
-) -> Result<Vec<usize>, Fault>
-    ensures { IfErr result MayEnd }
-{
+) -> Result<Vec<usize>, AllocError> {
     let mut keys = Vec::new(alloc);
     for (key, columns) in table.keys.as_slice().iter().enumerate() {
         if is_assigned(columns.as_slice(), assignments) {
@@ -202,12 +195,6 @@ fn is_assigned(columns: &[usize], assignments: &[BoundAssignment]) -> bool {
 }
 
 /// All keys of a table.
-pub(crate) fn all_keys(alloc: Global, table: &BaseTable) -> Result<Vec<usize>, Fault>
-    ensures { IfErr result MayEnd }
-{
-    let mut keys = Vec::new(alloc);
-    for key in 0..table.keys.len() {
-        keys.push(key)?;
-    }
-    Ok(keys)
+pub(crate) fn all_keys(alloc: Global, table: &BaseTable) -> Result<Vec<usize>, AllocError> {
+    (0..table.keys.len()).collect(alloc)
 }

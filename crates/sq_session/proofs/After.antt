@@ -1,5 +1,5 @@
 -- After each call the session is whole.
-use Rattle.std.proofs.Common.{◌≡◌, ◌∙◌, ℕ, Bool, true, false, nat_eq, List, slice_set, None, Result, Ok, Err, IfSome, OnErr, refl, ap, sym, subst, arith}
+use Rattle.std.proofs.Common.{◌≡◌, ◌∙◌, ℕ, Bool, true, false, nat_eq, List, slice_set, Result, Ok, Err, IfSome, OnErr, refl, ap, sym, subst, arith}
 use Rattle.std.proofs.lemmas.Grind.{common_steps}
 use Rattle.sq_lex.specs.declared.name.Name.{Name}
 use Rattle.sq_value.specs.declared.value.Value.{Value}
@@ -14,16 +14,15 @@ use Rattle.sq_bound.specs.declared.statement.ChangeTarget.{ChangeTarget}
 use Rattle.sq_bound.specs.declared.statement.ChangeTarget.TheVariants as target
 use Rattle.sq_meaning.specs.Status.{Outcome}
 use Rattle.sq_bound.specs.declared.statement.PositionedTarget.{PositionedTarget}
-use Rattle.sq_change.specs.Statement.{Deletes, Inserts, Updates}
 use Rattle.sq_module.specs.declared.program.DeclaredCursor.{DeclaredCursor}
 use Rattle.sq_expression.specs.declared.fault.Fault.{Fault}
 use Rattle.sq_session.specs.Cursors.{IsWhole, OpenHaveKept, are_over, is_over, is_over_numbers, is_over_table}
 use Rattle.sq_session.specs.Fetch.{come_to_number, come_to_row, come_to_walk, over_numbers, over_rows, over_walk}
-use Rattle.sq_session.specs.Kind.{Fetching, Over, Updating, delete_kind, fetching, kind_of, opening, over_at, update_kind, updating}
+use Rattle.sq_session.specs.Kind.{Caller, Fetching, Over, Updating, caller_of, delete_kind, fetching, kind_of, opening, over_at, update_kind, updating}
 use Rattle.sq_session.specs.Open.{IsOpenOver, before_numbers, before_rows, numbers_opened, rows_opened, walk_before}
 use Rattle.sq_session.specs.Schemas.{Schemas}
 use Rattle.sq_session.specs.State.{State, committed_state, cursor_at, is_open, off_row, rolled_back, with_cursor}
-use Rattle.sq_session.specs.Step.{ChangesIf, ChangesTo, Comes, DeletesIf, MayCloseIf, MayDeleteAt, MayFetchFrom, MayOpenIf, MayStep, MayUpdateAt, OpensAs, UpdatesIf, ending, is_on_row, is_success, on_row, walks_listed}
+use Rattle.sq_session.specs.Step.{ChangesIf, ChangesTo, Comes, DeletesIf, MayCloseIf, MayDeleteAt, MayFetchFrom, MayOpenIf, MayStep, MayUpdateAt, OpensAs, UpdatesIf, ending, is_on_row, is_success, walks_listed}
 use Rattle.sq_session.specs.declared.cursor.CursorState.{CursorState}
 use Rattle.sq_session.specs.declared.cursor.CursorState.TheVariants as cursor
 use Rattle.sq_session.specs.declared.cursor.NumbersCursor.{NumbersCursor}
@@ -134,29 +133,29 @@ changes_if bases ds true Changes b a has h = changes_to bases ds Changes b a has
 changes_if bases ds false Changes b a has h = same bases ds b a has h
 
 updates_if : (bases : List BaseTable) (ds : List DeclaredCursor) (s : Bool) (u : Updating) (Changes : Content → Content → Type 0) (b a : State) → Others bases ds b → UpdatesIf s u Changes b a → Others bases ds a
-updates_if bases ds true u Changes b a has h = changes_to bases ds Changes (walks_listed u b) a (has.0, has.1, go_on_over u b.tables u.cursors ds b.cursors has.2, has.3) h
+updates_if bases ds true u Changes b a has h = changes_to bases ds Changes (walks_listed u b) a (has.0, has.1, go_on_over u.statement b.tables u.cursors ds b.cursors has.2, has.3) h
 updates_if bases ds false u Changes b a has h = same bases ds b a has h
 
-deletes_if : (bases : List BaseTable) (ds : List DeclaredCursor) (s : Bool) (p : PositionedTarget) (b a : State) → Others bases ds b → DeletesIf s p b a → Others bases ds a
-deletes_if bases ds true p b a has h =
-    changes_to bases ds (Deletes (target.Positioned p) (on_row b p)) (with_cursor b p.cursor (off_row (cursor_at b p.cursor))) a (has.0, has.1, put_off ds b.cursors p.cursor has.2, has.3) h
-deletes_if bases ds false p b a has h = same bases ds b a has h
+deletes_if : (bases : List BaseTable) (ds : List DeclaredCursor) (s : Bool) (p : PositionedTarget) (Changes : Content → Content → Type 0) (b a : State) → Others bases ds b → DeletesIf s p Changes b a → Others bases ds a
+deletes_if bases ds true p Changes b a has h =
+    changes_to bases ds Changes (with_cursor b p.cursor (off_row (cursor_at b p.cursor))) a (has.0, has.1, put_off ds b.cursors p.cursor has.2, has.3) h
+deletes_if bases ds false p Changes b a has h = same bases ds b a has h
 
-update_at : (bases : List BaseTable) (ds : List DeclaredCursor) (r : Bool) (u : Updating) (p : PositionedTarget) (b : State) (d : Done) (a : State) → Others bases ds b → MayUpdateAt r u p b d a → Others bases ds a
-update_at bases ds true u p b d a has h = updates_if bases ds (is_success d.status) u (Updates (target.Positioned p) (on_row b p)) b a has h.1
-update_at bases ds false u p b d a has h = same bases ds b a has h.1
+update_at : (bases : List BaseTable) (ds : List DeclaredCursor) (r : Bool) (sc : Schemas) (u : Updating) (p : PositionedTarget) (vs : List Value) (b : State) (d : Done) (a : State) → Others bases ds b → MayUpdateAt r sc u p vs b d a → Others bases ds a
+update_at bases ds true sc u p vs b d a has h = updates_if bases ds (is_success d.status) u _ b a has h.1
+update_at bases ds false sc u p vs b d a has h = same bases ds b a has h.1
 
-delete_at : (bases : List BaseTable) (ds : List DeclaredCursor) (r : Bool) (p : PositionedTarget) (b : State) (d : Done) (a : State) → Others bases ds b → MayDeleteAt r p b d a → Others bases ds a
-delete_at bases ds true p b d a has h = deletes_if bases ds (is_success d.status) p b a has h.1
-delete_at bases ds false p b d a has h = same bases ds b a has h.1
+delete_at : (bases : List BaseTable) (ds : List DeclaredCursor) (r : Bool) (sc : Schemas) (caller : Caller) (p : PositionedTarget) (vs : List Value) (b : State) (d : Done) (a : State) → Others bases ds b → MayDeleteAt r sc caller p vs b d a → Others bases ds a
+delete_at bases ds true sc caller p vs b d a has h = deletes_if bases ds (is_success d.status) p _ b a has h.1
+delete_at bases ds false sc caller p vs b d a has h = same bases ds b a has h.1
 
 of_update : (sc : Schemas) (bases : List BaseTable) (ds : List DeclaredCursor) (u : Updating) (t : ChangeTarget) (vs : List Value) (b : State) (d : Done) (a : State) → Others bases ds b → MayStep sc (update_kind u t) vs b d a → Others bases ds a
-of_update sc bases ds u (target.Searched t) vs b d a has h = updates_if bases ds (is_success d.status) u (Updates (target.Searched t) None) b a has h.1
-of_update sc bases ds u (target.Positioned p) vs b d a has h = update_at bases ds (is_on_row b p) u p b d a has h
+of_update sc bases ds u (target.Searched t) vs b d a has h = updates_if bases ds (is_success d.status) u _ b a has h.1
+of_update sc bases ds u (target.Positioned p) vs b d a has h = update_at bases ds (is_on_row b p) sc u p vs b d a has h
 
-of_delete : (sc : Schemas) (bases : List BaseTable) (ds : List DeclaredCursor) (t : ChangeTarget) (vs : List Value) (b : State) (d : Done) (a : State) → Others bases ds b → MayStep sc (delete_kind t) vs b d a → Others bases ds a
-of_delete sc bases ds (target.Searched t) vs b d a has h = changes_if bases ds (is_success d.status) (Deletes (target.Searched t) None) b a has h.1
-of_delete sc bases ds (target.Positioned p) vs b d a has h = delete_at bases ds (is_on_row b p) p b d a has h
+of_delete : (sc : Schemas) (bases : List BaseTable) (ds : List DeclaredCursor) (caller : Caller) (t : ChangeTarget) (vs : List Value) (b : State) (d : Done) (a : State) → Others bases ds b → MayStep sc (delete_kind caller t) vs b d a → Others bases ds a
+of_delete sc bases ds caller (target.Searched t) vs b d a has h = changes_if bases ds (is_success d.status) _ b a has h.1
+of_delete sc bases ds caller (target.Positioned p) vs b d a has h = delete_at bases ds (is_on_row b p) sc caller p vs b d a has h
 
 -- ---- a statement
 
@@ -166,9 +165,9 @@ after_statement sc columns bases ds user ps (statement.Open n) vs b d a has h = 
 after_statement sc columns bases ds user ps (statement.Fetch f) vs b d a has h = fetch_from bases ds (cursor_at b f.cursor) (fetching ds user ps f) vs b d a refl (has.1, has.2, has.3, has.5) h
 after_statement sc columns bases ds user ps (statement.Close n) vs b d a has h = close_if bases ds (is_open (cursor_at b n)) n b d a (has.1, has.2, has.3, has.5) h
 after_statement sc columns bases ds user ps (statement.Select s) vs b d a has h = same bases ds b a (has.1, has.2, has.3, has.5) h.0
-after_statement sc columns bases ds user ps (statement.Insert i) vs b d a has h = changes_if bases ds (is_success d.status) (Inserts i.base) b a (has.1, has.2, has.3, has.5) h.1
-after_statement sc columns bases ds user ps (statement.Update u) vs b d a has h = of_update sc bases ds (updating ds u) u.target vs b d a (has.1, has.2, has.3, has.5) h
-after_statement sc columns bases ds user ps (statement.Delete t) vs b d a has h = of_delete sc bases ds t vs b d a (has.1, has.2, has.3, has.5) h
+after_statement sc columns bases ds user ps (statement.Insert i) vs b d a has h = changes_if bases ds (is_success d.status) _ b a (has.1, has.2, has.3, has.5) h.1
+after_statement sc columns bases ds user ps (statement.Update u) vs b d a has h = of_update sc bases ds (updating ds (caller_of user ps) u) u.target vs b d a (has.1, has.2, has.3, has.5) h
+after_statement sc columns bases ds user ps (statement.Delete t) vs b d a has h = of_delete sc bases ds (caller_of user ps) t vs b d a (has.1, has.2, has.3, has.5) h
 after_statement sc columns bases ds user ps statement.Commit vs b d a has h = same bases ds (committed_state b) a (has.0, has.2, closed_over ds b.cursors has.3, has.4) h.1
 after_statement sc columns bases ds user ps statement.Rollback vs b d a has h = same bases ds (rolled_back b) a (has.1, has.2, closed_over ds b.cursors has.3, has.5) h.1
 

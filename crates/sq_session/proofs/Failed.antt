@@ -2,16 +2,14 @@
 use Rattle.std.proofs.Common.{◌≡◌, ℕ, Bool, true, false, List, Option, Some, None, Ok, Err, ap, subst}
 use Rattle.sq_value.specs.declared.value.Value.{Value}
 use Rattle.sq_store.specs.Content.{Content}
-use Rattle.sq_bound.specs.declared.statement.ChangeTarget.TheVariants as target
 use Rattle.sq_bound.specs.declared.statement.PositionedTarget.{PositionedTarget}
-use Rattle.sq_change.specs.Statement.{Deletes, Inserts, Updates}
 use Rattle.sq_meaning.specs.Status.{Outcome}
 use Rattle.sq_session.specs.Fetch.{come_to_number, come_to_row, come_to_walk, over_numbers, over_rows, over_walk}
-use Rattle.sq_session.specs.Kind.{Fetching, Kind, Opening, Updating, read_parameters}
+use Rattle.sq_session.specs.Kind.{Caller, Fetching, Kind, Opening, Updating, read_parameters}
 use Rattle.sq_session.specs.Parameter.{started_values}
 use Rattle.sq_session.specs.Schemas.{Schemas}
 use Rattle.sq_session.specs.State.{State, committed_state, cursor_at, is_open, rolled_back}
-use Rattle.sq_session.specs.Step.{ChangesIf, Comes, DeletesIf, Ends, MayCall, MayCloseIf, MayDeleteAt, MayFetchFrom, MayOpenIf, MayStep, MayUpdateAt, OpensAs, UpdatesIf, is_on_row, is_success, on_row}
+use Rattle.sq_session.specs.Step.{ChangesIf, Comes, DeletesIf, Ends, MayCall, MayCloseIf, MayDeleteAt, MayFetchFrom, MayOpenIf, MayStep, MayUpdateAt, OpensAs, UpdatesIf, is_on_row, is_success}
 use Rattle.sq_session.specs.declared.cursor.CursorState.{CursorState}
 use Rattle.sq_session.specs.declared.cursor.CursorState.TheVariants as cursor
 use Rattle.sq_session.specs.declared.reply.Done.{Done}
@@ -56,17 +54,17 @@ updates_if : (s : Bool) (u : Updating) (Changes : Content → Content → Type 0
 updates_if true u Changes b a h e = cc
 updates_if false u Changes b a h e = same b a h
 
-deletes_if : (s : Bool) (p : PositionedTarget) (b a : State) → DeletesIf s p b a → s ≡ false → Kept b a
-deletes_if true p b a h e = cc
-deletes_if false p b a h e = same b a h
+deletes_if : (s : Bool) (p : PositionedTarget) (Changes : Content → Content → Type 0) (b a : State) → DeletesIf s p Changes b a → s ≡ false → Kept b a
+deletes_if true p Changes b a h e = cc
+deletes_if false p Changes b a h e = same b a h
 
-update_at : (r : Bool) (u : Updating) (p : PositionedTarget) (b : State) (d : Done) (a : State) → MayUpdateAt r u p b d a → is_success d.status ≡ false → Kept b a
-update_at true u p b d a h e = updates_if (is_success d.status) u (Updates (target.Positioned p) (on_row b p)) b a h.1 e
-update_at false u p b d a h e = same b a h.1
+update_at : (r : Bool) (sc : Schemas) (u : Updating) (p : PositionedTarget) (vs : List Value) (b : State) (d : Done) (a : State) → MayUpdateAt r sc u p vs b d a → is_success d.status ≡ false → Kept b a
+update_at true sc u p vs b d a h e = updates_if (is_success d.status) u _ b a h.1 e
+update_at false sc u p vs b d a h e = same b a h.1
 
-delete_at : (r : Bool) (p : PositionedTarget) (b : State) (d : Done) (a : State) → MayDeleteAt r p b d a → is_success d.status ≡ false → Kept b a
-delete_at true p b d a h e = deletes_if (is_success d.status) p b a h.1 e
-delete_at false p b d a h e = same b a h.1
+delete_at : (r : Bool) (sc : Schemas) (caller : Caller) (p : PositionedTarget) (vs : List Value) (b : State) (d : Done) (a : State) → MayDeleteAt r sc caller p vs b d a → is_success d.status ≡ false → Kept b a
+delete_at true sc caller p vs b d a h e = deletes_if (is_success d.status) p _ b a h.1 e
+delete_at false sc caller p vs b d a h e = same b a h.1
 
 -- ---- a statement, and a call
 
@@ -78,11 +76,11 @@ step sc (Kind.opens o) vs b d a h e = open_if (is_open (cursor_at b o.cursor)) s
 step sc (Kind.fetches f) vs b d a h e = fetch_from (cursor_at b f.cursor) f vs b d a h
 step sc (Kind.closes n) vs b d a h e = close_if (is_open (cursor_at b n)) n b d a h
 step sc (Kind.selects s) vs b d a h e = same b a h.0
-step sc (Kind.inserts base) vs b d a h e = changes_if (is_success d.status) (Inserts base) b a h.1 e
-step sc (Kind.updates u t) vs b d a h e = updates_if (is_success d.status) u (Updates (target.Searched t) None) b a h.1 e
-step sc (Kind.deletes t) vs b d a h e = changes_if (is_success d.status) (Deletes (target.Searched t) None) b a h.1 e
-step sc (Kind.updates_at u p) vs b d a h e = update_at (is_on_row b p) u p b d a h e
-step sc (Kind.deletes_at p) vs b d a h e = delete_at (is_on_row b p) p b d a h e
+step sc (Kind.inserts caller i) vs b d a h e = changes_if (is_success d.status) _ b a h.1 e
+step sc (Kind.updates u) vs b d a h e = updates_if (is_success d.status) u _ b a h.1 e
+step sc (Kind.deletes caller t) vs b d a h e = changes_if (is_success d.status) _ b a h.1 e
+step sc (Kind.updates_at u p) vs b d a h e = update_at (is_on_row b p) sc u p vs b d a h e
+step sc (Kind.deletes_at caller p) vs b d a h e = delete_at (is_on_row b p) sc caller p vs b d a h e
 step sc Kind.commits vs b d a h e = ends (committed_state b) b d a h e
 step sc Kind.rolls_back vs b d a h e = ends (rolled_back b) b d a h e
 

@@ -29,18 +29,18 @@ may_fetch_from (cursor.Numbers c) now f values r b a h same put = come r now _ f
 may_fetch_from (cursor.Walking c) now f values r b a h same put = come r now _ f.cursor b a h same put
 
 -- where the cursors are those before with one put in its place
-pub may_fetch : (f : Fetching) (values : List Value) (tables committed : Content) (keys : List Keys) (cs : List CursorState) (old now : CursorState) (r : Result Done Fault)
+pub may_fetch : (f : Fetching) (values : List Value) (tables committed : Content) (keys : List Keys) (row_numbers : ℕ) (cs : List CursorState) (old now : CursorState) (r : Result Done Fault)
     → f.cursor < length cs → old ≡ get_or cs f.cursor old → HasFetched f values tables old r now → OnErr r (now ≡ old)
-    → IfSome (ending r) (λ d. MayFetch f values (record { tables = tables; committed = committed; keys = keys; cursors = cs }) d
-    (record { tables = tables; committed = committed; keys = keys; cursors = slice_set cs f.cursor now }))
-may_fetch f values tables committed keys cs old now r lt at h same =
-    let b : State = record { tables = tables; committed = committed; keys = keys; cursors = cs } in
-    let a : State = record { tables = tables; committed = committed; keys = keys; cursors = slice_set cs f.cursor now } in
+    → IfSome (ending r) (λ d. MayFetch f values (record { tables = tables; committed = committed; keys = keys; row_numbers = row_numbers; cursors = cs }) d
+    (record { tables = tables; committed = committed; keys = keys; row_numbers = row_numbers; cursors = slice_set cs f.cursor now }))
+may_fetch f values tables committed keys row_numbers cs old now r lt at h same =
+    let b : State = record { tables = tables; committed = committed; keys = keys; row_numbers = row_numbers; cursors = cs } in
+    let a : State = record { tables = tables; committed = committed; keys = keys; row_numbers = row_numbers; cursors = slice_set cs f.cursor now } in
     let there : old ≡ cursor_at b f.cursor = at ∙ get_or_default cs f.cursor old cursor.Closed lt in
     let P : CursorState → Type 0 = λ c. IfSome (ending r) (λ d. MayFetchFrom c f values b d a) in
     subst P there (may_fetch_from old now f values r b a h (kept r same) refl)
   where
     kept : (x : Result Done Fault) → OnErr x (now ≡ old)
-        → OnErr x (◌≡◌ {A = State} (record { tables = tables; committed = committed; keys = keys; cursors = slice_set cs f.cursor now }) (record { tables = tables; committed = committed; keys = keys; cursors = cs }))
+        → OnErr x (◌≡◌ {A = State} (record { tables = tables; committed = committed; keys = keys; row_numbers = row_numbers; cursors = slice_set cs f.cursor now }) (record { tables = tables; committed = committed; keys = keys; row_numbers = row_numbers; cursors = cs }))
     kept (Ok d) e = tt
-    kept (Err x) e = ap (λ l. record { tables = tables; committed = committed; keys = keys; cursors = l }) (ap (λ c. slice_set cs f.cursor c) (e ∙ at) ∙ set-get_or cs f.cursor old)
+    kept (Err x) e = ap (λ l. record { tables = tables; committed = committed; keys = keys; row_numbers = row_numbers; cursors = l }) (ap (λ c. slice_set cs f.cursor c) (e ∙ at) ∙ set-get_or cs f.cursor old)

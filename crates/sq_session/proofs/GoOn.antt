@@ -5,8 +5,8 @@ use Rattle.std.proofs.lemmas.List.{length-set, take_all}
 use Rattle.std.proofs.lemmas.List.Sums.{fold-append}
 use Rattle.sq_store.specs.Content.{Content}
 use Rattle.sq_module.specs.declared.program.DeclaredCursor.{DeclaredCursor}
+use Rattle.sq_bound.specs.declared.statement.BoundUpdate.{BoundUpdate}
 use Rattle.sq_session.specs.Cursors.{AreThere, go_on, goes_on, listed, put, put_all, reads}
-use Rattle.sq_session.specs.Kind.{Updating}
 use Rattle.sq_session.specs.declared.cursor.CursorState.{CursorState}
 use Rattle.sq_session.specs.declared.cursor.CursorState.TheVariants as cursor
 use Rattle.sq_session.specs.declared.cursor.NumbersCursor.{NumbersCursor}
@@ -16,10 +16,10 @@ use Rattle.sq_session.specs.declared.walk.WalkingCursor.{WalkingCursor}
 -- ---- one cursor
 
 -- where it reads what changes
-pub goes_on_listed : (u : Updating) (tables : Content) (d : DeclaredCursor) (w : WalkingCursor) → reads u d w ≡ true → goes_on u tables d (cursor.Walking w) ≡ cursor.Numbers (listed d tables w)
+pub goes_on_listed : (u : BoundUpdate) (tables : Content) (d : DeclaredCursor) (w : WalkingCursor) → reads u d w ≡ true → goes_on u tables d (cursor.Walking w) ≡ cursor.Numbers (listed d tables w)
 goes_on_listed u tables d w h = rw h refl
 
-pub goes_on_walking : (u : Updating) (tables : Content) (d : DeclaredCursor) (w : WalkingCursor) → reads u d w ≡ false → goes_on u tables d (cursor.Walking w) ≡ cursor.Walking w
+pub goes_on_walking : (u : BoundUpdate) (tables : Content) (d : DeclaredCursor) (w : WalkingCursor) → reads u d w ≡ false → goes_on u tables d (cursor.Walking w) ≡ cursor.Walking w
 goes_on_walking u tables d w h = rw h refl
 
 -- the list that is made where it does, and there alone
@@ -32,7 +32,7 @@ none_listed true y h = cc
 none_listed false y h = refl
 
 -- one that does not walk stays as it is
-pub goes_on_same : (u : Updating) (tables : Content) (d : DeclaredCursor) (c : CursorState) → ((w : WalkingCursor) → c ≡ cursor.Walking w → ⊥) → goes_on u tables d c ≡ c
+pub goes_on_same : (u : BoundUpdate) (tables : Content) (d : DeclaredCursor) (c : CursorState) → ((w : WalkingCursor) → c ≡ cursor.Walking w → ⊥) → goes_on u tables d c ≡ c
 goes_on_same u tables d cursor.Closed h = refl
 goes_on_same u tables d (cursor.Rows c) h = refl
 goes_on_same u tables d (cursor.Numbers c) h = refl
@@ -40,7 +40,7 @@ goes_on_same u tables d (cursor.Walking c) h = absurd (h c refl)
 
 -- ---- the first cursors
 
-module _ (u : Updating) (tables : Content) where
+module _ (u : BoundUpdate) (tables : Content) where
   put_suc : (ds : List DeclaredCursor) (cs : List CursorState) (n : ℕ) (d : DeclaredCursor) (c x : CursorState) → n < length ds → goes_on u tables (get_or ds n d) (get_or cs n c) ≡ x
       → slice_set (go_on u tables (take n ds) cs) n x ≡ go_on u tables (take (suc n) ds) cs
   put_suc [] cs n d c x lt h = absurd (omega (arith, lt))

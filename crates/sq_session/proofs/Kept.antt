@@ -1,5 +1,5 @@
 -- Open cursors keep the rows that they have listed, and the values with which they were opened.
-use Rattle.std.proofs.Common.{◌≡◌, ◌≤◌, ℕ, zero, suc, Bool, true, false, if◌then◌else◌, arith, List, [], ◌∷◌, length, get_or, None, replicate, slice_index_or, slice_set, Ok, Err, refl, ap, sym, subst}
+use Rattle.std.proofs.Common.{◌≡◌, ◌≤◌, ℕ, zero, suc, Bool, true, false, if◌then◌else◌, arith, List, [], ◌∷◌, length, get_or, replicate, slice_index_or, slice_set, Ok, Err, refl, ap, sym, subst}
 use Rattle.sq_lex.specs.declared.name.Name.{Name}
 use Rattle.sq_value.specs.declared.value.Value.{Value}
 use Rattle.sq_store.specs.Content.{Content, table_at}
@@ -15,14 +15,14 @@ use Rattle.sq_bound.specs.declared.statement.BoundStatement.TheVariants as state
 use Rattle.sq_bound.specs.declared.statement.ChangeTarget.{ChangeTarget}
 use Rattle.sq_bound.specs.declared.statement.ChangeTarget.TheVariants as target
 use Rattle.sq_bound.specs.declared.statement.PositionedTarget.{PositionedTarget}
-use Rattle.sq_change.specs.Statement.{Deletes, Inserts, Updates}
 use Rattle.sq_module.specs.declared.program.DeclaredCursor.{DeclaredCursor}
+use Rattle.sq_bound.specs.declared.statement.BoundUpdate.{BoundUpdate}
 use Rattle.sq_session.specs.Cursors.{HasKept, HaveKept, MayKeep, OpenHaveKept, go_on, goes_on, listed, reads}
 use Rattle.sq_session.specs.Fetch.{come_to_number, come_to_row, come_to_walk, over_numbers, over_rows, over_walk, place_reached, row_come_to, row_fetched}
-use Rattle.sq_session.specs.Kind.{Fetching, Updating, delete_kind, fetching, kind_of, update_kind, updating}
+use Rattle.sq_session.specs.Kind.{Caller, Fetching, Updating, caller_of, delete_kind, fetching, kind_of, update_kind, updating}
 use Rattle.sq_session.specs.Schemas.{Schemas}
 use Rattle.sq_session.specs.State.{State, all_closed, committed_state, cursor_at, is_open, next_number, off_row, rolled_back, with_cursor}
-use Rattle.sq_session.specs.Step.{ChangesIf, ChangesTo, Comes, DeletesIf, MayCloseIf, MayDeleteAt, MayFetchFrom, MayStep, MayUpdateAt, UpdatesIf, is_on_row, is_success, on_row, walks_listed}
+use Rattle.sq_session.specs.Step.{ChangesIf, ChangesTo, Comes, DeletesIf, MayCloseIf, MayDeleteAt, MayFetchFrom, MayStep, MayUpdateAt, UpdatesIf, is_on_row, is_success, walks_listed}
 use Rattle.sq_session.specs.declared.cursor.CursorState.{CursorState}
 use Rattle.sq_session.specs.declared.cursor.CursorState.TheVariants as cursor
 use Rattle.sq_session.specs.declared.cursor.NumbersCursor.{NumbersCursor}
@@ -71,13 +71,13 @@ module _ (columns : TableKinds) where
   listed_kept tables k d w true h = omega arith
   listed_kept tables k d w false h = h
 
-  goes_on_kept : (u : Updating) (tables : Content) (k : BoundCursor) (d : DeclaredCursor) (c : CursorState) → HasKept columns k c → HasKept columns k (goes_on u tables d c)
+  goes_on_kept : (u : BoundUpdate) (tables : Content) (k : BoundCursor) (d : DeclaredCursor) (c : CursorState) → HasKept columns k c → HasKept columns k (goes_on u tables d c)
   goes_on_kept u tables k d cursor.Closed h = h
   goes_on_kept u tables k d (cursor.Rows c) h = h
   goes_on_kept u tables k d (cursor.Numbers c) h = h
   goes_on_kept u tables k d (cursor.Walking c) h = listed_kept tables k d c (reads u d c) h
 
-  go_on_kept : (u : Updating) (tables : Content) (es ds : List DeclaredCursor) (cs : List CursorState) → HaveKept columns ds cs → HaveKept columns ds (go_on u tables es cs)
+  go_on_kept : (u : BoundUpdate) (tables : Content) (es ds : List DeclaredCursor) (cs : List CursorState) → HaveKept columns ds cs → HaveKept columns ds (go_on u tables es cs)
   go_on_kept u tables [] ds cs h = h
   go_on_kept u tables (e ∷ es) ds [] h = h
   go_on_kept u tables (e ∷ es) [] (c ∷ cs) h = absurd h
@@ -161,30 +161,30 @@ module _ (columns : TableKinds) where
   changes_if ds false Changes b a has h = same ds b a has h
 
   updates_if : (ds : List DeclaredCursor) (s : Bool) (u : Updating) (Changes : Content → Content → Type 0) (b a : State) → HaveKept columns ds b.cursors → UpdatesIf s u Changes b a → HaveKept columns ds a.cursors
-  updates_if ds true u Changes b a has h = changes_to ds Changes (walks_listed u b) a (go_on_kept u b.tables u.cursors ds b.cursors has) h
+  updates_if ds true u Changes b a has h = changes_to ds Changes (walks_listed u b) a (go_on_kept u.statement b.tables u.cursors ds b.cursors has) h
   updates_if ds false u Changes b a has h = same ds b a has h
 
-  deletes_if : (ds : List DeclaredCursor) (s : Bool) (p : PositionedTarget) (b a : State) → HaveKept columns ds b.cursors → DeletesIf s p b a → HaveKept columns ds a.cursors
-  deletes_if ds true p b a has h =
-      changes_to ds (Deletes (target.Positioned p) (on_row b p)) (with_cursor b p.cursor (off_row (cursor_at b p.cursor))) a
+  deletes_if : (ds : List DeclaredCursor) (s : Bool) (p : PositionedTarget) (Changes : Content → Content → Type 0) (b a : State) → HaveKept columns ds b.cursors → DeletesIf s p Changes b a → HaveKept columns ds a.cursors
+  deletes_if ds true p Changes b a has h =
+      changes_to ds Changes (with_cursor b p.cursor (off_row (cursor_at b p.cursor))) a
       (put_like ds b.cursors p.cursor (cursor_at b p.cursor) (off_row (cursor_at b p.cursor)) has refl (λ k is. off_kept k (cursor_at b p.cursor) is)) h
-  deletes_if ds false p b a has h = same ds b a has h
+  deletes_if ds false p Changes b a has h = same ds b a has h
 
-  update_at : (ds : List DeclaredCursor) (r : Bool) (u : Updating) (p : PositionedTarget) (b : State) (d : Done) (a : State) → HaveKept columns ds b.cursors → MayUpdateAt r u p b d a → HaveKept columns ds a.cursors
-  update_at ds true u p b d a has h = updates_if ds (is_success d.status) u (Updates (target.Positioned p) (on_row b p)) b a has h.1
-  update_at ds false u p b d a has h = same ds b a has h.1
+  update_at : (ds : List DeclaredCursor) (r : Bool) (sc : Schemas) (u : Updating) (p : PositionedTarget) (vs : List Value) (b : State) (d : Done) (a : State) → HaveKept columns ds b.cursors → MayUpdateAt r sc u p vs b d a → HaveKept columns ds a.cursors
+  update_at ds true sc u p vs b d a has h = updates_if ds (is_success d.status) u _ b a has h.1
+  update_at ds false sc u p vs b d a has h = same ds b a has h.1
 
-  delete_at : (ds : List DeclaredCursor) (r : Bool) (p : PositionedTarget) (b : State) (d : Done) (a : State) → HaveKept columns ds b.cursors → MayDeleteAt r p b d a → HaveKept columns ds a.cursors
-  delete_at ds true p b d a has h = deletes_if ds (is_success d.status) p b a has h.1
-  delete_at ds false p b d a has h = same ds b a has h.1
+  delete_at : (ds : List DeclaredCursor) (r : Bool) (sc : Schemas) (caller : Caller) (p : PositionedTarget) (vs : List Value) (b : State) (d : Done) (a : State) → HaveKept columns ds b.cursors → MayDeleteAt r sc caller p vs b d a → HaveKept columns ds a.cursors
+  delete_at ds true sc caller p vs b d a has h = deletes_if ds (is_success d.status) p _ b a has h.1
+  delete_at ds false sc caller p vs b d a has h = same ds b a has h.1
 
   of_update : (sc : Schemas) (ds : List DeclaredCursor) (u : Updating) (t : ChangeTarget) (vs : List Value) (b : State) (d : Done) (a : State) → HaveKept columns ds b.cursors → MayStep sc (update_kind u t) vs b d a → HaveKept columns ds a.cursors
-  of_update sc ds u (target.Searched t) vs b d a has h = updates_if ds (is_success d.status) u (Updates (target.Searched t) None) b a has h.1
-  of_update sc ds u (target.Positioned p) vs b d a has h = update_at ds (is_on_row b p) u p b d a has h
+  of_update sc ds u (target.Searched t) vs b d a has h = updates_if ds (is_success d.status) u _ b a has h.1
+  of_update sc ds u (target.Positioned p) vs b d a has h = update_at ds (is_on_row b p) sc u p vs b d a has h
 
-  of_delete : (sc : Schemas) (ds : List DeclaredCursor) (t : ChangeTarget) (vs : List Value) (b : State) (d : Done) (a : State) → HaveKept columns ds b.cursors → MayStep sc (delete_kind t) vs b d a → HaveKept columns ds a.cursors
-  of_delete sc ds (target.Searched t) vs b d a has h = changes_if ds (is_success d.status) (Deletes (target.Searched t) None) b a has h.1
-  of_delete sc ds (target.Positioned p) vs b d a has h = delete_at ds (is_on_row b p) p b d a has h
+  of_delete : (sc : Schemas) (ds : List DeclaredCursor) (caller : Caller) (t : ChangeTarget) (vs : List Value) (b : State) (d : Done) (a : State) → HaveKept columns ds b.cursors → MayStep sc (delete_kind caller t) vs b d a → HaveKept columns ds a.cursors
+  of_delete sc ds caller (target.Searched t) vs b d a has h = changes_if ds (is_success d.status) _ b a has h.1
+  of_delete sc ds caller (target.Positioned p) vs b d a has h = delete_at ds (is_on_row b p) sc caller p vs b d a has h
 
   -- ---- a statement
 
@@ -206,8 +206,8 @@ module _ (columns : TableKinds) where
   kept_after sc ds user ps (statement.Fetch f) vs b d a has opened h = fetch_from ds (cursor_at b f.cursor) (fetching ds user ps f) vs b d a refl has h
   kept_after sc ds user ps (statement.Close n) vs b d a has opened h = close_if ds (is_open (cursor_at b n)) n b d a has h
   kept_after sc ds user ps (statement.Select s) vs b d a has opened h = same ds b a has h.0
-  kept_after sc ds user ps (statement.Insert i) vs b d a has opened h = changes_if ds (is_success d.status) (Inserts i.base) b a has h.1
-  kept_after sc ds user ps (statement.Update u) vs b d a has opened h = of_update sc ds (updating ds u) u.target vs b d a has h
-  kept_after sc ds user ps (statement.Delete t) vs b d a has opened h = of_delete sc ds t vs b d a has h
+  kept_after sc ds user ps (statement.Insert i) vs b d a has opened h = changes_if ds (is_success d.status) _ b a has h.1
+  kept_after sc ds user ps (statement.Update u) vs b d a has opened h = of_update sc ds (updating ds (caller_of user ps) u) u.target vs b d a has h
+  kept_after sc ds user ps (statement.Delete t) vs b d a has opened h = of_delete sc ds (caller_of user ps) t vs b d a has h
   kept_after sc ds user ps statement.Commit vs b d a has opened h = same ds (committed_state b) a (closed_kept ds b.cursors has) h.1
   kept_after sc ds user ps statement.Rollback vs b d a has opened h = same ds (rolled_back b) a (closed_kept ds b.cursors has) h.1

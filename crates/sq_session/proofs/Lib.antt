@@ -2,6 +2,7 @@ pub mod After
 pub mod Asking
 pub mod Assigned
 pub mod Closed
+pub mod Changing
 pub mod Coming
 pub mod Failed
 pub mod Fetched

@@ -8,8 +8,9 @@ use Rattle.sq_bound.specs.declared.query.CursorBody.{CursorBody}
 use Rattle.sq_bound.specs.declared.query.CursorBody.TheVariants as body
 use Rattle.sq_module.specs.Program.{CursorsFit}
 use Rattle.sq_module.specs.declared.program.DeclaredCursor.{DeclaredCursor}
+use Rattle.sq_bound.specs.declared.statement.BoundUpdate.{BoundUpdate}
 use Rattle.sq_session.specs.Cursors.{are_over, go_on, goes_on, is_over, is_over_numbers, is_over_table, is_updatable, listed, reads}
-use Rattle.sq_session.specs.Kind.{Over, Updating, columns_at, columns_of, over_at, over_of}
+use Rattle.sq_session.specs.Kind.{Over, columns_at, columns_of, over_at, over_of}
 use Rattle.sq_session.specs.State.{all_closed, off_row}
 use Rattle.sq_session.specs.declared.cursor.CursorState.{CursorState}
 use Rattle.sq_session.specs.declared.cursor.CursorState.TheVariants as cursor
@@ -140,13 +141,13 @@ listed_over : (o : Over) (tables : Content) (d : DeclaredCursor) (w : WalkingCur
 listed_over o tables d w true h = as_numbers o w.table h
 listed_over o tables d w false h = h
 
-goes_on_over : (u : Updating) (tables : Content) (o : Over) (d : DeclaredCursor) (c : CursorState) → is_over o c ≡ true → is_over o (goes_on u tables d c) ≡ true
+goes_on_over : (u : BoundUpdate) (tables : Content) (o : Over) (d : DeclaredCursor) (c : CursorState) → is_over o c ≡ true → is_over o (goes_on u tables d c) ≡ true
 goes_on_over u tables o d cursor.Closed h = h
 goes_on_over u tables o d (cursor.Rows c) h = h
 goes_on_over u tables o d (cursor.Numbers c) h = h
 goes_on_over u tables o d (cursor.Walking c) h = listed_over o tables d c (reads u d c) h
 
-pub go_on_over : (u : Updating) (tables : Content) (es ds : List DeclaredCursor) (cs : List CursorState) → are_over ds cs ≡ true → are_over ds (go_on u tables es cs) ≡ true
+pub go_on_over : (u : BoundUpdate) (tables : Content) (es ds : List DeclaredCursor) (cs : List CursorState) → are_over ds cs ≡ true → are_over ds (go_on u tables es cs) ≡ true
 go_on_over u tables [] ds cs h = h
 go_on_over u tables (e ∷ es) ds [] h = h
 go_on_over u tables (e ∷ es) [] (c ∷ cs) h = some_over c cs h

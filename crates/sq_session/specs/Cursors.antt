@@ -11,9 +11,11 @@ use Rattle.sq_bound.specs.WellFormed.{IsCursor, TableKinds, kinds_of_results}
 use Rattle.sq_bound.specs.declared.names.BaseTable.{BaseTable}
 use Rattle.sq_bound.specs.declared.query.BoundCursor.{BoundCursor}
 use Rattle.sq_bound.specs.declared.statement.BoundStatement.{BoundStatement}
+use Rattle.sq_bound.specs.declared.statement.BoundUpdate.{BoundUpdate}
 use Rattle.sq_bound.specs.declared.statement.BoundStatement.TheVariants as statement
 use Rattle.sq_module.specs.declared.program.DeclaredCursor.{DeclaredCursor}
-use Rattle.sq_session.specs.Kind.{Over, Updating, conditions_in, over_of}
+use Rattle.sq_change.specs.Statement.{base_of}
+use Rattle.sq_session.specs.Kind.{Over, conditions_in, over_of}
 use Rattle.sq_session.specs.Reads.{one_reads}
 use Rattle.sq_session.specs.State.{State}
 use Rattle.sq_session.specs.Walk.{numbers_meant}
@@ -116,18 +118,18 @@ abbrev pub listed : DeclaredCursor → Content → WalkingCursor → NumbersCurs
 listed d tables c = record { table = c.table; numbers = numbers_left d tables c; passed = 0; on = c.on }
 
 -- whether one that walks goes over the base table that changes, and its conditions read what changes
-abbrev pub reads : Updating → DeclaredCursor → WalkingCursor → Bool
-reads u d c = nat_eq c.table u.base && one_reads u.assignments (conditions_in d.cursor.body)
+abbrev pub reads : BoundUpdate → DeclaredCursor → WalkingCursor → Bool
+reads u d c = nat_eq c.table (base_of u.target) && one_reads u.assignments (conditions_in d.cursor.body)
 
 -- then it goes on over the numbers; any other cursor stays as it is
-abbrev pub goes_on : Updating → Content → DeclaredCursor → CursorState → CursorState
+abbrev pub goes_on : BoundUpdate → Content → DeclaredCursor → CursorState → CursorState
 goes_on u tables d cursor.Closed = cursor.Closed
 goes_on u tables d (cursor.Rows c) = cursor.Rows c
 goes_on u tables d (cursor.Numbers c) = cursor.Numbers c
 goes_on u tables d (cursor.Walking c) = if reads u d c then cursor.Numbers (listed d tables c) else cursor.Walking c
 
 -- each of the cursors that these are
-abbrev pub go_on : Updating → Content → List DeclaredCursor → List CursorState → List CursorState
+abbrev pub go_on : BoundUpdate → Content → List DeclaredCursor → List CursorState → List CursorState
 go_on u tables [] cs = cs
 go_on u tables (d ∷ ds) [] = []
 go_on u tables (d ∷ ds) (c ∷ cs) = goes_on u tables d c ∷ go_on u tables ds cs

@@ -15,8 +15,8 @@ use Rattle.sq_bound.specs.declared.query.CursorBody.{CursorBody}
 use Rattle.sq_bound.specs.declared.query.CursorBody.TheVariants as body
 use Rattle.sq_bound.specs.declared.query.Target.{Target}
 use Rattle.sq_bound.specs.declared.query.UpdatableQuery.{UpdatableQuery}
-use Rattle.sq_bound.specs.declared.statement.BoundAssignment.{BoundAssignment}
 use Rattle.sq_bound.specs.declared.statement.BoundFetch.{BoundFetch}
+use Rattle.sq_bound.specs.declared.statement.BoundInsert.{BoundInsert}
 use Rattle.sq_bound.specs.declared.statement.BoundSelect.{BoundSelect}
 use Rattle.sq_bound.specs.declared.statement.BoundStatement.{BoundStatement}
 use Rattle.sq_bound.specs.declared.statement.BoundStatement.TheVariants as statement
@@ -26,7 +26,6 @@ use Rattle.sq_bound.specs.declared.statement.ChangeTarget.TheVariants as target
 use Rattle.sq_bound.specs.declared.statement.FetchOrientation.{FetchOrientation}
 use Rattle.sq_bound.specs.declared.statement.Output.{Output}
 use Rattle.sq_bound.specs.declared.statement.PositionedTarget.{PositionedTarget}
-use Rattle.sq_change.specs.Statement.{base_of}
 use Rattle.sq_module.specs.declared.program.DeclaredCursor.{DeclaredCursor}
 use Rattle.sq_query.specs.Target.{conditions_of}
 
@@ -76,6 +75,10 @@ over_at cursors number = option_map_or (λ c. over_of c.cursor.body) (slice_get 
 
 -- ---- statements with parameters; the user is that of the procedure's module
 
+pub record Caller : Type 0 where
+  pub user : Name
+  pub parameters : List ParameterDesc
+
 -- OPEN (13.2)
 pub record Opening : Type 0 where
   pub cursor : ℕ
@@ -124,39 +127,41 @@ pub record Selecting : Type 0 where
 abbrev pub selecting : Name → List ParameterDesc → BoundSelect → Selecting
 selecting user parameters s = record { query = s.query; user = user; parameters = parameters; targets = s.outputs }
 
--- UPDATE (13.9, 13.10): the base table that it changes, the columns that get values, and the cursors that modules declare, whose
--- conditions may read them
+-- UPDATE (13.9, 13.10); the conditions of the cursors that modules declare may read the columns that get values
 pub record Updating : Type 0 where
-  pub base : ℕ
-  pub assignments : List BoundAssignment
+  pub caller : Caller
+  pub statement : BoundUpdate
   pub cursors : List DeclaredCursor
 
-abbrev pub updating : List DeclaredCursor → BoundUpdate → Updating
-updating cursors u = record { base = base_of u.target; assignments = u.assignments; cursors = cursors }
+abbrev pub updating : List DeclaredCursor → Caller → BoundUpdate → Updating
+updating cursors caller u = record { caller = caller; statement = u; cursors = cursors }
 
 -- ---- statements
 
--- CLOSE names a cursor by its number, and INSERT a base table by its place
+-- CLOSE names a cursor by its number
 pub data Kind : Type 0 where
   opens : Opening → Kind
   fetches : Fetching → Kind
   closes : ℕ → Kind
   selects : Selecting → Kind
-  inserts : ℕ → Kind
-  updates : Updating → Target → Kind
-  deletes : Target → Kind
+  inserts : Caller → BoundInsert → Kind
+  updates : Updating → Kind
+  deletes : Caller → Target → Kind
   updates_at : Updating → PositionedTarget → Kind
-  deletes_at : PositionedTarget → Kind
+  deletes_at : Caller → PositionedTarget → Kind
   commits : Kind
   rolls_back : Kind
 
 abbrev pub update_kind : Updating → ChangeTarget → Kind
-update_kind u (target.Searched t) = Kind.updates u t
+update_kind u (target.Searched t) = Kind.updates u
 update_kind u (target.Positioned p) = Kind.updates_at u p
 
-abbrev pub delete_kind : ChangeTarget → Kind
-delete_kind (target.Searched t) = Kind.deletes t
-delete_kind (target.Positioned p) = Kind.deletes_at p
+abbrev pub delete_kind : Caller → ChangeTarget → Kind
+delete_kind caller (target.Searched t) = Kind.deletes caller t
+delete_kind caller (target.Positioned p) = Kind.deletes_at caller p
+
+abbrev pub caller_of : Name → List ParameterDesc → Caller
+caller_of user parameters = record { user = user; parameters = parameters }
 
 -- a statement of a user's procedure with these parameters, where modules declare these cursors
 abbrev pub kind_of : List DeclaredCursor → Name → List ParameterDesc → BoundStatement → Kind
@@ -164,9 +169,9 @@ kind_of cursors user parameters (statement.Open number) = Kind.opens (opening cu
 kind_of cursors user parameters (statement.Fetch f) = Kind.fetches (fetching cursors user parameters f)
 kind_of cursors user parameters (statement.Close number) = Kind.closes number
 kind_of cursors user parameters (statement.Select s) = Kind.selects (selecting user parameters s)
-kind_of cursors user parameters (statement.Insert i) = Kind.inserts i.base
-kind_of cursors user parameters (statement.Update u) = update_kind (updating cursors u) u.target
-kind_of cursors user parameters (statement.Delete t) = delete_kind t
+kind_of cursors user parameters (statement.Insert i) = Kind.inserts (caller_of user parameters) i
+kind_of cursors user parameters (statement.Update u) = update_kind (updating cursors (caller_of user parameters) u) u.target
+kind_of cursors user parameters (statement.Delete t) = delete_kind (caller_of user parameters) t
 kind_of cursors user parameters statement.Commit = Kind.commits
 kind_of cursors user parameters statement.Rollback = Kind.rolls_back
 
@@ -175,6 +180,11 @@ abbrev pub read_parameters : Kind → List ParameterDesc
 read_parameters (Kind.opens o) = o.parameters
 read_parameters (Kind.fetches f) = f.parameters
 read_parameters (Kind.selects s) = s.parameters
+read_parameters (Kind.inserts caller i) = caller.parameters
+read_parameters (Kind.updates u) = u.caller.parameters
+read_parameters (Kind.deletes caller t) = caller.parameters
+read_parameters (Kind.updates_at u p) = u.caller.parameters
+read_parameters (Kind.deletes_at caller p) = caller.parameters
 read_parameters _ = []
 
 -- ---- what takes memory: every statement but CLOSE, COMMIT and ROLLBACK

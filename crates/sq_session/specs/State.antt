@@ -8,11 +8,13 @@ use Rattle.sq_session.specs.declared.cursor.CursorState.{CursorState}
 use Rattle.sq_session.specs.declared.cursor.CursorState.TheVariants as cursor
 use Rattle.sq_session.specs.declared.cursor.NumbersCursor.{NumbersCursor}
 
--- the tables now, the tables at the last COMMIT, the columns of each key of each table, and a cursor for each that a module declares
+-- the tables now, the tables at the last COMMIT, the columns of each key of each table, the greatest number of a row, and a cursor for
+-- each that a module declares
 pub record State : Type 0 where
   pub tables : Content
   pub committed : Content
   pub keys : List Keys
+  pub row_numbers : ℕ
   pub cursors : List CursorState
 
 -- ---- cursors

@@ -1,13 +1,14 @@
 -- What one call may do to the tables and the cursors, and what it answers (ISO/IEC 9075:1992, 13.2 to 13.10, 14.3 and 14.4).
 -- FETCH, CLOSE, COMMIT, ROLLBACK, SELECT INTO, OPEN of a cursor that names no row by a key, and every statement on a cursor that
--- is not in the state that it needs are said whole; of INSERT, UPDATE and DELETE, which base table changes and how, but not which
--- values are stored or which rows a search condition keeps. No statement that has no fault ends with 42000.
-use Rattle.std.specs.Prelude.{◌≡◌, ℕ, Bool, true, false, List, [], is_some, option_and_then, Option, Some, None, Result, Ok, Err}
+-- is not in the state that it needs are said whole; so is what INSERT, UPDATE and DELETE make of the tables, and how they end where they
+-- can't, but not when check options and constraints refuse it. No statement that has no fault ends with 42000.
+use Rattle.std.specs.Prelude.{◌≡◌, ⊤, ℕ, Bool, true, false, List, [], is_some, option_and_then, Option, Some, None, Result, Ok, Err}
 use Rattle.sq_lex.specs.declared.name.Name.{Name}
 use Rattle.sq_value.specs.declared.value.Value.{Value}
 use Rattle.sq_store.specs.Content.{Content, row_at, table_at}
 use Rattle.sq_bound.specs.Condition.{select_of}
 use Rattle.sq_bound.specs.declared.condition.TablePlace.{TablePlace}
+use Rattle.sq_bound.specs.declared.statement.BoundInsert.{BoundInsert}
 use Rattle.sq_bound.specs.declared.statement.ChangeTarget.{ChangeTarget}
 use Rattle.sq_bound.specs.declared.statement.ChangeTarget.TheVariants as target
 use Rattle.sq_bound.specs.declared.statement.PositionedTarget.{PositionedTarget}
@@ -18,7 +19,8 @@ use Rattle.sq_meaning.specs.Status.{Outcome, and_then}
 use Rattle.sq_meaning.specs.WellFormed.{IsNoSyntaxError}
 use Rattle.sq_meaning.specs.declared.status.Status.{Status}
 use Rattle.sq_meaning.specs.declared.status.Status.TheVariants as status
-use Rattle.sq_change.specs.Statement.{Deletes, Inserts, Updates}
+use Rattle.sq_change.specs.Made.{Seen, Shown, numbers_changed, rows_inserted}
+use Rattle.sq_change.specs.Statement.{Deletes, Inserts, IsPlain, IsShown, Updates, update_made}
 use Rattle.sq_expression.specs.Fault.{status_of}
 use Rattle.sq_expression.specs.Frame.{inputs_of}
 use Rattle.sq_query.specs.Table.{AreMeant}
@@ -27,7 +29,7 @@ use Rattle.sq_expression.specs.declared.fault.Fault.TheVariants as fault
 use Rattle.sq_model.specs.Machine.{single_row}
 use Rattle.sq_session.specs.Cursors.{go_on}
 use Rattle.sq_session.specs.Fetch.{come_to_number, come_to_row, come_to_walk, over_numbers, over_rows, over_walk}
-use Rattle.sq_session.specs.Kind.{Fetching, Kind, Opening, Selecting, Updating, read_parameters}
+use Rattle.sq_session.specs.Kind.{Caller, Fetching, Kind, Opening, Selecting, Updating, read_parameters}
 use Rattle.sq_session.specs.Open.{IsMeantIfAny, IsOpenOver}
 use Rattle.sq_session.specs.Parameter.{started_values}
 use Rattle.sq_session.specs.Schemas.{Schemas}
@@ -127,19 +129,54 @@ abbrev pub ChangesIf : Bool → (Content → Content → Type 0) → State → S
 ChangesIf true Changes before after = ChangesTo Changes before after
 ChangesIf false Changes before after = after ≡ before
 
-abbrev pub MayChange : (Content → Content → Type 0) → State → Done → State → Type 0
-MayChange Changes before d after = (d.outputs ≡ []) × ChangesIf (is_success d.status) Changes before after
+-- where rows can't be made, the statement ends with the status that says why
+abbrev pub FailsBy : {A : Type 0} → Outcome A → Status → Type 0
+FailsBy (Ok x) st = ⊤
+FailsBy (Err wanted) st = st ≡ wanted
+
+abbrev pub MayChange : (Content → Content → Type 0) → (Status → Type 0) → State → Done → State → Type 0
+MayChange Changes Fails before d after = (d.outputs ≡ []) × ChangesIf (is_success d.status) Changes before after × Fails d.status
+
+-- what the statement of a caller that hands in these values reads
+abbrev pub seen_by : Schemas → Caller → List Value → Content → Seen
+seen_by s caller values tables = record { views = s.views; tables = tables; user = caller.user; values = values }
+
+-- INSERT, where rows may have numbers up to this one
+abbrev pub InsertsBy : Schemas → Caller → List Value → ℕ → BoundInsert → Content → Content → Type 0
+InsertsBy s caller values row_numbers i tables after = Inserts (seen_by s caller values tables) row_numbers i after
+
+abbrev pub InsertFails : Schemas → Caller → List Value → ℕ → BoundInsert → Content → Status → Type 0
+InsertFails s caller values row_numbers i tables st =
+    (shown : Shown) → IsShown (seen_by s caller values tables) shown → FailsBy (rows_inserted shown (seen_by s caller values tables) row_numbers i) st
+
+-- UPDATE; the cursor of a positioned one is on the row of this number
+abbrev pub UpdatesBy : Schemas → Updating → List Value → Option ℕ → Content → Content → Type 0
+UpdatesBy s u values on tables after = Updates (seen_by s u.caller values tables) u.statement on after
+
+abbrev pub UpdateFails : Schemas → Updating → List Value → Option ℕ → Content → Status → Type 0
+UpdateFails s u values on tables st =
+    IsPlain u.statement.target → (shown : Shown) → IsShown (seen_by s u.caller values tables) shown
+    → FailsBy (update_made shown (seen_by s u.caller values tables) u.statement on) st
+
+-- DELETE, in the same way
+abbrev pub DeletesBy : Schemas → Caller → List Value → ChangeTarget → Option ℕ → Content → Content → Type 0
+DeletesBy s caller values t on tables after = Deletes (seen_by s caller values tables) t on after
+
+abbrev pub DeleteFails : Schemas → Caller → List Value → ChangeTarget → Option ℕ → Content → Status → Type 0
+DeleteFails s caller values t on tables st =
+    IsPlain t → (shown : Shown) → IsShown (seen_by s caller values tables) shown → FailsBy (numbers_changed shown (seen_by s caller values tables) t on) st
 
 -- cursors that walk and read what an UPDATE changes go on over the numbers that were left to them before it
 abbrev pub walks_listed : Updating → State → State
-walks_listed u s = record s { cursors = go_on u s.tables u.cursors s.cursors }
+walks_listed u s = record s { cursors = go_on u.statement s.tables u.cursors s.cursors }
 
 abbrev pub UpdatesIf : Bool → Updating → (Content → Content → Type 0) → State → State → Type 0
 UpdatesIf true u Changes before after = ChangesTo Changes (walks_listed u before) after
 UpdatesIf false u Changes before after = after ≡ before
 
-abbrev pub MayUpdate : Updating → (Content → Content → Type 0) → State → Done → State → Type 0
-MayUpdate u Changes before d after = (d.outputs ≡ []) × UpdatesIf (is_success d.status) u Changes before after
+abbrev pub MayUpdate : Schemas → Updating → List Value → Option ℕ → State → Done → State → Type 0
+MayUpdate s u values on before d after =
+    (d.outputs ≡ []) × UpdatesIf (is_success d.status) u (UpdatesBy s u values on) before after × UpdateFails s u values on before.tables d.status
 
 -- whether the cursor is on a row that is there
 abbrev pub is_on_row : State → PositionedTarget → Bool
@@ -159,18 +196,20 @@ abbrev pub number_meant : State → ChangeTarget → Option ℕ
 number_meant s (target.Searched t) = None
 number_meant s (target.Positioned p) = on_row s p
 
-abbrev pub MayUpdateAt : Bool → Updating → PositionedTarget → State → Done → State → Type 0
-MayUpdateAt true u p before d after = MayUpdate u (Updates (target.Positioned p) (on_row before p)) before d after
-MayUpdateAt false u p before d after = Refuses status.InvalidCursorState before d after
+abbrev pub MayUpdateAt : Bool → Schemas → Updating → PositionedTarget → List Value → State → Done → State → Type 0
+MayUpdateAt true s u p values before d after = MayUpdate s u values (on_row before p) before d after
+MayUpdateAt false s u p values before d after = Refuses status.InvalidCursorState before d after
 
 -- a positioned DELETE takes its cursor off the row
-abbrev pub DeletesIf : Bool → PositionedTarget → State → State → Type 0
-DeletesIf true p before after = ChangesTo (Deletes (target.Positioned p) (on_row before p)) (with_cursor before p.cursor (off_row (cursor_at before p.cursor))) after
-DeletesIf false p before after = after ≡ before
+abbrev pub DeletesIf : Bool → PositionedTarget → (Content → Content → Type 0) → State → State → Type 0
+DeletesIf true p Changes before after = ChangesTo Changes (with_cursor before p.cursor (off_row (cursor_at before p.cursor))) after
+DeletesIf false p Changes before after = after ≡ before
 
-abbrev pub MayDeleteAt : Bool → PositionedTarget → State → Done → State → Type 0
-MayDeleteAt true p before d after = (d.outputs ≡ []) × DeletesIf (is_success d.status) p before after
-MayDeleteAt false p before d after = Refuses status.InvalidCursorState before d after
+abbrev pub MayDeleteAt : Bool → Schemas → Caller → PositionedTarget → List Value → State → Done → State → Type 0
+MayDeleteAt true s caller p values before d after =
+    (d.outputs ≡ []) × DeletesIf (is_success d.status) p (DeletesBy s caller values (target.Positioned p) (on_row before p)) before after
+    × DeleteFails s caller values (target.Positioned p) (on_row before p) before.tables d.status
+MayDeleteAt false s caller p values before d after = Refuses status.InvalidCursorState before d after
 
 -- ---- a statement, and a call
 
@@ -183,11 +222,13 @@ MayStep s (Kind.opens o) values before d after = MayOpen s o values before d aft
 MayStep s (Kind.fetches f) values before d after = MayFetch f values before d after
 MayStep s (Kind.closes number) values before d after = MayClose number before d after
 MayStep s (Kind.selects select) values before d after = (after ≡ before) × Selects s select values before.tables d
-MayStep s (Kind.inserts base) values before d after = MayChange (Inserts base) before d after
-MayStep s (Kind.updates u t) values before d after = MayUpdate u (Updates (target.Searched t) None) before d after
-MayStep s (Kind.deletes t) values before d after = MayChange (Deletes (target.Searched t) None) before d after
-MayStep s (Kind.updates_at u p) values before d after = MayUpdateAt (is_on_row before p) u p before d after
-MayStep s (Kind.deletes_at p) values before d after = MayDeleteAt (is_on_row before p) p before d after
+MayStep s (Kind.inserts caller i) values before d after =
+    MayChange (InsertsBy s caller values before.row_numbers i) (InsertFails s caller values before.row_numbers i before.tables) before d after
+MayStep s (Kind.updates u) values before d after = MayUpdate s u values None before d after
+MayStep s (Kind.deletes caller t) values before d after =
+    MayChange (DeletesBy s caller values (target.Searched t) None) (DeleteFails s caller values (target.Searched t) None before.tables) before d after
+MayStep s (Kind.updates_at u p) values before d after = MayUpdateAt (is_on_row before p) s u p values before d after
+MayStep s (Kind.deletes_at caller p) values before d after = MayDeleteAt (is_on_row before p) s caller p values before d after
 MayStep s Kind.commits values before d after = Ends (committed_state before) d after
 MayStep s Kind.rolls_back values before d after = Ends (rolled_back before) d after
 

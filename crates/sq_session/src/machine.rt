@@ -6,7 +6,7 @@ ghost use Rattle.sq_bound.specs.Fits.{AreInDomains, FitsTarget, IsBase, IsColumn
 ghost use Rattle.sq_bound.specs.WellFormed.{IsSelect, IsStatement, TakeKinds, kinds_of_parameters, kinds_of_select};
 ghost use Rattle.sq_bound.specs.declared.statement.BoundStatement.TheVariants.{Delete, Insert, Open, Update};
 ghost use Rattle.sq_catalog.specs.Catalog.{column_kinds};
-ghost use Rattle.sq_change.specs.Statement.{Inserts, IsGiven};
+ghost use Rattle.sq_change.specs.Statement.{IsGiven};
 ghost use Rattle.sq_store.specs.Content.{row_at, table_at};
 ghost use Rattle.sq_meaning.specs.declared.status.Status.TheVariants as status;
 ghost use Rattle.sq_module.specs.Program.{CursorsAreWellFormed, CursorsFit, OpensWellFormed, kinds_of_cursors};
@@ -14,11 +14,11 @@ ghost use Rattle.sq_expression.specs.declared.fault.Failure.TheVariants as failu
 ghost use Rattle.sq_expression.specs.declared.fault.Fault.TheVariants as fault;
 ghost use Rattle.sq_session.specs.Cursors.{HaveKept, IsWhole};
 ghost use Rattle.sq_session.specs.Fetch.{IsFetch};
-ghost use Rattle.sq_session.specs.Kind.{delete_kind, fetching, opening, selecting, update_kind, updating};
+ghost use Rattle.sq_session.specs.Kind.{fetching, kind_of, opening, selecting};
 ghost use Rattle.sq_session.specs.Parameter.{AreGiven};
 ghost use Rattle.sq_session.specs.Schemas.{schemas_of};
 ghost use Rattle.sq_session.specs.State.{committed_state, rolled_back};
-ghost use Rattle.sq_session.specs.Step.{EndsRight, MayChange, MayClose, MayFetch, MayOpen, MayOpenClosed, MayStep, Selects, ending, is_on_row, is_ready, number_meant, on_row};
+ghost use Rattle.sq_session.specs.Step.{EndsRight, MayClose, MayFetch, MayOpen, MayOpenClosed, MayStep, Selects, ending, is_on_row, is_ready, number_meant, on_row};
 ghost use Rattle.sq_session.specs.Target.{ended};
 
 use crate::called::Called;
@@ -49,14 +49,14 @@ impl<S: Store> Model for Machine<S> {
 
     ghost Value = { State };
 
-    ghost view = { λ m. record { tables = S.content_now m.store; committed = S.committed m.store; keys = S.key_columns m.store; cursors = m.cursors.items } };
+    ghost view = { λ m. record { tables = S.content_now m.store; committed = S.committed m.store; keys = S.key_columns m.store; row_numbers = S.row_numbers m.store; cursors = m.cursors.items } };
 }
 
 impl<S: Store> Machine<S> {
     /// The tables of a store, and so many closed cursors.
     pub(crate) fn new(alloc: Global, store: S, cursors: usize) -> Result<Machine<S>, AllocError>
         ensures { IfOk result (λ m. m
-            ≡ record { tables = S.content_now store; committed = S.committed store; keys = S.key_columns store; cursors = replicate cursors CursorState.Closed }) }
+            ≡ record { tables = S.content_now store; committed = S.committed store; keys = S.key_columns store; row_numbers = S.row_numbers store; cursors = replicate cursors CursorState.Closed }) }
     {
         match closed_cursors(alloc, cursors) {
             Ok(cursors) => Ok(Machine { store, cursors }),
@@ -222,7 +222,9 @@ impl<S: Store> Machine<S> {
             (kinds_of_parameters called.now.procedure.now.parameters) (Insert statement.now) }
         requires given { AreGiven (kinds_of_parameters called.now.procedure.now.parameters) called.now.values.now }
         requires whole { IsWhole (column_kinds called.now.catalog.now) called.now.catalog.now.bases called.now.cursors.now self.old }
-        ensures step { IfSome (ending result) (λ d. MayChange (Inserts statement.now.base) self.old d self.new) }
+        ensures step { IfSome (ending result) (λ d. MayStep (schemas_of called.now.catalog.now)
+            (kind_of called.now.cursors.now called.now.procedure.now.user called.now.procedure.now.parameters (Insert statement.now))
+            called.now.values.now self.old d self.new) }
         ensures right { IfSome (ending result) EndsRight }
         ensures rows { holds called.now.catalog.now.bases self.new.tables ≡ true }
         ensures in_domains { AreInDomains called.now.catalog.now.bases self.new.tables }
@@ -261,7 +263,8 @@ impl<S: Store> Machine<S> {
         ensures rows { holds called.now.catalog.now.bases self.new.tables ≡ true }
         ensures in_domains { AreInDomains called.now.catalog.now.bases self.new.tables }
         ensures step { IfSome (ending result) (λ d. MayStep (schemas_of called.now.catalog.now)
-            (update_kind (updating called.now.cursors.now statement.now) statement.now.target) called.now.values.now self.old d self.new) }
+            (kind_of called.now.cursors.now called.now.procedure.now.user called.now.procedure.now.parameters (Update statement.now))
+            called.now.values.now self.old d self.new) }
         ensures right { IfSome (ending result) EndsRight }
         ensures err { OnErr result (self.new ≡ self.old) }
     {
@@ -303,7 +306,8 @@ impl<S: Store> Machine<S> {
         requires whole { IsWhole (column_kinds called.now.catalog.now) called.now.catalog.now.bases called.now.cursors.now self.old }
         ensures rows { holds called.now.catalog.now.bases self.new.tables ≡ true }
         ensures in_domains { AreInDomains called.now.catalog.now.bases self.new.tables }
-        ensures step { IfSome (ending result) (λ d. MayStep (schemas_of called.now.catalog.now) (delete_kind target.now)
+        ensures step { IfSome (ending result) (λ d. MayStep (schemas_of called.now.catalog.now)
+            (kind_of called.now.cursors.now called.now.procedure.now.user called.now.procedure.now.parameters (Delete target.now))
             called.now.values.now self.old d self.new) }
         ensures right { IfSome (ending result) EndsRight }
         ensures err { OnErr result (self.new ≡ self.old) }

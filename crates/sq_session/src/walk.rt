@@ -13,7 +13,7 @@ ghost use Rattle.sq_query.specs.Table.{numbered_row};
 ghost use Rattle.sq_query.specs.Target.{conditions_of};
 ghost use Rattle.sq_module.specs.Program.{CursorsFit};
 ghost use Rattle.sq_change.specs.Statement.{base_of};
-ghost use Rattle.sq_session.specs.Kind.{over_of, updating};
+ghost use Rattle.sq_session.specs.Kind.{over_of};
 ghost use Rattle.sq_store.specs.Content.{table_at};
 ghost use Rattle.sq_session.specs.Cursors.{AreThere, HaveKept, MayKeep, are_over, go_on, is_over, listed, put_all, reads};
 ghost use Rattle.sq_session.specs.Fetch.{row_on};
@@ -182,7 +182,7 @@ pub(crate) fn listed_walks<S: Store>(
     requires domains { AreInDomains called.now.catalog.now.bases (S.content_now store.now) }
     ensures there { IfOk result (λ lists. AreThere (length cursors.now) lists.items) }
     ensures lists { IfOk result (λ lists. put_all cursors.now lists.items
-        ≡ go_on (updating called.now.cursors.now statement.now) (S.content_now store.now) called.now.cursors.now cursors.now) }
+        ≡ go_on statement.now (S.content_now store.now) called.now.cursors.now cursors.now) }
 {
     let mut lists = Vec::new(called.alloc);
     for (number, cursor) in cursors.iter().enumerate() {
@@ -214,7 +214,7 @@ fn listed_walk<S: Store>(
     requires fit { FitsBody called.now.catalog.now.bases declared.now.cursor.body }
     requires kept { MayKeep (column_kinds called.now.catalog.now) declared.now.cursor walk.now.values }
     requires domains { AreInDomains called.now.catalog.now.bases (S.content_now store.now) }
-    ensures { IfOk result (λ list. list ≡ then_some (reads (updating called.now.cursors.now statement.now) declared.now walk.now)
+    ensures { IfOk result (λ list. list ≡ then_some (reads statement.now declared.now walk.now)
         (listed declared.now (S.content_now store.now) walk.now)) }
 {
     let query = match &declared.cursor.body {

@@ -1,7 +1,11 @@
 use Rattle.std.proofs.Common.{rules, length}
 use Rattle.std.proofs.lemmas.List.{length_push}
 use Rattle.std.proofs.lemmas.Slice.Zip.{zip_end, zip_turn}
+use Rattle.std.specs.List.{zip}
 use Rattle.sq_value.specs.Domain.{FitsKind}
+use Rattle.sq_expression.proofs.Expressions.{handed_on}
+use Rattle.sq_change.specs.Made.{row_stored, stored_in}
+use Rattle.sq_change.proofs.InTurn.{made_none, pair_failed, pair_more, pairs_all}
 use Rattle.sq_change.proofs.Domains.{stored_all, stored_push}
 use Rattle.sq_change.proofs.Storable.{zipped_at}
 use Rattle.sq_change.proofs.given.stored_row.Goals as goal
@@ -15,19 +19,44 @@ assigned-requires-clause-kind c =
     (turn.2 c.in-Some.column.now) (turn.3 c.in-Some.value.now)
 
 pub loop-column-init : goal.loop-column-init
-loop-column-init c = rw c.new-stored.ensures tt
+loop-column-init c = record {
+  fit = rw c.new-stored.ensures tt;
+  meant = made_none stored_in (zip c.args.columns.now c.args.row.now) c.new-stored.result c.new-stored.ensures;
+}
 
 pub loop-column-preserved : goal.loop-column-preserved
 loop-column-preserved c =
     let turn =
     zip_turn c.args.columns.now c.args.row.now c.loop-column.yielded c.into_iter-column-iterator.result c.loop-column.column-iterator c.next.new.self c.next.result (search rules) (search rules)
     c.loop-column.yielded_by (c.in-Some.column, c.in-Some.value) c.in-Some.is c.next.ensures.steps in
-    rw (c.in_ok-push.ensures.ok, length_push c.loop-column.yielded (c.in-Some.column, c.in-Some.value))
-    (stored_push c.args.columns.now (length c.loop-column.yielded) c.loop-column.stored c.in-Some.column.now c.in_ok-assigned.field-0 turn.0 (turn.2 c.in-Some.column.now) c.loop-column.invariant c.in_ok-assigned.ensures.in_domain)
+    record {
+      fit = rw (c.in_ok-push.ensures.ok, length_push c.loop-column.yielded (c.in-Some.column, c.in-Some.value))
+          (stored_push c.args.columns.now (length c.loop-column.yielded) c.loop-column.stored c.in-Some.column.now c.in_ok-assigned.field-0 turn.0 (turn.2 c.in-Some.column.now)
+          c.loop-column.invariant.fit c.in_ok-assigned.ensures.in_domain);
+      meant = pair_more stored_in c.args.columns.now c.args.row.now c.loop-column.stored c.loop-column.yielded (c.in-Some.column, c.in-Some.value) turn c.loop-column.invariant.meant
+          c.push.new.self c.in_ok-assigned.field-0 c.in_ok-assigned.ensures.fit c.in_ok-push.ensures.ok;
+    }
+
+pub returns-in_err-assigned-clause-meant : goal.returns-in_err-assigned-clause-meant
+returns-in_err-assigned-clause-meant c =
+    let turn =
+    zip_turn c.args.columns.now c.args.row.now c.loop-column.yielded c.into_iter-column-iterator.result c.loop-column.column-iterator c.next.new.self c.next.result (search rules) (search rules)
+    c.loop-column.yielded_by (c.in-Some.column, c.in-Some.value) c.in-Some.is c.next.ensures.steps in
+    let e = c.in_err-assigned.field-0.0 in
+    handed_on c.from_residual.result e (row_stored c.args.columns.now c.args.row.now) c.from_residual.ensures.1
+    (pair_failed stored_in c.args.columns.now c.args.row.now c.loop-column.stored c.loop-column.yielded (c.in-Some.column, c.in-Some.value) turn c.loop-column.invariant.meant
+    e c.in_err-assigned.ensures.fit)
+
+pub returns-clause-meant : goal.returns-clause-meant
+returns-clause-meant c =
+    let ended =
+    zip_end c.args.columns.now c.args.row.now c.loop-column.yielded c.into_iter-column-iterator.result c.loop-column.column-iterator c.next.new.self c.next.result (search rules) (search rules)
+    c.loop-column.yielded_by c.in-None.is c.next.ensures.steps in
+    pairs_all stored_in c.args.columns.now c.args.row.now c.loop-column.stored c.loop-column.yielded ended c.loop-column.invariant.meant
 
 pub returns-clause-stored : goal.returns-clause-stored
 returns-clause-stored c =
     let ended =
     zip_end c.args.columns.now c.args.row.now c.loop-column.yielded c.into_iter-column-iterator.result c.loop-column.column-iterator c.next.new.self c.next.result (search rules) (search rules)
     c.loop-column.yielded_by c.in-None.is c.next.ensures.steps in
-    stored_all (λ d v. FitsKind d.domain v) c.args.columns.now c.args.row.now (length c.loop-column.yielded) c.loop-column.stored c.requires ended c.loop-column.invariant
+    stored_all (λ d v. FitsKind d.domain v) c.args.columns.now c.args.row.now (length c.loop-column.yielded) c.loop-column.stored c.requires ended c.loop-column.invariant.fit

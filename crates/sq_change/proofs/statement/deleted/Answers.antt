@@ -1,5 +1,22 @@
-use Rattle.sq_change.proofs.Endings.{ends_so}
+use Rattle.sq_expression.proofs.Views.{failed_as}
+use Rattle.sq_query.specs.Target.{numbers_in}
+use Rattle.sq_change.specs.Made.{Seen, numbers_changed, seen_by}
+use Rattle.sq_change.proofs.Endings.{ends_so, hands_on, memory_fails, memory_right}
 use Rattle.sq_change.proofs.statement.deleted.Goals as goal
 
 pub returns-in_err-numbers-clause-right : goal.returns-in_err-numbers-clause-right
 returns-in_err-numbers-clause-right g c = ends_so c.from_residual.result c.in_err-numbers.field-0.0 c.from_residual.ensures.1 c.in_err-numbers.ensures.right
+
+pub returns-in_err-numbers-clause-meant : goal.returns-in_err-numbers-clause-meant
+returns-in_err-numbers-clause-meant g c = λ plain shown is.
+    let setting = c.args.setting.now in
+    let s : Seen = seen_by (g.N.Names.view_queries setting.names.now) (g.S.Store.content_now setting.store.now) setting.user setting.parameters.now in
+    let found = numbers_changed shown s c.args.target.now c.args.on in
+    let f = c.in_err-numbers.field-0.0 in
+    hands_on c.from_residual.result f found c.from_residual.ensures.1 (failed_as numbers_in f found (c.in_err-numbers.ensures.meant plain shown is))
+
+pub returns-clause-meant : goal.returns-clause-meant
+returns-clause-meant g c = λ plain shown is. memory_fails c.removed-changes.result c.changed.result _ c.removed-changes.ensures.memory c.changed.ensures.fails
+
+pub returns-clause-right : goal.returns-clause-right
+returns-clause-right g c = c.changed.ensures.right (memory_right c.removed-changes.result c.removed-changes.ensures.memory)

@@ -1,10 +1,19 @@
+use Rattle.std.proofs.Common.{◌≡◌, subst}
+use Rattle.std.specs.Result.{OnOk}
+use Rattle.sq_store.specs.Content.{changed_by, table_at, with_table}
+use Rattle.sq_bound.specs.declared.names.Leaf.{Leaf}
+use Rattle.sq_expression.proofs.Views.{failed_as}
+use Rattle.sq_change.specs.Changed.{changed_in, rows_replaced}
+use Rattle.sq_change.specs.Made.{Seen, seen_by}
+use Rattle.sq_change.specs.Statement.{update_made}
 use Rattle.sq_change.proofs.Applied.{replaced_few}
 use Rattle.sq_change.proofs.Endings.{ends_so}
+use Rattle.sq_change.proofs.Made.{fails_with, may_fail, updates, when_done}
 use Rattle.sq_change.proofs.OnRows.{leaf_well}
 use Rattle.sq_change.proofs.statement.update.Goals as goal
 
 pub complete-requires-clause-numbers : goal.complete-requires-clause-numbers
-complete-requires-clause-numbers g c = replaced_few c.args.update.now.target c.args.on c.in_ok-changed.changed.changes.items _ c.in_ok-changed.ensures.replacements
+complete-requires-clause-numbers g c = replaced_few _ c.args.update.now c.args.on c.in_ok-changed.changed.changes.items _ c.in_ok-changed.ensures.replacements
 
 pub updated-requires-clause-may : goal.updated-requires-clause-may
 updated-requires-clause-may g c = let is = c.new-setting.ensures in rw (is.names, is.store, is.user, is.parameters) c.requires.may
@@ -17,6 +26,32 @@ complete-requires-clause-there g c = c.requires.may.reads.there
 
 pub returns-in_err-changed-clause-right : goal.returns-in_err-changed-clause-right
 returns-in_err-changed-clause-right g c = ends_so c.from_residual.result c.in_err-changed.field-0.0 c.from_residual.ensures.1 c.in_err-changed.ensures.right
+
+pub returns-in_err-changed-clause-fails : goal.returns-in_err-changed-clause-fails
+returns-in_err-changed-clause-fails g c = λ plain shown is.
+    let seen : Seen = seen_by (g.N.Names.view_queries c.args.names.now) (g.S.Store.content_now c.args.store.now) c.args.inputs.user c.args.inputs.parameters.now in
+    let same = c.new-setting.ensures in
+    let made = update_made shown seen c.args.update.now c.args.on in
+    let e = c.in_err-changed.field-0.0 in
+    let meant = rw (same.names, same.store, same.user, same.parameters) at c.in_err-changed.ensures.meant in
+    fails_with made e c.from_residual.result c.from_residual.ensures.1 (failed_as changed_in e made (meant plain shown is))
+
+pub returns-clause-fails : goal.returns-clause-fails
+returns-clause-fails g c = λ plain shown is.
+    let seen : Seen = seen_by (g.N.Names.view_queries c.args.names.now) (g.S.Store.content_now c.args.store.now) c.args.inputs.user c.args.inputs.parameters.now in
+    let same = c.new-setting.ensures in
+    let meant = rw (same.names, same.store, same.user, same.parameters) at c.in_ok-changed.ensures.meant in
+    may_fail (update_made shown seen c.args.update.now c.args.on) (rows_replaced c.in_ok-changed.changed.changes.items) c.complete.result (meant plain shown is)
+
+pub returns-clause-ok : goal.returns-clause-ok
+returns-clause-ok g c =
+    let seen : Seen = seen_by (g.N.Names.view_queries c.args.names.now) (g.S.Store.content_now c.args.store.now) c.args.inputs.user c.args.inputs.parameters.now in
+    let same = c.new-setting.ensures in
+    let changes = c.in_ok-changed.changed.changes.items in
+    let after = g.S.Store.content_now c.complete.new.store in
+    when_done c.complete.result
+    (updates seen c.args.update.now c.args.on after changes (rw (same.names, same.store, same.user, same.parameters) at c.in_ok-changed.ensures.replacements))
+    (subst (λ (l : Leaf). OnOk c.complete.result (after ≡ with_table seen.tables l.table.place (changed_by (table_at seen.tables l.table.place) changes))) c.leaf_under-leaf.ensures c.complete.ensures.ok)
 
 pub returns-clause-right : goal.returns-clause-right
 returns-clause-right g c = c.complete.ensures.right c.requires.may.parameters c.requires.may.tables c.requires.may.reads

@@ -1,15 +1,49 @@
 use Rattle.std.proofs.Common.{sym, subst}
-use Rattle.sq_change.specs.Statement.{Chosen}
+use Rattle.sq_expression.specs.Fault.{MeetsAs}
+use Rattle.sq_expression.proofs.Views.{failed_as}
+use Rattle.sq_query.specs.Target.{numbers_in}
+use Rattle.sq_change.specs.Changed.{changed_in}
+use Rattle.sq_change.specs.Made.{Seen, numbers_changed, rows_updated, seen_by}
+use Rattle.sq_change.specs.Statement.{Chosen, base_of}
+use Rattle.sq_change.proofs.Applied.{base_under}
 use Rattle.sq_change.proofs.Endings.{ends_so}
-use Rattle.sq_change.proofs.Made.{replacements_kept}
+use Rattle.sq_change.proofs.Made.{changed_meets, replacements_kept}
+use Rattle.sq_change.proofs.Outcomes.{stops_as}
 use Rattle.sq_change.proofs.statement.updated.Goals as goal
 
 pub returns-clause-replacements : goal.returns-clause-replacements
 returns-clause-replacements g c =
-    let t = c.args.update.now.target in
-    replacements_kept t c.args.on c.as_slice.result.now c.replaced-changes.result c.changed.result
-    (subst (Chosen t c.args.on) (sym c.as_slice.ensures.value) c.in_ok-numbers.ensures.chosen)
-    c.replaced-changes.ensures.replacements c.changed.ensures.changes
+    let u = c.args.update.now in
+    let setting = c.args.setting.now in
+    let s : Seen = seen_by (g.N.Names.view_queries setting.names.now) (g.S.Store.content_now setting.store.now) setting.user setting.parameters.now in
+    replacements_kept c.replaced-changes.result c.changed.result c.changed.ensures.changes s u c.args.on c.as_slice.result.now
+    (subst (Chosen s u.target c.args.on) (sym c.as_slice.ensures.value) c.in_ok-numbers.ensures.chosen)
+    c.replaced-changes.ensures.replacements
+    (λ shown. rw (base_under u.target, ← c.leaf_under.ensures, ← c.get-table.ensures, ← c.as_slice-assignments.ensures) (c.replaced-changes.ensures.meant shown))
+
+pub returns-clause-meant : goal.returns-clause-meant
+returns-clause-meant g c = λ plain shown is.
+    let u = c.args.update.now in
+    let setting = c.args.setting.now in
+    let s : Seen = seen_by (g.N.Names.view_queries setting.names.now) (g.S.Store.content_now setting.store.now) setting.user setting.parameters.now in
+    let numbers = c.in_ok-numbers.numbers.items in
+    let made : MeetsAs changed_in c.changed.result (rows_updated shown s u.assignments (base_of u.target) numbers)
+    = changed_meets c.replaced-changes.result c.changed.result c.changed.ensures.changes _
+    (rw (base_under u.target, ← c.leaf_under.ensures, ← c.get-table.ensures, ← c.as_slice-assignments.ensures, ← c.as_slice.ensures.value) (c.replaced-changes.ensures.meant shown))
+    c.changed.ensures.fails in
+    rw (c.in_ok-numbers.ensures.meant plain shown is) made
+
+pub returns-in_err-numbers-clause-meant : goal.returns-in_err-numbers-clause-meant
+returns-in_err-numbers-clause-meant g c = λ plain shown is.
+    let u = c.args.update.now in
+    let setting = c.args.setting.now in
+    let s : Seen = seen_by (g.N.Names.view_queries setting.names.now) (g.S.Store.content_now setting.store.now) setting.user setting.parameters.now in
+    let f = c.in_err-numbers.field-0.0 in
+    stops_as changed_in c.from_residual.result f (numbers_changed shown s u.target c.args.on) (rows_updated shown s u.assignments (base_of u.target)) c.from_residual.ensures.1
+    (failed_as numbers_in f (numbers_changed shown s u.target c.args.on) (c.in_err-numbers.ensures.meant plain shown is))
+
+pub returns-clause-right : goal.returns-clause-right
+returns-clause-right g c = c.changed.ensures.right c.replaced-changes.ensures.right
 
 pub returns-in_err-numbers-clause-right : goal.returns-in_err-numbers-clause-right
 returns-in_err-numbers-clause-right g c = ends_so c.from_residual.result c.in_err-numbers.field-0.0 c.from_residual.ensures.1 c.in_err-numbers.ensures.right

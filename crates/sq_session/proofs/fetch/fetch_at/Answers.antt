@@ -29,5 +29,5 @@ returns-clause-step g c =
     let number = c.args.fetch.now.cursor in
     let there : number < length cursors = omega (arith, as_many called.cursors.now cursors c.requires.cursors, c.requires.there) in
     let old = get_or cursors number c.index-cursors-fetch.result in
-    may_fetch (fetching called.cursors.now called.procedure.now.user called.procedure.now.parameters c.args.fetch.now) called.values.now (g.S.Store.content_now c.args.store.now) (g.S.Store.committed c.args.store.now) (g.S.Store.key_columns c.args.store.now) cursors
+    may_fetch (fetching called.cursors.now called.procedure.now.user called.procedure.now.parameters c.args.fetch.now) called.values.now (g.S.Store.content_now c.args.store.now) (g.S.Store.committed c.args.store.now) (g.S.Store.key_columns c.args.store.now) (g.S.Store.row_numbers c.args.store.now) cursors
     old c.fetch_cursor.new.cursor c.fetch_cursor.result there (ap (λ d. get_or cursors number d) c.index-cursors-fetch.is) c.fetch_cursor.ensures.fetched c.fetch_cursor.ensures.err

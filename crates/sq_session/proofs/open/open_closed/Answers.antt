@@ -18,7 +18,7 @@ returns-in-Ok-clause-step g c =
     let number = c.args.number in
     let declared = get_or called.cursors.now number c.index-called-number.result in
     let found : slice_get called.cursors.now number ≡ Some declared = slice_get-get_or called.cursors.now number c.index-called-number.result c.requires.there in
-    let before : State = record { tables = g.S.Store.content_now c.args.store.now; committed = g.S.Store.committed c.args.store.now; keys = g.S.Store.key_columns c.args.store.now; cursors = c.args.cursors.now } in
+    let before : State = record { tables = g.S.Store.content_now c.args.store.now; committed = g.S.Store.committed c.args.store.now; keys = g.S.Store.key_columns c.args.store.now; row_numbers = g.S.Store.row_numbers c.args.store.now; cursors = c.args.cursors.now } in
     opens (schemas_of called.catalog.now) (opening called.cursors.now called.procedure.now.user called.procedure.now.parameters number) (over_of declared.cursor.body) declared.cursor.body called.values.now before _ c.in-Ok.cursor c.successful.result
     (ap (λ o. option_map_or (λ d. over_of d.cursor.body) o Over.rows) found) (ap (λ o. option_map (λ d. d.cursor.body) o) found) c.in-Ok.ensures.opened c.successful.ensures refl
 
@@ -28,7 +28,7 @@ returns-in-Err-clause-step g c =
     let number = c.args.number in
     let declared = get_or called.cursors.now number c.index-called-number.result in
     let found : slice_get called.cursors.now number ≡ Some declared = slice_get-get_or called.cursors.now number c.index-called-number.result c.requires.there in
-    let before : State = record { tables = g.S.Store.content_now c.args.store.now; committed = g.S.Store.committed c.args.store.now; keys = g.S.Store.key_columns c.args.store.now; cursors = c.args.cursors.now } in
+    let before : State = record { tables = g.S.Store.content_now c.args.store.now; committed = g.S.Store.committed c.args.store.now; keys = g.S.Store.key_columns c.args.store.now; row_numbers = g.S.Store.row_numbers c.args.store.now; cursors = c.args.cursors.now } in
     opens_not (schemas_of called.catalog.now) (opening called.cursors.now called.procedure.now.user called.procedure.now.parameters number) (over_of declared.cursor.body) declared.cursor.body called.values.now before c.in-Err.fault
     (ap (λ o. option_map_or (λ d. over_of d.cursor.body) o Over.rows) found) (ap (λ o. option_map (λ d. d.cursor.body) o) found) c.in-Err.ensures.opened
 

@@ -2,7 +2,7 @@ use Rattle.std.proofs.Common.{◌≡◌, ◌<◌, ◌≤◌, ◌∙◌, ◌++◌
 use Rattle.sq_catalog.specs.Catalog.{column_kinds}
 use Rattle.sq_module.specs.declared.program.DeclaredCursor.{DeclaredCursor}
 use Rattle.sq_session.specs.Cursors.{HasKept, goes_on, is_over, listed, reads}
-use Rattle.sq_session.specs.Kind.{over_of, updating}
+use Rattle.sq_session.specs.Kind.{over_of}
 use Rattle.sq_session.specs.declared.cursor.CursorState.{CursorState}
 use Rattle.sq_session.specs.declared.cursor.CursorState.TheVariants as cursor
 use Rattle.sq_session.specs.declared.walk.ListedCursor.{ListedCursor}
@@ -59,7 +59,7 @@ loop-number-preserved g c =
     let declared = c.args.called.now.cursors.now in
     let cursors = c.args.cursors.now in
     let tables = g.S.Store.content_now c.args.store.now in
-    let u = updating declared c.args.statement.now in
+    let u = c.args.statement.now in
     let number = c.loop-number.number in
     let there : number < length declared = omega (arith, as_many declared cursors c.requires.cursors, c.loop-number-test.true) in
     let so_far = c.loop-number.invariant in
@@ -95,4 +95,4 @@ returns-clause-lists g c =
     let declared = c.args.called.now.cursors.now in
     let cursors = c.args.cursors.now in
     let enough : length declared ≤ c.loop-number.number = omega (arith, as_many declared cursors c.requires.cursors, c.loop-number-test.false) in
-    listed_all (updating declared c.args.statement.now) (g.S.Store.content_now c.args.store.now) declared cursors _ c.loop-number.number enough c.loop-number.invariant.0
+    listed_all c.args.statement.now (g.S.Store.content_now c.args.store.now) declared cursors _ c.loop-number.number enough c.loop-number.invariant.0

@@ -1,12 +1,26 @@
-use Rattle.std.proofs.Common.{List, subst, sym}
+use Rattle.std.proofs.Common.{◌≡◌, ◌∙◌, List, Ok, Err, ap, refl, rules, slice_set, subst, sym}
+use Rattle.std.specs.List.{slice_index_or}
+use Rattle.std.proofs.lemmas.List.{places, with_items_is}
 use Rattle.sq_value.specs.declared.value.Value.{Value}
+use Rattle.sq_store.specs.Content.{Content}
 use Rattle.sq_bound.specs.Fits.{AreInDomains}
 use Rattle.sq_bound.specs.WellFormed.{kinds_of_parameters}
+use Rattle.sq_bound.specs.declared.statement.ChangeTarget.{ChangeTarget}
+use Rattle.sq_bound.specs.declared.statement.ChangeTarget.TheVariants as target
+use Rattle.sq_change.specs.Made.{Shown, numbers_changed}
+use Rattle.sq_change.specs.Statement.{Deletes, FailsAs, IsPlain, IsShown}
+use Rattle.sq_session.specs.Kind.{Caller, caller_of}
 use Rattle.sq_session.specs.Parameter.{AreGiven}
-use Rattle.sq_session.specs.State.{State}
+use Rattle.sq_session.specs.Schemas.{schemas_of}
+use Rattle.sq_session.specs.Step.{seen_by}
+use Rattle.sq_session.specs.State.{State, cursor_at, off_row, with_cursor}
+use Rattle.sq_session.specs.declared.cursor.CursorState.{CursorState}
+use Rattle.sq_session.specs.declared.cursor.CursorState.TheVariants as cursor
+use Rattle.sq_session.proofs.Changing.{deletes_done, deletes_not, left_row, same_but_tables}
 use Rattle.sq_session.proofs.Ending.{fault_right}
 use Rattle.sq_session.proofs.Asking.{may_choose}
 use Rattle.sq_session.proofs.machine.Machine.delete.Goals as goal
+use Rattle.sq_session.proofs.machine.Machine.delete.Goals.{in-Positioned, in_default-target}
 
 pub delete-deleted-requires-clause-may : goal.delete-deleted-requires-clause-may
 delete-deleted-requires-clause-may g c =
@@ -19,3 +33,46 @@ delete-deleted-requires-clause-may g c =
 
 pub returns-in-Err-clause-right : goal.returns-in-Err-clause-right
 returns-in-Err-clause-right g c = let right = rw c.in-Err.is at c.delete-deleted.ensures.right in fault_right c.in-Err.fault right
+
+pub returns-in-Err-clause-step : goal.returns-in-Err-clause-step
+returns-in-Err-clause-step g c =
+    let called = c.args.called.now in
+    let schemas = schemas_of called.catalog.now in
+    let caller : Caller = caller_of called.procedure.now.user called.procedure.now.parameters in
+    let t = c.args.target.now in
+    let on = c.in_ok-on.on in
+    let fails = rw (c.in-Err.is, c.inputs.ensures.user, c.inputs.ensures.parameters) at c.delete-deleted.ensures.fails in
+    deletes_not schemas called.values.now c.args.self.now _ caller t on c.in-Err.fault c.in_ok-on.ensures.on (sym c.in_ok-on.ensures.ready) (search rules)
+    (subst (λ (m : State). IsPlain t → (shown : Shown) → IsShown (seen_by schemas caller called.values.now m.tables) shown
+    → FailsAs (numbers_changed shown (seen_by schemas caller called.values.now m.tables) t on) (Err c.in-Err.fault)) c.self.view_is fails)
+
+pub returns-clause-step : goal.returns-clause-step
+returns-clause-step g c =
+    let called = c.args.called.now in
+    let schemas = schemas_of called.catalog.now in
+    let caller : Caller = caller_of called.procedure.now.user called.procedure.now.parameters in
+    let values = called.values.now in
+    let b : State = c.args.self.now in
+    let a : State = c.match-target.self in
+    let t = c.args.target.now in
+    let on = c.in_ok-on.on in
+    let content = g.S.Store.content_now c.delete-deleted.new.store in
+    let deletes = rw (c.in_default.is, c.inputs.ensures.user, c.inputs.ensures.parameters) at c.delete-deleted.ensures.ok in
+    let fails = rw (c.in_default.is, c.inputs.ensures.user, c.inputs.ensures.parameters) at c.delete-deleted.ensures.fails in
+    let done = λ (x : ChangeTarget) (is : t ≡ x) (same : a ≡ record (left_row b x) { tables = a.tables }) (tables : content ≡ a.tables).
+    deletes_done schemas values b a caller t on c.successful.result c.in_ok-on.ensures.on (sym c.in_ok-on.ensures.ready) c.successful.ensures
+    (subst (λ (y : ChangeTarget). a ≡ record (left_row b y) { tables = a.tables }) (sym is) same)
+    (subst (λ (x : Content). Deletes (seen_by schemas caller values b.tables) t on x) tables
+    (subst (λ (m : State). Deletes (seen_by schemas caller values m.tables) t on content) c.self.view_is deletes))
+    (subst (λ (m : State). IsPlain t → (shown : Shown) → IsShown (seen_by schemas caller values m.tables) shown
+    → FailsAs (numbers_changed shown (seen_by schemas caller values m.tables) t on) (Ok tt)) c.self.view_is fails) in
+    elim c.match-target.branch [
+      | in-Positioned w ↦
+          let p = w.in-Positioned.positioned in
+          let cursors : a.cursors ≡ slice_set b.cursors p.cursor (off_row (cursor_at b p.cursor))
+          = ap (λ (m : State). m.cursors) w.self-is ∙ (with_items_is c.self.inside.cursors w.leave_row.new.cursors (search (rules, places)) ∙ (w.leave_row.ensures
+          ∙ ap (λ (cs : List CursorState). slice_set cs p.cursor (off_row (slice_index_or cs p.cursor cursor.Closed))) (w.as_mut_slice.ensures.value ∙ ap (λ (m : State). m.cursors) c.self.view_is))) in
+          done (target.Positioned p) w.in-Positioned.is
+          (same_but_tables a (with_cursor b p.cursor (off_row (cursor_at b p.cursor))) (search rules) (search rules) (search rules) cursors) (search rules)
+      | in_default-target w ↦ done t refl (search rules) (search rules)
+    ]

@@ -1,11 +1,17 @@
-use Rattle.std.proofs.Common.{List, subst, sym}
+use Rattle.std.proofs.Common.{List, Ok, Err, rules, subst, sym}
 use Rattle.sq_value.specs.declared.value.Value.{Value}
 use Rattle.sq_bound.specs.Fits.{AreInDomains}
 use Rattle.sq_bound.specs.WellFormed.{kinds_of_parameters}
 use Rattle.sq_module.specs.Program.{kinds_of_cursors}
+use Rattle.sq_change.specs.Made.{Shown, rows_inserted}
+use Rattle.sq_change.specs.Statement.{FailsAs, Inserts, IsShown}
+use Rattle.sq_session.specs.Kind.{Caller, caller_of}
 use Rattle.sq_session.specs.Parameter.{AreGiven}
+use Rattle.sq_session.specs.Schemas.{schemas_of}
+use Rattle.sq_session.specs.Step.{seen_by}
 use Rattle.sq_session.specs.State.{State}
 use Rattle.sq_session.proofs.Asking.{may_give}
+use Rattle.sq_session.proofs.Changing.{inserts_done, inserts_not}
 use Rattle.sq_session.proofs.Ending.{fault_right}
 use Rattle.sq_session.proofs.machine.Machine.insert.Goals as goal
 
@@ -23,3 +29,26 @@ insert-inserted-requires-clause-leaf g c = c.requires.asked.0
 
 pub returns-in-Err-clause-right : goal.returns-in-Err-clause-right
 returns-in-Err-clause-right g c = let right = rw c.in-Err.is at c.insert-inserted.ensures.right in fault_right c.in-Err.fault right
+
+pub returns-in-Err-clause-step : goal.returns-in-Err-clause-step
+returns-in-Err-clause-step g c =
+    let called = c.args.called.now in
+    let schemas = schemas_of called.catalog.now in
+    let caller : Caller = caller_of called.procedure.now.user called.procedure.now.parameters in
+    let fails = rw (c.in-Err.is, c.inputs.ensures.user, c.inputs.ensures.parameters) at c.insert-inserted.ensures.fails in
+    inserts_not schemas called.values.now c.args.self.now _ caller c.args.statement.now c.in-Err.fault (search rules)
+    (subst (λ (m : State). (shown : Shown) → IsShown (seen_by schemas caller called.values.now m.tables) shown
+    → FailsAs (rows_inserted shown (seen_by schemas caller called.values.now m.tables) m.row_numbers c.args.statement.now) (Err c.in-Err.fault)) c.self.view_is fails)
+
+pub returns-clause-step : goal.returns-clause-step
+returns-clause-step g c =
+    let called = c.args.called.now in
+    let schemas = schemas_of called.catalog.now in
+    let caller : Caller = caller_of called.procedure.now.user called.procedure.now.parameters in
+    let after = g.S.Store.content_now c.insert-inserted.new.store in
+    let inserts = rw (c.in_default.is, c.inputs.ensures.user, c.inputs.ensures.parameters) at c.insert-inserted.ensures.ok in
+    let fails = rw (c.in_default.is, c.inputs.ensures.user, c.inputs.ensures.parameters) at c.insert-inserted.ensures.fails in
+    inserts_done schemas called.values.now c.args.self.now _ caller c.args.statement.now c.successful.result c.successful.ensures (search rules)
+    (subst (λ (m : State). Inserts (seen_by schemas caller called.values.now m.tables) m.row_numbers c.args.statement.now after) c.self.view_is inserts)
+    (subst (λ (m : State). (shown : Shown) → IsShown (seen_by schemas caller called.values.now m.tables) shown
+    → FailsAs (rows_inserted shown (seen_by schemas caller called.values.now m.tables) m.row_numbers c.args.statement.now) (Ok tt)) c.self.view_is fails)

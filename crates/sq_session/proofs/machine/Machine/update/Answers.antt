@@ -1,4 +1,5 @@
-use Rattle.std.proofs.Common.{List, subst, sym}
+use Rattle.std.proofs.Common.{◌∙◌, List, Ok, Err, ap, rules, subst, sym}
+use Rattle.std.proofs.lemmas.List.{places, with_items_is}
 use Rattle.sq_value.specs.declared.value.Value.{Value}
 use Rattle.std.specs.Prelude.{IfSome, IsSome}
 use Rattle.sq_store.specs.Content.{row_at, table_at}
@@ -6,9 +7,17 @@ use Rattle.sq_bound.specs.Fits.{AreInDomains, under}
 use Rattle.sq_bound.specs.WellFormed.{kinds_of_parameters}
 use Rattle.sq_catalog.specs.Catalog.{column_kinds}
 use Rattle.sq_module.specs.Program.{kinds_of_cursors}
+use Rattle.sq_change.specs.Made.{Shown}
+use Rattle.sq_change.specs.Statement.{FailsAs, IsPlain, IsShown, Updates, update_made}
+use Rattle.sq_session.specs.Kind.{Caller, caller_of, updating}
 use Rattle.sq_session.specs.Parameter.{AreGiven}
+use Rattle.sq_session.specs.Schemas.{schemas_of}
+use Rattle.sq_session.specs.Step.{seen_by, walks_listed}
 use Rattle.sq_session.specs.State.{State}
 use Rattle.sq_session.proofs.Asking.{may_assign, may_choose}
+use Rattle.sq_session.specs.Cursors.{go_on, put_all}
+use Rattle.sq_session.specs.declared.cursor.CursorState.{CursorState}
+use Rattle.sq_session.proofs.Changing.{put_as_many, same_but_tables, updates_done, updates_not}
 use Rattle.sq_session.proofs.Ending.{fault_right}
 use Rattle.sq_session.proofs.machine.Machine.update.Goals as goal
 
@@ -34,3 +43,37 @@ update-updated-requires-clause-there g c =
 
 pub returns-in-Err-clause-right : goal.returns-in-Err-clause-right
 returns-in-Err-clause-right g c = let right = rw c.in-Err.is at c.update-updated.ensures.right in fault_right c.in-Err.fault right
+
+pub returns-in-Err-clause-step : goal.returns-in-Err-clause-step
+returns-in-Err-clause-step g c =
+    let called = c.args.called.now in
+    let schemas = schemas_of called.catalog.now in
+    let caller : Caller = caller_of called.procedure.now.user called.procedure.now.parameters in
+    let u = updating called.cursors.now caller c.args.statement.now in
+    let on = c.in_ok-on.on in
+    let fails = rw (c.in-Err.is, c.inputs.ensures.user, c.inputs.ensures.parameters) at c.update-updated.ensures.fails in
+    updates_not schemas called.values.now c.args.self.now _ u c.args.statement.now.target on c.in-Err.fault c.in_ok-on.ensures.on (sym c.in_ok-on.ensures.ready) (search rules)
+    (subst (λ (m : State). IsPlain c.args.statement.now.target → (shown : Shown) → IsShown (seen_by schemas caller called.values.now m.tables) shown
+    → FailsAs (update_made shown (seen_by schemas caller called.values.now m.tables) c.args.statement.now on) (Err c.in-Err.fault)) c.self.view_is fails)
+
+pub returns-in-Ok-clause-step : goal.returns-in-Ok-clause-step
+returns-in-Ok-clause-step g c =
+    let called = c.args.called.now in
+    let schemas = schemas_of called.catalog.now in
+    let caller : Caller = caller_of called.procedure.now.user called.procedure.now.parameters in
+    let values = called.values.now in
+    let u = updating called.cursors.now caller c.args.statement.now in
+    let b : State = c.args.self.now in
+    let on = c.in_ok-on.on in
+    let content = g.S.Store.content_now c.update-updated.new.store in
+    let updates = rw (c.in-Ok.is, c.inputs.ensures.user, c.inputs.ensures.parameters) at c.update-updated.ensures.ok in
+    let fails = rw (c.in-Ok.is, c.inputs.ensures.user, c.inputs.ensures.parameters) at c.update-updated.ensures.fails in
+    let lists = rw c.as_slice.ensures.value at c.in_ok-lists.ensures.lists in
+    let cursors = with_items_is c.self.inside.cursors c.put_lists.new.cursors (search (rules, places, put_as_many)) ∙ (c.put_lists.ensures
+    ∙ (ap (λ (cs : List CursorState). put_all cs c.in_ok-lists.lists.items) c.as_mut_slice.ensures.value ∙ (lists
+    ∙ ap (λ (m : State). go_on c.args.statement.now m.tables called.cursors.now m.cursors) c.self.view_is))) in
+    updates_done schemas values b _ u c.args.statement.now.target on c.successful.result c.in_ok-on.ensures.on (sym c.in_ok-on.ensures.ready) c.successful.ensures
+    (same_but_tables _ (walks_listed u b) (search rules) (search rules) (search rules) cursors)
+    (subst (λ (m : State). Updates (seen_by schemas caller values m.tables) c.args.statement.now on content) c.self.view_is updates)
+    (subst (λ (m : State). IsPlain c.args.statement.now.target → (shown : Shown) → IsShown (seen_by schemas caller values m.tables) shown
+    → FailsAs (update_made shown (seen_by schemas caller values m.tables) c.args.statement.now on) (Ok tt)) c.self.view_is fails)

@@ -1,0 +1,26 @@
+-- Steps one after another: the answer of each is its outcome, or memory was refused.
+use Rattle.std.proofs.Common.{◌≡◌, Result, Ok, Err, ap}
+use Rattle.std.specs.Result.{IsErrAnd}
+use Rattle.sq_meaning.specs.Status.{Outcome, and_then}
+use Rattle.sq_expression.specs.Fault.{Meets, MeetsAs}
+use Rattle.sq_expression.specs.declared.fault.Fault.{Fault}
+use Rattle.sq_expression.specs.declared.fault.Fault.TheVariants as fault
+use Rattle.sq_expression.proofs.Expressions.{handed_on, meets_by}
+use Rattle.sq_expression.proofs.Groups.{fails_then}
+use Rattle.sq_expression.proofs.Views.{handed_on_as}
+
+-- the first step has a value, and the next goes on with it
+pub goes_on : {A B : Type 0} (r : Result B Fault) (o : Outcome A) (x : A) (next : A → Outcome B) → o ≡ Ok x → Meets r (next x) → Meets r (and_then o next)
+goes_on r o x next has h = meets_by r (and_then o next) (next x) (ap (λ p. and_then p next) has) h
+
+-- the first step has none, and `?` hands its fault on
+pub stops : {A B : Type 0} (r : Result B Fault) (f : Fault) (o : Outcome A) (next : A → Outcome B) → IsErrAnd r (λ g. g ≡ f) → Meets {A = A} (Err f) o → Meets r (and_then o next)
+stops r f o next is failed = handed_on r f (and_then o next) is (fails_then f o next failed)
+
+pub stops_as : {A B C : Type 0} (view : C → B) (r : Result C Fault) (f : Fault) (o : Outcome A) (next : A → Outcome B) → IsErrAnd r (λ g. g ≡ f) → Meets {A = A} (Err f) o → MeetsAs view r (and_then o next)
+stops_as view r f o next is failed = handed_on_as view r f (and_then o next) is (fails_then f o next failed)
+
+-- where there is an outcome, memory alone may be refused
+pub refused : {A B : Type 0} (f : Fault) (x : A) (o : Outcome B) → Meets {A = A} (Err f) (Ok x) → Meets {A = B} (Err f) o
+refused fault.NoMemory x o h = tt
+refused (fault.Status s) x o h = absurd cc
