@@ -19,9 +19,9 @@ fn report_of(
     script: &[u8],
 ) -> Result<Vec<u8>, RunFault>
     // It is the report of a run of the trees that the texts spell.
-    ensures report { IfOk result (λ report. (r : Run (texts schemas.now) (texts modules.now) script.now)
+    ensures report { IfOk result (λ report. (r : Run 1000000 (texts schemas.now) (texts modules.now) script.now)
         × Reported r.actions r.start (Some []) (Some report.items)) }
-    ensures refused { IfErr result (RefusedText (texts schemas.now) (texts modules.now) script.now) }
+    ensures refused { IfErr result (RefusedText 1000000 (texts schemas.now) (texts modules.now) script.now) }
 {
     let mut out = OutOf::new(Vec::new(alloc));
     let limits = Limits {

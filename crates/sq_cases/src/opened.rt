@@ -43,7 +43,7 @@ fn session_of<S: Store>(alloc: Global, run: &Run) -> Option<Session<S>> {
     session_over(alloc, catalog, modules.as_slice(), limits)
 }
 
-#[tactic(auto, using(sq_session::proofs::Holding::no_rows_hold))]
+#[tactic(auto, using(sq_session::proofs::Holding::no_rows_hold, sq_session::proofs::Holding::no_rows_obey))]
 fn session_over<S: Store>(
     alloc: Global,
     catalog: Catalog,

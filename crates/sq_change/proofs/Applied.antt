@@ -62,10 +62,10 @@ removed_wide n (number ∷ numbers) = removed_wide n numbers
 pub removals_wide : (s : Seen) (t : ChangeTarget) (on : Option ℕ) (changes : List Change) (n : ℕ) → Removals s t on changes → are_wide n (rows_put changes) ≡ true
 removals_wide s t on changes n h = rw h.all (removed_wide n h.numbers)
 
-put_more : (change : Change) (changes : List Change) → rows_put (change ∷ changes) ≡ rows_put (change ∷ []) ++ rows_put changes
-put_more (Insert row) changes = refl
-put_more (Replace number row) changes = refl
-put_more (Remove number) changes = refl
+pub put_apart : (change : Change) (changes : List Change) → rows_put (change ∷ changes) ≡ rows_put (change ∷ []) ++ rows_put changes
+put_apart (Insert row) changes = refl
+put_apart (Replace number row) changes = refl
+put_apart (Remove number) changes = refl
 
 put_first : {first change : Change} {row : List Value} → change ≡ first → rows_put (change ∷ []) ≡ row ∷ [] → rows_put (first ∷ []) ≡ row ∷ []
 put_first e put = sym (ap (λ (d : Change). rows_put (d ∷ [])) e) ∙ put
@@ -78,12 +78,12 @@ pub row_wide : (n : ℕ) (changes : List Change) (i : ℕ) (change : Change) (ro
     → length row ≡ n
 row_wide n [] i change row h lt e put = absurd (omega arith)
 row_wide n (c ∷ changes) zero change row h lt e put =
-    let q : rows_put (c ∷ changes) ≡ row ∷ rows_put changes = put_more c changes ∙ ap (λ (rows : List (List Value)). rows ++ rows_put changes) (ap (λ (d : Change). rows_put (d ∷ [])) (sym e) ∙ put) in
+    let q : rows_put (c ∷ changes) ≡ row ∷ rows_put changes = put_apart c changes ∙ ap (λ (rows : List (List Value)). rows ++ rows_put changes) (ap (λ (d : Change). rows_put (d ∷ [])) (sym e) ∙ put) in
     let k : are_wide n (row ∷ rows_put changes) ≡ true = sym (ap (are_wide n) q) ∙ h in
     grind (arith, common_steps)
 row_wide n (c ∷ changes) (suc i) change row h lt e put =
     let k : (list_all (λ r. nat_eq (length r) n) (rows_put (c ∷ [])) && are_wide n (rows_put changes)) ≡ true
-    = sym (list_all-append (λ r. nat_eq (length r) n) (rows_put (c ∷ [])) (rows_put changes)) ∙ sym (ap (are_wide n) (put_more c changes)) ∙ h in
+    = sym (list_all-append (λ r. nat_eq (length r) n) (rows_put (c ∷ [])) (rows_put changes)) ∙ sym (ap (are_wide n) (put_apart c changes)) ∙ h in
     row_wide n changes i change row (grind (arith, common_steps)) (omega arith) e put
 
 -- what holds of all rows that are put in holds of it, too

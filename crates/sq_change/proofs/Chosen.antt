@@ -55,7 +55,7 @@ quiet_search t h = sure_plain (conditions_of t) (sure_own t.leaf.conditions t.co
 -- ---- what a search finds
 
 -- a statement may read the tables as they are shown to it
-pub reads_shown : {bases : List BaseTable} {views : List BoundSpecification} {columns : TableKinds} {content : Content} {user : Name} {values : List Value} {parameters : List Kind}
+reads_shown : {bases : List BaseTable} {views : List BoundSpecification} {columns : TableKinds} {content : Content} {user : Name} {values : List Value} {parameters : List Kind}
     {tables shown : Shown} → MayRead bases views columns content user values parameters tables → AreMeant views content user shown
     → MayRead bases views columns content user values parameters shown
 reads_shown may shown = record { inputs = may.inputs; there = may.there; in_domains = may.in_domains; meant = shown }

@@ -149,7 +149,8 @@ pub still_held : (bases : List BaseTable) (before after : Content) (b : BaseTabl
     → after ≡ with_table before b.place (changed_by (table_at before b.place) changes) → holds bases after ≡ true
 still_held bases before after b changes h e w made = rw made (holds_changed bases before b changes h e w)
 
-keys_at_base : (bases : List BaseTable) (place : ℕ) (b : BaseTable) → slice_get bases place ≡ Some b → keys_at (keys_of_bases bases) place ≡ b.keys
+-- the keys of a base table
+pub keys_at_base : (bases : List BaseTable) (place : ℕ) (b : BaseTable) → slice_get bases place ≡ Some b → keys_at (keys_of_bases bases) place ≡ b.keys
 keys_at_base [] place b e = cc
 keys_at_base (a ∷ bs) zero b e = let k : Some a ≡ Some b = e in let q : a ≡ b = cc in rw q
 keys_at_base (a ∷ bs) (suc place) b e = keys_at_base bs place b e

@@ -1,3 +1,6 @@
+pub mod AllMet
+pub mod AllSatisfied
+pub mod Among
 pub mod Applied
 pub mod Chosen
 pub mod Defaults
@@ -7,9 +10,19 @@ pub mod Fitting
 pub mod GivenRows
 pub mod Held
 pub mod InTurn
+pub mod KeptKeys
+pub mod KeptRest
+pub mod KeptValues
+pub mod LostKeys
 pub mod Made
+pub mod Obeyed
 pub mod OnRows
 pub mod Outcomes
+pub mod Performed
+pub mod ReferencesKept
+pub mod Referred
+pub mod RowTests
 pub mod Storable
 pub mod Stored
 pub mod Updated
+pub mod WalkMet

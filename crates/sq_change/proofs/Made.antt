@@ -1,6 +1,6 @@
 -- What the changes of a statement do to the tables.
 use Rattle.std.proofs.Common.{◌≡◌, ◌⊎◌, ◌<◌, ℕ, true, List, [], ◌∷◌, length, Option, Result, Ok, Err, map, refl, sym, subst, inl, inr, arith}
-use Rattle.std.specs.Prelude.{IfErr, IfOk, IsErrAnd, OnOk, Vec}
+use Rattle.std.specs.Prelude.{IfErr, IfOk, OnOk, Vec}
 use Rattle.std.specs.declared.alloc.Global.{Global}
 use Rattle.sq_store.specs.declared.change.Change.{Change}
 use Rattle.sq_store.specs.declared.change.Change.TheVariants.{Insert, Replace, Remove}
@@ -13,19 +13,19 @@ use Rattle.sq_bound.specs.Fits.{under}
 use Rattle.sq_bound.specs.declared.statement.BoundInsert.{BoundInsert}
 use Rattle.sq_bound.specs.declared.statement.BoundUpdate.{BoundUpdate}
 use Rattle.sq_bound.specs.declared.statement.ChangeTarget.{ChangeTarget}
-use Rattle.sq_expression.specs.Fault.{Meets, MeetsAs, status_of}
+use Rattle.sq_expression.specs.Fault.{Meets, MeetsAs}
 use Rattle.sq_expression.specs.declared.fault.Fault.{Fault}
 use Rattle.sq_expression.specs.declared.fault.Fault.TheVariants as fault
 use Rattle.sq_expression.proofs.Views.{failed_as}
 use Rattle.sq_change.specs.Changed.{AreReplacements, Removals, Replacements, are_insertions, changed_in, rows_replaced, rows_replaced_in}
 use Rattle.sq_change.specs.Made.{Seen, Shown, rows_inserted, rows_updated}
 use Rattle.sq_change.specs.declared.complete.Changed.{Changed}
-use Rattle.sq_change.specs.Statement.{Chosen, Deletes, FailsAs, Inserts, IsShown, Updates, base_of, with_replaced, with_rows, without}
+use Rattle.sq_change.specs.Statement.{Chosen, Deletes, Inserts, IsShown, Updates, base_of, with_replaced, with_rows, without}
 use Rattle.sq_change.proofs.Applied.{base_under}
 
 -- ---- INSERT
 
-all_inserted : (t : Table) (changes : List Change) → are_insertions changes ≡ true → changed_by t changes ≡ with_rows t (rows_put changes)
+pub all_inserted : (t : Table) (changes : List Change) → are_insertions changes ≡ true → changed_by t changes ≡ with_rows t (rows_put changes)
 all_inserted t [] h = refl
 all_inserted t (Insert row ∷ changes) h = all_inserted (inserted t row) changes h
 all_inserted t (Replace number row ∷ changes) h = cc
@@ -51,23 +51,9 @@ pub when_done : {P Q : Type 0} (r : Result (Unit {0}) Fault) → (P → Q) → O
 when_done (Ok u) h done = h done
 when_done (Err f) h done = tt
 
--- the rows can't be made
-pub fails_with : {A : Type 0} (o : Outcome A) (f : Fault) (r : Result (Unit {0}) Fault) → IsErrAnd r (λ g. g ≡ f) → Meets {A = A} (Err f) o → FailsAs o r
-fails_with o f (Ok u) is failed = absurd is
-fails_with {A} o f (Err g) is failed = by o g (subst (λ (x : Fault). Meets {A = A} (Err x) o) (sym is) failed)
-  where
-    by : (p : Outcome A) (x : Fault) → Meets {A = A} (Err x) p → FailsAs p (Err x)
-    by (Ok y) x h = tt
-    by (Err st) fault.NoMemory h = tt
-    by (Err st) (fault.Status t) h = let k : ◌≡◌ {A = Outcome A} (Err st) (Err (status_of t)) = h in cc
-
--- or they are made
-pub may_fail : {A : Type 0} (o : Outcome A) (x : A) (r : Result (Unit {0}) Fault) → o ≡ Ok x → FailsAs o r
-may_fail {A} o x r made = subst (λ (p : Outcome A). FailsAs p r) (sym made) tt
-
 -- ---- UPDATE
 
-all_replaced : (numbers : List ℕ) (t : Table) (changes : List Change) → AreReplacements numbers changes → changed_by t changes ≡ with_replaced t (rows_replaced changes)
+pub all_replaced : (numbers : List ℕ) (t : Table) (changes : List Change) → AreReplacements numbers changes → changed_by t changes ≡ with_replaced t (rows_replaced changes)
 all_replaced [] t [] h = refl
 all_replaced [] t (change ∷ changes) h = absurd h
 all_replaced (n ∷ numbers) t [] h = absurd h
@@ -87,7 +73,7 @@ updates s u on after changes h made = record {
 
 -- ---- DELETE
 
-all_removed : (t : Table) (numbers : List ℕ) → changed_by t (map Remove numbers) ≡ without t numbers
+pub all_removed : (t : Table) (numbers : List ℕ) → changed_by t (map Remove numbers) ≡ without t numbers
 all_removed t [] = refl
 all_removed t (number ∷ numbers) = all_removed (removed t number) numbers
 

@@ -1,5 +1,6 @@
 -- Steps one after another: the answer of each is its outcome, or memory was refused.
-use Rattle.std.proofs.Common.{◌≡◌, Result, Ok, Err, ap}
+use Rattle.std.proofs.Common.{◌≡◌, Result, Ok, Err, ap, sym, subst}
+use Rattle.std.specs.Prelude.{IfErr}
 use Rattle.std.specs.Result.{IsErrAnd}
 use Rattle.sq_meaning.specs.Status.{Outcome, and_then}
 use Rattle.sq_expression.specs.Fault.{Meets, MeetsAs}
@@ -24,3 +25,16 @@ stops_as view r f o next is failed = handed_on_as view r f (and_then o next) is 
 pub refused : {A B : Type 0} (f : Fault) (x : A) (o : Outcome B) → Meets {A = A} (Err f) (Ok x) → Meets {A = B} (Err f) o
 refused fault.NoMemory x o h = tt
 refused (fault.Status s) x o h = absurd cc
+
+-- ---- where nothing but that it is so is answered
+
+-- the step is taken, and the answer wants memory alone
+pub taken_if : {A : Type 0} (r : Result A Fault) (o : Outcome (Unit {0})) → o ≡ Ok tt → IfErr r (λ f. f ≡ fault.NoMemory) → MeetsAs (λ x. tt) r o
+taken_if (Ok x) o has memory = has
+taken_if {A} (Err f) o has memory = subst (λ (g : Fault). MeetsAs {A = A} (λ x. tt) (Err g) o) (sym memory) tt
+
+-- one step is taken, and `?` hands on the fault of the next
+pub next_stops : {A : Type 0} (r : Result A Fault) (f : Fault) (o : Outcome (Unit {0})) (next : Outcome (Unit {0})) → IsErrAnd r (λ g. g ≡ f) → o ≡ Ok tt → Meets {A = Unit {0}} (Err f) next
+    → MeetsAs (λ x. tt) r (and_then o (λ _. next))
+next_stops r f o next is has failed =
+    handed_on_as (λ x. tt) r f (and_then o (λ _. next)) is (goes_on (Err f) o tt (λ _. next) has failed)

@@ -1,21 +1,25 @@
 -- What a statement is going to change, by its kind.
 use Rattle.std.specs.Prelude.{◌≡◌, ℕ, Bool, true, false, List, [], ◌∷◌, length, map, nat_eq, Option, Ok, Vec}
-use Rattle.std.specs.List.{AllByRecursion, AllZip, list_all}
+use Rattle.std.specs.List.{AllByRecursion, AllZip, Any, list_all}
 use Rattle.std.specs.declared.alloc.Global.{Global}
 use Rattle.sq_value.specs.declared.domain.Kind.{Kind}
 use Rattle.sq_value.specs.declared.value.Value.{Value}
 use Rattle.sq_store.specs.declared.change.Change.{Change}
 use Rattle.sq_store.specs.declared.change.Change.TheVariants.{Insert, Replace, Remove}
 use Rattle.sq_store.specs.Change.{rows_put}
+use Rattle.sq_store.specs.Content.{changed_by}
 use Rattle.sq_store.specs.declared.table.Numbered.{Numbered}
+use Rattle.sq_store.specs.declared.table.Table.{Table}
 use Rattle.sq_bound.specs.Fits.{IsRowIn}
 use Rattle.sq_bound.specs.WellFormed.{TableKinds}
 use Rattle.sq_bound.specs.declared.condition.BoundCond.{BoundCond}
 use Rattle.sq_bound.specs.declared.names.BaseColumn.{BaseColumn}
+use Rattle.sq_bound.specs.declared.names.BaseTable.{BaseTable}
 use Rattle.sq_bound.specs.declared.statement.BoundUpdate.{BoundUpdate}
 use Rattle.sq_bound.specs.declared.statement.ChangeTarget.{ChangeTarget}
 use Rattle.sq_query.specs.Row.{IsOnRow}
 use Rattle.sq_change.specs.Made.{Seen, Shown, rows_updated}
+use Rattle.sq_change.specs.Reference.{KeepsKeys}
 use Rattle.sq_change.specs.Statement.{Chosen, base_of}
 use Rattle.sq_change.specs.declared.complete.Changed.{Changed}
 
@@ -34,6 +38,10 @@ AreRowsPut columns changes = AllByRecursion (IsRowIn columns) (rows_put changes)
 -- the conditions are well formed on each row that changes put in a table
 abbrev pub AreOnRowsPut : TableKinds → List Kind → List BoundCond → List Change → Type 0
 AreOnRowsPut columns parameters conditions changes = AllByRecursion (λ row. AllByRecursion (IsOnRow columns parameters row) conditions) (rows_put changes)
+
+-- each row that changes put in a table is there after all of them
+abbrev pub ArePutThere : Table → List Change → Type 0
+ArePutThere t changes = AllByRecursion (λ row. Any (λ r. r.row ≡ row) (changed_by t changes).rows) (rows_put changes)
 
 -- only new rows
 abbrev pub is_insertion : Change → Bool
@@ -78,3 +86,10 @@ pub record Removals (s : Seen) (t : ChangeTarget) (on : Option ℕ) (changes : L
   pub numbers : List ℕ
   pub chosen : Chosen s t on numbers
   pub all : changes ≡ map Remove numbers
+
+-- ---- what a change leaves alone
+
+-- in keys other than the lost ones, the values that rows of the table had are there still; and the rows that are put in are
+pub record KeepsRest (t : BaseTable) (before : Table) (changed : Changed) : Type 0 where
+  pub keys : KeepsKeys t.keys changed.lost_keys.items before (changed_by before changed.changes.items)
+  pub put : ArePutThere before changed.changes.items

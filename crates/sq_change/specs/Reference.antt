@@ -1,8 +1,17 @@
--- Keys to which references are (ISO/IEC 9075:1992, 11.8).
-use Rattle.std.specs.Prelude.{ℕ, Bool, nat_lt, List, length}
-use Rattle.std.specs.List.{list_all}
-use Rattle.sq_store.specs.Keys.{Keys, keys_at}
+-- Keys to which references are, and the rows that are referred to (ISO/IEC 9075:1992, 11.8).
+use Rattle.std.specs.Prelude.{◌≡◌, ℕ, Bool, true, false, ◌&&◌, ◌||◌, not, nat_eq, nat_lt, if◌then◌else◌, is_some, slice_get, Option, None, Some, flat_map, List, [], ◌∷◌, length, ◌<◌}
+use Rattle.std.specs.List.{enumerate_from, list_all, list_any}
+use Rattle.sq_value.specs.Key.{in_columns}
+use Rattle.sq_value.specs.declared.value.Value.{Value}
+use Rattle.sq_store.specs.Content.{Content, table_at}
+use Rattle.sq_store.specs.Keys.{Keys, key_at, keys_at, with_key}
+use Rattle.sq_store.specs.declared.table.Table.{Table}
+use Rattle.sq_meaning.specs.Environment.{Row}
+use Rattle.sq_model.specs.Constraints.{has_null}
+use Rattle.sq_bound.specs.declared.names.BaseTable.{BaseTable}
 use Rattle.sq_bound.specs.declared.names.Reference.{Reference}
+use Rattle.sq_bound.specs.declared.statement.BoundAssignment.{BoundAssignment}
+use Rattle.sq_change.specs.Constraints.{reference_met}
 use Rattle.sq_change.specs.declared.reference.Referenced.{Referenced}
 
 -- a table has a key of this number
@@ -20,3 +29,69 @@ is_of_key keys r = is_key keys r.table r.key
 
 abbrev pub are_of_keys : List Keys → List Referenced → Bool
 are_of_keys keys rows = list_all (is_of_key keys) rows
+
+-- ---- the rows that are referred to
+
+-- the row that a reference of a row asks for: none where a referencing column is null
+abbrev pub referred : Row → Reference → List Referenced
+referred row r = if has_null (in_columns row r.by_key) then [] else record { table = r.table; key = r.key; values = in_columns row r.by_key } ∷ []
+
+-- the values by which a row asks for another one: none where a referencing column is null
+abbrev pub values_referred : Row → Reference → Option Row
+values_referred row r = if has_null (in_columns row r.by_key) then None else Some (in_columns row r.by_key)
+
+-- those of rows, one after the other
+abbrev pub referred_by : List Reference → List Row → List Referenced
+referred_by references rows = flat_map (λ row. flat_map (referred row) references) rows
+
+abbrev pub is_row_there : List Keys → Content → Referenced → Bool
+is_row_there keys content r = is_some (with_key (table_at content r.table) (key_at keys r.table r.key) r.values)
+
+abbrev pub are_rows_there : List Keys → Content → List Referenced → Bool
+are_rows_there keys content rows = list_all (is_row_there keys content) rows
+
+-- ---- keys in which rows may have lost their values
+
+abbrev pub refers_to_lost : ℕ → List ℕ → Reference → Bool
+refers_to_lost table lost r = nat_eq r.table table && list_any (nat_eq r.key) lost
+
+-- every reference to one of these keys of a table is met
+abbrev pub lost_are_met : List BaseTable → Content → ℕ → List ℕ → Bool
+lost_are_met bases content table lost =
+    list_all (λ p. list_all (λ r. not (refers_to_lost table lost r) || reference_met bases content p.0 r) p.1.references) (enumerate_from 0 bases)
+
+-- ---- the same over the keys of a store
+
+-- some referencing column is null, or the row that is asked for is there
+abbrev pub is_met_in : List Keys → Content → Reference → Row → Bool
+is_met_in keys content r row =
+    has_null (in_columns row r.by_key) || is_some (with_key (table_at content r.table) (key_at keys r.table r.key) (in_columns row r.by_key))
+
+-- every row of the table at a place meets its reference
+abbrev pub reference_met_in : List Keys → Content → ℕ → Reference → Bool
+reference_met_in keys content place r = list_all (λ n. is_met_in keys content r n.row) (table_at content place).rows
+
+-- it does, or the reference is to none of these keys of a table
+abbrev pub lost_met_in : List Keys → Content → ℕ → List ℕ → ℕ → Reference → Bool
+lost_met_in keys content table lost place r = not (refers_to_lost table lost r) || reference_met_in keys content place r
+
+-- ---- keys that lose nothing
+
+-- in each other key, the values that rows had are there still
+abbrev pub KeepsKeys : Keys → List ℕ → Table → Table → Type 0
+KeepsKeys keys lost before after =
+    (key : ℕ) (columns : List ℕ) → slice_get keys key ≡ Some columns → list_any (nat_eq key) lost ≡ false
+    → (values : List Value) → is_some (with_key before columns values) ≡ true → is_some (with_key after columns values) ≡ true
+
+-- a set clause assigns one of the columns
+abbrev pub is_assigned : List ℕ → List BoundAssignment → Bool
+is_assigned columns assignments = list_any (λ a. list_any (λ c. nat_eq c a.column.position) columns) assignments
+
+-- each key with a column that a set clause assigns is one of these
+abbrev pub LosesAssigned : Keys → List BoundAssignment → List ℕ → Type 0
+LosesAssigned keys assignments lost =
+    (key : ℕ) (columns : List ℕ) → slice_get keys key ≡ Some columns → list_any (nat_eq key) lost ≡ false → is_assigned columns assignments ≡ false
+
+-- all keys are among these
+abbrev pub LosesAll : Keys → List ℕ → Type 0
+LosesAll keys lost = (key : ℕ) → key < length keys → list_any (nat_eq key) lost ≡ true

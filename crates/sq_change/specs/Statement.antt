@@ -1,39 +1,22 @@
--- What INSERT, UPDATE and DELETE do to the tables (ISO/IEC 9075:1992, 13.6 to 13.10). One base table changes, and no other. Whether
--- check options and constraints allow the change isn't said here: a statement whose rows can be made is performed, or refused for these.
-use Rattle.std.specs.Prelude.{⊤, IsSome, ◌≡◌, ◌⊎◌, ◌<◌, ℕ, true, List, [], ◌∷◌, length, Option, None, Some, fold, Result, Ok, Err}
+-- What INSERT, UPDATE and DELETE do to the tables where they are performed (ISO/IEC 9075:1992, 13.6 to 13.10). One base table changes, and
+-- no other. Performed says when they are.
+use Rattle.std.specs.Prelude.{⊤, IsSome, ◌≡◌, ◌⊎◌, ◌<◌, ℕ, true, List, [], ◌∷◌, length, Option, None, Some, fold, Ok}
 use Rattle.sq_value.specs.declared.value.Value.{Value}
 use Rattle.sq_store.specs.declared.table.Numbered.{Numbered}
 use Rattle.sq_store.specs.declared.table.Table.{Table}
 use Rattle.sq_store.specs.Content.{Content, inserted, removed, replaced, table_at, with_table}
 use Rattle.sq_meaning.specs.Status.{Outcome, ◌>>=◌}
-use Rattle.sq_meaning.specs.declared.status.Status.{Status}
 use Rattle.sq_bound.specs.declared.query.Target.{Target}
 use Rattle.sq_bound.specs.declared.statement.BoundInsert.{BoundInsert}
 use Rattle.sq_bound.specs.declared.statement.BoundUpdate.{BoundUpdate}
 use Rattle.sq_bound.specs.declared.statement.ChangeTarget.{ChangeTarget}
 use Rattle.sq_bound.specs.declared.statement.ChangeTarget.TheVariants as target
-use Rattle.sq_expression.specs.Fault.{status_of}
-use Rattle.sq_expression.specs.declared.fault.Fault.{Fault}
-use Rattle.sq_expression.specs.declared.fault.Fault.TheVariants as fault
 use Rattle.sq_query.specs.Table.{AreMeant}
 use Rattle.sq_change.specs.Made.{Seen, Shown, numbers_changed, numbers_found, rows_inserted, rows_updated}
 
 -- these are the rows of the tables and views that the statement sees
 abbrev pub IsShown : Seen → Shown → Type 0
 IsShown s shown = AreMeant s.views s.tables s.user shown
-
--- ---- how a statement that fails ends
-
--- with this status, or memory was refused
-abbrev pub EndsWith : Status → Result (Unit {0}) Fault → Type 0
-EndsWith st (Ok u) = ⊥
-EndsWith st (Err (fault.Status f)) = status_of f ≡ st
-EndsWith st (Err fault.NoMemory) = ⊤
-
--- a statement whose rows can't be made ends with the status that says why
-abbrev pub FailsAs : {A : Type 0} → Outcome A → Result (Unit {0}) Fault → Type 0
-FailsAs (Ok x) result = ⊤
-FailsAs (Err st) result = EndsWith st result
 
 -- ---- INSERT (13.8)
 

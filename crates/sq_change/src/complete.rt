@@ -6,14 +6,19 @@ ghost use Rattle.sq_value.specs.declared.domain.Kind.{Kind};
 ghost use Rattle.sq_value.specs.declared.value.Value.{Value as AnyValue};
 ghost use Rattle.sq_store.specs.Change.{insert_count, rows_put};
 ghost use Rattle.sq_store.specs.Content.{changed_by, table_at, with_table};
-ghost use Rattle.sq_store.specs.Keys.{has_keys, keys_at};
+ghost use Rattle.sq_store.specs.Keys.{has_distinct_keys, has_keys, keys_at};
+ghost use Rattle.sq_model.specs.Constraints.{demanded};
+ghost use Rattle.sq_meaning.specs.declared.status.Status.TheVariants.{IntegrityConstraintViolation};
+ghost use Rattle.sq_expression.specs.Fault.{Meets, MeetsAs};
 ghost use Rattle.sq_meaning.specs.Status.{Outcome};
 ghost use Rattle.sq_bound.specs.Fits.{AreInDomains, IsBase, holds, keys_of_bases};
 ghost use Rattle.sq_bound.specs.WellFormed.{BasesAreThere, IsLeaf};
 ghost use Rattle.sq_bound.specs.declared.condition.TablePlace.{TablePlace};
 ghost use Rattle.sq_query.specs.MayRead.{MayEnd, MayRead};
-ghost use Rattle.sq_change.specs.Changed.{AreRowsPut, are_wide};
-ghost use Rattle.sq_change.specs.Reference.{are_of_keys};
+ghost use Rattle.sq_change.specs.Changed.{AreRowsPut, KeepsRest, are_wide};
+ghost use Rattle.sq_change.specs.Constraints.{completed, constraints_hold, has_its_values, rows_met};
+ghost use Rattle.sq_change.specs.Made.{Shown, seen_by};
+ghost use Rattle.sq_change.specs.Reference.{are_of_keys, referred_by};
 
 use crate::constraint::{check_options_met, rows_satisfied};
 use crate::reference::{Referenced, referenced_by, references_satisfied};
@@ -54,8 +59,20 @@ pub(crate) fn complete<N: Names, S: Store>(
     requires domains { AreRowsPut leaf.now.table.columns changed.changes.items }
     requires numbers { insert_count changed.changes.items ≤ S.row_numbers store.old + 1 -
         (table_at (S.content_now store.old) leaf.now.table.place).next }
+    requires keeps { KeepsRest leaf.now.table (table_at (S.content_now store.old) leaf.now.table.place) changed }
+    ensures meant { let seen = seen_by (N.view_queries names.now) (S.content_now store.old) user parameters.now in
+        (kinds : List Kind) (shown : Shown)
+        → MayRead (N.base_tables names.now) (N.view_queries names.now) (N.column_kinds names.now)
+        (S.content_now store.old) user parameters.now kinds shown
+        → constraints_hold (N.base_tables names.now) (S.content_now store.old) ≡ true
+        → MeetsAs (λ done. S.content_now store.new) result
+        (completed shown seen (N.base_tables names.now) leaf.now (rows_put changed.changes.items)
+        (changed_by (table_at (S.content_now store.old) leaf.now.table.place) changed.changes.items)) }
+    ensures constraints { constraints_hold (N.base_tables names.now) (S.content_now store.old) ≡ true
+        → constraints_hold (N.base_tables names.now) (S.content_now store.new) ≡ true }
     ensures ok { OnOk result (S.content_now store.new
-        ≡ with_table (S.content_now store.old) leaf.now.table.place (changed_by (table_at (S.content_now store.old) leaf.now.table.place) changed.changes.items)) }
+        ≡ with_table (S.content_now store.old) leaf.now.table.place
+        (changed_by (table_at (S.content_now store.old) leaf.now.table.place) changed.changes.items)) }
     ensures err { OnErr result (S.content_now store.new ≡ S.content_now store.old) }
     ensures tables { holds (N.base_tables names.now) (S.content_now store.new) ≡ true }
     ensures in_domains { AreInDomains (N.base_tables names.now) (S.content_now store.new) }
@@ -63,7 +80,8 @@ pub(crate) fn complete<N: Names, S: Store>(
     ensures keys { S.key_columns store.new ≡ S.key_columns store.old }
     ensures numbers { S.row_numbers store.new ≡ S.row_numbers store.old }
     ensures right { (kinds : List Kind) (tables : TablePlace → Outcome (List (List AnyValue)))
-        → MayRead (N.base_tables names.now) (N.view_queries names.now) (N.column_kinds names.now) (S.content_now store.old) user parameters.now kinds tables
+        → MayRead (N.base_tables names.now) (N.view_queries names.now) (N.column_kinds names.now)
+        (S.content_now store.old) user parameters.now kinds tables
         → IfErr result MayEnd }
 {
     let table = leaf.table.get();
@@ -103,6 +121,15 @@ fn rows_admitted<N: Names, S: Store>(
     requires base { IsBase (N.base_tables setting.now.names.now) leaf.now.table }
     requires wide { are_wide (length leaf.now.table.columns) (rows_put changed.now.changes.items) ≡ true }
     ensures known { IfOk result (λ referenced. are_of_keys (S.key_columns setting.now.store.now) referenced.items ≡ true) }
+    ensures values { IfOk result (λ referenced. list_all (has_its_values leaf.now.table) (rows_put changed.now.changes.items) ≡ true) }
+    ensures list { IfOk result (λ referenced. referenced.items ≡ referred_by leaf.now.table.references
+        (rows_put changed.now.changes.items)) }
+    ensures met { let seen = seen_by (N.view_queries setting.now.names.now) (S.content_now setting.now.store.now) setting.now.user
+        setting.now.parameters.now in (parameters : List Kind) (shown : Shown)
+        → MayRead (N.base_tables setting.now.names.now) (N.view_queries setting.now.names.now) (N.column_kinds setting.now.names.now)
+        (S.content_now setting.now.store.now) setting.now.user setting.now.parameters.now parameters shown
+        → AreRowsPut leaf.now.table.columns changed.now.changes.items
+        → MeetsAs (λ referenced. tt) result (rows_met shown seen leaf.now (rows_put changed.now.changes.items)) }
     ensures right { (parameters : List Kind) (tables : TablePlace → Outcome (List (List AnyValue)))
         → MayRead (N.base_tables setting.now.names.now) (N.view_queries setting.now.names.now) (N.column_kinds setting.now.names.now)
         (S.content_now setting.now.store.now) setting.now.user setting.now.parameters.now parameters tables
@@ -128,6 +155,8 @@ fn apply<S: Store>(
     ensures ok { OnOk result (S.content_now store.new
         ≡ with_table (S.content_now store.old) place (changed_by (table_at (S.content_now store.old) place) changes.items)) }
     ensures before { OnOk result (S.before store.new ≡ Some (S.content_now store.old)) }
+    ensures distinct { Meets result (demanded (has_distinct_keys (keys_at (S.key_columns store.old) place)
+        (changed_by (table_at (S.content_now store.old) place) changes.items)) IntegrityConstraintViolation) }
     ensures err { OnErr result (S.content_now store.new ≡ S.content_now store.old) }
     ensures committed { S.committed store.new ≡ S.committed store.old }
     ensures keys { S.key_columns store.new ≡ S.key_columns store.old }

@@ -1,16 +1,22 @@
 //! What new and changed rows have to meet: check options, NOT NULL and CHECK (ISO/IEC 9075:1992, 11.4, 11.9, 11.19).
 
-ghost use Rattle.std.specs.Prelude.{◌≡◌, length, true, List, take, IfErr};
-ghost use Rattle.std.specs.List.{AllByRecursion};
+ghost use Rattle.std.specs.Prelude.{◌≡◌, length, true, List, take, IfErr, IfOk, Ok};
+ghost use Rattle.std.specs.List.{AllByRecursion, list_all, list_any, zip};
 ghost use Rattle.sq_value.specs.declared.domain.Kind.{Kind};
 ghost use Rattle.sq_value.specs.declared.value.Value.{Value as AnyValue};
 ghost use Rattle.sq_store.specs.Change.{rows_put};
-ghost use Rattle.sq_meaning.specs.Status.{Outcome};
+ghost use Rattle.sq_meaning.specs.Query.{is_true};
+ghost use Rattle.sq_meaning.specs.Status.{Outcome, and_then};
+ghost use Rattle.sq_meaning.specs.Target.{is_or_violates};
+ghost use Rattle.sq_model.specs.Constraints.{all_satisfied};
 ghost use Rattle.sq_bound.specs.declared.condition.TablePlace.{TablePlace};
+ghost use Rattle.sq_expression.specs.Fault.{Meets};
 ghost use Rattle.sq_query.specs.MayRead.{MayEnd, MayRead};
 ghost use Rattle.sq_query.specs.Needed.{FindsCond, FindsConds};
 ghost use Rattle.sq_query.specs.Row.{IsOnRow};
 ghost use Rattle.sq_change.specs.Changed.{AreOnRowsPut, are_wide};
+ghost use Rattle.sq_change.specs.Constraints.{check_met, check_option_met, condition_met, has_its_values, lacks_value, row_met};
+ghost use Rattle.sq_change.specs.Made.{Shown, seen_by};
 
 use crate::row::{is_null, row_put};
 use crate::setting::Setting;
@@ -26,7 +32,13 @@ pub(crate) fn check_options_met<N: Names, S: Store>(
     changes: &[Change],
 ) -> Result<(), Fault>
     requires { FindsConds (N.base_tables setting.now.names.now) (N.column_kinds setting.now.names.now) leaf.now.conditions }
-    ensures { (parameters : List Kind) (tables : TablePlace → Outcome (List (List AnyValue)))
+    ensures met { let seen = seen_by (N.view_queries setting.now.names.now) (S.content_now setting.now.store.now) setting.now.user
+        setting.now.parameters.now in (parameters : List Kind) (shown : Shown)
+        → MayRead (N.base_tables setting.now.names.now) (N.view_queries setting.now.names.now) (N.column_kinds setting.now.names.now)
+        (S.content_now setting.now.store.now) setting.now.user setting.now.parameters.now parameters shown
+        → AreOnRowsPut (N.column_kinds setting.now.names.now) parameters leaf.now.conditions changes.now
+        → Meets result (all_satisfied (check_option_met shown seen leaf.now) (rows_put changes.now)) }
+    ensures right { (parameters : List Kind) (tables : TablePlace → Outcome (List (List AnyValue)))
         → MayRead (N.base_tables setting.now.names.now) (N.view_queries setting.now.names.now) (N.column_kinds setting.now.names.now)
         (S.content_now setting.now.store.now) setting.now.user setting.now.parameters.now parameters tables
         → AreOnRowsPut (N.column_kinds setting.now.names.now) parameters leaf.now.conditions changes.now → IfErr result MayEnd }
@@ -54,7 +66,13 @@ fn meets_check_option<N: Names, S: Store>(
     row: &Row,
 ) -> Result<(), Fault>
     requires { FindsConds (N.base_tables setting.now.names.now) (N.column_kinds setting.now.names.now) conditions.now }
-    ensures { (parameters : List Kind) (tables : TablePlace → Outcome (List (List AnyValue)))
+    ensures met { let seen = seen_by (N.view_queries setting.now.names.now) (S.content_now setting.now.store.now) setting.now.user
+        setting.now.parameters.now in (parameters : List Kind) (shown : Shown)
+        → MayRead (N.base_tables setting.now.names.now) (N.view_queries setting.now.names.now) (N.column_kinds setting.now.names.now)
+        (S.content_now setting.now.store.now) setting.now.user setting.now.parameters.now parameters shown
+        → AllByRecursion (IsOnRow (N.column_kinds setting.now.names.now) parameters row.now) conditions.now
+        → Meets result (all_satisfied (condition_met shown seen row.now) conditions.now) }
+    ensures right { (parameters : List Kind) (tables : TablePlace → Outcome (List (List AnyValue)))
         → MayRead (N.base_tables setting.now.names.now) (N.view_queries setting.now.names.now) (N.column_kinds setting.now.names.now)
         (S.content_now setting.now.store.now) setting.now.user setting.now.parameters.now parameters tables
         → AllByRecursion (IsOnRow (N.column_kinds setting.now.names.now) parameters row.now) conditions.now → IfErr result MayEnd }
@@ -66,7 +84,8 @@ fn meets_check_option<N: Names, S: Store>(
 }
 
 fn is_or_violates(truth: Truth) -> Result<(), Fault>
-    ensures { IfErr result MayEnd }
+    ensures met { Meets result (and_then (is_true (Ok truth)) is_or_violates) }
+    ensures right { IfErr result MayEnd }
 {
     match truth {
         Truth::True => Ok(()),
@@ -82,7 +101,14 @@ pub(crate) fn rows_satisfied<N: Names, S: Store>(
 ) -> Result<(), Fault>
     requires wide { are_wide (length table.now.columns) (rows_put changes.now) ≡ true }
     requires finds { FindsConds (N.base_tables setting.now.names.now) (N.column_kinds setting.now.names.now) table.now.checks }
-    ensures { (parameters : List Kind) (tables : TablePlace → Outcome (List (List AnyValue)))
+    ensures values { IfOk result (λ done. list_all (has_its_values table.now) (rows_put changes.now) ≡ true) }
+    ensures met { let seen = seen_by (N.view_queries setting.now.names.now) (S.content_now setting.now.store.now) setting.now.user
+        setting.now.parameters.now in (parameters : List Kind) (shown : Shown)
+        → MayRead (N.base_tables setting.now.names.now) (N.view_queries setting.now.names.now) (N.column_kinds setting.now.names.now)
+        (S.content_now setting.now.store.now) setting.now.user setting.now.parameters.now parameters shown
+        → AreOnRowsPut (N.column_kinds setting.now.names.now) parameters table.now.checks changes.now
+        → Meets result (all_satisfied (row_met shown seen table.now) (rows_put changes.now)) }
+    ensures right { (parameters : List Kind) (tables : TablePlace → Outcome (List (List AnyValue)))
         → MayRead (N.base_tables setting.now.names.now) (N.view_queries setting.now.names.now) (N.column_kinds setting.now.names.now)
         (S.content_now setting.now.store.now) setting.now.user setting.now.parameters.now parameters tables
         → AreOnRowsPut (N.column_kinds setting.now.names.now) parameters table.now.checks changes.now → IfErr result MayEnd }
@@ -103,7 +129,14 @@ fn row_satisfied<N: Names, S: Store>(
 ) -> Result<(), Fault>
     requires wide { length row.now ≡ length table.now.columns }
     requires finds { FindsConds (N.base_tables setting.now.names.now) (N.column_kinds setting.now.names.now) table.now.checks }
-    ensures { (parameters : List Kind) (tables : TablePlace → Outcome (List (List AnyValue)))
+    ensures values { IfOk result (λ done. has_its_values table.now row.now ≡ true) }
+    ensures met { let seen = seen_by (N.view_queries setting.now.names.now) (S.content_now setting.now.store.now) setting.now.user
+        setting.now.parameters.now in (parameters : List Kind) (shown : Shown)
+        → MayRead (N.base_tables setting.now.names.now) (N.view_queries setting.now.names.now) (N.column_kinds setting.now.names.now)
+        (S.content_now setting.now.store.now) setting.now.user setting.now.parameters.now parameters shown
+        → AllByRecursion (IsOnRow (N.column_kinds setting.now.names.now) parameters row.now) table.now.checks
+        → Meets result (row_met shown seen table.now row.now) }
+    ensures right { (parameters : List Kind) (tables : TablePlace → Outcome (List (List AnyValue)))
         → MayRead (N.base_tables setting.now.names.now) (N.view_queries setting.now.names.now) (N.column_kinds setting.now.names.now)
         (S.content_now setting.now.store.now) setting.now.user setting.now.parameters.now parameters tables
         → AllByRecursion (IsOnRow (N.column_kinds setting.now.names.now) parameters row.now) table.now.checks → IfErr result MayEnd }
@@ -120,6 +153,7 @@ fn row_satisfied<N: Names, S: Store>(
 /// Whether a column is null that may not be.
 fn lacks_value(table: &BaseTable, row: &[Value]) -> bool
     requires { length row.now ≡ length table.now.columns }
+    ensures { result ≡ list_any lacks_value (zip table.now.columns row.now) }
 {
     for (place, column) in table.columns.as_slice().iter().enumerate() {
         if column.not_null && is_null(&row[place]) {
@@ -136,7 +170,13 @@ fn check_satisfied<N: Names, S: Store>(
     row: &Row,
 ) -> Result<(), Fault>
     requires { FindsCond (N.base_tables setting.now.names.now) (N.column_kinds setting.now.names.now) check.now }
-    ensures { (parameters : List Kind) (tables : TablePlace → Outcome (List (List AnyValue)))
+    ensures met { let seen = seen_by (N.view_queries setting.now.names.now) (S.content_now setting.now.store.now) setting.now.user
+        setting.now.parameters.now in (parameters : List Kind) (shown : Shown)
+        → MayRead (N.base_tables setting.now.names.now) (N.view_queries setting.now.names.now) (N.column_kinds setting.now.names.now)
+        (S.content_now setting.now.store.now) setting.now.user setting.now.parameters.now parameters shown
+        → IsOnRow (N.column_kinds setting.now.names.now) parameters row.now check.now
+        → Meets result (check_met shown seen row.now check.now) }
+    ensures right { (parameters : List Kind) (tables : TablePlace → Outcome (List (List AnyValue)))
         → MayRead (N.base_tables setting.now.names.now) (N.view_queries setting.now.names.now) (N.column_kinds setting.now.names.now)
         (S.content_now setting.now.store.now) setting.now.user setting.now.parameters.now parameters tables
         → IsOnRow (N.column_kinds setting.now.names.now) parameters row.now check.now → IfErr result MayEnd }

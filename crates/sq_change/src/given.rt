@@ -42,7 +42,8 @@ pub(crate) fn new_rows<N: Names, S: Store>(
     meter: &mut Meter,
 ) -> Result<Vec<Change>, Fault>
     requires columns { AllByRecursion (IsColumnOf table.now) insert.now.columns }
-    requires given { MayGive (N.base_tables setting.now.names.now) (N.view_queries setting.now.names.now) (N.column_kinds setting.now.names.now)
+    requires given { MayGive (N.base_tables setting.now.names.now) (N.view_queries setting.now.names.now)
+        (N.column_kinds setting.now.names.now)
         (S.content_now setting.now.store.now) setting.now.user setting.now.parameters.now insert.now.columns insert.now.source }
     ensures made { let seen = seen_by (N.view_queries setting.now.names.now) (S.content_now setting.now.store.now) setting.now.user
         setting.now.parameters.now in (shown : Shown) → IsShown seen shown
@@ -63,7 +64,8 @@ fn given_rows<N: Names, S: Store>(
     insert: &BoundInsert,
     meter: &mut Meter,
 ) -> Result<Vec<Row>, Fault>
-    requires given { MayGive (N.base_tables setting.now.names.now) (N.view_queries setting.now.names.now) (N.column_kinds setting.now.names.now)
+    requires given { MayGive (N.base_tables setting.now.names.now) (N.view_queries setting.now.names.now)
+        (N.column_kinds setting.now.names.now)
         (S.content_now setting.now.store.now) setting.now.user setting.now.parameters.now insert.now.columns insert.now.source }
     ensures made { let seen = seen_by (N.view_queries setting.now.names.now) (S.content_now setting.now.store.now) setting.now.user
         setting.now.parameters.now in (shown : Shown) → IsShown seen shown
@@ -123,7 +125,8 @@ fn rows_found<N: Names, S: Store>(
     ensures kinds { (parameters : List Kind) (tables : TablePlace → Outcome (List (List AnyValue)))
         → MayRead (N.base_tables setting.now.names.now) (N.view_queries setting.now.names.now) (N.column_kinds setting.now.names.now)
         (S.content_now setting.now.store.now) setting.now.user setting.now.parameters.now parameters tables
-        → IsSelect (N.column_kinds setting.now.names.now) parameters [] query.now → IfOk result (λ rows. AreRowsOf (kinds_of_select query.now) rows.items) }
+        → IsSelect (N.column_kinds setting.now.names.now) parameters [] query.now
+        → IfOk result (λ rows. AreRowsOf (kinds_of_select query.now) rows.items) }
     ensures right { (parameters : List Kind) (tables : TablePlace → Outcome (List (List AnyValue)))
         → MayRead (N.base_tables setting.now.names.now) (N.view_queries setting.now.names.now) (N.column_kinds setting.now.names.now)
         (S.content_now setting.now.store.now) setting.now.user setting.now.parameters.now parameters tables

@@ -8,7 +8,8 @@ ghost use Rattle.sq_meaning.specs.Status.{Outcome};
 ghost use Rattle.sq_bound.specs.declared.condition.TablePlace.{TablePlace};
 ghost use Rattle.sq_query.specs.MayRead.{MayEnd, MayRead};
 ghost use Rattle.sq_query.specs.Needed.{FindsCond};
-ghost use Rattle.sq_query.specs.Row.{line_of, HasValueOn, IsOnRow};
+ghost use Rattle.sq_query.specs.Row.{line_of, HasValueOn, IsOnRow, truth_on_row};
+ghost use Rattle.sq_expression.specs.Fault.{Meets};
 
 use sq_bound::{BoundCond, BoundExpr, Names};
 use sq_expression::Fault;
@@ -71,7 +72,12 @@ impl<'a, N: Names, S: Store> Setting<'a, N, S> {
     /// Whether a condition holds of a row of a base table.
     pub(crate) fn truth(&self, condition: &BoundCond, row: &Row) -> Result<Truth, Fault>
         requires { FindsCond (N.base_tables self.now.names.now) (N.column_kinds self.now.names.now) condition.now }
-        ensures { (parameters : List Kind) (tables : TablePlace → Outcome (List (List AnyValue)))
+        ensures truth { (parameters : List Kind) (tables : TablePlace → Outcome (List (List AnyValue)))
+            → MayRead (N.base_tables self.now.names.now) (N.view_queries self.now.names.now) (N.column_kinds self.now.names.now)
+            (S.content_now self.now.store.now) self.now.user self.now.parameters.now parameters tables
+            → IsOnRow (N.column_kinds self.now.names.now) parameters row.now condition.now
+            → Meets result (truth_on_row tables self.now.parameters.now self.now.user row.now condition.now) }
+        ensures right { (parameters : List Kind) (tables : TablePlace → Outcome (List (List AnyValue)))
             → MayRead (N.base_tables self.now.names.now) (N.view_queries self.now.names.now) (N.column_kinds self.now.names.now)
             (S.content_now self.now.store.now) self.now.user self.now.parameters.now parameters tables
             → IsOnRow (N.column_kinds self.now.names.now) parameters row.now condition.now → IfErr result MayEnd }

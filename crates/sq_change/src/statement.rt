@@ -8,10 +8,12 @@ ghost use Rattle.sq_bound.specs.Fits.{AreInDomains, IsBase, IsColumnOf, are_colu
 ghost use Rattle.sq_bound.specs.WellFormed.{IsLeaf};
 ghost use Rattle.sq_expression.specs.Fault.{MeetsAs};
 ghost use Rattle.sq_query.specs.MayRead.{MayEnd};
-ghost use Rattle.sq_change.specs.Changed.{AreRowsPut, Removals, Replacements, are_insertions, are_wide, changed_in};
+ghost use Rattle.sq_change.specs.Changed.{AreRowsPut, KeepsRest, Removals, Replacements, are_insertions, are_wide, changed_in};
+ghost use Rattle.sq_change.specs.Constraints.{constraints_hold};
 ghost use Rattle.sq_change.specs.Given.{MayAssign, MayChoose, MayGive};
 ghost use Rattle.sq_change.specs.Made.{Fails, Shown, numbers_changed, rows_inserted, seen_by};
-ghost use Rattle.sq_change.specs.Statement.{Deletes, FailsAs, Inserts, IsGiven, IsPlain, IsShown, Updates, update_made};
+ghost use Rattle.sq_change.specs.Performed.{delete_outcome, insert_outcome, update_outcome};
+ghost use Rattle.sq_change.specs.Statement.{Deletes, Inserts, IsGiven, IsPlain, IsShown, Updates, update_made};
 
 use crate::complete::{Changed, complete};
 use crate::given::new_rows;
@@ -43,10 +45,14 @@ pub fn insert<N: Names, S: Store>(
     requires columns { AllByRecursion (IsColumnOf insert.now.leaf.table) insert.now.columns }
     requires given { MayGive (N.base_tables names.now) (N.view_queries names.now) (N.column_kinds names.now)
         (S.content_now store.old) inputs.user inputs.parameters.now insert.now.columns insert.now.source }
+    ensures meant { let seen = seen_by (N.view_queries names.now) (S.content_now store.old) inputs.entry.user inputs.entry.parameters.now in
+        (shown : Shown) → IsShown seen shown → constraints_hold (N.base_tables names.now) (S.content_now store.old) ≡ true
+        → MeetsAs (λ done. S.content_now store.new) result (insert_outcome shown seen (N.base_tables names.now)
+        (S.row_numbers store.old) insert.now) }
+    ensures constraints { constraints_hold (N.base_tables names.now) (S.content_now store.old) ≡ true
+        → constraints_hold (N.base_tables names.now) (S.content_now store.new) ≡ true }
     ensures ok { let seen = seen_by (N.view_queries names.now) (S.content_now store.old) inputs.entry.user inputs.entry.parameters.now in
         OnOk result (Inserts seen (S.row_numbers store.old) insert.now (S.content_now store.new)) }
-    ensures fails { let seen = seen_by (N.view_queries names.now) (S.content_now store.old) inputs.entry.user inputs.entry.parameters.now in
-        (shown : Shown) → IsShown seen shown → FailsAs (rows_inserted shown seen (S.row_numbers store.old) insert.now) result }
     ensures err { OnErr result (S.content_now store.new ≡ S.content_now store.old) }
     ensures tables { holds (N.base_tables names.now) (S.content_now store.new) ≡ true }
     ensures in_domains { AreInDomains (N.base_tables names.now) (S.content_now store.new) }
@@ -71,11 +77,14 @@ fn inserted<N: Names, S: Store>(
 ) -> Result<Changed, Fault>
     requires place { insert.now.leaf.table.place < length (S.content_now setting.now.store.now) }
     requires columns { AllByRecursion (IsColumnOf insert.now.leaf.table) insert.now.columns }
-    requires given { MayGive (N.base_tables setting.now.names.now) (N.view_queries setting.now.names.now) (N.column_kinds setting.now.names.now)
+    requires given { MayGive (N.base_tables setting.now.names.now) (N.view_queries setting.now.names.now)
+        (N.column_kinds setting.now.names.now)
         (S.content_now setting.now.store.now) setting.now.user setting.now.parameters.now insert.now.columns insert.now.source }
     ensures made { let seen = seen_by (N.view_queries setting.now.names.now) (S.content_now setting.now.store.now) setting.now.user
         setting.now.parameters.now in (shown : Shown) → IsShown seen shown → MeetsAs (λ changed. rows_put changed.changes.items) result
         (rows_inserted shown seen (S.row_numbers setting.now.store.now) insert.now) }
+    ensures keeps { IfOk result (KeepsRest insert.now.leaf.table (table_at
+        (S.content_now setting.now.store.now) insert.now.leaf.table.place)) }
     ensures insertions { IfOk result (λ changed. are_insertions changed.changes.items ≡ true) }
     ensures some { IfOk result (λ changed. 0 < vec_len changed.changes) }
     ensures wide { IfOk result (λ changed. are_wide (length insert.now.leaf.table.columns) (rows_put changed.changes.items) ≡ true) }
@@ -122,10 +131,14 @@ pub fn update<N: Names, S: Store>(
     requires columns { are_columns (length (under update.now.target).table.columns) update.now.assignments ≡ true }
     requires domains { AllByRecursion (λ a. IsColumnOf (under update.now.target).table a.column) update.now.assignments }
     requires assigned { MayAssign (N.column_kinds names.now) inputs.parameters.now (under update.now.target).table update.now.assignments }
+    ensures meant { let seen = seen_by (N.view_queries names.now) (S.content_now store.old) inputs.entry.user inputs.entry.parameters.now in
+        IsPlain update.now.target → (shown : Shown) → IsShown seen shown
+        → constraints_hold (N.base_tables names.now) (S.content_now store.old) ≡ true
+        → MeetsAs (λ done. S.content_now store.new) result (update_outcome shown seen (N.base_tables names.now) update.now on) }
+    ensures constraints { constraints_hold (N.base_tables names.now) (S.content_now store.old) ≡ true
+        → constraints_hold (N.base_tables names.now) (S.content_now store.new) ≡ true }
     ensures ok { let seen = seen_by (N.view_queries names.now) (S.content_now store.old) inputs.entry.user inputs.entry.parameters.now in
         OnOk result (Updates seen update.now on (S.content_now store.new)) }
-    ensures fails { let seen = seen_by (N.view_queries names.now) (S.content_now store.old) inputs.entry.user inputs.entry.parameters.now in
-        IsPlain update.now.target → (shown : Shown) → IsShown seen shown → FailsAs (update_made shown seen update.now on) result }
     ensures err { OnErr result (S.content_now store.new ≡ S.content_now store.old) }
     ensures tables { holds (N.base_tables names.now) (S.content_now store.new) ≡ true }
     ensures in_domains { AreInDomains (N.base_tables names.now) (S.content_now store.new) }
@@ -149,7 +162,8 @@ fn updated<N: Names, S: Store>(
     meter: &mut Meter,
 ) -> Result<Changed, Fault>
     requires given { IsGiven update.now.target on }
-    requires may { MayChoose (N.base_tables setting.now.names.now) (N.view_queries setting.now.names.now) (N.column_kinds setting.now.names.now)
+    requires may { MayChoose (N.base_tables setting.now.names.now) (N.view_queries setting.now.names.now)
+        (N.column_kinds setting.now.names.now)
         (S.content_now setting.now.store.now) setting.now.user setting.now.parameters.now update.now.target }
     requires there { IfSome on (λ n. IsSome (row_at (table_at (S.content_now setting.now.store.now) (under update.now.target).table.place)
         n)) }
@@ -160,6 +174,8 @@ fn updated<N: Names, S: Store>(
     requires domains { AllByRecursion (λ a. IsColumnOf (under update.now.target).table a.column) update.now.assignments }
     requires assigned { MayAssign (N.column_kinds setting.now.names.now) setting.now.parameters.now (under update.now.target).table
         update.now.assignments }
+    ensures keeps { IfOk result (KeepsRest (under update.now.target).table (table_at (S.content_now setting.now.store.now)
+        (under update.now.target).table.place)) }
     ensures replacements { let seen = seen_by (N.view_queries setting.now.names.now) (S.content_now setting.now.store.now) setting.now.user
         setting.now.parameters.now in IfOk result (λ changed. Replacements seen update.now on changed.changes.items) }
     ensures meant { let seen = seen_by (N.view_queries setting.now.names.now) (S.content_now setting.now.store.now) setting.now.user
@@ -184,6 +200,7 @@ fn changed(
     lost_keys: Result<Vec<usize>, AllocError>,
 ) -> Result<Changed, Fault>
     ensures changes { IfOk result (λ changed. changes ≡ Ok changed.changes) }
+    ensures lost { IfOk result (λ changed. lost_keys ≡ Ok changed.lost_keys) }
     ensures fails { IfErr result (λ f. (f ≡ Fault.NoMemory) ⊎ (changes ≡ Err f)) }
     ensures right { IfErr changes MayEnd → IfErr result MayEnd }
 {
@@ -220,10 +237,14 @@ pub fn delete<N: Names, S: Store>(
     requires in_domains { AreInDomains (N.base_tables names.now) (S.content_now store.old) }
     requires keys { S.key_columns store.old ≡ keys_of_bases (N.base_tables names.now) }
     requires base { IsBase (N.base_tables names.now) (under target.now).table }
+    ensures meant { let seen = seen_by (N.view_queries names.now) (S.content_now store.old) inputs.entry.user inputs.entry.parameters.now in
+        IsPlain target.now → (shown : Shown) → IsShown seen shown
+        → constraints_hold (N.base_tables names.now) (S.content_now store.old) ≡ true
+        → MeetsAs (λ done. S.content_now store.new) result (delete_outcome shown seen (N.base_tables names.now) target.now on) }
+    ensures constraints { constraints_hold (N.base_tables names.now) (S.content_now store.old) ≡ true
+        → constraints_hold (N.base_tables names.now) (S.content_now store.new) ≡ true }
     ensures ok { let seen = seen_by (N.view_queries names.now) (S.content_now store.old) inputs.entry.user inputs.entry.parameters.now in
         OnOk result (Deletes seen target.now on (S.content_now store.new)) }
-    ensures fails { let seen = seen_by (N.view_queries names.now) (S.content_now store.old) inputs.entry.user inputs.entry.parameters.now in
-        IsPlain target.now → (shown : Shown) → IsShown seen shown → FailsAs (numbers_changed shown seen target.now on) result }
     ensures err { OnErr result (S.content_now store.new ≡ S.content_now store.old) }
     ensures tables { holds (N.base_tables names.now) (S.content_now store.new) ≡ true }
     ensures in_domains { AreInDomains (N.base_tables names.now) (S.content_now store.new) }
@@ -247,8 +268,11 @@ fn deleted<N: Names, S: Store>(
     meter: &mut Meter,
 ) -> Result<Changed, Fault>
     requires given { IsGiven target.now on }
-    requires may { MayChoose (N.base_tables setting.now.names.now) (N.view_queries setting.now.names.now) (N.column_kinds setting.now.names.now)
+    requires may { MayChoose (N.base_tables setting.now.names.now) (N.view_queries setting.now.names.now)
+        (N.column_kinds setting.now.names.now)
         (S.content_now setting.now.store.now) setting.now.user setting.now.parameters.now target.now }
+    ensures keeps { IfOk result (KeepsRest (under target.now).table (table_at (S.content_now setting.now.store.now)
+        (under target.now).table.place)) }
     ensures removals { let seen = seen_by (N.view_queries setting.now.names.now) (S.content_now setting.now.store.now) setting.now.user
         setting.now.parameters.now in IfOk result (λ changed. Removals seen target.now on changed.changes.items) }
     ensures meant { let seen = seen_by (N.view_queries setting.now.names.now) (S.content_now setting.now.store.now) setting.now.user

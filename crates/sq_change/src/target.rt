@@ -12,6 +12,7 @@ ghost use Rattle.sq_expression.specs.Fault.{Meets, MeetsAs};
 ghost use Rattle.sq_change.specs.Changed.{AreReplacements, AreRowsPut, are_wide, rows_replaced_in};
 ghost use Rattle.sq_change.specs.Given.{AreAssignable, MayAssign, MayChoose};
 ghost use Rattle.sq_change.specs.Made.{Shown, numbers_changed, row_updated, rows_updated, seen_by};
+ghost use Rattle.sq_change.specs.Reference.{LosesAll, LosesAssigned, is_assigned};
 ghost use Rattle.sq_change.specs.Statement.{Chosen, IsGiven, IsPlain, IsShown};
 
 use crate::setting::Setting;
@@ -43,7 +44,8 @@ pub(crate) fn numbers_changed<N: Names, S: Store>(
     meter: &mut Meter,
 ) -> Result<Vec<u64>, Fault>
     requires given { IsGiven target.now on }
-    requires may { MayChoose (N.base_tables setting.now.names.now) (N.view_queries setting.now.names.now) (N.column_kinds setting.now.names.now)
+    requires may { MayChoose (N.base_tables setting.now.names.now) (N.view_queries setting.now.names.now)
+        (N.column_kinds setting.now.names.now)
         (S.content_now setting.now.store.now) setting.now.user setting.now.parameters.now target.now }
     ensures chosen { let seen = seen_by (N.view_queries setting.now.names.now) (S.content_now setting.now.store.now) setting.now.user
         setting.now.parameters.now in IfOk result (λ numbers. Chosen seen target.now on numbers.items) }
@@ -51,7 +53,8 @@ pub(crate) fn numbers_changed<N: Names, S: Store>(
         setting.now.parameters.now in IsPlain target.now → (shown : Shown) → IsShown seen shown
         → MeetsAs numbers_in result (numbers_changed shown seen target.now on) }
     ensures there { IfSome on (λ n. IsSome (row_at (table_at (S.content_now setting.now.store.now) (under target.now).table.place) n))
-        → IfOk result (λ numbers. AreNumbersOf (table_at (S.content_now setting.now.store.now) (under target.now).table.place) numbers.items) }
+        → IfOk result (λ numbers. AreNumbersOf (table_at (S.content_now setting.now.store.now)
+        (under target.now).table.place) numbers.items) }
     ensures right { IfErr result MayEnd }
 {
     match target {
@@ -146,7 +149,8 @@ fn updated_row<N: Names, S: Store>(
         setting.now.parameters.now in (shown : Shown)
         → Meets result (row_updated shown seen assignments.now row.now) }
     ensures wide { IfOk result (λ updated. length updated ≡ length row.now) }
-    ensures in_domains { IfOk result (λ updated. (t : AnyTable) → AllByRecursion (λ a. IsColumnOf t a.column) assignments.now → IsRowIn t.columns row.now
+    ensures in_domains { IfOk result (λ updated. (t : AnyTable) → AllByRecursion (λ a. IsColumnOf t a.column) assignments.now
+        → IsRowIn t.columns row.now
         → IsRowIn t.columns updated) }
     ensures right { IfErr result MayEnd }
 {
@@ -177,7 +181,9 @@ pub(crate) fn keys_assigned(
     alloc: Global,
     table: &BaseTable,
     assignments: &[BoundAssignment],
-) -> Result<Vec<usize>, AllocError> {
+) -> Result<Vec<usize>, AllocError>
+    ensures lost { IfOk result (λ keys. LosesAssigned table.now.keys assignments.now keys.items) }
+{
     let mut keys = Vec::new(alloc);
     for (key, columns) in table.keys.as_slice().iter().enumerate() {
         if is_assigned(columns.as_slice(), assignments) {
@@ -188,13 +194,17 @@ pub(crate) fn keys_assigned(
 }
 
 /// Whether a set clause assigns one of the columns.
-fn is_assigned(columns: &[usize], assignments: &[BoundAssignment]) -> bool {
+fn is_assigned(columns: &[usize], assignments: &[BoundAssignment]) -> bool
+    ensures { result ≡ is_assigned columns.now assignments.now }
+{
     assignments
         .iter()
         .any(|assignment| columns.contains(&assignment.column.position))
 }
 
 /// All keys of a table.
-pub(crate) fn all_keys(alloc: Global, table: &BaseTable) -> Result<Vec<usize>, AllocError> {
+pub(crate) fn all_keys(alloc: Global, table: &BaseTable) -> Result<Vec<usize>, AllocError>
+    ensures lost { IfOk result (λ keys. LosesAll table.now.keys keys.items) }
+{
     (0..table.keys.len()).collect(alloc)
 }

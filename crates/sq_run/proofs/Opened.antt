@@ -1,5 +1,5 @@
 -- What schema and module texts open, step by step.
-use Rattle.std.proofs.Common.{◌≡◌, ◌∙◌, List, length, Result, Ok, Err, subst}
+use Rattle.std.proofs.Common.{◌≡◌, ◌∙◌, ℕ, List, length, Result, Ok, Err, subst}
 use Rattle.std.specs.Prelude.{IfOk}
 use Rattle.sq_tree.specs.Schema.{schema_tokens}
 use Rattle.sq_tree.specs.Module.{module_tokens}
@@ -19,14 +19,14 @@ pub defined_if : (schemas : List Bytes) (trees : List SchemaText) (answer : Resu
 defined_if schemas trees (Ok c) spelled tables bases = record { trees = trees; spelled = spelled; tables = tables; bases = bases }
 defined_if schemas trees (Err fault) spelled tables bases = tables
 
-pub holds_if : (tables : List FullName) (modules : List Bytes) (trees : List ModuleText) (answer : Result Session TextFault) → AllSpell module_tokens modules trees
-    → IfOk answer (λ s. s.tables ≡ tables) → IfOk answer (λ s. names_of s.procedures ≡ declared_procedures trees) → IfOk answer (λ s. AreOfModules tables trees s.procedures) → IfOk answer IsStart
-    → IfOk answer (Holds tables modules)
-holds_if tables modules trees (Ok s) spelled are procedures written start = record { trees = trees; spelled = spelled; tables_are = are; procedures = procedures; written = written; start = start }
-holds_if tables modules trees (Err fault) spelled are procedures written start = are
+pub holds_if : (row_numbers : ℕ) (tables : List FullName) (modules : List Bytes) (trees : List ModuleText) (answer : Result Session TextFault) → AllSpell module_tokens modules trees
+    → IfOk answer (λ s. s.tables ≡ tables) → IfOk answer (λ s. names_of s.procedures ≡ declared_procedures trees) → IfOk answer (λ s. AreOfModules tables trees s.procedures) → IfOk answer (IsStart row_numbers)
+    → IfOk answer (Holds row_numbers tables modules)
+holds_if row_numbers tables modules trees (Ok s) spelled are procedures written start = record { trees = trees; spelled = spelled; tables_are = are; procedures = procedures; written = written; start = start }
+holds_if row_numbers tables modules trees (Err fault) spelled are procedures written start = are
 
-pub opened_by : (schemas modules : List Bytes) (c : Catalog) (s : Session) → Defined schemas c → Holds c.tables modules s → Opened schemas modules s
-opened_by schemas modules c s defined holds = record {
+pub opened_by : (row_numbers : ℕ) (schemas modules : List Bytes) (c : Catalog) (s : Session) → Defined schemas c → Holds row_numbers c.tables modules s → Opened row_numbers schemas modules s
+opened_by row_numbers schemas modules c s defined holds = record {
   schema_trees = defined.trees;
   module_trees = holds.trees;
   schemas_spell = defined.spelled;

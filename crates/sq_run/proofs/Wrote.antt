@@ -1,5 +1,5 @@
 -- What a session wrote of a script is what a run of the texts wrote.
-use Rattle.std.proofs.Common.{◌≡◌, zero, suc, List, Option, Result, Ok, Err, refl, false}
+use Rattle.std.proofs.Common.{◌≡◌, ℕ, zero, suc, List, Option, Result, Ok, Err, refl, false}
 use Rattle.std.specs.Prelude.{OnOk, IfErr}
 use Rattle.sq_tree.specs.Schema.{schema_tokens}
 use Rattle.sq_tree.specs.Module.{module_tokens}
@@ -56,8 +56,8 @@ script_writes_none start script (NoMemory items) is = refl
 
 -- ---- a session of schemas and modules, as its script is performed
 
-abbrev pub run_of : {schemas modules : List Bytes} {script : Bytes} (start : Session) (actions : List Action) → Opened schemas modules start
-    → AreAsked start script actions → Run schemas modules script
+abbrev pub run_of : {row_numbers : ℕ} {schemas modules : List Bytes} {script : Bytes} (start : Session) (actions : List Action) → Opened row_numbers schemas modules start
+    → AreAsked start script actions → Run row_numbers schemas modules script
 run_of start actions opened asked = record {
   schema_trees = opened.schema_trees;
   module_trees = opened.module_trees;
@@ -72,39 +72,39 @@ run_of start actions opened asked = record {
   are_items = asked.are_items;
 }
 
-pub wrote_all : (schemas modules : List Bytes) (script : Bytes) (start : Session) (old new : Option Bytes) (answer : Result (Unit {0}) RunFault)
-    → Opened schemas modules start → OnOk answer (Performed script start old new)
-    → OnOk answer ((r : Run schemas modules script) × Reported r.actions r.start old new)
-wrote_all schemas modules script start old new (Ok u) opened done = (run_of start done.actions opened done.asked, done.reported)
-wrote_all schemas modules script start old new (Err e) opened done = done
+pub wrote_all : (row_numbers : ℕ) (schemas modules : List Bytes) (script : Bytes) (start : Session) (old new : Option Bytes) (answer : Result (Unit {0}) RunFault)
+    → Opened row_numbers schemas modules start → OnOk answer (Performed script start old new)
+    → OnOk answer ((r : Run row_numbers schemas modules script) × Reported r.actions r.start old new)
+wrote_all row_numbers schemas modules script start old new (Ok u) opened done = (run_of start done.actions opened done.asked, done.reported)
+wrote_all row_numbers schemas modules script start old new (Err e) opened done = done
 
-wrote_by : (schemas modules : List Bytes) (script : Bytes) (start : Session) (old new : Option Bytes) (fault : RunFault)
-    → Opened schemas modules start → IsScriptStop script start old new fault → Wrote schemas modules script old new fault
-wrote_by schemas modules script start old new (SchemaRefused refusal) opened stop = absurd stop
-wrote_by schemas modules script start old new (ModuleRefused refusal) opened stop = absurd stop
-wrote_by schemas modules script start old new (ScriptRefused refusal) opened stop = stop.0
-wrote_by schemas modules script start old new (Write bytes) opened stop = (run_of start stop.actions opened stop.asked, stop.inside)
-wrote_by schemas modules script start old new (NoMemory zero) opened stop = stop
-wrote_by schemas modules script start old new (NoMemory (suc items)) opened stop = (run_of start stop.actions opened stop.asked, stop.fewer, stop.reported)
+wrote_by : (row_numbers : ℕ) (schemas modules : List Bytes) (script : Bytes) (start : Session) (old new : Option Bytes) (fault : RunFault)
+    → Opened row_numbers schemas modules start → IsScriptStop script start old new fault → Wrote row_numbers schemas modules script old new fault
+wrote_by row_numbers schemas modules script start old new (SchemaRefused refusal) opened stop = absurd stop
+wrote_by row_numbers schemas modules script start old new (ModuleRefused refusal) opened stop = absurd stop
+wrote_by row_numbers schemas modules script start old new (ScriptRefused refusal) opened stop = stop.0
+wrote_by row_numbers schemas modules script start old new (Write bytes) opened stop = (run_of start stop.actions opened stop.asked, stop.inside)
+wrote_by row_numbers schemas modules script start old new (NoMemory zero) opened stop = stop
+wrote_by row_numbers schemas modules script start old new (NoMemory (suc items)) opened stop = (run_of start stop.actions opened stop.asked, stop.fewer, stop.reported)
 
-pub wrote_some : (schemas modules : List Bytes) (script : Bytes) (start : Session) (old new : Option Bytes) (answer : Result (Unit {0}) RunFault)
-    → Opened schemas modules start → IfErr answer (IsScriptStop script start old new)
-    → IfErr answer (Wrote schemas modules script old new)
-wrote_some schemas modules script start old new (Ok u) opened stop = stop
-wrote_some schemas modules script start old new (Err fault) opened stop = wrote_by schemas modules script start old new fault opened stop
+pub wrote_some : (row_numbers : ℕ) (schemas modules : List Bytes) (script : Bytes) (start : Session) (old new : Option Bytes) (answer : Result (Unit {0}) RunFault)
+    → Opened row_numbers schemas modules start → IfErr answer (IsScriptStop script start old new)
+    → IfErr answer (Wrote row_numbers schemas modules script old new)
+wrote_some row_numbers schemas modules script start old new (Ok u) opened stop = stop
+wrote_some row_numbers schemas modules script start old new (Err fault) opened stop = wrote_by row_numbers schemas modules script start old new fault opened stop
 
-refused_by : (schemas modules : List Bytes) (script : Bytes) (start : Session) (old new : Option Bytes) (fault : RunFault)
-    → Opened schemas modules start → IsScriptStop script start old new fault → RefusedText schemas modules script fault
-refused_by schemas modules script start old new (SchemaRefused refusal) opened stop = absurd stop
-refused_by schemas modules script start old new (ModuleRefused refusal) opened stop = absurd stop
-refused_by schemas modules script start old new (ScriptRefused refusal) opened stop = record { start = start; opened = opened; text = stop.1; refused = stop.2 }
-refused_by schemas modules script start old new (Write bytes) opened stop = tt
-refused_by schemas modules script start old new (NoMemory items) opened stop = tt
+refused_by : (row_numbers : ℕ) (schemas modules : List Bytes) (script : Bytes) (start : Session) (old new : Option Bytes) (fault : RunFault)
+    → Opened row_numbers schemas modules start → IsScriptStop script start old new fault → RefusedText row_numbers schemas modules script fault
+refused_by row_numbers schemas modules script start old new (SchemaRefused refusal) opened stop = absurd stop
+refused_by row_numbers schemas modules script start old new (ModuleRefused refusal) opened stop = absurd stop
+refused_by row_numbers schemas modules script start old new (ScriptRefused refusal) opened stop = record { start = start; opened = opened; text = stop.1; refused = stop.2 }
+refused_by row_numbers schemas modules script start old new (Write bytes) opened stop = tt
+refused_by row_numbers schemas modules script start old new (NoMemory items) opened stop = tt
 
-pub refused_some : (schemas modules : List Bytes) (script : Bytes) (start : Session) (old new : Option Bytes) (answer : Result (Unit {0}) RunFault)
-    → Opened schemas modules start → IfErr answer (IsScriptStop script start old new) → IfErr answer (RefusedText schemas modules script)
-refused_some schemas modules script start old new (Ok u) opened stop = stop
-refused_some schemas modules script start old new (Err fault) opened stop = refused_by schemas modules script start old new fault opened stop
+pub refused_some : (row_numbers : ℕ) (schemas modules : List Bytes) (script : Bytes) (start : Session) (old new : Option Bytes) (answer : Result (Unit {0}) RunFault)
+    → Opened row_numbers schemas modules start → IfErr answer (IsScriptStop script start old new) → IfErr answer (RefusedText row_numbers schemas modules script)
+refused_some row_numbers schemas modules script start old new (Ok u) opened stop = stop
+refused_some row_numbers schemas modules script start old new (Err fault) opened stop = refused_by row_numbers schemas modules script start old new fault opened stop
 
 order_by : (schemas modules : List Bytes) (script : Bytes) (start : Session) (old new : Option Bytes) (fault : RunFault)
     → SomeTrees schema_tokens schemas → SomeTrees module_tokens modules → IsScriptStop script start old new fault → InOrder schemas modules fault
@@ -121,21 +121,21 @@ order_some schemas modules script start old new (Err fault) s m stop = order_by 
 
 -- ---- texts of which no session is made
 
-pub opening_wrote : (schemas modules : List Bytes) (script : Bytes) (taken : Option Bytes) (fault : RunFault) → IsOpeningFault schemas modules fault
-    → Wrote schemas modules script taken taken fault
-opening_wrote schemas modules script taken (SchemaRefused refusal) is = refl
-opening_wrote schemas modules script taken (ModuleRefused refusal) is = refl
-opening_wrote schemas modules script taken (ScriptRefused refusal) is = absurd is
-opening_wrote schemas modules script taken (Write bytes) is = absurd is
-opening_wrote schemas modules script taken (NoMemory zero) is = refl
-opening_wrote schemas modules script taken (NoMemory (suc items)) is = cc
+pub opening_wrote : (row_numbers : ℕ) (schemas modules : List Bytes) (script : Bytes) (taken : Option Bytes) (fault : RunFault) → IsOpeningFault schemas modules fault
+    → Wrote row_numbers schemas modules script taken taken fault
+opening_wrote row_numbers schemas modules script taken (SchemaRefused refusal) is = refl
+opening_wrote row_numbers schemas modules script taken (ModuleRefused refusal) is = refl
+opening_wrote row_numbers schemas modules script taken (ScriptRefused refusal) is = absurd is
+opening_wrote row_numbers schemas modules script taken (Write bytes) is = absurd is
+opening_wrote row_numbers schemas modules script taken (NoMemory zero) is = refl
+opening_wrote row_numbers schemas modules script taken (NoMemory (suc items)) is = cc
 
-pub opening_refused : (schemas modules : List Bytes) (script : Bytes) (fault : RunFault) → IsOpeningFault schemas modules fault → RefusedText schemas modules script fault
-opening_refused schemas modules script (SchemaRefused refusal) is = is
-opening_refused schemas modules script (ModuleRefused refusal) is = is.0
-opening_refused schemas modules script (ScriptRefused refusal) is = absurd is
-opening_refused schemas modules script (Write bytes) is = tt
-opening_refused schemas modules script (NoMemory items) is = tt
+pub opening_refused : (row_numbers : ℕ) (schemas modules : List Bytes) (script : Bytes) (fault : RunFault) → IsOpeningFault schemas modules fault → RefusedText row_numbers schemas modules script fault
+opening_refused row_numbers schemas modules script (SchemaRefused refusal) is = is
+opening_refused row_numbers schemas modules script (ModuleRefused refusal) is = is.0
+opening_refused row_numbers schemas modules script (ScriptRefused refusal) is = absurd is
+opening_refused row_numbers schemas modules script (Write bytes) is = tt
+opening_refused row_numbers schemas modules script (NoMemory items) is = tt
 
 pub opening_order : (schemas modules : List Bytes) (fault : RunFault) → IsOpeningFault schemas modules fault → InOrder schemas modules fault
 opening_order schemas modules (SchemaRefused refusal) is = tt

@@ -1,5 +1,5 @@
 -- What schema and module texts open.
-use Rattle.std.specs.Prelude.{◌≡◌, List, length}
+use Rattle.std.specs.Prelude.{◌≡◌, ℕ, List, length}
 use Rattle.sq_tree.specs.Schema.{schema_tokens}
 use Rattle.sq_tree.specs.Module.{module_tokens}
 use Rattle.sq_tree.specs.declared.module.ModuleText.{ModuleText}
@@ -19,18 +19,18 @@ pub record Defined (schemas : List Bytes) (c : Catalog) : Type 0 where
   pub bases : length c.bases ≡ length c.tables
 
 -- a session over these tables, of trees that the modules spell
-pub record Holds (tables : List FullName) (modules : List Bytes) (s : Session) : Type 0 where
+pub record Holds (row_numbers : ℕ) (tables : List FullName) (modules : List Bytes) (s : Session) : Type 0 where
   pub trees : List ModuleText
   pub spelled : AllSpell module_tokens modules trees
   pub tables_are : s.tables ≡ tables
   pub procedures : names_of s.procedures ≡ declared_procedures trees
   pub written : AreOfModules tables trees s.procedures
-  pub start : IsStart s
+  pub start : IsStart row_numbers s
 
 -- a session of trees that the texts spell
-pub record Opened (schemas modules : List Bytes) (s : Session) : Type 0 where
+pub record Opened (row_numbers : ℕ) (schemas modules : List Bytes) (s : Session) : Type 0 where
   pub schema_trees : List SchemaText
   pub module_trees : List ModuleText
   pub schemas_spell : AllSpell schema_tokens schemas schema_trees
   pub modules_spell : AllSpell module_tokens modules module_trees
-  pub is_opened : IsOpened schema_trees module_trees s
+  pub is_opened : IsOpened row_numbers schema_trees module_trees s

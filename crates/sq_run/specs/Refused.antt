@@ -100,9 +100,9 @@ IsRefusedScript start script refusal Meaning = IsFirstItem start script refusal
 IsRefusedScript start script refusal m = IsRefused script_tokens script_depth script refusal m
 
 -- the script is refused by a session that the schemas and modules open
-pub record ScriptIsRefused (schemas modules : List Bytes) (script : Bytes) (refusal : Refusal) : Type 0 where
+pub record ScriptIsRefused (row_numbers : ℕ) (schemas modules : List Bytes) (script : Bytes) (refusal : Refusal) : Type 0 where
   pub start : Session
-  pub opened : Opened schemas modules start
+  pub opened : Opened row_numbers schemas modules start
   pub text : refusal.text ≡ 0
   pub refused : IsRefusedScript start script refusal (matter refusal.what)
 
@@ -111,12 +111,12 @@ pub record ScriptIsRefused (schemas modules : List Bytes) (script : Bytes) (refu
 -- A text is refused for its tokens only with the first fault of its reading, for its grammar only where no tree spells it, and for its depth only where
 -- each tree that spells it is deeper than MAX_DEPTH brackets. Those of its kind before it spell trees. The script is refused for what it means only at its
 -- first item that has a fault, and for that.
-abbrev pub RefusedText : List Bytes → List Bytes → Bytes → RunFault → Type 0
-RefusedText schemas modules script (SchemaRefused refusal) = OneRefused schema_tokens schema_depth schemas refusal
-RefusedText schemas modules script (ModuleRefused refusal) = OneRefused module_tokens module_depth modules refusal
-RefusedText schemas modules script (ScriptRefused refusal) = ScriptIsRefused schemas modules script refusal
-RefusedText schemas modules script (Write bytes) = ⊤
-RefusedText schemas modules script (NoMemory items) = ⊤
+abbrev pub RefusedText : ℕ → List Bytes → List Bytes → Bytes → RunFault → Type 0
+RefusedText row_numbers schemas modules script (SchemaRefused refusal) = OneRefused schema_tokens schema_depth schemas refusal
+RefusedText row_numbers schemas modules script (ModuleRefused refusal) = OneRefused module_tokens module_depth modules refusal
+RefusedText row_numbers schemas modules script (ScriptRefused refusal) = ScriptIsRefused row_numbers schemas modules script refusal
+RefusedText row_numbers schemas modules script (Write bytes) = ⊤
+RefusedText row_numbers schemas modules script (NoMemory items) = ⊤
 
 -- A module is refused only where all schemas spell trees, and the script only where all modules do, too.
 abbrev pub InOrder : List Bytes → List Bytes → RunFault → Type 0

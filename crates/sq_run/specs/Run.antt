@@ -43,23 +43,24 @@ AllSpell tokens_of _ _ = ⊥
 abbrev pub SomeTrees : {T : Type 0} → (T → List Lexeme) → List Bytes → Type 0
 SomeTrees {T = T} tokens_of all = (trees : List T) × AllSpell tokens_of all trees
 
--- a session with an empty table for each base table, and with closed cursors
-pub record IsStart (s : Session) : Type 0 where
+-- a session with an empty table for each base table, where rows may have numbers up to this one, and with closed cursors
+pub record IsStart (row_numbers : ℕ) (s : Session) : Type 0 where
   pub empty : s.state.tables ≡ no_rows (length s.tables)
   pub committed : s.state.committed ≡ no_rows (length s.tables)
+  pub numbers : s.state.row_numbers ≡ row_numbers
   pub closed : AreClosed s.state.cursors
 
 -- a session of these trees, as it is before the first call: its tables and procedures are those that they declare, in their order,
 -- and the procedures are bound as they are written over those tables
-pub record IsOpened (schemas : List SchemaText) (modules : List ModuleText) (s : Session) : Type 0 where
+pub record IsOpened (row_numbers : ℕ) (schemas : List SchemaText) (modules : List ModuleText) (s : Session) : Type 0 where
   pub tables : s.tables ≡ declared_tables schemas
   pub procedures : names_of s.procedures ≡ declared_procedures modules
   pub written : AreOfModules (declared_tables schemas) modules s.procedures
-  pub start : IsStart s
+  pub start : IsStart row_numbers s
 
 -- Trees that the texts spell, a session of them as it is before the first call, which takes each item of the script, and what it is asked for: these
--- items, each with its number or place there.
-pub record Run (schemas modules : List Bytes) (script : Bytes) : Type 0 where
+-- items, each with its number or place there. Rows may have numbers up to the one that is given.
+pub record Run (row_numbers : ℕ) (schemas modules : List Bytes) (script : Bytes) : Type 0 where
   pub schema_trees : List SchemaText
   pub module_trees : List ModuleText
   pub script_tree : ScriptText
@@ -67,7 +68,7 @@ pub record Run (schemas modules : List Bytes) (script : Bytes) : Type 0 where
   pub modules_spell : AllSpell module_tokens modules module_trees
   pub script_spells : Spells script (script_tokens script_tree)
   pub start : Session
-  pub is_opened : IsOpened schema_trees module_trees start
+  pub is_opened : IsOpened row_numbers schema_trees module_trees start
   pub taken : All (IsTaken start) script_tree.items
   pub actions : List Action
   pub are_items : map item_of actions ≡ map item_of_script script_tree.items

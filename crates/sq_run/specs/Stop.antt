@@ -28,13 +28,13 @@ StoppedAt actions start old new (NoMemory zero) = new ≡ old
 StoppedAt actions start old new (NoMemory (suc items)) = (suc items < length actions) × Reported (take (suc items) actions) start old new
 
 -- What was written, from what an output had taken to what it has taken, where a run stopped so.
-abbrev pub Wrote : List Bytes → List Bytes → Bytes → Option Bytes → Option Bytes → RunFault → Type 0
-Wrote schemas modules script old new (SchemaRefused refusal) = new ≡ old
-Wrote schemas modules script old new (ModuleRefused refusal) = new ≡ old
-Wrote schemas modules script old new (ScriptRefused refusal) = new ≡ old
+abbrev pub Wrote : ℕ → List Bytes → List Bytes → Bytes → Option Bytes → Option Bytes → RunFault → Type 0
+Wrote row_numbers schemas modules script old new (SchemaRefused refusal) = new ≡ old
+Wrote row_numbers schemas modules script old new (ModuleRefused refusal) = new ≡ old
+Wrote row_numbers schemas modules script old new (ScriptRefused refusal) = new ≡ old
 -- the first bytes of the report
-Wrote schemas modules script old new (Write bytes) = (r : Run schemas modules script) × StoppedInside bytes r.actions r.start old new
-Wrote schemas modules script old new (NoMemory zero) = new ≡ old
+Wrote row_numbers schemas modules script old new (Write bytes) = (r : Run row_numbers schemas modules script) × StoppedInside bytes r.actions r.start old new
+Wrote row_numbers schemas modules script old new (NoMemory zero) = new ≡ old
 -- the report of the first items
-Wrote schemas modules script old new (NoMemory (suc items)) =
-    (r : Run schemas modules script) × (suc items < length r.actions) × Reported (take (suc items) r.actions) r.start old new
+Wrote row_numbers schemas modules script old new (NoMemory (suc items)) =
+    (r : Run row_numbers schemas modules script) × (suc items < length r.actions) × Reported (take (suc items) r.actions) r.start old new

@@ -38,7 +38,7 @@ pub(crate) fn open_session<S: Store>(
     requires numbers { limits.row_numbers ≤ MOST_ROW_NUMBERS }
     ensures schemas { IfOk result (λ _. SomeTrees schema_tokens (texts schemas.now)) }
     ensures modules { IfOk result (λ _. SomeTrees module_tokens (texts modules.now)) }
-    ensures opened { IfOk result (Opened (texts schemas.now) (texts modules.now)) }
+    ensures opened { IfOk result (Opened limits.row_numbers (texts schemas.now) (texts modules.now)) }
     ensures refused { IfErr result (IsOpeningFault (texts schemas.now) (texts modules.now)) }
 {
     let catalog = match catalog_of(alloc, schemas, limits) {
@@ -137,7 +137,7 @@ fn session_of<S: Store>(
     requires numbers { limits.row_numbers ≤ MOST_ROW_NUMBERS }
     requires bases { length catalog.bases ≡ length catalog.tables }
     ensures spelled { IfOk result (λ _. SomeTrees module_tokens (texts modules.now)) }
-    ensures holds { IfOk result (Holds catalog.tables (texts modules.now)) }
+    ensures holds { IfOk result (Holds limits.row_numbers catalog.tables (texts modules.now)) }
     ensures refused { IfErr result (SomeRefused module_tokens module_depth (texts modules.now)) }
 {
     let trees = match read_all::<ModuleText>(alloc, modules) {
@@ -166,7 +166,7 @@ fn session_from<S: Store>(
     ensures tables { IfOk result (λ s. s.tables ≡ catalog.tables) }
     ensures procedures { IfOk result (λ s. names_of s.procedures ≡ declared_procedures trees.now) }
     ensures written { IfOk result (λ s. AreOfModules catalog.tables trees.now s.procedures) }
-    ensures start { IfOk result IsStart }
+    ensures start { IfOk result (IsStart limits.row_numbers) }
     ensures refused { IfErr result (SomeRefused module_tokens module_depth (texts modules.now)) }
 {
     match session_over(alloc, catalog, trees, limits) {
@@ -177,7 +177,7 @@ fn session_from<S: Store>(
 }
 
 /// A session of modules over a new store.
-#[tactic(auto, using(sq_session::proofs::Holding::no_rows_hold))]
+#[tactic(auto, using(sq_session::proofs::Holding::no_rows_hold, sq_session::proofs::Holding::no_rows_obey))]
 fn session_over<S: Store>(
     alloc: Global,
     catalog: Catalog,
@@ -189,7 +189,7 @@ fn session_over<S: Store>(
     ensures tables { IfOk result (λ s. s.tables ≡ catalog.tables) }
     ensures procedures { IfOk result (λ s. names_of s.procedures ≡ declared_procedures modules.now) }
     ensures written { IfOk result (λ s. AreOfModules catalog.tables modules.now s.procedures) }
-    ensures start { IfOk result IsStart }
+    ensures start { IfOk result (IsStart limits.row_numbers) }
     ensures refused { IfErr result (IsOfSomeModule (length modules.now)) }
 {
     match store_of::<S>(alloc, &catalog, limits) {
@@ -208,6 +208,7 @@ fn store_of<S: Store>(alloc: Global, catalog: &Catalog, limits: Limits) -> Resul
     ensures now { IfOk result (λ store. S.content_now store ≡ no_rows (length catalog.now.bases)) }
     ensures committed { IfOk result (λ store. S.committed store ≡ no_rows (length catalog.now.bases)) }
     ensures keys { IfOk result (λ store. S.key_columns store ≡ keys_of_bases catalog.now.bases) }
+    ensures numbers { IfOk result (λ store. S.row_numbers store ≡ limits.row_numbers) }
 {
     let keys = catalog.keys(alloc)?;
     let store = S::new(alloc, keys.as_slice(), limits.row_numbers);

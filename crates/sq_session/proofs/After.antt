@@ -16,6 +16,7 @@ use Rattle.sq_meaning.specs.Status.{Outcome}
 use Rattle.sq_bound.specs.declared.statement.PositionedTarget.{PositionedTarget}
 use Rattle.sq_module.specs.declared.program.DeclaredCursor.{DeclaredCursor}
 use Rattle.sq_expression.specs.declared.fault.Fault.{Fault}
+use Rattle.sq_change.specs.Constraints.{constraints_hold}
 use Rattle.sq_session.specs.Cursors.{IsWhole, OpenHaveKept, are_over, is_over, is_over_numbers, is_over_table}
 use Rattle.sq_session.specs.Fetch.{come_to_number, come_to_row, come_to_walk, over_numbers, over_rows, over_walk}
 use Rattle.sq_session.specs.Kind.{Caller, Fetching, Over, Updating, caller_of, delete_kind, fetching, kind_of, opening, over_at, update_kind, updating}
@@ -37,13 +38,14 @@ use Rattle.sq_session.proofs.Over.{closed_over, go_on_over, put_closed, put_like
 -- values in the domains of their columns
 abbrev Others : List BaseTable → List DeclaredCursor → State → Type 0
 Others bases ds s = (holds bases s.committed ≡ true) × (s.keys ≡ keys_of_bases bases) × (are_over ds s.cursors ≡ true) × AreInDomains bases s.committed
+    × (constraints_hold bases s.committed ≡ true)
 
 same : (bases : List BaseTable) (ds : List DeclaredCursor) (b a : State) → Others bases ds b → a ≡ b → Others bases ds a
 same bases ds b a h e = subst (λ s. Others bases ds s) (sym e) h
 
 with_one : (bases : List BaseTable) (ds : List DeclaredCursor) (b : State) (n : ℕ) (c : CursorState) (a : State) → Others bases ds b → are_over ds (slice_set b.cursors n c) ≡ true
     → a ≡ with_cursor b n c → Others bases ds a
-with_one bases ds b n c a has h e = same bases ds (with_cursor b n c) a (has.0, has.1, h, has.3) e
+with_one bases ds b n c a has h e = same bases ds (with_cursor b n c) a (has.0, has.1, h, has.3, has.4) e
 
 ok_same : {A : Type 0} (x y : A) (o : Outcome A) → o ≡ Ok x → o ≡ Ok y → x ≡ y
 ok_same x y o h k = cc
@@ -126,6 +128,7 @@ changes_to bases ds Changes w a has h =
       keys ∙ has.1,
       subst (λ (cs : List CursorState). are_over ds cs ≡ true) (sym cursors) has.2,
       subst (λ (c : Content). AreInDomains bases c) (sym committed) has.3,
+      subst (λ (c : Content). constraints_hold bases c ≡ true) (sym committed) has.4,
     )
 
 changes_if : (bases : List BaseTable) (ds : List DeclaredCursor) (s : Bool) (Changes : Content → Content → Type 0) (b a : State) → Others bases ds b → ChangesIf s Changes b a → Others bases ds a
@@ -133,12 +136,12 @@ changes_if bases ds true Changes b a has h = changes_to bases ds Changes b a has
 changes_if bases ds false Changes b a has h = same bases ds b a has h
 
 updates_if : (bases : List BaseTable) (ds : List DeclaredCursor) (s : Bool) (u : Updating) (Changes : Content → Content → Type 0) (b a : State) → Others bases ds b → UpdatesIf s u Changes b a → Others bases ds a
-updates_if bases ds true u Changes b a has h = changes_to bases ds Changes (walks_listed u b) a (has.0, has.1, go_on_over u.statement b.tables u.cursors ds b.cursors has.2, has.3) h
+updates_if bases ds true u Changes b a has h = changes_to bases ds Changes (walks_listed u b) a (has.0, has.1, go_on_over u.statement b.tables u.cursors ds b.cursors has.2, has.3, has.4) h
 updates_if bases ds false u Changes b a has h = same bases ds b a has h
 
 deletes_if : (bases : List BaseTable) (ds : List DeclaredCursor) (s : Bool) (p : PositionedTarget) (Changes : Content → Content → Type 0) (b a : State) → Others bases ds b → DeletesIf s p Changes b a → Others bases ds a
 deletes_if bases ds true p Changes b a has h =
-    changes_to bases ds Changes (with_cursor b p.cursor (off_row (cursor_at b p.cursor))) a (has.0, has.1, put_off ds b.cursors p.cursor has.2, has.3) h
+    changes_to bases ds Changes (with_cursor b p.cursor (off_row (cursor_at b p.cursor))) a (has.0, has.1, put_off ds b.cursors p.cursor has.2, has.3, has.4) h
 deletes_if bases ds false p Changes b a has h = same bases ds b a has h
 
 update_at : (bases : List BaseTable) (ds : List DeclaredCursor) (r : Bool) (sc : Schemas) (u : Updating) (p : PositionedTarget) (vs : List Value) (b : State) (d : Done) (a : State) → Others bases ds b → MayUpdateAt r sc u p vs b d a → Others bases ds a
@@ -161,20 +164,20 @@ of_delete sc bases ds caller (target.Positioned p) vs b d a has h = delete_at ba
 
 after_statement : (sc : Schemas) (columns : TableKinds) (bases : List BaseTable) (ds : List DeclaredCursor) (user : Name) (ps : List ParameterDesc) (s : BoundStatement) (vs : List Value) (b : State) (d : Done) (a : State) → IsWhole columns bases ds b
     → MayStep sc (kind_of ds user ps s) vs b d a → Others bases ds a
-after_statement sc columns bases ds user ps (statement.Open n) vs b d a has h = open_if sc bases ds user ps (is_open (cursor_at b n)) n vs b d a (has.1, has.2, has.3, has.5) h
-after_statement sc columns bases ds user ps (statement.Fetch f) vs b d a has h = fetch_from bases ds (cursor_at b f.cursor) (fetching ds user ps f) vs b d a refl (has.1, has.2, has.3, has.5) h
-after_statement sc columns bases ds user ps (statement.Close n) vs b d a has h = close_if bases ds (is_open (cursor_at b n)) n b d a (has.1, has.2, has.3, has.5) h
-after_statement sc columns bases ds user ps (statement.Select s) vs b d a has h = same bases ds b a (has.1, has.2, has.3, has.5) h.0
-after_statement sc columns bases ds user ps (statement.Insert i) vs b d a has h = changes_if bases ds (is_success d.status) _ b a (has.1, has.2, has.3, has.5) h.1
-after_statement sc columns bases ds user ps (statement.Update u) vs b d a has h = of_update sc bases ds (updating ds (caller_of user ps) u) u.target vs b d a (has.1, has.2, has.3, has.5) h
-after_statement sc columns bases ds user ps (statement.Delete t) vs b d a has h = of_delete sc bases ds (caller_of user ps) t vs b d a (has.1, has.2, has.3, has.5) h
-after_statement sc columns bases ds user ps statement.Commit vs b d a has h = same bases ds (committed_state b) a (has.0, has.2, closed_over ds b.cursors has.3, has.4) h.1
-after_statement sc columns bases ds user ps statement.Rollback vs b d a has h = same bases ds (rolled_back b) a (has.1, has.2, closed_over ds b.cursors has.3, has.5) h.1
+after_statement sc columns bases ds user ps (statement.Open n) vs b d a has h = open_if sc bases ds user ps (is_open (cursor_at b n)) n vs b d a (has.1, has.2, has.3, has.5, has.8) h
+after_statement sc columns bases ds user ps (statement.Fetch f) vs b d a has h = fetch_from bases ds (cursor_at b f.cursor) (fetching ds user ps f) vs b d a refl (has.1, has.2, has.3, has.5, has.8) h
+after_statement sc columns bases ds user ps (statement.Close n) vs b d a has h = close_if bases ds (is_open (cursor_at b n)) n b d a (has.1, has.2, has.3, has.5, has.8) h
+after_statement sc columns bases ds user ps (statement.Select s) vs b d a has h = same bases ds b a (has.1, has.2, has.3, has.5, has.8) h.0
+after_statement sc columns bases ds user ps (statement.Insert i) vs b d a has h = changes_if bases ds (is_success d.status) _ b a (has.1, has.2, has.3, has.5, has.8) h.1
+after_statement sc columns bases ds user ps (statement.Update u) vs b d a has h = of_update sc bases ds (updating ds (caller_of user ps) u) u.target vs b d a (has.1, has.2, has.3, has.5, has.8) h
+after_statement sc columns bases ds user ps (statement.Delete t) vs b d a has h = of_delete sc bases ds (caller_of user ps) t vs b d a (has.1, has.2, has.3, has.5, has.8) h
+after_statement sc columns bases ds user ps statement.Commit vs b d a has h = same bases ds (committed_state b) a (has.0, has.2, closed_over ds b.cursors has.3, has.4, has.7) h.1
+after_statement sc columns bases ds user ps statement.Rollback vs b d a has h = same bases ds (rolled_back b) a (has.1, has.2, closed_over ds b.cursors has.3, has.5, has.8) h.1
 
 -- a statement that is refused changes nothing
 pub after : (sc : Schemas) (columns : TableKinds) (bases : List BaseTable) (ds : List DeclaredCursor) (user : Name) (ps : List ParameterDesc) (s : BoundStatement) (vs : List Value) (b : State) (r : Result Done Fault) (a : State) → IsWhole columns bases ds b
-    → holds bases a.tables ≡ true → AreInDomains bases a.tables → OpenHaveKept columns ds s a.cursors → IfSome (ending r) (λ d. MayStep sc (kind_of ds user ps s) vs b d a) → OnErr r (a ≡ b) → IsWhole columns bases ds a
-after sc columns bases ds user ps s vs b (Ok d) a has rows domains opened h unchanged =
+    → holds bases a.tables ≡ true → AreInDomains bases a.tables → constraints_hold bases a.tables ≡ true → OpenHaveKept columns ds s a.cursors → IfSome (ending r) (λ d. MayStep sc (kind_of ds user ps s) vs b d a) → OnErr r (a ≡ b) → IsWhole columns bases ds a
+after sc columns bases ds user ps s vs b (Ok d) a has rows domains constraints opened h unchanged =
     let o = after_statement sc columns bases ds user ps s vs b d a has h in
-    (rows, o.0, o.1, o.2, domains, o.3, kept_after columns sc ds user ps s vs b d a has.6 opened h)
-after sc columns bases ds user ps s vs b (Err f) a has rows domains opened h unchanged = subst (λ s. IsWhole columns bases ds s) (sym unchanged) has
+    (rows, o.0, o.1, o.2, domains, o.3, kept_after columns sc ds user ps s vs b d a has.6 opened h, constraints, o.4)
+after sc columns bases ds user ps s vs b (Err f) a has rows domains constraints opened h unchanged = subst (λ s. IsWhole columns bases ds s) (sym unchanged) has

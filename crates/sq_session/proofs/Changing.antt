@@ -6,9 +6,11 @@ use Rattle.sq_bound.specs.declared.statement.ChangeTarget.{ChangeTarget}
 use Rattle.sq_bound.specs.declared.statement.ChangeTarget.TheVariants as target
 use Rattle.sq_meaning.specs.Status.{Outcome}
 use Rattle.sq_meaning.specs.declared.status.Status.TheVariants as status
-use Rattle.sq_change.specs.Made.{Shown, numbers_changed, rows_inserted}
-use Rattle.sq_change.specs.Statement.{Deletes, FailsAs, Inserts, IsPlain, IsShown, Updates, update_made}
-use Rattle.sq_expression.specs.Fault.{status_of}
+use Rattle.sq_store.specs.Content.{Content}
+use Rattle.sq_change.specs.Made.{Shown}
+use Rattle.sq_change.specs.Performed.{delete_outcome, insert_outcome, update_outcome}
+use Rattle.sq_change.specs.Statement.{Deletes, Inserts, IsPlain, IsShown, Updates}
+use Rattle.sq_expression.specs.Fault.{Meets, status_of}
 use Rattle.sq_expression.specs.declared.fault.Failure.{Failure}
 use Rattle.sq_expression.specs.declared.fault.Failure.TheVariants as failure
 use Rattle.sq_expression.specs.declared.fault.Fault.{Fault}
@@ -17,7 +19,7 @@ use Rattle.sq_session.specs.Cursors.{put, put_all}
 use Rattle.sq_session.specs.Kind.{Caller, Kind, Updating, delete_kind, update_kind}
 use Rattle.sq_session.specs.Schemas.{Schemas}
 use Rattle.sq_session.specs.State.{State, cursor_at, off_row, with_cursor}
-use Rattle.sq_session.specs.Step.{ChangesIf, DeletesIf, FailsBy, MayDeleteAt, MayStep, MayUpdate, MayUpdateAt, UpdatesIf, ending, is_on_row, is_ready, is_success, number_meant, on_row, seen_by, walks_listed}
+use Rattle.sq_session.specs.Step.{ChangesIf, ComesTo, DeletesIf, MayDeleteAt, MayStep, MayUpdate, MayUpdateAt, UpdatesIf, ending, is_ready, is_success, number_meant, on_row, seen_by, walks_listed}
 use Rattle.sq_session.specs.Target.{ended}
 use Rattle.sq_session.specs.declared.cursor.CursorState.{CursorState}
 use Rattle.sq_session.specs.declared.reply.Done.{Done}
@@ -41,14 +43,13 @@ no_success failure.SyntaxErrorOrAccessRuleViolation = refl
 no_success failure.CheckOptionViolation = refl
 no_success failure.NoRowNumberLeft = refl
 
--- what is done can be made
-done_by : {A : Type 0} (made : Outcome A) → FailsAs made (Ok tt) → FailsBy made status.SuccessfulCompletion
-done_by (Ok x) h = tt
-done_by (Err st) h = absurd h
+-- what comes to these tables
+done_by : (o : Outcome Content) (after : Content) → o ≡ Ok after → ComesTo o status.SuccessfulCompletion after
+done_by o after is = subst (λ (x : Outcome Content). ComesTo x status.SuccessfulCompletion after) (sym is) (refl, refl)
 
-failed_by : {A : Type 0} (made : Outcome A) (f : Failure) → FailsAs made (Err (fault.Status f)) → FailsBy made (status_of f)
-failed_by (Ok x) f h = tt
-failed_by (Err st) f h = h
+-- what comes to a status
+failed_by : (o : Outcome Content) (f : Failure) (after : Content) → Meets {A = Content} (Err (fault.Status f)) o → ComesTo o (status_of f) after
+failed_by o f after is = subst (λ (x : Outcome Content). ComesTo x (status_of f) after) (sym is) refl
 
 -- lists put in the place of walks
 pub put_as_many : (cs : List CursorState) (ls : List ListedCursor) → length (put_all cs ls) ≡ length cs
@@ -75,19 +76,19 @@ module _ (s : Schemas) (values : List Value) (b a : State) where
 
   module _ (caller : Caller) (i : BoundInsert) where
     pub inserts_done : (d : Done) → d ≡ ended status.SuccessfulCompletion → a ≡ record b { tables = a.tables } → Inserts (seen_by s caller values b.tables) b.row_numbers i a.tables
-        → ((shown : Shown) → IsShown (seen_by s caller values b.tables) shown → FailsAs (rows_inserted shown (seen_by s caller values b.tables) b.row_numbers i) (Ok tt))
+        → ((shown : Shown) → IsShown (seen_by s caller values b.tables) shown → insert_outcome shown (seen_by s caller values b.tables) s.bases b.row_numbers i ≡ Ok a.tables)
         → MayStep s (Kind.inserts caller i) values b d a
-    inserts_done d is same inserts fails =
-        subst (λ (x : Done). MayStep s (Kind.inserts caller i) values b x a) (sym is) (refl, (same, inserts), (λ shown shows. done_by (rows_inserted shown (seen_by s caller values b.tables) b.row_numbers i) (fails shown shows)))
+    inserts_done d is same inserts meant =
+        subst (λ (x : Done). MayStep s (Kind.inserts caller i) values b x a) (sym is) (refl, (same, inserts), (λ shown shows. done_by (insert_outcome shown (seen_by s caller values b.tables) s.bases b.row_numbers i) a.tables (meant shown shows)))
 
     pub inserts_not : (f : Fault) → a ≡ b
-        → ((shown : Shown) → IsShown (seen_by s caller values b.tables) shown → FailsAs (rows_inserted shown (seen_by s caller values b.tables) b.row_numbers i) (Err f))
+        → ((shown : Shown) → IsShown (seen_by s caller values b.tables) shown → Meets {A = Content} (Err f) (insert_outcome shown (seen_by s caller values b.tables) s.bases b.row_numbers i))
         → IfSome (ending (Err f)) (λ d. MayStep s (Kind.inserts caller i) values b d a)
-    inserts_not fault.NoMemory same fails = tt
-    inserts_not (fault.Status f) same fails = (
+    inserts_not fault.NoMemory same meant = tt
+    inserts_not (fault.Status f) same meant = (
       refl,
       subst (λ (x : Bool). ChangesIf x (λ tables after. Inserts (seen_by s caller values tables) b.row_numbers i after) b a) (sym (no_success f)) same,
-      (λ shown shows. failed_by (rows_inserted shown (seen_by s caller values b.tables) b.row_numbers i) f (fails shown shows)),
+      (λ shown shows. failed_by (insert_outcome shown (seen_by s caller values b.tables) s.bases b.row_numbers i) f a.tables (meant shown shows)),
     )
 
   -- ---- UPDATE
@@ -104,85 +105,70 @@ module _ (s : Schemas) (values : List Value) (b a : State) where
     pub updates_done : (d : Done) → on ≡ number_meant b t → is_ready b t ≡ true → d ≡ ended status.SuccessfulCompletion → a ≡ record (walks_listed u b) { tables = a.tables }
         → Updates (seen_by s u.caller values b.tables) u.statement on a.tables
         → (IsPlain u.statement.target → (shown : Shown) → IsShown (seen_by s u.caller values b.tables) shown
-        → FailsAs (update_made shown (seen_by s u.caller values b.tables) u.statement on) (Ok tt))
+        → update_outcome shown (seen_by s u.caller values b.tables) s.bases u.statement on ≡ Ok a.tables)
         → MayStep s (update_kind u t) values b d a
-    updates_done d is ready ends same updates fails =
+    updates_done d is ready ends same updates meant =
         may_update d is ready (subst (λ (x : Done). MayUpdate s u values on b x a) (sym ends)
-        (refl, (same, updates), (λ plain shown shows. done_by (update_made shown (seen_by s u.caller values b.tables) u.statement on) (fails plain shown shows))))
+        (refl, (same, updates), (λ plain shown shows. done_by (update_outcome shown (seen_by s u.caller values b.tables) s.bases u.statement on) a.tables (meant plain shown shows))))
 
     pub updates_not : (f : Fault) → on ≡ number_meant b t → is_ready b t ≡ true → a ≡ b
         → (IsPlain u.statement.target → (shown : Shown) → IsShown (seen_by s u.caller values b.tables) shown
-        → FailsAs (update_made shown (seen_by s u.caller values b.tables) u.statement on) (Err f))
+        → Meets {A = Content} (Err f) (update_outcome shown (seen_by s u.caller values b.tables) s.bases u.statement on))
         → IfSome (ending (Err f)) (λ d. MayStep s (update_kind u t) values b d a)
-    updates_not fault.NoMemory is ready same fails = tt
-    updates_not (fault.Status f) is ready same fails =
+    updates_not fault.NoMemory is ready same meant = tt
+    updates_not (fault.Status f) is ready same meant =
         may_update (ended (status_of f)) is ready (
           refl,
           subst (λ (x : Bool). UpdatesIf x u (λ tables after. Updates (seen_by s u.caller values tables) u.statement on after) b a) (sym (no_success f)) same,
-          (λ plain shown shows. failed_by (update_made shown (seen_by s u.caller values b.tables) u.statement on) f (fails plain shown shows)),
+          (λ plain shown shows. failed_by (update_outcome shown (seen_by s u.caller values b.tables) s.bases u.statement on) f a.tables (meant plain shown shows)),
         )
-
-  -- a positioned UPDATE whose cursor is on no row
-  pub update_unready : (u : Updating) (t : ChangeTarget) (f : Fault) → is_ready b t ≡ false → f ≡ fault.Status failure.InvalidCursorState → a ≡ b
-      → IfSome (ending (Err f)) (λ d. MayStep s (update_kind u t) values b d a)
-  update_unready u (target.Searched t) f ready is same = cc
-  update_unready u (target.Positioned p) f ready is same =
-      subst (λ (x : Fault). IfSome (ending (Err x)) (λ d. MayUpdateAt (is_on_row b p) s u p values b d a)) (sym is)
-      (subst (λ (r : Bool). MayUpdateAt r s u p values b (ended status.InvalidCursorState) a) (sym ready) (refl, same))
 
   -- ---- DELETE
 
   module _ (caller : Caller) (t : ChangeTarget) (on : Option ℕ) where
     pub deletes_done : (d : Done) → on ≡ number_meant b t → is_ready b t ≡ true → d ≡ ended status.SuccessfulCompletion → a ≡ record (left_row b t) { tables = a.tables }
         → Deletes (seen_by s caller values b.tables) t on a.tables
-        → (IsPlain t → (shown : Shown) → IsShown (seen_by s caller values b.tables) shown → FailsAs (numbers_changed shown (seen_by s caller values b.tables) t on) (Ok tt))
+        → (IsPlain t → (shown : Shown) → IsShown (seen_by s caller values b.tables) shown → delete_outcome shown (seen_by s caller values b.tables) s.bases t on ≡ Ok a.tables)
         → MayStep s (delete_kind caller t) values b d a
-    deletes_done d is ready ends same deletes fails = subst (λ (x : Done). MayStep s (delete_kind caller t) values b x a) (sym ends) (by t is ready same deletes fails)
+    deletes_done d is ready ends same deletes meant = subst (λ (x : Done). MayStep s (delete_kind caller t) values b x a) (sym ends) (by t is ready same deletes meant)
       where
         by : (t : ChangeTarget) → on ≡ number_meant b t → is_ready b t ≡ true → a ≡ record (left_row b t) { tables = a.tables }
             → Deletes (seen_by s caller values b.tables) t on a.tables
-            → (IsPlain t → (shown : Shown) → IsShown (seen_by s caller values b.tables) shown → FailsAs (numbers_changed shown (seen_by s caller values b.tables) t on) (Ok tt))
+            → (IsPlain t → (shown : Shown) → IsShown (seen_by s caller values b.tables) shown → delete_outcome shown (seen_by s caller values b.tables) s.bases t on ≡ Ok a.tables)
             → MayStep s (delete_kind caller t) values b (ended status.SuccessfulCompletion) a
-        by (target.Searched x) is ready same deletes fails = (
+        by (target.Searched x) is ready same deletes meant = (
           refl,
           (same, subst (λ (o : Option ℕ). Deletes (seen_by s caller values b.tables) (target.Searched x) o a.tables) is deletes),
-          (λ plain shown shows. done_by (numbers_changed shown (seen_by s caller values b.tables) (target.Searched x) None)
-              (subst (λ (o : Option ℕ). FailsAs (numbers_changed shown (seen_by s caller values b.tables) (target.Searched x) o) (Ok tt)) is (fails plain shown shows))),
+          (λ plain shown shows. done_by (delete_outcome shown (seen_by s caller values b.tables) s.bases (target.Searched x) None) a.tables
+              (subst (λ (o : Option ℕ). delete_outcome shown (seen_by s caller values b.tables) s.bases (target.Searched x) o ≡ Ok a.tables) is (meant plain shown shows))),
         )
-        by (target.Positioned p) is ready same deletes fails =
+        by (target.Positioned p) is ready same deletes meant =
             subst (λ (r : Bool). MayDeleteAt r s caller p values b (ended status.SuccessfulCompletion) a) (sym ready) (
               refl,
               (same, subst (λ (o : Option ℕ). Deletes (seen_by s caller values b.tables) (target.Positioned p) o a.tables) is deletes),
-              (λ plain shown shows. done_by (numbers_changed shown (seen_by s caller values b.tables) (target.Positioned p) (on_row b p))
-                  (subst (λ (o : Option ℕ). FailsAs (numbers_changed shown (seen_by s caller values b.tables) (target.Positioned p) o) (Ok tt)) is (fails plain shown shows))),
+              (λ plain shown shows. done_by (delete_outcome shown (seen_by s caller values b.tables) s.bases (target.Positioned p) (on_row b p)) a.tables
+                  (subst (λ (o : Option ℕ). delete_outcome shown (seen_by s caller values b.tables) s.bases (target.Positioned p) o ≡ Ok a.tables) is (meant plain shown shows))),
             )
 
     pub deletes_not : (f : Fault) → on ≡ number_meant b t → is_ready b t ≡ true → a ≡ b
-        → (IsPlain t → (shown : Shown) → IsShown (seen_by s caller values b.tables) shown → FailsAs (numbers_changed shown (seen_by s caller values b.tables) t on) (Err f))
+        → (IsPlain t → (shown : Shown) → IsShown (seen_by s caller values b.tables) shown → Meets {A = Content} (Err f) (delete_outcome shown (seen_by s caller values b.tables) s.bases t on))
         → IfSome (ending (Err f)) (λ d. MayStep s (delete_kind caller t) values b d a)
-    deletes_not fault.NoMemory is ready same fails = tt
-    deletes_not (fault.Status f) is ready same fails = by t is ready fails
+    deletes_not fault.NoMemory is ready same meant = tt
+    deletes_not (fault.Status f) is ready same meant = by t is ready meant
       where
         by : (t : ChangeTarget) → on ≡ number_meant b t → is_ready b t ≡ true
-            → (IsPlain t → (shown : Shown) → IsShown (seen_by s caller values b.tables) shown → FailsAs (numbers_changed shown (seen_by s caller values b.tables) t on) (Err (fault.Status f)))
+            → (IsPlain t → (shown : Shown) → IsShown (seen_by s caller values b.tables) shown → Meets {A = Content} (Err (fault.Status f)) (delete_outcome shown (seen_by s caller values b.tables) s.bases t on))
             → MayStep s (delete_kind caller t) values b (ended (status_of f)) a
-        by (target.Searched x) is ready fails = (
+        by (target.Searched x) is ready meant = (
           refl,
           subst (λ (r : Bool). ChangesIf r (λ tables after. Deletes (seen_by s caller values tables) (target.Searched x) None after) b a) (sym (no_success f)) same,
-          (λ plain shown shows. failed_by (numbers_changed shown (seen_by s caller values b.tables) (target.Searched x) None) f
-              (subst (λ (o : Option ℕ). FailsAs (numbers_changed shown (seen_by s caller values b.tables) (target.Searched x) o) (Err (fault.Status f))) is (fails plain shown shows))),
+          (λ plain shown shows. failed_by (delete_outcome shown (seen_by s caller values b.tables) s.bases (target.Searched x) None) f a.tables
+              (subst (λ (o : Option ℕ). Meets {A = Content} (Err (fault.Status f)) (delete_outcome shown (seen_by s caller values b.tables) s.bases (target.Searched x) o)) is (meant plain shown shows))),
         )
-        by (target.Positioned p) is ready fails =
+        by (target.Positioned p) is ready meant =
             subst (λ (r : Bool). MayDeleteAt r s caller p values b (ended (status_of f)) a) (sym ready) (
               refl,
               subst (λ (r : Bool). DeletesIf r p (λ tables after. Deletes (seen_by s caller values tables) (target.Positioned p) (on_row b p) after) b a) (sym (no_success f)) same,
-              (λ plain shown shows. failed_by (numbers_changed shown (seen_by s caller values b.tables) (target.Positioned p) (on_row b p)) f
-                  (subst (λ (o : Option ℕ). FailsAs (numbers_changed shown (seen_by s caller values b.tables) (target.Positioned p) o) (Err (fault.Status f))) is (fails plain shown shows))),
+              (λ plain shown shows. failed_by (delete_outcome shown (seen_by s caller values b.tables) s.bases (target.Positioned p) (on_row b p)) f a.tables
+                  (subst (λ (o : Option ℕ). Meets {A = Content} (Err (fault.Status f)) (delete_outcome shown (seen_by s caller values b.tables) s.bases (target.Positioned p) o)) is (meant plain shown shows))),
             )
-
-  pub delete_unready : (caller : Caller) (t : ChangeTarget) (f : Fault) → is_ready b t ≡ false → f ≡ fault.Status failure.InvalidCursorState → a ≡ b
-      → IfSome (ending (Err f)) (λ d. MayStep s (delete_kind caller t) values b d a)
-  delete_unready caller (target.Searched t) f ready is same = cc
-  delete_unready caller (target.Positioned p) f ready is same =
-      subst (λ (x : Fault). IfSome (ending (Err x)) (λ d. MayDeleteAt (is_on_row b p) s caller p values b d a)) (sym is)
-      (subst (λ (r : Bool). MayDeleteAt r s caller p values b (ended status.InvalidCursorState) a) (sym ready) (refl, same))

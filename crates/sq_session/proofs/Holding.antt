@@ -1,13 +1,14 @@
 -- Tables that have rows for the base tables.
-use Rattle.std.proofs.Common.{◌≡◌, ◌<◌, ℕ, zero, suc, Bool, true, false, ◌&&◌, nat_eq, List, [], ◌∷◌, find, length, slice_get, Some, refl, ap, sym, subst, true≢false, arith}
+use Rattle.std.proofs.Common.{◌≡◌, ◌+◌, ◌<◌, ℕ, zero, suc, Bool, true, false, ◌&&◌, nat_eq, List, [], ◌∷◌, find, length, slice_get, Some, refl, ap, sym, subst, true≢false, arith}
 use Rattle.std.proofs.lemmas.Bool.{eqb-true, ltb-true}
 use Rattle.std.proofs.lemmas.Grind.{common_steps}
 use Rattle.std.proofs.lemmas.Slice.Zip.{AllZip-long}
+use Rattle.std.specs.List.{enumerate_from, list_all}
 use Rattle.std.specs.Prelude.{Vec}
 use Rattle.std.specs.declared.alloc.Global.{Global}
 use Rattle.sq_value.specs.Domain.{IsInDomain}
 use Rattle.sq_value.specs.declared.value.Value.{Value}
-use Rattle.sq_store.specs.Content.{Content, no_rows, row_at, table_at}
+use Rattle.sq_store.specs.Content.{Content, empty, no_rows, row_at, table_at}
 use Rattle.sq_store.specs.Keys.{keys_of}
 use Rattle.sq_store.specs.declared.table.Numbered.{Numbered}
 use Rattle.sq_store.specs.declared.table.Table.{Table}
@@ -15,9 +16,11 @@ use Rattle.sq_bound.specs.Fits.{AreInDomains, AreRowsIn, FitsQuery, FitsTarget, 
 use Rattle.sq_bound.specs.Names.{are_positions}
 use Rattle.sq_bound.specs.declared.names.BaseColumn.{BaseColumn}
 use Rattle.sq_bound.specs.declared.names.BaseTable.{BaseTable}
+use Rattle.sq_bound.specs.declared.names.Reference.{Reference}
 use Rattle.sq_bound.specs.declared.query.UpdatableQuery.{UpdatableQuery}
 use Rattle.sq_bound.specs.declared.statement.ChangeTarget.TheVariants as target
 use Rattle.sq_bound.specs.declared.statement.PositionedTarget.{PositionedTarget}
+use Rattle.sq_change.specs.Constraints.{constraints_hold, has_its_values, is_met_by, not_nulls_hold, reference_met, references_met}
 
 pub none : {A : Type 0} → false ≡ true → A
 none h = absurd (true≢false (sym h))
@@ -35,6 +38,35 @@ none_hold (b ∷ bases) = (tt, none_hold bases)
 
 pub no_rows_hold : (bases : List BaseTable) (content : Content) → content ≡ no_rows (length bases) → AreInDomains bases content
 no_rows_hold bases content h = subst (λ (c : Content). AreInDomains bases c) (sym h) (none_hold bases)
+
+none_at : (m p : ℕ) → table_at (no_rows m) p ≡ empty
+none_at zero p = refl
+none_at (suc m) zero = refl
+none_at (suc m) (suc p) = none_at m p
+
+-- no row refers to anything
+none_referring : (bases all : List BaseTable) (n place : ℕ) → list_all (λ p. list_all (reference_met all (no_rows n) p.0) p.1.references) (enumerate_from place bases) ≡ true
+none_referring [] all n place = refl
+none_referring (b ∷ bases) all n place = grind (arith, common_steps, none_referring bases all n (place + 1), of_table b.references)
+  where
+    of_table : (rs : List Reference) → list_all (reference_met all (no_rows n) place) rs ≡ true
+    of_table [] = refl
+    of_table (r ∷ rs) =
+        let none : reference_met all (no_rows n) place r ≡ true = ap (λ (t : Table). list_all (λ (x : Numbered). is_met_by all (no_rows n) r x.row) t.rows) (none_at n place) in
+        grind (arith, common_steps, of_table rs)
+
+-- no row lacks a value
+none_lacking : (bases : List BaseTable) (n place : ℕ) → list_all (λ p. list_all (λ (x : Numbered). has_its_values p.1 x.row) (table_at (no_rows n) p.0).rows) (enumerate_from place bases) ≡ true
+none_lacking [] n place = refl
+none_lacking (b ∷ bases) n place =
+    let none : list_all (λ (x : Numbered). has_its_values b x.row) (table_at (no_rows n) place).rows ≡ true = ap (λ (t : Table). list_all (λ (x : Numbered). has_its_values b x.row) t.rows) (none_at n place) in
+    grind (arith, common_steps, none_lacking bases n (place + 1))
+
+pub no_rows_obey : (bases : List BaseTable) (content : Content) → content ≡ no_rows (length bases) → constraints_hold bases content ≡ true
+no_rows_obey bases content h =
+    let values : not_nulls_hold bases content ≡ true = rw h (none_lacking bases (length bases) 0) in
+    let references : references_met bases content ≡ true = rw h (none_referring bases bases (length bases) 0) in
+    rw (values, references) refl
 
 -- ---- values in the domains of their columns
 

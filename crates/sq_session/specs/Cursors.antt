@@ -14,6 +14,7 @@ use Rattle.sq_bound.specs.declared.statement.BoundStatement.{BoundStatement}
 use Rattle.sq_bound.specs.declared.statement.BoundUpdate.{BoundUpdate}
 use Rattle.sq_bound.specs.declared.statement.BoundStatement.TheVariants as statement
 use Rattle.sq_module.specs.declared.program.DeclaredCursor.{DeclaredCursor}
+use Rattle.sq_change.specs.Constraints.{constraints_hold}
 use Rattle.sq_change.specs.Statement.{base_of}
 use Rattle.sq_session.specs.Kind.{Over, conditions_in, over_of}
 use Rattle.sq_session.specs.Reads.{one_reads}
@@ -101,11 +102,12 @@ OpenHaveKept columns declared _ cursors = ⊤
 
 -- The tables as they are now and as they were committed are those of the base tables, with their keys, each cursor is over
 -- what is declared, every value in the tables, now and as committed, is in the domain of its column, and what open cursors keep
--- is of the kinds of their columns and parameters.
+-- is of the kinds of their columns and parameters; and NOT NULL and references hold, now and as committed (11.4, 11.8).
 abbrev pub IsWhole : TableKinds → List BaseTable → List DeclaredCursor → State → Type 0
 IsWhole columns bases declared s =
     (holds bases s.tables ≡ true) × (holds bases s.committed ≡ true) × (s.keys ≡ keys_of_bases bases) × (are_over declared s.cursors ≡ true)
     × AreInDomains bases s.tables × AreInDomains bases s.committed × HaveKept columns declared s.cursors
+    × (constraints_hold bases s.tables ≡ true) × (constraints_hold bases s.committed ≡ true)
 
 -- ---- an UPDATE
 

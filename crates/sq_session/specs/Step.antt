@@ -1,8 +1,7 @@
 -- What one call may do to the tables and the cursors, and what it answers (ISO/IEC 9075:1992, 13.2 to 13.10, 14.3 and 14.4).
--- FETCH, CLOSE, COMMIT, ROLLBACK, SELECT INTO, OPEN of a cursor that names no row by a key, and every statement on a cursor that
--- is not in the state that it needs are said whole; so is what INSERT, UPDATE and DELETE make of the tables, and how they end where they
--- can't, but not when check options and constraints refuse it. No statement that has no fault ends with 42000.
-use Rattle.std.specs.Prelude.{◌≡◌, ⊤, ℕ, Bool, true, false, List, [], is_some, option_and_then, Option, Some, None, Result, Ok, Err}
+-- All of it is said whole but of OPEN, UPDATE and DELETE where they name rows by a key and have a condition that can fail. No statement
+-- that has no fault ends with 42000.
+use Rattle.std.specs.Prelude.{◌≡◌, ℕ, Bool, true, false, List, [], is_some, option_and_then, Option, Some, None, Result, Ok, Err}
 use Rattle.sq_lex.specs.declared.name.Name.{Name}
 use Rattle.sq_value.specs.declared.value.Value.{Value}
 use Rattle.sq_store.specs.Content.{Content, row_at, table_at}
@@ -19,8 +18,9 @@ use Rattle.sq_meaning.specs.Status.{Outcome, and_then}
 use Rattle.sq_meaning.specs.WellFormed.{IsNoSyntaxError}
 use Rattle.sq_meaning.specs.declared.status.Status.{Status}
 use Rattle.sq_meaning.specs.declared.status.Status.TheVariants as status
-use Rattle.sq_change.specs.Made.{Seen, Shown, numbers_changed, rows_inserted}
-use Rattle.sq_change.specs.Statement.{Deletes, Inserts, IsPlain, IsShown, Updates, update_made}
+use Rattle.sq_change.specs.Made.{Seen, Shown}
+use Rattle.sq_change.specs.Performed.{delete_outcome, insert_outcome, update_outcome}
+use Rattle.sq_change.specs.Statement.{Deletes, Inserts, IsPlain, IsShown, Updates}
 use Rattle.sq_expression.specs.Fault.{status_of}
 use Rattle.sq_expression.specs.Frame.{inputs_of}
 use Rattle.sq_query.specs.Table.{AreMeant}
@@ -129,13 +129,13 @@ abbrev pub ChangesIf : Bool → (Content → Content → Type 0) → State → S
 ChangesIf true Changes before after = ChangesTo Changes before after
 ChangesIf false Changes before after = after ≡ before
 
--- where rows can't be made, the statement ends with the status that says why
-abbrev pub FailsBy : {A : Type 0} → Outcome A → Status → Type 0
-FailsBy (Ok x) st = ⊤
-FailsBy (Err wanted) st = st ≡ wanted
+-- it ends with success and these tables, or with the status
+abbrev pub ComesTo : Outcome Content → Status → Content → Type 0
+ComesTo (Ok tables) st after = (st ≡ status.SuccessfulCompletion) × (after ≡ tables)
+ComesTo (Err wanted) st after = st ≡ wanted
 
-abbrev pub MayChange : (Content → Content → Type 0) → (Status → Type 0) → State → Done → State → Type 0
-MayChange Changes Fails before d after = (d.outputs ≡ []) × ChangesIf (is_success d.status) Changes before after × Fails d.status
+abbrev pub MayChange : (Content → Content → Type 0) → (Status → Content → Type 0) → State → Done → State → Type 0
+MayChange Changes Meant before d after = (d.outputs ≡ []) × ChangesIf (is_success d.status) Changes before after × Meant d.status after.tables
 
 -- what the statement of a caller that hands in these values reads
 abbrev pub seen_by : Schemas → Caller → List Value → Content → Seen
@@ -145,26 +145,28 @@ seen_by s caller values tables = record { views = s.views; tables = tables; user
 abbrev pub InsertsBy : Schemas → Caller → List Value → ℕ → BoundInsert → Content → Content → Type 0
 InsertsBy s caller values row_numbers i tables after = Inserts (seen_by s caller values tables) row_numbers i after
 
-abbrev pub InsertFails : Schemas → Caller → List Value → ℕ → BoundInsert → Content → Status → Type 0
-InsertFails s caller values row_numbers i tables st =
-    (shown : Shown) → IsShown (seen_by s caller values tables) shown → FailsBy (rows_inserted shown (seen_by s caller values tables) row_numbers i) st
+abbrev pub InsertIsMeant : Schemas → Caller → List Value → ℕ → BoundInsert → Content → Status → Content → Type 0
+InsertIsMeant s caller values row_numbers i tables st after =
+    (shown : Shown) → IsShown (seen_by s caller values tables) shown
+    → ComesTo (insert_outcome shown (seen_by s caller values tables) s.bases row_numbers i) st after
 
 -- UPDATE; the cursor of a positioned one is on the row of this number
 abbrev pub UpdatesBy : Schemas → Updating → List Value → Option ℕ → Content → Content → Type 0
 UpdatesBy s u values on tables after = Updates (seen_by s u.caller values tables) u.statement on after
 
-abbrev pub UpdateFails : Schemas → Updating → List Value → Option ℕ → Content → Status → Type 0
-UpdateFails s u values on tables st =
+abbrev pub UpdateIsMeant : Schemas → Updating → List Value → Option ℕ → Content → Status → Content → Type 0
+UpdateIsMeant s u values on tables st after =
     IsPlain u.statement.target → (shown : Shown) → IsShown (seen_by s u.caller values tables) shown
-    → FailsBy (update_made shown (seen_by s u.caller values tables) u.statement on) st
+    → ComesTo (update_outcome shown (seen_by s u.caller values tables) s.bases u.statement on) st after
 
 -- DELETE, in the same way
 abbrev pub DeletesBy : Schemas → Caller → List Value → ChangeTarget → Option ℕ → Content → Content → Type 0
 DeletesBy s caller values t on tables after = Deletes (seen_by s caller values tables) t on after
 
-abbrev pub DeleteFails : Schemas → Caller → List Value → ChangeTarget → Option ℕ → Content → Status → Type 0
-DeleteFails s caller values t on tables st =
-    IsPlain t → (shown : Shown) → IsShown (seen_by s caller values tables) shown → FailsBy (numbers_changed shown (seen_by s caller values tables) t on) st
+abbrev pub DeleteIsMeant : Schemas → Caller → List Value → ChangeTarget → Option ℕ → Content → Status → Content → Type 0
+DeleteIsMeant s caller values t on tables st after =
+    IsPlain t → (shown : Shown) → IsShown (seen_by s caller values tables) shown
+    → ComesTo (delete_outcome shown (seen_by s caller values tables) s.bases t on) st after
 
 -- cursors that walk and read what an UPDATE changes go on over the numbers that were left to them before it
 abbrev pub walks_listed : Updating → State → State
@@ -176,7 +178,8 @@ UpdatesIf false u Changes before after = after ≡ before
 
 abbrev pub MayUpdate : Schemas → Updating → List Value → Option ℕ → State → Done → State → Type 0
 MayUpdate s u values on before d after =
-    (d.outputs ≡ []) × UpdatesIf (is_success d.status) u (UpdatesBy s u values on) before after × UpdateFails s u values on before.tables d.status
+    (d.outputs ≡ []) × UpdatesIf (is_success d.status) u (UpdatesBy s u values on) before after
+    × UpdateIsMeant s u values on before.tables d.status after.tables
 
 -- whether the cursor is on a row that is there
 abbrev pub is_on_row : State → PositionedTarget → Bool
@@ -208,7 +211,7 @@ DeletesIf false p Changes before after = after ≡ before
 abbrev pub MayDeleteAt : Bool → Schemas → Caller → PositionedTarget → List Value → State → Done → State → Type 0
 MayDeleteAt true s caller p values before d after =
     (d.outputs ≡ []) × DeletesIf (is_success d.status) p (DeletesBy s caller values (target.Positioned p) (on_row before p)) before after
-    × DeleteFails s caller values (target.Positioned p) (on_row before p) before.tables d.status
+    × DeleteIsMeant s caller values (target.Positioned p) (on_row before p) before.tables d.status after.tables
 MayDeleteAt false s caller p values before d after = Refuses status.InvalidCursorState before d after
 
 -- ---- a statement, and a call
@@ -223,10 +226,10 @@ MayStep s (Kind.fetches f) values before d after = MayFetch f values before d af
 MayStep s (Kind.closes number) values before d after = MayClose number before d after
 MayStep s (Kind.selects select) values before d after = (after ≡ before) × Selects s select values before.tables d
 MayStep s (Kind.inserts caller i) values before d after =
-    MayChange (InsertsBy s caller values before.row_numbers i) (InsertFails s caller values before.row_numbers i before.tables) before d after
+    MayChange (InsertsBy s caller values before.row_numbers i) (InsertIsMeant s caller values before.row_numbers i before.tables) before d after
 MayStep s (Kind.updates u) values before d after = MayUpdate s u values None before d after
 MayStep s (Kind.deletes caller t) values before d after =
-    MayChange (DeletesBy s caller values (target.Searched t) None) (DeleteFails s caller values (target.Searched t) None before.tables) before d after
+    MayChange (DeletesBy s caller values (target.Searched t) None) (DeleteIsMeant s caller values (target.Searched t) None before.tables) before d after
 MayStep s (Kind.updates_at u p) values before d after = MayUpdateAt (is_on_row before p) s u p values before d after
 MayStep s (Kind.deletes_at caller p) values before d after = MayDeleteAt (is_on_row before p) s caller p values before d after
 MayStep s Kind.commits values before d after = Ends (committed_state before) d after

@@ -4,6 +4,7 @@ ghost use Rattle.std.specs.Prelude.{◌≡◌, false, length, map, IfOk, IfSome,
 ghost use Rattle.sq_bound.specs.Fits.{AreInDomains, FitsStatement, holds};
 ghost use Rattle.sq_bound.specs.WellFormed.{kinds_of_parameters};
 ghost use Rattle.sq_catalog.specs.Catalog.{column_kinds};
+ghost use Rattle.sq_change.specs.Constraints.{constraints_hold};
 ghost use Rattle.sq_module.specs.Program.{CursorsAreWellFormed, CursorsFit, FitsProgram, ProgramIsWellFormed};
 ghost use Rattle.sq_expression.specs.declared.fault.Fault.TheVariants as fault;
 ghost use Rattle.sq_model.specs.Script.{fit};
@@ -42,7 +43,8 @@ pub(crate) fn call<S: Store>(
     requires values_fit { fits_at (procedures_of program.now.cursors.items program.now.procedures.entries) procedure values.now ≡ true }
     requires whole { IsWhole (column_kinds catalog.now) catalog.now.bases program.now.cursors.items machine.old }
     ensures step { IfSome (ending result) (λ d.
-        MayCall (schemas_of catalog.now) (kind_at (procedures_of program.now.cursors.items program.now.procedures.entries) procedure) values.now machine.old d machine.new) }
+        MayCall (schemas_of catalog.now)
+        (kind_at (procedures_of program.now.cursors.items program.now.procedures.entries) procedure) values.now machine.old d machine.new) }
     ensures whole { IsWhole (column_kinds catalog.now) catalog.now.bases program.now.cursors.items machine.new }
     ensures err { OnErr result (machine.new ≡ machine.old) }
     ensures memory { needs_memory (kind_at (procedures_of program.now.cursors.items program.now.procedures.entries) procedure) ≡ false
@@ -78,8 +80,10 @@ fn performed<S: Store>(
     requires whole { IsWhole (column_kinds catalog.now) catalog.now.bases program.now.cursors.items machine.old }
     ensures rows { holds catalog.now.bases machine.new.tables ≡ true }
     ensures in_domains { AreInDomains catalog.now.bases machine.new.tables }
+    ensures constraints { constraints_hold catalog.now.bases machine.new.tables ≡ true }
     ensures opened { OpenHaveKept (column_kinds catalog.now) program.now.cursors.items statement.now machine.new.cursors }
-    ensures step { IfSome (ending result) (λ d. MayStep (schemas_of catalog.now) (kind_of program.now.cursors.items procedure.now.user procedure.now.parameters statement.now)
+    ensures step { IfSome (ending result) (λ d. MayStep (schemas_of catalog.now)
+        (kind_of program.now.cursors.items procedure.now.user procedure.now.parameters statement.now)
         (started_values procedure.now.parameters values.now) machine.old d machine.new) }
     ensures err { OnErr result (machine.new ≡ machine.old) }
     ensures memory { takes_memory (kind_of program.now.cursors.items procedure.now.user procedure.now.parameters statement.now) ≡ false
@@ -118,8 +122,10 @@ fn with_values<S: Store>(
     requires memory { takes_memory (kind_of program.now.cursors.items procedure.now.user procedure.now.parameters statement.now) ≡ true }
     ensures rows { holds catalog.now.bases machine.new.tables ≡ true }
     ensures in_domains { AreInDomains catalog.now.bases machine.new.tables }
+    ensures constraints { constraints_hold catalog.now.bases machine.new.tables ≡ true }
     ensures opened { OpenHaveKept (column_kinds catalog.now) program.now.cursors.items statement.now machine.new.cursors }
-    ensures step { IfSome (ending result) (λ d. MayStep (schemas_of catalog.now) (kind_of program.now.cursors.items procedure.now.user procedure.now.parameters statement.now)
+    ensures step { IfSome (ending result) (λ d. MayStep (schemas_of catalog.now)
+        (kind_of program.now.cursors.items procedure.now.user procedure.now.parameters statement.now)
         (started_values procedure.now.parameters values.now) machine.old d machine.new) }
     ensures err { OnErr result (machine.new ≡ machine.old) }
     ensures right { IfSome (ending result) EndsRight }
@@ -156,8 +162,10 @@ fn performed_with<S: Store>(
         statement.now) ≡ true }
     ensures rows { holds called.now.catalog.now.bases machine.new.tables ≡ true }
     ensures in_domains { AreInDomains called.now.catalog.now.bases machine.new.tables }
+    ensures constraints { constraints_hold called.now.catalog.now.bases machine.new.tables ≡ true }
     ensures opened { OpenHaveKept (column_kinds called.now.catalog.now) called.now.cursors.now statement.now machine.new.cursors }
-    ensures step { IfSome (ending result) (λ d. MayStep (schemas_of called.now.catalog.now) (kind_of called.now.cursors.now called.now.procedure.now.user called.now.procedure.now.parameters statement.now)
+    ensures step { IfSome (ending result) (λ d. MayStep (schemas_of called.now.catalog.now)
+        (kind_of called.now.cursors.now called.now.procedure.now.user called.now.procedure.now.parameters statement.now)
         called.now.values.now machine.old d machine.new) }
     ensures err { OnErr result (machine.new ≡ machine.old) }
     ensures right { IfSome (ending result) EndsRight }

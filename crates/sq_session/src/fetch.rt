@@ -49,7 +49,8 @@ pub(crate) fn fetch_at<S: Store>(
     requires well_formed { CursorsAreWellFormed (column_kinds called.now.catalog.now) called.now.cursors.now }
     requires in_domains { AreInDomains called.now.catalog.now.bases (S.content_now store.now) }
     requires kept { HaveKept (column_kinds called.now.catalog.now) called.now.cursors.now cursors.old }
-    ensures step { IfSome (ending result) (λ d. MayFetch (fetching called.now.cursors.now called.now.procedure.now.user called.now.procedure.now.parameters fetch.now) called.now.values.now
+    ensures step { IfSome (ending result) (λ d. MayFetch
+        (fetching called.now.cursors.now called.now.procedure.now.user called.now.procedure.now.parameters fetch.now) called.now.values.now
         (record { tables = S.content_now store.now; committed = S.committed store.now; keys = S.key_columns store.now; row_numbers = S.row_numbers store.now; cursors = cursors.old }) d
         (record { tables = S.content_now store.now; committed = S.committed store.now; keys = S.key_columns store.now; row_numbers = S.row_numbers store.now; cursors = cursors.new })) }
     ensures err { OnErr result (cursors.new ≡ cursors.old) }

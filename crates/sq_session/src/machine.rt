@@ -3,6 +3,7 @@
 ghost use Rattle.std.specs.Prelude.{◌≡◌, ◌<◌, [], true, length, replicate, is_ok, is_some, IfErr, IfOk, IfSome, IsSome, OnErr};
 ghost use Rattle.std.specs.List.{AllByRecursion};
 ghost use Rattle.sq_bound.specs.Fits.{AreInDomains, FitsTarget, IsBase, IsColumnOf, are_columns, are_parameters, holds, under};
+ghost use Rattle.sq_change.specs.Constraints.{constraints_hold};
 ghost use Rattle.sq_bound.specs.WellFormed.{IsSelect, IsStatement, TakeKinds, kinds_of_parameters, kinds_of_select};
 ghost use Rattle.sq_bound.specs.declared.statement.BoundStatement.TheVariants.{Delete, Insert, Open, Update};
 ghost use Rattle.sq_catalog.specs.Catalog.{column_kinds};
@@ -82,7 +83,8 @@ impl<S: Store> Machine<S> {
             (kinds_of_parameters called.now.procedure.now.parameters) (Open number) }
         requires given { AreGiven (kinds_of_parameters called.now.procedure.now.parameters) called.now.values.now }
         ensures kept { HaveKept (column_kinds called.now.catalog.now) called.now.cursors.now self.new.cursors }
-        ensures step { IfSome (ending result) (λ d. MayOpen (schemas_of called.now.catalog.now) (opening called.now.cursors.now called.now.procedure.now.user called.now.procedure.now.parameters number)
+        ensures step { IfSome (ending result) (λ d. MayOpen (schemas_of called.now.catalog.now)
+            (opening called.now.cursors.now called.now.procedure.now.user called.now.procedure.now.parameters number)
             called.now.values.now self.old d self.new) }
         ensures right { IfSome (ending result) EndsRight }
         ensures tables { self.new.tables ≡ self.old.tables }
@@ -139,7 +141,8 @@ impl<S: Store> Machine<S> {
             fetch.now }
         requires given { AreGiven (kinds_of_parameters called.now.procedure.now.parameters) called.now.values.now }
         requires well_formed { CursorsAreWellFormed (column_kinds called.now.catalog.now) called.now.cursors.now }
-        ensures step { IfSome (ending result) (λ d. MayFetch (fetching called.now.cursors.now called.now.procedure.now.user called.now.procedure.now.parameters fetch.now)
+        ensures step { IfSome (ending result) (λ d. MayFetch
+            (fetching called.now.cursors.now called.now.procedure.now.user called.now.procedure.now.parameters fetch.now)
             called.now.values.now self.old d self.new) }
         ensures right { IfSome (ending result) EndsRight }
         ensures tables { self.new.tables ≡ self.old.tables }
@@ -228,6 +231,7 @@ impl<S: Store> Machine<S> {
         ensures right { IfSome (ending result) EndsRight }
         ensures rows { holds called.now.catalog.now.bases self.new.tables ≡ true }
         ensures in_domains { AreInDomains called.now.catalog.now.bases self.new.tables }
+        ensures constraints { constraints_hold called.now.catalog.now.bases self.new.tables ≡ true }
         ensures err { OnErr result (self.new ≡ self.old) }
     {
         let inserted = insert(
@@ -262,6 +266,7 @@ impl<S: Store> Machine<S> {
         requires whole { IsWhole (column_kinds called.now.catalog.now) called.now.catalog.now.bases called.now.cursors.now self.old }
         ensures rows { holds called.now.catalog.now.bases self.new.tables ≡ true }
         ensures in_domains { AreInDomains called.now.catalog.now.bases self.new.tables }
+        ensures constraints { constraints_hold called.now.catalog.now.bases self.new.tables ≡ true }
         ensures step { IfSome (ending result) (λ d. MayStep (schemas_of called.now.catalog.now)
             (kind_of called.now.cursors.now called.now.procedure.now.user called.now.procedure.now.parameters (Update statement.now))
             called.now.values.now self.old d self.new) }
@@ -306,6 +311,7 @@ impl<S: Store> Machine<S> {
         requires whole { IsWhole (column_kinds called.now.catalog.now) called.now.catalog.now.bases called.now.cursors.now self.old }
         ensures rows { holds called.now.catalog.now.bases self.new.tables ≡ true }
         ensures in_domains { AreInDomains called.now.catalog.now.bases self.new.tables }
+        ensures constraints { constraints_hold called.now.catalog.now.bases self.new.tables ≡ true }
         ensures step { IfSome (ending result) (λ d. MayStep (schemas_of called.now.catalog.now)
             (kind_of called.now.cursors.now called.now.procedure.now.user called.now.procedure.now.parameters (Delete target.now))
             called.now.values.now self.old d self.new) }

@@ -43,7 +43,8 @@ pub(crate) fn open_closed<S: Store>(
     requires given { AreGiven (kinds_of_parameters called.now.procedure.now.parameters) called.now.values.now }
     requires domains { AreInDomains called.now.catalog.now.bases (S.content_now store.now) }
     ensures kept { HaveKept (column_kinds called.now.catalog.now) called.now.cursors.now cursors.new }
-    ensures step { IfSome (ending result) (λ d. MayOpenClosed (schemas_of called.now.catalog.now) (opening called.now.cursors.now called.now.procedure.now.user called.now.procedure.now.parameters number) called.now.values.now
+    ensures step { IfSome (ending result) (λ d. MayOpenClosed (schemas_of called.now.catalog.now)
+        (opening called.now.cursors.now called.now.procedure.now.user called.now.procedure.now.parameters number) called.now.values.now
         (record { tables = S.content_now store.now; committed = S.committed store.now; keys = S.key_columns store.now; row_numbers = S.row_numbers store.now; cursors = cursors.old }) d
         (record { tables = S.content_now store.now; committed = S.committed store.now; keys = S.key_columns store.now; row_numbers = S.row_numbers store.now; cursors = cursors.new })) }
     ensures err { OnErr result (cursors.new ≡ cursors.old) }

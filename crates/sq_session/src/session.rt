@@ -8,6 +8,7 @@ ghost use Rattle.sq_catalog.specs.Catalog.{table_number};
 ghost use Rattle.sq_session.specs.Kind.{fault_at, fits_at, kind_at, needs_memory};
 ghost use Rattle.std.specs.Map.{keys_of};
 ghost use Rattle.sq_bound.specs.Fits.{AreInDomains, keys_of_bases};
+ghost use Rattle.sq_change.specs.Constraints.{constraints_hold};
 ghost use Rattle.sq_catalog.specs.Catalog.{column_kinds};
 ghost use Rattle.sq_module.specs.Program.{FitsProgram, ProgramIsWellFormed, declared_procedures};
 ghost use Rattle.sq_module.specs.Written.{IsOfTexts};
@@ -64,7 +65,9 @@ impl<S: Store> Model for Session<S> {
 
     ghost view = { λ s. record { procedures = procedures_of s.program.cursors.items s.program.procedures.entries; tables = s.catalog.tables; schemas = schemas_of s.catalog; state = s.machine } };
 
-    ghost invariant = { λ s. (length s.catalog.bases ≡ length s.catalog.tables) × FitsProgram s.catalog.bases s.program × ProgramIsWellFormed (column_kinds s.catalog) s.program × IsWhole (column_kinds s.catalog) s.catalog.bases s.program.cursors.items s.machine };
+    ghost invariant = { λ s. (length s.catalog.bases ≡ length s.catalog.tables) × FitsProgram s.catalog.bases s.program
+        × ProgramIsWellFormed (column_kinds s.catalog) s.program
+        × IsWhole (column_kinds s.catalog) s.catalog.bases s.program.cursors.items s.machine };
 }
 
 impl<S: Store> Session<S> {
@@ -79,10 +82,13 @@ impl<S: Store> Session<S> {
     ) -> Result<Session<S>, SessionFault>
         requires tables { AreInDomains catalog.bases (S.content_now store) }
         requires committed { AreInDomains catalog.bases (S.committed store) }
+        requires constraints { constraints_hold catalog.bases (S.content_now store) ≡ true }
+        requires committed_constraints { constraints_hold catalog.bases (S.committed store) ≡ true }
         requires keys { S.key_columns store ≡ keys_of_bases catalog.bases }
         requires bases { length catalog.bases ≡ length catalog.tables }
         ensures start { IfOk result (λ s. (s.state.tables ≡ S.content_now store) × (s.state.committed ≡ S.committed store) × AreClosed
             s.state.cursors) }
+        ensures numbers { IfOk result (λ s. s.state.row_numbers ≡ S.row_numbers store) }
         ensures procedures { IfOk result (λ s. names_of s.procedures ≡ declared_procedures modules.now) }
         ensures written { IfOk result (λ s. AreOfModules catalog.tables modules.now s.procedures) }
         ensures tables { IfOk result (λ s. s.tables ≡ catalog.tables) }
@@ -111,10 +117,13 @@ impl<S: Store> Session<S> {
         requires well_formed { ProgramIsWellFormed (column_kinds catalog) program }
         requires tables { AreInDomains catalog.bases (S.content_now store) }
         requires committed { AreInDomains catalog.bases (S.committed store) }
+        requires constraints { constraints_hold catalog.bases (S.content_now store) ≡ true }
+        requires committed_constraints { constraints_hold catalog.bases (S.committed store) ≡ true }
         requires keys { S.key_columns store ≡ keys_of_bases catalog.bases }
         requires bases { length catalog.bases ≡ length catalog.tables }
         ensures start { IfOk result (λ s. (s.state.tables ≡ S.content_now store) × (s.state.committed ≡ S.committed store) × AreClosed
             s.state.cursors) }
+        ensures numbers { IfOk result (λ s. s.state.row_numbers ≡ S.row_numbers store) }
         ensures procedures { IfOk result (λ s. names_of s.procedures ≡ keys_of program.procedures.entries) }
         ensures program { IfOk result (λ s. s.procedures ≡ procedures_of program.cursors.items program.procedures.entries) }
         ensures tables { IfOk result (λ s. s.tables ≡ catalog.tables) }
@@ -176,13 +185,16 @@ impl<S: Store> Session<S> {
     ) -> Result<Reply, AllocError>
         requires fits { fits_at self.old.procedures procedure values.now ≡ true }
         ensures step { IfOk result (λ r.
-            MayCall self.old.schemas (kind_at self.old.procedures procedure) values.now self.old.state (record { status = r.status; outputs = r.outputs }) self.new.state) }
+            MayCall self.old.schemas (kind_at self.old.procedures procedure) values.now self.old.state
+            (record { status = r.status; outputs = r.outputs }) self.new.state) }
         ensures kept { IfOk result (λ r. is_success r.status ≡ false → self.new.state.tables ≡ self.old.state.tables) }
         ensures procedures { self.new.procedures ≡ self.old.procedures }
         ensures tables { self.new.tables ≡ self.old.tables }
         ensures schemas { self.new.schemas ≡ self.old.schemas }
         ensures in_domains { AreInDomains self.new.schemas.bases self.new.state.tables
             × AreInDomains self.new.schemas.bases self.new.state.committed }
+        ensures constraints { constraints_hold self.new.schemas.bases self.new.state.tables ≡ true }
+        ensures committed_constraints { constraints_hold self.new.schemas.bases self.new.state.committed ≡ true }
         ensures err { OnErr result (self.new ≡ self.old) }
         ensures memory { needs_memory (kind_at self.old.procedures procedure) ≡ false → IsOk result }
     {

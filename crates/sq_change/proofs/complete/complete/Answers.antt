@@ -1,5 +1,25 @@
-use Rattle.sq_change.proofs.Held.{is_there, put_have_keys}
+use Rattle.std.proofs.Common.{◌≡◌, ◌∙◌, ◌&&◌, List, false, is_err, true, Ok, Err, ap, refl, rules, subst, sym}
+use Rattle.std.specs.Prelude.{Vec}
+use Rattle.std.specs.declared.alloc.Global.{Global}
+use Rattle.sq_store.specs.Change.{rows_put}
+use Rattle.sq_store.specs.Content.{Content, changed_by, table_at, with_table}
+use Rattle.sq_store.specs.Keys.{Keys, keys_at}
+use Rattle.sq_bound.specs.Fits.{keys_of_bases}
+use Rattle.sq_meaning.specs.declared.status.Status.TheVariants.{IntegrityConstraintViolation}
+use Rattle.sq_model.specs.Constraints.{demanded}
+use Rattle.sq_expression.specs.Fault.{Meets}
+use Rattle.sq_expression.proofs.Views.{failed_as, handed_on_as}
+use Rattle.sq_change.specs.Made.{Seen, seen_by}
+use Rattle.sq_change.specs.Constraints.{completed, constraints_hold, references_met, rows_met}
+use Rattle.sq_change.specs.declared.reference.Referenced.{Referenced}
+use Rattle.sq_change.specs.Reference.{are_rows_there, lost_are_met, referred_by}
+use Rattle.sq_change.proofs.AllMet.{met_so}
+use Rattle.sq_change.proofs.Held.{is_there, keys_at_base, put_have_keys}
+use Rattle.sq_change.proofs.Obeyed.{constraints_kept, met_unless, references_of}
+use Rattle.sq_change.proofs.Performed.{keys_stop, references_end, rows_stop}
+use Rattle.sq_change.proofs.ReferencesKept.{references_decided}
 use Rattle.sq_change.proofs.complete.complete.Goals as goal
+use Rattle.sq_change.proofs.complete.complete.Goals.{then-is_err, else-is_err}
 
 pub apply-requires-clause-known : goal.apply-requires-clause-known
 apply-requires-clause-known g c =
@@ -15,3 +35,98 @@ pub returns-in-Err-clause-right : goal.returns-in-Err-clause-right
 returns-in-Err-clause-right g c = λ kinds tables may.
     let is = c.new-setting.ensures in
     c.in-Err.ensures.right kinds tables (rw (is.names, is.store, is.user, is.parameters) may) c.requires.domains
+
+pub returns-in-Err-clause-meant : goal.returns-in-Err-clause-meant
+returns-in-Err-clause-meant g c = λ kinds shown may held.
+    let names = c.args.names.now in
+    let bases = g.N.Names.base_tables names in
+    let content = g.S.Store.content_now c.args.store.now in
+    let leaf = c.args.leaf.now in
+    let changes = c.args.changed.changes.items in
+    let lost = c.args.changed.lost_keys.items in
+    let changed = changed_by (table_at content leaf.table.place) changes in
+    let seen : Seen = seen_by (g.N.Names.view_queries names) content c.args.user c.args.parameters.now in
+    let is = c.new-setting.ensures in
+    let f = c.in-Err.fault in
+    let stop = rw (is.names, is.store, is.user, is.parameters) at (c.in-Err.ensures.met kinds shown (rw (is.names, is.store, is.user, is.parameters) may) c.requires.domains) in
+    handed_on_as (λ (u : Unit {0}). content) (Err f) f (completed shown seen bases leaf (rows_put changes) changed) refl
+    (rows_stop shown seen bases leaf (rows_put changes) changed f (failed_as (λ (r : Vec Referenced Global). tt) f (rows_met shown seen leaf (rows_put changes)) stop))
+
+pub returns-in_err-apply-clause-meant : goal.returns-in_err-apply-clause-meant
+returns-in_err-apply-clause-meant g c = λ kinds shown may held.
+    let names = c.args.names.now in
+    let bases = g.N.Names.base_tables names in
+    let content = g.S.Store.content_now c.args.store.now in
+    let leaf = c.args.leaf.now in
+    let changes = c.args.changed.changes.items in
+    let lost = c.args.changed.lost_keys.items in
+    let changed = changed_by (table_at content leaf.table.place) changes in
+    let seen : Seen = seen_by (g.N.Names.view_queries names) content c.args.user c.args.parameters.now in
+    let is = c.new-setting.ensures in
+    let keys : (ks : List Keys) → ks ≡ keys_of_bases bases → keys_at ks leaf.table.place ≡ leaf.table.keys
+    = λ ks known. ap (λ (k : List Keys). keys_at k leaf.table.place) known ∙ keys_at_base bases leaf.table.place leaf.table c.requires.base in
+    let f = c.in_err-apply.field-0.0 in
+    let admitted = rw (is.names, is.store, is.user, is.parameters) at (c.in-Ok.ensures.met kinds shown (rw (is.names, is.store, is.user, is.parameters) may) c.requires.domains) in
+    let same = rw (c.get-table.ensures, keys (g.S.Store.key_columns c.args.store.now) c.requires.keys) at c.in_err-apply.ensures.distinct in
+    handed_on_as (λ (u : Unit {0}). _) c.from_residual.result f (completed shown seen bases leaf (rows_put changes) changed) c.from_residual.ensures.1
+    (keys_stop shown seen bases leaf (rows_put changes) changed admitted f same)
+
+pub returns-clause-meant : goal.returns-clause-meant
+returns-clause-meant g c = λ kinds shown may held.
+    let names = c.args.names.now in
+    let bases = g.N.Names.base_tables names in
+    let content = g.S.Store.content_now c.args.store.now in
+    let leaf = c.args.leaf.now in
+    let changes = c.args.changed.changes.items in
+    let lost = c.args.changed.lost_keys.items in
+    let changed = changed_by (table_at content leaf.table.place) changes in
+    let seen : Seen = seen_by (g.N.Names.view_queries names) content c.args.user c.args.parameters.now in
+    let is = c.new-setting.ensures in
+    let keys : (ks : List Keys) → ks ≡ keys_of_bases bases → keys_at ks leaf.table.place ≡ leaf.table.keys
+    = λ ks known. ap (λ (k : List Keys). keys_at k leaf.table.place) known ∙ keys_at_base bases leaf.table.place leaf.table c.requires.base in
+    let mid = g.S.Store.content_now c.apply.new.store in
+    let done : mid ≡ with_table content leaf.table.place changed = rw c.get-table.ensures at c.in_ok-apply.ensures.ok in
+    let known : g.S.Store.key_columns c.apply.new.store ≡ keys_of_bases bases = c.in_ok-apply.ensures.keys ∙ c.requires.keys in
+    let r = c.references_satisfied-satisfied.result in
+    let tested : Meets r (demanded (are_rows_there (g.S.Store.key_columns c.apply.new.store) mid (referred_by leaf.table.references (rows_put changes)) && lost_are_met bases mid leaf.table.place lost) IntegrityConstraintViolation)
+    = rw (c.as_slice-referenced.ensures.value, c.in-Ok.ensures.list, c.get-table.ensures, c.as_slice-lost_keys.ensures.value) at c.references_satisfied-satisfied.ensures.meant in
+    let decided = references_decided bases content mid leaf.table lost changes c.requires.tables c.requires.base (g.met.N.Names.references names) done (g.S.Store.key_columns c.apply.new.store) known
+    (references_of bases content held) c.requires.keeps.keys c.requires.keeps.put in
+    let met : Meets r (demanded (references_met bases mid) IntegrityConstraintViolation) = met_so r (references_met bases mid) _ IntegrityConstraintViolation (sym decided) tested in
+    let admitted = rw (is.names, is.store, is.user, is.parameters) at (c.in-Ok.ensures.met kinds shown (rw (is.names, is.store, is.user, is.parameters) may) c.requires.domains) in
+    let distinct = rw (c.get-table.ensures, keys (g.S.Store.key_columns c.args.store.now) c.requires.keys) at c.in_ok-apply.ensures.distinct in
+    let finished : r ≡ Ok tt → g.S.Store.content_now c.if-is_err.store ≡ with_table content leaf.table.place changed
+    = λ ok. elim c.if-is_err.branch [
+      | then-is_err w ↦ search rules
+      | else-is_err w ↦ ap g.S.Store.content_now w.store-is ∙ done
+    ] in
+    references_end shown seen bases leaf (rows_put changes) changed admitted r (g.S.Store.content_now c.if-is_err.store) distinct (rw done at met) finished
+
+pub returns-clause-constraints : goal.returns-clause-constraints
+returns-clause-constraints g c = λ held.
+    let names = c.args.names.now in
+    let bases = g.N.Names.base_tables names in
+    let content = g.S.Store.content_now c.args.store.now in
+    let leaf = c.args.leaf.now in
+    let changes = c.args.changed.changes.items in
+    let lost = c.args.changed.lost_keys.items in
+    let changed = changed_by (table_at content leaf.table.place) changes in
+    let mid = g.S.Store.content_now c.apply.new.store in
+    let done : mid ≡ with_table content leaf.table.place changed = rw c.get-table.ensures at c.in_ok-apply.ensures.ok in
+    let known : g.S.Store.key_columns c.apply.new.store ≡ keys_of_bases bases = c.in_ok-apply.ensures.keys ∙ c.requires.keys in
+    let r = c.references_satisfied-satisfied.result in
+    let tested : Meets r (demanded (are_rows_there (g.S.Store.key_columns c.apply.new.store) mid (referred_by leaf.table.references (rows_put changes)) && lost_are_met bases mid leaf.table.place lost) IntegrityConstraintViolation)
+    = rw (c.as_slice-referenced.ensures.value, c.in-Ok.ensures.list, c.get-table.ensures, c.as_slice-lost_keys.ensures.value) at c.references_satisfied-satisfied.ensures.meant in
+    let decided = references_decided bases content mid leaf.table lost changes c.requires.tables c.requires.base (g.met.N.Names.references names) done (g.S.Store.key_columns c.apply.new.store) known
+    (references_of bases content held) c.requires.keeps.keys c.requires.keeps.put in
+    let met : Meets r (demanded (references_met bases mid) IntegrityConstraintViolation) = met_so r (references_met bases mid) _ IntegrityConstraintViolation (sym decided) tested in
+    elim c.if-is_err.branch [
+      | then-is_err w ↦
+          let back : g.S.Store.content_now c.if-is_err.store ≡ content = search rules in
+          subst (λ (t : Content). constraints_hold bases t ≡ true) (sym back) held
+      | else-is_err w ↦
+          let fine : is_err r ≡ false = search rules in
+          let kept = constraints_kept bases content mid leaf.table lost changes c.requires.tables c.requires.base (g.met.N.Names.references names) done held c.in-Ok.ensures.values
+          (met_unless r (references_met bases mid) IntegrityConstraintViolation fine met) in
+          subst (λ (t : Content). constraints_hold bases t ≡ true) (sym (ap g.S.Store.content_now w.store-is)) kept
+    ]

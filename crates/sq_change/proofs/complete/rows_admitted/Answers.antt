@@ -1,7 +1,13 @@
+use Rattle.std.proofs.Common.{refl}
 use Rattle.sq_query.proofs.Finds.{leaf_finds}
+use Rattle.sq_change.specs.Constraints.{check_option_met, row_met, rows_met}
+use Rattle.sq_change.specs.Made.{seen_by}
+use Rattle.sq_model.specs.Constraints.{all_satisfied}
+use Rattle.sq_store.specs.Change.{rows_put}
 use Rattle.sq_change.proofs.Endings.{ends_so}
 use Rattle.sq_change.proofs.Held.{refers_at}
 use Rattle.sq_change.proofs.OnRows.{conditions_on_rows, checks_on_rows}
+use Rattle.sq_change.proofs.Outcomes.{next_stops, stops_as, taken_if}
 use Rattle.sq_change.proofs.complete.rows_admitted.Goals as goal
 
 pub referenced_by-requires-clause-keys : goal.referenced_by-requires-clause-keys
@@ -26,11 +32,50 @@ returns-in_err-check_options_met-clause-right g c = λ parameters tables may put
     let columns = g.N.Names.column_kinds c.args.setting.now.names.now in
     let on = conditions_on_rows columns parameters c.args.leaf.now c.args.changed.now.changes.items c.requires.leaf put in
     ends_so c.from_residual.result c.in_err-check_options_met.field-0.0 c.from_residual.ensures.1
-    (c.in_err-check_options_met.ensures parameters tables may (rw c.as_slice-changes.ensures.value on))
+    (c.in_err-check_options_met.ensures.right parameters tables may (rw c.as_slice-changes.ensures.value on))
 
 pub returns-in_err-rows_satisfied-clause-right : goal.returns-in_err-rows_satisfied-clause-right
 returns-in_err-rows_satisfied-clause-right g c = λ parameters tables may put.
     let columns = g.N.Names.column_kinds c.args.setting.now.names.now in
     let on = checks_on_rows columns parameters c.args.leaf.now c.args.changed.now.changes.items c.requires.leaf put in
     ends_so c.from_residual-in_err-rows_satisfied.result c.in_err-rows_satisfied.field-0.0 c.from_residual-in_err-rows_satisfied.ensures.1
-    (c.in_err-rows_satisfied.ensures parameters tables may (rw (c.get-table.ensures, c.as_slice-changes.ensures.value) on))
+    (c.in_err-rows_satisfied.ensures.right parameters tables may (rw (c.get-table.ensures, c.as_slice-changes.ensures.value) on))
+
+pub returns-in_err-check_options_met-clause-met : goal.returns-in_err-check_options_met-clause-met
+returns-in_err-check_options_met-clause-met g c = λ parameters shown may put.
+    let setting = c.args.setting.now in
+    let columns = g.N.Names.column_kinds setting.names.now in
+    let seen = seen_by (g.N.Names.view_queries setting.names.now) (g.S.Store.content_now setting.store.now) setting.user setting.parameters.now in
+    let rows = rows_put c.args.changed.now.changes.items in
+    let leaf = c.args.leaf.now in
+    let on = conditions_on_rows columns parameters leaf c.args.changed.now.changes.items c.requires.leaf put in
+    stops_as (λ referenced. tt) c.from_residual.result c.in_err-check_options_met.field-0.0 (all_satisfied (check_option_met shown seen leaf) rows)
+    (λ _. all_satisfied (row_met shown seen leaf.table) rows) c.from_residual.ensures.1
+    (rw c.as_slice-changes.ensures.value at (c.in_err-check_options_met.ensures.met parameters shown may (rw c.as_slice-changes.ensures.value on)))
+
+pub returns-in_err-rows_satisfied-clause-met : goal.returns-in_err-rows_satisfied-clause-met
+returns-in_err-rows_satisfied-clause-met g c = λ parameters shown may put.
+    let setting = c.args.setting.now in
+    let columns = g.N.Names.column_kinds setting.names.now in
+    let seen = seen_by (g.N.Names.view_queries setting.names.now) (g.S.Store.content_now setting.store.now) setting.user setting.parameters.now in
+    let rows = rows_put c.args.changed.now.changes.items in
+    let leaf = c.args.leaf.now in
+    let on = conditions_on_rows columns parameters leaf c.args.changed.now.changes.items c.requires.leaf put in
+    let checks = checks_on_rows columns parameters leaf c.args.changed.now.changes.items c.requires.leaf put in
+    let met = rw c.as_slice-changes.ensures.value at (c.in_ok-check_options_met.ensures.met parameters shown may (rw c.as_slice-changes.ensures.value on)) in
+    let failed = rw (c.get-table.ensures, c.as_slice-changes.ensures.value) at (c.in_err-rows_satisfied.ensures.met parameters shown may (rw (c.get-table.ensures, c.as_slice-changes.ensures.value) checks)) in
+    next_stops c.from_residual-in_err-rows_satisfied.result c.in_err-rows_satisfied.field-0.0 (all_satisfied (check_option_met shown seen leaf) rows)
+    (all_satisfied (row_met shown seen leaf.table) rows) c.from_residual-in_err-rows_satisfied.ensures.1 met failed
+
+pub returns-clause-met : goal.returns-clause-met
+returns-clause-met g c = λ parameters shown may put.
+    let setting = c.args.setting.now in
+    let columns = g.N.Names.column_kinds setting.names.now in
+    let seen = seen_by (g.N.Names.view_queries setting.names.now) (g.S.Store.content_now setting.store.now) setting.user setting.parameters.now in
+    let rows = rows_put c.args.changed.now.changes.items in
+    let leaf = c.args.leaf.now in
+    let on = conditions_on_rows columns parameters leaf c.args.changed.now.changes.items c.requires.leaf put in
+    let checks = checks_on_rows columns parameters leaf c.args.changed.now.changes.items c.requires.leaf put in
+    let options = rw c.as_slice-changes.ensures.value at (c.in_ok-check_options_met.ensures.met parameters shown may (rw c.as_slice-changes.ensures.value on)) in
+    let satisfied = rw (c.get-table.ensures, c.as_slice-changes.ensures.value) at (c.in_ok-rows_satisfied.ensures.met parameters shown may (rw (c.get-table.ensures, c.as_slice-changes.ensures.value) checks)) in
+    taken_if c.referenced_by.result (rows_met shown seen leaf rows) (rw (options, satisfied) refl) c.referenced_by.ensures.memory

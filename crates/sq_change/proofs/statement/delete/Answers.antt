@@ -1,15 +1,20 @@
-use Rattle.std.proofs.Common.{◌≡◌, subst}
+use Rattle.std.proofs.Common.{◌≡◌, [], subst}
 use Rattle.std.specs.Result.{OnOk}
 use Rattle.sq_store.specs.Content.{changed_by, table_at, with_table}
 use Rattle.sq_bound.specs.declared.names.Leaf.{Leaf}
 use Rattle.sq_change.specs.Changed.{Removals}
+use Rattle.sq_bound.specs.Fits.{under}
+use Rattle.sq_change.specs.Constraints.{completed}
 use Rattle.sq_change.specs.Made.{Seen, numbers_changed, seen_by}
+use Rattle.sq_change.specs.Statement.{without}
 use Rattle.sq_change.proofs.Applied.{removed_few}
 use Rattle.sq_change.proofs.Chosen.{chosen_is}
 use Rattle.sq_change.proofs.Domains.{removals_in}
 use Rattle.sq_change.proofs.Endings.{ends_so}
-use Rattle.sq_change.proofs.Made.{deletes, fails_with, may_fail, when_done}
+use Rattle.sq_change.proofs.Made.{deletes, when_done}
 use Rattle.sq_change.proofs.OnRows.{leaf_well}
+use Rattle.sq_change.proofs.Outcomes.{stops_as}
+use Rattle.sq_change.proofs.Performed.{delete_meets}
 use Rattle.sq_change.proofs.statement.delete.Goals as goal
 
 pub complete-requires-clause-domains : goal.complete-requires-clause-domains
@@ -30,22 +35,6 @@ complete-requires-clause-there g c = c.requires.may.reads.there
 pub returns-in_err-changed-clause-right : goal.returns-in_err-changed-clause-right
 returns-in_err-changed-clause-right g c = ends_so c.from_residual.result c.in_err-changed.field-0.0 c.from_residual.ensures.1 c.in_err-changed.ensures.right
 
-pub returns-in_err-changed-clause-fails : goal.returns-in_err-changed-clause-fails
-returns-in_err-changed-clause-fails g c = λ plain shown is.
-    let seen : Seen = seen_by (g.N.Names.view_queries c.args.names.now) (g.S.Store.content_now c.args.store.now) c.args.inputs.user c.args.inputs.parameters.now in
-    let same = c.new-setting.ensures in
-    let e = c.in_err-changed.field-0.0 in
-    let meant = rw (same.names, same.store, same.user, same.parameters) at c.in_err-changed.ensures.meant in
-    fails_with (numbers_changed shown seen c.args.target.now c.args.on) e c.from_residual.result c.from_residual.ensures.1 (meant plain shown is)
-
-pub returns-clause-fails : goal.returns-clause-fails
-returns-clause-fails g c = λ plain shown is.
-    let seen : Seen = seen_by (g.N.Names.view_queries c.args.names.now) (g.S.Store.content_now c.args.store.now) c.args.inputs.user c.args.inputs.parameters.now in
-    let same = c.new-setting.ensures in
-    let removals : Removals seen c.args.target.now c.args.on c.in_ok-changed.changed.changes.items
-    = rw (same.names, same.store, same.user, same.parameters) at c.in_ok-changed.ensures.removals in
-    may_fail (numbers_changed shown seen c.args.target.now c.args.on) removals.numbers c.complete.result (chosen_is seen c.args.target.now c.args.on removals.numbers removals.chosen plain shown is)
-
 pub returns-clause-ok : goal.returns-clause-ok
 returns-clause-ok g c =
     let seen : Seen = seen_by (g.N.Names.view_queries c.args.names.now) (g.S.Store.content_now c.args.store.now) c.args.inputs.user c.args.inputs.parameters.now in
@@ -58,3 +47,37 @@ returns-clause-ok g c =
 
 pub returns-clause-right : goal.returns-clause-right
 returns-clause-right g c = c.complete.ensures.right c.requires.may.parameters c.requires.may.tables c.requires.may.reads
+
+pub complete-requires-clause-keeps : goal.complete-requires-clause-keeps
+complete-requires-clause-keeps g c =
+    let same = c.new-setting.ensures in
+    rw (c.leaf_under-leaf.ensures, ← same.store) c.in_ok-changed.ensures.keeps
+
+pub returns-clause-meant : goal.returns-clause-meant
+returns-clause-meant g c = λ plain shown is held.
+    let names = c.args.names.now in
+    let bases = g.N.Names.base_tables names in
+    let content = g.S.Store.content_now c.args.store.now in
+    let seen : Seen = seen_by (g.N.Names.view_queries names) content c.args.inputs.user c.args.inputs.parameters.now in
+    let same = c.new-setting.ensures in
+    let t = c.args.target.now in
+    let reads = c.requires.may.reads in
+    let changes = c.in_ok-changed.changed.changes.items in
+    let after = g.S.Store.content_now c.complete.new.store in
+    let removals : Removals seen t c.args.on changes = rw (same.names, same.store, same.user, same.parameters) at c.in_ok-changed.ensures.removals in
+    let done = rw c.leaf_under-leaf.ensures at (c.complete.ensures.meant c.requires.may.parameters shown (record { inputs = reads.inputs; there = reads.there; in_domains = reads.in_domains; meant = is }) held) in
+    delete_meets shown seen bases after c.complete.result t c.args.on changes removals (chosen_is seen t c.args.on removals.numbers removals.chosen plain shown is) done
+
+pub returns-in_err-changed-clause-meant : goal.returns-in_err-changed-clause-meant
+returns-in_err-changed-clause-meant g c = λ plain shown is held.
+    let names = c.args.names.now in
+    let bases = g.N.Names.base_tables names in
+    let content = g.S.Store.content_now c.args.store.now in
+    let seen : Seen = seen_by (g.N.Names.view_queries names) content c.args.inputs.user c.args.inputs.parameters.now in
+    let same = c.new-setting.ensures in
+    let t = c.args.target.now in
+    let meant = rw (same.names, same.store, same.user, same.parameters) at c.in_err-changed.ensures.meant in
+    let e = c.in_err-changed.field-0.0 in
+    let found = numbers_changed shown seen t c.args.on in
+    stops_as (λ (x : Unit {0}). _) c.from_residual.result e found
+    (λ numbers. completed shown seen bases (under t) [] (without (table_at content (under t).table.place) numbers)) c.from_residual.ensures.1 (meant plain shown is)

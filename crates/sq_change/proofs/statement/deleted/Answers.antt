@@ -1,7 +1,9 @@
+use Rattle.std.proofs.Common.{rules}
 use Rattle.sq_expression.proofs.Views.{failed_as}
 use Rattle.sq_query.specs.Target.{numbers_in}
 use Rattle.sq_change.specs.Made.{Seen, numbers_changed, seen_by}
 use Rattle.sq_change.proofs.Endings.{ends_so, hands_on, memory_fails, memory_right}
+use Rattle.sq_change.proofs.KeptRest.{removed_rest}
 use Rattle.sq_change.proofs.statement.deleted.Goals as goal
 
 pub returns-in_err-numbers-clause-right : goal.returns-in_err-numbers-clause-right
@@ -20,3 +22,11 @@ returns-clause-meant g c = λ plain shown is. memory_fails c.removed-changes.res
 
 pub returns-clause-right : goal.returns-clause-right
 returns-clause-right g c = c.changed.ensures.right (memory_right c.removed-changes.result c.removed-changes.ensures.memory)
+
+pub returns-clause-keeps : goal.returns-clause-keeps
+returns-clause-keeps g c =
+    let t = c.args.target.now in
+    let setting = c.args.setting.now in
+    let s : Seen = seen_by (g.N.Names.view_queries setting.names.now) (g.S.Store.content_now setting.store.now) setting.user setting.parameters.now in
+    removed_rest c.all_keys.result c.changed.result c.changed.ensures.lost s t c.args.on (search rules)
+    (rw (c.get-table.ensures, c.leaf_under.ensures) at c.all_keys.ensures.lost)

@@ -5,9 +5,13 @@ use Rattle.sq_store.specs.Content.{changed_by, table_at, with_table}
 use Rattle.sq_bound.specs.declared.names.Leaf.{Leaf}
 use Rattle.sq_expression.proofs.Views.{failed_as}
 use Rattle.sq_change.specs.declared.complete.Changed.{Changed}
-use Rattle.sq_change.specs.Made.{rows_inserted, seen_by}
+use Rattle.sq_change.specs.Constraints.{completed}
+use Rattle.sq_change.specs.Made.{Seen, rows_inserted, seen_by}
+use Rattle.sq_change.specs.Statement.{with_rows}
 use Rattle.sq_change.proofs.Held.{is_there}
-use Rattle.sq_change.proofs.Made.{fails_with, inserts, may_fail, when_done}
+use Rattle.sq_change.proofs.Made.{inserts, when_done}
+use Rattle.sq_change.proofs.Outcomes.{stops_as}
+use Rattle.sq_change.proofs.Performed.{insert_meets}
 use Rattle.sq_change.proofs.statement.insert.Goals as goal
 
 pub inserted-requires-clause-place : goal.inserted-requires-clause-place
@@ -39,24 +43,37 @@ returns-clause-ok g c =
     (rw (same.names, same.store, same.user, same.parameters) at c.in_ok-changed.ensures.made))
     (subst (λ (l : Leaf). OnOk c.complete.result (after ≡ with_table content l.table.place (changed_by (table_at content l.table.place) changes))) c.get-leaf.ensures c.complete.ensures.ok)
 
-pub returns-clause-fails : goal.returns-clause-fails
-returns-clause-fails g c = λ shown is.
-    let names = c.args.names.now in
-    let content = g.S.Store.content_now c.args.store.now in
-    let seen = seen_by (g.N.Names.view_queries names) content c.args.inputs.user c.args.inputs.parameters.now in
-    let insert = c.args.insert.now in
+pub complete-requires-clause-keeps : goal.complete-requires-clause-keeps
+complete-requires-clause-keeps g c =
     let same = c.new-setting.ensures in
-    let made = rw (same.names, same.store, same.user, same.parameters) at c.in_ok-changed.ensures.made in
-    may_fail (rows_inserted shown seen (g.S.Store.row_numbers c.args.store.now) insert) (rows_put c.in_ok-changed.changed.changes.items) c.complete.result (made shown is)
+    rw (c.get-leaf.ensures, ← same.store) c.in_ok-changed.ensures.keeps
 
-pub returns-in_err-changed-clause-fails : goal.returns-in_err-changed-clause-fails
-returns-in_err-changed-clause-fails g c = λ shown is.
+pub returns-clause-meant : goal.returns-clause-meant
+returns-clause-meant g c = λ shown is held.
     let names = c.args.names.now in
+    let bases = g.N.Names.base_tables names in
     let content = g.S.Store.content_now c.args.store.now in
-    let seen = seen_by (g.N.Names.view_queries names) content c.args.inputs.user c.args.inputs.parameters.now in
-    let insert = c.args.insert.now in
+    let seen : Seen = seen_by (g.N.Names.view_queries names) content c.args.inputs.user c.args.inputs.parameters.now in
     let same = c.new-setting.ensures in
+    let insert = c.args.insert.now in
+    let reads = c.requires.given.reads in
+    let changes = c.in_ok-changed.changed.changes.items in
+    let after = g.S.Store.content_now c.complete.new.store in
+    let made = rw (same.names, same.store, same.user, same.parameters) at c.in_ok-changed.ensures.made in
+    let done = rw c.get-leaf.ensures at (c.complete.ensures.meant c.requires.given.parameters shown (record { inputs = reads.inputs; there = reads.there; in_domains = reads.in_domains; meant = is }) held) in
+    insert_meets shown seen bases after c.complete.result (g.S.Store.row_numbers c.args.store.now) insert changes c.in_ok-changed.ensures.insertions (made shown is) done
+
+pub returns-in_err-changed-clause-meant : goal.returns-in_err-changed-clause-meant
+returns-in_err-changed-clause-meant g c = λ shown is held.
+    let names = c.args.names.now in
+    let bases = g.N.Names.base_tables names in
+    let content = g.S.Store.content_now c.args.store.now in
+    let seen : Seen = seen_by (g.N.Names.view_queries names) content c.args.inputs.user c.args.inputs.parameters.now in
+    let same = c.new-setting.ensures in
+    let insert = c.args.insert.now in
     let made = rw (same.names, same.store, same.user, same.parameters) at c.in_err-changed.ensures.made in
     let e = c.in_err-changed.field-0.0 in
     let whole = rows_inserted shown seen (g.S.Store.row_numbers c.args.store.now) insert in
-    fails_with whole e c.from_residual.result c.from_residual.ensures.1 (failed_as (λ (d : Changed). rows_put d.changes.items) e whole (made shown is))
+    stops_as (λ (u : Unit {0}). _) c.from_residual.result e whole
+    (λ rows. completed shown seen bases insert.leaf rows (with_rows (table_at content insert.leaf.table.place) rows)) c.from_residual.ensures.1
+    (failed_as (λ (d : Changed). rows_put d.changes.items) e whole (made shown is))

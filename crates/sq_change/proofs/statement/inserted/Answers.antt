@@ -5,6 +5,7 @@ use Rattle.sq_bound.specs.declared.names.BaseTable.{BaseTable}
 use Rattle.sq_bound.specs.declared.names.Leaf.{Leaf}
 use Rattle.sq_change.specs.Made.{rows_made, seen_by}
 use Rattle.sq_change.proofs.GivenRows.{few_rows, inserted_are, inserted_none, many_rows}
+use Rattle.sq_change.proofs.KeptKeys.{insertions_keep, insertions_put}
 use Rattle.sq_change.proofs.statement.inserted.Goals as goal
 
 pub returns-clause-made : goal.returns-clause-made
@@ -41,3 +42,12 @@ returns-then-len-numbers_left-clause-made g c = λ shown is.
     inserted_none shown seen greatest insert (rows_put changes)
     (subst (λ (t : BaseTable). rows_made shown seen t insert.columns insert.source ≡ Ok (rows_put changes)) table (c.in_ok-changes.ensures.made shown is))
     (many_rows greatest next changes c.in_ok-changes.ensures.insertions many)
+
+pub returns-clause-keeps : goal.returns-clause-keeps
+returns-clause-keeps g c =
+    let insert = c.args.insert.now in
+    let t = table_at (g.S.Store.content_now c.args.setting.now.store.now) insert.leaf.table.place in
+    record {
+      keys = insertions_keep insert.leaf.table.keys _ t c.in_ok-changes.changes.items c.in_ok-changes.ensures.insertions;
+      put = insertions_put t c.in_ok-changes.changes.items c.in_ok-changes.ensures.insertions;
+    }

@@ -9,6 +9,7 @@ use Rattle.sq_change.proofs.Applied.{base_under}
 use Rattle.sq_change.proofs.Endings.{ends_so}
 use Rattle.sq_change.proofs.Made.{changed_meets, replacements_kept}
 use Rattle.sq_change.proofs.Outcomes.{stops_as}
+use Rattle.sq_change.proofs.KeptRest.{replaced_rest}
 use Rattle.sq_change.proofs.statement.updated.Goals as goal
 
 pub returns-clause-replacements : goal.returns-clause-replacements
@@ -53,3 +54,15 @@ replaced-changes-requires-clause-there g c = rw (c.as_slice.ensures.value, c.get
 
 pub replaced-changes-requires-clause-domains : goal.replaced-changes-requires-clause-domains
 replaced-changes-requires-clause-domains g c = rw (c.as_slice-assignments.ensures, c.get-table.ensures, c.leaf_under.ensures) c.requires.domains
+
+pub returns-clause-keeps : goal.returns-clause-keeps
+returns-clause-keeps g c =
+    let u = c.args.update.now in
+    let setting = c.args.setting.now in
+    let s : Seen = seen_by (g.N.Names.view_queries setting.names.now) (g.S.Store.content_now setting.store.now) setting.user setting.parameters.now in
+    let replacements = replacements_kept c.replaced-changes.result c.changed.result c.changed.ensures.changes s u c.args.on c.as_slice.result.now
+    (subst (Chosen s u.target c.args.on) (sym c.as_slice.ensures.value) c.in_ok-numbers.ensures.chosen)
+    c.replaced-changes.ensures.replacements
+    (λ shown. rw (base_under u.target, ← c.leaf_under.ensures, ← c.get-table.ensures, ← c.as_slice-assignments.ensures) (c.replaced-changes.ensures.meant shown)) in
+    replaced_rest c.keys_assigned.result c.changed.result c.changed.ensures.lost s u c.args.on (g.S.Store.row_numbers setting.store.now) (g.met.S.Store.rises setting.store.now) replacements
+    (rw (c.as_slice-assignments.ensures, c.get-table.ensures, c.leaf_under.ensures) at c.keys_assigned.ensures.lost)

@@ -7,17 +7,17 @@ use Rattle.sq_run.proofs.perform.run.Goals as goal
 
 pub returns-in-Ok-clause-report : goal.returns-in-Ok-clause-report
 returns-in-Ok-clause-report g c =
-    wrote_all (texts c.args.schemas.now) (texts c.args.modules.now) c.args.script.now c.in-Ok.session (g.W.Out.taken c.args.out.now) (g.W.Out.taken c.run_script.new.out) c.run_script.result
+    wrote_all c.args.limits.row_numbers (texts c.args.schemas.now) (texts c.args.modules.now) c.args.script.now c.in-Ok.session (g.W.Out.taken c.args.out.now) (g.W.Out.taken c.run_script.new.out) c.run_script.result
     c.in-Ok.ensures.opened c.run_script.ensures.report
 
 pub returns-in-Ok-clause-stopped : goal.returns-in-Ok-clause-stopped
 returns-in-Ok-clause-stopped g c =
-    wrote_some (texts c.args.schemas.now) (texts c.args.modules.now) c.args.script.now c.in-Ok.session (g.W.Out.taken c.args.out.now) (g.W.Out.taken c.run_script.new.out) c.run_script.result
+    wrote_some c.args.limits.row_numbers (texts c.args.schemas.now) (texts c.args.modules.now) c.args.script.now c.in-Ok.session (g.W.Out.taken c.args.out.now) (g.W.Out.taken c.run_script.new.out) c.run_script.result
     c.in-Ok.ensures.opened c.run_script.ensures.stopped
 
 pub returns-in-Ok-clause-refused : goal.returns-in-Ok-clause-refused
 returns-in-Ok-clause-refused g c =
-    refused_some (texts c.args.schemas.now) (texts c.args.modules.now) c.args.script.now c.in-Ok.session (g.W.Out.taken c.args.out.now) (g.W.Out.taken c.run_script.new.out) c.run_script.result
+    refused_some c.args.limits.row_numbers (texts c.args.schemas.now) (texts c.args.modules.now) c.args.script.now c.in-Ok.session (g.W.Out.taken c.args.out.now) (g.W.Out.taken c.run_script.new.out) c.run_script.result
     c.in-Ok.ensures.opened c.run_script.ensures.stopped
 
 pub returns-in-Ok-clause-order : goal.returns-in-Ok-clause-order
@@ -29,7 +29,7 @@ returns-in-Ok-clause-order g c =
 
 pub returns-in-Err-clause-stopped : goal.returns-in-Err-clause-stopped
 returns-in-Err-clause-stopped g c =
-    opening_wrote (texts c.args.schemas.now) (texts c.args.modules.now) c.args.script.now (g.W.Out.taken c.args.out.now) c.in-Err.fault c.in-Err.ensures.refused
+    opening_wrote c.args.limits.row_numbers (texts c.args.schemas.now) (texts c.args.modules.now) c.args.script.now (g.W.Out.taken c.args.out.now) c.in-Err.fault c.in-Err.ensures.refused
 
 pub returns-in-Err-clause-failed : goal.returns-in-Err-clause-failed
 returns-in-Err-clause-failed g c =
@@ -37,7 +37,7 @@ returns-in-Err-clause-failed g c =
 
 pub returns-in-Err-clause-refused : goal.returns-in-Err-clause-refused
 returns-in-Err-clause-refused g c =
-    opening_refused (texts c.args.schemas.now) (texts c.args.modules.now) c.args.script.now c.in-Err.fault c.in-Err.ensures.refused
+    opening_refused c.args.limits.row_numbers (texts c.args.schemas.now) (texts c.args.modules.now) c.args.script.now c.in-Err.fault c.in-Err.ensures.refused
 
 pub returns-in-Err-clause-order : goal.returns-in-Err-clause-order
 returns-in-Err-clause-order g c = opening_order (texts c.args.schemas.now) (texts c.args.modules.now) c.in-Err.fault c.in-Err.ensures.refused

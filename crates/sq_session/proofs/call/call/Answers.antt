@@ -49,7 +49,7 @@ returns-in-Ok g c =
     let schemas = schemas_of c.args.catalog.now in
     let read = as_read schemas cursors entry.1.user entry.1.parameters c.in-Ok.statement c.args.values.now c.args.machine.now (ending c.performed.result) _ c.performed.ensures.step in
     let step = all_if _ EndsRight _ (ending c.performed.result) read c.performed.ensures.right (has_tables c.args.catalog.now c.args.machine.now.tables) in
-    let kept = after schemas (column_kinds c.args.catalog.now) c.args.catalog.now.bases cursors entry.1.user entry.1.parameters c.in-Ok.statement _ c.args.machine.now c.performed.result c.performed.new.machine c.requires.whole c.performed.ensures.rows c.performed.ensures.in_domains c.performed.ensures.opened c.performed.ensures.step c.performed.ensures.err in
+    let kept = after schemas (column_kinds c.args.catalog.now) c.args.catalog.now.bases cursors entry.1.user entry.1.parameters c.in-Ok.statement _ c.args.machine.now c.performed.result c.performed.new.machine c.requires.whole c.performed.ensures.rows c.performed.ensures.in_domains c.performed.ensures.constraints c.performed.ensures.opened c.performed.ensures.step c.performed.ensures.err in
     record { step = rw kind step; whole = kept; err = c.performed.ensures.err; memory = rw kind c.performed.ensures.memory }
 
 pub returns-in-Err-clause-step : goal.returns-in-Err-clause-step
