@@ -1,22 +1,26 @@
 //! Updatable queries and targets (ISO/IEC 9075:1992, 7.9, 13.6 to 13.10).
 
-ghost use Rattle.std.specs.Prelude.{◌≡◌, ◌∷◌, [], is_some, nat_lt, length, true, Ok, Some, IfOk, IfSome};
-ghost use Rattle.std.specs.List.{AllByRecursion, list_all};
+ghost use Rattle.std.specs.Prelude.{◌≡◌, ◌∷◌, [], is_some, map, nat_lt, length, true, Ok, Some, IfOk, IfSome, IsTrue};
+ghost use Rattle.std.specs.List.{AllByRecursion, list_all, list_any};
 ghost use Rattle.sq_bound.specs.Fits.{FitsQuery, IsBase, IsOver};
+ghost use Rattle.sq_bound.specs.Condition.{test_of};
+ghost use Rattle.sq_bound.specs.Expression.{expr_of};
+ghost use Rattle.sq_bound.specs.Keyed.{column_named, is_constant, is_named_by, is_plain_base, names_column, names_one_of, start_with_key};
 ghost use Rattle.sq_bound.specs.Names.{is_kind_at, option_all};
 ghost use Rattle.sq_bound.specs.Quiet.{is_sure};
 ghost use Rattle.sq_bound.specs.WellFormed.{BasesAreThere, IsLeaf, IsSelect, IsTable, IsTarget, IsUpdatable, base_kinds, kinds_of_columns, kinds_of_parameters, kinds_of_select, place_of};
 ghost use Rattle.sq_bound.specs.declared.condition.BoundSpecification.{out-BoundSpecification};
 ghost use Rattle.sq_bound.specs.declared.condition.TablePlace.{TablePlace as AnyPlace};
 ghost use Rattle.sq_bound.specs.declared.condition.TablePlace.TheVariants.{Base};
+ghost use Rattle.sq_tree.specs.declared.cond.Comparison.TheVariants.{Equal};
 ghost use Rattle.sq_meaning.specs.WellFormed.{HasValue};
 ghost use Rattle.sq_scope.specs.WellFormed.{IsItemOver};
 ghost use Rattle.sq_bind.specs.WellFormed.{IsOutermost};
 ghost use Rattle.sq_bind.specs.Updatable.{AreColumns, AreLeaves, IsAmong, IsLeafOf};
 
 use sq_bound::{
-    BindFault, BoundCond, BoundConj, BoundExpr, BoundSpecification, BoundTest, Column, Leaf, Names,
-    Predicate, Shared, TableBody, TableDesc, TablePlace, Target, UpdatableQuery, is_sure,
+    BindFault, BoundCond, BoundExpr, BoundSpecification, BoundTest, Column, Leaf, Names, Predicate,
+    Shared, TableBody, TableDesc, TablePlace, Target, UpdatableQuery, is_sure,
 };
 use sq_items::Items;
 use sq_lex::Name;
@@ -118,6 +122,7 @@ pub(crate) struct Under<'a> {
     pub leaf: &'a Shared<Leaf>,
     ghost placed: { list_all (λ c. nat_lt c.leaf_column (length leaf.now.table.columns)) table.now.columns ≡ true },
     ghost kinds: { list_all (λ c. is_kind_at (base_kinds leaf.now.table) c.leaf_column c.kind) table.now.columns ≡ true },
+    ghost plain: { is_plain_base table.now.body (Some leaf.now) ≡ true },
 }
 
 impl Under<'_> {
@@ -131,6 +136,7 @@ impl Under<'_> {
 
 /// What is under a table, if it may be changed.
 pub(crate) fn under_table<'a>(table: &'a TableDesc) -> Option<Under<'a>>
+    requires { is_plain_base table.now.body table.now.leaf ≡ true }
     ensures leaf { IfSome result (λ under. table.now.leaf ≡ Some under.leaf.now) }
     ensures table { IfSome result (λ under. under.table.now ≡ table.now) }
 {
@@ -288,7 +294,7 @@ fn whole_target(
     key: Option<usize>,
     under: Under<'_>,
 ) -> Result<Found<Target>, BindFault>
-    requires { option_all (λ k. nat_lt k (length under.leaf.now.table.keys)) key ≡ true }
+    requires { option_all (is_named_by under.leaf.now condition) key ≡ true }
     ensures leaf { IfOk result (λ found. found.part.leaf ≡ under.entry.leaf.now) }
     ensures condition { IfOk result (λ found. found.part.condition ≡ condition) }
 {
@@ -317,42 +323,108 @@ fn is_sure_where(condition: &Option<BoundCond>) -> bool
     }
 }
 
-/// The first key of a base table that a condition compares: the condition is one term, and its first tests say
-/// `column = x` for each column of the key, where x is a literal or a parameter.
+/// The first key by which a condition on a base table names a row: the condition is one term, and its first tests say
+/// `column = x` for the columns of the key, each with a literal or a parameter x.
 fn key_of(condition: &BoundCond, under: Under<'_>) -> Option<usize>
-    ensures { option_all (λ k. nat_lt k (length under.entry.leaf.now.table.keys)) result ≡ true }
+    ensures { option_all (is_named_by under.entry.leaf.now (Some condition.now)) result ≡ true }
 {
     let (TableBody::Base(_), [term]) = (&under.table.body, condition.terms.as_slice()) else {
         return None;
     };
     let base = under.leaf.get().table.get();
-    base.keys
-        .as_slice()
-        .iter()
-        .position(|key| compares(term, key.as_slice()))
-}
-
-/// Whether the first tests of a term compare the columns of a key, in any order.
-fn compares(term: &BoundConj, key: &[usize]) -> bool {
-    let tests = term.tests.as_slice();
-    tests.len() >= key.len()
-        && key.iter().all(|column| tests[..key.len()]
-            .iter()
-            .any(|test| is_equality(test, *column)))
-}
-
-/// Whether a test is `column = x` with a literal or a parameter x.
-fn is_equality(test: &BoundTest, column: usize) -> bool {
-    match &test.predicate {
-        Predicate::Compare(Comparison::Equal, BoundExpr::Column(place), right) => {
-            !test.negated && place.depth == 0 && place.column == column && is_constant(right)
+    for (number, key) in base.keys.as_slice().iter().enumerate() {
+        if starts_with_key(term.tests.as_slice(), key.as_slice()) {
+            return Some(number);
         }
+    }
+    None
+}
+
+/// Whether the first tests name the columns of a key and no other, in any order.
+fn starts_with_key(tests: &[BoundTest], key: &[usize]) -> bool
+    ensures { IsTrue result → start_with_key key.now (map (test_of []) tests.now) ≡ true }
+{
+    if tests.len() < key.len() {
+        return false;
+    }
+    let first = &tests[..key.len()];
+    name_columns_of(first, key) && are_named(key, first)
+}
+
+/// Whether each test names a column of the key.
+fn name_columns_of(tests: &[BoundTest], key: &[usize]) -> bool
+    ensures { IsTrue result → list_all (names_one_of key.now) (map (test_of []) tests.now) ≡ true }
+{
+    for test in tests {
+        if !names_one_of(test, key) {
+            return false;
+        }
+    }
+    true
+}
+
+fn names_one_of(test: &BoundTest, key: &[usize]) -> bool
+    ensures { IsTrue result → names_one_of key.now (test_of [] test.now) ≡ true }
+{
+    match column_named(test) {
+        Some(column) => key.contains(&column),
+        None => false,
+    }
+}
+
+/// Whether each column of the key is named by a test.
+fn are_named(key: &[usize], tests: &[BoundTest]) -> bool
+    ensures { IsTrue result → list_all (λ n. list_any (names_column n) (map (test_of []) tests.now)) key.now ≡ true }
+{
+    for column in key {
+        if !is_named(*column, tests) {
+            return false;
+        }
+    }
+    true
+}
+
+fn is_named(column: usize, tests: &[BoundTest]) -> bool
+    ensures { IsTrue result → list_any (names_column column) (map (test_of []) tests.now) ≡ true }
+{
+    for test in tests {
+        if column_named(test) == Some(column) {
+            return true;
+        }
+    }
+    false
+}
+
+/// The column that a test `column = x` names, with a literal or a parameter x.
+fn column_named(test: &BoundTest) -> Option<usize>
+    ensures { IfSome result (λ n. column_named (test_of [] test.now) ≡ Some n) }
+{
+    let Predicate::Compare(comparison, left, right) = &test.predicate else {
+        return None;
+    };
+    if test.negated || !is_equality(*comparison) || !is_constant(right) {
+        return None;
+    }
+    match left {
+        BoundExpr::Column(place) if place.depth == 0 => Some(place.column),
+        _ => None,
+    }
+}
+
+/// Whether a comparison operator is `=`.
+fn is_equality(comparison: Comparison) -> bool
+    ensures { IsTrue result → comparison ≡ Equal }
+{
+    match comparison {
+        Comparison::Equal => true,
         _ => false,
     }
 }
 
 /// Whether an expression is a literal, with or without a sign, or a parameter.
-fn is_constant(expr: &BoundExpr) -> bool {
+fn is_constant(expr: &BoundExpr) -> bool
+    ensures { IsTrue result → is_constant (expr_of [] expr.now) ≡ true }
+{
     match expr {
         BoundExpr::Literal(_) | BoundExpr::Parameter(_) => true,
         BoundExpr::Negated(operand) => matches!(operand.get(), BoundExpr::Literal(_)),

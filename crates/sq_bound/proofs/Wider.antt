@@ -280,6 +280,7 @@ module _ (before after : TableKinds) (extends : Extends before after) where
     kinds_are = extends (place_of t.body) (kinds_of_columns t.columns) h.kinds_are;
     leaf = IfSome_then t.leaf {P = IsLeaf before} {Q = IsLeaf after} h.leaf is_leaf_wider;
     body = is_body_wider (kinds_of_columns t.columns) t.body h.body;
+    plain = h.plain;
   }
 
 -- ---- what is known before a view is known afterwards

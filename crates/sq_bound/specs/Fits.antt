@@ -1,11 +1,12 @@
 -- What a bound tree names is there: the tree fits the base tables, the cursors and the parameters that it was bound for.
 -- (Own notion: names are places in bound trees, ISO/IEC 9075:1992 knows none.)
-use Rattle.std.specs.Prelude.{⊤, ◌≡◌, ◌<◌, ℕ, nat_eq, nat_lt, Bool, true, false, ◌&&◌, List, [], ◌∷◌, length, map, Option, Some, IfSome, slice_get}
-use Rattle.std.specs.List.{AllByRecursion, AllZip, list_all}
+use Rattle.std.specs.Prelude.{⊤, ◌≡◌, ◌<◌, ℕ, nat_eq, nat_lt, Bool, true, false, ◌&&◌, not, List, [], ◌∷◌, length, map, Option, Some, IfSome, slice_get}
+use Rattle.std.specs.List.{AllByRecursion, AllZip, enumerate_from, list_all, list_any, zip}
 use Rattle.sq_value.specs.Domain.{IsInDomain}
+use Rattle.sq_value.specs.SetFunctions.{is_null}
 use Rattle.sq_value.specs.declared.value.Value.{Value}
 use Rattle.sq_store.specs.declared.table.Numbered.{Numbered}
-use Rattle.sq_store.specs.Content.{Content}
+use Rattle.sq_store.specs.Content.{Content, table_at}
 use Rattle.sq_store.specs.Keys.{Keys, keys_at}
 use Rattle.sq_bound.specs.Names.{are_positions, option_all}
 use Rattle.sq_bound.specs.declared.names.BaseColumn.{BaseColumn}
@@ -73,6 +74,19 @@ AreRowsIn columns = AllByRecursion (λ r. IsRowIn columns r.row)
 -- there is a table for each base table, and every value of its rows is in the domain of its column
 abbrev pub AreInDomains : List BaseTable → Content → Type 0
 AreInDomains = AllZip (λ b t. AreRowsIn b.columns t.rows)
+
+-- ---- NOT NULL (11.4)
+
+abbrev pub lacks_value : BaseColumn × Value → Bool
+lacks_value p = p.0.not_null && is_null p.1
+
+-- no column is null that may not be
+abbrev pub has_its_values : BaseTable → List Value → Bool
+has_its_values t row = not (list_any lacks_value (zip t.columns row))
+
+-- no row of any table is null where it may not be
+abbrev pub not_nulls_hold : List BaseTable → Content → Bool
+not_nulls_hold bases content = list_all (λ p. list_all (λ n. has_its_values p.1 n.row) (table_at content p.0).rows) (enumerate_from 0 bases)
 
 -- ---- cursors
 

@@ -5,7 +5,9 @@ pub mod Expression
 pub mod Fits
 pub mod Groups
 pub mod Joined
+pub mod Keyed
 pub mod Names
+pub mod NotNull
 pub mod Noted
 pub mod Numbered
 pub mod NumberedQuery

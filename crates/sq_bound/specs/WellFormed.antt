@@ -1,6 +1,6 @@
 -- Which bound trees are well formed (ISO/IEC 9075:1992, 6.3 to 6.5, 6.11, 7.3 to 7.11, clauses 8 and 13): their trees by
 -- place are, and what is known of their columns beforehand is what the definitions give.
-use Rattle.std.specs.Prelude.{⊤, ◌≡◌, ◌<◌, ◌⊎◌, ℕ, length, nat_eq, nat_lt, if◌then◌else◌, IsTrue, List, [], ◌∷◌, ◌++◌, map, slice_get, Some, IfSome, Ok}
+use Rattle.std.specs.Prelude.{⊤, ◌≡◌, ◌<◌, ◌⊎◌, ℕ, length, nat_eq, nat_lt, if◌then◌else◌, IsTrue, true, List, [], ◌∷◌, ◌++◌, map, slice_get, Some, IfSome, Ok}
 use Rattle.std.specs.List.{AllByRecursion, AllZip}
 use Rattle.sq_value.specs.Domain.{kind_of}
 use Rattle.sq_value.specs.declared.domain.Kind.{Kind}
@@ -15,6 +15,7 @@ use Rattle.sq_bound.specs.Condition.{PlacedCond, cond_of, select_of}
 use Rattle.sq_bound.specs.Expression.{PlacedExpr, expr_of}
 use Rattle.sq_bound.specs.Fits.{IsColumnOf, under}
 use Rattle.sq_bound.specs.Joined.{joined_kinds, specifications_of}
+use Rattle.sq_bound.specs.Keyed.{is_plain_base}
 use Rattle.sq_bound.specs.Noted.{CondIsNoted, SelectIsNoted}
 use Rattle.sq_bound.specs.Numbered.{CondWith, HaveNumbers, SelectWith}
 use Rattle.sq_bound.specs.SetFunction.{call_of}
@@ -172,6 +173,7 @@ pub record IsTable (columns : TableKinds) (t : TableDesc) : Type 0 where
   pub kinds_are : columns (place_of t.body) ≡ Ok (kinds_of_columns t.columns)
   pub leaf : IfSome t.leaf (IsLeaf columns)
   pub body : IsBody columns (kinds_of_columns t.columns) t.body
+  pub plain : is_plain_base t.body t.leaf ≡ true
 
 -- ---- cursors and views
 

@@ -5,6 +5,7 @@ ghost use Rattle.std.specs.List.{list_all};
 ghost use Rattle.sq_value.specs.Domain.{IsDomain, kind_of};
 ghost use Rattle.sq_bound.specs.Default.{DefaultIsIn, DefaultIsIn-prop};
 ghost use Rattle.sq_bound.specs.Names.{are_positions, is_bounded, is_kind_at, option_all};
+ghost use Rattle.sq_bound.specs.NotNull.{are_not_null};
 ghost use Rattle.sq_bound.specs.Parameter.{IsDomain-prop};
 ghost use Rattle.sq_bound.specs.Quiet.{are_sure};
 
@@ -145,6 +146,7 @@ pub struct BaseTable {
     pub references: Items<Reference>,
     pub checks: Items<BoundCond>,
     ghost key_columns: { list_all (are_positions (length columns)) keys ≡ true },
+    ghost known_keys: { list_all (are_not_null (map (λ c. c.not_null) columns)) keys ≡ true },
     ghost primary_there: { option_all (λ key. nat_lt key (length keys)) primary_key ≡ true },
     ghost referencing: { list_all (λ r. are_positions (length columns) r.by_key) references ≡ true },
 }

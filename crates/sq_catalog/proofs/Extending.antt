@@ -9,6 +9,7 @@ use Rattle.sq_value.specs.declared.domain.Kind.{Kind}
 use Rattle.sq_meaning.specs.Status.{Outcome, not_well_formed, well_formed}
 use Rattle.sq_meaning.specs.WellFormed.{HasValue}
 use Rattle.sq_meaning.proofs.AnswerLaws.{all_weaker}
+use Rattle.sq_bound.specs.Keyed.{is_plain_base}
 use Rattle.sq_bound.specs.WellFormed.{Extends, IsBody as IsBodyOver, IsCond, IsCondOn, IsLeaf, IsSelect, IsTable, TableKinds, base_kinds, before_view, kinds_of_columns, kinds_of_select, of_base, only, place_of}
 use Rattle.sq_bound.specs.declared.condition.BoundSpecification.{BoundSpecification}
 use Rattle.sq_bound.specs.declared.condition.TablePlace.{TablePlace}
@@ -109,6 +110,12 @@ base_body : (columns : TableKinds) (b : BaseTable) (kinds : List Kind) (t : Tabl
 base_body columns b kinds (body.Base own) h = tt
 base_body columns b kinds (body.View v) h = absurd h
 
+-- nothing is between it and itself
+plain_base : (b : BaseTable) (t : TableBody) (leaf : Option Leaf) → IfSome leaf (λ l. (l.table ≡ b) × (l.conditions ≡ [])) → is_plain_base t leaf ≡ true
+plain_base b (body.Base own) None h = refl
+plain_base b (body.Base own) (Some l) h = ap (λ (cs : List BoundCond). nat_eq (length cs) 0) h.1
+plain_base b (body.View v) leaf h = refl
+
 -- as names see it
 pub table_made : (bases : List BaseTable) (name : FullName) (b : BaseTable) (columns : List Column) (views : List BoundSpecification) (t : TableDesc) → IsDescribed name b columns t → b.place ≡ length bases → kinds_of_columns columns ≡ base_kinds b
     → AreChecksAt (length bases) (kinds_of_columns columns) b.checks → IsTable (kinds_at (bases ++ b ∷ []) views) t
@@ -119,6 +126,7 @@ table_made bases name b columns views t h place kinds checks =
       leaf = IfSome_then t.leaf {P = λ (l : Leaf). (l.table ≡ b) × (l.conditions ≡ [])} {Q = IsLeaf (kinds_at (bases ++ b ∷ []) views)} h.leaf
           (λ l e. own_leaf bases b views l place (own_checks bases b (kinds_of_columns columns) views place kinds checks) e);
       body = base_body (kinds_at (bases ++ b ∷ []) views) b (kinds_of_columns t.columns) t.body h.body;
+      plain = plain_base b t.body t.leaf h.leaf;
     }
 
 -- ---- the view that is the last
@@ -156,6 +164,10 @@ last_kinds : (bases : List BaseTable) (views : List BoundSpecification) (columns
 last_kinds bases views columns kinds (body.Base own) h = absurd h
 last_kinds bases views columns kinds (body.View v) h = ap (λ o. well_formed (option_map kinds_of_select o)) (get_behind views v.query (length views) refl) ∙ ap Ok (sym h.1)
 
+plain_view : (columns : TableKinds) (kinds : List Kind) (t : TableBody) (leaf : Option Leaf) → IsViewOver columns kinds t → is_plain_base t leaf ≡ true
+plain_view columns kinds (body.Base b) leaf h = absurd h
+plain_view columns kinds (body.View v) leaf h = refl
+
 pub view_made : (c : Catalog) (name : FullName) (t : TableDesc) → IsNextView c name t → IsTable (kinds_at c.bases (c.views ++ query_in t.body)) t
 view_made c name t h =
     let after : TableKinds = kinds_at c.bases (c.views ++ query_in t.body) in
@@ -164,6 +176,7 @@ view_made c name t h =
       kinds_are = ap after h.place ∙ last_kinds c.bases c.views (column_kinds c) (kinds_of_columns t.columns) t.body h.body;
       leaf = IfSome_then t.leaf {P = IsLeaf (column_kinds c)} {Q = IsLeaf after} h.leaf (is_leaf_wider (column_kinds c) after extends);
       body = view_body c after (kinds_of_columns t.columns) t.body extends h.place h.body;
+      plain = plain_view (column_kinds c) (kinds_of_columns t.columns) t.body t.leaf h.body;
     }
 
 -- the view that was added stands among the others

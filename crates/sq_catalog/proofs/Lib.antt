@@ -2,6 +2,7 @@ pub mod Added
 pub mod Extending
 pub mod Gains
 pub mod Listed
+pub mod NotNull
 pub mod Quiet
 pub mod Seen
 pub mod Stored

@@ -1,8 +1,20 @@
 -- The columns of a table definition.
-use Rattle.std.specs.Prelude.{ℕ}
-use Rattle.indexmap.specs.IndexMap.{index_map_len}
+use Rattle.std.specs.List.{list_any}
+use Rattle.std.specs.Prelude.{ℕ, Bool, true, false}
+use Rattle.indexmap.specs.IndexSet.{index_set_len}
+use Rattle.sq_tree.specs.declared.schema.ColumnConstraint.{ColumnConstraint}
+use Rattle.sq_tree.specs.declared.schema.ColumnConstraint.TheVariants as constraint
+use Rattle.sq_tree.specs.declared.schema.ColumnDefinition.{ColumnDefinition}
 use Rattle.sq_catalog.specs.declared.written.NamedColumns.{NamedColumns}
 
 -- how many there are
 abbrev pub column_count : NamedColumns → ℕ
-column_count named = index_map_len named.not_null
+column_count columns = index_set_len columns.names
+
+abbrev pub is_not_null_constraint : ColumnConstraint → Bool
+is_not_null_constraint constraint.NotNull = true
+is_not_null_constraint _ = false
+
+-- NOT NULL is written for a column (11.4)
+abbrev pub is_written_not_null : ColumnDefinition → Bool
+is_written_not_null column = list_any is_not_null_constraint column.constraints

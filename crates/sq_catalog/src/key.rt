@@ -1,4 +1,4 @@
-//! Keys of a table definition (ISO/IEC 9075:1992, 11.7; that each column is NOT NULL, and the number of columns, are own rules).
+//! Keys of a table definition (ISO/IEC 9075:1992, 11.7; the number of columns is an own rule).
 
 ghost use Rattle.std.specs.Prelude.{◌≡◌, nat_lt, length, true, IfOk, OnOk};
 ghost use Rattle.std.specs.List.{list_all};
@@ -21,8 +21,6 @@ pub(crate) struct Keys {
     pub primary: Option<usize>,
     /// Whether there are two primary keys.
     pub has_two_primary: bool,
-    /// Whether a column of a key isn't declared NOT NULL.
-    pub has_nullable: bool,
     ghost primary_there: { option_all (λ key. nat_lt key (length columns)) primary ≡ true },
 }
 
@@ -38,7 +36,6 @@ pub(crate) fn keys_of(
         columns: Items::new(alloc),
         primary: None,
         has_two_primary: false,
-        has_nullable: false,
     };
     match keys.add_all(alloc, named, written) {
         Ok(()) => Ok(keys),
@@ -60,7 +57,7 @@ impl Keys {
         ensures { OnOk result (list_all (are_positions (column_count named.now)) self.new.columns ≡ true) }
     {
         for key in written {
-            let columns = self.found_columns(alloc, named, key.columns.as_slice())?;
+            let columns = named.positions(alloc, key.columns.as_slice())?;
             let place = self.columns.len();
             self.columns.push(columns)?;
             if key.is_primary {
@@ -71,29 +68,8 @@ impl Keys {
         Ok(())
     }
 
-    /// The positions of the columns of a key.
-    fn found_columns(
-        &mut self,
-        alloc: Global,
-        named: &NamedColumns,
-        names: &[Name],
-    ) -> Result<Items<usize>, ElementFault>
-        ensures columns { self.new.columns ≡ self.old.columns }
-        ensures positions { IfOk result (λ positions. are_positions (column_count named.now) positions ≡ true) }
-    {
-        let mut positions = Items::new(alloc);
-        for name in names {
-            let column = named.column(*name)?;
-            self.has_nullable = self.has_nullable || !column.is_not_null;
-            positions.push(column.position)?;
-        }
-        Ok(positions)
-    }
-
-    /// Each column of a key is declared NOT NULL, there is at most one primary key, and no list has a column twice or more
-    /// than 6.
+    /// There is at most one primary key, and no list has a column twice or more than 6.
     pub(crate) fn check(&self) -> Result<(), ElementFault> {
-        refused_if(self.has_nullable, RefusalName::NullableKey)?;
         refused_if(self.has_two_primary, RefusalName::BadKey)?;
         for key in self.columns.as_slice() {
             refused_if(is_bad_list(key.as_slice()), RefusalName::BadKey)?;

@@ -5,12 +5,13 @@ ghost use Rattle.std.specs.List.{All, list_all};
 ghost use Rattle.sq_value.specs.Domain.{IsDomain, FitsKind, kind_of};
 ghost use Rattle.sq_bound.specs.Default.{DefaultIsIn};
 ghost use Rattle.sq_bound.specs.Names.{are_positions, is_kind_at, option_all};
+ghost use Rattle.sq_bound.specs.NotNull.{are_not_null};
 ghost use Rattle.sq_bound.specs.WellFormed.{base_kinds, kinds_of_columns};
 ghost use Rattle.sq_catalog.specs.Catalog.{Gains, named_by};
 ghost use Rattle.sq_catalog.specs.Reference.{IsFound, is_to, keys_with};
 ghost use Rattle.sq_catalog.specs.Stored.{AreChecksAt, AreColumnsOver, IsDescribed, IsNext};
-ghost use Rattle.sq_catalog.specs.Table.{typed_kinds};
-ghost use Rattle.sq_catalog.specs.Written.{column_count};
+ghost use Rattle.sq_catalog.specs.Table.{typed_kinds, written_not_null};
+ghost use Rattle.sq_catalog.specs.Written.{column_count, is_written_not_null};
 
 use crate::catalog::{Catalog, FullName, full_name};
 use crate::fault::{ElementFault, RefusalName, refused_as, refused_if};
@@ -190,6 +191,7 @@ impl Catalog {
     ) -> Result<(BaseTable, bool), ElementFault>
         requires width { length columns.now ≡ vec_len draft.now.written.columns }
         requires kinds { kinds_of_columns columns.now ≡ typed_kinds draft.now.columns.items }
+        requires known_keys { list_all (are_not_null (written_not_null draft.now.columns.items)) draft.now.keys.columns ≡ true }
         requires found { All (IsFound self.now.bases (vec_len draft.now.written.columns)) draft.now.references.items }
         ensures kinds { IfOk result (λ made. base_kinds made.0 ≡ kinds_of_columns columns.now) }
         ensures place { IfOk result (λ made. made.0.place ≡ length self.now.bases) }
@@ -243,6 +245,7 @@ fn base_parts(
 ) -> Result<BaseParts, ElementFault>
     ensures columns { IfOk result (λ parts. length parts.columns ≡ vec_len draft.now.written.columns) }
     ensures kinds { IfOk result (λ parts. map (λ c. kind_of c.domain) parts.columns ≡ typed_kinds draft.now.columns.items) }
+    ensures not_null { IfOk result (λ parts. map (λ c. c.not_null) parts.columns ≡ written_not_null draft.now.columns.items) }
     ensures keys { IfOk result (λ parts. parts.keys ≡ draft.now.keys.columns) }
     ensures checks { IfOk result (λ parts. AreChecksAt place (kinds_of_columns columns.now) parts.checks) }
 {
@@ -266,6 +269,7 @@ fn assembled(
     parts: BaseParts,
 ) -> (BaseTable, bool)
     requires keys { list_all (are_positions (length parts.columns)) parts.keys ≡ true }
+    requires known_keys { list_all (are_not_null (map (λ c. c.not_null) parts.columns)) parts.keys ≡ true }
     requires primary { option_all (λ key. nat_lt key (length parts.keys)) primary_key ≡ true }
     requires references { list_all (λ r. are_positions (length parts.columns) r.by_key) bound.references ≡ true }
     ensures place { result.0.place ≡ place }
@@ -295,11 +299,40 @@ fn assembled(
 }
 
 impl Draft<'_> {
-    /// The keys are in order, and the lists of the references.
-    fn check_keys(&self) -> Result<(), ElementFault> {
+    /// The keys are in order (that each of their columns is NOT NULL is an own rule), and the lists of the references.
+    fn check_keys(&self) -> Result<(), ElementFault>
+        ensures { OnOk result (list_all (are_not_null (written_not_null self.now.columns.items)) self.now.keys.columns ≡ true) }
+    {
+        let are_known = have_not_null(self.columns.as_slice(), self.keys.columns.as_slice());
+        refused_if(!are_known, RefusalName::NullableKey)?;
         self.keys.check()?;
         check_lists(self.references.as_slice())
     }
+}
+
+/// Whether each column of each key is declared NOT NULL.
+fn have_not_null(columns: &[TypedColumn<'_>], keys: &[Items<usize>]) -> bool
+    requires { list_all (are_positions (length columns.now)) keys.now ≡ true }
+    ensures { IsTrue result → list_all (are_not_null (written_not_null columns.now)) keys.now ≡ true }
+{
+    for key in keys {
+        if !are_not_null(columns, key.as_slice()) {
+            return false;
+        }
+    }
+    true
+}
+
+fn are_not_null(columns: &[TypedColumn<'_>], key: &[usize]) -> bool
+    requires { are_positions (length columns.now) key.now ≡ true }
+    ensures { IsTrue result → are_not_null (written_not_null columns.now) key.now ≡ true }
+{
+    for column in key {
+        if !is_not_null(columns[*column].definition) {
+            return false;
+        }
+    }
+    true
 }
 
 /// The columns as queries see them.
@@ -321,6 +354,7 @@ fn columns_of(alloc: Global, typed: &[TypedColumn<'_>]) -> Result<Items<Column>,
 fn base_columns(alloc: Global, typed: &[TypedColumn<'_>]) -> Result<Items<BaseColumn>, ElementFault>
     ensures count { IfOk result (λ columns. length columns ≡ length typed.now) }
     ensures kinds { IfOk result (λ columns. map (λ c. kind_of c.domain) columns ≡ typed_kinds typed.now) }
+    ensures not_null { IfOk result (λ columns. map (λ c. c.not_null) columns ≡ written_not_null typed.now) }
 {
     let mut columns = Items::new(alloc);
     for column in typed {
@@ -330,7 +364,8 @@ fn base_columns(alloc: Global, typed: &[TypedColumn<'_>]) -> Result<Items<BaseCo
 }
 
 fn base_column(alloc: Global, typed: &TypedColumn<'_>) -> Result<BaseColumn, ElementFault>
-    ensures { IfOk result (λ column. column.domain ≡ typed.now.domain) }
+    ensures domain { IfOk result (λ column. column.domain ≡ typed.now.domain) }
+    ensures not_null { IfOk result (λ column. column.not_null ≡ is_written_not_null typed.now.definition.now) }
 {
     Ok(BaseColumn {
         domain: typed.domain,

@@ -4,10 +4,10 @@ ghost use Rattle.std.specs.Prelude.{◌≡◌, ◌<◌, ◌+◌, true, length, v
 ghost use Rattle.sq_value.specs.Domain.{IsDomain};
 ghost use Rattle.sq_bound.specs.Names.{are_positions};
 ghost use Rattle.sq_bound.specs.Parameter.{IsDomain-prop};
-ghost use Rattle.sq_catalog.specs.Written.{column_count};
+ghost use Rattle.sq_catalog.specs.Written.{column_count, is_written_not_null};
 
 use crate::fault::{ElementFault, RefusalName, refused_if};
-use indexmap::{IndexMap, IndexSet};
+use indexmap::IndexSet;
 use sq_items::Items;
 use sq_lex::Name;
 use sq_scope::domain_of;
@@ -176,15 +176,8 @@ pub(crate) fn pushed(found_room: bool) -> Result<(), ElementFault>
 /// The columns of a definition by their names, none of which stands twice.
 #[derive(Drop)]
 pub(crate) struct NamedColumns {
-    /// At the place of each column whether it is declared NOT NULL.
-    not_null: IndexMap<Name, bool>,
-}
-
-/// A column of a definition.
-#[derive(Clone, Copy)]
-pub(crate) struct NamedColumn {
-    pub position: usize,
-    pub is_not_null: bool,
+    /// The name of each column at its place.
+    names: IndexSet<Name>,
 }
 
 /// The columns of a definition by their names.
@@ -195,7 +188,7 @@ pub(crate) fn named_columns(
     ensures { IfOk result (λ named. column_count named ≡ length columns.now) }
 {
     let mut named = NamedColumns {
-        not_null: IndexMap::new(alloc),
+        names: IndexSet::new(alloc),
     };
     match named.add_all(columns) {
         Ok(()) => Ok(named),
@@ -219,21 +212,18 @@ impl NamedColumns {
     fn add(&mut self, column: &ColumnDefinition) -> Result<(), ElementFault>
         ensures { OnOk result (column_count self.new ≡ column_count self.old + 1) }
     {
-        match self.not_null.insert(column.name, is_not_null(column)) {
-            Ok(before) => refused_if(before.is_some(), RefusalName::NameTwice),
+        match self.names.insert_full(column.name) {
+            Ok((_, added)) => refused_if(!added, RefusalName::NameTwice),
             Err(_) => Err(ElementFault::NoMemory),
         }
     }
 
-    /// The column of a name.
-    pub(crate) fn column(&self, name: Name) -> Result<NamedColumn, ElementFault>
-        ensures { IfOk result (λ column. column.position < column_count self.now) }
+    /// The position of the column of a name.
+    pub(crate) fn position(&self, name: Name) -> Result<usize, ElementFault>
+        ensures { IfOk result (λ position. position < column_count self.now) }
     {
-        match self.not_null.get_full(&name) {
-            Some((position, _, is_not_null)) => Ok(NamedColumn {
-                position,
-                is_not_null: *is_not_null,
-            }),
+        match self.names.get_index_of(&name) {
+            Some(position) => Ok(position),
             None => Err(ElementFault::Refused(RefusalName::UnknownName)),
         }
     }
@@ -248,7 +238,7 @@ impl NamedColumns {
     {
         let mut positions = Items::new(alloc);
         for name in wanted {
-            positions.push(self.column(*name)?.position)?;
+            positions.push(self.position(*name)?)?;
         }
         Ok(positions)
     }
@@ -272,7 +262,9 @@ pub(crate) fn typed_columns<'t>(
 }
 
 /// Whether NOT NULL is written for a column.
-pub(crate) fn is_not_null(column: &ColumnDefinition) -> bool {
+pub(crate) fn is_not_null(column: &ColumnDefinition) -> bool
+    ensures { result ≡ is_written_not_null column.now }
+{
     column.constraints.as_slice().iter().any(|constraint| matches!(
         constraint,
         ColumnConstraint::NotNull

@@ -7,9 +7,9 @@ use Rattle.sq_store.specs.Content.{Content, changed_by, table_at, with_table}
 use Rattle.sq_store.specs.declared.change.Change.{Change}
 use Rattle.sq_store.specs.declared.table.Numbered.{Numbered}
 use Rattle.sq_store.specs.declared.table.Table.{Table}
-use Rattle.sq_bound.specs.Fits.{IsBase, all_refer, holds}
+use Rattle.sq_bound.specs.Fits.{IsBase, all_refer, has_its_values, holds, not_nulls_hold}
 use Rattle.sq_bound.specs.declared.names.BaseTable.{BaseTable}
-use Rattle.sq_change.specs.Constraints.{constraints_hold, has_its_values, not_nulls_hold, references_met}
+use Rattle.sq_change.specs.Constraints.{constraints_hold, references_met}
 use Rattle.sq_meaning.specs.declared.status.Status.{Status}
 use Rattle.sq_model.specs.Constraints.{demanded}
 use Rattle.sq_expression.specs.Fault.{Meets}
@@ -52,6 +52,9 @@ module _ (bases : List BaseTable) (before after : Content) (t : BaseTable) (lost
   pub constraints_kept : constraints_hold bases before ≡ true → list_all (has_its_values t) (rows_put changes) ≡ true → references_met bases after ≡ true → constraints_hold bases after ≡ true
   constraints_kept held put met =
       and_from (not_nulls_hold bases after) (references_met bases after) (not_nulls_kept (and_parts (not_nulls_hold bases before) (references_met bases before) held).0 put) met
+
+pub not_nulls_of : (bases : List BaseTable) (content : Content) → constraints_hold bases content ≡ true → not_nulls_hold bases content ≡ true
+not_nulls_of bases content held = (and_parts (not_nulls_hold bases content) (references_met bases content) held).0
 
 pub references_of : (bases : List BaseTable) (content : Content) → constraints_hold bases content ≡ true → references_met bases content ≡ true
 references_of bases content held = (and_parts (not_nulls_hold bases content) (references_met bases content) held).1

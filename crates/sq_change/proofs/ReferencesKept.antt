@@ -20,7 +20,7 @@ use Rattle.sq_bound.specs.Fits.{IsBase, all_refer, holds, keys_of_bases, refers}
 use Rattle.sq_bound.specs.declared.names.BaseTable.{BaseTable}
 use Rattle.sq_bound.specs.declared.names.Reference.{Reference}
 use Rattle.sq_change.specs.Changed.{ArePutThere}
-use Rattle.sq_change.specs.Constraints.{is_met_by, reference_met, references_met}
+use Rattle.sq_change.specs.Constraints.{is_met_in, reference_met_in, references_met}
 use Rattle.sq_change.specs.Reference.{KeepsKeys, are_rows_there, is_row_there, lost_are_met, referred, referred_by, refers_to_lost}
 use Rattle.sq_change.proofs.Among.{all_from, all_in, at_there, each_so, placed_at, placed_there, same_tests}
 use Rattle.sq_change.proofs.Held.{is_there, keys_at_base}
@@ -51,7 +51,7 @@ all_alike p q xs h = λ i. list_all (λ x. h x i) xs
 
 module _ (bases : List BaseTable) (content : Content) where
   -- the row that a reference asks for is there just where the reference is met
-  referred_met : (row : Row) (r : Reference) → list_all (is_row_there (keys_of_bases bases) content) (referred row r) ≡ is_met_by bases content r row
+  referred_met : (row : Row) (r : Reference) → list_all (is_row_there (keys_of_bases bases) content) (referred row r) ≡ is_met_in (keys_of_bases bases) content r row
   referred_met row r = by (has_null (in_columns row r.by_key))
     where
       by : (b : Bool) → list_all (is_row_there (keys_of_bases bases) content) (if b then [] else record { table = r.table; key = r.key; values = in_columns row r.by_key } ∷ []) ≡ (b || is_some (with_key (table_at content r.table) (key_at (keys_of_bases bases) r.table r.key) (in_columns row r.by_key)))
@@ -59,26 +59,26 @@ module _ (bases : List BaseTable) (content : Content) where
       by false = and_true (is_some (with_key (table_at content r.table) (key_at (keys_of_bases bases) r.table r.key) (in_columns row r.by_key)))
 
   rows_met : (references : List Reference) (rows : List Row)
-      → are_rows_there (keys_of_bases bases) content (referred_by references rows) ≡ list_all (λ row. list_all (λ r. is_met_by bases content r row) references) rows
+      → are_rows_there (keys_of_bases bases) content (referred_by references rows) ≡ list_all (λ row. list_all (λ r. is_met_in (keys_of_bases bases) content r row) references) rows
   rows_met references rows =
       all_over (is_row_there (keys_of_bases bases) content) (λ row. flat_map (referred row) references) rows
-      ∙ all_alike (λ row. list_all (is_row_there (keys_of_bases bases) content) (flat_map (referred row) references)) (λ row. list_all (λ r. is_met_by bases content r row) references) rows
+      ∙ all_alike (λ row. list_all (is_row_there (keys_of_bases bases) content) (flat_map (referred row) references)) (λ row. list_all (λ r. is_met_in (keys_of_bases bases) content r row) references) rows
       (λ row. all_over (is_row_there (keys_of_bases bases) content) (referred row) references
-      ∙ all_alike (λ r. list_all (is_row_there (keys_of_bases bases) content) (referred row r)) (λ r. is_met_by bases content r row) references (referred_met row))
+      ∙ all_alike (λ r. list_all (is_row_there (keys_of_bases bases) content) (referred row r)) (λ r. is_met_in (keys_of_bases bases) content r row) references (referred_met row))
 
-  met_at : (place : ℕ) (b : BaseTable) (r : Reference) → references_met bases content ≡ true → slice_get bases place ≡ Some b → Contains b.references r → reference_met bases content place r ≡ true
+  met_at : (place : ℕ) (b : BaseTable) (r : Reference) → references_met bases content ≡ true → slice_get bases place ≡ Some b → Contains b.references r → reference_met_in (keys_of_bases bases) content place r ≡ true
   met_at place b r h at c =
-      all_in (reference_met bases content place) b.references r
-      (all_in (λ p. list_all (reference_met bases content p.0) p.1.references) (enumerate_from 0 bases) (place, b) h (placed_there bases place b at)) c
+      all_in (reference_met_in (keys_of_bases bases) content place) b.references r
+      (all_in (λ p. list_all (reference_met_in (keys_of_bases bases) content p.0) p.1.references) (enumerate_from 0 bases) (place, b) h (placed_there bases place b at)) c
 
   row_met : (place : ℕ) (b : BaseTable) (r : Reference) (n : Numbered) → references_met bases content ≡ true → slice_get bases place ≡ Some b → Contains b.references r → Contains (table_at content place).rows n
-      → is_met_by bases content r n.row ≡ true
-  row_met place b r n h at c d = all_in (λ m. is_met_by bases content r m.row) (table_at content place).rows n (met_at place b r h at c) d
+      → is_met_in (keys_of_bases bases) content r n.row ≡ true
+  row_met place b r n h at c d = all_in (λ m. is_met_in (keys_of_bases bases) content r m.row) (table_at content place).rows n (met_at place b r h at c) d
 
-  all_met : ((place : ℕ) (b : BaseTable) (r : Reference) → slice_get bases place ≡ Some b → Contains b.references r → reference_met bases content place r ≡ true) → references_met bases content ≡ true
+  all_met : ((place : ℕ) (b : BaseTable) (r : Reference) → slice_get bases place ≡ Some b → Contains b.references r → reference_met_in (keys_of_bases bases) content place r ≡ true) → references_met bases content ≡ true
   all_met h =
-      all_from (λ p. list_all (reference_met bases content p.0) p.1.references) (enumerate_from 0 bases)
-      (λ p c. all_from (reference_met bases content p.0) p.1.references (λ r d. h p.0 p.1 r (placed_at bases p c) d))
+      all_from (λ p. list_all (reference_met_in (keys_of_bases bases) content p.0) p.1.references) (enumerate_from 0 bases)
+      (λ p c. all_from (reference_met_in (keys_of_bases bases) content p.0) p.1.references (λ r d. h p.0 p.1 r (placed_at bases p c) d))
 
 refers_there : (bases : List BaseTable) (place : ℕ) (b : BaseTable) (r : Reference) → all_refer bases ≡ true → slice_get bases place ≡ Some b → Contains b.references r → refers bases r ≡ true
 refers_there bases place b r h at c = all_in (refers bases) b.references r (all_in (λ a. list_all (refers bases) a.references) bases b h (at_there bases place b at)) c
@@ -123,32 +123,32 @@ module _ (bases : List BaseTable) (before after : Content) (t : BaseTable) (lost
             (kept r.key (key_at (keys_of_bases bases) r.table r.key) at unlost values was)
         by false e = subst (λ (u : Table). is_some (with_key u (key_at (keys_of_bases bases) r.table r.key) values) ≡ true) (sym (other_table r.table e)) h
 
-    still_met : (r : Reference) (row : Row) → refers bases r ≡ true → refers_to_lost t.place lost r ≡ false → is_met_by bases before r row ≡ true → is_met_by bases after r row ≡ true
+    still_met : (r : Reference) (row : Row) → refers bases r ≡ true → refers_to_lost t.place lost r ≡ false → is_met_in (keys_of_bases bases) before r row ≡ true → is_met_in (keys_of_bases bases) after r row ≡ true
     still_met r row to safe h =
         or_kept (has_null (in_columns row r.by_key)) (is_some (with_key (table_at before r.table) (key_at (keys_of_bases bases) r.table r.key) (in_columns row r.by_key)))
         (is_some (with_key (table_at after r.table) (key_at (keys_of_bases bases) r.table r.key) (in_columns row r.by_key))) (row_stays r (in_columns row r.by_key) to safe) h
 
     module _ (met : references_met bases before ≡ true) (rows_there : are_rows_there (keys_of_bases bases) after (referred_by t.references (rows_put changes)) ≡ true) where
-      put_met : (r : Reference) (row : Row) → Contains t.references r → Contains (rows_put changes) row → is_met_by bases after r row ≡ true
+      put_met : (r : Reference) (row : Row) → Contains t.references r → Contains (rows_put changes) row → is_met_in (keys_of_bases bases) after r row ≡ true
       put_met r row c d =
-          all_in (λ s. is_met_by bases after s row) t.references r
-          (all_in (λ x. list_all (λ s. is_met_by bases after s x) t.references) (rows_put changes) row (sym (rows_met bases after t.references (rows_put changes)) ∙ rows_there) d) c
+          all_in (λ s. is_met_in (keys_of_bases bases) after s row) t.references r
+          (all_in (λ x. list_all (λ s. is_met_in (keys_of_bases bases) after s x) t.references) (rows_put changes) row (sym (rows_met bases after t.references (rows_put changes)) ∙ rows_there) d) c
 
       each_met : (place : ℕ) (b : BaseTable) (r : Reference) (n : Numbered) → slice_get bases place ≡ Some b → Contains b.references r → refers_to_lost t.place lost r ≡ false
-          → Contains (table_at after place).rows n → is_met_by bases after r n.row ≡ true
+          → Contains (table_at after place).rows n → is_met_in (keys_of_bases bases) after r n.row ≡ true
       each_met place b r n at c safe d = by (nat_eq place t.place) refl
         where
-          old : Contains (table_at before place).rows n → is_met_by bases after r n.row ≡ true
+          old : Contains (table_at before place).rows n → is_met_in (keys_of_bases bases) after r n.row ≡ true
           old o = still_met r n.row (refers_there bases place b r refer at c) safe (row_met bases before place b r n met at c o)
 
-          on : place ≡ t.place → Contains (table_at before t.place).rows n ⊎ Contains (rows_put changes) n.row → is_met_by bases after r n.row ≡ true
+          on : place ≡ t.place → Contains (table_at before t.place).rows n ⊎ Contains (rows_put changes) n.row → is_met_in (keys_of_bases bases) after r n.row ≡ true
           on same (inl o) = old (subst (λ (p : ℕ). Contains (table_at before p).rows n) (sym same) o)
           on same (inr p) =
               let two : Some b ≡ Some t = sym at ∙ ap (slice_get bases) same ∙ base in
               let is : b ≡ t = cc in
               put_met r n.row (subst (λ (a : BaseTable). Contains a.references r) is c) p
 
-          by : (b : Bool) → nat_eq place t.place ≡ b → is_met_by bases after r n.row ≡ true
+          by : (b : Bool) → nat_eq place t.place ≡ b → is_met_in (keys_of_bases bases) after r n.row ≡ true
           by true e =
               let same : place ≡ t.place = eqb-true place t.place e in
               on same (old_or_put changes (table_at before t.place) n (subst (λ (u : Table). Contains u.rows n) (ap (table_at after) same ∙ this_table) d))
@@ -157,36 +157,36 @@ module _ (bases : List BaseTable) (before after : Content) (t : BaseTable) (lost
       all_still_met : lost_are_met bases after t.place lost ≡ true → references_met bases after ≡ true
       all_still_met safe = all_met bases after one
         where
-          one : (place : ℕ) (b : BaseTable) (r : Reference) → slice_get bases place ≡ Some b → Contains b.references r → reference_met bases after place r ≡ true
+          one : (place : ℕ) (b : BaseTable) (r : Reference) → slice_get bases place ≡ Some b → Contains b.references r → reference_met_in (keys_of_bases bases) after place r ≡ true
           one place b r at c = by (refers_to_lost t.place lost r) refl
             where
-              by : (l : Bool) → refers_to_lost t.place lost r ≡ l → reference_met bases after place r ≡ true
+              by : (l : Bool) → refers_to_lost t.place lost r ≡ l → reference_met_in (keys_of_bases bases) after place r ≡ true
               by true e =
-                  unless_so (refers_to_lost t.place lost r) (reference_met bases after place r) e
-                  (all_in (λ s. not (refers_to_lost t.place lost s) || reference_met bases after place s) b.references r
-                  (all_in (λ p. list_all (λ s. not (refers_to_lost t.place lost s) || reference_met bases after p.0 s) p.1.references) (enumerate_from 0 bases) (place, b) safe (placed_there bases place b at)) c)
-              by false e = all_from (λ n. is_met_by bases after r n.row) (table_at after place).rows (λ n d. each_met place b r n at c e d)
+                  unless_so (refers_to_lost t.place lost r) (reference_met_in (keys_of_bases bases) after place r) e
+                  (all_in (λ s. not (refers_to_lost t.place lost s) || reference_met_in (keys_of_bases bases) after place s) b.references r
+                  (all_in (λ p. list_all (λ s. not (refers_to_lost t.place lost s) || reference_met_in (keys_of_bases bases) after p.0 s) p.1.references) (enumerate_from 0 bases) (place, b) safe (placed_there bases place b at)) c)
+              by false e = all_from (λ n. is_met_in (keys_of_bases bases) after r n.row) (table_at after place).rows (λ n d. each_met place b r n at c e d)
 
   -- ---- and it isn't too much
 
   module _ (met : references_met bases after ≡ true) where
     lost_met : lost_are_met bases after t.place lost ≡ true
     lost_met =
-        all_from (λ p. list_all (λ s. not (refers_to_lost t.place lost s) || reference_met bases after p.0 s) p.1.references) (enumerate_from 0 bases)
-        (λ p c. all_from (λ s. not (refers_to_lost t.place lost s) || reference_met bases after p.0 s) p.1.references
-        (λ r d. or_right (not (refers_to_lost t.place lost r)) (reference_met bases after p.0 r) (met_at bases after p.0 p.1 r met (placed_at bases p c) d)))
+        all_from (λ p. list_all (λ s. not (refers_to_lost t.place lost s) || reference_met_in (keys_of_bases bases) after p.0 s) p.1.references) (enumerate_from 0 bases)
+        (λ p c. all_from (λ s. not (refers_to_lost t.place lost s) || reference_met_in (keys_of_bases bases) after p.0 s) p.1.references
+        (λ r d. or_right (not (refers_to_lost t.place lost r)) (reference_met_in (keys_of_bases bases) after p.0 r) (met_at bases after p.0 p.1 r met (placed_at bases p c) d)))
 
     rows_found : ArePutThere (table_at before t.place) changes → are_rows_there (keys_of_bases bases) after (referred_by t.references (rows_put changes)) ≡ true
     rows_found there =
         rows_met bases after t.references (rows_put changes)
-        ∙ all_from (λ row. list_all (λ r. is_met_by bases after r row) t.references) (rows_put changes)
-        (λ row c. all_from (λ r. is_met_by bases after r row) t.references (λ r d. one row c r d))
+        ∙ all_from (λ row. list_all (λ r. is_met_in (keys_of_bases bases) after r row) t.references) (rows_put changes)
+        (λ row c. all_from (λ r. is_met_in (keys_of_bases bases) after r row) t.references (λ r d. one row c r d))
       where
-        one : (row : Row) → Contains (rows_put changes) row → (r : Reference) → Contains t.references r → is_met_by bases after r row ≡ true
+        one : (row : Row) → Contains (rows_put changes) row → (r : Reference) → Contains t.references r → is_met_in (keys_of_bases bases) after r row ≡ true
         one row c r d =
             let a = each_so (λ x. Any (λ s. s.row ≡ x) (changed_by (table_at before t.place) changes).rows) (rows_put changes) row there c in
             let among : Contains (table_at after t.place).rows a.1 = subst (λ (u : Table). Contains u.rows a.1) (sym this_table) (a.0, a.2, a.3) in
-            subst (λ (x : Row). is_met_by bases after r x ≡ true) a.4 (row_met bases after t.place t r a.1 met base d among)
+            subst (λ (x : Row). is_met_in (keys_of_bases bases) after r x ≡ true) a.4 (row_met bases after t.place t r a.1 met base d among)
 
   -- ---- all references are met just where those are that are tested
 

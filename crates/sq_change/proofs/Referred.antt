@@ -16,7 +16,8 @@ use Rattle.sq_model.specs.Constraints.{has_null}
 use Rattle.sq_bound.specs.Fits.{keys_of_bases}
 use Rattle.sq_bound.specs.declared.names.BaseTable.{BaseTable}
 use Rattle.sq_bound.specs.declared.names.Reference.{Reference}
-use Rattle.sq_change.specs.Reference.{is_met_in, is_row_there, lost_are_met, lost_met_in, reference_met_in, referred, referred_by, refers_to_lost, values_referred}
+use Rattle.sq_change.specs.Constraints.{is_met_in, reference_met_in}
+use Rattle.sq_change.specs.Reference.{is_row_there, lost_are_met, lost_met_in, referred, referred_by, refers_to_lost, values_referred}
 use Rattle.sq_change.specs.declared.reference.Referenced.{Referenced}
 use Rattle.sq_change.proofs.AllMet.{each_meets}
 use Rattle.sq_change.proofs.AllSatisfied.{left_at}

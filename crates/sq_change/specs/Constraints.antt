@@ -1,12 +1,10 @@
 -- What a change has to obey (ISO/IEC 9075:1992, 4.10, 11.4 to 11.9, 11.19): check options, row by row; then NOT NULL and CHECK, row by
 -- row; then the keys of the table that changes; then the references of all tables.
-use Rattle.std.specs.List.{enumerate_from, list_all, list_any, zip}
-use Rattle.std.specs.Prelude.{ℕ, Bool, ◌&&◌, ◌||◌, not, is_some, take, List, Ok}
+use Rattle.std.specs.List.{enumerate_from, list_all}
+use Rattle.std.specs.Prelude.{ℕ, Bool, ◌&&◌, ◌||◌, is_some, take, List, Ok}
 use Rattle.sq_value.specs.Key.{in_columns}
-use Rattle.sq_value.specs.SetFunctions.{is_null}
-use Rattle.sq_value.specs.declared.value.Value.{Value}
 use Rattle.sq_store.specs.Content.{Content, table_at, with_table}
-use Rattle.sq_store.specs.Keys.{has_distinct_keys, key_at, with_key}
+use Rattle.sq_store.specs.Keys.{Keys, has_distinct_keys, key_at, with_key}
 use Rattle.sq_store.specs.declared.table.Table.{Table}
 use Rattle.sq_meaning.specs.Environment.{Row}
 use Rattle.sq_meaning.specs.Query.{is_true}
@@ -14,9 +12,8 @@ use Rattle.sq_meaning.specs.Status.{Outcome, ◌>>=◌}
 use Rattle.sq_meaning.specs.Target.{is_or_violates}
 use Rattle.sq_meaning.specs.declared.status.Status.TheVariants as status
 use Rattle.sq_model.specs.Constraints.{all_satisfied, demanded, has_null, satisfied}
-use Rattle.sq_bound.specs.Fits.{keys_of_bases}
+use Rattle.sq_bound.specs.Fits.{has_its_values, keys_of_bases, not_nulls_hold}
 use Rattle.sq_bound.specs.declared.condition.BoundCond.{BoundCond}
-use Rattle.sq_bound.specs.declared.names.BaseColumn.{BaseColumn}
 use Rattle.sq_bound.specs.declared.names.BaseTable.{BaseTable}
 use Rattle.sq_bound.specs.declared.names.Leaf.{Leaf}
 use Rattle.sq_bound.specs.declared.names.Reference.{Reference}
@@ -33,13 +30,7 @@ condition_met shown s row c = is_true (truth_on_row shown s.values s.user row c)
 abbrev pub check_option_met : Shown → Seen → Leaf → Row → Outcome (Unit {0})
 check_option_met shown s leaf row = all_satisfied (condition_met shown s row) (take leaf.demanded leaf.conditions)
 
-abbrev pub lacks_value : BaseColumn × Value → Bool
-lacks_value p = p.0.not_null && is_null p.1
-
 -- no column is null that may not be (11.4)
-abbrev pub has_its_values : BaseTable → Row → Bool
-has_its_values t row = not (list_any lacks_value (zip t.columns row))
-
 abbrev pub not_null_met : BaseTable → Row → Outcome (Unit {0})
 not_null_met t row = demanded (has_its_values t row) status.IntegrityConstraintViolation
 
@@ -54,23 +45,19 @@ row_met shown s t row = not_null_met t row >>= λ _. all_satisfied (check_met sh
 -- ---- references (11.8)
 
 -- some referencing column is null, or a row of the other table has the same values in the referenced key
-abbrev pub is_met_by : List BaseTable → Content → Reference → Row → Bool
-is_met_by bases content r row =
-    has_null (in_columns row r.by_key) || is_some (with_key (table_at content r.table) (key_at (keys_of_bases bases) r.table r.key) (in_columns row r.by_key))
+abbrev pub is_met_in : List Keys → Content → Reference → Row → Bool
+is_met_in keys content r row =
+    has_null (in_columns row r.by_key) || is_some (with_key (table_at content r.table) (key_at keys r.table r.key) (in_columns row r.by_key))
 
 -- every row of the table at a place meets its reference
-abbrev pub reference_met : List BaseTable → Content → ℕ → Reference → Bool
-reference_met bases content place r = list_all (λ n. is_met_by bases content r n.row) (table_at content place).rows
+abbrev pub reference_met_in : List Keys → Content → ℕ → Reference → Bool
+reference_met_in keys content place r = list_all (λ n. is_met_in keys content r n.row) (table_at content place).rows
 
 -- so it is for each reference of each table
 abbrev pub references_met : List BaseTable → Content → Bool
-references_met bases content = list_all (λ p. list_all (reference_met bases content p.0) p.1.references) (enumerate_from 0 bases)
+references_met bases content = list_all (λ p. list_all (reference_met_in (keys_of_bases bases) content p.0) p.1.references) (enumerate_from 0 bases)
 
 -- ---- what holds of the tables between statements, besides keys
-
--- no row of any table is null where it may not be
-abbrev pub not_nulls_hold : List BaseTable → Content → Bool
-not_nulls_hold bases content = list_all (λ p. list_all (λ n. has_its_values p.1 n.row) (table_at content p.0).rows) (enumerate_from 0 bases)
 
 -- NOT NULL and references
 abbrev pub constraints_hold : List BaseTable → Content → Bool

@@ -67,12 +67,12 @@ abbrev pub numbers_found : Shown → Seen → Target → Outcome (List ℕ)
 numbers_found shown s t = stored_numbered s.tables t.base >>= numbers_chosen (is_true_of shown s.values s.user) (conditions_of t) >>= if_some
 
 -- positioned: the number of the row that the cursor is on (13.6, 13.9)
-abbrev pub number_on : Option ℕ → Outcome (List ℕ)
-number_on on = well_formed on >>= λ n. Ok (n ∷ [])
+abbrev pub number_given : Option ℕ → Outcome (List ℕ)
+number_given on = well_formed on >>= λ n. Ok (n ∷ [])
 
 abbrev pub numbers_changed : Shown → Seen → ChangeTarget → Option ℕ → Outcome (List ℕ)
 numbers_changed shown s (target.Searched t) on = numbers_found shown s t
-numbers_changed shown s (target.Positioned p) on = number_on on
+numbers_changed shown s (target.Positioned p) on = number_given on
 
 -- ---- values (9.2)
 

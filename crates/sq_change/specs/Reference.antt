@@ -8,10 +8,11 @@ use Rattle.sq_store.specs.Keys.{Keys, key_at, keys_at, with_key}
 use Rattle.sq_store.specs.declared.table.Table.{Table}
 use Rattle.sq_meaning.specs.Environment.{Row}
 use Rattle.sq_model.specs.Constraints.{has_null}
+use Rattle.sq_bound.specs.Fits.{keys_of_bases}
 use Rattle.sq_bound.specs.declared.names.BaseTable.{BaseTable}
 use Rattle.sq_bound.specs.declared.names.Reference.{Reference}
 use Rattle.sq_bound.specs.declared.statement.BoundAssignment.{BoundAssignment}
-use Rattle.sq_change.specs.Constraints.{reference_met}
+use Rattle.sq_change.specs.Constraints.{reference_met_in}
 use Rattle.sq_change.specs.declared.reference.Referenced.{Referenced}
 
 -- a table has a key of this number
@@ -36,13 +37,13 @@ are_of_keys keys rows = list_all (is_of_key keys) rows
 abbrev pub referred : Row → Reference → List Referenced
 referred row r = if has_null (in_columns row r.by_key) then [] else record { table = r.table; key = r.key; values = in_columns row r.by_key } ∷ []
 
+-- the rows that rows ask for, one after the other
+abbrev pub referred_by : List Reference → List Row → List Referenced
+referred_by references rows = flat_map (λ row. flat_map (referred row) references) rows
+
 -- the values by which a row asks for another one: none where a referencing column is null
 abbrev pub values_referred : Row → Reference → Option Row
 values_referred row r = if has_null (in_columns row r.by_key) then None else Some (in_columns row r.by_key)
-
--- those of rows, one after the other
-abbrev pub referred_by : List Reference → List Row → List Referenced
-referred_by references rows = flat_map (λ row. flat_map (referred row) references) rows
 
 abbrev pub is_row_there : List Keys → Content → Referenced → Bool
 is_row_there keys content r = is_some (with_key (table_at content r.table) (key_at keys r.table r.key) r.values)
@@ -58,20 +59,11 @@ refers_to_lost table lost r = nat_eq r.table table && list_any (nat_eq r.key) lo
 -- every reference to one of these keys of a table is met
 abbrev pub lost_are_met : List BaseTable → Content → ℕ → List ℕ → Bool
 lost_are_met bases content table lost =
-    list_all (λ p. list_all (λ r. not (refers_to_lost table lost r) || reference_met bases content p.0 r) p.1.references) (enumerate_from 0 bases)
+    list_all (λ p. list_all (λ r. not (refers_to_lost table lost r) || reference_met_in (keys_of_bases bases) content p.0 r) p.1.references) (enumerate_from 0 bases)
 
 -- ---- the same over the keys of a store
 
--- some referencing column is null, or the row that is asked for is there
-abbrev pub is_met_in : List Keys → Content → Reference → Row → Bool
-is_met_in keys content r row =
-    has_null (in_columns row r.by_key) || is_some (with_key (table_at content r.table) (key_at keys r.table r.key) (in_columns row r.by_key))
-
--- every row of the table at a place meets its reference
-abbrev pub reference_met_in : List Keys → Content → ℕ → Reference → Bool
-reference_met_in keys content place r = list_all (λ n. is_met_in keys content r n.row) (table_at content place).rows
-
--- it does, or the reference is to none of these keys of a table
+-- every row of the table at a place meets its reference, or that is to none of these keys of a table
 abbrev pub lost_met_in : List Keys → Content → ℕ → List ℕ → ℕ → Reference → Bool
 lost_met_in keys content table lost place r = not (refers_to_lost table lost r) || reference_met_in keys content place r
 

@@ -11,12 +11,12 @@ ghost use Rattle.sq_model.specs.Constraints.{demanded};
 ghost use Rattle.sq_meaning.specs.declared.status.Status.TheVariants.{IntegrityConstraintViolation};
 ghost use Rattle.sq_expression.specs.Fault.{Meets, MeetsAs};
 ghost use Rattle.sq_meaning.specs.Status.{Outcome};
-ghost use Rattle.sq_bound.specs.Fits.{AreInDomains, IsBase, holds, keys_of_bases};
+ghost use Rattle.sq_bound.specs.Fits.{AreInDomains, IsBase, has_its_values, holds, keys_of_bases};
 ghost use Rattle.sq_bound.specs.WellFormed.{BasesAreThere, IsLeaf};
 ghost use Rattle.sq_bound.specs.declared.condition.TablePlace.{TablePlace};
 ghost use Rattle.sq_query.specs.MayRead.{MayEnd, MayRead};
 ghost use Rattle.sq_change.specs.Changed.{AreRowsPut, KeepsRest, are_wide};
-ghost use Rattle.sq_change.specs.Constraints.{completed, constraints_hold, has_its_values, rows_met};
+ghost use Rattle.sq_change.specs.Constraints.{completed, constraints_hold, rows_met};
 ghost use Rattle.sq_change.specs.Made.{Shown, seen_by};
 ghost use Rattle.sq_change.specs.Reference.{are_of_keys, referred_by};
 

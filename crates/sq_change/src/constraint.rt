@@ -15,7 +15,8 @@ ghost use Rattle.sq_query.specs.MayRead.{MayEnd, MayRead};
 ghost use Rattle.sq_query.specs.Needed.{FindsCond, FindsConds};
 ghost use Rattle.sq_query.specs.Row.{IsOnRow};
 ghost use Rattle.sq_change.specs.Changed.{AreOnRowsPut, are_wide};
-ghost use Rattle.sq_change.specs.Constraints.{check_met, check_option_met, condition_met, has_its_values, lacks_value, row_met};
+ghost use Rattle.sq_bound.specs.Fits.{has_its_values, lacks_value};
+ghost use Rattle.sq_change.specs.Constraints.{check_met, check_option_met, condition_met, row_met};
 ghost use Rattle.sq_change.specs.Made.{Shown, seen_by};
 
 use crate::row::{is_null, row_put};

@@ -11,7 +11,8 @@ ghost use Rattle.sq_bound.specs.Fits.{have_width, holds, keys_of_bases};
 ghost use Rattle.sq_expression.specs.Fault.{Meets};
 ghost use Rattle.sq_query.specs.MayRead.{MayEnd};
 ghost use Rattle.sq_change.specs.Changed.{are_wide};
-ghost use Rattle.sq_change.specs.Reference.{are_of_keys, are_rows_there, is_met_in, is_of_key, is_row_there, lost_are_met, lost_met_in, refer_to_keys, reference_met_in, referred, referred_by, refers_to_key, refers_to_lost, values_referred};
+ghost use Rattle.sq_change.specs.Constraints.{is_met_in, reference_met_in};
+ghost use Rattle.sq_change.specs.Reference.{are_of_keys, are_rows_there, is_of_key, is_row_there, lost_are_met, lost_met_in, refer_to_keys, referred, referred_by, refers_to_key, refers_to_lost, values_referred};
 
 use crate::row::{has_null, row_put};
 use crate::setting::Setting;

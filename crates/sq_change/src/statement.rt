@@ -4,7 +4,7 @@ ghost use Rattle.std.specs.Prelude.{◌≡◌, ◌⊎◌, ◌<◌, ◌≤◌, �
 ghost use Rattle.std.specs.List.{AllByRecursion};
 ghost use Rattle.sq_store.specs.Change.{insert_count, rows_put};
 ghost use Rattle.sq_store.specs.Content.{row_at, table_at};
-ghost use Rattle.sq_bound.specs.Fits.{AreInDomains, IsBase, IsColumnOf, are_columns, holds, keys_of_bases, under};
+ghost use Rattle.sq_bound.specs.Fits.{AreInDomains, IsBase, IsColumnOf, are_columns, holds, keys_of_bases, not_nulls_hold, under};
 ghost use Rattle.sq_bound.specs.WellFormed.{IsLeaf};
 ghost use Rattle.sq_expression.specs.Fault.{MeetsAs};
 ghost use Rattle.sq_query.specs.MayRead.{MayEnd};
@@ -13,7 +13,7 @@ ghost use Rattle.sq_change.specs.Constraints.{constraints_hold};
 ghost use Rattle.sq_change.specs.Given.{MayAssign, MayChoose, MayGive};
 ghost use Rattle.sq_change.specs.Made.{Fails, Shown, numbers_changed, rows_inserted, seen_by};
 ghost use Rattle.sq_change.specs.Performed.{delete_outcome, insert_outcome, update_outcome};
-ghost use Rattle.sq_change.specs.Statement.{Deletes, Inserts, IsGiven, IsPlain, IsShown, Updates, update_made};
+ghost use Rattle.sq_change.specs.Statement.{IsGiven, IsShown, update_made};
 
 use crate::complete::{Changed, complete};
 use crate::given::new_rows;
@@ -40,19 +40,16 @@ pub fn insert<N: Names, S: Store>(
     requires tables { holds (N.base_tables names.now) (S.content_now store.old) ≡ true }
     requires in_domains { AreInDomains (N.base_tables names.now) (S.content_now store.old) }
     requires keys { S.key_columns store.old ≡ keys_of_bases (N.base_tables names.now) }
+    requires constraints { constraints_hold (N.base_tables names.now) (S.content_now store.old) ≡ true }
     requires leaf { IsLeaf (N.column_kinds names.now) insert.now.leaf }
     requires base { IsBase (N.base_tables names.now) insert.now.leaf.table }
     requires columns { AllByRecursion (IsColumnOf insert.now.leaf.table) insert.now.columns }
     requires given { MayGive (N.base_tables names.now) (N.view_queries names.now) (N.column_kinds names.now)
         (S.content_now store.old) inputs.user inputs.parameters.now insert.now.columns insert.now.source }
     ensures meant { let seen = seen_by (N.view_queries names.now) (S.content_now store.old) inputs.entry.user inputs.entry.parameters.now in
-        (shown : Shown) → IsShown seen shown → constraints_hold (N.base_tables names.now) (S.content_now store.old) ≡ true
-        → MeetsAs (λ done. S.content_now store.new) result (insert_outcome shown seen (N.base_tables names.now)
-        (S.row_numbers store.old) insert.now) }
-    ensures constraints { constraints_hold (N.base_tables names.now) (S.content_now store.old) ≡ true
-        → constraints_hold (N.base_tables names.now) (S.content_now store.new) ≡ true }
-    ensures ok { let seen = seen_by (N.view_queries names.now) (S.content_now store.old) inputs.entry.user inputs.entry.parameters.now in
-        OnOk result (Inserts seen (S.row_numbers store.old) insert.now (S.content_now store.new)) }
+        (shown : Shown) → IsShown seen shown → MeetsAs (λ done. S.content_now store.new) result
+        (insert_outcome shown seen (N.base_tables names.now) (S.row_numbers store.old) insert.now) }
+    ensures constraints { constraints_hold (N.base_tables names.now) (S.content_now store.new) ≡ true }
     ensures err { OnErr result (S.content_now store.new ≡ S.content_now store.old) }
     ensures tables { holds (N.base_tables names.now) (S.content_now store.new) ≡ true }
     ensures in_domains { AreInDomains (N.base_tables names.now) (S.content_now store.new) }
@@ -110,7 +107,6 @@ fn inserted<N: Names, S: Store>(
 /// are for columns of it and well formed. All rows are changed before any is tested. Faults come in this order: those of the
 /// search condition; 02000 where it keeps no row; those of values and of storing them, row by row; check options; NOT NULL and
 /// CHECK, row by row; keys; references, to and from the rows. A well-formed statement never ends with 42000.
-#[tactic(auto, using(crate::proofs::Made::updates))]
 pub fn update<N: Names, S: Store>(
     alloc: Global,
     names: &N,
@@ -127,18 +123,15 @@ pub fn update<N: Names, S: Store>(
     requires tables { holds (N.base_tables names.now) (S.content_now store.old) ≡ true }
     requires in_domains { AreInDomains (N.base_tables names.now) (S.content_now store.old) }
     requires keys { S.key_columns store.old ≡ keys_of_bases (N.base_tables names.now) }
+    requires constraints { constraints_hold (N.base_tables names.now) (S.content_now store.old) ≡ true }
     requires base { IsBase (N.base_tables names.now) (under update.now.target).table }
     requires columns { are_columns (length (under update.now.target).table.columns) update.now.assignments ≡ true }
     requires domains { AllByRecursion (λ a. IsColumnOf (under update.now.target).table a.column) update.now.assignments }
     requires assigned { MayAssign (N.column_kinds names.now) inputs.parameters.now (under update.now.target).table update.now.assignments }
     ensures meant { let seen = seen_by (N.view_queries names.now) (S.content_now store.old) inputs.entry.user inputs.entry.parameters.now in
-        IsPlain update.now.target → (shown : Shown) → IsShown seen shown
-        → constraints_hold (N.base_tables names.now) (S.content_now store.old) ≡ true
+        (shown : Shown) → IsShown seen shown
         → MeetsAs (λ done. S.content_now store.new) result (update_outcome shown seen (N.base_tables names.now) update.now on) }
-    ensures constraints { constraints_hold (N.base_tables names.now) (S.content_now store.old) ≡ true
-        → constraints_hold (N.base_tables names.now) (S.content_now store.new) ≡ true }
-    ensures ok { let seen = seen_by (N.view_queries names.now) (S.content_now store.old) inputs.entry.user inputs.entry.parameters.now in
-        OnOk result (Updates seen update.now on (S.content_now store.new)) }
+    ensures constraints { constraints_hold (N.base_tables names.now) (S.content_now store.new) ≡ true }
     ensures err { OnErr result (S.content_now store.new ≡ S.content_now store.old) }
     ensures tables { holds (N.base_tables names.now) (S.content_now store.new) ≡ true }
     ensures in_domains { AreInDomains (N.base_tables names.now) (S.content_now store.new) }
@@ -168,6 +161,8 @@ fn updated<N: Names, S: Store>(
     requires there { IfSome on (λ n. IsSome (row_at (table_at (S.content_now setting.now.store.now) (under update.now.target).table.place)
         n)) }
     requires tables { holds (N.base_tables setting.now.names.now) (S.content_now setting.now.store.now) ≡ true }
+    requires keys { S.key_columns setting.now.store.now ≡ keys_of_bases (N.base_tables setting.now.names.now) }
+    requires not_null { not_nulls_hold (N.base_tables setting.now.names.now) (S.content_now setting.now.store.now) ≡ true }
     requires base { IsBase (N.base_tables setting.now.names.now) (under update.now.target).table }
     requires columns { are_columns (length (under update.now.target).table.columns) update.now.assignments ≡ true }
     requires in_domains { AreInDomains (N.base_tables setting.now.names.now) (S.content_now setting.now.store.now) }
@@ -179,7 +174,7 @@ fn updated<N: Names, S: Store>(
     ensures replacements { let seen = seen_by (N.view_queries setting.now.names.now) (S.content_now setting.now.store.now) setting.now.user
         setting.now.parameters.now in IfOk result (λ changed. Replacements seen update.now on changed.changes.items) }
     ensures meant { let seen = seen_by (N.view_queries setting.now.names.now) (S.content_now setting.now.store.now) setting.now.user
-        setting.now.parameters.now in IsPlain update.now.target → (shown : Shown) → IsShown seen shown
+        setting.now.parameters.now in (shown : Shown) → IsShown seen shown
         → MeetsAs changed_in result (update_made shown seen update.now on) }
     ensures wide { IfOk result (λ changed. are_wide (length (under update.now.target).table.columns)
         (rows_put changed.changes.items) ≡ true) }
@@ -220,7 +215,7 @@ fn changed(
 /// Performs a delete statement (13.6, 13.7). `on` is the number of the row that the cursor is on, for a positioned one. The
 /// store keeps the tables of the names and their keys, and the statement is over one of these tables. Faults come in this order:
 /// those of the search condition; 02000 where it keeps no row; references to the rows. A well-formed one never ends with 42000.
-#[tactic(auto, using(crate::proofs::Made::deletes, crate::proofs::Applied::removals_wide))]
+#[tactic(auto, using(crate::proofs::Applied::removals_wide))]
 pub fn delete<N: Names, S: Store>(
     alloc: Global,
     names: &N,
@@ -236,15 +231,12 @@ pub fn delete<N: Names, S: Store>(
     requires tables { holds (N.base_tables names.now) (S.content_now store.old) ≡ true }
     requires in_domains { AreInDomains (N.base_tables names.now) (S.content_now store.old) }
     requires keys { S.key_columns store.old ≡ keys_of_bases (N.base_tables names.now) }
+    requires constraints { constraints_hold (N.base_tables names.now) (S.content_now store.old) ≡ true }
     requires base { IsBase (N.base_tables names.now) (under target.now).table }
     ensures meant { let seen = seen_by (N.view_queries names.now) (S.content_now store.old) inputs.entry.user inputs.entry.parameters.now in
-        IsPlain target.now → (shown : Shown) → IsShown seen shown
-        → constraints_hold (N.base_tables names.now) (S.content_now store.old) ≡ true
+        (shown : Shown) → IsShown seen shown
         → MeetsAs (λ done. S.content_now store.new) result (delete_outcome shown seen (N.base_tables names.now) target.now on) }
-    ensures constraints { constraints_hold (N.base_tables names.now) (S.content_now store.old) ≡ true
-        → constraints_hold (N.base_tables names.now) (S.content_now store.new) ≡ true }
-    ensures ok { let seen = seen_by (N.view_queries names.now) (S.content_now store.old) inputs.entry.user inputs.entry.parameters.now in
-        OnOk result (Deletes seen target.now on (S.content_now store.new)) }
+    ensures constraints { constraints_hold (N.base_tables names.now) (S.content_now store.new) ≡ true }
     ensures err { OnErr result (S.content_now store.new ≡ S.content_now store.old) }
     ensures tables { holds (N.base_tables names.now) (S.content_now store.new) ≡ true }
     ensures in_domains { AreInDomains (N.base_tables names.now) (S.content_now store.new) }
@@ -271,12 +263,16 @@ fn deleted<N: Names, S: Store>(
     requires may { MayChoose (N.base_tables setting.now.names.now) (N.view_queries setting.now.names.now)
         (N.column_kinds setting.now.names.now)
         (S.content_now setting.now.store.now) setting.now.user setting.now.parameters.now target.now }
+    requires tables { holds (N.base_tables setting.now.names.now) (S.content_now setting.now.store.now) ≡ true }
+    requires keys { S.key_columns setting.now.store.now ≡ keys_of_bases (N.base_tables setting.now.names.now) }
+    requires not_null { not_nulls_hold (N.base_tables setting.now.names.now) (S.content_now setting.now.store.now) ≡ true }
+    requires base { IsBase (N.base_tables setting.now.names.now) (under target.now).table }
     ensures keeps { IfOk result (KeepsRest (under target.now).table (table_at (S.content_now setting.now.store.now)
         (under target.now).table.place)) }
     ensures removals { let seen = seen_by (N.view_queries setting.now.names.now) (S.content_now setting.now.store.now) setting.now.user
         setting.now.parameters.now in IfOk result (λ changed. Removals seen target.now on changed.changes.items) }
     ensures meant { let seen = seen_by (N.view_queries setting.now.names.now) (S.content_now setting.now.store.now) setting.now.user
-        setting.now.parameters.now in IsPlain target.now → (shown : Shown) → IsShown seen shown
+        setting.now.parameters.now in (shown : Shown) → IsShown seen shown
         → IfErr result (λ f. Fails f (numbers_changed shown seen target.now on)) }
     ensures right { IfErr result MayEnd }
 {

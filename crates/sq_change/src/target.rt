@@ -4,7 +4,7 @@ ghost use Rattle.std.specs.Prelude.{◌≡◌, ◌<◌, ◌∷◌, [], length, m
 ghost use Rattle.std.specs.List.{AllByRecursion};
 ghost use Rattle.sq_store.specs.Change.{rows_put};
 ghost use Rattle.sq_store.specs.Content.{row_at, table_at};
-ghost use Rattle.sq_bound.specs.Fits.{AreInDomains, IsBase, IsColumnOf, IsRowIn, are_columns, holds, under};
+ghost use Rattle.sq_bound.specs.Fits.{AreInDomains, IsBase, IsColumnOf, IsRowIn, are_columns, holds, keys_of_bases, not_nulls_hold, under};
 ghost use Rattle.sq_bound.specs.declared.names.BaseTable.{BaseTable as AnyTable};
 ghost use Rattle.sq_query.specs.MayRead.{MayEnd};
 ghost use Rattle.sq_query.specs.Target.{AreNumbersOf, numbers_in};
@@ -13,7 +13,7 @@ ghost use Rattle.sq_change.specs.Changed.{AreReplacements, AreRowsPut, are_wide,
 ghost use Rattle.sq_change.specs.Given.{AreAssignable, MayAssign, MayChoose};
 ghost use Rattle.sq_change.specs.Made.{Shown, numbers_changed, row_updated, rows_updated, seen_by};
 ghost use Rattle.sq_change.specs.Reference.{LosesAll, LosesAssigned, is_assigned};
-ghost use Rattle.sq_change.specs.Statement.{Chosen, IsGiven, IsPlain, IsShown};
+ghost use Rattle.sq_change.specs.Statement.{IsGiven, IsShown};
 
 use crate::setting::Setting;
 use crate::storing::stored_value;
@@ -44,13 +44,15 @@ pub(crate) fn numbers_changed<N: Names, S: Store>(
     meter: &mut Meter,
 ) -> Result<Vec<u64>, Fault>
     requires given { IsGiven target.now on }
+    requires tables { holds (N.base_tables setting.now.names.now) (S.content_now setting.now.store.now) ≡ true }
+    requires keys { S.key_columns setting.now.store.now ≡ keys_of_bases (N.base_tables setting.now.names.now) }
+    requires not_null { not_nulls_hold (N.base_tables setting.now.names.now) (S.content_now setting.now.store.now) ≡ true }
+    requires base { IsBase (N.base_tables setting.now.names.now) (under target.now).table }
     requires may { MayChoose (N.base_tables setting.now.names.now) (N.view_queries setting.now.names.now)
         (N.column_kinds setting.now.names.now)
         (S.content_now setting.now.store.now) setting.now.user setting.now.parameters.now target.now }
-    ensures chosen { let seen = seen_by (N.view_queries setting.now.names.now) (S.content_now setting.now.store.now) setting.now.user
-        setting.now.parameters.now in IfOk result (λ numbers. Chosen seen target.now on numbers.items) }
     ensures meant { let seen = seen_by (N.view_queries setting.now.names.now) (S.content_now setting.now.store.now) setting.now.user
-        setting.now.parameters.now in IsPlain target.now → (shown : Shown) → IsShown seen shown
+        setting.now.parameters.now in (shown : Shown) → IsShown seen shown
         → MeetsAs numbers_in result (numbers_changed shown seen target.now on) }
     ensures there { IfSome on (λ n. IsSome (row_at (table_at (S.content_now setting.now.store.now) (under target.now).table.place) n))
         → IfOk result (λ numbers. AreNumbersOf (table_at (S.content_now setting.now.store.now)

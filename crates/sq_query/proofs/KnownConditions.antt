@@ -153,7 +153,7 @@ module _ (bases : List BaseTable) (queries : List BoundSpecification) (columns :
     (kinds_of_views : (place : ℕ) (kinds : List Kind) → columns (View place) ≡ Ok kinds → IsViewQuery columns queries place kinds)
     (parameters : List Kind) (tables : TablePlace → Outcome (List Row)) (may : MayRead bases queries columns content user values parameters tables) where
   -- each row of a base table is of the kinds of its columns
-  rows_fit : (place : ℕ) → place < length content → (kinds : List Kind) → columns (Base place) ≡ Ok kinds → AllByRecursion (λ (r : Numbered). IsRowOf kinds r.row) (table_at content place).rows
+  pub rows_fit : (place : ℕ) → place < length content → (kinds : List Kind) → columns (Base place) ≡ Ok kinds → AllByRecursion (λ (r : Numbered). IsRowOf kinds r.row) (table_at content place).rows
   rows_fit place within kinds is = rows_so (IsRowOf kinds) (table_at content place).rows (stored_kinds columns bases content kinds_of_bases may.in_domains place within kinds is)
 
   -- the conditions choose rows of it, or end with a status other than 42000

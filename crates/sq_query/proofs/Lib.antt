@@ -3,10 +3,11 @@ pub mod AnyTables
 pub mod Bases
 pub mod Bringable
 pub mod Chosen
-pub mod ChosenRows
 pub mod Finds
 pub mod Fitting
 pub mod JoinedTerms
+pub mod KeyLacked
+pub mod KeySearch
 pub mod KeyTests
 pub mod KeyedRows
 pub mod KindsOfTables

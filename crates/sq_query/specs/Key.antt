@@ -1,8 +1,9 @@
 -- The key by which a target names one row of its base table (ISO/IEC 9075:1992, 13.7 and 13.10; own rule).
-use Rattle.std.specs.Prelude.{◌≡◌, ◌<◌, ℕ, length, false, List, [], ◌∷◌, Some, Ok}
+use Rattle.std.specs.Prelude.{◌≡◌, ◌<◌, ℕ, length, take, false, List, [], ◌∷◌, Some, Ok}
 use Rattle.std.specs.List.{AllZip, Contains}
 use Rattle.sq_lex.specs.declared.name.Name.{Name}
 use Rattle.sq_value.specs.declared.value.Value.{Value}
+use Rattle.sq_value.specs.SetFunctions.{is_null}
 use Rattle.sq_store.specs.Content.{Content}
 use Rattle.sq_store.specs.Keys.{Keys, keys_at, key_at}
 use Rattle.sq_tree.specs.declared.cond.Comparison.TheVariants.{Equal}
@@ -31,20 +32,24 @@ AreEqualled test left right = (test.negated ≡ false) × (test.predicate ≡ Co
 abbrev pub IsEquality : ℕ → BoundExpr → BoundTest → Type 0
 IsEquality n e test = (item : ℕ) × (test_of [] test ≡ compare Equal (column (record { depth = 0; item = item; column = n })) (expr_of [] e))
 
--- one of the tests compares the column by = with something that has this value whatever row there is
+-- one of the tests compares the column by = with something that has this value, not null, whatever row there is
 pub record IsComparedWith (tests : List BoundTest) (parameters : List Value) (user : Name) (n : ℕ) (v : Value) : Type 0 where
   pub test : BoundTest
   pub among : Contains tests test
   pub expr : BoundExpr
   pub is : IsEquality n expr test
   pub has_value : (tables : TablePlace → Outcome (List Row)) → meaning.value (by_place tables) (expr_of [] expr) (outside [] parameters user) ≡ Ok v
+  pub known : is_null v ≡ false
 
--- a key of the base table, and for each of its columns the value with which a test of the condition's only term compares it
+-- the key of the base table by which the target names a row, and for each of its columns the value with which one of the first tests of
+-- the condition's only term, as many as there are columns, compares it
 pub record IsKeyOf (t : Target) (content : Content) (keys : List Keys) (parameters : List Value) (user : Name) (known : KnownKey) : Type 0 where
   pub own : BoundCond
   pub is_own : t.condition ≡ Some own
+  pub is_key : t.key ≡ Some known.key
   pub term : BoundConj
   pub only_term : (out-BoundCond own).terms ≡ term ∷ []
   pub table : t.base < length content
   pub key : known.key < length (keys_at keys t.base)
-  pub values : AllZip (IsComparedWith (out-BoundConj term).tests parameters user) (key_at keys t.base known.key) known.values
+  pub values : AllZip (IsComparedWith (take (length (key_at keys t.base known.key)) (out-BoundConj term).tests) parameters user)
+      (key_at keys t.base known.key) known.values

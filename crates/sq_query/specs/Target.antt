@@ -13,15 +13,13 @@ use Rattle.sq_meaning.specs.Environment.{Row}
 use Rattle.sq_meaning.specs.Placed.{by_place}
 use Rattle.sq_meaning.specs.Query.{truth, is_true}
 use Rattle.sq_meaning.specs.Target.{has_subquery}
-use Rattle.sq_meaning.specs.WellFormed.{HasValue, IsRowOf}
+use Rattle.sq_meaning.specs.WellFormed.{HasValue}
 use Rattle.sq_value.specs.declared.domain.Kind.{Kind}
 use Rattle.sq_bound.specs.Condition.{cond_of}
-use Rattle.sq_bound.specs.Fits.{AreInDomains}
-use Rattle.sq_bound.specs.WellFormed.{TableKinds, IsCond, IsTarget, of_base_at}
+use Rattle.sq_bound.specs.WellFormed.{TableKinds, IsCond, of_base_at}
 use Rattle.sq_bound.specs.declared.condition.BoundCond.{BoundCond}
 use Rattle.sq_bound.specs.declared.condition.TablePlace.{TablePlace}
 use Rattle.sq_bound.specs.declared.condition.TablePlace.TheVariants.{Base}
-use Rattle.sq_bound.specs.declared.names.BaseTable.{BaseTable}
 use Rattle.sq_bound.specs.declared.query.Target.{Target}
 use Rattle.sq_expression.specs.Fault.{Meets, MeetsAs}
 use Rattle.sq_condition.specs.Memo.{Meant}
@@ -87,12 +85,3 @@ AreKnownIn context conditions = AllByRecursion (λ c. (meant : Meant) × KnowsCo
 pub record AreOnBase (columns : TableKinds) (parameters : List Kind) (place : ℕ) (conditions : List BoundCond) : Type 0 where
   pub known : HasValue (columns (Base place))
   pub well : AllByRecursion (IsCond columns parameters (of_base_at place) []) conditions
-
--- a well-formed target none of whose conditions is ever a fault, where every row of a base table is in the domains of its columns,
--- and the parameters have values of their kinds
-pub record IsQuietOver (columns : TableKinds) (bases : List BaseTable) (content : Content) (parameters : List Value) (t : Target) : Type 0 where
-  pub quiet : t.is_quiet ≡ true
-  pub kinds : List Kind
-  pub target : IsTarget columns kinds t
-  pub inputs : IsRowOf kinds parameters
-  pub in_domains : AreInDomains bases content

@@ -22,8 +22,8 @@ use Rattle.sq_session.specs.Fetch.{come_to_number, come_to_row, come_to_walk, ov
 use Rattle.sq_session.specs.Kind.{Caller, Fetching, Over, Updating, caller_of, delete_kind, fetching, kind_of, opening, over_at, update_kind, updating}
 use Rattle.sq_session.specs.Open.{IsOpenOver, before_numbers, before_rows, numbers_opened, rows_opened, walk_before}
 use Rattle.sq_session.specs.Schemas.{Schemas}
-use Rattle.sq_session.specs.State.{State, committed_state, cursor_at, is_open, off_row, rolled_back, with_cursor}
-use Rattle.sq_session.specs.Step.{ChangesIf, ChangesTo, Comes, DeletesIf, MayCloseIf, MayDeleteAt, MayFetchFrom, MayOpenIf, MayStep, MayUpdateAt, OpensAs, UpdatesIf, ending, is_on_row, is_success, walks_listed}
+use Rattle.sq_session.specs.State.{State, committed_state, cursor_at, is_open, rolled_back, with_cursor}
+use Rattle.sq_session.specs.Step.{Comes, MayCloseIf, MayDeleteAt, MayFetchFrom, MayOpenIf, MayStep, MayUpdateAt, OpensAs, Performs, ending, is_on_row, left_row, walks_listed}
 use Rattle.sq_session.specs.declared.cursor.CursorState.{CursorState}
 use Rattle.sq_session.specs.declared.cursor.CursorState.TheVariants as cursor
 use Rattle.sq_session.specs.declared.cursor.NumbersCursor.{NumbersCursor}
@@ -119,45 +119,39 @@ close_if bases ds false n b d a has h = same bases ds b a has h.1
 
 -- ---- changes
 
-changes_to : (bases : List BaseTable) (ds : List DeclaredCursor) (Changes : Content → Content → Type 0) (w a : State) → Others bases ds w → ChangesTo Changes w a → Others bases ds a
-changes_to bases ds Changes w a has h =
-    let committed : a.committed ≡ w.committed = ap (λ s. s.committed) h.0 in
-    let keys : a.keys ≡ w.keys = ap (λ s. s.keys) h.0 in
-    let cursors : a.cursors ≡ w.cursors = ap (λ s. s.cursors) h.0 in (
-      subst (λ (c : Content). holds bases c ≡ true) (sym committed) has.0,
-      keys ∙ has.1,
-      subst (λ (cs : List CursorState). are_over ds cs ≡ true) (sym cursors) has.2,
-      subst (λ (c : Content). AreInDomains bases c) (sym committed) has.3,
-      subst (λ (c : Content). constraints_hold bases c ≡ true) (sym committed) has.4,
+performs : (bases : List BaseTable) (ds : List DeclaredCursor) (o : Outcome Content) (w b : State) (d : Done) (a : State) → Others bases ds w → Others bases ds b → Performs o w b d a → Others bases ds a
+performs bases ds (Ok tables) w b d a wanted has h =
+    let committed : a.committed ≡ w.committed = ap (λ s. s.committed) h.1 in
+    let keys : a.keys ≡ w.keys = ap (λ s. s.keys) h.1 in
+    let cursors : a.cursors ≡ w.cursors = ap (λ s. s.cursors) h.1 in (
+      subst (λ (c : Content). holds bases c ≡ true) (sym committed) wanted.0,
+      keys ∙ wanted.1,
+      subst (λ (cs : List CursorState). are_over ds cs ≡ true) (sym cursors) wanted.2,
+      subst (λ (c : Content). AreInDomains bases c) (sym committed) wanted.3,
+      subst (λ (c : Content). constraints_hold bases c ≡ true) (sym committed) wanted.4,
     )
+performs bases ds (Err st) w b d a wanted has h = same bases ds b a has h.1
 
-changes_if : (bases : List BaseTable) (ds : List DeclaredCursor) (s : Bool) (Changes : Content → Content → Type 0) (b a : State) → Others bases ds b → ChangesIf s Changes b a → Others bases ds a
-changes_if bases ds true Changes b a has h = changes_to bases ds Changes b a has h
-changes_if bases ds false Changes b a has h = same bases ds b a has h
+updates : (bases : List BaseTable) (ds : List DeclaredCursor) (o : Outcome Content) (u : Updating) (b : State) (d : Done) (a : State) → Others bases ds b → Performs o (walks_listed u b) b d a → Others bases ds a
+updates bases ds o u b d a has h = performs bases ds o (walks_listed u b) b d a (has.0, has.1, go_on_over u.statement b.tables u.cursors ds b.cursors has.2, has.3, has.4) has h
 
-updates_if : (bases : List BaseTable) (ds : List DeclaredCursor) (s : Bool) (u : Updating) (Changes : Content → Content → Type 0) (b a : State) → Others bases ds b → UpdatesIf s u Changes b a → Others bases ds a
-updates_if bases ds true u Changes b a has h = changes_to bases ds Changes (walks_listed u b) a (has.0, has.1, go_on_over u.statement b.tables u.cursors ds b.cursors has.2, has.3, has.4) h
-updates_if bases ds false u Changes b a has h = same bases ds b a has h
-
-deletes_if : (bases : List BaseTable) (ds : List DeclaredCursor) (s : Bool) (p : PositionedTarget) (Changes : Content → Content → Type 0) (b a : State) → Others bases ds b → DeletesIf s p Changes b a → Others bases ds a
-deletes_if bases ds true p Changes b a has h =
-    changes_to bases ds Changes (with_cursor b p.cursor (off_row (cursor_at b p.cursor))) a (has.0, has.1, put_off ds b.cursors p.cursor has.2, has.3, has.4) h
-deletes_if bases ds false p Changes b a has h = same bases ds b a has h
+deletes : (bases : List BaseTable) (ds : List DeclaredCursor) (o : Outcome Content) (p : PositionedTarget) (b : State) (d : Done) (a : State) → Others bases ds b → Performs o (left_row b p) b d a → Others bases ds a
+deletes bases ds o p b d a has h = performs bases ds o (left_row b p) b d a (has.0, has.1, put_off ds b.cursors p.cursor has.2, has.3, has.4) has h
 
 update_at : (bases : List BaseTable) (ds : List DeclaredCursor) (r : Bool) (sc : Schemas) (u : Updating) (p : PositionedTarget) (vs : List Value) (b : State) (d : Done) (a : State) → Others bases ds b → MayUpdateAt r sc u p vs b d a → Others bases ds a
-update_at bases ds true sc u p vs b d a has h = updates_if bases ds (is_success d.status) u _ b a has h.1
+update_at bases ds true sc u p vs b d a has h = updates bases ds h.0 u b d a has h.2
 update_at bases ds false sc u p vs b d a has h = same bases ds b a has h.1
 
 delete_at : (bases : List BaseTable) (ds : List DeclaredCursor) (r : Bool) (sc : Schemas) (caller : Caller) (p : PositionedTarget) (vs : List Value) (b : State) (d : Done) (a : State) → Others bases ds b → MayDeleteAt r sc caller p vs b d a → Others bases ds a
-delete_at bases ds true sc caller p vs b d a has h = deletes_if bases ds (is_success d.status) p _ b a has h.1
+delete_at bases ds true sc caller p vs b d a has h = deletes bases ds h.0 p b d a has h.2
 delete_at bases ds false sc caller p vs b d a has h = same bases ds b a has h.1
 
 of_update : (sc : Schemas) (bases : List BaseTable) (ds : List DeclaredCursor) (u : Updating) (t : ChangeTarget) (vs : List Value) (b : State) (d : Done) (a : State) → Others bases ds b → MayStep sc (update_kind u t) vs b d a → Others bases ds a
-of_update sc bases ds u (target.Searched t) vs b d a has h = updates_if bases ds (is_success d.status) u _ b a has h.1
+of_update sc bases ds u (target.Searched t) vs b d a has h = updates bases ds h.0 u b d a has h.2
 of_update sc bases ds u (target.Positioned p) vs b d a has h = update_at bases ds (is_on_row b p) sc u p vs b d a has h
 
 of_delete : (sc : Schemas) (bases : List BaseTable) (ds : List DeclaredCursor) (caller : Caller) (t : ChangeTarget) (vs : List Value) (b : State) (d : Done) (a : State) → Others bases ds b → MayStep sc (delete_kind caller t) vs b d a → Others bases ds a
-of_delete sc bases ds caller (target.Searched t) vs b d a has h = changes_if bases ds (is_success d.status) _ b a has h.1
+of_delete sc bases ds caller (target.Searched t) vs b d a has h = performs bases ds h.0 b b d a has has h.2
 of_delete sc bases ds caller (target.Positioned p) vs b d a has h = delete_at bases ds (is_on_row b p) sc caller p vs b d a has h
 
 -- ---- a statement
@@ -168,7 +162,7 @@ after_statement sc columns bases ds user ps (statement.Open n) vs b d a has h = 
 after_statement sc columns bases ds user ps (statement.Fetch f) vs b d a has h = fetch_from bases ds (cursor_at b f.cursor) (fetching ds user ps f) vs b d a refl (has.1, has.2, has.3, has.5, has.8) h
 after_statement sc columns bases ds user ps (statement.Close n) vs b d a has h = close_if bases ds (is_open (cursor_at b n)) n b d a (has.1, has.2, has.3, has.5, has.8) h
 after_statement sc columns bases ds user ps (statement.Select s) vs b d a has h = same bases ds b a (has.1, has.2, has.3, has.5, has.8) h.0
-after_statement sc columns bases ds user ps (statement.Insert i) vs b d a has h = changes_if bases ds (is_success d.status) _ b a (has.1, has.2, has.3, has.5, has.8) h.1
+after_statement sc columns bases ds user ps (statement.Insert i) vs b d a has h = performs bases ds h.0 b b d a (has.1, has.2, has.3, has.5, has.8) (has.1, has.2, has.3, has.5, has.8) h.2
 after_statement sc columns bases ds user ps (statement.Update u) vs b d a has h = of_update sc bases ds (updating ds (caller_of user ps) u) u.target vs b d a (has.1, has.2, has.3, has.5, has.8) h
 after_statement sc columns bases ds user ps (statement.Delete t) vs b d a has h = of_delete sc bases ds (caller_of user ps) t vs b d a (has.1, has.2, has.3, has.5, has.8) h
 after_statement sc columns bases ds user ps statement.Commit vs b d a has h = same bases ds (committed_state b) a (has.0, has.2, closed_over ds b.cursors has.3, has.4, has.7) h.1

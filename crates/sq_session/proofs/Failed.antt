@@ -9,7 +9,7 @@ use Rattle.sq_session.specs.Kind.{Caller, Fetching, Kind, Opening, Updating, rea
 use Rattle.sq_session.specs.Parameter.{started_values}
 use Rattle.sq_session.specs.Schemas.{Schemas}
 use Rattle.sq_session.specs.State.{State, committed_state, cursor_at, is_open, rolled_back}
-use Rattle.sq_session.specs.Step.{ChangesIf, Comes, DeletesIf, Ends, MayCall, MayCloseIf, MayDeleteAt, MayFetchFrom, MayOpenIf, MayStep, MayUpdateAt, OpensAs, UpdatesIf, is_on_row, is_success}
+use Rattle.sq_session.specs.Step.{Comes, Ends, MayCall, MayCloseIf, MayDeleteAt, MayFetchFrom, MayOpenIf, MayStep, MayUpdateAt, OpensAs, Performs, is_on_row, is_success, left_row, walks_listed}
 use Rattle.sq_session.specs.declared.cursor.CursorState.{CursorState}
 use Rattle.sq_session.specs.declared.cursor.CursorState.TheVariants as cursor
 use Rattle.sq_session.specs.declared.reply.Done.{Done}
@@ -46,24 +46,16 @@ close_if false n b d a h = same b a h.1
 
 -- ---- changes
 
-changes_if : (s : Bool) (Changes : Content → Content → Type 0) (b a : State) → ChangesIf s Changes b a → s ≡ false → Kept b a
-changes_if true Changes b a h e = cc
-changes_if false Changes b a h e = same b a h
-
-updates_if : (s : Bool) (u : Updating) (Changes : Content → Content → Type 0) (b a : State) → UpdatesIf s u Changes b a → s ≡ false → Kept b a
-updates_if true u Changes b a h e = cc
-updates_if false u Changes b a h e = same b a h
-
-deletes_if : (s : Bool) (p : PositionedTarget) (Changes : Content → Content → Type 0) (b a : State) → DeletesIf s p Changes b a → s ≡ false → Kept b a
-deletes_if true p Changes b a h e = cc
-deletes_if false p Changes b a h e = same b a h
+performs : (o : Outcome Content) (w b : State) (d : Done) (a : State) → Performs o w b d a → is_success d.status ≡ false → Kept b a
+performs (Ok tables) w b d a h e = let k : true ≡ false = subst (λ x. is_success x.status ≡ false) h.0 e in cc
+performs (Err st) w b d a h e = same b a h.1
 
 update_at : (r : Bool) (sc : Schemas) (u : Updating) (p : PositionedTarget) (vs : List Value) (b : State) (d : Done) (a : State) → MayUpdateAt r sc u p vs b d a → is_success d.status ≡ false → Kept b a
-update_at true sc u p vs b d a h e = updates_if (is_success d.status) u _ b a h.1 e
+update_at true sc u p vs b d a h e = performs h.0 (walks_listed u b) b d a h.2 e
 update_at false sc u p vs b d a h e = same b a h.1
 
 delete_at : (r : Bool) (sc : Schemas) (caller : Caller) (p : PositionedTarget) (vs : List Value) (b : State) (d : Done) (a : State) → MayDeleteAt r sc caller p vs b d a → is_success d.status ≡ false → Kept b a
-delete_at true sc caller p vs b d a h e = deletes_if (is_success d.status) p _ b a h.1 e
+delete_at true sc caller p vs b d a h e = performs h.0 (left_row b p) b d a h.2 e
 delete_at false sc caller p vs b d a h e = same b a h.1
 
 -- ---- a statement, and a call
@@ -76,9 +68,9 @@ step sc (Kind.opens o) vs b d a h e = open_if (is_open (cursor_at b o.cursor)) s
 step sc (Kind.fetches f) vs b d a h e = fetch_from (cursor_at b f.cursor) f vs b d a h
 step sc (Kind.closes n) vs b d a h e = close_if (is_open (cursor_at b n)) n b d a h
 step sc (Kind.selects s) vs b d a h e = same b a h.0
-step sc (Kind.inserts caller i) vs b d a h e = changes_if (is_success d.status) _ b a h.1 e
-step sc (Kind.updates u) vs b d a h e = updates_if (is_success d.status) u _ b a h.1 e
-step sc (Kind.deletes caller t) vs b d a h e = changes_if (is_success d.status) _ b a h.1 e
+step sc (Kind.inserts caller i) vs b d a h e = performs h.0 b b d a h.2 e
+step sc (Kind.updates u) vs b d a h e = performs h.0 (walks_listed u b) b d a h.2 e
+step sc (Kind.deletes caller t) vs b d a h e = performs h.0 b b d a h.2 e
 step sc (Kind.updates_at u p) vs b d a h e = update_at (is_on_row b p) sc u p vs b d a h e
 step sc (Kind.deletes_at caller p) vs b d a h e = delete_at (is_on_row b p) sc caller p vs b d a h e
 step sc Kind.commits vs b d a h e = ends (committed_state b) b d a h e

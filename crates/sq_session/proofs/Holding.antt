@@ -12,7 +12,7 @@ use Rattle.sq_store.specs.Content.{Content, empty, no_rows, row_at, table_at}
 use Rattle.sq_store.specs.Keys.{keys_of}
 use Rattle.sq_store.specs.declared.table.Numbered.{Numbered}
 use Rattle.sq_store.specs.declared.table.Table.{Table}
-use Rattle.sq_bound.specs.Fits.{AreInDomains, AreRowsIn, FitsQuery, FitsTarget, have_width, holds, keys_of_bases}
+use Rattle.sq_bound.specs.Fits.{AreInDomains, AreRowsIn, FitsQuery, FitsTarget, has_its_values, have_width, holds, keys_of_bases, not_nulls_hold}
 use Rattle.sq_bound.specs.Names.{are_positions}
 use Rattle.sq_bound.specs.declared.names.BaseColumn.{BaseColumn}
 use Rattle.sq_bound.specs.declared.names.BaseTable.{BaseTable}
@@ -20,7 +20,7 @@ use Rattle.sq_bound.specs.declared.names.Reference.{Reference}
 use Rattle.sq_bound.specs.declared.query.UpdatableQuery.{UpdatableQuery}
 use Rattle.sq_bound.specs.declared.statement.ChangeTarget.TheVariants as target
 use Rattle.sq_bound.specs.declared.statement.PositionedTarget.{PositionedTarget}
-use Rattle.sq_change.specs.Constraints.{constraints_hold, has_its_values, is_met_by, not_nulls_hold, reference_met, references_met}
+use Rattle.sq_change.specs.Constraints.{constraints_hold, is_met_in, reference_met_in, references_met}
 
 pub none : {A : Type 0} → false ≡ true → A
 none h = absurd (true≢false (sym h))
@@ -45,14 +45,14 @@ none_at (suc m) zero = refl
 none_at (suc m) (suc p) = none_at m p
 
 -- no row refers to anything
-none_referring : (bases all : List BaseTable) (n place : ℕ) → list_all (λ p. list_all (reference_met all (no_rows n) p.0) p.1.references) (enumerate_from place bases) ≡ true
+none_referring : (bases all : List BaseTable) (n place : ℕ) → list_all (λ p. list_all (reference_met_in (keys_of_bases all) (no_rows n) p.0) p.1.references) (enumerate_from place bases) ≡ true
 none_referring [] all n place = refl
 none_referring (b ∷ bases) all n place = grind (arith, common_steps, none_referring bases all n (place + 1), of_table b.references)
   where
-    of_table : (rs : List Reference) → list_all (reference_met all (no_rows n) place) rs ≡ true
+    of_table : (rs : List Reference) → list_all (reference_met_in (keys_of_bases all) (no_rows n) place) rs ≡ true
     of_table [] = refl
     of_table (r ∷ rs) =
-        let none : reference_met all (no_rows n) place r ≡ true = ap (λ (t : Table). list_all (λ (x : Numbered). is_met_by all (no_rows n) r x.row) t.rows) (none_at n place) in
+        let none : reference_met_in (keys_of_bases all) (no_rows n) place r ≡ true = ap (λ (t : Table). list_all (λ (x : Numbered). is_met_in (keys_of_bases all) (no_rows n) r x.row) t.rows) (none_at n place) in
         grind (arith, common_steps, of_table rs)
 
 -- no row lacks a value

@@ -22,7 +22,7 @@ use Rattle.sq_session.specs.Fetch.{come_to_number, come_to_row, come_to_walk, ov
 use Rattle.sq_session.specs.Kind.{Caller, Fetching, Updating, caller_of, delete_kind, fetching, kind_of, update_kind, updating}
 use Rattle.sq_session.specs.Schemas.{Schemas}
 use Rattle.sq_session.specs.State.{State, all_closed, committed_state, cursor_at, is_open, next_number, off_row, rolled_back, with_cursor}
-use Rattle.sq_session.specs.Step.{ChangesIf, ChangesTo, Comes, DeletesIf, MayCloseIf, MayDeleteAt, MayFetchFrom, MayStep, MayUpdateAt, UpdatesIf, is_on_row, is_success, walks_listed}
+use Rattle.sq_session.specs.Step.{Comes, MayCloseIf, MayDeleteAt, MayFetchFrom, MayStep, MayUpdateAt, Performs, is_on_row, left_row, walks_listed}
 use Rattle.sq_session.specs.declared.cursor.CursorState.{CursorState}
 use Rattle.sq_session.specs.declared.cursor.CursorState.TheVariants as cursor
 use Rattle.sq_session.specs.declared.cursor.NumbersCursor.{NumbersCursor}
@@ -151,39 +151,34 @@ module _ (columns : TableKinds) where
 
   -- ---- changes
 
-  changes_to : (ds : List DeclaredCursor) (Changes : Content → Content → Type 0) (w a : State) → HaveKept columns ds w.cursors → ChangesTo Changes w a → HaveKept columns ds a.cursors
-  changes_to ds Changes w a has h =
-      let cursors : a.cursors ≡ w.cursors = ap (λ s. s.cursors) h.0 in
-      subst (λ (cs : List CursorState). HaveKept columns ds cs) (sym cursors) has
+  performs : (ds : List DeclaredCursor) (o : Outcome Content) (w b : State) (d : Done) (a : State) → HaveKept columns ds w.cursors → HaveKept columns ds b.cursors → Performs o w b d a → HaveKept columns ds a.cursors
+  performs ds (Ok tables) w b d a wanted has h =
+      let cursors : a.cursors ≡ w.cursors = ap (λ s. s.cursors) h.1 in
+      subst (λ (cs : List CursorState). HaveKept columns ds cs) (sym cursors) wanted
+  performs ds (Err st) w b d a wanted has h = same ds b a has h.1
 
-  changes_if : (ds : List DeclaredCursor) (s : Bool) (Changes : Content → Content → Type 0) (b a : State) → HaveKept columns ds b.cursors → ChangesIf s Changes b a → HaveKept columns ds a.cursors
-  changes_if ds true Changes b a has h = changes_to ds Changes b a has h
-  changes_if ds false Changes b a has h = same ds b a has h
+  updates : (ds : List DeclaredCursor) (o : Outcome Content) (u : Updating) (b : State) (d : Done) (a : State) → HaveKept columns ds b.cursors → Performs o (walks_listed u b) b d a → HaveKept columns ds a.cursors
+  updates ds o u b d a has h = performs ds o (walks_listed u b) b d a (go_on_kept u.statement b.tables u.cursors ds b.cursors has) has h
 
-  updates_if : (ds : List DeclaredCursor) (s : Bool) (u : Updating) (Changes : Content → Content → Type 0) (b a : State) → HaveKept columns ds b.cursors → UpdatesIf s u Changes b a → HaveKept columns ds a.cursors
-  updates_if ds true u Changes b a has h = changes_to ds Changes (walks_listed u b) a (go_on_kept u.statement b.tables u.cursors ds b.cursors has) h
-  updates_if ds false u Changes b a has h = same ds b a has h
-
-  deletes_if : (ds : List DeclaredCursor) (s : Bool) (p : PositionedTarget) (Changes : Content → Content → Type 0) (b a : State) → HaveKept columns ds b.cursors → DeletesIf s p Changes b a → HaveKept columns ds a.cursors
-  deletes_if ds true p Changes b a has h =
-      changes_to ds Changes (with_cursor b p.cursor (off_row (cursor_at b p.cursor))) a
-      (put_like ds b.cursors p.cursor (cursor_at b p.cursor) (off_row (cursor_at b p.cursor)) has refl (λ k is. off_kept k (cursor_at b p.cursor) is)) h
-  deletes_if ds false p Changes b a has h = same ds b a has h
+  deletes : (ds : List DeclaredCursor) (o : Outcome Content) (p : PositionedTarget) (b : State) (d : Done) (a : State) → HaveKept columns ds b.cursors → Performs o (left_row b p) b d a → HaveKept columns ds a.cursors
+  deletes ds o p b d a has h =
+      performs ds o (left_row b p) b d a
+      (put_like ds b.cursors p.cursor (cursor_at b p.cursor) (off_row (cursor_at b p.cursor)) has refl (λ k is. off_kept k (cursor_at b p.cursor) is)) has h
 
   update_at : (ds : List DeclaredCursor) (r : Bool) (sc : Schemas) (u : Updating) (p : PositionedTarget) (vs : List Value) (b : State) (d : Done) (a : State) → HaveKept columns ds b.cursors → MayUpdateAt r sc u p vs b d a → HaveKept columns ds a.cursors
-  update_at ds true sc u p vs b d a has h = updates_if ds (is_success d.status) u _ b a has h.1
+  update_at ds true sc u p vs b d a has h = updates ds h.0 u b d a has h.2
   update_at ds false sc u p vs b d a has h = same ds b a has h.1
 
   delete_at : (ds : List DeclaredCursor) (r : Bool) (sc : Schemas) (caller : Caller) (p : PositionedTarget) (vs : List Value) (b : State) (d : Done) (a : State) → HaveKept columns ds b.cursors → MayDeleteAt r sc caller p vs b d a → HaveKept columns ds a.cursors
-  delete_at ds true sc caller p vs b d a has h = deletes_if ds (is_success d.status) p _ b a has h.1
+  delete_at ds true sc caller p vs b d a has h = deletes ds h.0 p b d a has h.2
   delete_at ds false sc caller p vs b d a has h = same ds b a has h.1
 
   of_update : (sc : Schemas) (ds : List DeclaredCursor) (u : Updating) (t : ChangeTarget) (vs : List Value) (b : State) (d : Done) (a : State) → HaveKept columns ds b.cursors → MayStep sc (update_kind u t) vs b d a → HaveKept columns ds a.cursors
-  of_update sc ds u (target.Searched t) vs b d a has h = updates_if ds (is_success d.status) u _ b a has h.1
+  of_update sc ds u (target.Searched t) vs b d a has h = updates ds h.0 u b d a has h.2
   of_update sc ds u (target.Positioned p) vs b d a has h = update_at ds (is_on_row b p) sc u p vs b d a has h
 
   of_delete : (sc : Schemas) (ds : List DeclaredCursor) (caller : Caller) (t : ChangeTarget) (vs : List Value) (b : State) (d : Done) (a : State) → HaveKept columns ds b.cursors → MayStep sc (delete_kind caller t) vs b d a → HaveKept columns ds a.cursors
-  of_delete sc ds caller (target.Searched t) vs b d a has h = changes_if ds (is_success d.status) _ b a has h.1
+  of_delete sc ds caller (target.Searched t) vs b d a has h = performs ds h.0 b b d a has has h.2
   of_delete sc ds caller (target.Positioned p) vs b d a has h = delete_at ds (is_on_row b p) sc caller p vs b d a has h
 
   -- ---- a statement
@@ -206,7 +201,7 @@ module _ (columns : TableKinds) where
   kept_after sc ds user ps (statement.Fetch f) vs b d a has opened h = fetch_from ds (cursor_at b f.cursor) (fetching ds user ps f) vs b d a refl has h
   kept_after sc ds user ps (statement.Close n) vs b d a has opened h = close_if ds (is_open (cursor_at b n)) n b d a has h
   kept_after sc ds user ps (statement.Select s) vs b d a has opened h = same ds b a has h.0
-  kept_after sc ds user ps (statement.Insert i) vs b d a has opened h = changes_if ds (is_success d.status) _ b a has h.1
+  kept_after sc ds user ps (statement.Insert i) vs b d a has opened h = performs ds h.0 b b d a has has h.2
   kept_after sc ds user ps (statement.Update u) vs b d a has opened h = of_update sc ds (updating ds (caller_of user ps) u) u.target vs b d a has h
   kept_after sc ds user ps (statement.Delete t) vs b d a has opened h = of_delete sc ds (caller_of user ps) t vs b d a has h
   kept_after sc ds user ps statement.Commit vs b d a has opened h = same ds (committed_state b) a (closed_kept ds b.cursors has) h.1

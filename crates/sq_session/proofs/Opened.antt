@@ -1,5 +1,5 @@
 -- OPEN, from the rows, the numbers or the walk that a cursor gets.
-use Rattle.std.proofs.Common.{◌≡◌, ℕ, true, false, true≢false, List, None, Some, Result, Ok, Err, refl, sym, ap, ◌∙◌, IfSome, subst}
+use Rattle.std.proofs.Common.{◌≡◌, ℕ, true, false, true≢false, List, Some, Result, Ok, Err, refl, sym, ap, ◌∙◌, IfSome, subst}
 use Rattle.std.specs.Prelude.{⊤, Vec}
 use Rattle.std.specs.declared.alloc.Global.{Global}
 use Rattle.sq_lex.specs.declared.name.Name.{Name}
@@ -58,18 +58,18 @@ rows_refused s q order given user ps inputs values tables f same_user same_value
 -- numbers of rows, or a status
 abbrev pub NumbersAnswer : Schemas → Target → Name → List Value → Content → Result (Vec ℕ Global) Fault → Type 0
 NumbersAnswer s t user values tables result =
-    t.key ≡ None → (shown : TablePlace → Outcome (List Row)) → AreMeant s.views tables user shown
+    (shown : TablePlace → Outcome (List Row)) → AreMeant s.views tables user shown
     → MeetsAs numbers_in result (and_then (stored_numbered tables t.base) (numbers_chosen (is_true_of shown values user) (conditions_of t)))
 
 pub numbers_answered : (s : Schemas) (t : Target) (given user : Name) (inputs values : List Value) (tables : Content) (v : Vec ℕ Global) (numbers : List ℕ)
     → given ≡ user → inputs ≡ values → numbers ≡ v.items → NumbersAnswer s t given inputs tables (Ok v) → NumbersAreMeant s t user values tables (Ok (before_numbers t.base numbers))
 numbers_answered s t given user inputs values tables v numbers same_user same_values same_numbers h =
-    rw (sym same_user, sym same_values, same_numbers) (λ keyless shown are. sym (ap (numbers_opened t.base) (h keyless shown are)))
+    rw (sym same_user, sym same_values, same_numbers) (λ shown are. sym (ap (numbers_opened t.base) (h shown are)))
 
 numbers_refused : (s : Schemas) (t : Target) (given user : Name) (inputs values : List Value) (tables : Content) (f : Failure)
     → given ≡ user → inputs ≡ values → NumbersAnswer s t given inputs tables (Err (fault.Status f)) → NumbersAreMeant s t user values tables (Err (status_of f))
 numbers_refused s t given user inputs values tables f same_user same_values h =
-    rw (sym same_user, sym same_values) (λ keyless shown are. sym (ap (numbers_opened t.base) (h keyless shown are)))
+    rw (sym same_user, sym same_values) (λ shown are. sym (ap (numbers_opened t.base) (h shown are)))
 
 -- ---- what is opened
 

@@ -73,10 +73,10 @@ RowsAreMeant s query order user parameters values tables opened =
     (shown : TablePlace → Outcome (List Row)) → AreMeant s.views tables user shown
     → opened ≡ opened_in_order (kinds_by_place (columns_of s) (kinds_of_parameters parameters)) query order user values shown
 
--- of a target that names no row by a key: the numbers of the rows of which its conditions are true, or the status of choosing them
+-- the numbers of the rows of which the conditions of a target are true, or the status of choosing them
 abbrev pub NumbersAreMeant : Schemas → Target → Name → List Value → Content → Outcome CursorState → Type 0
 NumbersAreMeant s t user values tables opened =
-    t.key ≡ None → (shown : TablePlace → Outcome (List Row)) → AreMeant s.views tables user shown
+    (shown : TablePlace → Outcome (List Row)) → AreMeant s.views tables user shown
     → opened ≡ numbers_opened t.base (and_then (stored_numbered tables t.base) (numbers_chosen (is_true_of shown values user) (conditions_of t)))
 
 -- a quiet target is walked

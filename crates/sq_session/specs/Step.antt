@@ -1,7 +1,6 @@
 -- What one call may do to the tables and the cursors, and what it answers (ISO/IEC 9075:1992, 13.2 to 13.10, 14.3 and 14.4).
--- All of it is said whole but of OPEN, UPDATE and DELETE where they name rows by a key and have a condition that can fail. No statement
--- that has no fault ends with 42000.
-use Rattle.std.specs.Prelude.{◌≡◌, ℕ, Bool, true, false, List, [], is_some, option_and_then, Option, Some, None, Result, Ok, Err}
+-- No statement that has no fault ends with 42000.
+use Rattle.std.specs.Prelude.{◌≡◌, ℕ, Bool, true, false, List, is_some, option_and_then, Option, Some, None, Result, Ok, Err}
 use Rattle.sq_lex.specs.declared.name.Name.{Name}
 use Rattle.sq_value.specs.declared.value.Value.{Value}
 use Rattle.sq_store.specs.Content.{Content, row_at, table_at}
@@ -18,9 +17,9 @@ use Rattle.sq_meaning.specs.Status.{Outcome, and_then}
 use Rattle.sq_meaning.specs.WellFormed.{IsNoSyntaxError}
 use Rattle.sq_meaning.specs.declared.status.Status.{Status}
 use Rattle.sq_meaning.specs.declared.status.Status.TheVariants as status
-use Rattle.sq_change.specs.Made.{Seen, Shown}
+use Rattle.sq_change.specs.Made.{Seen, Shown, seen_by}
 use Rattle.sq_change.specs.Performed.{delete_outcome, insert_outcome, update_outcome}
-use Rattle.sq_change.specs.Statement.{Deletes, Inserts, IsPlain, IsShown, Updates}
+use Rattle.sq_change.specs.Statement.{IsShown}
 use Rattle.sq_expression.specs.Fault.{status_of}
 use Rattle.sq_expression.specs.Frame.{inputs_of}
 use Rattle.sq_query.specs.Table.{AreMeant}
@@ -120,66 +119,48 @@ pub record Selects (s : Schemas) (select : Selecting) (values : List Value) (tab
 
 -- ---- INSERT, UPDATE and DELETE (13.6 to 13.10)
 
--- with success the tables now change so, and nothing else does
-abbrev pub ChangesTo : (Content → Content → Type 0) → State → State → Type 0
-ChangesTo Changes wanted after = (after ≡ record wanted { tables = after.tables }) × Changes wanted.tables after.tables
+-- With success the tables are those that the statement comes to, and all else is as it is wanted to be; with another status nothing
+-- changes.
+abbrev pub Performs : Outcome Content → State → State → Done → State → Type 0
+Performs (Ok tables) wanted before d after = (d ≡ ended status.SuccessfulCompletion) × (after ≡ record wanted { tables = tables })
+Performs (Err st) wanted before d after = Refuses st before d after
 
--- with any other status nothing changes
-abbrev pub ChangesIf : Bool → (Content → Content → Type 0) → State → State → Type 0
-ChangesIf true Changes before after = ChangesTo Changes before after
-ChangesIf false Changes before after = after ≡ before
+-- what the statement of a caller that hands in these values sees of these tables
+abbrev pub seen_in : Schemas → Caller → List Value → Content → Seen
+seen_in s caller values tables = seen_by s.views tables caller.user values
 
--- it ends with success and these tables, or with the status
-abbrev pub ComesTo : Outcome Content → Status → Content → Type 0
-ComesTo (Ok tables) st after = (st ≡ status.SuccessfulCompletion) × (after ≡ tables)
-ComesTo (Err wanted) st after = st ≡ wanted
+-- this is what INSERT comes to, over the tables that the stored rows and the views' queries make for the caller
+abbrev pub InsertComesTo : Schemas → Caller → List Value → BoundInsert → State → Outcome Content → Type 0
+InsertComesTo s caller values i before done =
+    (shown : Shown) → IsShown (seen_in s caller values before.tables) shown
+    → done ≡ insert_outcome shown (seen_in s caller values before.tables) s.bases before.row_numbers i
 
-abbrev pub MayChange : (Content → Content → Type 0) → (Status → Content → Type 0) → State → Done → State → Type 0
-MayChange Changes Meant before d after = (d.outputs ≡ []) × ChangesIf (is_success d.status) Changes before after × Meant d.status after.tables
-
--- what the statement of a caller that hands in these values reads
-abbrev pub seen_by : Schemas → Caller → List Value → Content → Seen
-seen_by s caller values tables = record { views = s.views; tables = tables; user = caller.user; values = values }
-
--- INSERT, where rows may have numbers up to this one
-abbrev pub InsertsBy : Schemas → Caller → List Value → ℕ → BoundInsert → Content → Content → Type 0
-InsertsBy s caller values row_numbers i tables after = Inserts (seen_by s caller values tables) row_numbers i after
-
-abbrev pub InsertIsMeant : Schemas → Caller → List Value → ℕ → BoundInsert → Content → Status → Content → Type 0
-InsertIsMeant s caller values row_numbers i tables st after =
-    (shown : Shown) → IsShown (seen_by s caller values tables) shown
-    → ComesTo (insert_outcome shown (seen_by s caller values tables) s.bases row_numbers i) st after
+abbrev pub MayInsert : Schemas → Caller → List Value → BoundInsert → State → Done → State → Type 0
+MayInsert s caller values i before d after = (done : Outcome Content) × InsertComesTo s caller values i before done × Performs done before before d after
 
 -- UPDATE; the cursor of a positioned one is on the row of this number
-abbrev pub UpdatesBy : Schemas → Updating → List Value → Option ℕ → Content → Content → Type 0
-UpdatesBy s u values on tables after = Updates (seen_by s u.caller values tables) u.statement on after
-
-abbrev pub UpdateIsMeant : Schemas → Updating → List Value → Option ℕ → Content → Status → Content → Type 0
-UpdateIsMeant s u values on tables st after =
-    IsPlain u.statement.target → (shown : Shown) → IsShown (seen_by s u.caller values tables) shown
-    → ComesTo (update_outcome shown (seen_by s u.caller values tables) s.bases u.statement on) st after
-
--- DELETE, in the same way
-abbrev pub DeletesBy : Schemas → Caller → List Value → ChangeTarget → Option ℕ → Content → Content → Type 0
-DeletesBy s caller values t on tables after = Deletes (seen_by s caller values tables) t on after
-
-abbrev pub DeleteIsMeant : Schemas → Caller → List Value → ChangeTarget → Option ℕ → Content → Status → Content → Type 0
-DeleteIsMeant s caller values t on tables st after =
-    IsPlain t → (shown : Shown) → IsShown (seen_by s caller values tables) shown
-    → ComesTo (delete_outcome shown (seen_by s caller values tables) s.bases t on) st after
+abbrev pub UpdateComesTo : Schemas → Updating → List Value → Option ℕ → Content → Outcome Content → Type 0
+UpdateComesTo s u values on tables done =
+    (shown : Shown) → IsShown (seen_in s u.caller values tables) shown
+    → done ≡ update_outcome shown (seen_in s u.caller values tables) s.bases u.statement on
 
 -- cursors that walk and read what an UPDATE changes go on over the numbers that were left to them before it
 abbrev pub walks_listed : Updating → State → State
 walks_listed u s = record s { cursors = go_on u.statement s.tables u.cursors s.cursors }
 
-abbrev pub UpdatesIf : Bool → Updating → (Content → Content → Type 0) → State → State → Type 0
-UpdatesIf true u Changes before after = ChangesTo Changes (walks_listed u before) after
-UpdatesIf false u Changes before after = after ≡ before
-
 abbrev pub MayUpdate : Schemas → Updating → List Value → Option ℕ → State → Done → State → Type 0
 MayUpdate s u values on before d after =
-    (d.outputs ≡ []) × UpdatesIf (is_success d.status) u (UpdatesBy s u values on) before after
-    × UpdateIsMeant s u values on before.tables d.status after.tables
+    (done : Outcome Content) × UpdateComesTo s u values on before.tables done × Performs done (walks_listed u before) before d after
+
+-- DELETE, in the same way
+abbrev pub DeleteComesTo : Schemas → Caller → List Value → ChangeTarget → Option ℕ → Content → Outcome Content → Type 0
+DeleteComesTo s caller values t on tables done =
+    (shown : Shown) → IsShown (seen_in s caller values tables) shown
+    → done ≡ delete_outcome shown (seen_in s caller values tables) s.bases t on
+
+abbrev pub MayDelete : Schemas → Caller → List Value → ChangeTarget → Option ℕ → State → State → Done → State → Type 0
+MayDelete s caller values t on wanted before d after =
+    (done : Outcome Content) × DeleteComesTo s caller values t on before.tables done × Performs done wanted before d after
 
 -- whether the cursor is on a row that is there
 abbrev pub is_on_row : State → PositionedTarget → Bool
@@ -204,14 +185,11 @@ MayUpdateAt true s u p values before d after = MayUpdate s u values (on_row befo
 MayUpdateAt false s u p values before d after = Refuses status.InvalidCursorState before d after
 
 -- a positioned DELETE takes its cursor off the row
-abbrev pub DeletesIf : Bool → PositionedTarget → (Content → Content → Type 0) → State → State → Type 0
-DeletesIf true p Changes before after = ChangesTo Changes (with_cursor before p.cursor (off_row (cursor_at before p.cursor))) after
-DeletesIf false p Changes before after = after ≡ before
+abbrev pub left_row : State → PositionedTarget → State
+left_row s p = with_cursor s p.cursor (off_row (cursor_at s p.cursor))
 
 abbrev pub MayDeleteAt : Bool → Schemas → Caller → PositionedTarget → List Value → State → Done → State → Type 0
-MayDeleteAt true s caller p values before d after =
-    (d.outputs ≡ []) × DeletesIf (is_success d.status) p (DeletesBy s caller values (target.Positioned p) (on_row before p)) before after
-    × DeleteIsMeant s caller values (target.Positioned p) (on_row before p) before.tables d.status after.tables
+MayDeleteAt true s caller p values before d after = MayDelete s caller values (target.Positioned p) (on_row before p) (left_row before p) before d after
 MayDeleteAt false s caller p values before d after = Refuses status.InvalidCursorState before d after
 
 -- ---- a statement, and a call
@@ -225,11 +203,9 @@ MayStep s (Kind.opens o) values before d after = MayOpen s o values before d aft
 MayStep s (Kind.fetches f) values before d after = MayFetch f values before d after
 MayStep s (Kind.closes number) values before d after = MayClose number before d after
 MayStep s (Kind.selects select) values before d after = (after ≡ before) × Selects s select values before.tables d
-MayStep s (Kind.inserts caller i) values before d after =
-    MayChange (InsertsBy s caller values before.row_numbers i) (InsertIsMeant s caller values before.row_numbers i before.tables) before d after
+MayStep s (Kind.inserts caller i) values before d after = MayInsert s caller values i before d after
 MayStep s (Kind.updates u) values before d after = MayUpdate s u values None before d after
-MayStep s (Kind.deletes caller t) values before d after =
-    MayChange (DeletesBy s caller values (target.Searched t) None) (DeleteIsMeant s caller values (target.Searched t) None before.tables) before d after
+MayStep s (Kind.deletes caller t) values before d after = MayDelete s caller values (target.Searched t) None before before d after
 MayStep s (Kind.updates_at u p) values before d after = MayUpdateAt (is_on_row before p) s u p values before d after
 MayStep s (Kind.deletes_at caller p) values before d after = MayDeleteAt (is_on_row before p) s caller p values before d after
 MayStep s Kind.commits values before d after = Ends (committed_state before) d after

@@ -1,7 +1,7 @@
 //! OPEN (ISO/IEC 9075:1992, 13.2).
 
 ghost use Rattle.std.specs.Prelude.{◌≡◌, ◌<◌, ⊤, length, true, IfErr, IfOk, IfSome, OnErr};
-ghost use Rattle.sq_bound.specs.Fits.{AreInDomains, FitsCursor, holds};
+ghost use Rattle.sq_bound.specs.Fits.{AreInDomains, FitsCursor, IsBase, holds, keys_of_bases, not_nulls_hold};
 ghost use Rattle.sq_bound.specs.WellFormed.{IsCursor, IsQuery, IsTarget, kinds_of_parameters, kinds_of_query};
 ghost use Rattle.sq_bound.specs.declared.statement.BoundStatement.TheVariants.{Open};
 ghost use Rattle.sq_catalog.specs.Catalog.{column_kinds};
@@ -37,6 +37,8 @@ pub(crate) fn open_closed<S: Store>(
     requires fit { CursorsFit called.now.catalog.now.bases called.now.cursors.now }
     requires cursors { are_over called.now.cursors.now cursors.old ≡ true }
     requires rows { holds called.now.catalog.now.bases (S.content_now store.now) ≡ true }
+    requires keys { S.key_columns store.now ≡ keys_of_bases called.now.catalog.now.bases }
+    requires not_null { not_nulls_hold called.now.catalog.now.bases (S.content_now store.now) ≡ true }
     requires kept { HaveKept (column_kinds called.now.catalog.now) called.now.cursors.now cursors.old }
     requires asked { OpensWellFormed (column_kinds called.now.catalog.now) called.now.cursors.now
         (kinds_of_parameters called.now.procedure.now.parameters) (Open number) }
@@ -69,6 +71,8 @@ fn opened<S: Store>(
 ) -> Result<CursorState, Fault>
     requires fits { FitsCursor called.now.catalog.now.bases cursor.now }
     requires rows { holds called.now.catalog.now.bases (S.content_now store.now) ≡ true }
+    requires keys { S.key_columns store.now ≡ keys_of_bases called.now.catalog.now.bases }
+    requires not_null { not_nulls_hold called.now.catalog.now.bases (S.content_now store.now) ≡ true }
     requires asked { IsCursor (column_kinds called.now.catalog.now) (kinds_of_parameters called.now.procedure.now.parameters) cursor.now }
     requires given { AreGiven (kinds_of_parameters called.now.procedure.now.parameters) called.now.values.now }
     requires domains { AreInDomains called.now.catalog.now.bases (S.content_now store.now) }
@@ -130,6 +134,10 @@ fn opened_over<S: Store>(
     meter: &mut Meter,
 ) -> Result<CursorState, Fault>
     requires there { target.now.base < length (S.content_now store.now) }
+    requires rows { holds called.now.catalog.now.bases (S.content_now store.now) ≡ true }
+    requires keys { S.key_columns store.now ≡ keys_of_bases called.now.catalog.now.bases }
+    requires not_null { not_nulls_hold called.now.catalog.now.bases (S.content_now store.now) ≡ true }
+    requires base { IsBase called.now.catalog.now.bases target.now.leaf.table }
     requires asked { IsTarget (column_kinds called.now.catalog.now) (kinds_of_parameters called.now.procedure.now.parameters) target.now }
     requires given { AreGiven (kinds_of_parameters called.now.procedure.now.parameters) called.now.values.now }
     requires domains { AreInDomains called.now.catalog.now.bases (S.content_now store.now) }
@@ -165,6 +173,10 @@ fn opened_over_numbers<S: Store>(
     store: &S,
     meter: &mut Meter,
 ) -> Result<CursorState, Fault>
+    requires rows { holds called.now.catalog.now.bases (S.content_now store.now) ≡ true }
+    requires keys { S.key_columns store.now ≡ keys_of_bases called.now.catalog.now.bases }
+    requires not_null { not_nulls_hold called.now.catalog.now.bases (S.content_now store.now) ≡ true }
+    requires base { IsBase called.now.catalog.now.bases target.now.leaf.table }
     requires asked { IsTarget (column_kinds called.now.catalog.now) (kinds_of_parameters called.now.procedure.now.parameters) target.now }
     requires given { AreGiven (kinds_of_parameters called.now.procedure.now.parameters) called.now.values.now }
     requires domains { AreInDomains called.now.catalog.now.bases (S.content_now store.now) }

@@ -1,6 +1,6 @@
 use Rattle.std.proofs.Common.{◌≡◌, false, true, refl, arith, sym, rules}
 use Rattle.std.specs.List.{zip}
-use Rattle.sq_change.specs.Constraints.{lacks_value}
+use Rattle.sq_bound.specs.Fits.{lacks_value}
 use Rattle.sq_change.proofs.AllSatisfied.{beside, none_more, none_there, one_found, paired, zip_short}
 use Rattle.sq_change.proofs.constraint.lacks_value.Goals as goal
 use Rattle.sq_change.proofs.constraint.lacks_value.Goals.{else-column-via-then-column+else-is_null, else-column-via-else-column}

@@ -1,5 +1,5 @@
 use Rattle.std.specs.List.{zip}
-use Rattle.sq_change.specs.Constraints.{lacks_value}
+use Rattle.sq_bound.specs.Fits.{lacks_value}
 use Rattle.sq_change.proofs.AllSatisfied.{NoneTo}
 use Rattle.sq_change.proofs.constraint.lacks_value.Given as goal
 

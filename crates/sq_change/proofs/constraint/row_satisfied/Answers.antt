@@ -5,7 +5,8 @@ use Rattle.sq_meaning.specs.declared.status.Status.TheVariants.{IntegrityConstra
 use Rattle.sq_model.specs.Constraints.{all_satisfied, demanded}
 use Rattle.sq_expression.proofs.Expressions.{handed_on}
 use Rattle.sq_query.specs.Row.{IsOnRow}
-use Rattle.sq_change.specs.Constraints.{check_met, lacks_value, not_null_met, row_met}
+use Rattle.sq_bound.specs.Fits.{lacks_value}
+use Rattle.sq_change.specs.Constraints.{check_met, not_null_met, row_met}
 use Rattle.sq_change.specs.Made.{seen_by}
 use Rattle.sq_change.proofs.AllSatisfied.{satisfied_all, satisfied_failed, satisfied_more}
 use Rattle.sq_change.proofs.Outcomes.{goes_on}

@@ -4,7 +4,8 @@ use Rattle.sq_store.specs.Change.{rows_put}
 use Rattle.sq_model.specs.Constraints.{all_satisfied}
 use Rattle.sq_expression.proofs.Expressions.{handed_on}
 use Rattle.sq_query.specs.Row.{IsOnRow}
-use Rattle.sq_change.specs.Constraints.{has_its_values, row_met}
+use Rattle.sq_bound.specs.Fits.{has_its_values}
+use Rattle.sq_change.specs.Constraints.{row_met}
 use Rattle.sq_change.specs.Made.{seen_by}
 use Rattle.sq_change.proofs.AllSatisfied.{put_failed, put_more, rest_all, rest_none, rest_row}
 use Rattle.sq_change.proofs.Applied.{put_so, row_wide}

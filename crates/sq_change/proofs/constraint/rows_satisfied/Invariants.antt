@@ -4,7 +4,8 @@ use Rattle.sq_value.specs.declared.domain.Kind.{Kind}
 use Rattle.sq_model.specs.Constraints.{all_satisfied}
 use Rattle.sq_query.specs.MayRead.{MayRead}
 use Rattle.sq_change.specs.Changed.{AreOnRowsPut}
-use Rattle.sq_change.specs.Constraints.{has_its_values, row_met}
+use Rattle.sq_bound.specs.Fits.{has_its_values}
+use Rattle.sq_change.specs.Constraints.{row_met}
 use Rattle.sq_change.specs.Made.{Shown, seen_by}
 use Rattle.sq_change.proofs.AllSatisfied.{RestTo}
 use Rattle.sq_change.proofs.constraint.rows_satisfied.Given as goal

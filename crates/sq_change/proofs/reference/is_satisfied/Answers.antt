@@ -1,5 +1,6 @@
 use Rattle.sq_meaning.specs.declared.status.Status.TheVariants.{IntegrityConstraintViolation}
-use Rattle.sq_change.specs.Reference.{is_met_in, is_row_there}
+use Rattle.sq_change.specs.Constraints.{is_met_in}
+use Rattle.sq_change.specs.Reference.{is_row_there}
 use Rattle.sq_change.proofs.AllMet.{is_met, met_so}
 use Rattle.sq_change.proofs.Referred.{asked_for, met_unasked, met_where_there}
 use Rattle.sq_change.proofs.reference.is_satisfied.Goals as goal

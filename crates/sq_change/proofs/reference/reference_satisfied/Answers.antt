@@ -4,7 +4,7 @@ use Rattle.sq_store.specs.Content.{first_from, table_at}
 use Rattle.sq_store.specs.Keys.{has_columns}
 use Rattle.sq_store.proofs.Walk.{found_behind, walked_below}
 use Rattle.sq_meaning.specs.declared.status.Status.TheVariants.{IntegrityConstraintViolation}
-use Rattle.sq_change.specs.Reference.{is_met_in, reference_met_in}
+use Rattle.sq_change.specs.Constraints.{is_met_in, reference_met_in}
 use Rattle.sq_change.proofs.AllMet.{fails_so, is_met, was_met}
 use Rattle.sq_change.proofs.Held.{found_is}
 use Rattle.sq_change.proofs.WalkMet.{walk_ends, walk_fails, walk_more, walk_starts}

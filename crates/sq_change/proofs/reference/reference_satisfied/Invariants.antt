@@ -1,6 +1,6 @@
 use Rattle.std.proofs.Common.{◌+◌, ◌-◌}
 use Rattle.sq_store.specs.Content.{table_at}
-use Rattle.sq_change.specs.Reference.{is_met_in}
+use Rattle.sq_change.specs.Constraints.{is_met_in}
 use Rattle.sq_change.proofs.WalkMet.{WalkedTo}
 use Rattle.sq_change.proofs.reference.reference_satisfied.Given as goal
 

@@ -2,7 +2,8 @@ use Rattle.std.proofs.Common.{◌≡◌, true, ◌∙◌}
 use Rattle.std.specs.List.{list_all}
 use Rattle.sq_store.specs.Content.{table_at}
 use Rattle.sq_meaning.specs.declared.status.Status.TheVariants.{IntegrityConstraintViolation}
-use Rattle.sq_change.specs.Reference.{lost_met_in, reference_met_in}
+use Rattle.sq_change.specs.Constraints.{reference_met_in}
+use Rattle.sq_change.specs.Reference.{lost_met_in}
 use Rattle.sq_change.proofs.AllMet.{fails_so, is_met, met_all, met_more, met_not, was_met}
 use Rattle.sq_change.proofs.Held.{rows_refer_by}
 use Rattle.sq_change.proofs.Referred.{not_to_lost, to_lost}

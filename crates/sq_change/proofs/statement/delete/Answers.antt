@@ -1,17 +1,14 @@
-use Rattle.std.proofs.Common.{◌≡◌, [], subst}
-use Rattle.std.specs.Result.{OnOk}
-use Rattle.sq_store.specs.Content.{changed_by, table_at, with_table}
-use Rattle.sq_bound.specs.declared.names.Leaf.{Leaf}
+use Rattle.std.proofs.Common.{[]}
+use Rattle.sq_store.specs.Content.{table_at}
 use Rattle.sq_change.specs.Changed.{Removals}
 use Rattle.sq_bound.specs.Fits.{under}
 use Rattle.sq_change.specs.Constraints.{completed}
 use Rattle.sq_change.specs.Made.{Seen, numbers_changed, seen_by}
 use Rattle.sq_change.specs.Statement.{without}
 use Rattle.sq_change.proofs.Applied.{removed_few}
-use Rattle.sq_change.proofs.Chosen.{chosen_is}
 use Rattle.sq_change.proofs.Domains.{removals_in}
 use Rattle.sq_change.proofs.Endings.{ends_so}
-use Rattle.sq_change.proofs.Made.{deletes, when_done}
+use Rattle.sq_change.proofs.Obeyed.{not_nulls_of}
 use Rattle.sq_change.proofs.OnRows.{leaf_well}
 use Rattle.sq_change.proofs.Outcomes.{stops_as}
 use Rattle.sq_change.proofs.Performed.{delete_meets}
@@ -22,6 +19,11 @@ complete-requires-clause-domains g c = removals_in _ c.args.target.now c.args.on
 
 pub complete-requires-clause-numbers : goal.complete-requires-clause-numbers
 complete-requires-clause-numbers g c = removed_few _ c.args.target.now c.args.on c.in_ok-changed.changed.changes.items _ c.in_ok-changed.ensures.removals
+
+pub deleted-requires-clause-not_null : goal.deleted-requires-clause-not_null
+deleted-requires-clause-not_null g c =
+    let is = c.new-setting.ensures in
+    rw (is.names, is.store) (not_nulls_of (g.N.Names.base_tables c.args.names.now) (g.S.Store.content_now c.args.store.now) c.requires.constraints)
 
 pub deleted-requires-clause-may : goal.deleted-requires-clause-may
 deleted-requires-clause-may g c = let is = c.new-setting.ensures in rw (is.names, is.store, is.user, is.parameters) c.requires.may
@@ -35,16 +37,6 @@ complete-requires-clause-there g c = c.requires.may.reads.there
 pub returns-in_err-changed-clause-right : goal.returns-in_err-changed-clause-right
 returns-in_err-changed-clause-right g c = ends_so c.from_residual.result c.in_err-changed.field-0.0 c.from_residual.ensures.1 c.in_err-changed.ensures.right
 
-pub returns-clause-ok : goal.returns-clause-ok
-returns-clause-ok g c =
-    let seen : Seen = seen_by (g.N.Names.view_queries c.args.names.now) (g.S.Store.content_now c.args.store.now) c.args.inputs.user c.args.inputs.parameters.now in
-    let same = c.new-setting.ensures in
-    let changes = c.in_ok-changed.changed.changes.items in
-    let after = g.S.Store.content_now c.complete.new.store in
-    when_done c.complete.result
-    (deletes seen c.args.target.now c.args.on after changes (rw (same.names, same.store, same.user, same.parameters) at c.in_ok-changed.ensures.removals))
-    (subst (λ (l : Leaf). OnOk c.complete.result (after ≡ with_table seen.tables l.table.place (changed_by (table_at seen.tables l.table.place) changes))) c.leaf_under-leaf.ensures c.complete.ensures.ok)
-
 pub returns-clause-right : goal.returns-clause-right
 returns-clause-right g c = c.complete.ensures.right c.requires.may.parameters c.requires.may.tables c.requires.may.reads
 
@@ -54,7 +46,7 @@ complete-requires-clause-keeps g c =
     rw (c.leaf_under-leaf.ensures, ← same.store) c.in_ok-changed.ensures.keeps
 
 pub returns-clause-meant : goal.returns-clause-meant
-returns-clause-meant g c = λ plain shown is held.
+returns-clause-meant g c = λ shown is.
     let names = c.args.names.now in
     let bases = g.N.Names.base_tables names in
     let content = g.S.Store.content_now c.args.store.now in
@@ -65,11 +57,11 @@ returns-clause-meant g c = λ plain shown is held.
     let changes = c.in_ok-changed.changed.changes.items in
     let after = g.S.Store.content_now c.complete.new.store in
     let removals : Removals seen t c.args.on changes = rw (same.names, same.store, same.user, same.parameters) at c.in_ok-changed.ensures.removals in
-    let done = rw c.leaf_under-leaf.ensures at (c.complete.ensures.meant c.requires.may.parameters shown (record { inputs = reads.inputs; there = reads.there; in_domains = reads.in_domains; meant = is }) held) in
-    delete_meets shown seen bases after c.complete.result t c.args.on changes removals (chosen_is seen t c.args.on removals.numbers removals.chosen plain shown is) done
+    let done = rw c.leaf_under-leaf.ensures at (c.complete.ensures.meant c.requires.may.parameters shown (record { inputs = reads.inputs; there = reads.there; in_domains = reads.in_domains; meant = is }) c.requires.constraints) in
+    delete_meets shown seen bases after c.complete.result t c.args.on changes removals (removals.chosen shown is) done
 
 pub returns-in_err-changed-clause-meant : goal.returns-in_err-changed-clause-meant
-returns-in_err-changed-clause-meant g c = λ plain shown is held.
+returns-in_err-changed-clause-meant g c = λ shown is.
     let names = c.args.names.now in
     let bases = g.N.Names.base_tables names in
     let content = g.S.Store.content_now c.args.store.now in
@@ -80,4 +72,4 @@ returns-in_err-changed-clause-meant g c = λ plain shown is held.
     let e = c.in_err-changed.field-0.0 in
     let found = numbers_changed shown seen t c.args.on in
     stops_as (λ (x : Unit {0}). _) c.from_residual.result e found
-    (λ numbers. completed shown seen bases (under t) [] (without (table_at content (under t).table.place) numbers)) c.from_residual.ensures.1 (meant plain shown is)
+    (λ numbers. completed shown seen bases (under t) [] (without (table_at content (under t).table.place) numbers)) c.from_residual.ensures.1 (meant shown is)

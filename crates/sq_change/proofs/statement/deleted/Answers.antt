@@ -1,32 +1,43 @@
-use Rattle.std.proofs.Common.{rules}
+use Rattle.std.proofs.Common.{subst, sym}
 use Rattle.sq_expression.proofs.Views.{failed_as}
 use Rattle.sq_query.specs.Target.{numbers_in}
 use Rattle.sq_change.specs.Made.{Seen, numbers_changed, seen_by}
+use Rattle.sq_change.specs.Statement.{Chosen}
 use Rattle.sq_change.proofs.Endings.{ends_so, hands_on, memory_fails, memory_right}
 use Rattle.sq_change.proofs.KeptRest.{removed_rest}
+use Rattle.sq_change.proofs.Made.{removals_kept}
 use Rattle.sq_change.proofs.statement.deleted.Goals as goal
 
 pub returns-in_err-numbers-clause-right : goal.returns-in_err-numbers-clause-right
 returns-in_err-numbers-clause-right g c = ends_so c.from_residual.result c.in_err-numbers.field-0.0 c.from_residual.ensures.1 c.in_err-numbers.ensures.right
 
 pub returns-in_err-numbers-clause-meant : goal.returns-in_err-numbers-clause-meant
-returns-in_err-numbers-clause-meant g c = λ plain shown is.
+returns-in_err-numbers-clause-meant g c = λ shown is.
     let setting = c.args.setting.now in
     let s : Seen = seen_by (g.N.Names.view_queries setting.names.now) (g.S.Store.content_now setting.store.now) setting.user setting.parameters.now in
     let found = numbers_changed shown s c.args.target.now c.args.on in
     let f = c.in_err-numbers.field-0.0 in
-    hands_on c.from_residual.result f found c.from_residual.ensures.1 (failed_as numbers_in f found (c.in_err-numbers.ensures.meant plain shown is))
+    hands_on c.from_residual.result f found c.from_residual.ensures.1 (failed_as numbers_in f found (c.in_err-numbers.ensures.meant shown is))
 
 pub returns-clause-meant : goal.returns-clause-meant
-returns-clause-meant g c = λ plain shown is. memory_fails c.removed-changes.result c.changed.result _ c.removed-changes.ensures.memory c.changed.ensures.fails
+returns-clause-meant g c = λ shown is. memory_fails c.removed-changes.result c.changed.result _ c.removed-changes.ensures.memory c.changed.ensures.fails
 
 pub returns-clause-right : goal.returns-clause-right
 returns-clause-right g c = c.changed.ensures.right (memory_right c.removed-changes.result c.removed-changes.ensures.memory)
+
+pub returns-clause-removals : goal.returns-clause-removals
+returns-clause-removals g c =
+    let setting = c.args.setting.now in
+    let s : Seen = seen_by (g.N.Names.view_queries setting.names.now) (g.S.Store.content_now setting.store.now) setting.user setting.parameters.now in
+    removals_kept c.removed-changes.result c.changed.result c.changed.ensures.changes s c.args.target.now c.args.on c.as_slice.result.now
+    (subst (Chosen s c.args.target.now c.args.on) (sym c.as_slice.ensures.value) c.in_ok-numbers.ensures.meant) c.removed-changes.ensures.removals
 
 pub returns-clause-keeps : goal.returns-clause-keeps
 returns-clause-keeps g c =
     let t = c.args.target.now in
     let setting = c.args.setting.now in
     let s : Seen = seen_by (g.N.Names.view_queries setting.names.now) (g.S.Store.content_now setting.store.now) setting.user setting.parameters.now in
-    removed_rest c.all_keys.result c.changed.result c.changed.ensures.lost s t c.args.on (search rules)
+    removed_rest c.all_keys.result c.changed.result c.changed.ensures.lost s t c.args.on
+    (removals_kept c.removed-changes.result c.changed.result c.changed.ensures.changes s t c.args.on c.as_slice.result.now
+    (subst (Chosen s t c.args.on) (sym c.as_slice.ensures.value) c.in_ok-numbers.ensures.meant) c.removed-changes.ensures.removals)
     (rw (c.get-table.ensures, c.leaf_under.ensures) at c.all_keys.ensures.lost)

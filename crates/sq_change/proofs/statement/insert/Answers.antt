@@ -1,15 +1,11 @@
-use Rattle.std.proofs.Common.{◌≡◌, ◌<◌, length, arith, subst}
-use Rattle.std.specs.Result.{OnOk}
 use Rattle.sq_store.specs.Change.{rows_put}
-use Rattle.sq_store.specs.Content.{changed_by, table_at, with_table}
-use Rattle.sq_bound.specs.declared.names.Leaf.{Leaf}
+use Rattle.sq_store.specs.Content.{table_at}
 use Rattle.sq_expression.proofs.Views.{failed_as}
 use Rattle.sq_change.specs.declared.complete.Changed.{Changed}
 use Rattle.sq_change.specs.Constraints.{completed}
 use Rattle.sq_change.specs.Made.{Seen, rows_inserted, seen_by}
 use Rattle.sq_change.specs.Statement.{with_rows}
 use Rattle.sq_change.proofs.Held.{is_there}
-use Rattle.sq_change.proofs.Made.{inserts, when_done}
 use Rattle.sq_change.proofs.Outcomes.{stops_as}
 use Rattle.sq_change.proofs.Performed.{insert_meets}
 use Rattle.sq_change.proofs.statement.insert.Goals as goal
@@ -28,28 +24,13 @@ complete-requires-clause-there g c = c.requires.given.reads.there
 pub returns-clause-right : goal.returns-clause-right
 returns-clause-right g c = c.complete.ensures.right c.requires.given.parameters c.requires.given.tables c.requires.given.reads
 
-pub returns-clause-ok : goal.returns-clause-ok
-returns-clause-ok g c =
-    let names = c.args.names.now in
-    let content = g.S.Store.content_now c.args.store.now in
-    let seen = seen_by (g.N.Names.view_queries names) content c.args.inputs.user c.args.inputs.parameters.now in
-    let insert = c.args.insert.now in
-    let same = c.new-setting.ensures in
-    let changes = c.in_ok-changed.changed.changes.items in
-    let after = g.S.Store.content_now c.complete.new.store in
-    let some : 0 < length changes = omega (arith, c.in_ok-changed.ensures.some, c.in_ok-changed.changed.changes.ok) in
-    when_done c.complete.result
-    (inserts seen (g.S.Store.row_numbers c.args.store.now) insert after changes c.in_ok-changed.ensures.insertions some
-    (rw (same.names, same.store, same.user, same.parameters) at c.in_ok-changed.ensures.made))
-    (subst (λ (l : Leaf). OnOk c.complete.result (after ≡ with_table content l.table.place (changed_by (table_at content l.table.place) changes))) c.get-leaf.ensures c.complete.ensures.ok)
-
 pub complete-requires-clause-keeps : goal.complete-requires-clause-keeps
 complete-requires-clause-keeps g c =
     let same = c.new-setting.ensures in
     rw (c.get-leaf.ensures, ← same.store) c.in_ok-changed.ensures.keeps
 
 pub returns-clause-meant : goal.returns-clause-meant
-returns-clause-meant g c = λ shown is held.
+returns-clause-meant g c = λ shown is.
     let names = c.args.names.now in
     let bases = g.N.Names.base_tables names in
     let content = g.S.Store.content_now c.args.store.now in
@@ -60,11 +41,11 @@ returns-clause-meant g c = λ shown is held.
     let changes = c.in_ok-changed.changed.changes.items in
     let after = g.S.Store.content_now c.complete.new.store in
     let made = rw (same.names, same.store, same.user, same.parameters) at c.in_ok-changed.ensures.made in
-    let done = rw c.get-leaf.ensures at (c.complete.ensures.meant c.requires.given.parameters shown (record { inputs = reads.inputs; there = reads.there; in_domains = reads.in_domains; meant = is }) held) in
+    let done = rw c.get-leaf.ensures at (c.complete.ensures.meant c.requires.given.parameters shown (record { inputs = reads.inputs; there = reads.there; in_domains = reads.in_domains; meant = is }) c.requires.constraints) in
     insert_meets shown seen bases after c.complete.result (g.S.Store.row_numbers c.args.store.now) insert changes c.in_ok-changed.ensures.insertions (made shown is) done
 
 pub returns-in_err-changed-clause-meant : goal.returns-in_err-changed-clause-meant
-returns-in_err-changed-clause-meant g c = λ shown is held.
+returns-in_err-changed-clause-meant g c = λ shown is.
     let names = c.args.names.now in
     let bases = g.N.Names.base_tables names in
     let content = g.S.Store.content_now c.args.store.now in

@@ -18,12 +18,12 @@ returns-clause-replacements g c =
     let setting = c.args.setting.now in
     let s : Seen = seen_by (g.N.Names.view_queries setting.names.now) (g.S.Store.content_now setting.store.now) setting.user setting.parameters.now in
     replacements_kept c.replaced-changes.result c.changed.result c.changed.ensures.changes s u c.args.on c.as_slice.result.now
-    (subst (Chosen s u.target c.args.on) (sym c.as_slice.ensures.value) c.in_ok-numbers.ensures.chosen)
+    (subst (Chosen s u.target c.args.on) (sym c.as_slice.ensures.value) c.in_ok-numbers.ensures.meant)
     c.replaced-changes.ensures.replacements
     (λ shown. rw (base_under u.target, ← c.leaf_under.ensures, ← c.get-table.ensures, ← c.as_slice-assignments.ensures) (c.replaced-changes.ensures.meant shown))
 
 pub returns-clause-meant : goal.returns-clause-meant
-returns-clause-meant g c = λ plain shown is.
+returns-clause-meant g c = λ shown is.
     let u = c.args.update.now in
     let setting = c.args.setting.now in
     let s : Seen = seen_by (g.N.Names.view_queries setting.names.now) (g.S.Store.content_now setting.store.now) setting.user setting.parameters.now in
@@ -32,16 +32,16 @@ returns-clause-meant g c = λ plain shown is.
     = changed_meets c.replaced-changes.result c.changed.result c.changed.ensures.changes _
     (rw (base_under u.target, ← c.leaf_under.ensures, ← c.get-table.ensures, ← c.as_slice-assignments.ensures, ← c.as_slice.ensures.value) (c.replaced-changes.ensures.meant shown))
     c.changed.ensures.fails in
-    rw (c.in_ok-numbers.ensures.meant plain shown is) made
+    rw (c.in_ok-numbers.ensures.meant shown is) made
 
 pub returns-in_err-numbers-clause-meant : goal.returns-in_err-numbers-clause-meant
-returns-in_err-numbers-clause-meant g c = λ plain shown is.
+returns-in_err-numbers-clause-meant g c = λ shown is.
     let u = c.args.update.now in
     let setting = c.args.setting.now in
     let s : Seen = seen_by (g.N.Names.view_queries setting.names.now) (g.S.Store.content_now setting.store.now) setting.user setting.parameters.now in
     let f = c.in_err-numbers.field-0.0 in
     stops_as changed_in c.from_residual.result f (numbers_changed shown s u.target c.args.on) (rows_updated shown s u.assignments (base_of u.target)) c.from_residual.ensures.1
-    (failed_as numbers_in f (numbers_changed shown s u.target c.args.on) (c.in_err-numbers.ensures.meant plain shown is))
+    (failed_as numbers_in f (numbers_changed shown s u.target c.args.on) (c.in_err-numbers.ensures.meant shown is))
 
 pub returns-clause-right : goal.returns-clause-right
 returns-clause-right g c = c.changed.ensures.right c.replaced-changes.ensures.right
@@ -61,7 +61,7 @@ returns-clause-keeps g c =
     let setting = c.args.setting.now in
     let s : Seen = seen_by (g.N.Names.view_queries setting.names.now) (g.S.Store.content_now setting.store.now) setting.user setting.parameters.now in
     let replacements = replacements_kept c.replaced-changes.result c.changed.result c.changed.ensures.changes s u c.args.on c.as_slice.result.now
-    (subst (Chosen s u.target c.args.on) (sym c.as_slice.ensures.value) c.in_ok-numbers.ensures.chosen)
+    (subst (Chosen s u.target c.args.on) (sym c.as_slice.ensures.value) c.in_ok-numbers.ensures.meant)
     c.replaced-changes.ensures.replacements
     (λ shown. rw (base_under u.target, ← c.leaf_under.ensures, ← c.get-table.ensures, ← c.as_slice-assignments.ensures) (c.replaced-changes.ensures.meant shown)) in
     replaced_rest c.keys_assigned.result c.changed.result c.changed.ensures.lost s u c.args.on (g.S.Store.row_numbers setting.store.now) (g.met.S.Store.rises setting.store.now) replacements

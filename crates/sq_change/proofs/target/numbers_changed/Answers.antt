@@ -14,14 +14,14 @@ use Rattle.sq_query.specs.Target.{AreNumbersOf, numbers_in}
 use Rattle.sq_query.proofs.Finds.{target_finds}
 use Rattle.sq_model.specs.Change.{if_some}
 use Rattle.sq_change.specs.Made.{Seen, Shown, numbers_changed, seen_by}
-use Rattle.sq_change.specs.Statement.{Chosen, IsPlain, IsShown}
-use Rattle.sq_change.proofs.Chosen.{found_so, none_found, only_number, some_found}
+use Rattle.sq_change.specs.Statement.{IsShown}
+use Rattle.sq_change.proofs.Chosen.{none_found, only_number, reads_shown, some_found}
 use Rattle.sq_change.proofs.Outcomes.{stops_as}
 use Rattle.sq_change.proofs.Endings.{ends_so}
 use Rattle.sq_change.proofs.target.numbers_changed.Goals as goal
 
-pub numbers_of-requires : goal.numbers_of-requires
-numbers_of-requires g c =
+pub numbers_of-requires-clause-finds : goal.numbers_of-requires-clause-finds
+numbers_of-requires-clause-finds g c =
     let names = c.args.setting.now.names.now in
     let may = c.requires.may in
     target_finds (g.N.Names.base_tables names) (g.N.Names.column_kinds names) may.reads.there may.parameters c.in-Searched.target
@@ -38,24 +38,6 @@ returns-else-is_empty-clause-there g c = λ on.
     subst (λ (u : ChangeTarget). AreNumbersOf (table_at content (under u).table.place) found.numbers.items) (sym c.in-Searched.is)
     (subst (λ (place : ℕ). AreNumbersOf (table_at content place) found.numbers.items) t.is_under there)
 
-pub returns-else-is_empty-clause-chosen : goal.returns-else-is_empty-clause-chosen
-returns-else-is_empty-clause-chosen g c =
-    let setting = c.args.setting.now in
-    let may = c.requires.may in
-    let t = c.in-Searched.target in
-    let found = c.in_ok-numbers-in-Searched in
-    let s : Seen = seen_by (g.N.Names.view_queries setting.names.now) (g.S.Store.content_now setting.store.now) setting.user setting.parameters.now in
-    let well : IsTarget (g.N.Names.column_kinds setting.names.now) may.parameters t
-    = subst (IsChangeTarget (g.N.Names.column_kinds setting.names.now) may.parameters) c.in-Searched.is may.target in
-    let some : 0 < length found.numbers.items = grind (arith, common_steps) in
-    subst (λ (u : ChangeTarget). Chosen s u c.args.on found.numbers.items) (sym c.in-Searched.is) (record {
-      some = some;
-      meant = λ plain shown is. some_found _ found.numbers.items some
-          (found_so (g.N.Names.base_tables setting.names.now) (g.N.Names.column_kinds setting.names.now) s may.parameters may.tables shown may.reads t well (Ok found.numbers) is
-          (λ no_key reads well. rw (← c.inputs.ensures.user, ← c.inputs.ensures.parameters) (found.ensures.meant no_key may.parameters shown (rw (c.inputs.ensures.user, c.inputs.ensures.parameters) reads) well))
-          (λ quiet. rw (← c.inputs.ensures.user, ← c.inputs.ensures.parameters) (found.ensures.keyed (rw (c.inputs.ensures.parameters) quiet))) plain);
-    })
-
 pub returns-else-is_empty-clause-meant : goal.returns-else-is_empty-clause-meant
 returns-else-is_empty-clause-meant g c =
     let setting = c.args.setting.now in
@@ -66,11 +48,9 @@ returns-else-is_empty-clause-meant g c =
     let well : IsTarget (g.N.Names.column_kinds setting.names.now) may.parameters t
     = subst (IsChangeTarget (g.N.Names.column_kinds setting.names.now) may.parameters) c.in-Searched.is may.target in
     let some : 0 < length found.numbers.items = grind (arith, common_steps) in
-    subst (λ (u : ChangeTarget). IsPlain u → (shown : Shown) → IsShown s shown → MeetsAs numbers_in (Ok found.numbers) (numbers_changed shown s u c.args.on)) (sym c.in-Searched.is)
-    (λ plain shown is. some_found _ found.numbers.items some
-    (found_so (g.N.Names.base_tables setting.names.now) (g.N.Names.column_kinds setting.names.now) s may.parameters may.tables shown may.reads t well (Ok found.numbers) is
-    (λ no_key reads well. rw (← c.inputs.ensures.user, ← c.inputs.ensures.parameters) (found.ensures.meant no_key may.parameters shown (rw (c.inputs.ensures.user, c.inputs.ensures.parameters) reads) well))
-    (λ quiet. rw (← c.inputs.ensures.user, ← c.inputs.ensures.parameters) (found.ensures.keyed (rw (c.inputs.ensures.parameters) quiet))) plain))
+    subst (λ (u : ChangeTarget). (shown : Shown) → IsShown s shown → MeetsAs numbers_in (Ok found.numbers) (numbers_changed shown s u c.args.on)) (sym c.in-Searched.is)
+    (λ shown is. some_found _ found.numbers.items some
+    (rw (← c.inputs.ensures.user, ← c.inputs.ensures.parameters) (found.ensures.meant may.parameters shown (rw (c.inputs.ensures.user, c.inputs.ensures.parameters) (reads_shown may.reads is)) well)))
 
 pub returns-then-is_empty-clause-meant : goal.returns-then-is_empty-clause-meant
 returns-then-is_empty-clause-meant g c =
@@ -82,12 +62,9 @@ returns-then-is_empty-clause-meant g c =
     let well : IsTarget (g.N.Names.column_kinds setting.names.now) may.parameters t
     = subst (IsChangeTarget (g.N.Names.column_kinds setting.names.now) may.parameters) c.in-Searched.is may.target in
     let none : length found.numbers.items ≡ 0 = grind (arith, common_steps) in
-    subst (λ (u : ChangeTarget). IsPlain u → (shown : Shown) → IsShown s shown
-    → MeetsAs {A = Vec ℕ Global} numbers_in (Err (fault.Status failure.NoData)) (numbers_changed shown s u c.args.on)) (sym c.in-Searched.is)
-    (λ plain shown is. none_found _ found.numbers none
-    (found_so (g.N.Names.base_tables setting.names.now) (g.N.Names.column_kinds setting.names.now) s may.parameters may.tables shown may.reads t well (Ok found.numbers) is
-    (λ no_key reads well. rw (← c.inputs.ensures.user, ← c.inputs.ensures.parameters) (found.ensures.meant no_key may.parameters shown (rw (c.inputs.ensures.user, c.inputs.ensures.parameters) reads) well))
-    (λ quiet. rw (← c.inputs.ensures.user, ← c.inputs.ensures.parameters) (found.ensures.keyed (rw (c.inputs.ensures.parameters) quiet))) plain))
+    subst (λ (u : ChangeTarget). (shown : Shown) → IsShown s shown → MeetsAs {A = Vec ℕ Global} numbers_in (Err (fault.Status failure.NoData)) (numbers_changed shown s u c.args.on)) (sym c.in-Searched.is)
+    (λ shown is. none_found _ found.numbers none
+    (rw (← c.inputs.ensures.user, ← c.inputs.ensures.parameters) (found.ensures.meant may.parameters shown (rw (c.inputs.ensures.user, c.inputs.ensures.parameters) (reads_shown may.reads is)) well)))
 
 pub returns-in_err-numbers-in-Searched-clause-meant : goal.returns-in_err-numbers-in-Searched-clause-meant
 returns-in_err-numbers-in-Searched-clause-meant g c =
@@ -99,14 +76,12 @@ returns-in_err-numbers-in-Searched-clause-meant g c =
     let well : IsTarget (g.N.Names.column_kinds setting.names.now) may.parameters t
     = subst (IsChangeTarget (g.N.Names.column_kinds setting.names.now) may.parameters) c.in-Searched.is may.target in
     let f = found.field-0.0 in
-    subst (λ (u : ChangeTarget). IsPlain u → (shown : Shown) → IsShown s shown → MeetsAs numbers_in c.from_residual.result (numbers_changed shown s u c.args.on)) (sym c.in-Searched.is)
-    (λ plain shown is. stops_as numbers_in c.from_residual.result f _ if_some c.from_residual.ensures.1 (failed_as numbers_in f _
-    (found_so (g.N.Names.base_tables setting.names.now) (g.N.Names.column_kinds setting.names.now) s may.parameters may.tables shown may.reads t well (Err f) is
-    (λ no_key reads well. rw (← c.inputs.ensures.user, ← c.inputs.ensures.parameters) (found.ensures.meant no_key may.parameters shown (rw (c.inputs.ensures.user, c.inputs.ensures.parameters) reads) well))
-    (λ quiet. rw (← c.inputs.ensures.user, ← c.inputs.ensures.parameters) (found.ensures.keyed (rw (c.inputs.ensures.parameters) quiet))) plain)))
+    subst (λ (u : ChangeTarget). (shown : Shown) → IsShown s shown → MeetsAs numbers_in c.from_residual.result (numbers_changed shown s u c.args.on)) (sym c.in-Searched.is)
+    (λ shown is. stops_as numbers_in c.from_residual.result f _ if_some c.from_residual.ensures.1 (failed_as numbers_in f _
+    (rw (← c.inputs.ensures.user, ← c.inputs.ensures.parameters) (found.ensures.meant may.parameters shown (rw (c.inputs.ensures.user, c.inputs.ensures.parameters) (reads_shown may.reads is)) well))))
 
 pub returns-in-Some-clause-meant : goal.returns-in-Some-clause-meant
-returns-in-Some-clause-meant g c = λ plain shown is.
+returns-in-Some-clause-meant g c = λ shown is.
     let setting = c.args.setting.now in
     let s : Seen = seen_by (g.N.Names.view_queries setting.names.now) (g.S.Store.content_now setting.store.now) setting.user setting.parameters.now in
     rw (c.in-Positioned.is, c.in-Some.is) (only_number c.in-Some.number c.only.result c.only.ensures.only c.only.ensures.memory)

@@ -1,36 +1,77 @@
+use Rattle.std.proofs.Common.{ℕ, ap, ◌∙◌}
 use Rattle.sq_store.specs.Content.{table_at}
-use Rattle.sq_store.specs.Keys.{key_at}
+use Rattle.sq_store.specs.Keys.{has_key, key_at}
+use Rattle.sq_store.specs.declared.table.Numbered.{Numbered}
+use Rattle.sq_meaning.specs.WellFormed.{IsRowOf}
+use Rattle.sq_bound.specs.WellFormed.{base_kinds}
+use Rattle.sq_bound.specs.declared.condition.TablePlace.TheVariants.{Base}
 use Rattle.sq_query.specs.Target.{numbers_in}
-use Rattle.sq_query.proofs.KeyedRows.{one_chosen, not_failed, none_chosen}
-use Rattle.sq_query.proofs.KnownConditions.{ends_so, found_right, memory_ends}
+use Rattle.sq_query.proofs.KeySearch.{none_found, one_fails, one_found}
+use Rattle.sq_query.proofs.KnownConditions.{ends_so, found_right, memory_ends, rows_fit}
 use Rattle.sq_query.proofs.NumbersThere.{only_there}
+use Rattle.sq_query.proofs.OnlyOne.{found_is}
+use Rattle.sq_query.proofs.TargetRows.{conditions_on_row}
 use Rattle.sq_expression.proofs.Views.{handed_on_as}
 use Rattle.sq_query.proofs.target.numbers_by_key.Goals as goal
 
-pub returns-in_err-is_chosen-in-Some-clause-keyed : goal.returns-in_err-is_chosen-in-Some-clause-keyed
-returns-in_err-is_chosen-in-Some-clause-keyed g c = λ over plain tables.
+pub returns-in_err-is_chosen-in-Some-clause-meant : goal.returns-in_err-is_chosen-in-Some-clause-meant
+returns-in_err-is_chosen-in-Some-clause-meant g c = λ parameters tables may well.
     let store = c.args.store.now in
     let names = c.args.names.now in
+    let call = c.args.call.now in
+    let t = c.args.target.now in
+    let known = c.args.known.now in
+    let content = g.S.Store.content_now store in
+    let keys = g.S.Store.key_columns store in
+    let bases = g.N.Names.base_tables names in
+    let views = g.N.Names.view_queries names in
+    let columns = g.N.Names.column_kinds names in
+    let rows_are = rows_fit bases views columns content call.user call.parameters.now (g.met.N.Names.kinds_of_bases names) (g.met.N.Names.kinds_of_views names) parameters tables may t.base c.requires.key.table
+    (base_kinds t.leaf.table) (ap (λ (p : ℕ). columns (Base p)) t.is_under ∙ well.leaf.kinds_are) in
+    let r : Numbered = record { number = c.in-Some.number; row = c.in-Some.row.now } in
+    let is_row = found_is (λ (s : Numbered). IsRowOf (base_kinds t.leaf.table) s.row) (has_key (key_at keys t.base known.key) known.values) (table_at content t.base).rows r rows_are c.in-Some.ensures.row in
+    let on = conditions_on_row columns parameters t r.row well is_row in
     let e = c.in_err-is_chosen-in-Some.field-0.0 in
     handed_on_as numbers_in c.from_residual.result e _ c.from_residual.ensures.1
-    (not_failed (g.N.Names.column_kinds names) (g.N.Names.base_tables names) (g.S.Store.content_now store) c.args.call.now.parameters.now c.args.call.now.user c.args.target.now (g.met.N.Names.kinds_of_bases names) plain tables over
-    (g.S.Store.key_columns store) c.args.known.now (g.met.S.Store.keyed store) c.requires.key (record { number = c.in-Some.number; row = c.in-Some.row.now }) c.in-Some.ensures.row
-    e c.in_err-is_chosen-in-Some.ensures.plain)
+    (one_fails tables columns parameters call.parameters.now call.user may.inputs bases content keys t known c.requires.key well c.requires.base c.requires.keys c.requires.not_null rows_are (g.met.S.Store.keyed store) r c.in-Some.ensures.row
+    e (c.in_err-is_chosen-in-Some.ensures.meant parameters tables may on))
 
-pub returns-in_ok-is_chosen-in-Some-clause-keyed : goal.returns-in_ok-is_chosen-in-Some-clause-keyed
-returns-in_ok-is_chosen-in-Some-clause-keyed g c = λ over plain tables.
+pub returns-in_ok-is_chosen-in-Some-clause-meant : goal.returns-in_ok-is_chosen-in-Some-clause-meant
+returns-in_ok-is_chosen-in-Some-clause-meant g c = λ parameters tables may well.
     let store = c.args.store.now in
     let names = c.args.names.now in
-    one_chosen (g.N.Names.column_kinds names) (g.N.Names.base_tables names) (g.S.Store.content_now store) c.args.call.now.parameters.now c.args.call.now.user c.args.target.now (g.met.N.Names.kinds_of_bases names) plain tables over
-    (g.S.Store.key_columns store) c.args.known.now (g.met.S.Store.keyed store) c.requires.key (record { number = c.in-Some.number; row = c.in-Some.row.now }) c.in-Some.ensures.row
-    c.in_ok-is_chosen-in-Some.is_chosen c.number_if.result c.in_ok-is_chosen-in-Some.ensures.plain c.number_if.ensures.numbers c.number_if.ensures.memory
+    let call = c.args.call.now in
+    let t = c.args.target.now in
+    let known = c.args.known.now in
+    let content = g.S.Store.content_now store in
+    let keys = g.S.Store.key_columns store in
+    let bases = g.N.Names.base_tables names in
+    let views = g.N.Names.view_queries names in
+    let columns = g.N.Names.column_kinds names in
+    let rows_are = rows_fit bases views columns content call.user call.parameters.now (g.met.N.Names.kinds_of_bases names) (g.met.N.Names.kinds_of_views names) parameters tables may t.base c.requires.key.table
+    (base_kinds t.leaf.table) (ap (λ (p : ℕ). columns (Base p)) t.is_under ∙ well.leaf.kinds_are) in
+    let r : Numbered = record { number = c.in-Some.number; row = c.in-Some.row.now } in
+    let is_row = found_is (λ (s : Numbered). IsRowOf (base_kinds t.leaf.table) s.row) (has_key (key_at keys t.base known.key) known.values) (table_at content t.base).rows r rows_are c.in-Some.ensures.row in
+    let on = conditions_on_row columns parameters t r.row well is_row in
+    one_found tables columns parameters call.parameters.now call.user may.inputs bases content keys t known c.requires.key well c.requires.base c.requires.keys c.requires.not_null rows_are (g.met.S.Store.keyed store) r c.in-Some.ensures.row
+    c.in_ok-is_chosen-in-Some.is_chosen c.number_if.result (c.in_ok-is_chosen-in-Some.ensures.meant parameters tables may on) c.number_if.ensures.numbers c.number_if.ensures.memory
 
-pub returns-in-None-clause-keyed : goal.returns-in-None-clause-keyed
-returns-in-None-clause-keyed g c = λ over plain tables.
+pub returns-in-None-clause-meant : goal.returns-in-None-clause-meant
+returns-in-None-clause-meant g c = λ parameters tables may well.
     let store = c.args.store.now in
     let names = c.args.names.now in
-    none_chosen (g.N.Names.column_kinds names) (g.N.Names.base_tables names) (g.S.Store.content_now store) c.args.call.now.parameters.now c.args.call.now.user c.args.target.now (g.met.N.Names.kinds_of_bases names) plain tables over
-    (g.S.Store.key_columns store) c.args.known.now (g.met.S.Store.keyed store) c.requires.key c.new.result c.in-None.ensures.row c.new.ensures.items
+    let call = c.args.call.now in
+    let t = c.args.target.now in
+    let known = c.args.known.now in
+    let content = g.S.Store.content_now store in
+    let keys = g.S.Store.key_columns store in
+    let bases = g.N.Names.base_tables names in
+    let views = g.N.Names.view_queries names in
+    let columns = g.N.Names.column_kinds names in
+    let rows_are = rows_fit bases views columns content call.user call.parameters.now (g.met.N.Names.kinds_of_bases names) (g.met.N.Names.kinds_of_views names) parameters tables may t.base c.requires.key.table
+    (base_kinds t.leaf.table) (ap (λ (p : ℕ). columns (Base p)) t.is_under ∙ well.leaf.kinds_are) in
+    none_found tables columns parameters call.parameters.now call.user may.inputs bases content keys t known c.requires.key well c.requires.base c.requires.keys c.requires.not_null rows_are (g.met.S.Store.keyed store)
+    c.new.result c.in-None.ensures.row c.new.ensures.items
 
 pub returns-in_err-is_chosen-in-Some-clause-right : goal.returns-in_err-is_chosen-in-Some-clause-right
 returns-in_err-is_chosen-in-Some-clause-right g c = λ parameters tables may well.

@@ -9,8 +9,8 @@ use Rattle.sq_session.proofs.Opened.{numbers_answered, over_fault_of_numbers, ov
 use Rattle.sq_session.proofs.Reading.{may_read, some_tables}
 use Rattle.sq_session.proofs.open.opened_over_numbers.Goals as goal
 
-pub numbers_of-found-requires : goal.numbers_of-found-requires
-numbers_of-found-requires g c =
+pub numbers_of-found-requires-clause-finds : goal.numbers_of-found-requires-clause-finds
+numbers_of-found-requires-clause-finds g c =
     let called = c.args.called.now in
     target_finds called.catalog.now.bases (column_kinds called.catalog.now) (bases_there called.catalog.now) (kinds_of_parameters called.procedure.now.parameters) c.args.target.now c.requires.asked
 
@@ -25,7 +25,7 @@ returns-in-Ok-clause-opened g c =
     over_numbers schemas c.args.target.now called.procedure.now.user called.values.now tables c.from_vec.result
     (numbers_answered schemas c.args.target.now inputs.user called.procedure.now.user inputs.parameters.now called.values.now tables c.in-Ok.numbers c.from_vec.result
     c.inputs.ensures.user c.inputs.ensures.parameters c.from_vec.ensures
-    (λ keyless shown are. c.in-Ok.ensures.meant keyless kinds shown (may_read called.catalog.now tables inputs.user kinds inputs.parameters.now given c.requires.domains shown are) c.requires.asked))
+    (λ shown are. c.in-Ok.ensures.meant kinds shown (may_read called.catalog.now tables inputs.user kinds inputs.parameters.now given c.requires.domains shown are) c.requires.asked))
 
 pub returns-in-Err-clause-opened : goal.returns-in-Err-clause-opened
 returns-in-Err-clause-opened g c =
@@ -37,7 +37,7 @@ returns-in-Err-clause-opened g c =
     let tables = g.S.Store.content_now c.args.store.now in
     over_fault_of_numbers schemas c.args.target.now inputs.user called.procedure.now.user inputs.parameters.now called.values.now tables c.in-Err.fault
     c.inputs.ensures.user c.inputs.ensures.parameters
-    (λ keyless shown are. c.in-Err.ensures.meant keyless kinds shown (may_read called.catalog.now tables inputs.user kinds inputs.parameters.now given c.requires.domains shown are) c.requires.asked)
+    (λ shown are. c.in-Err.ensures.meant kinds shown (may_read called.catalog.now tables inputs.user kinds inputs.parameters.now given c.requires.domains shown are) c.requires.asked)
 
 pub returns-in-Err-clause-right : goal.returns-in-Err-clause-right
 returns-in-Err-clause-right g c =

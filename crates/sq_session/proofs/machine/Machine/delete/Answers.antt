@@ -1,4 +1,4 @@
-use Rattle.std.proofs.Common.{◌≡◌, ◌∙◌, List, true, Ok, Err, ap, refl, rules, slice_set, subst, sym}
+use Rattle.std.proofs.Common.{◌≡◌, ◌∙◌, List, Ok, Err, ap, refl, rules, slice_set, subst, sym}
 use Rattle.std.specs.List.{slice_index_or}
 use Rattle.std.proofs.lemmas.List.{places, with_items_is}
 use Rattle.sq_value.specs.declared.value.Value.{Value}
@@ -7,20 +7,19 @@ use Rattle.sq_bound.specs.Fits.{AreInDomains}
 use Rattle.sq_bound.specs.WellFormed.{kinds_of_parameters}
 use Rattle.sq_bound.specs.declared.statement.ChangeTarget.{ChangeTarget}
 use Rattle.sq_bound.specs.declared.statement.ChangeTarget.TheVariants as target
-use Rattle.sq_change.specs.Constraints.{constraints_hold}
 use Rattle.sq_change.specs.Made.{Shown}
 use Rattle.sq_change.specs.Performed.{delete_outcome}
-use Rattle.sq_change.specs.Statement.{Deletes, IsPlain, IsShown}
+use Rattle.sq_change.specs.Statement.{IsShown}
 use Rattle.sq_expression.specs.Fault.{Meets}
 use Rattle.sq_expression.proofs.Views.{failed_as}
 use Rattle.sq_session.specs.Kind.{Caller, caller_of}
 use Rattle.sq_session.specs.Parameter.{AreGiven}
 use Rattle.sq_session.specs.Schemas.{schemas_of}
-use Rattle.sq_session.specs.Step.{seen_by}
+use Rattle.sq_session.specs.Step.{seen_in}
 use Rattle.sq_session.specs.State.{State, cursor_at, off_row, with_cursor}
 use Rattle.sq_session.specs.declared.cursor.CursorState.{CursorState}
 use Rattle.sq_session.specs.declared.cursor.CursorState.TheVariants as cursor
-use Rattle.sq_session.proofs.Changing.{deletes_done, deletes_not, left_row, same_but_tables}
+use Rattle.sq_session.proofs.Changing.{deletes_done, deletes_not, left_behind, same_but_tables}
 use Rattle.sq_session.proofs.Ending.{fault_right}
 use Rattle.sq_session.proofs.Asking.{may_choose}
 use Rattle.sq_session.proofs.machine.Machine.delete.Goals as goal
@@ -45,13 +44,12 @@ returns-in-Err-clause-step g c =
     let caller : Caller = caller_of called.procedure.now.user called.procedure.now.parameters in
     let t = c.args.target.now in
     let on = c.in_ok-on.on in
-    let constraints = subst (λ (m : State). constraints_hold called.catalog.now.bases m.tables ≡ true) (sym c.self.view_is) c.requires.whole.7 in
     let after = g.S.Store.content_now c.delete-deleted.new.store in
     let meant = rw (c.in-Err.is, c.inputs.ensures.user, c.inputs.ensures.parameters) at c.delete-deleted.ensures.meant in
     deletes_not schemas called.values.now c.args.self.now _ caller t on c.in-Err.fault c.in_ok-on.ensures.on (sym c.in_ok-on.ensures.ready) (search rules)
-    (subst (λ (m : State). IsPlain t → (shown : Shown) → IsShown (seen_by schemas caller called.values.now m.tables) shown
-    → Meets {A = Content} (Err c.in-Err.fault) (delete_outcome shown (seen_by schemas caller called.values.now m.tables) schemas.bases t on)) c.self.view_is
-    (λ plain shown is. failed_as (λ (u : Unit {0}). after) c.in-Err.fault _ (meant plain shown is constraints)))
+    (subst (λ (m : State). (shown : Shown) → IsShown (seen_in schemas caller called.values.now m.tables) shown
+    → Meets {A = Content} (Err c.in-Err.fault) (delete_outcome shown (seen_in schemas caller called.values.now m.tables) schemas.bases t on)) c.self.view_is
+    (λ shown is. failed_as (λ (u : Unit {0}). after) c.in-Err.fault _ (meant shown is)))
 
 pub returns-clause-step : goal.returns-clause-step
 returns-clause-step g c =
@@ -64,19 +62,15 @@ returns-clause-step g c =
     let t = c.args.target.now in
     let on = c.in_ok-on.on in
     let content = g.S.Store.content_now c.delete-deleted.new.store in
-    let deletes = rw (c.in_default.is, c.inputs.ensures.user, c.inputs.ensures.parameters) at c.delete-deleted.ensures.ok in
-    let constraints = subst (λ (m : State). constraints_hold called.catalog.now.bases m.tables ≡ true) (sym c.self.view_is) c.requires.whole.7 in
     let meant = rw (c.in_default.is, c.inputs.ensures.user, c.inputs.ensures.parameters) at c.delete-deleted.ensures.meant in
-    let done = λ (x : ChangeTarget) (is : t ≡ x) (same : a ≡ record (left_row b x) { tables = a.tables }) (tables : content ≡ a.tables).
+    let done = λ (x : ChangeTarget) (is : t ≡ x) (same : a ≡ record (left_behind b x) { tables = a.tables }) (tables : content ≡ a.tables).
     deletes_done schemas values b a caller t on c.successful.result c.in_ok-on.ensures.on (sym c.in_ok-on.ensures.ready) c.successful.ensures
-    (subst (λ (y : ChangeTarget). a ≡ record (left_row b y) { tables = a.tables }) (sym is) same)
-    (subst (λ (x : Content). Deletes (seen_by schemas caller values b.tables) t on x) tables
-    (subst (λ (m : State). Deletes (seen_by schemas caller values m.tables) t on content) c.self.view_is deletes))
-    (subst (λ (x : Content). IsPlain t → (shown : Shown) → IsShown (seen_by schemas caller values b.tables) shown
-    → delete_outcome shown (seen_by schemas caller values b.tables) schemas.bases t on ≡ Ok x) tables
-    (subst (λ (m : State). IsPlain t → (shown : Shown) → IsShown (seen_by schemas caller values m.tables) shown
-    → delete_outcome shown (seen_by schemas caller values m.tables) schemas.bases t on ≡ Ok content) c.self.view_is
-    (λ plain shown is. meant plain shown is constraints))) in
+    (subst (λ (y : ChangeTarget). a ≡ record (left_behind b y) { tables = a.tables }) (sym is) same)
+    (subst (λ (x : Content). (shown : Shown) → IsShown (seen_in schemas caller values b.tables) shown
+    → delete_outcome shown (seen_in schemas caller values b.tables) schemas.bases t on ≡ Ok x) tables
+    (subst (λ (m : State). (shown : Shown) → IsShown (seen_in schemas caller values m.tables) shown
+    → delete_outcome shown (seen_in schemas caller values m.tables) schemas.bases t on ≡ Ok content) c.self.view_is
+    (λ shown is. meant shown is))) in
     elim c.match-target.branch [
       | in-Positioned w ↦
           let p = w.in-Positioned.positioned in

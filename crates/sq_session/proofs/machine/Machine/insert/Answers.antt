@@ -1,19 +1,18 @@
-use Rattle.std.proofs.Common.{◌≡◌, List, true, Ok, Err, rules, subst, sym}
+use Rattle.std.proofs.Common.{◌≡◌, List, Ok, Err, rules, subst, sym}
 use Rattle.sq_value.specs.declared.value.Value.{Value}
 use Rattle.sq_bound.specs.Fits.{AreInDomains}
 use Rattle.sq_bound.specs.WellFormed.{kinds_of_parameters}
 use Rattle.sq_module.specs.Program.{kinds_of_cursors}
 use Rattle.sq_store.specs.Content.{Content}
-use Rattle.sq_change.specs.Constraints.{constraints_hold}
 use Rattle.sq_change.specs.Made.{Shown}
 use Rattle.sq_change.specs.Performed.{insert_outcome}
-use Rattle.sq_change.specs.Statement.{Inserts, IsShown}
+use Rattle.sq_change.specs.Statement.{IsShown}
 use Rattle.sq_expression.specs.Fault.{Meets}
 use Rattle.sq_expression.proofs.Views.{failed_as}
 use Rattle.sq_session.specs.Kind.{Caller, caller_of}
 use Rattle.sq_session.specs.Parameter.{AreGiven}
 use Rattle.sq_session.specs.Schemas.{schemas_of}
-use Rattle.sq_session.specs.Step.{seen_by}
+use Rattle.sq_session.specs.Step.{seen_in}
 use Rattle.sq_session.specs.State.{State}
 use Rattle.sq_session.proofs.Asking.{may_give}
 use Rattle.sq_session.proofs.Changing.{inserts_done, inserts_not}
@@ -40,13 +39,12 @@ returns-in-Err-clause-step g c =
     let called = c.args.called.now in
     let schemas = schemas_of called.catalog.now in
     let caller : Caller = caller_of called.procedure.now.user called.procedure.now.parameters in
-    let constraints = subst (λ (m : State). constraints_hold called.catalog.now.bases m.tables ≡ true) (sym c.self.view_is) c.requires.whole.7 in
     let after = g.S.Store.content_now c.insert-inserted.new.store in
     let meant = rw (c.in-Err.is, c.inputs.ensures.user, c.inputs.ensures.parameters) at c.insert-inserted.ensures.meant in
     inserts_not schemas called.values.now c.args.self.now _ caller c.args.statement.now c.in-Err.fault (search rules)
-    (subst (λ (m : State). (shown : Shown) → IsShown (seen_by schemas caller called.values.now m.tables) shown
-    → Meets {A = Content} (Err c.in-Err.fault) (insert_outcome shown (seen_by schemas caller called.values.now m.tables) schemas.bases m.row_numbers c.args.statement.now)) c.self.view_is
-    (λ shown is. failed_as (λ (u : Unit {0}). after) c.in-Err.fault _ (meant shown is constraints)))
+    (subst (λ (m : State). (shown : Shown) → IsShown (seen_in schemas caller called.values.now m.tables) shown
+    → Meets {A = Content} (Err c.in-Err.fault) (insert_outcome shown (seen_in schemas caller called.values.now m.tables) schemas.bases m.row_numbers c.args.statement.now)) c.self.view_is
+    (λ shown is. failed_as (λ (u : Unit {0}). after) c.in-Err.fault _ (meant shown is)))
 
 pub returns-clause-step : goal.returns-clause-step
 returns-clause-step g c =
@@ -54,11 +52,8 @@ returns-clause-step g c =
     let schemas = schemas_of called.catalog.now in
     let caller : Caller = caller_of called.procedure.now.user called.procedure.now.parameters in
     let after = g.S.Store.content_now c.insert-inserted.new.store in
-    let inserts = rw (c.in_default.is, c.inputs.ensures.user, c.inputs.ensures.parameters) at c.insert-inserted.ensures.ok in
-    let constraints = subst (λ (m : State). constraints_hold called.catalog.now.bases m.tables ≡ true) (sym c.self.view_is) c.requires.whole.7 in
     let meant = rw (c.in_default.is, c.inputs.ensures.user, c.inputs.ensures.parameters) at c.insert-inserted.ensures.meant in
     inserts_done schemas called.values.now c.args.self.now _ caller c.args.statement.now c.successful.result c.successful.ensures (search rules)
-    (subst (λ (m : State). Inserts (seen_by schemas caller called.values.now m.tables) m.row_numbers c.args.statement.now after) c.self.view_is inserts)
-    (subst (λ (m : State). (shown : Shown) → IsShown (seen_by schemas caller called.values.now m.tables) shown
-    → insert_outcome shown (seen_by schemas caller called.values.now m.tables) schemas.bases m.row_numbers c.args.statement.now ≡ Ok after) c.self.view_is
-    (λ shown is. meant shown is constraints))
+    (subst (λ (m : State). (shown : Shown) → IsShown (seen_in schemas caller called.values.now m.tables) shown
+    → insert_outcome shown (seen_in schemas caller called.values.now m.tables) schemas.bases m.row_numbers c.args.statement.now ≡ Ok after) c.self.view_is
+    (λ shown is. meant shown is))

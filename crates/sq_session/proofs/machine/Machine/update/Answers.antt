@@ -1,4 +1,4 @@
-use Rattle.std.proofs.Common.{◌≡◌, ◌∙◌, List, true, Ok, Err, ap, rules, subst, sym}
+use Rattle.std.proofs.Common.{◌≡◌, ◌∙◌, List, Ok, Err, ap, rules, subst, sym}
 use Rattle.std.proofs.lemmas.List.{places, with_items_is}
 use Rattle.sq_value.specs.declared.value.Value.{Value}
 use Rattle.std.specs.Prelude.{IfSome, IsSome}
@@ -7,16 +7,15 @@ use Rattle.sq_bound.specs.Fits.{AreInDomains, under}
 use Rattle.sq_bound.specs.WellFormed.{kinds_of_parameters}
 use Rattle.sq_catalog.specs.Catalog.{column_kinds}
 use Rattle.sq_module.specs.Program.{kinds_of_cursors}
-use Rattle.sq_change.specs.Constraints.{constraints_hold}
 use Rattle.sq_change.specs.Made.{Shown}
 use Rattle.sq_change.specs.Performed.{update_outcome}
-use Rattle.sq_change.specs.Statement.{IsPlain, IsShown, Updates}
+use Rattle.sq_change.specs.Statement.{IsShown}
 use Rattle.sq_expression.specs.Fault.{Meets}
 use Rattle.sq_expression.proofs.Views.{failed_as}
 use Rattle.sq_session.specs.Kind.{Caller, caller_of, updating}
 use Rattle.sq_session.specs.Parameter.{AreGiven}
 use Rattle.sq_session.specs.Schemas.{schemas_of}
-use Rattle.sq_session.specs.Step.{seen_by, walks_listed}
+use Rattle.sq_session.specs.Step.{seen_in, walks_listed}
 use Rattle.sq_session.specs.State.{State}
 use Rattle.sq_session.proofs.Asking.{may_assign, may_choose}
 use Rattle.sq_session.specs.Cursors.{go_on, put_all}
@@ -55,13 +54,12 @@ returns-in-Err-clause-step g c =
     let caller : Caller = caller_of called.procedure.now.user called.procedure.now.parameters in
     let u = updating called.cursors.now caller c.args.statement.now in
     let on = c.in_ok-on.on in
-    let constraints = subst (λ (m : State). constraints_hold called.catalog.now.bases m.tables ≡ true) (sym c.self.view_is) c.requires.whole.7 in
     let after = g.S.Store.content_now c.update-updated.new.store in
     let meant = rw (c.in-Err.is, c.inputs.ensures.user, c.inputs.ensures.parameters) at c.update-updated.ensures.meant in
     updates_not schemas called.values.now c.args.self.now _ u c.args.statement.now.target on c.in-Err.fault c.in_ok-on.ensures.on (sym c.in_ok-on.ensures.ready) (search rules)
-    (subst (λ (m : State). IsPlain c.args.statement.now.target → (shown : Shown) → IsShown (seen_by schemas caller called.values.now m.tables) shown
-    → Meets {A = Content} (Err c.in-Err.fault) (update_outcome shown (seen_by schemas caller called.values.now m.tables) schemas.bases c.args.statement.now on)) c.self.view_is
-    (λ plain shown is. failed_as (λ (u : Unit {0}). after) c.in-Err.fault _ (meant plain shown is constraints)))
+    (subst (λ (m : State). (shown : Shown) → IsShown (seen_in schemas caller called.values.now m.tables) shown
+    → Meets {A = Content} (Err c.in-Err.fault) (update_outcome shown (seen_in schemas caller called.values.now m.tables) schemas.bases c.args.statement.now on)) c.self.view_is
+    (λ shown is. failed_as (λ (u : Unit {0}). after) c.in-Err.fault _ (meant shown is)))
 
 pub returns-in-Ok-clause-step : goal.returns-in-Ok-clause-step
 returns-in-Ok-clause-step g c =
@@ -73,8 +71,6 @@ returns-in-Ok-clause-step g c =
     let b : State = c.args.self.now in
     let on = c.in_ok-on.on in
     let content = g.S.Store.content_now c.update-updated.new.store in
-    let updates = rw (c.in-Ok.is, c.inputs.ensures.user, c.inputs.ensures.parameters) at c.update-updated.ensures.ok in
-    let constraints = subst (λ (m : State). constraints_hold called.catalog.now.bases m.tables ≡ true) (sym c.self.view_is) c.requires.whole.7 in
     let meant = rw (c.in-Ok.is, c.inputs.ensures.user, c.inputs.ensures.parameters) at c.update-updated.ensures.meant in
     let lists = rw c.as_slice.ensures.value at c.in_ok-lists.ensures.lists in
     let cursors = with_items_is c.self.inside.cursors c.put_lists.new.cursors (search (rules, places, put_as_many)) ∙ (c.put_lists.ensures
@@ -82,7 +78,6 @@ returns-in-Ok-clause-step g c =
     ∙ ap (λ (m : State). go_on c.args.statement.now m.tables called.cursors.now m.cursors) c.self.view_is))) in
     updates_done schemas values b _ u c.args.statement.now.target on c.successful.result c.in_ok-on.ensures.on (sym c.in_ok-on.ensures.ready) c.successful.ensures
     (same_but_tables _ (walks_listed u b) (search rules) (search rules) (search rules) cursors)
-    (subst (λ (m : State). Updates (seen_by schemas caller values m.tables) c.args.statement.now on content) c.self.view_is updates)
-    (subst (λ (m : State). IsPlain c.args.statement.now.target → (shown : Shown) → IsShown (seen_by schemas caller values m.tables) shown
-    → update_outcome shown (seen_by schemas caller values m.tables) schemas.bases c.args.statement.now on ≡ Ok content) c.self.view_is
-    (λ plain shown is. meant plain shown is constraints))
+    (subst (λ (m : State). (shown : Shown) → IsShown (seen_in schemas caller values m.tables) shown
+    → update_outcome shown (seen_in schemas caller values m.tables) schemas.bases c.args.statement.now on ≡ Ok content) c.self.view_is
+    (λ shown is. meant shown is))

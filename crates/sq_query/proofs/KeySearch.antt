@@ -1,0 +1,424 @@
+-- What a search by a key finds is what a search over all rows finds: on each row without the key one of the first tests is false, and
+-- those before it have a truth.
+use Rattle.std.proofs.Common.{◌≡◌, ℕ, zero, suc, ◌+◌, ◌<◌, Bool, true, false, not, ◌&&◌, List, [], ◌∷◌, length, map, take, cond, find, nat_eq, nat_le, slice_get, slice_index_or, IfSome, nat_lt, Option, Some, None, Vec, Global, Result, refl, sym, ap, subst, ◌∙◌, arith, Ok, Err}
+use Rattle.std.specs.Prelude.{IfErr, IfOk, if◌then◌else◌, option_to_list}
+use Rattle.std.specs.Cmp.Lexicographic.{pointwise}
+use Rattle.std.specs.List.{AllByRecursion, enumerate_from, list_all, list_any, zip}
+use Rattle.std.proofs.lemmas.Bool.{eqb-true, ltb-true}
+use Rattle.std.proofs.lemmas.List.{take-map}
+use Rattle.sq_lex.specs.declared.name.Name.{Name}
+use Rattle.sq_value.specs.Comparison.{is_same}
+use Rattle.sq_value.specs.Key.{in_columns}
+use Rattle.sq_value.specs.declared.domain.Kind.{Kind}
+use Rattle.sq_value.specs.declared.truth.Truth.{Truth}
+use Rattle.sq_value.specs.declared.truth.Truth.TheVariants.{False}
+use Rattle.sq_value.specs.declared.value.Value.{Value}
+use Rattle.sq_store.specs.Content.{Content, table_at}
+use Rattle.sq_store.specs.Keys.{Keys, are_keyed, has_key, key_at, keys_at, with_key}
+use Rattle.sq_store.specs.declared.table.Numbered.{Numbered}
+use Rattle.sq_tree.specs.declared.cond.Comparison.TheVariants as comparison
+use Rattle.sq_meaning.specs.Status.{Outcome, and_then, kept}
+use Rattle.sq_meaning.specs.Syntax.{added, between, bracketed, column, compare, compare_quantified, compare_subquery, conds, conjunction, count_rows, disjunction, exists, in_list, in_subquery, is_null, like, literal, negated, parameter, scaled, set_function, signed, user}
+use Rattle.sq_meaning.specs.Environment.{Env, Row}
+use Rattle.sq_meaning.specs.Placed.{by_place}
+use Rattle.sq_meaning.specs.Query.{all_truth, and_also, is_true, or_else, truth}
+use Rattle.sq_meaning.specs.Quiet.{is_quiet, is_quiet_expr}
+use Rattle.sq_meaning.specs.WellFormed.{Has, HasValue, IsDeclaredAt, IsRowOf, WellFormedConds, kinds_by_place}
+use Rattle.sq_bound.specs.Condition.{PlacedCond, cond_of, conj_of, test_of}
+use Rattle.sq_bound.specs.Expression.{PlacedExpr, expr_of}
+use Rattle.sq_bound.specs.Fits.{IsBase, has_its_values, keys_of_bases, lacks_value, not_nulls_hold}
+use Rattle.sq_bound.specs.Keyed.{column_named, is_constant, is_named_by, names_column, names_key, names_one_of, start_with_key}
+use Rattle.sq_bound.specs.Names.{option_all}
+use Rattle.sq_bound.specs.NotNull.{are_not_null, is_not_null}
+use Rattle.sq_bound.specs.WellFormed.{IsCond, IsTarget, TableKinds, base_kinds, of_base_at}
+use Rattle.sq_bound.specs.declared.condition.BoundCond.{BoundCond, out-BoundCond}
+use Rattle.sq_bound.specs.declared.condition.BoundConj.{BoundConj, out-BoundConj}
+use Rattle.sq_bound.specs.declared.condition.BoundTest.{BoundTest}
+use Rattle.sq_bound.specs.declared.condition.TablePlace.{TablePlace}
+use Rattle.sq_bound.specs.declared.condition.TablePlace.TheVariants.{Base}
+use Rattle.sq_bound.specs.declared.names.BaseColumn.{BaseColumn}
+use Rattle.sq_bound.specs.declared.names.BaseTable.{BaseTable}
+use Rattle.sq_bound.specs.declared.query.Target.{Target}
+use Rattle.sq_bound.proofs.ConditionLaws.{cond_of-out, conj_of-out}
+use Rattle.sq_bound.proofs.QuietRows.{no_tables}
+use Rattle.sq_bound.proofs.QuietTruths.{both_left, both_right}
+use Rattle.sq_expression.specs.Fault.{Meets, MeetsAs}
+use Rattle.sq_expression.specs.declared.fault.Fault.{Fault}
+use Rattle.sq_expression.specs.declared.fault.Fault.TheVariants as fault
+use Rattle.sq_condition.proofs.Conditions.{neither_left, neither_right}
+use Rattle.sq_query.specs.Key.{IsComparedWith, IsKeyOf}
+use Rattle.sq_query.specs.Row.{outside, truth_on_row}
+use Rattle.sq_query.specs.Table.{stored_numbered}
+use Rattle.sq_query.specs.Target.{and_own, are_true, conditions_of, is_true_of, numbers_chosen, numbers_in}
+use Rattle.sq_query.specs.declared.key.KnownKey.{KnownKey}
+use Rattle.sq_query.proofs.KeyLacked.{IsTestOn, all_also, first_false, lacked, test_answers, test_false, value_there}
+use Rattle.sq_query.proofs.KeyedRows.{there_so}
+use Rattle.sq_query.proofs.OnlyOne.{AtMostOne, at_most_one, distinct_at}
+
+-- ---- tests that name a column are quiet
+
+constant_quiet : (x : PlacedExpr) → is_constant x ≡ true → is_quiet_expr x ≡ true
+constant_quiet (literal v) h = refl
+constant_quiet (parameter p) h = refl
+constant_quiet user h = cc
+constant_quiet (column p) h = cc
+constant_quiet count_rows h = cc
+constant_quiet (set_function f d e) h = cc
+constant_quiet (signed s (literal v)) h = refl
+constant_quiet (signed s (parameter p)) h = cc
+constant_quiet (signed s user) h = cc
+constant_quiet (signed s (column p)) h = cc
+constant_quiet (signed s count_rows) h = cc
+constant_quiet (signed s (set_function f d e)) h = cc
+constant_quiet (signed s (signed r e)) h = cc
+constant_quiet (signed s (added r a b)) h = cc
+constant_quiet (signed s (scaled r a b)) h = cc
+constant_quiet (signed s (bracketed e)) h = cc
+constant_quiet (added s a b) h = cc
+constant_quiet (scaled s a b) h = cc
+constant_quiet (bracketed e) h = cc
+
+if_named : (b : Bool) (m n : ℕ) → (if b then Some m else None) ≡ Some n → b ≡ true
+if_named true m n h = refl
+if_named false m n h = cc
+
+column_quiet : (c : PlacedCond) (n : ℕ) → column_named c ≡ Some n → is_quiet c ≡ true
+column_quiet (compare comparison.Equal (column p) x) n h = constant_quiet x (both_right (nat_eq p.depth 0) (is_constant x) (if_named (nat_eq p.depth 0 && is_constant x) p.column n h))
+column_quiet (compare comparison.Equal (literal v) x) n h = cc
+column_quiet (compare comparison.Equal (parameter p) x) n h = cc
+column_quiet (compare comparison.Equal user x) n h = cc
+column_quiet (compare comparison.Equal count_rows x) n h = cc
+column_quiet (compare comparison.Equal (set_function f d e) x) n h = cc
+column_quiet (compare comparison.Equal (signed s e) x) n h = cc
+column_quiet (compare comparison.Equal (added s a b) x) n h = cc
+column_quiet (compare comparison.Equal (scaled s a b) x) n h = cc
+column_quiet (compare comparison.Equal (bracketed e) x) n h = cc
+column_quiet (compare comparison.NotEqual a x) n h = cc
+column_quiet (compare comparison.Less a x) n h = cc
+column_quiet (compare comparison.Greater a x) n h = cc
+column_quiet (compare comparison.LessOrEqual a x) n h = cc
+column_quiet (compare comparison.GreaterOrEqual a x) n h = cc
+column_quiet (compare_subquery op a q) n h = cc
+column_quiet (compare_quantified op k a q) n h = cc
+column_quiet (between a low high) n h = cc
+column_quiet (in_subquery a q) n h = cc
+column_quiet (in_list a es) n h = cc
+column_quiet (like text pattern escape) n h = cc
+column_quiet (is_null a) n h = cc
+column_quiet (exists q) n h = cc
+column_quiet (negated c) n h = cc
+column_quiet (conjunction cs) n h = cc
+column_quiet (disjunction cs) n h = cc
+
+abbrev among : List ℕ → Option ℕ → Bool
+among key o = list_any (λ n. list_any (nat_eq n) (option_to_list o)) key
+
+none_among : (key : List ℕ) → among key None ≡ false
+none_among [] = refl
+none_among (n ∷ key) = none_among key
+
+not_both : {P : Type 0} (b : Bool) → b ≡ true → b ≡ false → P
+not_both true h k = cc
+not_both false h k = cc
+
+named_quiet : (key : List ℕ) (c : PlacedCond) → names_one_of key c ≡ true → is_quiet c ≡ true
+named_quiet key c h = by (column_named c) refl
+  where
+    by : (o : Option ℕ) → column_named c ≡ o → is_quiet c ≡ true
+    by (Some n) e = column_quiet c n e
+    by None e = not_both (names_one_of key c) h (ap (among key) e ∙ none_among key)
+
+all_quiet : (key : List ℕ) (ts : List BoundTest) → list_all (names_one_of key) (map (test_of []) ts) ≡ true → AllByRecursion (λ t. is_quiet (test_of [] t) ≡ true) ts
+all_quiet key [] h = tt
+all_quiet key (t ∷ ts) h = (
+  named_quiet key (test_of [] t) (both_left (names_one_of key (test_of [] t)) (list_all (names_one_of key) (map (test_of []) ts)) h),
+  all_quiet key ts (both_right (names_one_of key (test_of [] t)) (list_all (names_one_of key) (map (test_of []) ts)) h),
+)
+
+-- ---- lists
+
+all_both : {A : Type 0} (P Q R : A → Type 0) → ((x : A) → P x → Q x → R x) → (xs : List A) → AllByRecursion P xs → AllByRecursion Q xs → AllByRecursion R xs
+all_both P Q R so [] p q = tt
+all_both P Q R so (x ∷ xs) p q = (so x p.0 q.0, all_both P Q R so xs p.1 q.1)
+
+all_first : {A : Type 0} (P : A → Type 0) (n : ℕ) (xs : List A) → AllByRecursion P xs → AllByRecursion P (take n xs)
+all_first P zero xs all = tt
+all_first P (suc n) [] all = tt
+all_first P (suc n) (x ∷ xs) all = (all.0, all_first P n xs all.1)
+
+all_contained : {A : Type 0} (P : A → Type 0) (xs : List A) (k : ℕ) (x : A) → AllByRecursion P xs → k < length xs → slice_index_or xs k x ≡ x → P x
+all_contained P [] k x all within at = absurd (omega arith)
+all_contained P (y ∷ ys) zero x all within at = subst P at all.0
+all_contained P (y ∷ ys) (suc k) x all within at = all_contained P ys k x all.1 (omega arith) at
+
+all_tests : {A : Type 0} (test : A → Bool) (xs : List A) → list_all test xs ≡ true → AllByRecursion (λ x. test x ≡ true) xs
+all_tests test [] h = tt
+all_tests test (x ∷ xs) h = (both_left (test x) (list_all test xs) h, all_tests test xs (both_right (test x) (list_all test xs) h))
+
+test_at : {A : Type 0} (test : A → Bool) (xs : List A) (k : ℕ) (d : A) → list_all test xs ≡ true → k < length xs → test (slice_index_or xs k d) ≡ true
+test_at test [] k d h within = absurd (omega arith)
+test_at test (x ∷ xs) zero d h within = both_left (test x) (list_all test xs) h
+test_at test (x ∷ xs) (suc k) d h within = test_at test xs k d (both_right (test x) (list_all test xs) h) (omega arith)
+
+no_element : {A : Type 0} (xs : List A) → nat_eq (length xs) 0 ≡ true → xs ≡ []
+no_element [] h = refl
+no_element (x ∷ xs) h = let none : length (x ∷ xs) ≡ 0 = eqb-true (length (x ∷ xs)) 0 h in absurd (omega arith)
+
+is_not : (b : Bool) → not b ≡ true → b ≡ false
+is_not true h = cc
+is_not false h = refl
+
+-- ---- a scan where the rows without a key are left out
+
+module _ {A : Type 0} (test : A → Outcome Bool) (has : A → Bool) where
+  abbrev added_by : A → Outcome (List A) → Bool → Outcome (List A)
+  added_by x o passes = and_then o (λ ys. Ok (if passes then x ∷ ys else ys))
+
+  -- the one that is found, if the test passes
+  abbrev pub decided : Option A → Outcome (List A)
+  decided None = Ok []
+  decided (Some x) = and_then (test x) (λ passes. Ok (if passes then x ∷ [] else []))
+
+  abbrev LeavesOut : A → Type 0
+  LeavesOut x = has x ≡ false → test x ≡ Ok false
+
+  itself : (o : Outcome (List A)) → and_then o (λ ys. let is : Outcome (List A) = Ok ys in is) ≡ o
+  itself (Ok ys) = refl
+  itself (Err s) = refl
+
+  none_kept : (xs : List A) → AllByRecursion LeavesOut xs → list_any has xs ≡ false → kept test xs ≡ Ok []
+  none_kept [] out none = refl
+  none_kept (x ∷ xs) out none =
+      ap (λ (o : Outcome Bool). and_then o (added_by x (kept test xs))) (out.0 (neither_left (has x) (list_any has xs) none))
+      ∙ itself (kept test xs) ∙ none_kept xs out.1 (neither_right (has x) (list_any has xs) none)
+
+  pub scan_finds : (xs : List A) → AllByRecursion LeavesOut xs → AtMostOne has xs → kept test xs ≡ decided (find has xs)
+  scan_finds [] out one = refl
+  scan_finds (x ∷ xs) out one = by (has x) refl (scan_finds xs out.1 one.1)
+    where
+      by : (b : Bool) → has x ≡ b → kept test xs ≡ decided (find has xs) → kept test (x ∷ xs) ≡ decided (cond b (Some x) (find has xs))
+      by true e others = ap (λ (o : Outcome (List A)). and_then (test x) (added_by x o)) (none_kept xs out.1 (one.0 e))
+      by false e others = ap (λ (o : Outcome Bool). and_then o (added_by x (kept test xs))) (out.0 e) ∙ itself (kept test xs) ∙ others
+
+-- ---- keys and NOT NULL of a base table
+
+keys_of_base : (bases : List BaseTable) (place : ℕ) (b : BaseTable) → slice_get bases place ≡ Some b → keys_at (keys_of_bases bases) place ≡ b.keys
+keys_of_base [] place b e = cc
+keys_of_base (a ∷ bases) zero b e = let same : a ≡ b = cc in ap (λ (t : BaseTable). t.keys) same
+keys_of_base (a ∷ bases) (suc place) b e = keys_of_base bases place b e
+
+values_from : (content : Content) (from : ℕ) (bases : List BaseTable) (place : ℕ) (b : BaseTable) → list_all (λ p. list_all (λ n. has_its_values p.1 n.row) (table_at content p.0).rows) (enumerate_from from bases) ≡ true
+    → slice_get bases place ≡ Some b → list_all (λ n. has_its_values b n.row) (table_at content (from + place)).rows ≡ true
+values_from content from [] place b h e = cc
+values_from content from (a ∷ bases) zero b h e =
+    let same : a ≡ b = cc in
+    let at : from + zero ≡ from = omega arith in
+    subst (λ (t : BaseTable). list_all (λ n. has_its_values t n.row) (table_at content (from + zero)).rows ≡ true) same
+    (subst (λ (p : ℕ). list_all (λ n. has_its_values a n.row) (table_at content p).rows ≡ true) (sym at)
+    (both_left (list_all (λ n. has_its_values a n.row) (table_at content from).rows) (list_all (λ p. list_all (λ n. has_its_values p.1 n.row) (table_at content p.0).rows) (enumerate_from (from + 1) bases)) h))
+values_from content from (a ∷ bases) (suc place) b h e =
+    let at : from + 1 + place ≡ from + suc place = omega arith in
+    subst (λ (p : ℕ). list_all (λ n. has_its_values b n.row) (table_at content p).rows ≡ true) at
+    (values_from content (from + 1) bases place b
+    (both_right (list_all (λ n. has_its_values a n.row) (table_at content from).rows) (list_all (λ p. list_all (λ n. has_its_values p.1 n.row) (table_at content p.0).rows) (enumerate_from (from + 1) bases)) h) e)
+
+-- ---- AND, over a list
+
+all_is : (tables : TablePlace → Outcome (List Row)) (here : Env (Unit {0})) (ts : List BoundTest) → all_truth (by_place tables) (conds (map (test_of []) ts)) here ≡ all_also (λ t. truth (by_place tables) (test_of [] t) here) ts
+all_is tables here [] = refl
+all_is tables here (t ∷ ts) = ap (and_also (truth (by_place tables) (test_of [] t) here)) (all_is tables here ts)
+
+term_tree : (own : BoundCond) (term : BoundConj) → (out-BoundCond own).terms ≡ term ∷ [] → cond_of [] own ≡ disjunction (conds (conjunction (conds (map (test_of []) (out-BoundConj term).tests)) ∷ []))
+term_tree own term only =
+    cond_of-out [] own ∙ ap (λ (ts : List BoundConj). disjunction (conds (map (conj_of []) ts))) only
+    ∙ ap (λ (c : PlacedCond). disjunction (conds (c ∷ []))) (conj_of-out [] term)
+
+-- ---- a row without the key
+
+module _ (tables : TablePlace → Outcome (List Row)) (columns : TableKinds) (parameters : List Kind) (values : List Value) (caller : Name) (given : IsRowOf parameters values)
+    (bases : List BaseTable) (content : Content) (keys : List Keys) (t : Target) (known : KnownKey) (k : IsKeyOf t content keys values caller known)
+    (well : IsTarget columns parameters t) (base : IsBase bases t.leaf.table) (keys_are : keys ≡ keys_of_bases bases) (nulls : not_nulls_hold bases content ≡ true) where
+  abbrev own_columns : List ℕ
+  own_columns = key_at keys t.base known.key
+
+  abbrev tests : List BoundTest
+  tests = (out-BoundConj k.term).tests
+
+  abbrev flags : List Bool
+  flags = map (λ (c : BaseColumn). c.not_null) t.leaf.table.columns
+
+  named : is_named_by t.leaf (Some k.own) known.key ≡ true
+  named = sym (λ i. option_all (is_named_by t.leaf (k.is_own i)) (k.is_key i)) ∙ t.keyed
+
+  abbrev no_view : Bool
+  no_view = nat_eq (length t.leaf.conditions) 0
+
+  abbrev there_is : Bool
+  there_is = nat_lt known.key (length t.leaf.table.keys)
+
+  abbrev by_tests : Bool
+  by_tests = names_key (slice_index_or t.leaf.table.keys known.key []) (out-BoundCond k.own).terms
+
+  views_none : t.leaf.conditions ≡ []
+  views_none = no_element t.leaf.conditions (both_left no_view there_is (both_left (no_view && there_is) by_tests named))
+
+  key_within : known.key < length t.leaf.table.keys
+  key_within = ltb-true known.key (length t.leaf.table.keys) (both_right no_view there_is (both_left (no_view && there_is) by_tests named))
+
+  columns_are : own_columns ≡ slice_index_or t.leaf.table.keys known.key []
+  columns_are =
+      ap (λ (ks : Keys). slice_index_or ks known.key [])
+      ((λ i. keys_at (keys_are i) (t.is_under i)) ∙ keys_of_base bases t.leaf.table.place t.leaf.table base)
+
+  starts : start_with_key own_columns (map (test_of []) tests) ≡ true
+  starts =
+      ap (λ (key : List ℕ). start_with_key key (map (test_of []) tests)) columns_are
+      ∙ sym (ap (names_key (slice_index_or t.leaf.table.keys known.key [])) k.only_term)
+      ∙ both_right (no_view && there_is) by_tests named
+
+  abbrev count : ℕ
+  count = length own_columns
+
+  firsts_quiet : AllByRecursion (λ x. is_quiet (test_of [] x) ≡ true) (take count tests)
+  firsts_quiet =
+      all_quiet own_columns (take count tests)
+      (ap (list_all (names_one_of own_columns)) (sym (take-map (test_of []) count tests))
+      ∙ both_right (nat_le count (length (map (test_of []) tests))) (list_all (names_one_of own_columns) (take count (map (test_of []) tests)))
+      (both_left (nat_le count (length (map (test_of []) tests)) && list_all (names_one_of own_columns) (take count (map (test_of []) tests)))
+      (list_all (λ n. list_any (names_column n) (take count (map (test_of []) tests))) own_columns) starts))
+
+  columns_not_null : list_all (is_not_null flags) own_columns ≡ true
+  columns_not_null = ap (are_not_null flags) columns_are ∙ test_at (are_not_null flags) t.leaf.table.keys known.key [] t.leaf.table.known_keys key_within
+
+  conditions_are : conditions_of t ≡ k.own ∷ []
+  conditions_are = (λ i. and_own (views_none i) (k.is_own i))
+
+  own_well : IsCond columns parameters (of_base_at t.leaf.table.place) [] k.own
+  own_well = if_some_is t.condition k.own well.condition k.is_own
+    where
+      if_some_is : (o : Option BoundCond) (c : BoundCond) → IfSome o (IsCond columns parameters (of_base_at t.leaf.table.place) []) → o ≡ Some c → IsCond columns parameters (of_base_at t.leaf.table.place) [] c
+      if_some_is None c h e = cc
+      if_some_is (Some d) c h e = let same : d ≡ c = cc in subst (IsCond columns parameters (of_base_at t.leaf.table.place) []) same h
+
+  module _ (row : Row) (is_row : IsRowOf (base_kinds t.leaf.table) row) where
+    abbrev here : Env (Unit {0})
+    here = outside (row ∷ []) values caller
+
+    fits : Has (λ ks. IsRowOf ks row) (columns (Base t.leaf.table.place))
+    fits = subst (Has (λ ks. IsRowOf ks row)) (sym well.leaf.kinds_are) is_row
+
+    abbrev IsOn : PlacedCond → Type 0
+    IsOn = IsTestOn tables columns parameters values caller row t.leaf.table.place fits given
+
+    abbrev truth_here : BoundTest → Outcome Truth
+    truth_here x = truth (by_place tables) (test_of [] x) here
+
+    tests_well : (ts : List BoundTest) → WellFormedConds (by_place no_tables) (kinds_by_place columns parameters) (IsDeclaredAt parameters) (of_base_at t.leaf.table.place) (conds (map (test_of []) ts)) → AllByRecursion (λ x. IsOn (test_of [] x)) ts
+    tests_well [] h = tt
+    tests_well (x ∷ ts) h = (h.0, tests_well ts h.1)
+
+    all_well : AllByRecursion (λ x. IsOn (test_of [] x)) tests
+    all_well =
+        let whole : IsOn (cond_of [] k.own) = subst IsOn (sym (own_well.is_tree [])) (own_well.stands no_tables) in
+        let taken : IsOn (disjunction (conds (conjunction (conds (map (test_of []) tests)) ∷ []))) = subst IsOn (term_tree k.own k.term k.only_term) whole in
+        tests_well tests taken.0
+
+    firsts_answer : AllByRecursion (λ x. HasValue (truth_here x)) (take count tests)
+    firsts_answer =
+        all_both (λ x. IsOn (test_of [] x)) (λ x. is_quiet (test_of [] x) ≡ true) (λ x. HasValue (truth_here x))
+        (λ x w q. test_answers tables columns parameters values caller row t.leaf.table.place fits given (test_of [] x) w q)
+        (take count tests) (all_first (λ x. IsOn (test_of [] x)) count tests all_well) firsts_quiet
+
+    none_null : has_its_values t.leaf.table row ≡ true → list_any lacks_value (zip t.leaf.table.columns row) ≡ false
+    none_null h = is_not (list_any lacks_value (zip t.leaf.table.columns row)) h
+
+    pub left_out : has_its_values t.leaf.table row ≡ true → pointwise is_same known.values (in_columns row own_columns) ≡ false → is_true (truth (by_place tables) (cond_of [] k.own) here) ≡ Ok false
+    left_out has_values lacks =
+        let found = lacked {R = IsComparedWith (take count tests) values caller} own_columns known.values row k.values lacks in
+        let c = found.3 in
+        let quiet : is_quiet (test_of [] c.test) ≡ true = all_contained (λ x. is_quiet (test_of [] x) ≡ true) (take count tests) c.among.0 c.test firsts_quiet c.among.1 c.among.2 in
+        let on : IsOn (test_of [] c.test) = all_contained (λ x. IsOn (test_of [] x)) (take count tests) c.among.0 c.test (all_first (λ x. IsOn (test_of [] x)) count tests all_well) c.among.1 c.among.2 in
+        let written : is_not_null flags found.0 ≡ true = subst (λ n. is_not_null flags n ≡ true) found.2.2 (test_at (is_not_null flags) own_columns found.2.0 found.0 columns_not_null found.2.1) in
+        let not_so : truth (by_place tables) (compare comparison.Equal (column (record { depth = 0; item = c.is.0; column = found.0 })) (expr_of [] c.expr)) here ≡ Ok False =
+        test_false tables columns parameters values caller row t.leaf.table.place fits given c.is.0 found.0 (expr_of [] c.expr) found.1
+        (both_right true (is_quiet_expr (expr_of [] c.expr)) (sym (ap is_quiet c.is.1) ∙ quiet)) (subst IsOn c.is.1 on) (c.has_value tables) c.known
+        (λ x there. value_there t.leaf.table.columns row found.0 x there written (none_null has_values)) found.4 in
+        let all_false : all_truth (by_place tables) (conds (map (test_of []) tests)) here ≡ Ok False =
+        all_is tables here tests
+        ∙ first_false truth_here count tests c.among.0 c.test firsts_answer c.among.1 c.among.2 (ap (λ (x : PlacedCond). truth (by_place tables) x here) c.is.1 ∙ not_so) in
+        ap (λ (x : PlacedCond). is_true (truth (by_place tables) x here)) (term_tree k.own k.term k.only_term)
+        ∙ ap (λ (o : Outcome Truth). is_true (or_else o (Ok False))) all_false
+
+  -- ---- over all rows
+
+  module _ (rows_are : AllByRecursion (λ (r : Numbered). IsRowOf (base_kinds t.leaf.table) r.row) (table_at content t.base).rows) (keyed : are_keyed keys content ≡ true) where
+    abbrev test_own : Numbered → Outcome Bool
+    test_own = is_true_of tables values caller k.own
+
+    abbrev has_it : Numbered → Bool
+    has_it = has_key own_columns known.values
+
+    from_first : 0 + t.leaf.table.place ≡ t.leaf.table.place
+    from_first = omega arith
+
+    all_out : AllByRecursion (λ (r : Numbered). has_it r ≡ false → test_own r ≡ Ok false) (table_at content t.base).rows
+    all_out =
+        all_both (λ (r : Numbered). IsRowOf (base_kinds t.leaf.table) r.row) (λ (r : Numbered). has_its_values t.leaf.table r.row ≡ true) (λ (r : Numbered). has_it r ≡ false → test_own r ≡ Ok false)
+        (λ r is_row has_values lacks. left_out r.row is_row has_values lacks) (table_at content t.base).rows rows_are
+        (all_tests (λ (r : Numbered). has_its_values t.leaf.table r.row) (table_at content t.base).rows
+        (subst (λ (p : ℕ). list_all (λ (r : Numbered). has_its_values t.leaf.table r.row) (table_at content p).rows ≡ true) (from_first ∙ sym t.is_under) (values_from content 0 bases t.leaf.table.place t.leaf.table nulls base)))
+
+    abbrev pub found_row : Option Numbered
+    found_row = with_key (table_at content t.base) own_columns known.values
+
+    abbrev numbers_of_rows : List Numbered → Outcome (List ℕ)
+    numbers_of_rows rs = Ok (map (λ (r : Numbered). r.number) rs)
+
+    abbrev pub whole_search : Outcome (List ℕ)
+    whole_search = and_then (stored_numbered content t.base) (numbers_chosen (is_true_of tables values caller) (conditions_of t))
+
+    search_is : whole_search ≡ and_then (decided test_own has_it found_row) numbers_of_rows
+    search_is =
+        ap (λ (o : Outcome (List Numbered)). and_then o (numbers_chosen (is_true_of tables values caller) (conditions_of t))) (there_so content t.base k.table)
+        ∙ ap (λ (cs : List BoundCond). numbers_chosen (is_true_of tables values caller) cs (table_at content t.base).rows) conditions_are
+        ∙ ap (λ (o : Outcome (List Numbered)). and_then o numbers_of_rows) (itself test_own has_it (kept test_own (table_at content t.base).rows))
+        ∙ ap (λ (o : Outcome (List Numbered)). and_then o numbers_of_rows)
+        (scan_finds test_own has_it (table_at content t.base).rows all_out (at_most_one own_columns known.values (table_at content t.base).rows (distinct_at keys content t.base known.key keyed k.table k.key)))
+
+    -- no row has the key
+    pub none_found : (numbers : Vec ℕ Global) → found_row ≡ None → numbers.items ≡ [] → whole_search ≡ Ok (numbers_in numbers)
+    none_found numbers none empty =
+        search_is ∙ ap (λ (o : Option Numbered). and_then (decided test_own has_it o) numbers_of_rows) none
+        ∙ ap (λ (ns : List ℕ). let is : Outcome (List ℕ) = Ok ns in is) (sym empty)
+
+    -- what the conditions say of one row
+    one_condition : (o : Outcome Bool) → and_then o (λ holds. if holds then (let is : Outcome Bool = Ok true in is) else Ok false) ≡ o
+    one_condition (Ok true) = refl
+    one_condition (Ok false) = refl
+    one_condition (Err s) = refl
+
+    module _ (r : Numbered) (is : found_row ≡ Some r) where
+      said : are_true (truth_on_row tables values caller r.row) (conditions_of t) ≡ test_own r
+      said = ap (are_true (truth_on_row tables values caller r.row)) conditions_are ∙ one_condition (test_own r)
+
+      search_at : (o : Outcome Bool) → are_true (truth_on_row tables values caller r.row) (conditions_of t) ≡ o
+          → whole_search ≡ and_then (and_then o (λ passes. Ok (if passes then r ∷ [] else []))) numbers_of_rows
+      search_at o e =
+          search_is ∙ ap (λ (x : Option Numbered). and_then (decided test_own has_it x) numbers_of_rows) is
+          ∙ ap (λ (x : Outcome Bool). and_then (and_then x (λ passes. Ok (if passes then r ∷ [] else []))) numbers_of_rows) (sym said ∙ e)
+
+      numbers_if : (b : Bool) → map (λ (x : Numbered). x.number) (if b then r ∷ [] else []) ≡ (if b then r.number ∷ [] else [])
+      numbers_if true = refl
+      numbers_if false = refl
+
+      -- the row is chosen, or not
+      pub one_found : (b : Bool) (numbers : Result (Vec ℕ Global) Fault) → Meets (Ok b) (are_true (truth_on_row tables values caller r.row) (conditions_of t))
+          → IfOk numbers (λ ns. ns.items ≡ (if b then r.number ∷ [] else [])) → IfErr numbers (λ f. f ≡ fault.NoMemory) → MeetsAs numbers_in numbers whole_search
+      one_found b (Ok ns) said_so has memory = search_at (Ok b) said_so ∙ ap (λ (l : List ℕ). let is : Outcome (List ℕ) = Ok l in is) (numbers_if b ∙ sym has)
+      one_found b (Err fault.NoMemory) said_so has memory = tt
+      one_found b (Err (fault.Status f)) said_so has memory = absurd cc
+
+      -- a condition ends with a status
+      pub one_fails : (f : Fault) → Meets {A = Bool} (Err f) (are_true (truth_on_row tables values caller r.row) (conditions_of t)) → Meets {A = List ℕ} (Err f) whole_search
+      one_fails fault.NoMemory said_so = tt
+      one_fails (fault.Status f) said_so = search_at _ said_so
