@@ -4,3 +4,4 @@ pub mod Output
 pub mod Updatable
 pub mod WellFormed
 pub mod Written
+pub mod Spelled

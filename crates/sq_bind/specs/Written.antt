@@ -1,12 +1,25 @@
 -- That a bound statement is the one that is written (ISO/IEC 9075:1992, 13.2 to 13.10, 14.3 and 14.4).
-use Rattle.std.specs.Prelude.{◌≡◌, ⊤, ℕ, true, false, List, Option, None, Some, IfSome, IsSome, Ok, unwrap_or}
+use Rattle.std.specs.Prelude.{◌≡◌, ⊤, ℕ, true, false, List, [], ◌∷◌, map, position, slice_get, Option, None, Some, IfSome, Ok, unwrap_or}
 use Rattle.std.specs.List.{AllZip}
+use Rattle.std.specs.Option.{option_and_then, option_map}
 use Rattle.sq_lex.specs.declared.name.Name.{Name}
 use Rattle.sq_value.specs.declared.domain.Domain.{Domain}
+use Rattle.sq_value.specs.declared.value.Value.TheVariants.{Null}
+use Rattle.sq_tree.specs.declared.cond.Cond.{Cond}
+use Rattle.sq_tree.specs.declared.list.CommaList.{CommaList}
 use Rattle.sq_tree.specs.declared.module.Cursor.{Cursor}
 use Rattle.sq_tree.specs.declared.names.Parameter.{Parameter}
-use Rattle.sq_tree.specs.declared.names.TableName.{TableName}
+use Rattle.sq_tree.specs.declared.names.TableName.{TableName as WrittenTable}
+use Rattle.sq_tree.specs.declared.statement.Assignment.{Assignment}
+use Rattle.sq_tree.specs.declared.statement.Delete.{Delete}
 use Rattle.sq_tree.specs.declared.statement.Fetch.{Fetch}
+use Rattle.sq_tree.specs.declared.statement.Insert.{Insert}
+use Rattle.sq_tree.specs.declared.statement.InsertSource.{InsertSource}
+use Rattle.sq_tree.specs.declared.statement.InsertSource.TheVariants as source
+use Rattle.sq_tree.specs.declared.statement.NewValue.{NewValue}
+use Rattle.sq_tree.specs.declared.statement.NewValue.TheVariants as new_value
+use Rattle.sq_tree.specs.declared.statement.Select.{Select}
+use Rattle.sq_tree.specs.declared.statement.Update.{Update}
 use Rattle.sq_tree.specs.declared.statement.FetchFrom.{FetchFrom}
 use Rattle.sq_tree.specs.declared.statement.Orientation.{Orientation}
 use Rattle.sq_tree.specs.declared.statement.Orientation.TheVariants as written
@@ -16,13 +29,32 @@ use Rattle.sq_tree.specs.declared.statement.Statement.{Statement}
 use Rattle.sq_tree.specs.declared.statement.Statement.TheVariants as tree
 use Rattle.sq_tree.specs.declared.statement.Where.{Where}
 use Rattle.sq_tree.specs.declared.statement.Where.TheVariants as rows
-use Rattle.sq_meaning.specs.Environment.{same_table}
-use Rattle.sq_meaning.specs.Spelled.{has_point, listed, signed_number, table_of}
+use Rattle.sq_meaning.specs.Environment.{TableName, same_table}
+use Rattle.sq_meaning.specs.Spelled.{Named, cond_of, expr_of, has_point, listed, query_of, select_of, select_of_parts, signed_number, table_of}
+use Rattle.sq_meaning.specs.Status.{Outcome, ◌>>=◌, each, well_formed}
+use Rattle.sq_meaning.specs.Syntax.{Query, literal, present, specification, union}
+use Rattle.sq_bound.specs.Condition.{PlacedClause}
+use Rattle.sq_bound.specs.Expression.{PlacedExpr}
+use Rattle.sq_bound.specs.Known.{KnownTable, KnownTables}
+use Rattle.sq_bound.specs.Query as bound
+use Rattle.sq_bound.specs.Query.{PlacedQuery}
 use Rattle.sq_bound.specs.Fits.{under}
+use Rattle.sq_bound.specs.Names.{is_name}
+use Rattle.sq_bound.specs.declared.names.Column.{Column}
 use Rattle.sq_bound.specs.declared.names.Leaf.{Leaf}
+use Rattle.sq_bound.specs.declared.names.ObjectColumn.{ObjectColumn}
 use Rattle.sq_bound.specs.declared.names.ParameterDesc.{ParameterDesc}
 use Rattle.sq_bound.specs.declared.names.TableDesc.{TableDesc}
 use Rattle.sq_bound.specs.declared.query.BoundCursor.{BoundCursor}
+use Rattle.sq_bound.specs.declared.query.BoundQuery.{BoundQuery}
+use Rattle.sq_bound.specs.declared.query.CursorBody.{CursorBody}
+use Rattle.sq_bound.specs.declared.query.CursorBody.TheVariants as body
+use Rattle.sq_bound.specs.declared.statement.BoundAssignment.{BoundAssignment}
+use Rattle.sq_bound.specs.declared.statement.BoundInsert.{BoundInsert}
+use Rattle.sq_bound.specs.declared.statement.BoundSelect.{BoundSelect}
+use Rattle.sq_bound.specs.declared.statement.BoundUpdate.{BoundUpdate}
+use Rattle.sq_bound.specs.declared.statement.InsertedRows.{InsertedRows}
+use Rattle.sq_bound.specs.declared.statement.InsertedRows.TheVariants as inserted
 use Rattle.sq_bound.specs.declared.statement.BoundFetch.{BoundFetch}
 use Rattle.sq_bound.specs.declared.statement.BoundStatement.{BoundStatement}
 use Rattle.sq_bound.specs.declared.statement.BoundStatement.TheVariants as statement
@@ -34,6 +66,10 @@ use Rattle.sq_bound.specs.declared.statement.FetchOrientation.{FetchOrientation}
 use Rattle.sq_bound.specs.declared.statement.FetchOrientation.TheVariants as orientation
 use Rattle.sq_bound.specs.declared.statement.Output.{Output}
 use Rattle.sq_scope.specs.Expression.{parameter_named, placed_parameter}
+use Rattle.sq_scope.specs.Scope.{columns_over}
+use Rattle.sq_scope.specs.declared.scope.FromItem.{FromItem}
+use Rattle.sq_select.specs.Placed.{Around, clause_placed, expr_placed, inside, select_placed}
+use Rattle.sq_select.specs.Written.{ClauseIs, ExprIs, ExprsAre, SelectIs}
 
 -- ---- parameters
 
@@ -73,42 +109,149 @@ orientation_of (Some f) = unwrap_or f.orientation written.Next
 
 -- FETCH of the cursor of the written name. The numbers that the cursors of a module have are given by their names
 abbrev pub IsFetchOf : (Name → ℕ → Type 0) → List ParameterDesc → Fetch → BoundFetch → Type 0
-IsFetchOf IsNumberOf parameters f bound =
-    IsNumberOf f.cursor bound.cursor × IsOrientationOf parameters (orientation_of f.from) bound.orientation × AreOutputsOf parameters bound.outputs (listed f.targets)
+IsFetchOf IsNumberOf parameters f fetch =
+    IsNumberOf f.cursor fetch.cursor × IsOrientationOf parameters (orientation_of f.from) fetch.orientation × AreOutputsOf parameters fetch.outputs (listed f.targets)
+
+-- ---- query expressions (7.10)
+
+abbrev pub query_placed : Around → Query Named → Outcome PlacedQuery
+query_placed a (specification s) = select_placed a s >>= λ x. Ok (specification x)
+query_placed a (union all left right) = query_placed a left >>= λ x. query_placed a right >>= λ y. Ok (union all x y)
+
+abbrev pub QueryIs : Outcome PlacedQuery → BoundQuery → Type 0
+QueryIs text q = text ≡ Ok (bound.query_of q)
+
+-- what is known where a statement of a procedure with these parameters stands: it is in no query
+abbrev pub outside : KnownTables → List ParameterDesc → Around
+outside known parameters = record { known = known; parameters = parameters; scopes = [] }
 
 -- ---- cursors and tables
 
--- a cursor is INSENSITIVE or SCROLL where that is written (13.1)
-abbrev pub IsCursorOf : Cursor → BoundCursor → Type 0
-IsCursorOf c bound = (bound.insensitive ≡ c.insensitive) × (bound.scroll ≡ c.scroll)
+-- a cursor that is not updatable has the rows of its query
+abbrev pub HasRowsOf : Outcome PlacedQuery → CursorBody → Type 0
+HasRowsOf text (body.Rows q order) = QueryIs text q
+HasRowsOf text (body.Updatable u) = ⊤
+
+-- a cursor is INSENSITIVE or SCROLL where that is written
+abbrev pub HasWordsOf : Cursor → BoundCursor → Type 0
+HasWordsOf c cursor = (cursor.insensitive ≡ c.insensitive) × (cursor.scroll ≡ c.scroll)
+
+-- and it has the rows of the query that is written (13.1)
+pub record IsCursorOf (known : KnownTables) (user : Name) (parameters : List ParameterDesc) (c : Cursor) (cursor : BoundCursor) : Type 0 where
+  pub words : HasWordsOf c cursor
+  pub rows : HasRowsOf (query_placed (outside known parameters) (query_of user c.query)) cursor.body
 
 -- what is under the table of the written name, which is the user's where no schema is written (5.4): that base table itself, if it
 -- is one. The places of base tables are given by their owners and names
-pub record IsUnder (base_number : Name → Name → Option ℕ) (user : Name) (t : TableName) (leaf : Leaf) : Type 0 where
+pub record IsUnder (base_number : Name → Name → Option ℕ) (user : Name) (t : WrittenTable) (leaf : Leaf) : Type 0 where
   pub table : TableDesc
   pub is_named : same_table (table_of user t) (record { user = table.user; name = table.name }) ≡ true
   pub is_under : table.leaf ≡ Some leaf
   pub is_base : IfSome (base_number table.user table.name) (λ place. leaf.table.place ≡ place)
 
--- ---- statements
+-- ---- values, and the rows that a statement changes
+
+-- NULL, or the value of an expression
+abbrev pub value_placed : Around → NewValue → Outcome PlacedExpr
+value_placed a (new_value.Expr e) = expr_placed a (expr_of e)
+value_placed a new_value.Null = Ok (literal Null)
+
+-- the rows that are inserted: those of VALUES, or of the query (13.8)
+abbrev pub IsSourceOf : Around → Name → InsertSource → InsertedRows → Type 0
+IsSourceOf a user (source.Values list) (inserted.Values es) = ExprsAre [] (each (value_placed a) (listed list)) es
+IsSourceOf a user (source.Query q) (inserted.Query x) = SelectIs (select_placed a (select_of user q)) x
+IsSourceOf a user _ _ = ⊥
+
+-- the column of the base table that the column of this name is
+abbrev pub leaf_named : List Column → Name → Option ℕ
+leaf_named columns name = option_and_then (slice_get (map (λ c. c.leaf_column) columns)) (position (λ c. is_name name c.name) columns)
+
+-- the columns that get values: those that are listed, in their order, or all (13.8)
+abbrev pub AreInto : List Column → Option (CommaList Name) → List ObjectColumn → Type 0
+AreInto columns None objects = map (λ c. c.position) objects ≡ map (λ c. c.leaf_column) columns
+AreInto columns (Some list) objects = AllZip (λ name c. leaf_named columns name ≡ Some c.position) (listed list) objects
+
+abbrev pub IntoTable : Option KnownTable → Option (CommaList Name) → List ObjectColumn → Type 0
+IntoTable None list objects = ⊥
+IntoTable (Some t) list objects = AreInto t.columns list objects
+
+-- the table that is changed as an item, with each column at its place in the base table under it
+abbrev pub item_at_leaf : TableName → KnownTable → FromItem
+item_at_leaf t k = record { user = t.user; name = t.name; correlation = None; columns = columns_over true k.columns }
+
+abbrev pub changed_item : KnownTables → TableName → Outcome FromItem
+changed_item known t = well_formed (option_map (item_at_leaf t) (known t.user t.name))
+
+-- a search condition on its rows
+abbrev pub filter_on : Around → Name → FromItem → Cond → Outcome PlacedClause
+filter_on a user item c = clause_placed (inside (item ∷ []) a) (present (cond_of user c))
+
+abbrev pub filter_placed : Around → Name → TableName → Cond → Outcome PlacedClause
+filter_placed a user t c = changed_item a.known t >>= λ item. filter_on a user item c
 
 -- UPDATE and DELETE are of the rows that meet a condition or of all rows, or of the row of the cursor of the written name (13.6, 13.7, 13.9, 13.10)
-abbrev pub IsTargetOf : (Name → ℕ → Type 0) → Option Where → ChangeTarget → Type 0
-IsTargetOf IsNumberOf None (target.Searched t) = t.condition ≡ None
-IsTargetOf IsNumberOf (Some (rows.Condition c)) (target.Searched t) = IsSome t.condition
-IsTargetOf IsNumberOf (Some (rows.CurrentOf name)) (target.Positioned p) = IsNumberOf name p.cursor
-IsTargetOf IsNumberOf _ _ = ⊥
+abbrev pub IsTargetOf : (Name → ℕ → Type 0) → (Cond → Outcome PlacedClause) → Option Where → ChangeTarget → Type 0
+IsTargetOf IsNumberOf filter None (target.Searched t) = t.condition ≡ None
+IsTargetOf IsNumberOf filter (Some (rows.Condition c)) (target.Searched t) = ClauseIs [] (filter c) t.condition
+IsTargetOf IsNumberOf filter (Some (rows.CurrentOf name)) (target.Positioned p) = IsNumberOf name p.cursor
+IsTargetOf IsNumberOf filter _ _ = ⊥
 
--- a statement in a module of the user: its cursors have the numbers that their names have, its targets are parameters of the written
--- names, and the rows that it changes are under the table of the written name
-abbrev pub IsStatementOf : (Name → Name → Option ℕ) → (Name → ℕ → Type 0) → Name → List ParameterDesc → Statement → BoundStatement → Type 0
-IsStatementOf base_number IsNumberOf user parameters (tree.Open name) (statement.Open n) = IsNumberOf name n
-IsStatementOf base_number IsNumberOf user parameters (tree.Fetch f) (statement.Fetch bound) = IsFetchOf IsNumberOf parameters f bound
-IsStatementOf base_number IsNumberOf user parameters (tree.Close name) (statement.Close n) = IsNumberOf name n
-IsStatementOf base_number IsNumberOf user parameters (tree.Select s) (statement.Select bound) = AreOutputsOf parameters bound.outputs (listed s.targets)
-IsStatementOf base_number IsNumberOf user parameters (tree.Insert i) (statement.Insert bound) = IsUnder base_number user i.table bound.leaf
-IsStatementOf base_number IsNumberOf user parameters (tree.Update u) (statement.Update bound) = IsUnder base_number user u.table (under bound.target) × IsTargetOf IsNumberOf u.target bound.target
-IsStatementOf base_number IsNumberOf user parameters (tree.Delete d) (statement.Delete t) = IsUnder base_number user d.table (under t) × IsTargetOf IsNumberOf d.target t
-IsStatementOf base_number IsNumberOf user parameters (tree.Commit work) statement.Commit = ⊤
-IsStatementOf base_number IsNumberOf user parameters (tree.Rollback work) statement.Rollback = ⊤
-IsStatementOf base_number IsNumberOf user parameters _ _ = ⊥
+-- a set clause gives the column of the written name its value
+pub record IsSetTo (a : Around) (columns : List Column) (w : Assignment) (b : BoundAssignment) : Type 0 where
+  pub column : leaf_named columns w.column ≡ Some b.column.position
+  pub value : ExprIs [] (value_placed a w.value) b.value
+
+-- so does each, in their order (13.9, 13.10)
+abbrev pub AreSetTo : Around → List Column → List Assignment → List BoundAssignment → Type 0
+AreSetTo a columns = AllZip (IsSetTo a columns)
+
+abbrev pub SetOn : Around → TableName → Option KnownTable → List Assignment → List BoundAssignment → Type 0
+SetOn a t None ws bs = ⊥
+SetOn a t (Some k) ws bs = AreSetTo (inside (item_at_leaf t k ∷ []) a) k.columns ws bs
+
+-- ---- statements
+
+-- what names mean where a statement stands: the places of base tables by their owners and names, and all tables and views
+pub record NamesMean : Type 0 where
+  pub base_number : Name → Name → Option ℕ
+  pub known : KnownTables
+
+-- SELECT INTO: the targets, and the query (13.5)
+pub record IsRowOf (a : Around) (user : Name) (s : Select) (row : BoundSelect) : Type 0 where
+  pub targets : AreOutputsOf a.parameters row.outputs (listed s.targets)
+  pub query : SelectIs (select_placed a (select_of_parts user s.quantifier s.list s.table)) row.query
+
+-- what the name of a table means
+abbrev pub table_known : KnownTables → TableName → Option KnownTable
+table_known known t = known t.user t.name
+
+-- INSERT: the table, its columns that get values, and the rows (13.8)
+pub record IsInsertOf (names : NamesMean) (a : Around) (user : Name) (i : Insert) (insert : BoundInsert) : Type 0 where
+  pub under : IsUnder names.base_number user i.table insert.leaf
+  pub columns : IntoTable (table_known a.known (table_of user i.table)) i.columns insert.columns
+  pub source : IsSourceOf a user i.source insert.source
+
+-- DELETE: the table, and the rows (13.6, 13.7)
+pub record IsDeleteOf (names : NamesMean) (IsNumberOf : Name → ℕ → Type 0) (a : Around) (user : Name) (d : Delete) (t : ChangeTarget) : Type 0 where
+  pub is_under : IsUnder names.base_number user d.table (under t)
+  pub rows : IsTargetOf IsNumberOf (filter_placed a user (table_of user d.table)) d.target t
+
+-- UPDATE: the table, the rows, and the set clauses (13.9, 13.10)
+pub record IsUpdateOf (names : NamesMean) (IsNumberOf : Name → ℕ → Type 0) (a : Around) (user : Name) (u : Update) (update : BoundUpdate) : Type 0 where
+  pub is_under : IsUnder names.base_number user u.table (under update.target)
+  pub rows : IsTargetOf IsNumberOf (filter_placed a user (table_of user u.table)) u.target update.target
+  pub values : SetOn a (table_of user u.table) (table_known a.known (table_of user u.table)) (listed u.assignments) update.assignments
+
+-- A statement in a module of the user: its cursors have the numbers that their names have, its targets are parameters of the written
+-- names, the rows that it changes are under the table of the written name, and its queries, conditions and values are the written ones.
+abbrev pub IsStatementOf : NamesMean → (Name → ℕ → Type 0) → Name → List ParameterDesc → Statement → BoundStatement → Type 0
+IsStatementOf names IsNumberOf user parameters (tree.Open name) (statement.Open n) = IsNumberOf name n
+IsStatementOf names IsNumberOf user parameters (tree.Fetch f) (statement.Fetch x) = IsFetchOf IsNumberOf parameters f x
+IsStatementOf names IsNumberOf user parameters (tree.Close name) (statement.Close n) = IsNumberOf name n
+IsStatementOf names IsNumberOf user parameters (tree.Select s) (statement.Select x) = IsRowOf (outside names.known parameters) user s x
+IsStatementOf names IsNumberOf user parameters (tree.Insert i) (statement.Insert x) = IsInsertOf names (outside names.known parameters) user i x
+IsStatementOf names IsNumberOf user parameters (tree.Update u) (statement.Update x) = IsUpdateOf names IsNumberOf (outside names.known parameters) user u x
+IsStatementOf names IsNumberOf user parameters (tree.Delete d) (statement.Delete t) = IsDeleteOf names IsNumberOf (outside names.known parameters) user d t
+IsStatementOf names IsNumberOf user parameters (tree.Commit work) statement.Commit = ⊤
+IsStatementOf names IsNumberOf user parameters (tree.Rollback work) statement.Rollback = ⊤
+IsStatementOf names IsNumberOf user parameters _ _ = ⊥

@@ -1,6 +1,6 @@
 //! INSERT, UPDATE and DELETE (ISO/IEC 9075:1992, 13.6 to 13.10).
 
-ghost use Rattle.std.specs.Prelude.{◌≡◌, ◌∷◌, ◌++◌, ◌<◌, [], length, true, IfOk, List, Ok, OnOk, Some};
+ghost use Rattle.std.specs.Prelude.{◌≡◌, ◌∷◌, ◌++◌, ◌<◌, [], length, map, slice_get, true, IfOk, List, None, Ok, OnOk, Some};
 ghost use Rattle.std.specs.List.{AllByRecursion, AllZip};
 ghost use Rattle.sq_bound.specs.declared.condition.TablePlace.TheVariants.{Base};
 ghost use Rattle.sq_bound.specs.declared.expression.BoundExpr.{BoundExpr as BoundTree};
@@ -11,7 +11,16 @@ ghost use Rattle.sq_bound.specs.WellFormed.{IsAssignment, IsChangeTarget, IsLeaf
 ghost use Rattle.sq_scope.specs.WellFormed.{AreLevelsIn, IsItemOver};
 ghost use Rattle.sq_scope.specs.declared.findings.Found.{Found as FoundPart};
 ghost use Rattle.sq_value.specs.declared.domain.Kind.{Kind as KindOf};
-ghost use Rattle.sq_bind.specs.Written.{IsTargetOf, IsUnder};
+ghost use Rattle.sq_bind.specs.Written.{AreInto, AreSetTo, IntoTable, IsSourceOf, IsTargetOf, IsUnder, SetOn, filter_on, filter_placed, leaf_named, table_known, value_placed};
+ghost use Rattle.sq_tree.specs.declared.cond.Cond.{Cond as AnyCond};
+ghost use Rattle.sq_tree.specs.declared.statement.Assignment.{Assignment as AnyAssignment};
+ghost use Rattle.sq_tree.specs.declared.statement.InsertSource.TheVariants.{Values};
+ghost use Rattle.sq_meaning.specs.Spelled.{listed, table_of};
+ghost use Rattle.sq_meaning.specs.Status.{Outcome};
+ghost use Rattle.sq_bound.specs.Condition.{PlacedClause};
+ghost use Rattle.sq_bound.specs.Known.{KnownTables, known_by};
+ghost use Rattle.sq_select.specs.Placed.{around, inside};
+ghost use Rattle.sq_select.specs.Written.{Being, ExprIs};
 ghost use Rattle.sq_bind.specs.WellFormed.{AreReceivers, IsInsertedQuery, IsNewValueIn, IsOutermost, IsStoredIn, objects_of};
 
 use crate::cursors::Cursors;
@@ -43,6 +52,9 @@ fn changed_table<N: Names>(
     ensures base { IfOk result (λ under. IsBase (N.base_tables names.now) under.leaf.now.table) }
     ensures leaf { IfOk result (λ under. IsLeaf (N.column_kinds names.now) under.leaf.now) }
     ensures named { IfOk result (λ under. IsUnder (N.base_number names.now) user written under.leaf.now) }
+    ensures known { IfOk result (λ under. let name = table_of user written in
+        N.known names.now name.user name.name ≡ Some (known_by under.table.now)) }
+    ensures owner { IfOk result (λ under. table_of user written ≡ record { user = under.table.now.user; name = under.table.now.name }) }
 {
     let table = named_table(names, user, written)?;
     match under_table(table) {
@@ -62,6 +74,7 @@ struct Receiver {
 fn receiver_of(under: Under<'_>, name: Name) -> Result<Receiver, BindFault>
     ensures position { IfOk result (λ receiver. receiver.object.position < length under.entry.leaf.now.table.columns) }
     ensures column { IfOk result (λ receiver. IsColumnOf under.entry.leaf.now.table receiver.object) }
+    ensures named { IfOk result (λ receiver. leaf_named under.entry.table.now.columns name ≡ Some receiver.object.position) }
 {
     match under.table.column(name) {
         Some(position) => Ok(receiver_at(under, position)),
@@ -74,6 +87,7 @@ fn receiver_at(under: Under<'_>, position: usize) -> Receiver
     requires { position < length under.table.now.columns }
     ensures position { result.object.position < length under.entry.leaf.now.table.columns }
     ensures column { IsColumnOf under.entry.leaf.now.table result.object }
+    ensures at_leaf { slice_get (map (λ c. c.leaf_column) under.entry.table.now.columns) position ≡ Some result.object.position }
 {
     let column = under.table.columns.as_slice()[position];
     let base = under.leaf.get().table.get();
@@ -104,7 +118,8 @@ fn insert_receivers(
     under: Under<'_>,
     columns: &Option<CommaList<Name>>,
 ) -> Result<Items<Receiver>, BindFault>
-    ensures { IfOk result (AreReceivers under.entry.leaf.now.table) }
+    ensures there { IfOk result (AreReceivers under.entry.leaf.now.table) }
+    ensures into { IfOk result (λ receivers. AreInto under.entry.table.now.columns columns.now (objects_of receivers)) }
 {
     match columns {
         Some(list) => listed_receivers(alloc, under, list),
@@ -117,7 +132,8 @@ fn listed_receivers(
     under: Under<'_>,
     list: &CommaList<Name>,
 ) -> Result<Items<Receiver>, BindFault>
-    ensures { IfOk result (AreReceivers under.entry.leaf.now.table) }
+    ensures there { IfOk result (AreReceivers under.entry.leaf.now.table) }
+    ensures into { IfOk result (λ receivers. AreInto under.entry.table.now.columns (Some list.now) (objects_of receivers)) }
 {
     let mut receivers = Items::new(alloc);
     push_receiver(&mut receivers, receiver_of(under, list.first)?)?;
@@ -128,7 +144,8 @@ fn listed_receivers(
 }
 
 fn all_receivers(alloc: Global, under: Under<'_>) -> Result<Items<Receiver>, BindFault>
-    ensures { IfOk result (AreReceivers under.entry.leaf.now.table) }
+    ensures there { IfOk result (AreReceivers under.entry.leaf.now.table) }
+    ensures into { IfOk result (λ receivers. AreInto under.entry.table.now.columns None (objects_of receivers)) }
 {
     let mut receivers = Items::new(alloc);
     for position in 0..under.table.columns.len() {
@@ -154,7 +171,8 @@ fn new_value(
     column: ObjectColumn,
     environment: &Environment<'_>,
 ) -> Result<Found<BoundExpr>, BindFault>
-    ensures { IfOk result (λ found. IsNewValueIn environment.now column found.part) }
+    ensures well_formed { IfOk result (λ found. IsNewValueIn environment.now column found.part) }
+    ensures written { (known : KnownTables) → IfOk result (Being (ExprIs [] (value_placed (around known environment.now) value.now))) }
 {
     match value {
         NewValue::Null => Ok(Found {
@@ -195,8 +213,11 @@ pub(crate) fn bind_insert<N: Names>(
     ensures leaf { IfOk result (λ found. IsLeaf (N.column_kinds names.now) found.part.leaf) }
     ensures table { IfOk result (λ found. IsUnder (N.base_number names.now) environment.now.user insert.now.table found.part.leaf) }
     ensures columns { IfOk result (λ found. AllByRecursion (IsColumnOf found.part.leaf.table) found.part.columns) }
+    ensures into { IfOk result (λ found. IntoTable (table_known (N.known names.now) (table_of environment.now.user insert.now.table))
+        insert.now.columns found.part.columns) }
     ensures source { IfOk result (λ found. IsSource (N.column_kinds names.now) (kinds_of_parameters environment.now.parameters.now)
         found.part.columns found.part.source) }
+    ensures written { IfOk result (λ found. IsSourceOf (around (N.known names.now) environment.now) environment.now.user insert.now.source found.part.source) }
 {
     let under = changed_table(names, environment.user, insert.table)?;
     let parts = insert_parts(insert, names, environment, under, numbers)?;
@@ -240,8 +261,10 @@ fn insert_parts<N: Names>(
 ) -> Result<(Items<ObjectColumn>, Found<InsertedRows>), BindFault>
     requires { IsOutermost environment.now }
     ensures columns { IfOk result (λ parts. AllByRecursion (IsColumnOf under.entry.leaf.now.table) parts.0) }
+    ensures into { IfOk result (λ parts. AreInto under.entry.table.now.columns insert.now.columns parts.0) }
     ensures source { IfOk result (λ parts. IsSource (N.column_kinds names.now) (kinds_of_parameters environment.now.parameters.now) parts.0
         parts.1.part) }
+    ensures written { IfOk result (λ parts. IsSourceOf (around (N.known names.now) environment.now) environment.now.user insert.now.source parts.1.part) }
 {
     let receivers = insert_receivers(environment.alloc, under, &insert.columns)?;
     let columns = object_columns(environment.alloc, receivers.as_slice());
@@ -272,8 +295,9 @@ fn insert_source<N: Names>(
     numbers: &mut SubqueryNumbers,
 ) -> Result<Found<InsertedRows>, BindFault>
     requires { IsOutermost environment.now }
-    ensures { IfOk result (λ found. IsSource (N.column_kinds names.now) (kinds_of_parameters environment.now.parameters.now)
+    ensures well_formed { IfOk result (λ found. IsSource (N.column_kinds names.now) (kinds_of_parameters environment.now.parameters.now)
         (objects_of receivers.now) found.part) }
+    ensures written { IfOk result (Being (IsSourceOf (around (N.known names.now) environment.now) environment.now.user source.now)) }
 {
     match source {
         InsertSource::Values(list) => insert_values(list, environment, receivers),
@@ -325,8 +349,10 @@ fn insert_values(
     receivers: &[Receiver],
 ) -> Result<Found<InsertedRows>, BindFault>
     requires { IsOutermost environment.now }
-    ensures { (columns : TableKinds)
+    ensures well_formed { (columns : TableKinds)
         → IfOk result (λ found. IsSource columns (kinds_of_parameters environment.now.parameters.now) (objects_of receivers.now) found.part) }
+    ensures written { (known : KnownTables)
+        → IfOk result (Being (IsSourceOf (around known environment.now) environment.now.user (Values list.now))) }
 {
     let Some((first, others)) = receivers.split_first() else {
         return Err(BindFault::CountMismatch);
@@ -375,7 +401,8 @@ fn change_target<'s, N: Names, C: Cursors>(
     ensures cursor { IfOk result (λ found. is_cursor (C.cursor_count cursors.now) found.part ≡ true) }
     ensures well_formed { IfOk result (λ found. IsChangeTarget (N.column_kinds names.now)
         (kinds_of_parameters environment.now.parameters.now) found.part) }
-    ensures written { IfOk result (λ found. IsTargetOf (λ name number. C.number_of cursors.now name ≡ Some number) target.now found.part) }
+    ensures written { IfOk result (λ found. IsTargetOf (λ name number. C.number_of cursors.now name ≡ Some number)
+        (filter_on (around (N.known names.now) environment.now) environment.now.user item.now) target.now found.part) }
 {
     match target {
         Some(Where::CurrentOf(name)) => positioned(*name, cursors, under),
@@ -410,8 +437,8 @@ fn positioned<C: Cursors>(
     ensures cursor { IfOk result (λ found. is_cursor (C.cursor_count cursors.now) found.part ≡ true) }
     ensures well_formed { (columns : TableKinds) (parameters : List KindOf) → IsLeaf columns under.entry.leaf.now
         → IfOk result (λ found. IsChangeTarget columns parameters found.part) }
-    ensures written { IfOk result (λ found. IsTargetOf (λ name number. C.number_of cursors.now name ≡ Some number) (Some (CurrentOf name))
-        found.part) }
+    ensures written { (filter : AnyCond → Outcome PlacedClause)
+        → IfOk result (λ found. IsTargetOf (λ name number. C.number_of cursors.now name ≡ Some number) filter (Some (CurrentOf name)) found.part) }
 {
     let Some(known) = cursors.cursor(name) else {
         return Err(BindFault::UnknownCursor);
@@ -452,8 +479,8 @@ pub(crate) fn bind_delete<N: Names, C: Cursors>(
     ensures table { IfOk result (λ found. IsUnder (N.base_number names.now) environment.now.user delete.now.table (leaf_of found.part)) }
     ensures well_formed { IfOk result (λ found. IsChangeTarget (N.column_kinds names.now)
         (kinds_of_parameters environment.now.parameters.now) found.part) }
-    ensures written { IfOk result (λ found. IsTargetOf (λ name number. C.number_of cursors.now name ≡ Some number) delete.now.target
-        found.part) }
+    ensures written { IfOk result (λ found. IsTargetOf (λ name number. C.number_of cursors.now name ≡ Some number)
+        (filter_placed (around (N.known names.now) environment.now) environment.now.user (table_of environment.now.user delete.now.table)) delete.now.target found.part) }
 {
     let under = changed_table(names, environment.user, delete.table)?;
     let item = item_over(environment.alloc, under.table, None, true)?;
@@ -499,8 +526,10 @@ pub(crate) fn bind_update<N: Names, C: Cursors>(
     ensures target { IfOk result (λ found. FitsTarget (N.base_tables names.now) (C.cursor_count cursors.now) found.part.target) }
     ensures table { IfOk result (λ found. IsUnder (N.base_number names.now) environment.now.user update.now.table
         (leaf_of found.part.target)) }
-    ensures written { IfOk result (λ found. IsTargetOf (λ name number. C.number_of cursors.now name ≡ Some number) update.now.target
-        found.part.target) }
+    ensures written { IfOk result (λ found. IsTargetOf (λ name number. C.number_of cursors.now name ≡ Some number)
+        (filter_placed (around (N.known names.now) environment.now) environment.now.user (table_of environment.now.user update.now.table)) update.now.target found.part.target) }
+    ensures set { IfOk result (λ found. SetOn (around (N.known names.now) environment.now) (table_of environment.now.user update.now.table)
+        (table_known (N.known names.now) (table_of environment.now.user update.now.table)) (listed update.now.assignments) found.part.assignments) }
     ensures columns { IfOk result (λ found. are_columns (length (leaf_of found.part.target).table.columns) found.part.assignments ≡ true) }
     ensures well_formed { IfOk result (λ found. IsChangeTarget (N.column_kinds names.now)
         (kinds_of_parameters environment.now.parameters.now) found.part.target) }
@@ -545,6 +574,8 @@ fn assignments_of<'s, N: Names>(
     ensures columns { IfOk result (λ assignments. are_columns (length under.entry.leaf.now.table.columns) assignments.bound ≡ true) }
     ensures assigned { IfOk result (λ assignments. AllByRecursion (IsAssignment (N.column_kinds names.now)
         (kinds_of_parameters environment.now.parameters.now) under.entry.leaf.now.table) assignments.bound) }
+    ensures written { (known : KnownTables) → IfOk result (λ assignments. AreSetTo (inside (item.now ∷ []) (around known environment.now))
+        under.entry.table.now.columns (listed list.now) assignments.bound) }
 {
     let scope = environment.scope_over(from_ref(item), None);
     assignments_within(list, names, &environment.within(scope), under)
@@ -560,6 +591,8 @@ fn assignments_within<N: Names>(
     ensures columns { IfOk result (λ assignments. are_columns (length under.entry.leaf.now.table.columns) assignments.bound ≡ true) }
     ensures assigned { IfOk result (λ assignments. AllByRecursion (IsAssignment (N.column_kinds names.now)
         (kinds_of_parameters environment.now.parameters.now) under.entry.leaf.now.table) assignments.bound) }
+    ensures written { (known : KnownTables)
+        → IfOk result (λ assignments. AreSetTo (around known environment.now) under.entry.table.now.columns (listed list.now) assignments.bound) }
 {
     let mut assignments = Assignments {
         receivers: Items::new(environment.alloc),
@@ -588,6 +621,8 @@ impl Assignments {
         ensures columns { OnOk result (are_columns (length under.entry.leaf.now.table.columns) self.new.bound ≡ true) }
         ensures assigned { OnOk result (AllByRecursion (IsAssignment (N.column_kinds names.now)
             (kinds_of_parameters environment.now.parameters.now) under.entry.leaf.now.table) self.new.bound) }
+        ensures written { (known : KnownTables) (before : List AnyAssignment) → AreSetTo (around known environment.now) under.entry.table.now.columns before self.old.bound
+            → OnOk result (AreSetTo (around known environment.now) under.entry.table.now.columns (before ++ assignment.now ∷ []) self.new.bound) }
     {
         let receiver = receiver_of(under, assignment.column)?;
         push_receiver(&mut self.receivers, receiver)?;

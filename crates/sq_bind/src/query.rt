@@ -1,6 +1,6 @@
 //! Query expressions and cursors (ISO/IEC 9075:1992, 7.10, 13.1).
 
-ghost use Rattle.std.specs.Prelude.{◌≡◌, ℕ, [], List, IfOk, Some};
+ghost use Rattle.std.specs.Prelude.{◌≡◌, ℕ, [], List, IfOk, IfSome, Ok, Some};
 ghost use Rattle.std.specs.Result.{result_ok};
 ghost use Rattle.sq_value.specs.declared.domain.Kind.{Kind as AnyKind};
 ghost use Rattle.sq_meaning.specs.Kind.{common_kind};
@@ -9,7 +9,16 @@ ghost use Rattle.sq_bound.specs.Numbered.{AreNumbered, SelectWith};
 ghost use Rattle.sq_bound.specs.NumberedQuery.{CursorHasNumbers, QueryWith};
 ghost use Rattle.sq_select.specs.Numbering.{Numbering};
 ghost use Rattle.sq_bind.specs.WellFormed.{AreCommon, IsJoined, IsOutermost, IsTerm};
-ghost use Rattle.sq_bind.specs.Written.{IsCursorOf};
+ghost use Rattle.sq_bind.specs.Spelled.{JoinedIs, TermIs};
+ghost use Rattle.sq_bind.specs.Written.{HasRowsOf, HasWordsOf, IsCursorOf, QueryIs, query_placed};
+ghost use Rattle.sq_lex.specs.declared.name.Name.{Name as AnyName};
+ghost use Rattle.sq_meaning.specs.Spelled.{query_of, query_term_of, select_of};
+ghost use Rattle.sq_meaning.specs.Status.{Outcome, and_then};
+ghost use Rattle.sq_meaning.specs.Syntax.{specification, union};
+ghost use Rattle.sq_bound.specs.Condition.{PlacedSelect};
+ghost use Rattle.sq_bound.specs.Query.{PlacedQuery};
+ghost use Rattle.sq_select.specs.Placed.{around};
+ghost use Rattle.sq_select.specs.Written.{Being, SelectIs};
 ghost use Rattle.sq_bound.specs.Fits.{FitsCursor, FitsQuery};
 ghost use Rattle.sq_bound.specs.WellFormed.{BasesAreThere, IsCursor, IsQuery, IsSelect, IsUpdatable, TableKinds, kinds_of_parameters, kinds_of_select};
 ghost use Rattle.sq_bound.specs.declared.names.BaseTable.{BaseTable as AnyTable};
@@ -59,6 +68,7 @@ pub(crate) fn bind_query<N: Names>(
     requires { IsOutermost environment.now }
     ensures well_formed { IfOk result (IsJoined (N.column_kinds names.now) (kinds_of_parameters environment.now.parameters.now)) }
     ensures numbering { IfOk result (QueryNumbering numbers.old numbers.new) }
+    ensures written { IfOk result (JoinedIs (query_placed (around (N.known names.now) environment.now) (query_of environment.now.user query.now))) }
 {
     let first = bind_query_term(&query.first, names, environment, numbers);
     let mut joined = started(environment.alloc, first);
@@ -79,6 +89,7 @@ fn bind_query_term<N: Names>(
     requires { IsOutermost environment.now }
     ensures well_formed { IfOk result (IsTerm (N.column_kinds names.now) (kinds_of_parameters environment.now.parameters.now)) }
     ensures numbering { IfOk result (TermNumbering numbers.old numbers.new) }
+    ensures written { IfOk result (TermIs (query_placed (around (N.known names.now) environment.now) (query_term_of environment.now.user term.now))) }
 {
     match term {
         QueryTerm::Specification(query) => {
@@ -110,6 +121,8 @@ fn specification_term(alloc: Global, query: SubqueryResult) -> TermResult
     ensures well_formed { (tables : TableKinds) (parameters : List AnyKind) → IfOk query (λ found. IsSelect tables parameters [] found.part)
         → IfOk result (IsTerm tables parameters) }
     ensures numbering { (a b : ℕ) → IfOk query (Numbering SelectWith a b) → IfOk result (TermNumbering a b) }
+    ensures written { (text : Outcome PlacedSelect) → IfOk query (Being (SelectIs text))
+        → IfOk result (TermIs (and_then text (λ s. Ok (specification s)))) }
 {
     let found = query?;
     let lacks_privilege = found.findings.lacks_privilege;
@@ -126,6 +139,7 @@ fn bracketed_term(alloc: Global, query: JoinedResult) -> TermResult
     ensures well_formed { (tables : TableKinds) (parameters : List AnyKind) → IfOk query (IsJoined tables parameters)
         → IfOk result (IsTerm tables parameters) }
     ensures numbering { (a b : ℕ) → IfOk query (QueryNumbering a b) → IfOk result (TermNumbering a b) }
+    ensures written { (text : Outcome PlacedQuery) → IfOk query (JoinedIs text) → IfOk result (TermIs text) }
 {
     let Joined {
         query,
@@ -150,6 +164,7 @@ fn started(alloc: Global, term: TermResult) -> JoinedResult
     ensures well_formed { (tables : TableKinds) (parameters : List AnyKind) → IfOk term (IsTerm tables parameters)
         → IfOk result (IsJoined tables parameters) }
     ensures numbering { (a b : ℕ) → IfOk term (TermNumbering a b) → IfOk result (QueryNumbering a b) }
+    ensures written { (text : Outcome PlacedQuery) → IfOk term (TermIs text) → IfOk result (JoinedIs text) }
 {
     let Term {
         term,
@@ -171,6 +186,8 @@ fn with_union(alloc: Global, joined: JoinedResult, all: bool, term: TermResult) 
     ensures numbering { (a b c : ℕ) → IfOk joined (QueryNumbering a b) → IfOk term (TermNumbering b c) → IfOk result (QueryNumbering a c) }
     ensures well_formed { (tables : TableKinds) (parameters : List AnyKind) → IfOk joined (IsJoined tables parameters)
         → IfOk term (IsTerm tables parameters) → IfOk result (IsJoined tables parameters) }
+    ensures written { (left right : Outcome PlacedQuery) → IfOk joined (JoinedIs left) → IfOk term (TermIs right)
+        → IfOk result (JoinedIs (and_then left (λ x. and_then right (λ y. Ok (union all x y))))) }
 {
     let (joined, term) = both(joined, term)?;
     let columns = common_columns(
@@ -195,6 +212,8 @@ fn push_union(
     ensures well_formed { (tables : TableKinds) (parameters : List AnyKind)
         → AreCommon (out-BoundQuery joined.query).columns term.columns columns → copy ≡ columns → IsJoined tables parameters joined
         → IsTerm tables parameters term → IfOk result (IsJoined tables parameters) }
+    ensures written { (left right : Outcome PlacedQuery) → JoinedIs left joined → TermIs right term
+        → IfOk result (JoinedIs (and_then left (λ x. and_then right (λ y. Ok (union all x y))))) }
 {
     let BoundQuery {
         first,
@@ -330,7 +349,9 @@ fn sort_columns(
 
 /// The query specification that a query expression is, if there is no UNION; brackets around it change nothing.
 #[cycle(sole_specification)]
-fn sole_specification(query: &Query) -> Option<&QuerySpecification> {
+fn sole_specification(query: &Query) -> Option<&QuerySpecification>
+    ensures written { (own : AnyName) → IfSome result (λ s. query_of own query.now ≡ specification (select_of own s.now)) }
+{
     if query.rest.is_empty() {
         sole_term(&query.first)
     } else {
@@ -339,7 +360,9 @@ fn sole_specification(query: &Query) -> Option<&QuerySpecification> {
 }
 
 #[cycle(sole_specification)]
-fn sole_term(term: &QueryTerm) -> Option<&QuerySpecification> {
+fn sole_term(term: &QueryTerm) -> Option<&QuerySpecification>
+    ensures written { (own : AnyName) → IfSome result (λ s. query_term_of own term.now ≡ specification (select_of own s.now)) }
+{
     match term {
         QueryTerm::Specification(query) => Some(query),
         QueryTerm::Bracketed(query) => sole_specification(query.get()),
@@ -348,7 +371,9 @@ fn sole_term(term: &QueryTerm) -> Option<&QuerySpecification> {
 
 /// The query specification that a cursor's query is, where the cursor may be updatable (13.1; own rule): there is no UNION, and
 /// neither ORDER BY nor SCROLL nor INSENSITIVE is written.
-fn plain_specification(cursor: &Cursor) -> Option<&QuerySpecification> {
+fn plain_specification(cursor: &Cursor) -> Option<&QuerySpecification>
+    ensures { (own : AnyName) → IfSome result (λ s. query_of own cursor.now.query ≡ specification (select_of own s.now)) }
+{
     if cursor.insensitive || cursor.scroll || cursor.order_by.is_some() {
         None
     } else {
@@ -367,7 +392,7 @@ pub(crate) fn cursor_of<N: Names>(
     requires outermost { IsOutermost environment.now }
     ensures fits { IfOk result (FitsCursor (N.base_tables names.now)) }
     ensures well_formed { IfOk result (IsCursor (N.column_kinds names.now) (kinds_of_parameters environment.now.parameters.now)) }
-    ensures written { IfOk result (IsCursorOf cursor.now) }
+    ensures written { IfOk result (IsCursorOf (N.known names.now) environment.now.user environment.now.parameters.now cursor.now) }
     ensures numbered { IfOk result (λ cursor. CursorHasNumbers cursor.body) }
 {
     match plain_specification(cursor) {
@@ -389,9 +414,10 @@ fn specification_cursor<N: Names>(
 ) -> Result<BoundCursor, BindFault>
     requires bases { BasesAreThere (N.base_tables names.now) (N.column_kinds names.now) }
     requires outermost { IsOutermost environment.now }
+    requires sole { query_of environment.now.user cursor.now.query ≡ specification (select_of environment.now.user query.now) }
     ensures fits { IfOk result (FitsCursor (N.base_tables names.now)) }
     ensures well_formed { IfOk result (IsCursor (N.column_kinds names.now) (kinds_of_parameters environment.now.parameters.now)) }
-    ensures written { IfOk result (IsCursorOf cursor.now) }
+    ensures written { IfOk result (IsCursorOf (N.known names.now) environment.now.user environment.now.parameters.now cursor.now) }
     ensures numbered { IfOk result (λ cursor. CursorHasNumbers cursor.body) }
 {
     let found = bind_select(
@@ -423,7 +449,8 @@ fn query_cursor(
     ensures fits { (bases : List AnyTable) → IfOk result (FitsCursor bases) }
     ensures well_formed { (tables : TableKinds) (parameters : List AnyKind) → IfOk query (IsJoined tables parameters)
         → IfOk result (IsCursor tables parameters) }
-    ensures written { IfOk result (IsCursorOf cursor.now) }
+    ensures words { IfOk result (HasWordsOf cursor.now) }
+    ensures rows { (text : Outcome PlacedQuery) → IfOk query (JoinedIs text) → IfOk result (λ cursor. HasRowsOf text cursor.body) }
     ensures numbered { (a b : ℕ) → IfOk query (QueryNumbering a b) → IfOk result (λ cursor. CursorHasNumbers cursor.body) }
 {
     let Joined {
@@ -448,7 +475,9 @@ fn read_cursor(
     ensures fits { (bases : List AnyTable) → IfOk result (FitsCursor bases) }
     ensures well_formed { (tables : TableKinds) (parameters : List AnyKind) → IsSelect tables parameters [] query.part
         → IfOk result (IsCursor tables parameters) }
-    ensures written { IfOk result (IsCursorOf cursor.now) }
+    ensures words { IfOk result (HasWordsOf cursor.now) }
+    ensures rows { (text : Outcome PlacedSelect) → Being (SelectIs text) query
+        → IfOk result (λ cursor. HasRowsOf (and_then text (λ s. Ok (specification s))) cursor.body) }
     ensures numbered { (a b : ℕ) → Numbering SelectWith a b query → IfOk result (λ cursor. CursorHasNumbers cursor.body) }
 {
     let joined = started(alloc, specification_term(alloc, Ok(query)))?;
@@ -465,7 +494,8 @@ fn rows_cursor(
     ensures fits { (bases : List AnyTable) → IfOk result (FitsCursor bases) }
     ensures well_formed { (tables : TableKinds) (parameters : List AnyKind) → IsQuery tables parameters query
         → IfOk result (IsCursor tables parameters) }
-    ensures written { IfOk result (IsCursorOf cursor.now) }
+    ensures words { IfOk result (HasWordsOf cursor.now) }
+    ensures rows { (text : Outcome PlacedQuery) → QueryIs text query → IfOk result (λ cursor. HasRowsOf text cursor.body) }
     ensures numbered { (a b : ℕ) → AreNumbered QueryWith a b query → IfOk result (λ cursor. CursorHasNumbers cursor.body) }
 {
     let columns = copied(alloc, &query.columns);
@@ -489,7 +519,8 @@ fn updatable_cursor(
     ensures fits { (bases : List AnyTable) → FitsQuery bases over.1 → IfOk result (FitsCursor bases) }
     ensures well_formed { (tables : TableKinds) (parameters : List AnyKind)
         → IsUpdatable tables parameters (kinds_of_select query.part) over.1 → IfOk result (IsCursor tables parameters) }
-    ensures written { IfOk result (IsCursorOf cursor.now) }
+    ensures words { IfOk result (HasWordsOf cursor.now) }
+    ensures rows { (text : Outcome PlacedQuery) → IfOk result (λ cursor. HasRowsOf text cursor.body) }
     ensures numbered { IfOk result (λ cursor. CursorHasNumbers cursor.body) }
 {
     let columns = copied(alloc, &query.part.columns);

@@ -14,8 +14,10 @@ ghost use Rattle.sq_scope.specs.declared.findings.Found.{Found as FoundPart};
 ghost use Rattle.sq_bind.specs.NoBases.{no_base, no_view};
 ghost use Rattle.sq_bind.specs.Updatable.{AreColumns};
 ghost use Rattle.sq_bind.specs.WellFormed.{IsOutermost};
-ghost use Rattle.sq_bind.specs.Written.{AreOutputsOf, IsCursorOf, IsDistanceOf, IsFetchOf, IsOrientationOf, IsStatementOf, orientation_of};
-ghost use Rattle.sq_meaning.specs.Spelled.{has_point, listed, signed_number};
+ghost use Rattle.sq_bind.specs.Written.{IsCursorOf, IsDistanceOf, IsFetchOf, IsOrientationOf, IsRowOf, IsStatementOf, orientation_of};
+ghost use Rattle.sq_meaning.specs.Spelled.{has_point, select_of, signed_number};
+ghost use Rattle.sq_select.specs.Placed.{around, select_placed};
+ghost use Rattle.sq_select.specs.Written.{SelectIs};
 ghost use Rattle.sq_bound.specs.declared.statement.BoundStatement.TheVariants.{Delete, Insert, Update};
 
 use crate::change::{bind_delete, bind_insert, bind_update};
@@ -54,7 +56,7 @@ pub fn bind_cursor<N: Names>(
     requires { BasesAreThere (N.base_tables names.now) (N.column_kinds names.now) }
     ensures fits { IfOk result (FitsCursor (N.base_tables names.now)) }
     ensures well_formed { IfOk result (IsCursor (N.column_kinds names.now) (kinds_of_parameters parameters.now)) }
-    ensures written { IfOk result (IsCursorOf cursor.now) }
+    ensures written { IfOk result (IsCursorOf (N.known names.now) user parameters.now cursor.now) }
     ensures numbered { IfOk result (λ cursor. CursorHasNumbers cursor.body) }
 {
     let environment = Environment::new(alloc, user, parameters);
@@ -83,6 +85,8 @@ pub fn bind_view<N: Names>(
     requires { BasesAreThere (N.base_tables names.now) (N.column_kinds names.now) }
     ensures fits { IfOk result (λ view. IfSome view.updatable (λ over. FitsQuery (N.base_tables names.now) over.1)) }
     ensures well_formed { IfOk result (λ view. IsSelect (N.column_kinds names.now) [] [] view.query) }
+    ensures written { IfOk result (λ view. SelectIs (select_placed (record { known = N.known names.now; parameters = []; scopes = [] })
+        (select_of user query.now)) view.query) }
     ensures updatable { IfOk result (λ view. IfSome view.updatable (λ over. IsUpdatable (N.column_kinds names.now) []
         (kinds_of_select view.query) over.1)) }
     ensures columns { IfOk result (λ view. IfSome view.updatable (λ _. AreColumns (out-BoundSpecification view.query).list)) }
@@ -128,6 +132,8 @@ impl Names for OwnColumns<'_> {
     ghost base_tables = { λ _. [] };
 
     ghost base_number = { λ _ _ _. None };
+
+    ghost known = { λ _ _ _. None };
 
     ghost view_queries = { λ _. [] };
 
@@ -242,8 +248,8 @@ pub fn bind_statement<N: Names, C: Cursors>(
     ensures fits { IfOk result (FitsStatement (N.base_tables names.now) (C.cursor_count cursors.now) (length parameters.now)) }
     ensures well_formed { IfOk result (IsStatement (N.column_kinds names.now) (C.cursor_kinds cursors.now)
         (kinds_of_parameters parameters.now)) }
-    ensures written { IfOk result (IsStatementOf (N.base_number names.now) (λ name number. C.number_of cursors.now name ≡ Some number) user
-        parameters.now statement.now) }
+    ensures written { IfOk result (IsStatementOf (record { base_number = N.base_number names.now; known = N.known names.now })
+        (λ name number. C.number_of cursors.now name ≡ Some number) user parameters.now statement.now) }
 {
     let environment = Environment::new(alloc, user, parameters);
     let mut numbers = SubqueryNumbers::new();
@@ -262,8 +268,8 @@ fn statement_of<N: Names, C: Cursors>(
         (length environment.now.parameters.now)) }
     ensures well_formed { IfOk result (IsStatement (N.column_kinds names.now) (C.cursor_kinds cursors.now)
         (kinds_of_parameters environment.now.parameters.now)) }
-    ensures written { IfOk result (IsStatementOf (N.base_number names.now) (λ name number. C.number_of cursors.now name ≡ Some number)
-        environment.now.user environment.now.parameters.now statement.now) }
+    ensures written { IfOk result (IsStatementOf (record { base_number = N.base_number names.now; known = N.known names.now })
+        (λ name number. C.number_of cursors.now name ≡ Some number) environment.now.user environment.now.parameters.now statement.now) }
 {
     match statement {
         Statement::Open(name) => Ok(BoundStatement::Open(known(cursors, *name)?.number)),
@@ -345,7 +351,7 @@ fn bind_row<N: Names>(
         row.query) }
     ensures kinds { IfOk result (λ row. TakeKinds (kinds_of_parameters environment.now.parameters.now) row.outputs
         (kinds_of_select row.query)) }
-    ensures written { IfOk result (λ row. AreOutputsOf environment.now.parameters.now row.outputs (listed select.now.targets)) }
+    ensures written { IfOk result (IsRowOf (around (N.known names.now) environment.now) environment.now.user select.now) }
 {
     let query = bind_select(
         &select.table,

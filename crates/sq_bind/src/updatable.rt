@@ -17,6 +17,10 @@ ghost use Rattle.sq_meaning.specs.WellFormed.{HasValue};
 ghost use Rattle.sq_scope.specs.WellFormed.{IsItemOver};
 ghost use Rattle.sq_bind.specs.WellFormed.{IsOutermost};
 ghost use Rattle.sq_bind.specs.Updatable.{AreColumns, AreLeaves, IsAmong, IsLeafOf};
+ghost use Rattle.std.specs.Option.{option_map};
+ghost use Rattle.sq_meaning.specs.Spelled.{clause, cond_of};
+ghost use Rattle.sq_select.specs.Placed.{around, clause_placed, inside};
+ghost use Rattle.sq_select.specs.Written.{ClauseIs};
 
 use sq_bound::{
     BindFault, BoundCond, BoundExpr, BoundSpecification, BoundTest, Column, Leaf, Names, Predicate,
@@ -266,6 +270,8 @@ pub(crate) fn bind_target<'s, N: Names>(
     ensures well_formed { IfOk result (λ found. IsTarget (N.column_kinds names.now) (kinds_of_parameters environment.now.parameters.now)
         found.part) }
     ensures condition { IfOk result (λ found. is_some found.part.condition ≡ is_some cond.entry) }
+    ensures written { IfOk result (λ found. ClauseIs [] (clause_placed (inside (item.now ∷ []) (around (N.known names.now) environment.now))
+        (clause (option_map (λ c. cond_of environment.now.user c.now) cond.entry))) found.part.condition) }
 {
     let Some(cond) = cond else {
         return whole_target(None, Findings::NONE, None, under);

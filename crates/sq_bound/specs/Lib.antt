@@ -6,6 +6,7 @@ pub mod Fits
 pub mod Groups
 pub mod Joined
 pub mod Keyed
+pub mod Known
 pub mod Names
 pub mod NotNull
 pub mod Noted

@@ -7,3 +7,4 @@ pub mod Quiet
 pub mod Seen
 pub mod Stored
 pub mod ViewQueries
+pub mod Known

@@ -3,7 +3,7 @@ use Rattle.std.proofs.Common.{zero, suc, ap, arith}
 use Rattle.std.specs.Prelude.{◌≡◌, ℕ, ◌+◌, ◌<◌, Bool, true, ◌&&◌, List, [], ◌∷◌, ◌++◌, length, flat_map, Ok, Option, None, Some, unwrap_or, nat_eq, position, slice_get}
 use Rattle.std.proofs.Math.Logic.{∥∥₁_prop}
 use Rattle.std.specs.Coded.{Π_prop}
-use Rattle.std.specs.Option.{option_map}
+use Rattle.std.specs.Option.{option_and_then, option_map}
 use Rattle.std.specs.Cmp.Lexicographic.{pointwise}
 use Rattle.sq_lex.specs.declared.name.Name.{Name}
 use Rattle.sq_tree.specs.declared.names.TableName.{TableName}
@@ -15,10 +15,13 @@ use Rattle.sq_value.specs.declared.domain.Kind.{Kind}
 use Rattle.sq_meaning.specs.Status.{well_formed}
 use Rattle.sq_meaning.specs.WellFormed.{HasValue}
 use Rattle.sq_bound.specs.Fits.{all_refer}
+use Rattle.sq_bound.specs.Known.{KnownTable, KnownTables}
 use Rattle.sq_bound.specs.WellFormed.{BasesAreThere, IsViewQuery, TableKinds, base_kinds, kinds_of_select}
 use Rattle.sq_bound.specs.declared.condition.BoundSpecification.{BoundSpecification}
+use Rattle.sq_bound.specs.declared.condition.TablePlace.{TablePlace}
 use Rattle.sq_bound.specs.declared.condition.TablePlace.TheVariants.{Base, View}
 use Rattle.sq_bound.specs.declared.names.BaseTable.{BaseTable}
+use Rattle.sq_bound.specs.declared.names.Column.{Column}
 use Rattle.sq_catalog.specs.declared.catalog.FullName.{FullName}
 
 -- the kinds of the columns of these base tables, and of views with these queries
@@ -33,13 +36,16 @@ AreViewQueries bases views = (place : ℕ) (kinds : List Kind) → kinds_at base
 pub AreViewQueries-prop : (bases : List BaseTable) (views : List BoundSpecification) → IsProp (AreViewQueries bases views)
 AreViewQueries-prop bases views = Π_prop λ place. Π_prop λ kinds. Π_prop λ known. ∥∥₁_prop
 
--- the base tables' names and the base tables, each at its place, with references to keys of base tables alone; and the views'
--- names and their queries, likewise
+-- the base tables' names, their columns and the base tables, each at its place, with references to keys of base tables alone; and
+-- the views' names, their columns and their queries, likewise
 pub record Catalog : Type 0 where
   pub tables : List FullName
+  pub columns : List (List Column)
   pub bases : List BaseTable
   pub view_names : List FullName
+  pub view_columns : List (List Column)
   pub views : List BoundSpecification
+  pub described : nat_eq (length columns) (length tables) ≡ true
   pub refer : all_refer bases ≡ true
   pub stand : AreViewQueries bases views
 
@@ -71,6 +77,18 @@ is_table user name t = pointwise nat_eq user t.user && pointwise nat_eq name t.n
 -- the place of the table of this owner and name
 abbrev pub table_number : List FullName → Name → Name → Option ℕ
 table_number tables user name = position (is_table user name) tables
+
+-- the table at a number, by its place there and its columns
+abbrev pub known_at : (ℕ → TablePlace) → List (List Column) → Option ℕ → Option KnownTable
+known_at at columns number = option_and_then (λ n. option_map (λ cs. record { place = at n; columns = cs }) (slice_get columns n)) number
+
+abbrev pub known_first : Option KnownTable → Option KnownTable → Option KnownTable
+known_first None other = other
+known_first (Some t) other = Some t
+
+-- what an owner and a name mean: a base table, or a view
+abbrev pub known : Catalog → KnownTables
+known c user name = known_first (known_at Base c.columns (table_number c.tables user name)) (known_at View c.view_columns (table_number c.view_names user name))
 
 -- no table and no view has the name (11.3, 11.19)
 abbrev pub IsNewName : Catalog → FullName → Type 0

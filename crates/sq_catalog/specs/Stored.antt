@@ -1,5 +1,8 @@
 -- Tables and views over the base tables of a catalog. (Own notion: they are found by places.)
-use Rattle.std.specs.Prelude.{⊤, ◌≡◌, ℕ, suc, true, List, [], ◌∷◌, ◌++◌, flat_map, length, slice_get, Option, Some, IfSome}
+use Rattle.std.specs.Prelude.{⊤, ◌≡◌, ℕ, suc, true, List, [], ◌∷◌, ◌++◌, flat_map, length, map, nat_eq, slice_get, Option, Some, IfSome}
+use Rattle.std.proofs.Common.{◌∙◌, eq-eqb, sym}
+use Rattle.std.proofs.lemmas.List.{length-map}
+use Rattle.std.specs.Map.{keys_of}
 use Rattle.std.specs.List.{All, AllByRecursion, AllZip, list_all}
 use Rattle.sq_lex.specs.declared.name.Name.{Name}
 use Rattle.sq_value.specs.declared.domain.Kind.{Kind}
@@ -65,6 +68,15 @@ StandFrom at place (e ∷ entries) = (place_of e.1.body ≡ at place) × StandFr
 -- a table is the one at a place, under some name
 abbrev pub StandsAt : List (FullName × TableDesc) → ℕ → TableDesc → Type 0
 StandsAt entries place t = (name : FullName) × (slice_get entries place ≡ Some (name, t))
+
+-- the columns of each
+abbrev pub columns_of : List (FullName × TableDesc) → List (List Column)
+columns_of entries = map (λ e. e.1.columns) entries
+
+pub all_described : (entries : List (FullName × TableDesc)) → nat_eq (length (columns_of entries)) (length (keys_of entries)) ≡ true
+all_described entries =
+    eq-eqb (length (columns_of entries)) (length (keys_of entries))
+    (length-map entries (λ (e : FullName × TableDesc). e.1.columns) ∙ sym (length-map entries (λ (e : FullName × TableDesc). e.0)))
 
 -- the query of a view; a base table has none
 abbrev pub query_in : TableBody → List BoundSpecification

@@ -2,12 +2,14 @@
 
 ghost use Rattle.std.specs.Prelude.{◌≡◌, ◌<◌, List, [], ◌∷◌, ◌++◌, true, IfErr, IfOk, IfSome, IsSome, None, OnErr, OnOk, is_none, length, map};
 ghost use Rattle.std.specs.Map.{keys_of};
+ghost use Rattle.std.specs.Option.{option_map};
+ghost use Rattle.sq_bound.specs.Known.{known_by};
 ghost use Rattle.sq_store.specs.Keys.{keys_of as keys_given};
 ghost use Rattle.sq_bound.specs.Fits.{IsBaseAt, all_refer, keys_of_bases};
 ghost use Rattle.sq_meaning.specs.WellFormed.{HasValue};
 ghost use Rattle.sq_bound.specs.WellFormed.{IsTable, IsViewAmong, TableKinds, place_of};
 ghost use Rattle.sq_bound.specs.declared.names.BaseTable.{BaseTable as Base};
-ghost use Rattle.sq_catalog.specs.Catalog.{AreViewQueries, AreViewQueries-prop, Gains, IsNewName, base_there, column_kinds, declared_tables, named_by, schema_tables, table_in, table_number, text_tables};
+ghost use Rattle.sq_catalog.specs.Catalog.{AreViewQueries, AreViewQueries-prop, Gains, IsNewName, base_there, column_kinds, declared_tables, known, named_by, schema_tables, table_in, table_number, text_tables};
 ghost use Rattle.sq_catalog.specs.Fault.{IsOfSomeText, IsOfText};
 ghost use Rattle.sq_catalog.specs.Stored.{AreStored, AreTables, IsNamed, IsNext, IsNextView, IsStored, StandsAt, queries_of};
 
@@ -62,15 +64,16 @@ impl Model for Catalog {
     ghost use Rattle.sq_bound.specs.contracts.expression.BoundExpr as expression;
     ghost use Rattle.sq_bound.specs.contracts.names.BaseColumn as column;
     ghost use Rattle.sq_bound.specs.contracts.names.BaseTable as base;
+    ghost use Rattle.sq_bound.specs.contracts.names.Column as seen;
     ghost use Rattle.sq_bound.specs.declared.condition.TablePlace.TheVariants.{Base, View};
     ghost use Rattle.sq_catalog.specs.Catalog.{AreViewQueries-prop, Catalog, kinds_at};
-    ghost use Rattle.sq_catalog.specs.Stored.{AreDescribed, AreNamed, AreStored, AreTables, StandFrom, queries_of};
+    ghost use Rattle.sq_catalog.specs.Stored.{AreDescribed, AreNamed, AreStored, AreTables, StandFrom, all_described, columns_of, queries_of};
 
     ghost Value = { Catalog };
 
-    ghost coded = { Prim.hlevel (codes, base.the_row.coded, column.the_row.coded, condition.the_row.coded, predicate.the_row.coded, specification.the_row.coded, expression.the_row.coded, AreViewQueries-prop) };
+    ghost coded = { Prim.hlevel (codes, base.the_row.coded, column.the_row.coded, condition.the_row.coded, predicate.the_row.coded, specification.the_row.coded, expression.the_row.coded, seen.the_row.coded, AreViewQueries-prop) };
 
-    ghost view = { λ c. record { tables = keys_of c.bases.entries; bases = c.base_tables.items; view_names = keys_of c.views.entries; views = queries_of c.views.entries; refer = c.refer; stand = c.stand } };
+    ghost view = { λ c. record { tables = keys_of c.bases.entries; columns = columns_of c.bases.entries; bases = c.base_tables.items; view_names = keys_of c.views.entries; view_columns = columns_of c.views.entries; views = queries_of c.views.entries; described = all_described c.bases.entries; refer = c.refer; stand = c.stand } };
 
     ghost invariant = { λ c. AreStored c.base_tables.items c.bases.entries × AreStored c.base_tables.items c.views.entries × AreTables (kinds_at c.base_tables.items (queries_of c.views.entries)) c.bases.entries × AreTables (kinds_at c.base_tables.items (queries_of c.views.entries)) c.views.entries × AreDescribed c.base_tables.items c.bases.entries × StandFrom Base 0 c.bases.entries × StandFrom View 0 c.views.entries × AreNamed c.bases.entries × AreNamed c.views.entries };
 }
@@ -239,6 +242,7 @@ impl Catalog {
         ensures well_formed { IfSome result (λ entry. IsTable (column_kinds self.now) entry.1.now) }
         ensures named { IfSome result (λ entry. IsNamed full_name.now entry.1.now) }
         ensures base { IfSome result (λ entry. IsBaseAt (table_number self.now.tables full_name.now.user full_name.now.name) entry.1.now) }
+        ensures known { option_map (λ entry. known_by entry.1.now) result ≡ known self.now full_name.now.user full_name.now.name }
     {
         match self.bases.get_full(full_name) {
             Some((place, _, table)) => Some((TablePlace::Base(place), table)),
@@ -399,6 +403,8 @@ impl Names for Catalog {
     ghost base_tables = { λ c. c.bases };
 
     ghost base_number = { λ c. table_number c.tables };
+
+    ghost known = { known };
 
     ghost view_queries = { λ c. c.views };
 

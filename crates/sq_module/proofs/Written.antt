@@ -8,6 +8,7 @@ use Rattle.std.specs.Map.{lookup}
 use Rattle.indexmap.specs.IndexMap.{insert_entry}
 use Rattle.indexmap.proofs.SetLemmas.{AllZip-push}
 use Rattle.sq_lex.specs.declared.name.Name.{Name}
+use Rattle.sq_tree.specs.declared.cond.Cond.{Cond}
 use Rattle.sq_tree.specs.declared.module.Cursor.{Cursor}
 use Rattle.sq_tree.specs.declared.module.ModuleItem.{ModuleItem}
 use Rattle.sq_tree.specs.declared.module.ModuleText.{ModuleText}
@@ -22,9 +23,10 @@ use Rattle.sq_bound.specs.declared.statement.BoundStatement.{BoundStatement}
 use Rattle.sq_bound.specs.declared.statement.BoundStatement.TheVariants as statement
 use Rattle.sq_bound.specs.declared.statement.ChangeTarget.{ChangeTarget}
 use Rattle.sq_bound.specs.declared.statement.ChangeTarget.TheVariants as target
-use Rattle.sq_bind.specs.Written.{IsCursorOf, IsStatementOf, IsTargetOf}
+use Rattle.sq_bind.specs.Written.{IsCursorOf, IsStatementOf, IsTargetOf, NamesMean}
 use Rattle.sq_tree.specs.declared.module.ModuleItem.TheVariants as item
-use Rattle.sq_meaning.specs.Status.{well_formed}
+use Rattle.sq_meaning.specs.Status.{Outcome, well_formed}
+use Rattle.sq_bound.specs.Condition.{PlacedClause}
 use Rattle.sq_meaning.specs.WellFormed.{Has}
 use Rattle.sq_bound.specs.declared.query.BoundCursor.{BoundCursor}
 use Rattle.sq_module.specs.declared.admission.AdmittedModule.{AdmittedModule}
@@ -35,7 +37,7 @@ use Rattle.sq_module.specs.declared.program.ProcedureName.{ProcedureName}
 use Rattle.sq_module.specs.Admitted.{OpensEachOnce}
 use Rattle.sq_module.specs.Opened.{Grow}
 use Rattle.sq_module.specs.Program.{same_name, same_procedure}
-use Rattle.sq_module.specs.Written.{AreFromTexts, AreNumbers, AreOfTexts, IsBoundFrom, IsCursorIn, IsCursorNamed, IsDeclaredFrom, IsFromTexts, IsNumberOf, IsOfText, IsStatementIn, OpenNamed, OpensNamed}
+use Rattle.sq_module.specs.Written.{AreFromTexts, AreNumbers, AreOfTexts, IsBoundFrom, IsCursorIn, IsCursorNamed, IsDeclaredFrom, IsFromTexts, IsNumberOf, IsOfText, IsOpenedIn, IsStatementIn, OpenNamed, OpensNamed}
 use Rattle.sq_module.proofs.Fitting.{all_last}
 use Rattle.sq_module.proofs.Names.{flat_more}
 use Rattle.sq_module.proofs.Opening.{last_there, there_still}
@@ -81,52 +83,52 @@ of_texts_next texts m admitted new there (one, is, of, once) all =
 
 -- ---- statements, where the cursors' numbers are known otherwise
 
-target_where : (R S : Name → ℕ → Type 0) → ((name : Name) (n : ℕ) → R name n → S name n) → (w : Option Where) (t : ChangeTarget) → IsTargetOf R w t → IsTargetOf S w t
-target_where R S f None (target.Searched t) h = h
-target_where R S f (Some (rows.Condition c)) (target.Searched t) h = h
-target_where R S f (Some (rows.CurrentOf name)) (target.Positioned p) h = f name p.cursor h
-target_where R S f None (target.Positioned p) h = absurd h
-target_where R S f (Some (rows.Condition c)) (target.Positioned p) h = absurd h
-target_where R S f (Some (rows.CurrentOf name)) (target.Searched t) h = absurd h
+target_where : (R S : Name → ℕ → Type 0) → ((name : Name) (n : ℕ) → R name n → S name n) → (filter : Cond → Outcome PlacedClause) (w : Option Where) (t : ChangeTarget) → IsTargetOf R filter w t → IsTargetOf S filter w t
+target_where R S f filter None (target.Searched t) h = h
+target_where R S f filter (Some (rows.Condition c)) (target.Searched t) h = h
+target_where R S f filter (Some (rows.CurrentOf name)) (target.Positioned p) h = f name p.cursor h
+target_where R S f filter None (target.Positioned p) h = absurd h
+target_where R S f filter (Some (rows.Condition c)) (target.Positioned p) h = absurd h
+target_where R S f filter (Some (rows.CurrentOf name)) (target.Searched t) h = absurd h
 
-pub statement_where : (base_number : Name → Name → Option ℕ) → (R S : Name → ℕ → Type 0) → ((name : Name) (n : ℕ) → R name n → S name n) → (user : Name) (parameters : List ParameterDesc) (s : Statement) (b : BoundStatement)
-    → IsStatementOf base_number R user parameters s b → IsStatementOf base_number S user parameters s b
-statement_where base_number R S f user parameters (tree.Open name) (statement.Open n) h = f name n h
-statement_where base_number R S f user parameters (tree.Fetch t) (statement.Fetch b) h = (f t.cursor b.cursor h.0, h.1, h.2)
-statement_where base_number R S f user parameters (tree.Close name) (statement.Close n) h = f name n h
-statement_where base_number R S f user parameters (tree.Select t) (statement.Select b) h = h
-statement_where base_number R S f user parameters (tree.Insert t) (statement.Insert b) h = h
-statement_where base_number R S f user parameters (tree.Update t) (statement.Update b) h = (h.0, target_where R S f t.target b.target h.1)
-statement_where base_number R S f user parameters (tree.Delete t) (statement.Delete b) h = (h.0, target_where R S f t.target b h.1)
-statement_where base_number R S f user parameters (tree.Commit w) statement.Commit h = h
-statement_where base_number R S f user parameters (tree.Rollback w) statement.Rollback h = h
-statement_where base_number R S f user parameters s b h = absurd h
+pub statement_where : (names : NamesMean) → (R S : Name → ℕ → Type 0) → ((name : Name) (n : ℕ) → R name n → S name n) → (user : Name) (parameters : List ParameterDesc) (s : Statement) (b : BoundStatement)
+    → IsStatementOf names R user parameters s b → IsStatementOf names S user parameters s b
+statement_where names R S f user parameters (tree.Open name) (statement.Open n) h = f name n h
+statement_where names R S f user parameters (tree.Fetch t) (statement.Fetch b) h = (f t.cursor b.cursor h.0, h.1, h.2)
+statement_where names R S f user parameters (tree.Close name) (statement.Close n) h = f name n h
+statement_where names R S f user parameters (tree.Select t) (statement.Select b) h = h
+statement_where names R S f user parameters (tree.Insert t) (statement.Insert b) h = h
+statement_where names R S f user parameters (tree.Update t) (statement.Update b) h = record { is_under = h.is_under; rows = target_where R S f _ t.target b.target h.rows; values = h.values }
+statement_where names R S f user parameters (tree.Delete t) (statement.Delete b) h = record { is_under = h.is_under; rows = target_where R S f _ t.target b h.rows }
+statement_where names R S f user parameters (tree.Commit w) statement.Commit h = h
+statement_where names R S f user parameters (tree.Rollback w) statement.Rollback h = h
+statement_where names R S f user parameters s b h = absurd h
 
 -- ---- more cursors
 
-number_more : (m : ModuleText) (cursors more : List DeclaredCursor) (name : Name) (n : ℕ) → IsNumberOf m cursors name n → IsNumberOf m (cursors ++ more) name n
-number_more m cursors more name n h = record {
+number_more : (names : NamesMean) (m : ModuleText) (cursors more : List DeclaredCursor) (name : Name) (n : ℕ) → IsNumberOf names m cursors name n → IsNumberOf names m (cursors ++ more) name n
+number_more names m cursors more name n h = record {
   cursor = h.cursor;
   among = h.among;
   named = h.named;
-  bound = there_still (IsDeclaredFrom m h.cursor) cursors more n h.bound;
+  bound = there_still (IsDeclaredFrom names m h.cursor) cursors more n h.bound;
 }
 
-statement_more : (base_number : Name → Name → Option ℕ) → (m : ModuleText) (cursors more : List DeclaredCursor) (parameters : List ParameterDesc) (s : Statement) (b : BoundStatement)
-    → IsStatementIn base_number m cursors parameters s b → IsStatementIn base_number m (cursors ++ more) parameters s b
-statement_more base_number m cursors more parameters s b h = statement_where base_number (IsNumberOf m cursors) (IsNumberOf m (cursors ++ more)) (number_more m cursors more) m.authorization parameters s b h
+statement_more : (names : NamesMean) → (m : ModuleText) (cursors more : List DeclaredCursor) (parameters : List ParameterDesc) (s : Statement) (b : BoundStatement)
+    → IsStatementIn names m cursors parameters s b → IsStatementIn names m (cursors ++ more) parameters s b
+statement_more names m cursors more parameters s b h = statement_where names (IsNumberOf names m cursors) (IsNumberOf names m (cursors ++ more)) (number_more names m cursors more) m.authorization parameters s b h
 
-bound_more : (base_number : Name → Name → Option ℕ) → (m : ModuleText) (cursors more : List DeclaredCursor) (p : Procedure) (b : BoundProcedure) → IsBoundFrom base_number m cursors p b → IsBoundFrom base_number m (cursors ++ more) p b
-bound_more base_number m cursors more p b h = record { user = h.user; parameters = h.parameters; statement = by b.statement h.statement }
+bound_more : (names : NamesMean) → (m : ModuleText) (cursors more : List DeclaredCursor) (p : Procedure) (b : BoundProcedure) → IsBoundFrom names m cursors p b → IsBoundFrom names m (cursors ++ more) p b
+bound_more names m cursors more p b h = record { user = h.user; parameters = h.parameters; statement = by b.statement h.statement }
   where
-    by : (r : Result BoundStatement BindFault) → IfOk r (IsStatementIn base_number m cursors b.parameters p.statement) → IfOk r (IsStatementIn base_number m (cursors ++ more) b.parameters p.statement)
-    by (Ok s) stands = statement_more base_number m cursors more b.parameters p.statement s stands
+    by : (r : Result BoundStatement BindFault) → IfOk r (IsStatementIn names m cursors b.parameters p.statement) → IfOk r (IsStatementIn names m (cursors ++ more) b.parameters p.statement)
+    by (Ok s) stands = statement_more names m cursors more b.parameters p.statement s stands
     by (Err e) stands = tt
 
-from_texts_more : (base_number : Name → Name → Option ℕ) → (texts : List ModuleText) (cursors more : List DeclaredCursor) (procedures : List (ProcedureName × BoundProcedure)) → AreFromTexts base_number texts cursors procedures
-    → AreFromTexts base_number texts (cursors ++ more) procedures
-from_texts_more base_number texts cursors more [] h = tt
-from_texts_more base_number texts cursors more (e ∷ es) h = (
+from_texts_more : (names : NamesMean) → (texts : List ModuleText) (cursors more : List DeclaredCursor) (procedures : List (ProcedureName × BoundProcedure)) → AreFromTexts names texts cursors procedures
+    → AreFromTexts names texts (cursors ++ more) procedures
+from_texts_more names texts cursors more [] h = tt
+from_texts_more names texts cursors more (e ∷ es) h = (
   record {
     text = h.0.text;
     among = h.0.among;
@@ -134,83 +136,86 @@ from_texts_more base_number texts cursors more (e ∷ es) h = (
     procedure = h.0.procedure;
     is_item = h.0.is_item;
     is_named = h.0.is_named;
-    bound = bound_more base_number h.0.text cursors more h.0.procedure e.1 h.0.bound;
+    bound = bound_more names h.0.text cursors more h.0.procedure e.1 h.0.bound;
   },
-  from_texts_more base_number texts cursors more es h.1,
+  from_texts_more names texts cursors more es h.1,
 )
 
-numbers_more : (m : ModuleText) (cursors more : List DeclaredCursor) (numbers : List (Name × ℕ)) → AreNumbers m cursors numbers → AreNumbers m (cursors ++ more) numbers
-numbers_more m cursors more [] h = tt
-numbers_more m cursors more (e ∷ es) h = (number_more m cursors more e.0 e.1 h.0, numbers_more m cursors more es h.1)
+numbers_more : (names : NamesMean) (m : ModuleText) (cursors more : List DeclaredCursor) (numbers : List (Name × ℕ)) → AreNumbers names m cursors numbers → AreNumbers names m (cursors ++ more) numbers
+numbers_more names m cursors more [] h = tt
+numbers_more names m cursors more (e ∷ es) h = (number_more names m cursors more e.0 e.1 h.0, numbers_more names m cursors more es h.1)
 
-opens_named_more : (base_number : Name → Name → Option ℕ) → (m : ModuleText) (cursors more : List DeclaredCursor) (p : AdmittedProcedure) (o : Option ℕ) → OpensNamed base_number m cursors p o → OpensNamed base_number m (cursors ++ more) p o
-opens_named_more base_number m cursors more p None h = tt
-opens_named_more base_number m cursors more p (Some n) h = statement_more base_number m cursors more p.parameters p.procedure.now.statement (statement.Open n) h
+opens_named_more : (names : NamesMean) → (m : ModuleText) (cursors more : List DeclaredCursor) (p : AdmittedProcedure) (o : Option ℕ) → OpensNamed names m cursors p o → OpensNamed names m (cursors ++ more) p o
+opens_named_more names m cursors more p None h = tt
+opens_named_more names m cursors more p (Some n) h = statement_more names m cursors more p.parameters p.procedure.now.statement (statement.Open n) h
 
-open_named_more : (base_number : Name → Name → Option ℕ) → (m : ModuleText) (cursors more : List DeclaredCursor) (ps : List AdmittedProcedure) (os : List (Option ℕ)) → OpenNamed base_number m cursors ps os → OpenNamed base_number m (cursors ++ more) ps os
-open_named_more base_number m cursors more [] [] h = tt
-open_named_more base_number m cursors more [] (o ∷ os) h = absurd h
-open_named_more base_number m cursors more (p ∷ ps) [] h = absurd h
-open_named_more base_number m cursors more (p ∷ ps) (o ∷ os) h = (opens_named_more base_number m cursors more p o h.0, open_named_more base_number m cursors more ps os h.1)
+open_named_more : (names : NamesMean) → (m : ModuleText) (cursors more : List DeclaredCursor) (ps : List AdmittedProcedure) (os : List (Option ℕ)) → OpenNamed names m cursors ps os → OpenNamed names m (cursors ++ more) ps os
+open_named_more names m cursors more [] [] h = tt
+open_named_more names m cursors more [] (o ∷ os) h = absurd h
+open_named_more names m cursors more (p ∷ ps) [] h = absurd h
+open_named_more names m cursors more (p ∷ ps) (o ∷ os) h = (opens_named_more names m cursors more p o h.0, open_named_more names m cursors more ps os h.1)
 
-pub from_texts_grown : (base_number : Name → Name → Option ℕ) → (texts : List ModuleText) (old new : List DeclaredCursor) (procedures : List (ProcedureName × BoundProcedure)) → Grow old new → AreFromTexts base_number texts old procedures
-    → AreFromTexts base_number texts new procedures
-from_texts_grown base_number texts old new procedures grown h = subst (λ cs. AreFromTexts base_number texts cs procedures) (sym grown.1) (from_texts_more base_number texts old grown.0 procedures h)
+pub from_texts_grown : (names : NamesMean) → (texts : List ModuleText) (old new : List DeclaredCursor) (procedures : List (ProcedureName × BoundProcedure)) → Grow old new → AreFromTexts names texts old procedures
+    → AreFromTexts names texts new procedures
+from_texts_grown names texts old new procedures grown h = subst (λ cs. AreFromTexts names texts cs procedures) (sym grown.1) (from_texts_more names texts old grown.0 procedures h)
 
 -- one procedure more, with cursors behind those that were there
-pub named_next : (base_number : Name → Name → Option ℕ) → (m : ModuleText) (old new : List DeclaredCursor) (ps : List AdmittedProcedure) (i : ℕ) (p : AdmittedProcedure) (os : List (Option ℕ)) (o : Option ℕ) → i < length ps → p ≡ get_or ps i p
-    → Grow old new → OpenNamed base_number m old (take i ps) os → OpensNamed base_number m new p o → OpenNamed base_number m new (take (i + 1) ps) (os ++ o ∷ [])
-named_next base_number m old new ps i p os o lt is grown h one =
-    let wide : OpenNamed base_number m new (take i ps) os = subst (λ cs. OpenNamed base_number m cs (take i ps) os) (sym grown.1) (open_named_more base_number m old grown.0 (take i ps) os h) in
-    subst (λ qs. OpenNamed base_number m new qs (os ++ o ∷ [])) (ap (λ q. take i ps ++ q ∷ []) is ∙ sym (take_more ps i p lt)) (AllZip-push (OpensNamed base_number m new) (take i ps) os p o wide one)
+pub named_next : (names : NamesMean) → (m : ModuleText) (old new : List DeclaredCursor) (ps : List AdmittedProcedure) (i : ℕ) (p : AdmittedProcedure) (os : List (Option ℕ)) (o : Option ℕ) → i < length ps → p ≡ get_or ps i p
+    → Grow old new → OpenNamed names m old (take i ps) os → OpensNamed names m new p o → OpenNamed names m new (take (i + 1) ps) (os ++ o ∷ [])
+named_next names m old new ps i p os o lt is grown h one =
+    let wide : OpenNamed names m new (take i ps) os = subst (λ cs. OpenNamed names m cs (take i ps) os) (sym grown.1) (open_named_more names m old grown.0 (take i ps) os h) in
+    subst (λ qs. OpenNamed names m new qs (os ++ o ∷ [])) (ap (λ q. take i ps ++ q ∷ []) is ∙ sym (take_more ps i p lt)) (AllZip-push (OpensNamed names m new) (take i ps) os p o wide one)
 
-pub named_at : (base_number : Name → Name → Option ℕ) → (m : ModuleText) (cursors : List DeclaredCursor) (ps : List AdmittedProcedure) (os : List (Option ℕ)) (i : ℕ) (p : AdmittedProcedure) (d : Option ℕ) → OpenNamed base_number m cursors ps os
-    → i < length ps → p ≡ get_or ps i p → OpensNamed base_number m cursors p (get_or os i d)
-named_at base_number m cursors [] os i p d h lt is = let no : ⊥ = omega (arith, lt) in absurd no
-named_at base_number m cursors (q ∷ ps) [] i p d h lt is = absurd h
-named_at base_number m cursors (q ∷ ps) (r ∷ os) zero p d h lt is = subst (λ x. OpensNamed base_number m cursors x r) (sym is) h.0
-named_at base_number m cursors (q ∷ ps) (r ∷ os) (suc i) p d h lt is = named_at base_number m cursors ps os i p d h.1 (omega (arith, lt)) is
+pub named_at : (names : NamesMean) → (m : ModuleText) (cursors : List DeclaredCursor) (ps : List AdmittedProcedure) (os : List (Option ℕ)) (i : ℕ) (p : AdmittedProcedure) (d : Option ℕ) → OpenNamed names m cursors ps os
+    → i < length ps → p ≡ get_or ps i p → OpensNamed names m cursors p (get_or os i d)
+named_at names m cursors [] os i p d h lt is = let no : ⊥ = omega (arith, lt) in absurd no
+named_at names m cursors (q ∷ ps) [] i p d h lt is = absurd h
+named_at names m cursors (q ∷ ps) (r ∷ os) zero p d h lt is = subst (λ x. OpensNamed names m cursors x r) (sym is) h.0
+named_at names m cursors (q ∷ ps) (r ∷ os) (suc i) p d h lt is = named_at names m cursors ps os i p d h.1 (omega (arith, lt)) is
 
 -- ---- one cursor more
 
 -- the last cursor, bound from the one of this name
-pub number_last : (m : ModuleText) (a : AdmittedModule) (cursors new : List DeclaredCursor) (name : Name) (bound : Result BoundCursor BindFault) (c : BoundCursor) (d : DeclaredCursor) → bound ≡ Ok c
-    → d.«module» ≡ a.name → d.name ≡ name → d.user ≡ a.user → d.cursor ≡ c → new ≡ cursors ++ d ∷ [] → IsOfText m a → IsCursorNamed m name bound → IsNumberOf m new name (length cursors)
-number_last m a cursors new name bound c d is_bound of_module of_name of_user of_cursor is of h =
-    let written : IsCursorOf h.cursor c = subst (λ (r : Result BoundCursor BindFault). IfOk r (IsCursorOf h.cursor)) is_bound h.bound_is in
-    let one : IsDeclaredFrom m h.cursor d = record {
+pub number_last : (names : NamesMean) (m : ModuleText) (a : AdmittedModule) (cursors new : List DeclaredCursor) (name : Name) (bound : Result BoundCursor BindFault) (c : BoundCursor) (d : DeclaredCursor) → bound ≡ Ok c
+    → d.«module» ≡ a.name → d.name ≡ name → d.user ≡ a.user → d.cursor ≡ c → new ≡ cursors ++ d ∷ [] → IsOfText m a → IsCursorNamed names m name bound → IsNumberOf names m new name (length cursors)
+number_last names m a cursors new name bound c d is_bound of_module of_name of_user of_cursor is of h =
+    let written : IsCursorOf names.known m.authorization h.parameters h.cursor c
+    = subst (λ (r : Result BoundCursor BindFault). IfOk r (IsCursorOf names.known m.authorization h.parameters h.cursor)) is_bound h.bound_is in
+    let one : IsDeclaredFrom names m h.cursor d = record {
       of_module = of_module ∙ of.name;
       named = of_name ∙ sym h.named;
       user = of_user ∙ of.user;
-      words = subst (IsCursorOf h.cursor) (sym of_cursor) written;
+      parameters = h.parameters;
+      opened = subst (λ n. IsOpenedIn m n h.parameters) (sym h.named) h.opened;
+      cursor = subst (IsCursorOf names.known m.authorization h.parameters h.cursor) (sym of_cursor) written;
     } in
     record {
       cursor = h.cursor;
       among = h.among;
       named = h.named;
-      bound = subst (λ cs. Has (IsDeclaredFrom m h.cursor) (well_formed (slice_get cs (length cursors)))) (sym is) (last_there (IsDeclaredFrom m h.cursor) cursors d one);
+      bound = subst (λ cs. Has (IsDeclaredFrom names m h.cursor) (well_formed (slice_get cs (length cursors)))) (sym is) (last_there (IsDeclaredFrom names m h.cursor) cursors d one);
     }
 
 -- the numbers with that of the last cursor
-pub numbers_next : (m : ModuleText) (cursors new : List DeclaredCursor) (numbers after : List (Name × ℕ)) (name : Name) (n : ℕ) (d : DeclaredCursor) → new ≡ cursors ++ d ∷ []
-    → after ≡ insert_entry same_name numbers name n → IsNumberOf m new name n → AreNumbers m cursors numbers → AreNumbers m new after
-numbers_next m cursors new numbers after name n d is entered one h =
-    let wide : AreNumbers m new numbers = subst (λ cs. AreNumbers m cs numbers) (sym is) (numbers_more m cursors (d ∷ []) numbers h) in
-    subst (AreNumbers m new) (sym entered)
-    (all_entries same_name (λ e. IsNumberOf m new e.0 e.1) numbers name n (λ q same. subst (λ x. IsNumberOf m new x n) (names_equal name q same) one) one wide)
+pub numbers_next : (names : NamesMean) (m : ModuleText) (cursors new : List DeclaredCursor) (numbers after : List (Name × ℕ)) (name : Name) (n : ℕ) (d : DeclaredCursor) → new ≡ cursors ++ d ∷ []
+    → after ≡ insert_entry same_name numbers name n → IsNumberOf names m new name n → AreNumbers names m cursors numbers → AreNumbers names m new after
+numbers_next names m cursors new numbers after name n d is entered one h =
+    let wide : AreNumbers names m new numbers = subst (λ cs. AreNumbers names m cs numbers) (sym is) (numbers_more names m cursors (d ∷ []) numbers h) in
+    subst (AreNumbers names m new) (sym entered)
+    (all_entries same_name (λ e. IsNumberOf names m new e.0 e.1) numbers name n (λ q same. subst (λ x. IsNumberOf names m new x n) (names_equal name q same) one) one wide)
 
 -- ---- a procedure
 
 -- the number that a name has
-number_found : (m : ModuleText) (cursors : List DeclaredCursor) (numbers : List (Name × ℕ)) (name : Name) (n : ℕ) → AreNumbers m cursors numbers → lookup (same_name name) numbers ≡ Some n
-    → IsNumberOf m cursors name n
-number_found m cursors [] name n h is = cc
-number_found m cursors (e ∷ es) name n h is = by (same_name name e.0) refl is (λ found. number_found m cursors es name n h.1 found)
+number_found : (names : NamesMean) (m : ModuleText) (cursors : List DeclaredCursor) (numbers : List (Name × ℕ)) (name : Name) (n : ℕ) → AreNumbers names m cursors numbers → lookup (same_name name) numbers ≡ Some n
+    → IsNumberOf names m cursors name n
+number_found names m cursors [] name n h is = cc
+number_found names m cursors (e ∷ es) name n h is = by (same_name name e.0) refl is (λ found. number_found names m cursors es name n h.1 found)
   where
-    by : (b : Bool) → same_name name e.0 ≡ b → (if b then Some e.1 else lookup (same_name name) es) ≡ Some n → (lookup (same_name name) es ≡ Some n → IsNumberOf m cursors name n) → IsNumberOf m cursors name n
+    by : (b : Bool) → same_name name e.0 ≡ b → (if b then Some e.1 else lookup (same_name name) es) ≡ Some n → (lookup (same_name name) es ≡ Some n → IsNumberOf names m cursors name n) → IsNumberOf names m cursors name n
     by true same found rest =
         let value : e.1 ≡ n = cc in
-        subst (λ x. IsNumberOf m cursors name x) value (subst (λ x. IsNumberOf m cursors x e.1) (sym (names_equal name e.0 same)) h.0)
+        subst (λ x. IsNumberOf names m cursors name x) value (subst (λ x. IsNumberOf names m cursors x e.1) (sym (names_equal name e.0 same)) h.0)
     by false same found rest = rest found
 
 -- the cursor under a name
@@ -227,25 +232,25 @@ cursor_found items (e ∷ es) name c all is = by (same_name name e.0) refl is (�
     by false same found rest = rest found
 
 -- a statement whose cursors have these numbers
-pub statement_found : (base_number : Name → Name → Option ℕ) → (m : ModuleText) (cursors : List DeclaredCursor) (numbers : List (Name × ℕ)) (user : Name) (parameters : List ParameterDesc) (s : Statement) (r : Result BoundStatement BindFault)
-    → user ≡ m.authorization → AreNumbers m cursors numbers → IfOk r (IsStatementOf base_number (λ name n. lookup (same_name name) numbers ≡ Some n) user parameters s)
-    → IfOk r (IsStatementIn base_number m cursors parameters s)
-statement_found base_number m cursors numbers user parameters s (Ok b) is are h =
-    subst (λ u. IsStatementOf base_number (IsNumberOf m cursors) u parameters s b) is
-    (statement_where base_number (λ name n. lookup (same_name name) numbers ≡ Some n) (IsNumberOf m cursors) (λ name n. number_found m cursors numbers name n are) user parameters s b h)
-statement_found base_number m cursors numbers user parameters s (Err e) is are h = tt
+pub statement_found : (names : NamesMean) → (m : ModuleText) (cursors : List DeclaredCursor) (numbers : List (Name × ℕ)) (user : Name) (parameters : List ParameterDesc) (s : Statement) (r : Result BoundStatement BindFault)
+    → user ≡ m.authorization → AreNumbers names m cursors numbers → IfOk r (IsStatementOf names (λ name n. lookup (same_name name) numbers ≡ Some n) user parameters s)
+    → IfOk r (IsStatementIn names m cursors parameters s)
+statement_found names m cursors numbers user parameters s (Ok b) is are h =
+    subst (λ u. IsStatementOf names (IsNumberOf names m cursors) u parameters s b) is
+    (statement_where names (λ name n. lookup (same_name name) numbers ≡ Some n) (IsNumberOf names m cursors) (λ name n. number_found names m cursors numbers name n are) user parameters s b h)
+statement_found names m cursors numbers user parameters s (Err e) is are h = tt
 
 -- a procedure more, or another of that name
-pub procedure_next : (base_number : Name → Name → Option ℕ) → (texts : List ModuleText) (m : ModuleText) (cursors : List DeclaredCursor) (procedures more : List (ProcedureName × BoundProcedure)) (name : ProcedureName) (p : Procedure) (b : BoundProcedure)
-    → more ≡ insert_entry same_procedure procedures name b → IsAmong texts m → name.«module» ≡ m.name → IsAmong m.items (item.Procedure p) → name.name ≡ p.name → IsBoundFrom base_number m cursors p b
-    → AreFromTexts base_number texts cursors procedures → AreFromTexts base_number texts cursors more
-procedure_next base_number texts m cursors procedures more name p b is among named is_item is_named bound all =
-    subst (AreFromTexts base_number texts cursors) (sym is) (all_entries same_procedure (IsFromTexts base_number texts cursors) procedures name b same one all)
+pub procedure_next : (names : NamesMean) → (texts : List ModuleText) (m : ModuleText) (cursors : List DeclaredCursor) (procedures more : List (ProcedureName × BoundProcedure)) (name : ProcedureName) (p : Procedure) (b : BoundProcedure)
+    → more ≡ insert_entry same_procedure procedures name b → IsAmong texts m → name.«module» ≡ m.name → IsAmong m.items (item.Procedure p) → name.name ≡ p.name → IsBoundFrom names m cursors p b
+    → AreFromTexts names texts cursors procedures → AreFromTexts names texts cursors more
+procedure_next names texts m cursors procedures more name p b is among named is_item is_named bound all =
+    subst (AreFromTexts names texts cursors) (sym is) (all_entries same_procedure (IsFromTexts names texts cursors) procedures name b same one all)
   where
-    one : IsFromTexts base_number texts cursors (name, b)
+    one : IsFromTexts names texts cursors (name, b)
     one = record { text = m; among = among; named = named; procedure = p; is_item = is_item; is_named = is_named; bound = bound }
 
-    same : (q : ProcedureName) → same_procedure name q ≡ true → IsFromTexts base_number texts cursors (q, b)
+    same : (q : ProcedureName) → same_procedure name q ≡ true → IsFromTexts names texts cursors (q, b)
     same q h =
         let both = both_true (same_name name.«module» q.«module») (same_name name.name q.name) h in record {
           text = m;

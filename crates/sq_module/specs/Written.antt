@@ -14,6 +14,7 @@ use Rattle.sq_tree.specs.declared.module.ModuleItem.TheVariants as item
 use Rattle.sq_tree.specs.declared.module.ModuleText.{ModuleText}
 use Rattle.sq_tree.specs.declared.module.Procedure.{Procedure}
 use Rattle.sq_tree.specs.declared.statement.Statement.{Statement}
+use Rattle.sq_tree.specs.declared.statement.Statement.TheVariants as tree
 use Rattle.sq_meaning.specs.Spelled.{domain_of, listed}
 use Rattle.sq_meaning.specs.Status.{well_formed}
 use Rattle.sq_meaning.specs.WellFormed.{Has}
@@ -22,7 +23,8 @@ use Rattle.sq_bound.specs.declared.fault.BindFault.{BindFault}
 use Rattle.sq_bound.specs.declared.query.BoundCursor.{BoundCursor}
 use Rattle.sq_bound.specs.declared.statement.BoundStatement.{BoundStatement}
 use Rattle.sq_bound.specs.declared.statement.BoundStatement.TheVariants as statement
-use Rattle.sq_bind.specs.Written.{IsCursorOf, IsStatementOf}
+use Rattle.sq_bind.specs.Written.{IsCursorOf, IsStatementOf, NamesMean}
+use Rattle.sq_catalog.specs.Catalog.{Catalog, known, table_number}
 use Rattle.sq_module.specs.Program.{same_name}
 use Rattle.sq_module.specs.declared.program.BoundProcedure.{BoundProcedure}
 use Rattle.sq_module.specs.declared.program.DeclaredCursor.{DeclaredCursor}
@@ -74,19 +76,33 @@ AreOfTexts texts admitted = AllByRecursion (λ a. (m : ModuleText) × IsAmong te
 
 -- ---- what is bound
 
--- a cursor is bound from this one of the module: it has the module's name and user, and its name there
-pub record IsDeclaredFrom (m : ModuleText) (c : Cursor) (declared : DeclaredCursor) : Type 0 where
+-- what the names of tables and views mean over a catalog
+abbrev pub meant_by : Catalog → NamesMean
+meant_by c = record { base_number = table_number c.tables; known = known c }
+
+-- a procedure of the module opens the cursor of this name, with these parameters
+pub record IsOpenedIn (m : ModuleText) (name : Name) (parameters : List ParameterDesc) : Type 0 where
+  pub procedure : Procedure
+  pub is_item : IsAmong m.items (item.Procedure procedure)
+  pub opens : procedure.statement ≡ tree.Open name
+  pub declares : Declare (declarations_of procedure.declarations) parameters
+
+-- a cursor is bound from this one of the module: it has the module's name and user, its name there, and the rows of its query for the
+-- parameters of the procedure that opens it
+pub record IsDeclaredFrom (names : NamesMean) (m : ModuleText) (c : Cursor) (declared : DeclaredCursor) : Type 0 where
   pub of_module : declared.«module» ≡ m.name
   pub named : declared.name ≡ c.name
   pub user : declared.user ≡ m.authorization
-  pub words : IsCursorOf c declared.cursor
+  pub parameters : List ParameterDesc
+  pub opened : IsOpenedIn m c.name parameters
+  pub cursor : IsCursorOf names.known m.authorization parameters c declared.cursor
 
 -- the cursor with this number is the one that the module declares under this name
-pub record IsNumberOf (m : ModuleText) (cursors : List DeclaredCursor) (name : Name) (number : ℕ) : Type 0 where
+pub record IsNumberOf (names : NamesMean) (m : ModuleText) (cursors : List DeclaredCursor) (name : Name) (number : ℕ) : Type 0 where
   pub cursor : Cursor
   pub among : IsAmong m.items (item.Cursor cursor)
   pub named : cursor.name ≡ name
-  pub bound : Has (IsDeclaredFrom m cursor) (well_formed (slice_get cursors number))
+  pub bound : Has (IsDeclaredFrom names m cursor) (well_formed (slice_get cursors number))
 
 -- the cursor is the one of this name in the module
 abbrev pub is_cursor : Name → Name → DeclaredCursor → Bool
@@ -97,56 +113,57 @@ abbrev pub AreApart : List DeclaredCursor → List DeclaredCursor → Type 0
 AreApart before [] = ⊤
 AreApart before (c ∷ cursors) = (list_any (is_cursor c.«module» c.name) before ≡ false) × AreApart (before ++ c ∷ []) cursors
 
--- a statement is bound from this one of a procedure with these parameters in the module. The places of base tables are given by their
--- owners and names
-abbrev pub IsStatementIn : (Name → Name → Option ℕ) → ModuleText → List DeclaredCursor → List ParameterDesc → Statement → BoundStatement → Type 0
-IsStatementIn base_number m cursors parameters s bound = IsStatementOf base_number (IsNumberOf m cursors) m.authorization parameters s bound
+-- a statement is bound from this one of a procedure with these parameters in the module
+abbrev pub IsStatementIn : NamesMean → ModuleText → List DeclaredCursor → List ParameterDesc → Statement → BoundStatement → Type 0
+IsStatementIn names m cursors parameters s bound = IsStatementOf names (IsNumberOf names m cursors) m.authorization parameters s bound
 
 -- a procedure is bound from this one of the module: its parameters are those that it declares, and its statement, if it has no fault,
 -- is the one that is written
-pub record IsBoundFrom (base_number : Name → Name → Option ℕ) (m : ModuleText) (cursors : List DeclaredCursor) (p : Procedure) (bound : BoundProcedure) : Type 0 where
+pub record IsBoundFrom (names : NamesMean) (m : ModuleText) (cursors : List DeclaredCursor) (p : Procedure) (bound : BoundProcedure) : Type 0 where
   pub user : bound.user ≡ m.authorization
   pub parameters : Declare (declarations_of p.declarations) bound.parameters
-  pub statement : IfOk bound.statement (IsStatementIn base_number m cursors bound.parameters p.statement)
+  pub statement : IfOk bound.statement (IsStatementIn names m cursors bound.parameters p.statement)
 
 -- a procedure of a program is bound from the one of its name in the text of its module's name
-pub record IsFromTexts (base_number : Name → Name → Option ℕ) (texts : List ModuleText) (cursors : List DeclaredCursor) (e : ProcedureName × BoundProcedure) : Type 0 where
+pub record IsFromTexts (names : NamesMean) (texts : List ModuleText) (cursors : List DeclaredCursor) (e : ProcedureName × BoundProcedure) : Type 0 where
   pub text : ModuleText
   pub among : IsAmong texts text
   pub named : e.0.«module» ≡ text.name
   pub procedure : Procedure
   pub is_item : IsAmong text.items (item.Procedure procedure)
   pub is_named : e.0.name ≡ procedure.name
-  pub bound : IsBoundFrom base_number text cursors procedure e.1
+  pub bound : IsBoundFrom names text cursors procedure e.1
 
-abbrev pub AreFromTexts : (Name → Name → Option ℕ) → List ModuleText → List DeclaredCursor → List (ProcedureName × BoundProcedure) → Type 0
-AreFromTexts base_number texts cursors procedures = AllByRecursion (IsFromTexts base_number texts cursors) procedures
+abbrev pub AreFromTexts : NamesMean → List ModuleText → List DeclaredCursor → List (ProcedureName × BoundProcedure) → Type 0
+AreFromTexts names texts cursors procedures = AllByRecursion (IsFromTexts names texts cursors) procedures
 
 -- so is each procedure of a program
-abbrev pub AreFrom : (Name → Name → Option ℕ) → List ModuleText → Program → Type 0
-AreFrom base_number texts p = AreFromTexts base_number texts p.cursors.items p.procedures.entries
+abbrev pub AreFrom : NamesMean → List ModuleText → Program → Type 0
+AreFrom names texts p = AreFromTexts names texts p.cursors.items p.procedures.entries
 
 -- and no two of its cursors have the same module and name
-pub record IsOfTexts (base_number : Name → Name → Option ℕ) (texts : List ModuleText) (p : Program) : Type 0 where
-  pub procedures : AreFrom base_number texts p
+pub record IsOfTexts (names : NamesMean) (texts : List ModuleText) (p : Program) : Type 0 where
+  pub procedures : AreFrom names texts p
   pub cursors : AreApart [] p.cursors.items
 
 -- ---- while a module is bound
 
 -- the numbers that its cursors have so far
-abbrev pub AreNumbers : ModuleText → List DeclaredCursor → List (Name × ℕ) → Type 0
-AreNumbers m cursors numbers = AllByRecursion (λ e. IsNumberOf m cursors e.0 e.1) numbers
+abbrev pub AreNumbers : NamesMean → ModuleText → List DeclaredCursor → List (Name × ℕ) → Type 0
+AreNumbers names m cursors numbers = AllByRecursion (λ e. IsNumberOf names m cursors e.0 e.1) numbers
 
 -- a cursor, if it has no fault, is bound from the one of this name in the module
-pub record IsCursorNamed (m : ModuleText) (name : Name) (bound : Result BoundCursor BindFault) : Type 0 where
+pub record IsCursorNamed (names : NamesMean) (m : ModuleText) (name : Name) (bound : Result BoundCursor BindFault) : Type 0 where
   pub cursor : Cursor
   pub among : IsAmong m.items (item.Cursor cursor)
   pub named : cursor.name ≡ name
-  pub bound_is : IfOk bound (IsCursorOf cursor)
+  pub parameters : List ParameterDesc
+  pub opened : IsOpenedIn m name parameters
+  pub bound_is : IfOk bound (IsCursorOf names.known m.authorization parameters cursor)
 
 -- the cursor that a procedure opens, if it opens one without a fault, is that which its OPEN names
-abbrev pub OpensNamed : (Name → Name → Option ℕ) → ModuleText → List DeclaredCursor → AdmittedProcedure → Option ℕ → Type 0
-OpensNamed base_number m cursors p opened = IfSome opened (λ n. IsStatementIn base_number m cursors p.parameters p.procedure.now.statement (statement.Open n))
+abbrev pub OpensNamed : NamesMean → ModuleText → List DeclaredCursor → AdmittedProcedure → Option ℕ → Type 0
+OpensNamed names m cursors p opened = IfSome opened (λ n. IsStatementIn names m cursors p.parameters p.procedure.now.statement (statement.Open n))
 
-abbrev pub OpenNamed : (Name → Name → Option ℕ) → ModuleText → List DeclaredCursor → List AdmittedProcedure → List (Option ℕ) → Type 0
-OpenNamed base_number m cursors = AllZip (OpensNamed base_number m cursors)
+abbrev pub OpenNamed : NamesMean → ModuleText → List DeclaredCursor → List AdmittedProcedure → List (Option ℕ) → Type 0
+OpenNamed names m cursors = AllZip (OpensNamed names m cursors)

@@ -37,7 +37,7 @@ use Rattle.sq_select.proofs.Trees.{expr_more}
 
 -- ---- two lists, place by place
 
-zip_next : {A B : Type 0} (R : A → B → Type 0) (xs : List A) (ys : List B) (x : A) (y : B) → AllZip R xs ys → R x y → AllZip R (xs ++ x ∷ []) (ys ++ y ∷ [])
+pub zip_next : {A B : Type 0} (R : A → B → Type 0) (xs : List A) (ys : List B) (x : A) (y : B) → AllZip R xs ys → R x y → AllZip R (xs ++ x ∷ []) (ys ++ y ∷ [])
 zip_next R [] [] x y h r = (r, tt)
 zip_next R [] (b ∷ ys) x y h r = absurd h
 zip_next R (a ∷ xs) [] x y h r = absurd h
@@ -49,7 +49,7 @@ zip_more R xs ys x y all both e f h r = subst (λ zs. AllZip R zs both) (sym e) 
 pub zip_none : {A B : Type 0} (R : A → B → Type 0) (xs : List A) (ys : List B) → xs ≡ [] → ys ≡ [] → AllZip R xs ys
 zip_none R xs ys e f = subst (λ zs. AllZip R zs ys) (sym e) (subst (λ zs. AllZip R [] zs) (sym f) tt)
 
-zip_weaker : {A B : Type 0} (R S : A → B → Type 0) → ((x : A) (y : B) → R x y → S x y) → (xs : List A) (ys : List B) → AllZip R xs ys → AllZip S xs ys
+pub zip_weaker : {A B : Type 0} (R S : A → B → Type 0) → ((x : A) (y : B) → R x y → S x y) → (xs : List A) (ys : List B) → AllZip R xs ys → AllZip S xs ys
 zip_weaker R S f [] [] h = tt
 zip_weaker R S f [] (y ∷ ys) h = absurd h
 zip_weaker R S f (x ∷ xs) [] h = absurd h

@@ -9,3 +9,5 @@ pub mod Notes
 pub mod Numbering
 pub mod Queries
 pub mod Quiet
+pub mod Written
+pub mod WrittenQuery

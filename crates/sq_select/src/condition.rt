@@ -1,8 +1,13 @@
 //! Search conditions and query specifications (ISO/IEC 9075:1992, 7.3 to 7.9, 7.11, 8.12).
 
-ghost use Rattle.std.specs.Prelude.{ℕ, [], ◌∷◌, Bool, IfOk, List};
+ghost use Rattle.std.specs.Prelude.{◌≡◌, ℕ, [], ◌∷◌, Bool, IfOk, List};
 ghost use Rattle.std.specs.List.{AllZip};
+ghost use Rattle.std.specs.Option.{option_map};
+ghost use Rattle.sq_meaning.specs.Spelled.{Named, body_of, clause, cond_of, conj_of, expr_of, is_distinct_word, not_if, select_of, select_of_parts, tail_of, test_of};
+ghost use Rattle.sq_meaning.specs.Status.{Outcome};
+ghost use Rattle.sq_meaning.specs.Syntax.{Cond as AnyCond, conds, conjunction, disjunction, present};
 ghost use Rattle.sq_meaning.specs.WellFormed.{of_lines};
+ghost use Rattle.sq_bound.specs.Condition.{PlacedCond, PlacedSelect};
 ghost use Rattle.sq_bound.specs.WellFormed.{Levels, TableKinds, kinds_of_parameters};
 ghost use Rattle.sq_bound.specs.declared.condition.TablePlace.{TablePlace};
 ghost use Rattle.sq_bound.specs.declared.expression.SetFunctionCall.{SetFunctionCall};
@@ -11,9 +16,11 @@ ghost use Rattle.sq_scope.specs.Reach.{AreNotedFunctions};
 ghost use Rattle.sq_scope.specs.WellFormed.{AreLevelsIn, IsItemOver, allows_none};
 ghost use Rattle.sq_scope.specs.declared.scope.Environment.{Environment as AnyEnvironment};
 ghost use Rattle.sq_select.specs.InOrder.{Adding, bound_functions, conj_functions, in_turn, optional_functions, predicate_functions, test_functions};
-ghost use Rattle.sq_select.specs.Noted.{ClauseNoted, EachReads, Every, SelectNoted, Sure, SureAndNoted, WithinItems, cond_notes, cond_reads, cond_sure, conj_notes, conj_reads, conj_sure, predicate_notes, predicate_reads, predicate_sure, test_notes, test_reads, test_sure};
+ghost use Rattle.sq_select.specs.Noted.{ClauseNoted, EachReads, Every, SelectNoted, SureAndNoted, WithinItems, cond_notes, cond_reads, cond_sure, conj_notes, conj_reads, conj_sure, predicate_notes, predicate_reads, predicate_sure, test_notes, test_reads, test_sure};
 ghost use Rattle.sq_bound.specs.Numbered.{ClauseWith, CondWith, ConjWith, EachWith, PredicateWith, SelectWith, TestWith};
 ghost use Rattle.sq_select.specs.Numbering.{Numbering};
+ghost use Rattle.sq_select.specs.Placed.{Around, around, clause_placed, cond_placed, inside, select_placed};
+ghost use Rattle.sq_select.specs.Written.{Being, ClauseIs, CondIs, ConjIs, EachIs, PredicateIs, SelectIs, TestIs};
 ghost use Rattle.sq_select.specs.Reach.{ClauseReaches, CondReaches, ConjReaches, EachReaches, PredicateReaches, Reaching, SelectReaches, TestReaches};
 ghost use Rattle.sq_select.specs.WellFormed.{Context, Each, Everywhere, IsClauseAt, IsClauseIn, IsCondAt, IsCondIn, IsConjAt, IsConjIn, IsHavingAt, IsPredicateAt, IsPredicateIn, IsSelectIn, IsSpecificationIn, IsTestAt, IsTestIn};
 
@@ -54,6 +61,7 @@ pub fn bind_cond<N: Names>(
     ensures reach { IfOk result (Reaching CondReaches) }
     ensures own { AreNotedFunctions functions.old → AreNotedFunctions functions.new }
     ensures numbering { IfOk result (Numbering CondWith numbers.old numbers.new) }
+    ensures written { IfOk result (Being (CondIs functions.new.calls (cond_placed (around (N.known names.now) environment.now) (cond_of environment.now.user cond.now)))) }
 {
     let first = bind_conj(&cond.first, names, environment, functions, numbers);
     let mut terms = gathered(none(environment.alloc), first);
@@ -71,6 +79,9 @@ fn whole_cond(terms: Gathered<BoundConj>) -> CondResult
     ensures reads { IfOk terms (WithinItems (EachReads conj_reads)) → IfOk result (WithinItems cond_reads) }
     ensures reach { IfOk terms (Reaching (EachReaches ConjReaches)) → IfOk result (Reaching CondReaches) }
     ensures numbering { (a b : ℕ) → IfOk terms (Numbering (EachWith ConjWith) a b) → IfOk result (Numbering CondWith a b) }
+    ensures written { (a : Around) (calls : List SetFunctionCall) (texts : List (AnyCond Named))
+        → IfOk terms (Being (EachIs ConjIs a calls texts))
+        → IfOk result (Being (CondIs calls (cond_placed a (disjunction (conds texts))))) }
 {
     let Found { part, findings } = terms?;
     Ok(Found {
@@ -95,6 +106,7 @@ fn bind_conj<N: Names>(
     ensures reach { IfOk result (Reaching ConjReaches) }
     ensures own { AreNotedFunctions functions.old → AreNotedFunctions functions.new }
     ensures numbering { IfOk result (Numbering ConjWith numbers.old numbers.new) }
+    ensures written { IfOk result (Being (ConjIs functions.new.calls (cond_placed (around (N.known names.now) environment.now) (conj_of environment.now.user conj.now)))) }
 {
     let first = bind_test(&conj.first, names, environment, functions, numbers);
     let mut tests = gathered(none(environment.alloc), first);
@@ -112,6 +124,9 @@ fn whole_conj(tests: Gathered<BoundTest>) -> Result<Found<BoundConj>, BindFault>
     ensures reads { IfOk tests (WithinItems (EachReads test_reads)) → IfOk result (WithinItems conj_reads) }
     ensures reach { IfOk tests (Reaching (EachReaches TestReaches)) → IfOk result (Reaching ConjReaches) }
     ensures numbering { (a b : ℕ) → IfOk tests (Numbering (EachWith TestWith) a b) → IfOk result (Numbering ConjWith a b) }
+    ensures written { (a : Around) (calls : List SetFunctionCall) (texts : List (AnyCond Named))
+        → IfOk tests (Being (EachIs TestIs a calls texts))
+        → IfOk result (Being (ConjIs calls (cond_placed a (conjunction (conds texts))))) }
 {
     let Found { part, findings } = tests?;
     Ok(Found {
@@ -136,6 +151,7 @@ fn bind_test<N: Names>(
     ensures reach { IfOk result (Reaching TestReaches) }
     ensures own { AreNotedFunctions functions.old → AreNotedFunctions functions.new }
     ensures numbering { IfOk result (Numbering TestWith numbers.old numbers.new) }
+    ensures written { IfOk result (Being (TestIs functions.new.calls (cond_placed (around (N.known names.now) environment.now) (test_of environment.now.user test.now)))) }
 {
     let predicate = bind_body(&test.body, names, environment, functions, numbers);
     whole_test(test.negated, predicate)
@@ -148,6 +164,9 @@ fn whole_test(negated: bool, predicate: PredicateResult) -> Result<Found<BoundTe
     ensures reads { IfOk predicate (WithinItems predicate_reads) → IfOk result (WithinItems test_reads) }
     ensures reach { IfOk predicate (Reaching PredicateReaches) → IfOk result (Reaching TestReaches) }
     ensures numbering { (a b : ℕ) → IfOk predicate (Numbering PredicateWith a b) → IfOk result (Numbering TestWith a b) }
+    ensures written { (a : Around) (calls : List SetFunctionCall) (text : AnyCond Named)
+        → IfOk predicate (Being (PredicateIs calls (cond_placed a text)))
+        → IfOk result (Being (TestIs calls (cond_placed a (not_if negated text)))) }
 {
     let Found { part, findings } = predicate?;
     Ok(Found {
@@ -177,6 +196,7 @@ fn bind_body<N: Names>(
     ensures reach { IfOk result (Reaching PredicateReaches) }
     ensures own { AreNotedFunctions functions.old → AreNotedFunctions functions.new }
     ensures numbering { IfOk result (Numbering PredicateWith numbers.old numbers.new) }
+    ensures written { IfOk result (Being (PredicateIs functions.new.calls (cond_placed (around (N.known names.now) environment.now) (body_of environment.now.user body.now)))) }
 {
     match body {
         Body::Predicate(left, tail) => bind_tail(
@@ -205,6 +225,8 @@ fn bracketed(alloc: Global, cond: CondResult) -> PredicateResult
     ensures reads { IfOk cond (WithinItems cond_reads) → IfOk result (WithinItems predicate_reads) }
     ensures reach { IfOk cond (Reaching CondReaches) → IfOk result (Reaching PredicateReaches) }
     ensures numbering { (a b : ℕ) → IfOk cond (Numbering CondWith a b) → IfOk result (Numbering PredicateWith a b) }
+    ensures written { (calls : List SetFunctionCall) (text : Outcome PlacedCond) → IfOk cond (Being (CondIs calls text))
+        → IfOk result (Being (PredicateIs calls text)) }
 {
     let Found { part, findings } = cond?;
     Ok(Found {
@@ -230,6 +252,8 @@ fn bind_tail<N: Names>(
     ensures reach { IfOk result (Reaching PredicateReaches) }
     ensures own { AreNotedFunctions functions.old → AreNotedFunctions functions.new }
     ensures numbering { IfOk result (Numbering PredicateWith numbers.old numbers.new) }
+    ensures written { IfOk result (Being (PredicateIs functions.new.calls (cond_placed (around (N.known names.now) environment.now)
+        (tail_of environment.now.user tail.now (expr_of left.now))))) }
 {
     let left = bind_expr(left, environment, functions);
     match tail {
@@ -267,6 +291,7 @@ fn bind_subquery<N: Names>(
     ensures noted { IfOk result SelectNoted }
     ensures reach { IfOk result (Reaching SelectReaches) }
     ensures numbering { IfOk result (Numbering SelectWith numbers.old numbers.new) }
+    ensures written { IfOk result (Being (SelectIs (select_placed (around (N.known names.now) environment.now) (select_of environment.now.user query.now)))) }
 {
     let query = bind_select(
         &query.table,
@@ -285,6 +310,7 @@ fn numbered(query: SubqueryResult, numbers: &mut SubqueryNumbers) -> SubqueryRes
     ensures noted { IfOk query SelectNoted → IfOk result SelectNoted }
     ensures reach { IfOk query (Reaching SelectReaches) → IfOk result (Reaching SelectReaches) }
     ensures numbering { (a : ℕ) → IfOk query (Numbering SelectWith a numbers.old) → IfOk query (Reaching SelectReaches) → IfOk result (Numbering SelectWith a numbers.new) }
+    ensures written { (text : Outcome PlacedSelect) → IfOk query (Being (SelectIs text)) → IfOk result (Being (SelectIs text)) }
 {
     let Found { mut part, findings } = query?;
     if findings.reach == 0 {
@@ -307,6 +333,8 @@ pub fn bind_select<N: Names>(
     ensures noted { IfOk result SelectNoted }
     ensures reach { IfOk result (Reaching SelectReaches) }
     ensures numbering { IfOk result (Numbering SelectWith numbers.old numbers.new) }
+    ensures written { IfOk result (Being (SelectIs (select_placed (around (N.known names.now) environment.now)
+        (select_of_parts environment.now.user quantifier list.now table.now)))) }
 {
     let FromClause {
         items,
@@ -365,6 +393,8 @@ fn bind_where<'s, N: Names>(
     ensures noted { IfOk result ClauseNoted }
     ensures reach { IfOk result (Reaching ClauseReaches) }
     ensures numbering { IfOk result (Numbering ClauseWith numbers.old numbers.new) }
+    ensures written { IfOk result (Being (ClauseIs [] (clause_placed (inside items.now (around (N.known names.now) environment.now))
+        (clause (option_map (cond_of environment.now.user) cond.now))))) }
 {
     let mut functions = SetFunctions::forbidden(environment.alloc);
     let condition = bind_optional(
@@ -396,6 +426,8 @@ fn bind_having<'s, N: Names>(
     ensures reach { IfOk result (Reaching ClauseReaches) }
     ensures own { AreNotedFunctions functions.old → AreNotedFunctions functions.new }
     ensures numbering { IfOk result (Numbering ClauseWith numbers.old numbers.new) }
+    ensures written { IfOk result (Being (ClauseIs functions.new.calls (clause_placed (inside items.now (around (N.known names.now) environment.now))
+        (clause (option_map (cond_of environment.now.user) cond.now))))) }
 {
     bind_optional(
         cond,
@@ -407,7 +439,9 @@ fn bind_having<'s, N: Names>(
 }
 
 /// Whether DISTINCT is written.
-fn is_distinct(quantifier: Option<SetQuantifier>) -> bool {
+fn is_distinct(quantifier: Option<SetQuantifier>) -> bool
+    ensures { result ≡ is_distinct_word quantifier }
+{
     matches!(quantifier, Some(SetQuantifier::Distinct))
 }
 
@@ -426,6 +460,8 @@ fn bind_optional<N: Names>(
     ensures reach { IfOk result (Reaching ClauseReaches) }
     ensures own { AreNotedFunctions functions.old → AreNotedFunctions functions.new }
     ensures numbering { IfOk result (Numbering ClauseWith numbers.old numbers.new) }
+    ensures written { IfOk result (Being (ClauseIs functions.new.calls (clause_placed (around (N.known names.now) environment.now)
+        (clause (option_map (cond_of environment.now.user) cond.now))))) }
 {
     match cond {
         None => Ok(Found {
@@ -442,6 +478,8 @@ fn optional(cond: CondResult) -> Result<Found<Option<BoundCond>>, BindFault>
     ensures noted { IfOk cond (SureAndNoted cond_sure cond_notes) → IfOk result ClauseNoted }
     ensures reach { IfOk cond (Reaching CondReaches) → IfOk result (Reaching ClauseReaches) }
     ensures numbering { (a b : ℕ) → IfOk cond (Numbering CondWith a b) → IfOk result (Numbering ClauseWith a b) }
+    ensures written { (a : Around) (calls : List SetFunctionCall) (text : AnyCond Named) → IfOk cond (Being (CondIs calls (cond_placed a text)))
+        → IfOk result (Being (ClauseIs calls (clause_placed a (present text)))) }
 {
     let Found { part, findings } = cond?;
     Ok(Found {

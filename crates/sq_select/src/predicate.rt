@@ -1,9 +1,16 @@
 //! Predicates over bound operands: their kinds, and what is found in them (ISO/IEC 9075:1992, 8.2 to 8.7).
 
-ghost use Rattle.std.specs.Prelude.{◌≡◌, ◌∷◌, ℕ, [], IfOk, IsTrue, List, Ok};
+ghost use Rattle.std.specs.Prelude.{◌≡◌, ◌∷◌, ℕ, [], IfOk, IsTrue, List, None, Ok, Some, map};
+ghost use Rattle.std.specs.Option.{option_map};
 ghost use Rattle.sq_bound.specs.WellFormed.{TableKinds, kinds_of_select};
 ghost use Rattle.sq_bound.specs.declared.expression.SetFunctionCall.{SetFunctionCall};
+ghost use Rattle.sq_meaning.specs.Spelled.{expr_of, listed as texts_of};
+ghost use Rattle.sq_meaning.specs.Status.{Outcome, and_then, each};
+ghost use Rattle.sq_meaning.specs.Syntax.{between as between_tree, compare, exists as exists_tree, in_list as in_list_tree, in_subquery, is_null, like as like_tree};
 ghost use Rattle.sq_meaning.specs.WellFormed.{is_comparable, is_text};
+ghost use Rattle.sq_bound.specs.Condition.{PlacedSelect, compared_with, not_if};
+ghost use Rattle.sq_bound.specs.Expression.{PlacedExpr};
+ghost use Rattle.sq_bound.specs.Known.{KnownTables};
 ghost use Rattle.sq_scope.specs.Expression.{Grows, IsReadTyped, expr_functions};
 ghost use Rattle.sq_select.specs.InOrder.{Adding, beside_functions, in_turn, predicate_functions, typed_functions};
 ghost use Rattle.sq_select.specs.Noted.{EachReads, Every, SelectNoted, Sure, SureAndNoted, WithinItems, beside_notes, beside_reads, beside_sure, predicate_notes, predicate_reads, predicate_sure, typed_sure};
@@ -11,6 +18,8 @@ ghost use Rattle.sq_bound.specs.Noted.{IsReadExpr, IsSureExpr};
 ghost use Rattle.sq_scope.specs.Reach.{AreNotedFunctions, MayReach};
 ghost use Rattle.sq_bound.specs.Numbered.{PredicateWith, SelectWith};
 ghost use Rattle.sq_select.specs.Numbering.{BesideWith, Numbering};
+ghost use Rattle.sq_select.specs.Placed.{around, compared_as, escape_placed, expr_placed};
+ghost use Rattle.sq_select.specs.Written.{Being, BesideIs, ExprIs, ExprsAre, PredicateIs, SelectIs, TypedIs};
 ghost use Rattle.sq_select.specs.Reach.{BesideReaches, EachReaches, PredicateReaches, Reaching, SelectReaches, TypedReaches};
 ghost use Rattle.sq_select.specs.WellFormed.{AgreesAt, AreBesideAt, Context, Each, Everywhere, IsPredicateAt, IsSpecificationIn, IsTypedAt, here};
 
@@ -49,6 +58,8 @@ pub fn compared(comparison: Comparison, left: ExprResult, right: ExprResult) -> 
     ensures reads { IfOk left (WithinItems IsReadTyped) → IfOk right (WithinItems IsReadTyped) → IfOk result (WithinItems predicate_reads) }
     ensures reach { IfOk left (Reaching TypedReaches) → IfOk right (Reaching TypedReaches) → IfOk result (Reaching PredicateReaches) }
     ensures numbering { (a : ℕ) → IfOk result (Numbering PredicateWith a a) }
+    ensures written { (calls : List SetFunctionCall) (l r : Outcome PlacedExpr) → IfOk left (Being (TypedIs calls l)) → IfOk right (Being (TypedIs calls r))
+        → IfOk result (Being (PredicateIs calls (and_then l (λ p. and_then r (λ q. Ok (compare comparison p q)))))) }
 {
     let (left, right) = agreeing(left, right)?;
     let findings = left.findings.and(right.findings);
@@ -80,6 +91,8 @@ fn with_subquery(
     ensures reads { IfOk left (WithinItems IsReadTyped) → IfOk query (Reaching SelectReaches) → IfOk result (WithinItems beside_reads) }
     ensures reach { IfOk left (Reaching TypedReaches) → IfOk query (Reaching SelectReaches) → IfOk result (Reaching BesideReaches) }
     ensures numbering { (a b : ℕ) → IfOk query (Numbering SelectWith a b) → IfOk result (Numbering BesideWith a b) }
+    ensures written { (calls : List SetFunctionCall) (l : Outcome PlacedExpr) (q : Outcome PlacedSelect) → IfOk left (Being (TypedIs calls l))
+        → IfOk query (Being (SelectIs q)) → IfOk result (Being (BesideIs calls l q)) }
 {
     let (left, query) = both(left, query)?;
     let test = match column_of(&query.part) {
@@ -111,6 +124,17 @@ fn boxed_beside(
     }
 }
 
+/// How a comparison has the values of its subquery. SOME and ANY are one (8.7).
+fn compared_as(quantifier: Option<Quantifier>) -> Compared
+    ensures { result ≡ compared_as quantifier }
+{
+    match quantifier {
+        None => Compared::Scalar,
+        Some(Quantifier::All) => Compared::All,
+        Some(Quantifier::Any | Quantifier::Some) => Compared::Any,
+    }
+}
+
 /// `left op [ ALL | ANY | SOME ] (query)`. A scalar subquery may have more than one row.
 pub fn compared_query(
     alloc: Global,
@@ -125,14 +149,13 @@ pub fn compared_query(
     ensures reads { IfOk left (WithinItems IsReadTyped) → IfOk query (Reaching SelectReaches) → IfOk result (WithinItems predicate_reads) }
     ensures reach { IfOk left (Reaching TypedReaches) → IfOk query (Reaching SelectReaches) → IfOk result (Reaching PredicateReaches) }
     ensures numbering { (a b : ℕ) → IfOk query (Numbering SelectWith a b) → IfOk result (Numbering PredicateWith a b) }
+    ensures written { (calls : List SetFunctionCall) (l : Outcome PlacedExpr) (q : Outcome PlacedSelect) → IfOk left (Being (TypedIs calls l))
+        → IfOk query (Being (SelectIs q))
+        → IfOk result (Being (PredicateIs calls (and_then l (λ x. and_then q (λ y. Ok (compared_with (compared_as quantifier) comparison x y)))))) }
 {
     let Found { part, findings } = with_subquery(alloc, left, query)?;
     let (left, query) = part;
-    let compared = match quantifier {
-        None => Compared::Scalar,
-        Some(Quantifier::All) => Compared::All,
-        Some(_) => Compared::Any,
-    };
+    let compared = compared_as(quantifier);
     let findings = match compared {
         Compared::Scalar => findings.failing(),
         _ => findings,
@@ -156,6 +179,9 @@ pub fn in_query(
     ensures reads { IfOk left (WithinItems IsReadTyped) → IfOk query (Reaching SelectReaches) → IfOk result (WithinItems predicate_reads) }
     ensures reach { IfOk left (Reaching TypedReaches) → IfOk query (Reaching SelectReaches) → IfOk result (Reaching PredicateReaches) }
     ensures numbering { (a b : ℕ) → IfOk query (Numbering SelectWith a b) → IfOk result (Numbering PredicateWith a b) }
+    ensures written { (calls : List SetFunctionCall) (l : Outcome PlacedExpr) (q : Outcome PlacedSelect) → IfOk left (Being (TypedIs calls l))
+        → IfOk query (Being (SelectIs q))
+        → IfOk result (Being (PredicateIs calls (and_then l (λ x. and_then q (λ y. Ok (not_if negated (in_subquery x y))))))) }
 {
     let Found { part, findings } = with_subquery(alloc, left, query)?;
     let (left, query) = part;
@@ -173,6 +199,8 @@ pub fn exists(alloc: Global, query: SubqueryResult) -> PredicateResult
     ensures reads { IfOk query (Reaching SelectReaches) → IfOk result (WithinItems predicate_reads) }
     ensures reach { IfOk query (Reaching SelectReaches) → IfOk result (Reaching PredicateReaches) }
     ensures numbering { (a b : ℕ) → IfOk query (Numbering SelectWith a b) → IfOk result (Numbering PredicateWith a b) }
+    ensures written { (calls : List SetFunctionCall) (q : Outcome PlacedSelect) → IfOk query (Being (SelectIs q))
+        → IfOk result (Being (PredicateIs calls (and_then q (λ y. Ok (exists_tree y))))) }
 {
     let Found { part, findings } = query?;
     Ok(Found {
@@ -198,6 +226,10 @@ pub fn between(
     ensures reach { IfOk left (Reaching TypedReaches) → IfOk result (Reaching PredicateReaches) }
     ensures own { AreNotedFunctions functions.old → AreNotedFunctions functions.new }
     ensures numbering { (a : ℕ) → IfOk result (Numbering PredicateWith a a) }
+    ensures written { (known : KnownTables) (l : Outcome PlacedExpr) → let a = around known environment.now in
+        IfOk left (Being (TypedIs functions.old.calls l))
+        → IfOk result (Being (PredicateIs functions.new.calls (and_then l (λ p. and_then (expr_placed a (expr_of low.now)) (λ q.
+        and_then (expr_placed a (expr_of high.now)) (λ r. Ok (not_if negated (between_tree p q r)))))))) }
 {
     let low = bind_expr(low, environment, functions);
     let high = bind_expr(high, environment, functions);
@@ -216,6 +248,9 @@ fn between_bounds(
     ensures reads { IfOk left (WithinItems IsReadTyped) → IfOk low (WithinItems IsReadTyped) → IfOk high (WithinItems IsReadTyped) → IfOk result (WithinItems predicate_reads) }
     ensures reach { IfOk left (Reaching TypedReaches) → IfOk low (Reaching TypedReaches) → IfOk high (Reaching TypedReaches) → IfOk result (Reaching PredicateReaches) }
     ensures numbering { (a : ℕ) → IfOk result (Numbering PredicateWith a a) }
+    ensures written { (calls : List SetFunctionCall) (l m n : Outcome PlacedExpr) → IfOk left (Being (TypedIs calls l))
+        → IfOk low (Being (TypedIs calls m)) → IfOk high (Being (TypedIs calls n))
+        → IfOk result (Being (PredicateIs calls (and_then l (λ p. and_then m (λ q. and_then n (λ r. Ok (not_if negated (between_tree p q r)))))))) }
 {
     let ((left, low), high) = both(agreeing(left, low), high)?;
     let test = must_agree(left.part.kind, high.part.kind);
@@ -234,6 +269,8 @@ fn agreed(kind: Kind, item: ExprResult) -> Result<Found<BoundExpr>, BindFault>
     ensures quiet { IfOk item (Sure typed_sure) → IfOk result (Sure IsSureExpr) }
     ensures reads { IfOk item (WithinItems IsReadTyped) → IfOk result (WithinItems IsReadExpr) }
     ensures reach { IfOk item (Reaching TypedReaches) → IfOk result (Reaching MayReach) }
+    ensures written { (calls : List SetFunctionCall) (text : Outcome PlacedExpr) → IfOk item (Being (TypedIs calls text))
+        → IfOk result (Being (ExprIs calls text)) }
 {
     let item = item?;
     let test = must_agree(kind, item.part.kind);
@@ -258,6 +295,8 @@ fn list_exprs(
     ensures reads { IfOk result (WithinItems (EachReads IsReadExpr)) }
     ensures reach { IfOk result (Reaching (EachReaches MayReach)) }
     ensures own { AreNotedFunctions functions.old → AreNotedFunctions functions.new }
+    ensures written { (known : KnownTables) → let a = around known environment.now in
+        IfOk result (Being (ExprsAre functions.new.calls (each (expr_placed a) (map expr_of (texts_of list.now))))) }
 {
     let first = bind_expr(&list.first, environment, functions);
     let mut bound = gathered(none(environment.alloc), agreed(kind, first));
@@ -284,6 +323,10 @@ pub fn in_list(
     ensures reach { IfOk left (Reaching TypedReaches) → IfOk result (Reaching PredicateReaches) }
     ensures own { AreNotedFunctions functions.old → AreNotedFunctions functions.new }
     ensures numbering { (a : ℕ) → IfOk result (Numbering PredicateWith a a) }
+    ensures written { (known : KnownTables) (l : Outcome PlacedExpr) → let a = around known environment.now in
+        IfOk left (Being (TypedIs functions.old.calls l))
+        → IfOk result (Being (PredicateIs functions.new.calls (and_then l (λ p. and_then (each (expr_placed a) (map expr_of (texts_of list.now))) (λ ps.
+        Ok (not_if negated (in_list_tree p ps))))))) }
 {
     let left = left?;
     let list = list_exprs(left.part.kind, list, environment, functions);
@@ -297,6 +340,9 @@ fn listed(negated: bool, left: Found<Typed>, list: Gathered<BoundExpr>) -> Predi
     ensures reads { WithinItems IsReadTyped left → IfOk list (WithinItems (EachReads IsReadExpr)) → IfOk result (WithinItems predicate_reads) }
     ensures reach { Reaching TypedReaches left → IfOk list (Reaching (EachReaches MayReach)) → IfOk result (Reaching PredicateReaches) }
     ensures numbering { (a : ℕ) → IfOk result (Numbering PredicateWith a a) }
+    ensures written { (calls : List SetFunctionCall) (l : Outcome PlacedExpr) (ls : Outcome (List PlacedExpr)) → Being (TypedIs calls l) left
+        → IfOk list (Being (ExprsAre calls ls))
+        → IfOk result (Being (PredicateIs calls (and_then l (λ p. and_then ls (λ ps. Ok (not_if negated (in_list_tree p ps))))))) }
 {
     let (left, list) = both(Ok(left), list)?;
     Ok(Found {
@@ -331,6 +377,10 @@ pub fn like(
     ensures reach { IfOk left (Reaching TypedReaches) → IfOk result (Reaching PredicateReaches) }
     ensures own { AreNotedFunctions functions.old → AreNotedFunctions functions.new }
     ensures numbering { (a : ℕ) → IfOk result (Numbering PredicateWith a a) }
+    ensures written { (known : KnownTables) (l : Outcome PlacedExpr) → let a = around known environment.now in
+        IfOk left (Being (TypedIs functions.old.calls l))
+        → IfOk result (Being (PredicateIs functions.new.calls (and_then l (λ p. and_then (expr_placed a (expr_of pattern.now)) (λ q.
+        and_then (escape_placed a (option_map expr_of escape.now)) (λ r. Ok (not_if negated (like_tree p q r)))))))) }
 {
     let pattern = bind_expr(pattern, environment, functions);
     match escape {
@@ -349,6 +399,9 @@ fn like_plain(negated: bool, left: ExprResult, pattern: ExprResult) -> Predicate
     ensures reads { IfOk left (WithinItems IsReadTyped) → IfOk pattern (WithinItems IsReadTyped) → IfOk result (WithinItems predicate_reads) }
     ensures reach { IfOk left (Reaching TypedReaches) → IfOk pattern (Reaching TypedReaches) → IfOk result (Reaching PredicateReaches) }
     ensures numbering { (a : ℕ) → IfOk result (Numbering PredicateWith a a) }
+    ensures written { (calls : List SetFunctionCall) (l m : Outcome PlacedExpr) → IfOk left (Being (TypedIs calls l))
+        → IfOk pattern (Being (TypedIs calls m))
+        → IfOk result (Being (PredicateIs calls (and_then l (λ p. and_then m (λ q. Ok (not_if negated (like_tree p q None))))))) }
 {
     let (left, pattern) = both(text(left), text(pattern))?;
     Ok(Found {
@@ -370,6 +423,9 @@ fn like_escape(
     ensures reads { IfOk left (WithinItems IsReadTyped) → IfOk pattern (WithinItems IsReadTyped) → IfOk escape (WithinItems IsReadTyped) → IfOk result (WithinItems predicate_reads) }
     ensures reach { IfOk left (Reaching TypedReaches) → IfOk pattern (Reaching TypedReaches) → IfOk escape (Reaching TypedReaches) → IfOk result (Reaching PredicateReaches) }
     ensures numbering { (a : ℕ) → IfOk result (Numbering PredicateWith a a) }
+    ensures written { (calls : List SetFunctionCall) (l m n : Outcome PlacedExpr) → IfOk left (Being (TypedIs calls l))
+        → IfOk pattern (Being (TypedIs calls m)) → IfOk escape (Being (TypedIs calls n))
+        → IfOk result (Being (PredicateIs calls (and_then l (λ p. and_then m (λ q. and_then n (λ r. Ok (not_if negated (like_tree p q (Some r))))))))) }
 {
     let ((left, pattern), escape) = both(both(text(left), text(pattern)), text(escape))?;
     let findings = left.findings.and(pattern.findings).and(escape.findings);
@@ -392,6 +448,8 @@ pub fn null_test(negated: bool, left: ExprResult) -> PredicateResult
     ensures reads { IfOk left (WithinItems IsReadTyped) → IfOk result (WithinItems predicate_reads) }
     ensures reach { IfOk left (Reaching TypedReaches) → IfOk result (Reaching PredicateReaches) }
     ensures numbering { (a : ℕ) → IfOk result (Numbering PredicateWith a a) }
+    ensures written { (calls : List SetFunctionCall) (l : Outcome PlacedExpr) → IfOk left (Being (TypedIs calls l))
+        → IfOk result (Being (PredicateIs calls (and_then l (λ p. Ok (not_if negated (is_null p)))))) }
 {
     let Found { part, findings } = left?;
     Ok(Found {

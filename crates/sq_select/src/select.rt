@@ -1,15 +1,26 @@
 //! The parts of a query specification: FROM items, grouping columns, select lists (ISO/IEC 9075:1992, 7.4, 7.7, 7.9).
 
-ghost use Rattle.std.specs.Prelude.{◌≡◌, ℕ, ◌||◌, ◌++◌, ◌∷◌, [], IfOk, List, None, Some, false, if◌then◌else◌, is_some, length, nat_lt, slice_get, true};
-ghost use Rattle.std.specs.List.{AllZip};
-ghost use Rattle.sq_meaning.specs.Spelled.{table_of};
+ghost use Rattle.std.specs.Prelude.{◌≡◌, ℕ, ◌||◌, ◌++◌, ◌∷◌, [], IfOk, List, None, Ok, Some, false, if◌then◌else◌, is_some, length, map, nat_lt, slice_get, true};
+ghost use Rattle.std.specs.List.{AllZip, enumerate_from, flat_map};
+ghost use Rattle.std.specs.Option.{option_map};
+ghost use Rattle.sq_tree.specs.declared.names.ColumnReference.{ColumnReference as AnyColumn};
+ghost use Rattle.sq_meaning.specs.Environment.{TableReference as AnyReference};
+ghost use Rattle.sq_meaning.specs.Spelled.{expr_of, list_of, listed, listed_if_any, reference_of as reference_meant, table_of};
+ghost use Rattle.sq_meaning.specs.Status.{Outcome, and_then, each};
+ghost use Rattle.sq_meaning.specs.Syntax.{select};
 ghost use Rattle.sq_meaning.specs.WellFormed.{of_lines};
+ghost use Rattle.sq_bound.specs.Expression.{PlacedExpr, expr_of as expr_of_bound};
 ghost use Rattle.sq_bound.specs.Fits.{IsBaseAt, IsOver};
+ghost use Rattle.sq_bound.specs.Known.{KnownTables, known_by};
 ghost use Rattle.sq_bound.specs.WellFormed.{IsTable, Levels, TableKinds, kinds_of_parameters, place_of};
 ghost use Rattle.sq_bound.specs.declared.condition.TablePlace.{TablePlace as AnyPlace};
 ghost use Rattle.sq_bound.specs.declared.expression.Place.{Place as ColumnPlace};
 ghost use Rattle.sq_bound.specs.declared.expression.SetFunctionCall.{SetFunctionCall};
 ghost use Rattle.sq_scope.specs.Expression.{Grows};
+ghost use Rattle.sq_scope.specs.Scope.{scopes_in};
+ghost use Rattle.sq_scope.specs.declared.scope.FromItem.{FromItem as AnyItem};
+ghost use Rattle.sq_select.specs.Placed.{Around, all_placed, around, columns_placed, expr_placed, inside, list_placed, select_placed};
+ghost use Rattle.sq_select.specs.Written.{AreWritten, Being, ExprsAre, FromIs, GroupsAre, PartsWritten, SelectIs, SelectText, TypedIs};
 ghost use Rattle.sq_bound.specs.Noted.{may_fail};
 ghost use Rattle.sq_scope.specs.Reach.{AreNotedFunctions, NoFurther, outward};
 ghost use Rattle.sq_select.specs.Noted.{AreNotedIn, FromSure, ListSure, PartsNoted, SelectNoted, Sure, typed_sure};
@@ -60,6 +71,8 @@ pub fn named_table<N: Names>(
     ensures well_formed { IfOk result (λ table. IsTable (N.column_kinds names.now) table.now) }
     ensures named { IfOk result (λ table. table_of user written ≡ record { user = table.now.user; name = table.now.name }) }
     ensures base { IfOk result (λ table. IsBaseAt (N.base_number names.now table.now.user table.now.name) table.now) }
+    ensures known { IfOk result (λ table. let name = table_of user written in
+        N.known names.now name.user name.name ≡ Some (known_by table.now)) }
 {
     let owner = written.schema.unwrap_or(user);
     match names.table(owner, written.table) {
@@ -69,7 +82,9 @@ pub fn named_table<N: Names>(
 }
 
 /// The correlation name of a table reference.
-pub fn correlation_of(reference: &TableReference) -> Option<Name> {
+pub fn correlation_of(reference: &TableReference) -> Option<Name>
+    ensures { result ≡ option_map (λ c. c.name) reference.now.correlation }
+{
     match reference.correlation {
         Some(correlation) => Some(correlation.name),
         None => None,
@@ -112,6 +127,8 @@ pub fn from_clause<N: Names>(
     ensures over { IfOk result (λ clause. AllZip (IsItemOver (N.column_kinds names.now)) clause.tables clause.items) }
     ensures some { IfOk result (λ clause. nat_lt 0 (length clause.tables) ≡ true) }
     ensures sure { IfOk result (λ clause. FromSure clause.findings clause.tables) }
+    ensures written { IfOk result (λ clause. FromIs (N.known names.now) (map (reference_meant environment.now.user) (listed list.now))
+        clause.tables clause.items) }
 {
     if list.rest.len() >= MOST_ITEMS {
         return Err(BindFault::LimitExceeded);
@@ -138,6 +155,9 @@ impl FromClause {
         ensures over { IfOk result (λ u. AllZip (IsItemOver (N.column_kinds names.now)) self.old.tables self.old.items → AllZip (IsItemOver (N.column_kinds names.now)) self.new.tables self.new.items) }
         ensures some { IfOk result (λ u. nat_lt 0 (length self.new.tables) ≡ true) }
         ensures sure { IfOk result (λ u. FromSure self.old.findings self.old.tables → FromSure self.new.findings self.new.tables) }
+        ensures written { (references : List AnyReference) → FromIs (N.known names.now) references self.old.tables self.old.items
+            → IfOk result (λ u. FromIs (N.known names.now) (references ++ reference_meant environment.now.user reference.now ∷ [])
+            self.new.tables self.new.items) }
     {
         let table = named_table(names, environment.user, reference.table)?;
         self.tables.push(table.place())?;
@@ -162,6 +182,7 @@ pub fn group_by<'s>(
     ensures well_formed { (kinds : TableKinds) (tables : List AnyPlace) (levels : Levels) → AllZip (IsItemOver kinds) tables items.now → AreLevelsIn kinds levels environment.now → IfOk result (λ found. AreGroupingColumns kinds (kinds_of_parameters environment.now.parameters.now) (of_lines tables ∷ levels) found.part) }
     ensures some { is_some list.now ≡ true → IfOk result (λ found. is_no_column found.part ≡ false) }
     ensures reach { IfOk result (Reaching PlacesReach) }
+    ensures written { IfOk result (Being (GroupsAre (items.now ∷ scopes_in environment.now) (listed_if_any list.now))) }
 {
     grouping_columns(
         &environment.within(environment.scope_over(items, None)),
@@ -176,6 +197,7 @@ fn grouping_columns(
     ensures well_formed { (kinds : TableKinds) (levels : Levels) → AreLevelsIn kinds levels environment.now → IfOk result (λ found. AreGroupingColumns kinds (kinds_of_parameters environment.now.parameters.now) levels found.part) }
     ensures some { is_some list.now ≡ true → IfOk result (λ found. is_no_column found.part ≡ false) }
     ensures reach { IfOk result (Reaching PlacesReach) }
+    ensures written { IfOk result (Being (GroupsAre (scopes_in environment.now) (listed_if_any list.now))) }
 {
     let mut columns = Items::new(environment.alloc);
     let mut findings = Findings::NONE;
@@ -209,6 +231,8 @@ fn push_grouping(
 ) -> Result<Findings, BindFault>
     ensures well_formed { IfOk result (λ more. (p : ColumnPlace) × (columns.new ≡ columns.old ++ p ∷ []) × ((kinds : TableKinds) (levels : Levels) → AreLevelsIn kinds levels environment.now → IsGroupingColumn kinds (kinds_of_parameters environment.now.parameters.now) levels p)) }
     ensures reach { IfOk result (λ more. PlacesReach (outward findings) columns.old → PlacesReach (outward more) columns.new) }
+    ensures written { (references : List AnyColumn) → GroupsAre (scopes_in environment.now) references columns.old
+        → IfOk result (λ more. GroupsAre (scopes_in environment.now) (references ++ reference.now ∷ []) columns.new) }
 {
     let found = environment.column(reference)?;
     if !found.is_grouped {
@@ -253,6 +277,8 @@ pub fn select_list<'s>(
     ensures sure { IfOk result ListSure }
     ensures reach { IfOk result ListReaching }
     ensures own { AreNotedFunctions functions.old → AreNotedFunctions functions.new }
+    ensures written { (known : KnownTables) → IfOk result (λ s. ExprsAre functions.new.calls
+        (list_placed (inside items.now (around known environment.now)) (list_of list.now)) s.exprs) }
 {
     match list {
         SelectList::Star => all_columns(environment.alloc, items),
@@ -288,6 +314,8 @@ fn listed_columns(
     ensures sure { IfOk result ListSure }
     ensures reach { IfOk result ListReaching }
     ensures own { AreNotedFunctions functions.old → AreNotedFunctions functions.new }
+    ensures written { (known : KnownTables) → IfOk result (λ s. ExprsAre functions.new.calls
+        (each (expr_placed (around known environment.now)) (map expr_of (listed list.now))) s.exprs) }
 {
     let mut selected = Ok(no_columns(environment.alloc, false));
     let first = bind_expr(&list.first, environment, functions);
@@ -316,6 +344,9 @@ fn with_column(
     ensures in_order { (a b c : List SetFunctionCall) → IfOk selected (AddsList a b) → IfOk item (Adding typed_functions b c) → IfOk result (AddsList a c) }
     ensures sure { IfOk selected ListSure → IfOk item (Sure typed_sure) → IfOk result ListSure }
     ensures reach { IfOk selected ListReaching → IfOk item (Reaching TypedReaches) → IfOk result ListReaching }
+    ensures written { (calls : List SetFunctionCall) (texts : Outcome (List PlacedExpr)) (text : Outcome PlacedExpr)
+        → IfOk selected (λ s. ExprsAre calls texts s.exprs) → IfOk item (Being (TypedIs calls text))
+        → IfOk result (λ s. ExprsAre calls (and_then texts (λ ps. and_then text (λ p. Ok (ps ++ p ∷ [])))) s.exprs) }
 {
     let (mut selected, item) = both(selected, item)?;
     let Found { part, findings } = item;
@@ -352,6 +383,8 @@ fn all_columns(alloc: Global, items: &[FromItem]) -> Result<SelectedList, BindFa
     ensures star { IfOk result (λ s. s.is_star ≡ true) }
     ensures sure { IfOk result ListSure }
     ensures reach { IfOk result ListReaching }
+    ensures written { (calls : List SetFunctionCall) (outer : List (List AnyItem))
+        → IfOk result (λ s. ExprsAre calls (Ok (all_placed (items.now ∷ outer))) s.exprs) }
 {
     let mut selected = no_columns(alloc, true);
     let pushed = push_items(&mut selected, items);
@@ -363,6 +396,8 @@ fn push_items(selected: &mut SelectedList, items: &[FromItem]) -> Result<(), Bin
     ensures star { selected.new.is_star ≡ selected.old.is_star }
     ensures sure { IfOk result (λ u. ListSure selected.old → ListSure selected.new) }
     ensures reach { IfOk result (λ u. ListReaching selected.old → ListReaching selected.new) }
+    ensures written { (functions : List PlacedExpr) → IfOk result (λ u. map (expr_of_bound functions) selected.new.exprs
+        ≡ map (expr_of_bound functions) selected.old.exprs ++ flat_map columns_placed (enumerate_from 0 items.now)) }
 {
     for (number, item) in items.iter().enumerate() {
         push_table(selected, number, item)?;
@@ -376,6 +411,8 @@ fn push_table(selected: &mut SelectedList, number: usize, item: &FromItem) -> Re
     ensures star { selected.new.is_star ≡ selected.old.is_star }
     ensures sure { IfOk result (λ u. ListSure selected.old → ListSure selected.new) }
     ensures reach { IfOk result (λ u. ListReaching selected.old → ListReaching selected.new) }
+    ensures written { (functions : List PlacedExpr) → IfOk result (λ u. map (expr_of_bound functions) selected.new.exprs
+        ≡ map (expr_of_bound functions) selected.old.exprs ++ columns_placed (number, item.now)) }
 {
     for column in item.columns.as_slice() {
         let place = Place {
@@ -426,6 +463,8 @@ pub fn make_specification(parts: Selected) -> SubqueryResult
     ensures noted { AreNotedIn parts → IfOk result SelectNoted }
     ensures reach { AreReaching parts → IfOk result (Reaching SelectReaches) }
     ensures numbering { (a b c : ℕ) → IfOk parts.condition (Numbering ClauseWith a b) → IfOk parts.having (Numbering ClauseWith b c) → IfOk result (Numbering SelectWith a c) }
+    ensures written { (a : Around) (items : List AnyItem) (text : SelectText) → AreWritten a items text parts
+        → IfOk result (Being (SelectIs (select_placed a (select text.distinct text.list text.from text.filter text.by text.having)))) }
 {
     let Selected {
         is_distinct,
@@ -507,6 +546,8 @@ fn whole_specification(parts: Parts) -> SubqueryResult
     ensures noted { PartsNoted parts → IfOk result SelectNoted }
     ensures reach { PartsReach parts → IfOk result (Reaching SelectReaches) }
     ensures numbering { (a b c : ℕ) → Numbering ClauseWith a b parts.condition → Numbering ClauseWith b c parts.having → IfOk result (Numbering SelectWith a c) }
+    ensures written { (a : Around) (items : List AnyItem) (text : SelectText) → PartsWritten a items text parts
+        → IfOk result (Being (SelectIs (select_placed a (select text.distinct text.list text.from text.filter text.by text.having)))) }
 {
     let is_grouped = match parts.grouped() {
         Ok(is_grouped) => is_grouped,

@@ -8,14 +8,14 @@ use Rattle.sq_value.specs.declared.value.Value.{Value}
 use Rattle.sq_tree.specs.declared.module.ModuleText.{ModuleText}
 use Rattle.sq_model.specs.Script.{fit}
 use Rattle.sq_bound.specs.declared.fault.BindFault.{BindFault}
-use Rattle.sq_catalog.specs.Catalog.{table_number}
-use Rattle.sq_catalog.specs.declared.catalog.FullName.{FullName}
+use Rattle.sq_catalog.specs.Catalog.{Catalog, known}
+use Rattle.sq_catalog.proofs.Known.{base_known}
 use Rattle.sq_bound.specs.declared.statement.BoundStatement.{BoundStatement}
 use Rattle.sq_module.specs.declared.program.BoundProcedure.{BoundProcedure}
 use Rattle.sq_module.specs.declared.program.DeclaredCursor.{DeclaredCursor}
 use Rattle.sq_module.specs.declared.program.ProcedureName.{ProcedureName}
 use Rattle.sq_module.specs.declared.program.Program.{Program}
-use Rattle.sq_module.specs.Written.{IsOfTexts}
+use Rattle.sq_module.specs.Written.{IsOfTexts, meant_by}
 use Rattle.sq_session.specs.Kind.{Procedure, fault_at, fits_at, kind_at, kind_of}
 use Rattle.sq_session.specs.Parameter.{declared}
 use Rattle.sq_session.specs.Session.{AreOfModules, is_procedure, names_of, procedure_number, procedures_of}
@@ -75,5 +75,6 @@ names_are cs (e ∷ es) = ap (λ names. e.0 ∷ names) (names_are cs es)
 
 -- ---- procedures of module texts
 
-pub of_modules : (tables : List FullName) (modules : List ModuleText) (p : Program) (procedures : List Procedure) → IsOfTexts (table_number tables) modules p → procedures ≡ procedures_of p.cursors.items p.procedures.entries → AreOfModules tables modules procedures
-of_modules tables modules p procedures is_of are = record { program = p; is_of = is_of; are = are }
+pub of_modules : (c : Catalog) (modules : List ModuleText) (p : Program) (procedures : List Procedure) → IsOfTexts (meant_by c) modules p → procedures ≡ procedures_of p.cursors.items p.procedures.entries
+    → AreOfModules c.tables modules procedures
+of_modules c modules p procedures is_of are = record { program = p; known = known c; bases = base_known c; is_of = is_of; are = are }

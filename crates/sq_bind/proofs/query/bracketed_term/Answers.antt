@@ -1,3 +1,7 @@
+use Rattle.std.proofs.Common.{Ok}
+use Rattle.sq_bound.proofs.QueryLaws.{term_of-Bracketed}
+use Rattle.sq_bound.specs.Query.{query_of}
+use Rattle.sq_bind.specs.Spelled.{JoinedIs}
 use Rattle.sq_bind.proofs.Numbering.{bracketed_numbering}
 use Rattle.sq_bind.specs.Numbering.{QueryNumbering}
 use Rattle.sq_bound.specs.Numbered.{AreNumbered}
@@ -26,3 +30,10 @@ returns-clause-numbering c = λ a b h.
     let boxed = c.in_ok-query-2.query in
     let same : boxed ≡ joined.query = on_value (λ (q : BoundQuery). q ≡ joined.query) c.boxed_query.result boxed c.in_ok-query-2.ensures.0 c.boxed_query.ensures in
     bracketed_numbering a b boxed (subst (AreNumbered QueryWith a b) (sym same) (on_value (QueryNumbering a b) c.args.query joined c.in_ok-query.was h))
+
+pub returns-clause-written : goal.returns-clause-written
+returns-clause-written c = λ text h.
+    let joined = c.in_ok-query.field-0 in
+    let boxed = c.in_ok-query-2.query in
+    let same : boxed ≡ joined.query = on_value (λ (q : BoundQuery). q ≡ joined.query) c.boxed_query.result boxed c.in_ok-query-2.ensures.0 c.boxed_query.ensures in
+    on_value (JoinedIs text) c.args.query joined c.in_ok-query.was h ∙ ap (λ q. Ok (query_of q)) (sym same) ∙ ap Ok (sym (term_of-Bracketed boxed))

@@ -1,3 +1,8 @@
+use Rattle.sq_bind.proofs.Spelled as spelled
+use Rattle.std.proofs.Common.{Ok}
+use Rattle.sq_meaning.specs.Status.{and_then}
+use Rattle.sq_meaning.specs.Syntax.{union}
+use Rattle.sq_bind.specs.Spelled.{JoinedIs}
 use Rattle.sq_bind.proofs.Numbering.{further_numbering}
 use Rattle.sq_bind.specs.Numbering.{QueryNumbering}
 use Rattle.std.proofs.Common.{◌≡◌, true, false, List, [], ◌∷◌, ◌++◌, ap, sym, refl, subst, ◌∙◌}
@@ -26,3 +31,12 @@ returns-clause-numbering c = λ x y z h k.
     let pushed : is_ok c.match-pushed.test ≡ true → c.push-pushed.new.self ≡ old.rest ++ union ∷ [] = λ e. elim c.match-pushed.branch [ in-Ok w ↦ w.in-Ok.ensures.ok | in-Err w ↦ let no : false ≡ true = ap is_ok (sym w.test-is) ∙ e in cc ] in
     on_kept (QueryNumbering x z) c.kept.result _ c.match-pushed.test c.kept.ensures.part c.kept.ensures.test
     (λ e. further_numbering x y z c.args.joined.query _ union c.args.term (ap (λ o. o.first) (out-roll-BoundQuery _)) (ap (λ o. o.rest) (out-roll-BoundQuery _) ∙ pushed e) refl h k)
+
+pub returns-clause-written : goal.returns-clause-written
+returns-clause-written c = λ left right h k.
+    let last : BoundUnion = record { all = c.args.all; term = c.args.term.term; columns = c.args.copy } in
+    let old = out-BoundQuery c.args.joined.query in
+    let pushed : is_ok c.match-pushed.test ≡ true → c.push-pushed.new.self ≡ old.rest ++ last ∷ [] = λ e. elim c.match-pushed.branch [ in-Ok w ↦ w.in-Ok.ensures.ok | in-Err w ↦ let no : false ≡ true = ap is_ok (sym w.test-is) ∙ e in cc ] in
+    on_kept (JoinedIs (and_then left (λ x. and_then right (λ y. Ok (union c.args.all x y))))) c.kept.result _ c.match-pushed.test c.kept.ensures.part c.kept.ensures.test
+    (λ e. (λ i. and_then (h i) (λ x. and_then (k i) (λ y. Ok (union c.args.all x y))))
+    ∙ ap Ok (sym (spelled.further_query c.args.joined.query _ last (ap (λ o. o.first) (out-roll-BoundQuery _)) (ap (λ o. o.rest) (out-roll-BoundQuery _) ∙ pushed e))))

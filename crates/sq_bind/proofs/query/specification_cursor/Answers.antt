@@ -1,3 +1,13 @@
+use Rattle.sq_bind.proofs.Spelled as spelled
+use Rattle.std.proofs.Common.{Ok, ap, refl, sym, ◌∙◌}
+use Rattle.sq_tree.specs.declared.cond.QuerySpecification.{out-QuerySpecification}
+use Rattle.sq_meaning.specs.Spelled.{query_of, select_of_parts}
+use Rattle.sq_meaning.specs.Status.{and_then}
+use Rattle.sq_meaning.specs.Syntax.{specification}
+use Rattle.sq_select.proofs.WrittenQuery.{select_text}
+use Rattle.sq_select.specs.Placed.{around, select_placed}
+use Rattle.sq_select.specs.Written.{Being, SelectIs}
+use Rattle.sq_bind.specs.Written.{outside, query_placed}
 use Rattle.std.proofs.Common.{◌≡◌, [], rules, subst}
 use Rattle.sq_bound.specs.Fits.{FitsQuery}
 use Rattle.sq_bound.specs.Numbered.{SelectWith}
@@ -42,3 +52,25 @@ returns-in-None-clause-numbered g c =
     let next = c.bind_select.new.numbers in
     let same : c.in_ok-found.found ≡ c.in_ok-found-2.found = search rules in
     c.read_cursor.ensures.numbered c.args.numbers.now next (subst (Numbering SelectWith c.args.numbers.now next) same c.in_ok-found.ensures.numbering)
+
+pub returns-in-Some-clause-written : goal.returns-in-Some-clause-written
+returns-in-Some-clause-written g c =
+    let environment = c.args.environment.now in
+    let known = g.N.Names.known c.args.names.now in
+    let text = query_placed (outside known environment.parameters.now) (query_of environment.user c.args.cursor.now.query) in
+    spelled.cursor_is known environment.user environment.parameters.now c.args.cursor.now text c.updatable_cursor.result refl c.updatable_cursor.ensures.words (c.updatable_cursor.ensures.rows text)
+
+pub returns-in-None-clause-written : goal.returns-in-None-clause-written
+returns-in-None-clause-written g c =
+    let environment = c.args.environment.now in
+    let known = g.N.Names.known c.args.names.now in
+    let a = around known environment in
+    let own = environment.user in
+    let o = out-QuerySpecification c.args.query.now in
+    let parts = select_of_parts own o.quantifier o.list o.table in
+    let same : c.in_ok-found.found ≡ c.in_ok-found-2.found = search rules in
+    let is : and_then (select_placed a parts) (λ s. Ok (specification s)) ≡ query_placed (outside known environment.parameters.now) (query_of own c.args.cursor.now.query) =
+    ap (λ s. query_placed a (specification s)) (sym (select_text own c.args.query.now)) ∙ ap (query_placed a) (sym c.requires.sole)
+    ∙ ap (λ a. query_placed a (query_of own c.args.cursor.now.query)) (spelled.outside_is known environment c.requires.outermost) in
+    spelled.cursor_is known own environment.parameters.now c.args.cursor.now (and_then (select_placed a parts) (λ s. Ok (specification s))) c.read_cursor.result is c.read_cursor.ensures.words
+    (c.read_cursor.ensures.rows (select_placed a parts) (subst (Being (SelectIs (select_placed a parts))) same c.in_ok-found.ensures.written))

@@ -1,3 +1,9 @@
+use Rattle.std.proofs.Common.{Ok, sym}
+use Rattle.sq_meaning.specs.Status.{and_then}
+use Rattle.sq_meaning.specs.Syntax.{specification}
+use Rattle.sq_bound.proofs.QueryLaws.{term_of-Specification}
+use Rattle.sq_bound.specs.Condition.{select_of}
+use Rattle.sq_select.specs.Written.{Being, SelectIs}
 use Rattle.sq_bind.proofs.Numbering.{specification_numbering}
 use Rattle.sq_bound.specs.Numbered.{AreNumbered, SelectWith}
 use Rattle.sq_select.specs.Numbering.{Numbering}
@@ -25,3 +31,11 @@ returns-clause-numbering c = λ a b h.
     let query = c.in_ok-query.query in
     let same : found.part ≡ query = cc (c.in_ok-query.ensures.0) in
     specification_numbering a b query (subst (AreNumbered SelectWith a b) same (on_value (Numbering SelectWith a b) c.args.query found c.in_ok-found.was h))
+
+pub returns-clause-written : goal.returns-clause-written
+returns-clause-written c = λ text h.
+    let found = c.in_ok-found.found in
+    let query = c.in_ok-query.query in
+    let same : found.part ≡ query = cc (c.in_ok-query.ensures.0) in
+    ap (λ o. and_then o (λ s. Ok (specification s))) (on_value (Being (SelectIs text)) c.args.query found c.in_ok-found.was h)
+    ∙ ap (λ q. Ok (specification (select_of q))) same ∙ ap Ok (sym (term_of-Specification query))

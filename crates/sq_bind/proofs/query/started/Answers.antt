@@ -1,3 +1,6 @@
+use Rattle.sq_bind.proofs.Spelled as spelled
+use Rattle.std.proofs.Common.{Ok, ap, sym, ◌∙◌}
+use Rattle.sq_bind.specs.Spelled.{TermIs}
 use Rattle.sq_bind.proofs.Numbering.{first_numbering}
 use Rattle.sq_bind.specs.Numbering.{TermNumbering}
 use Rattle.std.proofs.Common.{ap, ◌∙◌}
@@ -15,3 +18,9 @@ pub returns-clause-numbering : goal.returns-clause-numbering
 returns-clause-numbering c = λ a b h.
     first_numbering a b _ c.in_ok-term.field-0 (ap (λ o. o.first) (out-roll-BoundQuery _)) (ap (λ o. o.rest) (out-roll-BoundQuery _) ∙ c.new.ensures)
     (on_value (TermNumbering a b) c.args.term c.in_ok-term.field-0 c.in_ok-term.was h)
+
+pub returns-clause-written : goal.returns-clause-written
+returns-clause-written c = λ text h.
+    let term = c.in_ok-term.field-0 in
+    on_value (TermIs text) c.args.term term c.in_ok-term.was h
+    ∙ ap Ok (sym (spelled.first_query _ term.term (ap (λ o. o.first) (out-roll-BoundQuery _)) (ap (λ o. o.rest) (out-roll-BoundQuery _) ∙ c.new.ensures)))

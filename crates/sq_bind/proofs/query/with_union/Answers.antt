@@ -1,3 +1,4 @@
+use Rattle.sq_bind.specs.Spelled.{JoinedIs, TermIs}
 use Rattle.sq_bind.specs.Numbering.{QueryNumbering, TermNumbering}
 use Rattle.std.proofs.Common.{◌≡◌, subst, ◌∙◌, rules}
 use Rattle.sq_bound.specs.declared.query.BoundQuery.{out-BoundQuery}
@@ -26,3 +27,11 @@ returns-clause-numbering c = λ x y z h k.
     let term : first.term ≡ last.term = search rules in
     c.push_union.ensures.numbering x y z (subst (QueryNumbering x y) joined (on_value (QueryNumbering x y) c.args.joined first.joined first.ensures.0 h))
     (subst (TermNumbering y z) term (on_value (TermNumbering y z) c.args.term first.term first.ensures.1 k))
+
+pub returns-clause-written : goal.returns-clause-written
+returns-clause-written c = λ left right h k.
+    let first = c.in_ok-joined in
+    let last = c.in_ok-joined-3 in
+    let joined : first.joined ≡ last.joined = search rules in
+    let term : first.term ≡ last.term = search rules in
+    c.push_union.ensures.written left right (subst (JoinedIs left) joined (on_value (JoinedIs left) c.args.joined first.joined first.ensures.0 h)) (subst (TermIs right) term (on_value (TermIs right) c.args.term first.term first.ensures.1 k))

@@ -1,3 +1,9 @@
+use Rattle.std.proofs.Common.{Ok, ap, sym, ◌∙◌}
+use Rattle.sq_tree.specs.declared.cond.QuerySpecification.{out-QuerySpecification}
+use Rattle.sq_meaning.specs.Spelled.{select_of, select_of_parts}
+use Rattle.sq_bound.specs.Condition as tree
+use Rattle.sq_select.proofs.WrittenQuery.{select_text}
+use Rattle.sq_select.specs.Placed.{around, select_placed}
 use Rattle.std.proofs.Common.{◌≡◌, [], List, rules, subst}
 use Rattle.sq_bound.specs.WellFormed.{IsSelect, kinds_of_parameters}
 use Rattle.sq_bound.specs.declared.names.ParameterDesc.{ParameterDesc}
@@ -17,3 +23,15 @@ returns-clause-well_formed g c =
     let selected : IsSelect columns (kinds_of_parameters environment.parameters.now) [] c.in_ok-bound.bound.part =
     c.in_ok-bound.ensures.well_formed [] (no_levels columns environment (c.new-environment.ensures.scopes, c.new-environment.ensures.groupings)) in
     subst (IsSelect columns [] []) same (subst (λ (parameters : List ParameterDesc). IsSelect columns (kinds_of_parameters parameters) [] c.in_ok-bound.bound.part) none selected)
+
+pub returns-clause-written : goal.returns-clause-written
+returns-clause-written g c =
+    let known = g.N.Names.known c.args.names.now in
+    let environment = c.new-environment.result in
+    let none : environment.parameters.now ≡ [] = search rules in
+    let q = c.args.query.now in
+    let o = out-QuerySpecification q in
+    let same : c.in_ok-bound.bound.part ≡ c.in_ok-part.field-0-0.part = search rules in
+    let here : around known environment ≡ record { known = known; parameters = []; scopes = [] } = λ i. record { known = known; parameters = none i; scopes = c.new-environment.ensures.scopes i } in
+    let text : select_of c.args.user q ≡ select_of_parts environment.user o.quantifier o.list o.table = ap (λ u. select_of u q) (sym c.new-environment.ensures.user) ∙ select_text environment.user q in
+    (λ i. select_placed (sym here i) (text i)) ∙ c.in_ok-bound.ensures.written ∙ ap (λ q. Ok (tree.select_of q)) same

@@ -1,3 +1,9 @@
+use Rattle.std.proofs.Common.{◌∷◌, map, take}
+use Rattle.sq_tree.specs.declared.cond.Cond.{out-Cond}
+use Rattle.sq_tree.specs.declared.cond.Conj.{out-Conj}
+use Rattle.sq_meaning.specs.Spelled.{conj_of, test_of}
+use Rattle.sq_select.specs.Placed.{around}
+use Rattle.sq_select.specs.Written.{Being, ConjIs, EachIs, TestIs}
 use Rattle.sq_select.specs.Noted.{EachReads, Every, SureAndNoted, WithinItems, conj_notes, conj_reads, conj_sure, test_notes, test_reads, test_sure}
 use Rattle.sq_bound.specs.Numbered.{ConjWith, EachWith, TestWith}
 use Rattle.sq_select.specs.Numbering.{Numbering}
@@ -16,6 +22,7 @@ invariant-bind_cond-loop-conj g l =
     × IfOk l.terms (WithinItems (EachReads conj_reads))
     × IfOk l.terms (Reaching (EachReaches ConjReaches)) × (AreNotedFunctions l.fn.functions → AreNotedFunctions l.functions)
     × IfOk l.terms (Numbering (EachWith ConjWith) l.fn.numbers l.numbers)
+    × IfOk l.terms (Being (EachIs ConjIs (around (g.N.Names.known l.names) l.environment) l.functions.calls (map (conj_of l.environment.user) ((out-Cond l.cond).first ∷ take l.conj-index l.conj-items))))
 
 abbrev pub invariant-bind_conj-loop-test : goal.invariant-bind_conj-loop-test
 invariant-bind_conj-loop-test g l =
@@ -24,3 +31,4 @@ invariant-bind_conj-loop-test g l =
     × IfOk l.tests (WithinItems (EachReads test_reads))
     × IfOk l.tests (Reaching (EachReaches TestReaches)) × (AreNotedFunctions l.fn.functions → AreNotedFunctions l.functions)
     × IfOk l.tests (Numbering (EachWith TestWith) l.fn.numbers l.numbers)
+    × IfOk l.tests (Being (EachIs TestIs (around (g.N.Names.known l.names) l.environment) l.functions.calls (map (test_of l.environment.user) ((out-Conj l.conj).first ∷ take l.test-index l.test-items))))

@@ -1,3 +1,5 @@
+use Rattle.sq_select.proofs.Written as written
+use Rattle.sq_select.specs.Written.{Being, CondIs, PredicateIs}
 use Rattle.sq_select.proofs.Notes.{bracketed_noted}
 use Rattle.sq_bound.proofs.Numbered.{bracketed_numbered}
 use Rattle.sq_select.specs.Numbering.{Numbering}
@@ -49,3 +51,8 @@ returns-clause-reach c = λ h.
 pub returns-clause-numbering : goal.returns-clause-numbering
 returns-clause-numbering c = λ a b h.
     subst (λ q. AreNumbered PredicateWith a b (bound.Bracketed q)) (sym c.in_ok-new.ensures) (bracketed_numbered a b c.in_ok-part.field-0.part (IfOk-at_ok (Numbering CondWith a b) c.in_ok-part.was h))
+
+pub returns-clause-written : goal.returns-clause-written
+returns-clause-written c = λ calls text h.
+    subst (λ q. PredicateIs calls text (bound.Bracketed q)) (sym c.in_ok-new.ensures)
+    (written.bracketed_is calls c.in_ok-part.field-0.part text (IfOk-at_ok (Being (CondIs calls text)) c.in_ok-part.was h))

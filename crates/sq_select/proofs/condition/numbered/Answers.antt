@@ -1,3 +1,5 @@
+use Rattle.sq_select.proofs.WrittenQuery as query
+use Rattle.sq_select.specs.Written.{Being, SelectIs}
 use Rattle.sq_select.proofs.Numbering.{taken_numbering, with_number}
 use Rattle.sq_select.specs.Numbering.{Numbering}
 use Rattle.sq_bound.specs.Numbered.{AreNumbered, SelectWith}
@@ -53,4 +55,13 @@ returns-clause-numbering c = λ a h k.
           (subst (λ n. AreNumbered SelectWith a n (with_number q.part w.take-part.result)) (sym w.numbers-is)
           (taken_numbering q.part w.take-part.result a c.args.numbers.now w.take-part.new.self (outward q.findings) w.if-findings-eq0.true reaches w.take-part.ensures before))
       | else-findings-eq0 w ↦ subst (AreNumbered SelectWith a c.if-findings-eq0.numbers) (sym w.part-is) (subst (λ n. AreNumbered SelectWith a n q.part) (sym w.numbers-is) before)
+    ]
+
+pub returns-clause-written : goal.returns-clause-written
+returns-clause-written c = λ text h.
+    let q = c.in_ok-part.field-0.part in
+    let before : SelectIs text q = IfOk-at_ok (Being (SelectIs text)) c.in_ok-part.was h in
+    elim c.if-findings-eq0.branch [
+      | then-findings-eq0 w ↦ subst (SelectIs text) (sym w.part-is) (query.renumbered_written q w.take-part.result text before)
+      | else-findings-eq0 w ↦ subst (SelectIs text) (sym w.part-is) before
     ]

@@ -1,3 +1,5 @@
+use Rattle.sq_select.proofs.Written as written
+use Rattle.sq_select.specs.Written.{Being, ConjIs, EachIs}
 use Rattle.sq_bound.proofs.Numbered.{cond_numbered}
 use Rattle.sq_select.specs.Numbering.{Numbering}
 use Rattle.sq_bound.specs.Numbered.{AreNumbered, ConjWith, EachWith}
@@ -56,3 +58,9 @@ returns-clause-numbering c = λ a b h.
     let terms = c.in_ok-part.field-0.part in
     cond_numbered a b (roll-BoundCond (record { terms = terms }))
     (subst (λ o. AreNumbered (EachWith ConjWith) a b o.terms) (sym (out-roll-BoundCond (record { terms = terms }))) (IfOk-at_ok (Numbering (EachWith ConjWith) a b) c.in_ok-part.was h))
+
+pub returns-clause-written : goal.returns-clause-written
+returns-clause-written c = λ a calls texts h.
+    let terms = c.in_ok-part.field-0.part in
+    written.cond_is calls a (roll-BoundCond (record { terms = terms })) texts
+    (subst (λ o. EachIs ConjIs a calls texts o.terms) (sym (out-roll-BoundCond (record { terms = terms }))) (IfOk-at_ok (Being (EachIs ConjIs a calls texts)) c.in_ok-part.was h))

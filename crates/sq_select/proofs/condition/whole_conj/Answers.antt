@@ -1,3 +1,5 @@
+use Rattle.sq_select.proofs.Written as written
+use Rattle.sq_select.specs.Written.{Being, EachIs, TestIs}
 use Rattle.sq_bound.proofs.Numbered.{conj_numbered}
 use Rattle.sq_select.specs.Numbering.{Numbering}
 use Rattle.sq_bound.specs.Numbered.{AreNumbered, TestWith, EachWith}
@@ -56,3 +58,9 @@ returns-clause-numbering c = λ a b h.
     let tests = c.in_ok-part.field-0.part in
     conj_numbered a b (roll-BoundConj (record { tests = tests }))
     (subst (λ o. AreNumbered (EachWith TestWith) a b o.tests) (sym (out-roll-BoundConj (record { tests = tests }))) (IfOk-at_ok (Numbering (EachWith TestWith) a b) c.in_ok-part.was h))
+
+pub returns-clause-written : goal.returns-clause-written
+returns-clause-written c = λ a calls texts h.
+    let tests = c.in_ok-part.field-0.part in
+    written.conj_is calls a (roll-BoundConj (record { tests = tests })) texts
+    (subst (λ o. EachIs TestIs a calls texts o.tests) (sym (out-roll-BoundConj (record { tests = tests }))) (IfOk-at_ok (Being (EachIs TestIs a calls texts)) c.in_ok-part.was h))

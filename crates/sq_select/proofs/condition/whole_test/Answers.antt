@@ -1,3 +1,6 @@
+use Rattle.sq_select.proofs.Written as written
+use Rattle.sq_select.specs.Placed.{cond_placed}
+use Rattle.sq_select.specs.Written.{Being, PredicateIs}
 use Rattle.sq_bound.proofs.Numbered.{test_numbered}
 use Rattle.sq_select.specs.Numbering.{Numbering}
 use Rattle.sq_bound.specs.Numbered.{PredicateWith}
@@ -52,3 +55,9 @@ pub returns-clause-numbering : goal.returns-clause-numbering
 returns-clause-numbering c = λ a b h.
     let found = c.in_ok-part.field-0 in
     test_numbered a b (record { negated = c.args.negated; predicate = found.part; items = found.findings.items; can_fail = found.findings.can_fail }) (IfOk-at_ok (Numbering PredicateWith a b) c.in_ok-part.was h)
+
+pub returns-clause-written : goal.returns-clause-written
+returns-clause-written c = λ a calls text h.
+    let found = c.in_ok-part.field-0 in
+    written.test_is calls a (record { negated = c.args.negated; predicate = found.part; items = found.findings.items; can_fail = found.findings.can_fail }) text
+    (IfOk-at_ok (Being (PredicateIs calls (cond_placed a text))) c.in_ok-part.was h)

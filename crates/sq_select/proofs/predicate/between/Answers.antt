@@ -1,3 +1,7 @@
+use Rattle.sq_select.proofs.Written as written
+use Rattle.sq_meaning.specs.Spelled.{expr_of}
+use Rattle.sq_scope.specs.Scope.{scopes_in}
+use Rattle.sq_select.specs.Placed.{around, expr_placed}
 use Rattle.std.proofs.Common.{refl}
 use Rattle.sq_scope.proofs.Bindings.{adds_more}
 use Rattle.sq_select.specs.WellFormed.{here}
@@ -26,3 +30,16 @@ returns-clause-quiet c = λ h. c.between_bounds.ensures.quiet h c.bind_expr-low.
 
 pub returns-clause-reads : goal.returns-clause-reads
 returns-clause-reads c = λ h. c.between_bounds.ensures.reads h c.bind_expr-low.ensures.reads c.bind_expr-high.ensures.reads
+
+pub returns-clause-written : goal.returns-clause-written
+returns-clause-written c = λ known l h.
+    let environment = c.args.environment.now in
+    let before = c.args.functions.now.calls in
+    let low = c.bind_expr-low.new.functions.calls in
+    let high = c.bind_expr-high.new.functions.calls in
+    let placed = expr_placed (around known environment) in
+    c.between_bounds.ensures.written high l (placed (expr_of c.args.low.now)) (placed (expr_of c.args.high.now))
+    (written.typed_more before high l c.args.left (adds_more before low high c.bind_expr-low.ensures.grows.0 c.bind_expr-high.ensures.grows.0) h)
+    (written.typed_more low high (placed (expr_of c.args.low.now)) c.bind_expr-low.result c.bind_expr-high.ensures.grows.0
+    (written.typed_is (scopes_in environment) environment.parameters.now low (expr_of c.args.low.now) c.bind_expr-low.result c.bind_expr-low.ensures.bound))
+    (written.typed_is (scopes_in environment) environment.parameters.now high (expr_of c.args.high.now) c.bind_expr-high.result c.bind_expr-high.ensures.bound)

@@ -1,3 +1,4 @@
+use Rattle.sq_select.proofs.Written as written
 use Rattle.sq_select.proofs.Notes.{between_noted}
 use Rattle.sq_bound.proofs.Numbered.{between_numbered}
 use Rattle.sq_select.proofs.ItemsRead.{between_reads, items_first, items_second, operand_reads}
@@ -107,3 +108,15 @@ returns-clause-reach c = λ h k j.
 
 pub returns-clause-numbering : goal.returns-clause-numbering
 returns-clause-numbering c = between_numbered c.args.negated c.in_ok-left-2.left.part.expr c.in_ok-left-2.low.part.expr c.in_ok-left-2.high.part.expr
+
+pub returns-clause-written : goal.returns-clause-written
+returns-clause-written c = λ calls l m n h k j.
+    let before = c.in_ok-left in
+    let a = c.in_ok-left-2.left in
+    let low = c.in_ok-left-2.low in
+    let high = c.in_ok-left-2.high in
+    let two = agreeing_are c.args.left c.args.low c.agreeing.result before.left before.low before.ensures.0 c.agreeing.ensures.parts c.agreeing.ensures.agree in
+    let there : (c.args.left ≡ Ok a) × (c.args.low ≡ Ok low) × (c.args.high ≡ Ok high) =
+    subst (λ (t : (Found Typed × Found Typed) × Found Typed). (c.args.left ≡ Ok t.0.0) × (c.args.low ≡ Ok t.0.1) × (c.args.high ≡ Ok t.1)) (sym c.in_ok-left-2.ensures.part) (two.0, two.1, before.ensures.1) in
+    written.between_is calls c.args.negated a.part.expr low.part.expr high.part.expr l m n
+    (written.operand_is calls l c.args.left a there.0 h) (written.operand_is calls m c.args.low low there.1 k) (written.operand_is calls n c.args.high high there.2 j)

@@ -1,3 +1,4 @@
+use Rattle.sq_select.proofs.Written as written
 use Rattle.sq_select.proofs.Notes.{compare_noted}
 use Rattle.sq_bound.proofs.Numbered.{compare_numbered}
 use Rattle.sq_select.proofs.ItemsRead.{compare_reads, items_first, items_second, operand_reads}
@@ -59,3 +60,8 @@ returns-clause-reach c = λ h k.
 
 pub returns-clause-numbering : goal.returns-clause-numbering
 returns-clause-numbering c = compare_numbered c.args.comparison c.in_ok-left.left.part.expr c.in_ok-left.right.part.expr
+
+pub returns-clause-written : goal.returns-clause-written
+returns-clause-written c = λ calls l r h k.
+    written.compare_is calls c.args.comparison c.in_ok-left.left.part.expr c.in_ok-left.right.part.expr l r
+    (written.operand_is calls l c.args.left c.in_ok-left.left c.in_ok-left.ensures.parts.0 h) (written.operand_is calls r c.args.right c.in_ok-left.right c.in_ok-left.ensures.parts.1 k)

@@ -1,3 +1,8 @@
+use Rattle.sq_select.proofs.Written as written
+use Rattle.sq_select.specs.Written.{Being, PredicateIs, SelectIs}
+use Rattle.sq_meaning.specs.Status.{and_then}
+use Rattle.sq_meaning.specs.Syntax.{exists}
+use Rattle.std.proofs.Common.{Ok}
 use Rattle.sq_select.proofs.ItemsRead.{exists_reads, subquery_reads}
 use Rattle.sq_select.specs.Noted.{SelectNoted, predicate_notes, predicate_reads, predicate_sure}
 use Rattle.sq_select.proofs.Quiet.{sure_exists}
@@ -51,3 +56,8 @@ returns-clause-reach c = λ h.
 pub returns-clause-numbering : goal.returns-clause-numbering
 returns-clause-numbering c = λ a b h.
     subst (λ q. AreNumbered PredicateWith a b (bound.Exists q)) (sym c.in_ok-new.ensures) (exists_numbered a b c.in_ok-part.field-0.part (IfOk-at_ok (Numbering SelectWith a b) c.in_ok-part.was h))
+
+pub returns-clause-written : goal.returns-clause-written
+returns-clause-written c = λ calls o h.
+    subst (λ q. PredicateIs calls (and_then o (λ y. Ok (exists y))) (bound.Exists q)) (sym c.in_ok-new.ensures)
+    (written.exists_is calls c.in_ok-part.field-0.part o (IfOk-at_ok (Being (SelectIs o)) c.in_ok-part.was h))

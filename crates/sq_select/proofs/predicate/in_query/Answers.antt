@@ -1,3 +1,5 @@
+use Rattle.sq_select.proofs.Written as written
+use Rattle.sq_select.specs.Written.{Being, BesideIs}
 use Rattle.sq_select.proofs.Notes.{in_query_noted}
 use Rattle.sq_bound.proofs.Numbered.{in_query_numbered}
 use Rattle.sq_select.specs.Numbering.{BesideWith, Numbering}
@@ -45,3 +47,7 @@ pub returns-clause-numbering : goal.returns-clause-numbering
 returns-clause-numbering c = λ a b h.
     let found = c.in_ok-part.field-0 in
     in_query_numbered a b c.args.negated found.part.0 found.part.1 (IfOk-at_ok (Numbering BesideWith a b) c.in_ok-part.was (c.with_subquery.ensures.numbering a b h))
+
+pub returns-clause-written : goal.returns-clause-written
+returns-clause-written c = λ calls l q h k.
+    written.in_query_is calls c.args.negated c.in_ok-part.field-0.part l q (IfOk-at_ok (Being (BesideIs calls l q)) c.in_ok-part.was (c.with_subquery.ensures.written calls l q h k))

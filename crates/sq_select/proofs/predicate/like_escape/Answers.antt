@@ -1,3 +1,4 @@
+use Rattle.sq_select.proofs.Written as written
 use Rattle.sq_select.proofs.Notes.{like_noted}
 use Rattle.sq_bound.proofs.Numbered.{like_numbered}
 use Rattle.std.proofs.Common.{Some}
@@ -92,3 +93,15 @@ returns-clause-reach c = λ h k j.
 
 pub returns-clause-numbering : goal.returns-clause-numbering
 returns-clause-numbering c = like_numbered c.args.negated c.in_ok-left.left.part.expr c.in_ok-left.pattern.part.expr (Some c.in_ok-left.escape.part.expr)
+
+pub returns-clause-written : goal.returns-clause-written
+returns-clause-written c = λ calls l m n h k j.
+    let a = c.in_ok-left.left in
+    let p = c.in_ok-left.pattern in
+    let e = c.in_ok-left.escape in
+    let two = IfOk-at_ok (λ parts. (c.text.result ≡ Ok parts.0) × (c.text-2.result ≡ Ok parts.1)) c.in_ok-left.ensures.0 c.both.ensures in
+    let is_left = text_is c.args.left c.text.result a two.0 c.text.ensures in
+    let is_pattern = text_is c.args.pattern c.text-2.result p two.1 c.text-2.ensures in
+    let is_escape = text_is c.args.escape c.text-3.result e c.in_ok-left.ensures.1 c.text-3.ensures in
+    written.like_escape_is calls c.args.negated a.part.expr p.part.expr e.part.expr l m n
+    (written.operand_is calls l c.args.left a is_left.0 h) (written.operand_is calls m c.args.pattern p is_pattern.0 k) (written.operand_is calls n c.args.escape e is_escape.0 j)

@@ -1,3 +1,4 @@
+use Rattle.sq_select.proofs.Written as written
 use Rattle.sq_select.proofs.Notes.{like_noted}
 use Rattle.sq_bound.proofs.Numbered.{like_numbered}
 use Rattle.std.proofs.Common.{None}
@@ -72,3 +73,11 @@ returns-clause-reach c = λ h k.
 
 pub returns-clause-numbering : goal.returns-clause-numbering
 returns-clause-numbering c = like_numbered c.args.negated c.in_ok-left.left.part.expr c.in_ok-left.pattern.part.expr None
+
+pub returns-clause-written : goal.returns-clause-written
+returns-clause-written c = λ calls l m h k.
+    let a = c.in_ok-left.left in
+    let p = c.in_ok-left.pattern in
+    let is_left = text_is c.args.left c.text.result a c.in_ok-left.ensures.0 c.text.ensures in
+    let is_pattern = text_is c.args.pattern c.text-2.result p c.in_ok-left.ensures.1 c.text-2.ensures in
+    written.like_is calls c.args.negated a.part.expr p.part.expr l m (written.operand_is calls l c.args.left a is_left.0 h) (written.operand_is calls m c.args.pattern p is_pattern.0 k)

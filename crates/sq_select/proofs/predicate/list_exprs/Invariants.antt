@@ -1,3 +1,9 @@
+use Rattle.std.proofs.Common.{◌∷◌, map, take}
+use Rattle.sq_bound.specs.Known.{KnownTables}
+use Rattle.sq_meaning.specs.Spelled.{expr_of}
+use Rattle.sq_meaning.specs.Status.{each}
+use Rattle.sq_select.specs.Placed.{around, expr_placed}
+use Rattle.sq_select.specs.Written.{Being, ExprsAre}
 use Rattle.sq_bound.specs.Noted.{IsSureExpr, IsReadExpr}
 use Rattle.sq_select.specs.Noted.{EachReads, Every, Sure, WithinItems}
 use Rattle.sq_select.specs.Reach.{EachReaches, Reaching}
@@ -18,3 +24,4 @@ invariant-loop-expr l =
     × IfOk l.bound (WithinItems (EachReads IsReadExpr))
     × IfOk l.bound (Reaching (EachReaches MayReach))
     × (AreNotedFunctions l.fn.functions → AreNotedFunctions l.functions)
+    × ((known : KnownTables) → IfOk l.bound (Being (ExprsAre l.functions.calls (each (expr_placed (around known l.environment)) (map expr_of (l.list.first ∷ take l.expr-index l.expr-items))))))

@@ -1,3 +1,5 @@
+use Rattle.sq_select.proofs.Written as written
+use Rattle.sq_select.specs.Written.{Being, ExprsAre, TypedIs}
 use Rattle.sq_select.proofs.Notes.{in_list_noted}
 use Rattle.sq_bound.proofs.Numbered.{in_list_numbered}
 use Rattle.sq_select.proofs.ItemsRead.{expr_more_items, in_list_reads, items_first, items_second}
@@ -73,3 +75,11 @@ returns-clause-reach c = λ h k.
 
 pub returns-clause-numbering : goal.returns-clause-numbering
 returns-clause-numbering c = in_list_numbered c.args.negated c.in_ok-left.left.part.expr c.in_ok-left.list.part
+
+pub returns-clause-written : goal.returns-clause-written
+returns-clause-written c = λ calls l ls h k.
+    let a = c.in_ok-left.left in
+    let es = c.in_ok-left.list in
+    let same : c.args.left ≡ a = ok_is c.args.left a c.in_ok-left.ensures.0 in
+    written.in_list_is calls c.args.negated a.part.expr es.part l ls
+    (subst (Being (TypedIs calls l)) same h) (IfOk-at_ok (Being (ExprsAre calls ls)) c.in_ok-left.ensures.1 k)

@@ -1,3 +1,4 @@
+use Rattle.sq_select.proofs.Written as written
 use Rattle.sq_select.proofs.Notes.{null_noted}
 use Rattle.sq_bound.proofs.Numbered.{null_numbered}
 use Rattle.sq_select.proofs.ItemsRead.{null_reads}
@@ -38,3 +39,6 @@ returns-clause-reach c = λ h. reaches.null_reaches (outward c.in_ok-part.field-
 
 pub returns-clause-numbering : goal.returns-clause-numbering
 returns-clause-numbering c = null_numbered c.args.negated c.in_ok-part.field-0.part.expr
+
+pub returns-clause-written : goal.returns-clause-written
+returns-clause-written c = λ calls l h. written.null_is calls c.args.negated c.in_ok-part.field-0.part.expr l (written.operand_is calls l c.args.left c.in_ok-part.field-0 c.in_ok-part.was h)

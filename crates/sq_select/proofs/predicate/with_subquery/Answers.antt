@@ -1,3 +1,5 @@
+use Rattle.sq_select.proofs.Written as written
+use Rattle.sq_select.specs.Written.{Being, SelectIs}
 use Rattle.sq_scope.specs.Reach.{outward}
 use Rattle.sq_select.specs.Noted.{SelectNoted, Sure, typed_sure}
 use Rattle.sq_select.proofs.ItemsRead.{beside_read, items_first, items_second, operand_reads, subquery_reads}
@@ -90,3 +92,11 @@ returns-clause-numbering c = λ a b h.
     let q = c.in_ok-left-2.query in
     let there : c.args.query ≡ Ok q = subst (λ (t : Found Typed × Found BoundSpecification). c.args.query ≡ Ok t.1) (sym c.in_ok-left-2.ensures.part) c.in_ok-left.ensures.1 in
     beside_numbering a b l.part.expr q.part c.and-findings.result c.boxed_beside.result c.boxed_beside.ensures (IfOk-at_ok (Numbering SelectWith a b) there h)
+
+pub returns-clause-written : goal.returns-clause-written
+returns-clause-written c = λ calls l o h k.
+    let a = c.in_ok-left-2.left in
+    let q = c.in_ok-left-2.query in
+    let there : (c.args.left ≡ Ok a) × (c.args.query ≡ Ok q) = subst (λ (t : Found Typed × Found BoundSpecification). (c.args.left ≡ Ok t.0) × (c.args.query ≡ Ok t.1)) (sym c.in_ok-left-2.ensures.part) c.in_ok-left.ensures in
+    written.beside_is calls l o a.part.expr q.part c.and-findings.result c.boxed_beside.result c.boxed_beside.ensures
+    (written.operand_is calls l c.args.left a there.0 h) (IfOk-at_ok (Being (SelectIs o)) there.1 k)

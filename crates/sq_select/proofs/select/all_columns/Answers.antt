@@ -1,3 +1,7 @@
+use Rattle.sq_select.proofs.WrittenQuery as query
+use Rattle.std.proofs.Common.{Ok}
+use Rattle.sq_select.specs.Placed.{all_placed}
+use Rattle.sq_select.specs.Written.{ExprsAre}
 use Rattle.std.proofs.lemmas.Result.{IfOk-weaker}
 use Rattle.sq_select.specs.Noted.{ListSure}
 use Rattle.sq_select.proofs.Notes.{list_none_sure}
@@ -20,3 +24,9 @@ returns-clause-sure c =
     kept_with ListSure c.push_items-pushed.new.selected c.push_items-pushed.result c.kept.result c.kept.ensures.part c.kept.ensures.test
     (IfOk-weaker c.push_items-pushed.result (λ u. ListSure c.no_columns-selected.result → ListSure c.push_items-pushed.new.selected) (λ u. ListSure c.push_items-pushed.new.selected)
     (λ u go. go (list_none_sure c.no_columns-selected.result c.no_columns-selected.ensures.exprs)) c.push_items-pushed.ensures.sure)
+
+pub returns-clause-written : goal.returns-clause-written
+returns-clause-written c = λ calls outer.
+    let after = c.push_items-pushed.new.selected in
+    kept_with (λ (s : SelectedList). ExprsAre calls (Ok (all_placed (c.args.items.now ∷ outer))) s.exprs) after c.push_items-pushed.result c.kept.result c.kept.ensures.part c.kept.ensures.test
+    (query.all_pushed calls c.args.items.now c.no_columns-selected.result.exprs after.exprs c.push_items-pushed.result c.no_columns-selected.ensures.exprs c.push_items-pushed.ensures.written)

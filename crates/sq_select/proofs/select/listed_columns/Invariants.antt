@@ -1,3 +1,9 @@
+use Rattle.std.proofs.Common.{◌∷◌, map, take}
+use Rattle.sq_bound.specs.Known.{KnownTables}
+use Rattle.sq_meaning.specs.Spelled.{expr_of}
+use Rattle.sq_meaning.specs.Status.{each}
+use Rattle.sq_select.specs.Placed.{around, expr_placed}
+use Rattle.sq_select.specs.Written.{ExprsAre}
 use Rattle.sq_scope.specs.Reach.{AreNotedFunctions}
 use Rattle.sq_select.specs.Noted.{ListSure}
 use Rattle.sq_select.specs.Reach.{ListReaching}
@@ -14,3 +20,4 @@ invariant-loop-expr l = ((kinds : TableKinds) → IfOk l.selected (IsListIn kind
     × IfOk l.selected ListReaching
     × (AreNotedFunctions l.fn.functions → AreNotedFunctions l.functions)
     × IfOk l.selected ListSure
+    × ((known : KnownTables) → IfOk l.selected (λ s. ExprsAre l.functions.calls (each (expr_placed (around known l.environment)) (map expr_of (l.list.first ∷ take l.expr-index l.expr-items))) s.exprs))

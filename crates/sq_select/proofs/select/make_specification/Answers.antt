@@ -1,3 +1,6 @@
+use Rattle.sq_select.specs.Placed.{clause_placed, inside, list_placed}
+use Rattle.sq_select.specs.Written.{Being, ClauseIs, ExprsAre, GroupsAre}
+use Rattle.sq_select.specs.declared.select.SelectedList.{SelectedList}
 use Rattle.sq_scope.proofs.Reaches.{reach_more, then_further}
 use Rattle.sq_select.proofs.Quiet.{or_first, or_second}
 use Rattle.sq_scope.specs.Reach.{AreNotedFunctions, AreOwnCalls, MayReach, outward}
@@ -93,3 +96,24 @@ returns-clause-numbering c = λ x y z h k.
     let all = IfOk-at_ok (λ clauses. (c.both.result ≡ Ok clauses.0) × (c.both-2.result ≡ Ok clauses.1)) d.ensures.0 c.both-clauses.ensures in
     let conditions = IfOk-at_ok (λ parts. (s.condition ≡ Ok parts.0) × (s.having ≡ Ok parts.1)) all.0 c.both.ensures in
     c.whole_specification.ensures.numbering x y z (IfOk-at_ok (Numbering ClauseWith x y) conditions.0 h) (IfOk-at_ok (Numbering ClauseWith y z) conditions.1 k)
+
+pub returns-clause-written : goal.returns-clause-written
+returns-clause-written c = λ a items text h.
+    let s = c.args.parts in
+    let d = c.in_ok-condition in
+    let all = IfOk-at_ok (λ clauses. (c.both.result ≡ Ok clauses.0) × (c.both-2.result ≡ Ok clauses.1)) d.ensures.0 c.both-clauses.ensures in
+    let conditions = IfOk-at_ok (λ parts. (s.condition ≡ Ok parts.0) × (s.having ≡ Ok parts.1)) all.0 c.both.ensures in
+    let lists = IfOk-at_ok (λ parts. (s.groups ≡ Ok parts.0) × (s.selected ≡ Ok parts.1)) all.1 c.both-2.ensures in
+    let same : s.functions ≡ d.functions = ok_is s.functions d.functions d.ensures.1 in
+    let calls = s.functions.calls in
+    c.whole_specification.ensures.written a items text (record {
+      distinct = h.distinct;
+      from = h.from;
+      condition = IfOk-at_ok (Being (ClauseIs [] (clause_placed (inside items a) text.filter))) conditions.0 h.condition;
+      by_columns = h.by_columns;
+      groups = IfOk-at_ok (Being (GroupsAre (items ∷ a.scopes) text.by)) lists.0 h.groups;
+      list = subst (λ (f : SetFunctions). ExprsAre f.calls (list_placed (inside items a) text.list) d.selected.exprs) same
+          (IfOk-at_ok (λ (l : SelectedList). ExprsAre calls (list_placed (inside items a) text.list) l.exprs) lists.1 h.list);
+      having = subst (λ (f : SetFunctions). ClauseIs f.calls (clause_placed (inside items a) text.having) d.having.part) same
+          (IfOk-at_ok (Being (ClauseIs calls (clause_placed (inside items a) text.having))) conditions.1 h.having);
+    })

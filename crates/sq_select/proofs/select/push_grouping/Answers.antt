@@ -1,3 +1,5 @@
+use Rattle.sq_select.proofs.WrittenQuery as query
+use Rattle.sq_scope.specs.Scope.{scopes_in}
 use Rattle.sq_scope.specs.Reach.{outward}
 use Rattle.sq_select.proofs.Reaches as reaches
 use Rattle.std.proofs.Common.{ℕ, false, inl, ◌≤◌, subst, arith}
@@ -24,3 +26,7 @@ returns-clause-reach c = λ before.
     let inside : place.depth ≤ all.reach = subst (λ (d : ℕ). d ≤ all.reach) c.column_findings.ensures.reach further.reach in
     reaches.place_further (outward c.args.findings) all c.args.columns.now c.push.new.self place c.in_ok-push.ensures.ok c.and.ensures.reach.0
     (omega (arith, inside), (λ near. let here = c.column_findings.ensures.outer near in omega (arith, further.items, here)), (λ far. small)) before
+
+pub returns-clause-written : goal.returns-clause-written
+returns-clause-written c = λ by h.
+    query.groups_next (scopes_in c.args.environment.now) by c.args.reference.now c.args.columns.now c.push.new.self c.in_ok-found.found c.in_ok-push.ensures.ok c.in_ok-found.ensures.means h

@@ -1,3 +1,7 @@
+use Rattle.std.proofs.Common.{◌++◌, map, take}
+use Rattle.std.specs.List.{enumerate_from, flat_map}
+use Rattle.sq_bound.specs.Expression.{PlacedExpr, expr_of}
+use Rattle.sq_select.specs.Placed.{columns_placed}
 use Rattle.sq_select.specs.Noted.{ListSure}
 use Rattle.sq_select.specs.Reach.{ListReaching}
 use Rattle.std.proofs.Common.{◌≡◌, true, List, ◌∷◌}
@@ -17,3 +21,4 @@ invariant-loop-number l =
     × (l.selected.is_star ≡ l.fn.selected.is_star)
     × (ListReaching l.fn.selected → ListReaching l.selected)
     × (ListSure l.fn.selected → ListSure l.selected)
+    × ((functions : List PlacedExpr) → map (expr_of functions) l.selected.exprs ≡ map (expr_of functions) l.fn.selected.exprs ++ flat_map columns_placed (enumerate_from 0 (take l.number l.items)))

@@ -1,10 +1,12 @@
+use Rattle.sq_select.proofs.WrittenQuery as query
 use Rattle.sq_meaning.specs.Sure.{is_sure_expr}
 use Rattle.sq_bound.proofs.ExpressionLaws.{expr_of-Column}
 use Rattle.sq_scope.specs.Reach.{no_further}
 use Rattle.sq_select.proofs.Notes.{list_next_sure}
 use Rattle.sq_bound.specs.declared.expression.Place.{Place}
 use Rattle.sq_select.proofs.Reaches as reaches
-use Rattle.std.proofs.Common.{◌≡◌, true, false, ◌∷◌, Some, Ok, refl, sym, ap, ◌∙◌}
+use Rattle.std.proofs.Common.{◌≡◌, ◌+◌, ◌++◌, true, false, ◌∷◌, Some, Ok, append-nil, map, refl, sym, take, take_all, ap, ◌∙◌}
+use Rattle.sq_bound.specs.Expression.{expr_of}
 use Rattle.std.proofs.lemmas.Option.{slice_get-get_or}
 use Rattle.std.specs.Prelude.{slice_get}
 use Rattle.sq_bound.specs.WellFormed.{IsExpr}
@@ -14,7 +16,7 @@ use Rattle.sq_select.proofs.Columns.{column_is, zip_more}
 use Rattle.sq_select.proofs.select.push_table.Goals as goal
 
 pub loop-column-init : goal.loop-column-init
-loop-column-init c = ((λ kinds parameters tables levels calls t at over before. before), refl, (λ before. before), (λ before. before))
+loop-column-init c = ((λ kinds parameters tables levels calls t at over before. before), refl, (λ before. before), (λ before. before), (λ functions. sym (append-nil (map (expr_of functions) c.args.selected.now.exprs))))
 
 pub returns-in_err-push_column-clause-star : goal.returns-in_err-push_column-clause-star
 returns-in_err-push_column-clause-star c = c.push_column.ensures.star ∙ c.loop-column.invariant.1
@@ -41,6 +43,14 @@ loop-column-preserved c = (
       let place : Place = record { depth = 0; item = c.args.number; column = c.column-item.result.position } in
       list_next_sure c.loop-column.selected c.push_column.new.selected (bound.Column place) false (Ok tt) c.in_ok-push_column.ensures.exprs c.in_ok-push_column.ensures.can_fail (c.loop-column.invariant.3 before)
       (λ none functions are. ap is_sure_expr (expr_of-Column functions place))),
+  (λ functions.
+      let number = c.args.number in
+      let column = c.column-item.result in
+      let items = c.as_slice-column-items.result.now in
+      let index = c.loop-column.column-index in
+      query.columns_next functions c.args.selected.now.exprs c.loop-column.selected.exprs c.push_column.new.selected.exprs (record { depth = 0; item = number; column = column.position })
+      (map (query.column_shown number) (take index items)) (map (query.column_shown number) (take (index + 1) items)) c.in_ok-push_column.ensures.exprs (c.loop-column.invariant.4 functions)
+      (query.map_next (query.column_shown number) items index column c.loop-column-test.true (sym c.column-item.is))),
 )
 
 pub returns-clause-well_formed : goal.returns-clause-well_formed
@@ -54,3 +64,9 @@ returns-clause-reach c = c.loop-column.invariant.2
 
 pub returns-clause-sure : goal.returns-clause-sure
 returns-clause-sure c = c.loop-column.invariant.3
+
+pub returns-clause-written : goal.returns-clause-written
+returns-clause-written c = λ functions.
+    c.loop-column.invariant.4 functions
+    ∙ ap (λ l. map (expr_of functions) c.args.selected.now.exprs ++ map (query.column_shown c.args.number) l)
+    (take_all c.loop-column.column-index c.as_slice-column-items.result.now c.loop-column-test.false ∙ c.as_slice-column-items.ensures)

@@ -1,3 +1,6 @@
+use Rattle.std.proofs.Common.{◌++◌, map, take}
+use Rattle.sq_bound.specs.Expression.{PlacedExpr, expr_of}
+use Rattle.sq_select.proofs.WrittenQuery.{column_shown}
 use Rattle.sq_select.specs.Noted.{ListSure}
 use Rattle.sq_select.specs.Reach.{ListReaching}
 use Rattle.std.proofs.Common.{◌≡◌, true, List, ◌∷◌, Some}
@@ -17,3 +20,4 @@ invariant-loop-column l =
     × (l.selected.is_star ≡ l.fn.selected.is_star)
     × (ListReaching l.fn.selected → ListReaching l.selected)
     × (ListSure l.fn.selected → ListSure l.selected)
+    × ((functions : List PlacedExpr) → map (expr_of functions) l.selected.exprs ≡ map (expr_of functions) l.fn.selected.exprs ++ map (column_shown l.number) (take l.column-index l.column-items))

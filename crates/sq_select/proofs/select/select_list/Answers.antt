@@ -1,3 +1,11 @@
+use Rattle.sq_select.proofs.WrittenQuery as query
+use Rattle.std.proofs.Common.{subst, sym}
+use Rattle.std.specs.Prelude.{IfOk}
+use Rattle.sq_tree.specs.declared.cond.SelectList.TheVariants.{Items}
+use Rattle.sq_meaning.specs.Spelled.{list_of}
+use Rattle.sq_scope.specs.Scope.{scopes_in}
+use Rattle.sq_select.specs.Placed.{Around, around, inside, list_placed}
+use Rattle.sq_select.specs.Written.{ExprsAre}
 use Rattle.sq_select.proofs.InOrder.{listed_all, not_star}
 use Rattle.sq_select.specs.InOrder.{AddsList}
 use Rattle.std.proofs.Common.{ap, ◌∙◌}
@@ -28,3 +36,20 @@ returns-in-Star-clause-in_order c = not_star (AddsList c.args.functions.now.call
 
 pub returns-in-Items-clause-in_order : goal.returns-in-Items-clause-in_order
 returns-in-Items-clause-in_order c = listed_all (AddsList c.args.functions.now.calls c.listed_columns.new.functions.calls) c.listed_columns.result c.listed_columns.ensures.in_order
+
+pub returns-in-Star-clause-written : goal.returns-in-Star-clause-written
+returns-in-Star-clause-written c = λ known.
+    let environment = c.args.environment.now in
+    let calls = c.args.functions.now.calls in
+    subst (λ l. IfOk c.all_columns.result (λ s. ExprsAre calls (list_placed (inside c.args.items.now (around known environment)) (list_of l)) s.exprs)) (sym c.in-Star.is)
+    (c.all_columns.ensures.written calls (scopes_in environment))
+
+pub returns-in-Items-clause-written : goal.returns-in-Items-clause-written
+returns-in-Items-clause-written c = λ known.
+    let environment = c.args.environment.now in
+    let items = c.args.items.now in
+    let calls = c.listed_columns.new.functions.calls in
+    subst (λ l. IfOk c.listed_columns.result (λ s. ExprsAre calls (list_placed (inside items (around known environment)) (list_of l)) s.exprs)) (sym c.in-Items.is)
+    (subst (λ (a : Around). IfOk c.listed_columns.result (λ s. ExprsAre calls (list_placed a (list_of (Items c.in-Items.list))) s.exprs))
+    (query.around_inside known environment c.within.result items (c.within.ensures.scopes ∙ c.scope_over.ensures.scopes) c.within.ensures.parameters)
+    (c.listed_columns.ensures.written known))

@@ -1,3 +1,7 @@
+use Rattle.sq_select.proofs.WrittenQuery as query
+use Rattle.sq_meaning.specs.Syntax.{select}
+use Rattle.sq_select.specs.Placed.{select_placed}
+use Rattle.sq_select.specs.Written.{SelectIs}
 use Rattle.sq_select.proofs.Numbering.{whole_numbering}
 use Rattle.sq_select.proofs.Reaches as reaches
 use Rattle.std.proofs.Common.{None, ap, subst, sym}
@@ -28,3 +32,10 @@ returns-clause-noted c = λ h.
 
 pub returns-clause-numbering : goal.returns-clause-numbering
 returns-clause-numbering c = λ x y z. whole_numbering c.args.parts c.in-Ok.is_grouped c.grouping_if-grouping.result c.can_fail-can_fail.result x y z c.grouping_if-grouping.ensures
+
+pub returns-clause-written : goal.returns-clause-written
+returns-clause-written c = λ a items text h.
+    let s = c.args.parts in
+    let can_fail = c.can_fail-can_fail.result in
+    subst (λ groups. SelectIs (select_placed a (select text.distinct text.list text.from text.filter text.by text.having)) (specification s groups can_fail)) (sym c.grouping_if-grouping.ensures)
+    (query.specification_written a items text s h c.in-Ok.is_grouped can_fail c.in-Ok.ensures.grouped_by c.in-Ok.ensures.rightly)

@@ -1,3 +1,9 @@
+use Rattle.sq_select.proofs.Written as written
+use Rattle.std.proofs.Common.{◌≡◌, [], ◌∷◌, ◌++◌, Ok}
+use Rattle.std.proofs.lemmas.Result.{IfOk-weaker}
+use Rattle.sq_meaning.specs.Status.{and_then}
+use Rattle.sq_select.specs.Written.{Being, ExprsAre, TypedIs}
+use Rattle.sq_select.specs.declared.select.SelectedList.{SelectedList}
 use Rattle.sq_select.specs.Reach.{ListReaching, Reaching, TypedReaches}
 use Rattle.sq_scope.specs.Reach.{outward}
 use Rattle.sq_select.specs.Noted.{ListSure, Sure, typed_sure}
@@ -46,3 +52,14 @@ returns-clause-sure c = λ h k.
     kept_with ListSure after c.push_column-pushed.result c.kept.result c.kept.ensures.part c.kept.ensures.test
     (list_next_sure before after found.part.expr found.findings.can_fail c.push_column-pushed.result c.push_column-pushed.ensures.exprs c.push_column-pushed.ensures.can_fail
     (IfOk-at_ok ListSure c.in_ok-selected.ensures.0 h) (IfOk-at_ok (Sure typed_sure) c.in_ok-selected.ensures.1 k))
+
+pub returns-clause-written : goal.returns-clause-written
+returns-clause-written c = λ calls texts text h k.
+    let before = c.in_ok-selected.selected in
+    let found = c.in_ok-selected.item in
+    let after = c.push_column-pushed.new.selected in
+    let P : SelectedList → Type 0 = λ s. ExprsAre calls (and_then texts (λ ps. and_then text (λ p. Ok (ps ++ p ∷ [])))) s.exprs in
+    kept_with P after c.push_column-pushed.result c.kept.result c.kept.ensures.part c.kept.ensures.test
+    (IfOk-weaker c.push_column-pushed.result (λ u. after.exprs ≡ before.exprs ++ found.part.expr ∷ []) (λ u. P after)
+    (λ u same. written.exprs_next calls before.exprs found.part.expr after.exprs texts text same (IfOk-at_ok (λ (s : SelectedList). ExprsAre calls texts s.exprs) c.in_ok-selected.ensures.0 h)
+    (IfOk-at_ok (Being (TypedIs calls text)) c.in_ok-selected.ensures.1 k)) c.push_column-pushed.ensures.exprs)

@@ -1,9 +1,12 @@
-use Rattle.std.proofs.Common.{subst, sym}
+use Rattle.std.proofs.Common.{◌≡◌, None, Some, ap, subst, sym, ◌∙◌}
+use Rattle.std.specs.Map.{keys_of}
+use Rattle.sq_bound.specs.Known.{known_by}
+use Rattle.sq_catalog.proofs.Known.{known_here}
 use Rattle.sq_bound.specs.Fits.{IsBaseAt}
 use Rattle.sq_bound.specs.WellFormed.{IsViewAmong}
-use Rattle.sq_bound.specs.declared.condition.TablePlace.TheVariants.{Base}
-use Rattle.sq_catalog.specs.Catalog.{Catalog, table_number}
-use Rattle.sq_catalog.specs.Stored.{IsStored}
+use Rattle.sq_bound.specs.declared.condition.TablePlace.TheVariants.{Base, View}
+use Rattle.sq_catalog.specs.Catalog.{Catalog, known, known_at, known_first, table_number}
+use Rattle.sq_catalog.specs.Stored.{IsStored, columns_of}
 use Rattle.sq_catalog.proofs.Extending.{table_read}
 use Rattle.sq_catalog.proofs.Added.{stands_at}
 use Rattle.sq_catalog.proofs.Stored.{base_at, named_at, stored_at}
@@ -45,3 +48,33 @@ returns-in-Some-clause-base c =
     (base_at _ c.in-Some.table.now c.in-Some.place c.in-Some.ensures.index
     (stored_at c.self.inside.base_tables.items c.self.inside.bases.entries c.in-Some.place c.in-Some.field-0-1.now c.in-Some.table.now c.self.invariant.0 c.in-Some.ensures.entry).itself
     (stands_at Base c.self.inside.bases.entries c.in-Some.place c.in-Some.field-0-1.now c.in-Some.table.now c.self.invariant.5 c.in-Some.ensures.entry))
+
+pub returns-in-Some-clause-known : goal.returns-in-Some-clause-known
+returns-in-Some-clause-known c =
+    let name = c.args.full_name.now in
+    let views = c.self.inside.views.entries in
+    subst (λ (s : Catalog). Some (known_by c.in-Some.table.now) ≡ known s name.user name.name) c.self.view_is
+    (ap (λ k. known_first k (known_at View (columns_of views) (table_number (keys_of views) name.user name.name)))
+    (known_here Base c.self.inside.bases.entries c.in-Some.place c.in-Some.field-0-1.now c.in-Some.table.now (table_number (keys_of c.self.inside.bases.entries) name.user name.name) (sym c.in-Some.ensures.index) c.in-Some.ensures.entry
+    (stands_at Base c.self.inside.bases.entries c.in-Some.place c.in-Some.field-0-1.now c.in-Some.table.now c.self.invariant.5 c.in-Some.ensures.entry)))
+
+pub returns-in-Some-get_full-clause-known : goal.returns-in-Some-get_full-clause-known
+returns-in-Some-get_full-clause-known c =
+    let name = c.args.full_name.now in
+    let bases = c.self.inside.bases.entries in
+    let views = c.self.inside.views.entries in
+    let absent : table_number (keys_of bases) name.user name.name ≡ None = sym c.in-None.ensures.index in
+    subst (λ (s : Catalog). Some (known_by c.in-Some-get_full.table.now) ≡ known s name.user name.name) c.self.view_is
+    (known_here View views c.in-Some-get_full.place c.in-Some-get_full.field-0-1.now c.in-Some-get_full.table.now (table_number (keys_of views) name.user name.name) (sym c.in-Some-get_full.ensures.index) c.in-Some-get_full.ensures.entry
+    (stands_at View views c.in-Some-get_full.place c.in-Some-get_full.field-0-1.now c.in-Some-get_full.table.now c.self.invariant.6 c.in-Some-get_full.ensures.entry)
+    ∙ sym (ap (λ n. known_first (known_at Base (columns_of bases) n) (known_at View (columns_of views) (table_number (keys_of views) name.user name.name))) absent))
+
+pub returns-in-None-get_full-clause-known : goal.returns-in-None-get_full-clause-known
+returns-in-None-get_full-clause-known c =
+    let name = c.args.full_name.now in
+    let bases = c.self.inside.bases.entries in
+    let views = c.self.inside.views.entries in
+    let no_base : None ≡ table_number (keys_of bases) name.user name.name = c.in-None.ensures.index in
+    let no_view : None ≡ table_number (keys_of views) name.user name.name = c.in-None-get_full.ensures.index in
+    subst (λ (s : Catalog). None ≡ known s name.user name.name) c.self.view_is
+    (λ i. known_first (known_at Base (columns_of bases) (no_base i)) (known_at View (columns_of views) (no_view i)))

@@ -30,12 +30,12 @@ returns-in_ok-named-in-Some-clause-opened c =
 
 pub returns-in_ok-named-in-Some-clause-written : goal.returns-in_ok-named-in-Some-clause-written
 returns-in_ok-named-in-Some-clause-written c =
-    λ m of named numbers.
-    let last = number_last m c.args.«module».now _ _ _ c.args.bound _ _ (is_bound c.args.bound c.in_ok-cursor.field-0 _ c.in_ok-cursor.ensures c.in-Some.is) refl refl refl refl
+    λ names m of named numbers.
+    let last = number_last names m c.args.«module».now _ _ _ c.args.bound _ _ (is_bound c.args.bound c.in_ok-cursor.field-0 _ c.in_ok-cursor.ensures c.in-Some.is) refl refl refl refl
     c.in_ok-push-in-Some.ensures.items of named in
-    let one : IsNumberOf m c.push.new.self.items c.args.name c.len-number.result
-    = subst (λ n. IsNumberOf m c.push.new.self.items c.args.name n) (sym (c.len-number.ensures ∙ c.args.self.now.cursors.ok.0)) last in
-    (numbers_next m _ _ _ _ c.args.name c.len-number.result _ c.in_ok-push-in-Some.ensures.items (on_ok c.insert.result _ c.insert.ensures.entries (sym c.is_ok.ensures.value ∙ c.in_ok-named-in-Some.ensures)) one numbers, one)
+    let one : IsNumberOf names m c.push.new.self.items c.args.name c.len-number.result
+    = subst (λ n. IsNumberOf names m c.push.new.self.items c.args.name n) (sym (c.len-number.ensures ∙ c.args.self.now.cursors.ok.0)) last in
+    (numbers_next names m _ _ _ _ c.args.name c.len-number.result _ c.in_ok-push-in-Some.ensures.items (on_ok c.insert.result _ c.insert.ensures.entries (sym c.is_ok.ensures.value ∙ c.in_ok-named-in-Some.ensures)) one numbers, one)
 
 pub returns-in_ok-named-in-Some-clause-there : goal.returns-in_ok-named-in-Some-clause-there
 returns-in_ok-named-in-Some-clause-there c =

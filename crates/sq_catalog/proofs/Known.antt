@@ -1,0 +1,41 @@
+-- What names mean, where tables and views stand in their order.
+use Rattle.std.proofs.Common.{◌≡◌, eqb-true, ℕ, ◌<◌, List, [], ◌∷◌, Option, Some, get_or, length, refl, sym, ap, subst, ◌∙◌}
+use Rattle.std.proofs.lemmas.List.Quantifiers.{position-Some}
+use Rattle.std.proofs.lemmas.Option.{slice_get-get_or, slice_get-map}
+use Rattle.std.specs.Prelude.{slice_get}
+use Rattle.std.specs.Option.{option_map}
+use Rattle.sq_bound.specs.Known.{KnownTable, known_by}
+use Rattle.sq_bound.specs.WellFormed.{place_of}
+use Rattle.sq_lex.specs.declared.name.Name.{Name}
+use Rattle.sq_bound.specs.declared.condition.TablePlace.{TablePlace}
+use Rattle.sq_bound.specs.declared.condition.TablePlace.TheVariants.{Base, View}
+use Rattle.sq_bound.specs.declared.names.TableDesc.{TableDesc}
+use Rattle.sq_catalog.specs.Catalog.{Catalog, is_table, known, known_at, known_first, table_number}
+use Rattle.sq_catalog.specs.Stored.{columns_of}
+use Rattle.sq_catalog.specs.declared.catalog.FullName.{FullName}
+
+columns_read : (entries : List (FullName × TableDesc)) (n : ℕ) (name : FullName) (t : TableDesc) → slice_get entries n ≡ Some (name, t) → slice_get (columns_of entries) n ≡ Some t.columns
+columns_read entries n name t e = slice_get-map (λ (e : FullName × TableDesc). e.1.columns) entries n ∙ ap (option_map (λ (e : FullName × TableDesc). e.1.columns)) e
+
+-- a table that stands under its number
+pub known_here : (at : ℕ → TablePlace) (entries : List (FullName × TableDesc)) (n : ℕ) (name : FullName) (t : TableDesc) (number : Option ℕ) → number ≡ Some n → slice_get entries n ≡ Some (name, t) → place_of t.body ≡ at n
+    → Some (known_by t) ≡ known_at at (columns_of entries) number
+known_here at entries n name t number e there stands =
+    (λ i. Some (record { place = stands i; columns = t.columns }))
+    ∙ sym (ap (known_at at (columns_of entries)) e ∙ ap (option_map (λ cs. record { place = at n; columns = cs })) (columns_read entries n name t there))
+
+-- a base table is known under its name
+pub base_known : (c : Catalog) (user name : Name) (place : ℕ) → table_number c.tables user name ≡ Some place → (t : KnownTable) × (known c user name ≡ Some t) × (t.place ≡ Base place)
+base_known c user name place e =
+    let below : place < length c.columns = subst (λ n. place < n) (sym (eqb-true (length c.columns) (length c.tables) c.described)) (number_within c.tables user name place e) in
+    let columns = get_or c.columns place [] in
+    let t : KnownTable = record { place = Base place; columns = columns } in (
+      t,
+      ap (λ n. known_first (known_at Base c.columns n) (known_at View c.view_columns (table_number c.view_names user name))) e
+          ∙ ap (λ o. known_first (option_map (λ cs. record { place = Base place; columns = cs }) o) (known_at View c.view_columns (table_number c.view_names user name))) (slice_get-get_or c.columns place [] below),
+      refl,
+    )
+  where
+    number_within : (tables : List FullName) (user name : Name) (place : ℕ) → table_number tables user name ≡ Some place → place < length tables
+    number_within [] user name place e = cc
+    number_within (t ∷ tables) user name place e = (position-Some (is_table user name) (t ∷ tables) place t e).0
