@@ -5,12 +5,9 @@ use Rattle.std.specs.Option.{option_map}
 use Rattle.std.specs.Prelude.{slice_get, ◌&&◌, Result, IfOk, IfSome}
 use Rattle.std.specs.List.{AllByRecursion, AllZip, list_all}
 use Rattle.sq_lex.specs.declared.name.Name.{Name}
-use Rattle.sq_meaning.proofs.AnswerLaws.{all_weaker}
-use Rattle.sq_meaning.specs.Environment.{Row}
 use Rattle.sq_meaning.specs.Kind.{kind, select_kinds}
-use Rattle.sq_meaning.specs.Placed.{by_place}
-use Rattle.sq_meaning.specs.Status.{Outcome, ◌>>=◌, and_then, each, not_well_formed, well_formed}
-use Rattle.sq_meaning.specs.WellFormed.{HasValue, IsDeclaredAt, WellFormedSelect, WellFormedTable, kind_there, kinds_by_place}
+use Rattle.sq_meaning.specs.Status.{Outcome, ◌>>=◌, and_then, each, well_formed}
+use Rattle.sq_meaning.specs.WellFormed.{kind_there, kinds_by_place}
 use Rattle.sq_bound.proofs.ConditionLaws.{select_of-out}
 use Rattle.sq_bound.proofs.ExpressionLaws.{expr_of-Column}
 use Rattle.sq_bound.specs.Condition.{groups_if, groups_of}
@@ -37,16 +34,6 @@ use Rattle.sq_value.specs.declared.domain.Kind.{Kind}
 use Rattle.sq_bind.specs.Updatable.{AreColumns, AreLeaves, HaveKinds, IsAmong, IsLeafOf}
 use Rattle.sq_bind.proofs.Joins.{goes_on}
 use Rattle.sq_bind.proofs.Zipped.{zipped_weaker}
-
--- ---- the tables that a query reads
-
--- each is there
-pub tables_there : (columns : TableKinds) (parameters : List Kind) (q : BoundSpecification) → IsSelect columns parameters [] q → AllByRecursion (λ t. HasValue (columns t)) (out-BoundSpecification q).from.tables
-tables_there columns parameters q h =
-    let o = out-BoundSpecification q in
-    let rows_of : TablePlace → Outcome (List Row) = λ t. not_well_formed in
-    let there = subst (WellFormedSelect (by_place rows_of) (kinds_by_place columns parameters) (IsDeclaredAt parameters) []) (select_of-out q) (h.stands rows_of) in
-    all_weaker (WellFormedTable (by_place rows_of) (kinds_by_place columns parameters) (IsDeclaredAt parameters)) (λ t. HasValue (columns t)) (λ t w. w.0) o.from.tables there.0
 
 -- ---- the kinds that a query shows
 

@@ -1,5 +1,5 @@
 -- Tests that name the columns of a key.
-use Rattle.std.proofs.Common.{◌≡◌, eqb, IfSome, Option, ◌⊎◌, ◌∙◌, ◌<◌, ◌≤◌, ◌+◌, ◌&&◌, ◌||◌, ℕ, zero, suc, Bool, true, false, List, [], ◌∷◌, get_or, length, map, take, nat_eq, nat_le, Some, None, refl, sym, ap, inl, inr, arith}
+use Rattle.std.proofs.Common.{◌≡◌, eqb, IfSome, Option, ◌⊎◌, ◌∙◌, ◌<◌, ◌≤◌, ◌+◌, ◌&&◌, ◌||◌, ℕ, Bool, true, false, List, [], ◌∷◌, get_or, length, map, take, nat_eq, nat_le, Some, None, refl, sym, ap, inl, inr}
 use Rattle.std.specs.List.{list_all, list_any}
 use Rattle.std.specs.Prelude.{if◌then◌else◌, option_to_list}
 use Rattle.std.specs.Option.{option_eq}
@@ -10,9 +10,9 @@ use Rattle.sq_value.specs.declared.value.Value.{Value}
 use Rattle.sq_tree.specs.declared.cond.Comparison.{Comparison}
 use Rattle.sq_tree.specs.declared.cond.Comparison.TheVariants.{Equal}
 use Rattle.sq_tree.specs.declared.expr.Sign.TheVariants as sign
-use Rattle.sq_meaning.specs.Syntax.{column, compare, signed}
+use Rattle.sq_meaning.specs.Syntax.{compare, signed}
 use Rattle.sq_bound.specs.Condition.{PlacedCond, not_if, predicate_of, test_of}
-use Rattle.sq_bound.specs.Expression.{PlacedExpr, expr_of, place_meant}
+use Rattle.sq_bound.specs.Expression.{PlacedExpr, expr_of}
 use Rattle.sq_bound.specs.Keyed.{column_named, is_constant, names_column, names_one_of, start_with_key}
 use Rattle.sq_bound.specs.declared.condition.BoundTest.{BoundTest}
 use Rattle.sq_bound.specs.declared.condition.Predicate.TheVariants as bound

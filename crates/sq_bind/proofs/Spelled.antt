@@ -1,5 +1,5 @@
 -- What is bound is what is written: query expressions, values and conditions of statements.
-use Rattle.std.proofs.Common.{◌≡◌, Bool, ℕ, ◌+◌, ◌<◌, ◌≤◌, length, get_or, take, take_all, true, List, [], ◌∷◌, ◌++◌, map, Option, Some, None, Ok, Err, refl, sym, ap, subst, ◌∙◌}
+use Rattle.std.proofs.Common.{◌≡◌, Bool, ℕ, ◌+◌, ◌<◌, ◌≤◌, length, get_or, take, take_all, true, false, List, [], ◌∷◌, ◌++◌, map, Option, Some, None, Ok, Err, refl, sym, ap, subst, ◌∙◌}
 use Rattle.std.proofs.lemmas.List.{map-append, take_more}
 use Rattle.std.proofs.lemmas.Result.{IfOk-at_ok}
 use Rattle.std.specs.Prelude.{IfOk, IfSome, Result, fold}
@@ -16,9 +16,9 @@ use Rattle.sq_tree.specs.declared.query.Query.{Query as WrittenQuery, out-Query,
 use Rattle.sq_tree.specs.declared.query.UnionTerm.{UnionTerm}
 use Rattle.sq_meaning.proofs.SpelledLevels.{query_of-roll, union_term_of-out}
 use Rattle.sq_meaning.specs.Environment.{TableName}
-use Rattle.sq_meaning.specs.Spelled.{Named, cond_of, expr_of, query_of, query_term_of, select_of_parts, union_term_of}
+use Rattle.sq_meaning.specs.Spelled.{Named, cond_of, expr_of, listed_if_any, query_of, query_term_of, select_of, select_of_parts, union_term_of}
 use Rattle.sq_meaning.specs.Status.{Outcome, and_then, each, well_formed}
-use Rattle.sq_meaning.specs.Syntax.{Query, present, union}
+use Rattle.sq_meaning.specs.Syntax.{Query, specification, union}
 use Rattle.sq_meaning.proofs.OutcomeLaws.{each-append}
 use Rattle.sq_bound.proofs.QueryLaws.{query_of-out, union_of-out}
 use Rattle.sq_bound.specs.Expression as placing
@@ -32,6 +32,7 @@ use Rattle.sq_bound.specs.declared.condition.BoundSpecification.{BoundSpecificat
 use Rattle.sq_bound.specs.declared.expression.BoundExpr.{BoundExpr}
 use Rattle.sq_bound.specs.declared.expression.SetFunctionCall.{SetFunctionCall}
 use Rattle.sq_bound.specs.declared.fault.BindFault.{BindFault}
+use Rattle.sq_bound.specs.declared.names.Column.{Column}
 use Rattle.sq_bound.specs.declared.names.ObjectColumn.{ObjectColumn}
 use Rattle.sq_bound.specs.declared.names.ParameterDesc.{ParameterDesc}
 use Rattle.sq_bound.specs.declared.names.TableDesc.{TableDesc}
@@ -41,6 +42,9 @@ use Rattle.sq_bound.specs.declared.query.BoundCursor.{BoundCursor}
 use Rattle.sq_bound.specs.declared.query.BoundQuery.{BoundQuery, out-BoundQuery}
 use Rattle.sq_bound.specs.declared.query.BoundTerm.{BoundTerm}
 use Rattle.sq_bound.specs.declared.query.BoundUnion.{BoundUnion}
+use Rattle.sq_bound.specs.declared.query.CursorBody.{CursorBody}
+use Rattle.sq_bound.specs.declared.query.CursorBody.TheVariants as body
+use Rattle.sq_bound.specs.declared.query.UpdatableQuery.{UpdatableQuery}
 use Rattle.sq_scope.specs.Expression.{IsBound}
 use Rattle.sq_scope.specs.Scope.{columns_over, scopes_in}
 use Rattle.sq_scope.specs.declared.findings.Found.{Found}
@@ -49,10 +53,12 @@ use Rattle.sq_scope.specs.declared.scope.FromItem.{FromItem}
 use Rattle.sq_scope.specs.declared.typed.Typed.{Typed}
 use Rattle.sq_select.proofs.Written as written
 use Rattle.sq_select.proofs.WrittenQuery.{around_inside, select_text}
-use Rattle.sq_select.specs.Placed.{Around, around, clause_placed, cond_placed, expr_placed, inside, select_placed}
-use Rattle.sq_select.specs.Written.{Being, ClauseIs, CondIs, ExprIs, ExprsAre, SelectIs, TypedIs}
+use Rattle.sq_select.specs.Names.{names_placed}
+use Rattle.sq_select.specs.Placed.{Around, around, cond_placed, expr_placed, inside, select_placed}
+use Rattle.sq_select.specs.Written.{Being, CondIs, ExprIs, ExprsAre, SelectIs, TypedIs}
+use Rattle.sq_bind.specs.Spelled.{IsReadOf}
 use Rattle.sq_bind.specs.WellFormed.{IsInsertedQuery, IsOutermost, IsStoredIn}
-use Rattle.sq_bind.specs.Written.{HasRowsOf, HasWordsOf, IsCursorOf, IsSourceOf, IsTargetOf, changed_item, filter_on, filter_placed, item_at_leaf, outside, query_placed, value_placed}
+use Rattle.sq_bind.specs.Written.{HasRowsOf, HasWordsOf, IsCursorOf, IsSortedBy, IsSourceOf, IsUpdatableOf, IsTargetOf, changed_item, filter_on, filter_placed, item_at_leaf, outside, own_item, query_names_placed, query_placed, value_placed}
 
 -- ---- outside of every query
 
@@ -118,24 +124,68 @@ some_weaker P Q (Some x) f h = f x h
 
 -- ---- cursors
 
+read_is : (a : Around) (query : Query Named) (body : CursorBody) → IsReadOf (query_placed a query) body → HasRowsOf a query body
+read_is a query (body.Rows q order) h = h
+read_is a query (body.Updatable u) h = absurd h
+
+-- a cursor that is not updatable
 pub cursor_is : (known : KnownTables) (user : Name) (parameters : List ParameterDesc) (c : Cursor) (text : Outcome PlacedQuery) (result : Result BoundCursor BindFault) → text ≡ query_placed (outside known parameters) (query_of user c.query)
-    → IfOk result (HasWordsOf c) → IfOk result (λ cursor. HasRowsOf text cursor.body) → IfOk result (IsCursorOf known user parameters c)
-cursor_is known user parameters c text (Ok cursor) e h k = record { words = h; rows = subst (λ text. HasRowsOf text cursor.body) e k }
-cursor_is known user parameters c text (Err fault) e h k = tt
+    → IfOk result (HasWordsOf c) → IfOk result (λ cursor. IsReadOf text cursor.body) → IfOk result (λ cursor. IsSortedBy (query_names_placed known (query_of user c.query)) (listed_if_any c.order_by) cursor.body)
+    → IfOk result (IsCursorOf known user parameters c)
+cursor_is known user parameters c text (Ok cursor) e h k order = record {
+  words = h;
+  rows = read_is (outside known parameters) (query_of user c.query) cursor.body (subst (λ text. IsReadOf text cursor.body) e k);
+  order = order;
+}
+cursor_is known user parameters c text (Err fault) e h k order = tt
+
+-- its query is a query specification, and there is no ORDER BY
+pub sole_order : (known : KnownTables) (user : Name) (c : Cursor) (q : QuerySpecification) (result : Result BoundCursor BindFault) → query_of user c.query ≡ specification (select_of user q) → listed_if_any c.order_by ≡ []
+    → (let o = out-QuerySpecification q in IfOk result (λ cursor. IsSortedBy (names_placed known (select_of_parts user o.quantifier o.list o.table)) [] cursor.body))
+    → IfOk result (λ cursor. IsSortedBy (query_names_placed known (query_of user c.query)) (listed_if_any c.order_by) cursor.body)
+sole_order known user c q (Ok cursor) sole unsorted h =
+    let o = out-QuerySpecification q in
+    subst (λ by. IsSortedBy (query_names_placed known (query_of user c.query)) by cursor.body) (sym unsorted)
+    (subst (λ names. IsSortedBy names [] cursor.body) (ap (names_placed known) (sym (select_text user q)) ∙ ap (query_names_placed known) (sym sole)) h)
+sole_order known user c q (Err fault) sole unsorted h = tt
+
+-- an updatable one
+pub over_is : (known : KnownTables) (user : Name) (parameters : List ParameterDesc) (c : Cursor) (q : QuerySpecification) (a : Around) (u : UpdatableQuery) (result : Result BoundCursor BindFault) → query_of user c.query ≡ specification (select_of user q)
+    → listed_if_any c.order_by ≡ [] → a ≡ outside known parameters → IsUpdatableOf a (select_of user q) u → IfOk result (HasWordsOf c) → IfOk result (λ cursor. cursor.body ≡ body.Updatable u) → IfOk result (IsCursorOf known user parameters c)
+over_is known user parameters c q a u (Ok cursor) sole unsorted here h words is = record {
+  words = words;
+  rows = subst (HasRowsOf (outside known parameters) (query_of user c.query)) (sym is)
+      (subst (λ (query : Query Named). HasRowsOf (outside known parameters) query (body.Updatable u)) (sym sole) (subst (λ (a : Around). IsUpdatableOf a (select_of user q) u) here h));
+  order = subst (IsSortedBy (query_names_placed known (query_of user c.query)) (listed_if_any c.order_by)) (sym is) unsorted;
+}
+over_is known user parameters c q a u (Err fault) sole unsorted here h words is = tt
 
 -- ---- conditions on the rows of a table that is changed
 
-pub target_is : (known : KnownTables) (environment inner : Environment) (item : FromItem) (items : List FromItem) (c : Cond) (calls : List SetFunctionCall) (result : Result (Found BoundCond) BindFault) (found : Found BoundCond)
+pub cond_within : (known : KnownTables) (environment inner : Environment) (item : FromItem) (items : List FromItem) (c : Cond) (calls : List SetFunctionCall) (result : Result (Found BoundCond) BindFault) (found : Found BoundCond)
     → result ≡ Ok found → scopes_in inner ≡ items ∷ scopes_in environment → inner.parameters.now ≡ environment.parameters.now → inner.user ≡ environment.user → items ≡ item ∷ [] → calls ≡ []
     → IfOk result (Being (CondIs calls (cond_placed (around known inner) (cond_of inner.user c))))
-    → ClauseIs [] (clause_placed (inside (item ∷ []) (around known environment)) (present (cond_of environment.user c))) (Some found.part)
-target_is known environment inner item items c calls result found e scopes parameters user only none h =
+    → CondIs [] (cond_placed (inside (item ∷ []) (around known environment)) (cond_of environment.user c)) found.part
+cond_within known environment inner item items c calls result found e scopes parameters user only none h =
     let here : around known inner ≡ inside (item ∷ []) (around known environment) = around_inside known environment inner items scopes parameters ∙ ap (λ l. inside l (around known environment)) only in
     let bound : CondIs calls (cond_placed (around known inner) (cond_of inner.user c)) found.part = IfOk-at_ok (Being (CondIs calls (cond_placed (around known inner) (cond_of inner.user c)))) e h in
-    written.clause_is [] (inside (item ∷ []) (around known environment)) found.part (cond_of environment.user c)
-    (subst (λ (a : Around). CondIs [] (cond_placed a (cond_of environment.user c)) found.part) here
+    subst (λ (a : Around). CondIs [] (cond_placed a (cond_of environment.user c)) found.part) here
     (subst (λ u. CondIs [] (cond_placed (around known inner) (cond_of u c)) found.part) user
-    (subst (λ calls. CondIs calls (cond_placed (around known inner) (cond_of inner.user c)) found.part) none bound)))
+    (subst (λ calls. CondIs calls (cond_placed (around known inner) (cond_of inner.user c)) found.part) none bound))
+
+-- a table that is defined, as an item
+pub own_item_is : (t : TableName) (columns : List Column) (item : FromItem) → (item.user ≡ t.user) × (item.name ≡ t.name) × (item.correlation ≡ None) → item.columns ≡ columns_over false columns → item ≡ own_item t columns
+own_item_is t columns item of are = λ i. record { user = of.0 i; name = of.1 i; correlation = of.2 i; columns = are i }
+
+-- a condition of a CHECK
+pub checked_written : (environment inner : Environment) (item : FromItem) (items : List FromItem) (c : Cond) (calls : List SetFunctionCall) (bound : Result (Found BoundCond) BindFault) (result : Result BoundCond BindFault)
+    → scopes_in inner ≡ items ∷ scopes_in environment → inner.parameters.now ≡ environment.parameters.now → inner.user ≡ environment.user → items ≡ item ∷ [] → calls ≡ []
+    → IfOk bound (Being (CondIs calls (cond_placed (around (λ _ _. None) inner) (cond_of inner.user c)))) → IfOk result (λ part. (found : Found BoundCond) × (bound ≡ Ok found) × (part ≡ found.part))
+    → IfOk result (CondIs [] (cond_placed (inside (item ∷ []) (around (λ _ _. None) environment)) (cond_of environment.user c)))
+checked_written environment inner item items c calls bound (Err fault) scopes parameters user only none h is = tt
+checked_written environment inner item items c calls bound (Ok part) scopes parameters user only none h is =
+    subst (CondIs [] (cond_placed (inside (item ∷ []) (around (λ _ _. None) environment)) (cond_of environment.user c))) (sym is.2)
+    (cond_within (λ _ _. None) environment inner item items c calls bound is.0 is.1 scopes parameters user only none h)
 
 -- the table as an item
 pub at_leaf_is : (t : TableName) (table : TableDesc) (item : FromItem) → t ≡ record { user = table.user; name = table.name }

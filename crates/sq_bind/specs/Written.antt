@@ -1,6 +1,6 @@
 -- That a bound statement is the one that is written (ISO/IEC 9075:1992, 13.2 to 13.10, 14.3 and 14.4).
 use Rattle.std.specs.Prelude.{◌≡◌, ⊤, ℕ, true, false, List, [], ◌∷◌, map, position, slice_get, Option, None, Some, IfSome, Ok, unwrap_or}
-use Rattle.std.specs.List.{AllZip}
+use Rattle.std.specs.List.{AllZip, zip}
 use Rattle.std.specs.Option.{option_and_then, option_map}
 use Rattle.sq_lex.specs.declared.name.Name.{Name}
 use Rattle.sq_value.specs.declared.domain.Domain.{Domain}
@@ -8,6 +8,7 @@ use Rattle.sq_value.specs.declared.value.Value.TheVariants.{Null}
 use Rattle.sq_tree.specs.declared.cond.Cond.{Cond}
 use Rattle.sq_tree.specs.declared.list.CommaList.{CommaList}
 use Rattle.sq_tree.specs.declared.module.Cursor.{Cursor}
+use Rattle.sq_tree.specs.declared.«module».SortSpecification.{SortSpecification}
 use Rattle.sq_tree.specs.declared.names.Parameter.{Parameter}
 use Rattle.sq_tree.specs.declared.names.TableName.{TableName as WrittenTable}
 use Rattle.sq_tree.specs.declared.statement.Assignment.{Assignment}
@@ -29,11 +30,13 @@ use Rattle.sq_tree.specs.declared.statement.Statement.{Statement}
 use Rattle.sq_tree.specs.declared.statement.Statement.TheVariants as tree
 use Rattle.sq_tree.specs.declared.statement.Where.{Where}
 use Rattle.sq_tree.specs.declared.statement.Where.TheVariants as rows
-use Rattle.sq_meaning.specs.Environment.{TableName, same_table}
-use Rattle.sq_meaning.specs.Spelled.{Named, cond_of, expr_of, has_point, listed, query_of, select_of, select_of_parts, signed_number, table_of}
+use Rattle.sq_meaning.specs.Environment.{Place, TableName, TableReference, same_table}
+use Rattle.sq_meaning.specs.Rows as meaning
+use Rattle.sq_meaning.specs.SortKeys.{common_name, sort_columns}
+use Rattle.sq_meaning.specs.Spelled.{Named, cond_of, expr_of, has_point, listed, listed_if_any, query_of, select_of, select_of_parts, signed_number, table_of}
 use Rattle.sq_meaning.specs.Status.{Outcome, ◌>>=◌, each, well_formed}
-use Rattle.sq_meaning.specs.Syntax.{Query, literal, present, specification, union}
-use Rattle.sq_bound.specs.Condition.{PlacedClause}
+use Rattle.sq_meaning.specs.Syntax.{Clause, Query, Select as Selection, SelectList, absent, column, literal, present, select, specification, union}
+use Rattle.sq_bound.specs.Condition.{PlacedClause, PlacedCond}
 use Rattle.sq_bound.specs.Expression.{PlacedExpr}
 use Rattle.sq_bound.specs.Known.{KnownTable, KnownTables}
 use Rattle.sq_bound.specs.Query as bound
@@ -49,6 +52,8 @@ use Rattle.sq_bound.specs.declared.query.BoundCursor.{BoundCursor}
 use Rattle.sq_bound.specs.declared.query.BoundQuery.{BoundQuery}
 use Rattle.sq_bound.specs.declared.query.CursorBody.{CursorBody}
 use Rattle.sq_bound.specs.declared.query.CursorBody.TheVariants as body
+use Rattle.sq_bound.specs.declared.query.SortColumn.{SortColumn}
+use Rattle.sq_bound.specs.declared.query.UpdatableQuery.{UpdatableQuery}
 use Rattle.sq_bound.specs.declared.statement.BoundAssignment.{BoundAssignment}
 use Rattle.sq_bound.specs.declared.statement.BoundInsert.{BoundInsert}
 use Rattle.sq_bound.specs.declared.statement.BoundSelect.{BoundSelect}
@@ -68,7 +73,8 @@ use Rattle.sq_bound.specs.declared.statement.Output.{Output}
 use Rattle.sq_scope.specs.Expression.{parameter_named, placed_parameter}
 use Rattle.sq_scope.specs.Scope.{columns_over}
 use Rattle.sq_scope.specs.declared.scope.FromItem.{FromItem}
-use Rattle.sq_select.specs.Placed.{Around, clause_placed, expr_placed, inside, select_placed}
+use Rattle.sq_select.specs.Names.{names_placed}
+use Rattle.sq_select.specs.Placed.{Around, clause_placed, cond_placed, expr_placed, inside, item_over, list_placed, select_placed}
 use Rattle.sq_select.specs.Written.{ClauseIs, ExprIs, ExprsAre, SelectIs}
 
 -- ---- parameters
@@ -121,25 +127,71 @@ query_placed a (union all left right) = query_placed a left >>= λ x. query_plac
 abbrev pub QueryIs : Outcome PlacedQuery → BoundQuery → Type 0
 QueryIs text q = text ≡ Ok (bound.query_of q)
 
+-- a column of UNION has a name where both sides have the same
+abbrev pub common_names : List (Option Name) → List (Option Name) → List (Option Name)
+common_names ls rs = map (λ p. common_name p.0 p.1) (zip ls rs)
+
+-- the names of the columns of a query expression
+abbrev pub query_names_placed : KnownTables → Query Named → Outcome (List (Option Name))
+query_names_placed known (specification s) = names_placed known s
+query_names_placed known (union all left right) = query_names_placed known left >>= λ ls. query_names_placed known right >>= λ rs. Ok (common_names ls rs)
+
 -- what is known where a statement of a procedure with these parameters stands: it is in no query
 abbrev pub outside : KnownTables → List ParameterDesc → Around
 outside known parameters = record { known = known; parameters = parameters; scopes = [] }
 
+-- ---- updatable queries (7.9; own rule)
+
+-- a table as an item, with each column at its place in the base table under it
+abbrev pub leaf_item : TableReference → KnownTable → FromItem
+leaf_item r t = record { user = r.table.user; name = r.table.name; correlation = r.correlation; columns = columns_over true t.columns }
+
+-- what is shown is a column of the table: the one at this position in the base table
+abbrev pub IsShownAt : List Column → PlacedExpr → ℕ → Type 0
+IsShownAt columns e position = (p : Place) × (e ≡ column p) × (slice_get (map (λ c. c.leaf_column) columns) p.column ≡ Some position)
+
+-- The query is over one table, without DISTINCT, groups and HAVING. It has the rows of the base table under that table that meet its
+-- condition, and shows columns of them.
+pub record IsUpdatableOf (a : Around) (text : Selection Named) (u : UpdatableQuery) : Type 0 where
+  pub list : SelectList Named
+  pub reference : TableReference
+  pub filter : Clause Named
+  pub is_plain : text ≡ select false list (reference ∷ []) filter [] absent
+  pub table : KnownTable
+  pub is_known : a.known reference.table.user reference.table.name ≡ Some table
+  pub place : u.target.table ≡ table.place
+  pub condition : ClauseIs [] (clause_placed (inside (leaf_item reference table ∷ []) a) filter) u.target.condition
+  pub shown : List PlacedExpr
+  pub list_is : list_placed (inside ((item_over reference table).item ∷ []) a) list ≡ Ok shown
+  pub columns : AllZip (IsShownAt table.columns) shown u.columns
+
 -- ---- cursors and tables
 
--- a cursor that is not updatable has the rows of its query
-abbrev pub HasRowsOf : Outcome PlacedQuery → CursorBody → Type 0
-HasRowsOf text (body.Rows q order) = QueryIs text q
-HasRowsOf text (body.Updatable u) = ⊤
+-- a cursor has the rows of its query: those of the query expression, or, where it is updatable, of its only query specification
+abbrev pub HasRowsOf : Around → Query Named → CursorBody → Type 0
+HasRowsOf a query (body.Rows q order) = QueryIs (query_placed a query) q
+HasRowsOf a (specification s) (body.Updatable u) = IsUpdatableOf a s u
+HasRowsOf a (union all left right) (body.Updatable u) = ⊥
 
 -- a cursor is INSENSITIVE or SCROLL where that is written
 abbrev pub HasWordsOf : Cursor → BoundCursor → Type 0
 HasWordsOf c cursor = (cursor.insensitive ≡ c.insensitive) × (cursor.scroll ≡ c.scroll)
 
--- and it has the rows of the query that is written (13.1)
+-- a sort column
+abbrev pub sort_meant : SortColumn → meaning.SortColumn
+sort_meant s = record { column = s.column; descending = s.descending }
+
+-- the rows are sorted by the columns that the sort specifications name, where the columns of the query have these names; for an
+-- updatable cursor there are none
+abbrev pub IsSortedBy : Outcome (List (Option Name)) → List SortSpecification → CursorBody → Type 0
+IsSortedBy names by (body.Rows q sorts) = (names >>= λ ns. sort_columns ns by) ≡ Ok (map sort_meant sorts)
+IsSortedBy names by (body.Updatable u) = by ≡ []
+
+-- and it has the rows of the query that is written, in the order of its ORDER BY (13.1)
 pub record IsCursorOf (known : KnownTables) (user : Name) (parameters : List ParameterDesc) (c : Cursor) (cursor : BoundCursor) : Type 0 where
   pub words : HasWordsOf c cursor
-  pub rows : HasRowsOf (query_placed (outside known parameters) (query_of user c.query)) cursor.body
+  pub rows : HasRowsOf (outside known parameters) (query_of user c.query) cursor.body
+  pub order : IsSortedBy (query_names_placed known (query_of user c.query)) (listed_if_any c.order_by) cursor.body
 
 -- what is under the table of the written name, which is the user's where no schema is written (5.4): that base table itself, if it
 -- is one. The places of base tables are given by their owners and names
@@ -208,6 +260,16 @@ AreSetTo a columns = AllZip (IsSetTo a columns)
 abbrev pub SetOn : Around → TableName → Option KnownTable → List Assignment → List BoundAssignment → Type 0
 SetOn a t None ws bs = ⊥
 SetOn a t (Some k) ws bs = AreSetTo (inside (item_at_leaf t k ∷ []) a) k.columns ws bs
+
+-- ---- CHECK (11.9)
+
+-- the table that is defined as an item
+abbrev pub own_item : TableName → List Column → FromItem
+own_item t columns = record { user = t.user; name = t.name; correlation = None; columns = columns_over false columns }
+
+-- a condition on a row of it names its columns, and neither a table nor a parameter
+abbrev pub check_placed : TableName → List Column → Cond → Outcome PlacedCond
+check_placed t columns c = cond_placed (record { known = λ _ _. None; parameters = []; scopes = (own_item t columns ∷ []) ∷ [] }) (cond_of t.user c)
 
 -- ---- statements
 

@@ -1,6 +1,6 @@
 //! Query expressions and cursors (ISO/IEC 9075:1992, 7.10, 13.1).
 
-ghost use Rattle.std.specs.Prelude.{◌≡◌, ℕ, [], List, IfOk, IfSome, Ok, Some};
+ghost use Rattle.std.specs.Prelude.{◌≡◌, ℕ, [], ◌∷◌, List, IfOk, IfSome, Ok, Option, Some, length, map};
 ghost use Rattle.std.specs.Result.{result_ok};
 ghost use Rattle.sq_value.specs.declared.domain.Kind.{Kind as AnyKind};
 ghost use Rattle.sq_meaning.specs.Kind.{common_kind};
@@ -9,20 +9,25 @@ ghost use Rattle.sq_bound.specs.Numbered.{AreNumbered, SelectWith};
 ghost use Rattle.sq_bound.specs.NumberedQuery.{CursorHasNumbers, QueryWith};
 ghost use Rattle.sq_select.specs.Numbering.{Numbering};
 ghost use Rattle.sq_bind.specs.WellFormed.{AreCommon, IsJoined, IsOutermost, IsTerm};
-ghost use Rattle.sq_bind.specs.Spelled.{JoinedIs, TermIs};
-ghost use Rattle.sq_bind.specs.Written.{HasRowsOf, HasWordsOf, IsCursorOf, QueryIs, query_placed};
+ghost use Rattle.sq_bind.specs.Spelled.{IsReadOf, JoinedIs, JoinedNamed, TermIs, TermNamed};
+ghost use Rattle.sq_bind.specs.Written.{HasWordsOf, IsCursorOf, IsSortedBy, QueryIs, common_names, query_names_placed, query_placed, sort_meant};
 ghost use Rattle.sq_lex.specs.declared.name.Name.{Name as AnyName};
-ghost use Rattle.sq_meaning.specs.Spelled.{query_of, query_term_of, select_of};
+ghost use Rattle.sq_meaning.specs.SortKeys.{common_name, is_named, key_column, sort_columns};
+ghost use Rattle.sq_meaning.specs.Spelled.{listed_if_any, query_of, query_term_of, select_of};
+ghost use Rattle.sq_tree.specs.declared.«module».SortKey.TheVariants.{Column, Position};
+ghost use Rattle.sq_tree.specs.declared.«module».SortSpecification.{SortSpecification as AnySort};
 ghost use Rattle.sq_meaning.specs.Status.{Outcome, and_then};
 ghost use Rattle.sq_meaning.specs.Syntax.{specification, union};
 ghost use Rattle.sq_bound.specs.Condition.{PlacedSelect};
 ghost use Rattle.sq_bound.specs.Query.{PlacedQuery};
+ghost use Rattle.sq_select.specs.Names.{NamesAre, names_of};
 ghost use Rattle.sq_select.specs.Placed.{around};
 ghost use Rattle.sq_select.specs.Written.{Being, SelectIs};
 ghost use Rattle.sq_bound.specs.Fits.{FitsCursor, FitsQuery};
-ghost use Rattle.sq_bound.specs.WellFormed.{BasesAreThere, IsCursor, IsQuery, IsSelect, IsUpdatable, TableKinds, kinds_of_parameters, kinds_of_select};
+ghost use Rattle.sq_bound.specs.WellFormed.{IsCursor, IsQuery, IsSelect, IsUpdatable, TableKinds, kinds_of_parameters, kinds_of_select};
 ghost use Rattle.sq_bound.specs.declared.names.BaseTable.{BaseTable as AnyTable};
 ghost use Rattle.sq_bound.specs.declared.query.BoundQuery.{out-BoundQuery};
+ghost use Rattle.sq_bound.specs.declared.query.CursorBody.TheVariants.{Updatable};
 
 use crate::updatable::bind_updatable;
 use sq_bound::{
@@ -69,6 +74,7 @@ pub(crate) fn bind_query<N: Names>(
     ensures well_formed { IfOk result (IsJoined (N.column_kinds names.now) (kinds_of_parameters environment.now.parameters.now)) }
     ensures numbering { IfOk result (QueryNumbering numbers.old numbers.new) }
     ensures written { IfOk result (JoinedIs (query_placed (around (N.known names.now) environment.now) (query_of environment.now.user query.now))) }
+    ensures names { IfOk result (JoinedNamed (query_names_placed (N.known names.now) (query_of environment.now.user query.now))) }
 {
     let first = bind_query_term(&query.first, names, environment, numbers);
     let mut joined = started(environment.alloc, first);
@@ -90,6 +96,7 @@ fn bind_query_term<N: Names>(
     ensures well_formed { IfOk result (IsTerm (N.column_kinds names.now) (kinds_of_parameters environment.now.parameters.now)) }
     ensures numbering { IfOk result (TermNumbering numbers.old numbers.new) }
     ensures written { IfOk result (TermIs (query_placed (around (N.known names.now) environment.now) (query_term_of environment.now.user term.now))) }
+    ensures names { IfOk result (TermNamed (query_names_placed (N.known names.now) (query_term_of environment.now.user term.now))) }
 {
     match term {
         QueryTerm::Specification(query) => {
@@ -123,6 +130,7 @@ fn specification_term(alloc: Global, query: SubqueryResult) -> TermResult
     ensures numbering { (a b : ℕ) → IfOk query (Numbering SelectWith a b) → IfOk result (TermNumbering a b) }
     ensures written { (text : Outcome PlacedSelect) → IfOk query (Being (SelectIs text))
         → IfOk result (TermIs (and_then text (λ s. Ok (specification s)))) }
+    ensures names { (text : Outcome (List (Option AnyName))) → IfOk query (Being (NamesAre text)) → IfOk result (TermNamed text) }
 {
     let found = query?;
     let lacks_privilege = found.findings.lacks_privilege;
@@ -140,6 +148,7 @@ fn bracketed_term(alloc: Global, query: JoinedResult) -> TermResult
         → IfOk result (IsTerm tables parameters) }
     ensures numbering { (a b : ℕ) → IfOk query (QueryNumbering a b) → IfOk result (TermNumbering a b) }
     ensures written { (text : Outcome PlacedQuery) → IfOk query (JoinedIs text) → IfOk result (TermIs text) }
+    ensures names { (text : Outcome (List (Option AnyName))) → IfOk query (JoinedNamed text) → IfOk result (TermNamed text) }
 {
     let Joined {
         query,
@@ -165,6 +174,7 @@ fn started(alloc: Global, term: TermResult) -> JoinedResult
         → IfOk result (IsJoined tables parameters) }
     ensures numbering { (a b : ℕ) → IfOk term (TermNumbering a b) → IfOk result (QueryNumbering a b) }
     ensures written { (text : Outcome PlacedQuery) → IfOk term (TermIs text) → IfOk result (JoinedIs text) }
+    ensures names { (text : Outcome (List (Option AnyName))) → IfOk term (TermNamed text) → IfOk result (JoinedNamed text) }
 {
     let Term {
         term,
@@ -188,6 +198,8 @@ fn with_union(alloc: Global, joined: JoinedResult, all: bool, term: TermResult) 
         → IfOk term (IsTerm tables parameters) → IfOk result (IsJoined tables parameters) }
     ensures written { (left right : Outcome PlacedQuery) → IfOk joined (JoinedIs left) → IfOk term (TermIs right)
         → IfOk result (JoinedIs (and_then left (λ x. and_then right (λ y. Ok (union all x y))))) }
+    ensures names { (left right : Outcome (List (Option AnyName))) → IfOk joined (JoinedNamed left) → IfOk term (TermNamed right)
+        → IfOk result (JoinedNamed (and_then left (λ ls. and_then right (λ rs. Ok (common_names ls rs))))) }
 {
     let (joined, term) = both(joined, term)?;
     let columns = common_columns(
@@ -214,6 +226,7 @@ fn push_union(
         → IsTerm tables parameters term → IfOk result (IsJoined tables parameters) }
     ensures written { (left right : Outcome PlacedQuery) → JoinedIs left joined → TermIs right term
         → IfOk result (JoinedIs (and_then left (λ x. and_then right (λ y. Ok (union all x y))))) }
+    ensures columns { IfOk result (λ more. (out-BoundQuery more.query).columns ≡ columns) }
 {
     let BoundQuery {
         first,
@@ -251,7 +264,8 @@ fn common_columns(
     left: &[ResultColumn],
     right: &[ResultColumn],
 ) -> Result<Items<ResultColumn>, BindFault>
-    ensures { IfOk result (AreCommon left.now right.now) }
+    ensures kinds { IfOk result (AreCommon left.now right.now) }
+    ensures names { IfOk result (λ columns. names_of columns ≡ common_names (names_of left.now) (names_of right.now)) }
 {
     if left.len() != right.len() {
         return Err(BindFault::CountMismatch);
@@ -265,7 +279,8 @@ fn common_columns(
 
 /// The column to which a column of each side is brought.
 fn common_column(left: &ResultColumn, right: &ResultColumn) -> Result<ResultColumn, BindFault>
-    ensures { IfOk result (λ column. Some column.kind ≡ result_ok (common_kind left.now.kind right.now.kind)) }
+    ensures kind { IfOk result (λ column. Some column.kind ≡ result_ok (common_kind left.now.kind right.now.kind)) }
+    ensures name { IfOk result (λ column. column.name ≡ common_name left.now.name right.now.name) }
 {
     let kind = union_kind(left.kind, right.kind)?;
     Ok(ResultColumn {
@@ -274,17 +289,19 @@ fn common_column(left: &ResultColumn, right: &ResultColumn) -> Result<ResultColu
     })
 }
 
-fn common_name(left: Option<Name>, right: Option<Name>) -> Option<Name> {
+/// The name that a column has where the columns of both sides have these.
+fn common_name(left: Option<Name>, right: Option<Name>) -> Option<Name>
+    ensures { result ≡ common_name left right }
+{
     let left = left?;
     let right = right?;
     if left == right { Some(left) } else { None }
 }
 
 /// The column that a sort specification names.
-fn sort_column(
-    columns: &[ResultColumn],
-    sort: &SortSpecification,
-) -> Result<SortColumn, BindFault> {
+fn sort_column(columns: &[ResultColumn], sort: &SortSpecification) -> Result<SortColumn, BindFault>
+    ensures { IfOk result (λ column. sort_columns (names_of columns.now) (sort.now ∷ []) ≡ Ok (sort_meant column ∷ [])) }
+{
     let column = match &sort.key {
         SortKey::Column(name) => named_column(columns, *name)?,
         SortKey::Position(number) => numbered_column(columns.len(), *number)?,
@@ -296,7 +313,9 @@ fn sort_column(
 }
 
 /// Whether the column has this name.
-fn is_named(column: &ResultColumn, wanted: Name) -> bool {
+fn is_named(column: &ResultColumn, wanted: Name) -> bool
+    ensures { result ≡ is_named wanted column.now.name }
+{
     match column.name {
         Some(name) => name == wanted,
         None => false,
@@ -304,7 +323,9 @@ fn is_named(column: &ResultColumn, wanted: Name) -> bool {
 }
 
 /// The position of the only column of this name.
-fn named_column(columns: &[ResultColumn], wanted: Name) -> Result<usize, BindFault> {
+fn named_column(columns: &[ResultColumn], wanted: Name) -> Result<usize, BindFault>
+    ensures { IfOk result (λ position. key_column (names_of columns.now) (Column wanted) ≡ Ok position) }
+{
     let mut found = None;
     for (position, column) in columns.iter().enumerate() {
         if is_named(column, wanted) {
@@ -320,8 +341,10 @@ fn named_column(columns: &[ResultColumn], wanted: Name) -> Result<usize, BindFau
     }
 }
 
-/// The position from 0 that a number written without a point counts from 1.
-fn numbered_column(count: usize, number: Number) -> Result<usize, BindFault> {
+/// The position from 0 among so many columns that a number written without a point counts from 1.
+fn numbered_column(count: usize, number: Number) -> Result<usize, BindFault>
+    ensures { (names : List (Option AnyName)) → length names ≡ count → IfOk result (λ position. key_column names (Position number) ≡ Ok position) }
+{
     if !is_whole(number) {
         return Err(BindFault::BadSortKey);
     }
@@ -332,11 +355,14 @@ fn numbered_column(count: usize, number: Number) -> Result<usize, BindFault> {
     Ok((position - 1) as usize)
 }
 
+/// The columns that ORDER BY names, if it is written.
 fn sort_columns(
     alloc: Global,
     columns: &[ResultColumn],
     order_by: &Option<CommaList<SortSpecification>>,
-) -> Result<Items<SortColumn>, BindFault> {
+) -> Result<Items<SortColumn>, BindFault>
+    ensures { IfOk result (λ sorts. sort_columns (names_of columns.now) (listed_if_any order_by.now) ≡ Ok (map sort_meant sorts)) }
+{
     let mut sorts = Items::new(alloc);
     if let Some(list) = order_by {
         sorts.push(sort_column(columns, &list.first)?)?;
@@ -372,7 +398,8 @@ fn sole_term(term: &QueryTerm) -> Option<&QuerySpecification>
 /// The query specification that a cursor's query is, where the cursor may be updatable (13.1; own rule): there is no UNION, and
 /// neither ORDER BY nor SCROLL nor INSENSITIVE is written.
 fn plain_specification(cursor: &Cursor) -> Option<&QuerySpecification>
-    ensures { (own : AnyName) → IfSome result (λ s. query_of own cursor.now.query ≡ specification (select_of own s.now)) }
+    ensures sole { (own : AnyName) → IfSome result (λ s. query_of own cursor.now.query ≡ specification (select_of own s.now)) }
+    ensures unsorted { IfSome result (λ s. listed_if_any cursor.now.order_by ≡ []) }
 {
     if cursor.insensitive || cursor.scroll || cursor.order_by.is_some() {
         None
@@ -388,7 +415,6 @@ pub(crate) fn cursor_of<N: Names>(
     environment: &Environment<'_>,
     numbers: &mut SubqueryNumbers,
 ) -> Result<BoundCursor, BindFault>
-    requires bases { BasesAreThere (N.base_tables names.now) (N.column_kinds names.now) }
     requires outermost { IsOutermost environment.now }
     ensures fits { IfOk result (FitsCursor (N.base_tables names.now)) }
     ensures well_formed { IfOk result (IsCursor (N.column_kinds names.now) (kinds_of_parameters environment.now.parameters.now)) }
@@ -412,9 +438,9 @@ fn specification_cursor<N: Names>(
     environment: &Environment<'_>,
     numbers: &mut SubqueryNumbers,
 ) -> Result<BoundCursor, BindFault>
-    requires bases { BasesAreThere (N.base_tables names.now) (N.column_kinds names.now) }
     requires outermost { IsOutermost environment.now }
     requires sole { query_of environment.now.user cursor.now.query ≡ specification (select_of environment.now.user query.now) }
+    requires unsorted { listed_if_any cursor.now.order_by ≡ [] }
     ensures fits { IfOk result (FitsCursor (N.base_tables names.now)) }
     ensures well_formed { IfOk result (IsCursor (N.column_kinds names.now) (kinds_of_parameters environment.now.parameters.now)) }
     ensures written { IfOk result (IsCursorOf (N.known names.now) environment.now.user environment.now.parameters.now cursor.now) }
@@ -450,7 +476,9 @@ fn query_cursor(
     ensures well_formed { (tables : TableKinds) (parameters : List AnyKind) → IfOk query (IsJoined tables parameters)
         → IfOk result (IsCursor tables parameters) }
     ensures words { IfOk result (HasWordsOf cursor.now) }
-    ensures rows { (text : Outcome PlacedQuery) → IfOk query (JoinedIs text) → IfOk result (λ cursor. HasRowsOf text cursor.body) }
+    ensures rows { (text : Outcome PlacedQuery) → IfOk query (JoinedIs text) → IfOk result (λ cursor. IsReadOf text cursor.body) }
+    ensures order { (text : Outcome (List (Option AnyName))) → IfOk query (JoinedNamed text)
+        → IfOk result (λ bound. IsSortedBy text (listed_if_any cursor.now.order_by) bound.body) }
     ensures numbered { (a b : ℕ) → IfOk query (QueryNumbering a b) → IfOk result (λ cursor. CursorHasNumbers cursor.body) }
 {
     let Joined {
@@ -477,7 +505,8 @@ fn read_cursor(
         → IfOk result (IsCursor tables parameters) }
     ensures words { IfOk result (HasWordsOf cursor.now) }
     ensures rows { (text : Outcome PlacedSelect) → Being (SelectIs text) query
-        → IfOk result (λ cursor. HasRowsOf (and_then text (λ s. Ok (specification s))) cursor.body) }
+        → IfOk result (λ cursor. IsReadOf (and_then text (λ s. Ok (specification s))) cursor.body) }
+    ensures order { (text : Outcome (List (Option AnyName))) → Being (NamesAre text) query → IfOk result (λ cursor. IsSortedBy text [] cursor.body) }
     ensures numbered { (a b : ℕ) → Numbering SelectWith a b query → IfOk result (λ cursor. CursorHasNumbers cursor.body) }
 {
     let joined = started(alloc, specification_term(alloc, Ok(query)))?;
@@ -495,7 +524,9 @@ fn rows_cursor(
     ensures well_formed { (tables : TableKinds) (parameters : List AnyKind) → IsQuery tables parameters query
         → IfOk result (IsCursor tables parameters) }
     ensures words { IfOk result (HasWordsOf cursor.now) }
-    ensures rows { (text : Outcome PlacedQuery) → QueryIs text query → IfOk result (λ cursor. HasRowsOf text cursor.body) }
+    ensures rows { (text : Outcome PlacedQuery) → QueryIs text query → IfOk result (λ cursor. IsReadOf text cursor.body) }
+    ensures order { (text : Outcome (List (Option AnyName))) (by : List AnySort)
+        → and_then text (λ names. sort_columns names by) ≡ Ok (map sort_meant sorts) → IfOk result (λ cursor. IsSortedBy text by cursor.body) }
     ensures numbered { (a b : ℕ) → AreNumbered QueryWith a b query → IfOk result (λ cursor. CursorHasNumbers cursor.body) }
 {
     let columns = copied(alloc, &query.columns);
@@ -520,7 +551,7 @@ fn updatable_cursor(
     ensures well_formed { (tables : TableKinds) (parameters : List AnyKind)
         → IsUpdatable tables parameters (kinds_of_select query.part) over.1 → IfOk result (IsCursor tables parameters) }
     ensures words { IfOk result (HasWordsOf cursor.now) }
-    ensures rows { (text : Outcome PlacedQuery) → IfOk result (λ cursor. HasRowsOf text cursor.body) }
+    ensures body { IfOk result (λ cursor. cursor.body ≡ Updatable over.1) }
     ensures numbered { IfOk result (λ cursor. CursorHasNumbers cursor.body) }
 {
     let columns = copied(alloc, &query.part.columns);

@@ -1,9 +1,9 @@
 //! Statements of procedures, cursors, views and CHECK conditions.
 
-ghost use Rattle.std.specs.Prelude.{None, ◌≡◌, ◌<◌, [], length, refl, slice_get, true, IfOk, IfSome, Ok, Some, false};
+ghost use Rattle.std.specs.Prelude.{None, ◌≡◌, ◌∷◌, ◌<◌, [], length, refl, slice_get, true, IfOk, IfSome, Ok, Some, false};
 ghost use Rattle.sq_bound.specs.NumberedQuery.{CursorHasNumbers};
 ghost use Rattle.sq_bound.specs.Fits.{FitsCursor, FitsQuery, FitsStatement, are_parameters};
-ghost use Rattle.sq_bound.specs.WellFormed.{BasesAreThere, IsCond, IsCursor, IsDistance, IsOrientation, IsSelect, IsStatement, IsUpdatable, TakeKinds, kinds_of_columns, kinds_of_parameters, kinds_of_results, kinds_of_select, of_base_at, only};
+ghost use Rattle.sq_bound.specs.WellFormed.{IsCond, IsCursor, IsDistance, IsOrientation, IsSelect, IsStatement, IsUpdatable, TakeKinds, kinds_of_columns, kinds_of_parameters, kinds_of_results, kinds_of_select, of_base_at, only};
 ghost use Rattle.sq_bound.specs.declared.condition.BoundCond.{BoundCond as BoundTree};
 ghost use Rattle.sq_bound.specs.declared.condition.BoundSpecification.{out-BoundSpecification};
 ghost use Rattle.sq_bound.specs.declared.condition.TablePlace.TheVariants.{Base};
@@ -14,10 +14,11 @@ ghost use Rattle.sq_scope.specs.declared.findings.Found.{Found as FoundPart};
 ghost use Rattle.sq_bind.specs.NoBases.{no_base, no_view};
 ghost use Rattle.sq_bind.specs.Updatable.{AreColumns};
 ghost use Rattle.sq_bind.specs.WellFormed.{IsOutermost};
-ghost use Rattle.sq_bind.specs.Written.{IsCursorOf, IsDistanceOf, IsFetchOf, IsOrientationOf, IsRowOf, IsStatementOf, orientation_of};
-ghost use Rattle.sq_meaning.specs.Spelled.{has_point, select_of, signed_number};
-ghost use Rattle.sq_select.specs.Placed.{around, select_placed};
-ghost use Rattle.sq_select.specs.Written.{SelectIs};
+ghost use Rattle.sq_bind.specs.Written.{IsCursorOf, IsDistanceOf, IsFetchOf, IsOrientationOf, IsRowOf, IsStatementOf, IsUpdatableOf, check_placed, orientation_of};
+ghost use Rattle.sq_meaning.specs.Spelled.{cond_of, has_point, select_of, signed_number};
+ghost use Rattle.sq_select.specs.Names.{NamesAre, names_placed};
+ghost use Rattle.sq_select.specs.Placed.{around, cond_placed, inside, select_placed};
+ghost use Rattle.sq_select.specs.Written.{CondIs, SelectIs};
 ghost use Rattle.sq_bound.specs.declared.statement.BoundStatement.TheVariants.{Delete, Insert, Update};
 
 use crate::change::{bind_delete, bind_insert, bind_update};
@@ -53,7 +54,6 @@ pub fn bind_cursor<N: Names>(
     parameters: &[ParameterDesc],
     cursor: &Cursor,
 ) -> Result<BoundCursor, BindFault>
-    requires { BasesAreThere (N.base_tables names.now) (N.column_kinds names.now) }
     ensures fits { IfOk result (FitsCursor (N.base_tables names.now)) }
     ensures well_formed { IfOk result (IsCursor (N.column_kinds names.now) (kinds_of_parameters parameters.now)) }
     ensures written { IfOk result (IsCursorOf (N.known names.now) user parameters.now cursor.now) }
@@ -82,14 +82,19 @@ pub fn bind_view<N: Names>(
     user: Name,
     query: &QuerySpecification,
 ) -> Result<BoundView, BindFault>
-    requires { BasesAreThere (N.base_tables names.now) (N.column_kinds names.now) }
     ensures fits { IfOk result (λ view. IfSome view.updatable (λ over. FitsQuery (N.base_tables names.now) over.1)) }
     ensures well_formed { IfOk result (λ view. IsSelect (N.column_kinds names.now) [] [] view.query) }
     ensures written { IfOk result (λ view. SelectIs (select_placed (record { known = N.known names.now; parameters = []; scopes = [] })
         (select_of user query.now)) view.query) }
+    ensures names { IfOk result (λ view. NamesAre (names_placed (N.known names.now) (select_of user query.now)) view.query) }
     ensures updatable { IfOk result (λ view. IfSome view.updatable (λ over. IsUpdatable (N.column_kinds names.now) []
         (kinds_of_select view.query) over.1)) }
     ensures columns { IfOk result (λ view. IfSome view.updatable (λ _. AreColumns (out-BoundSpecification view.query).list)) }
+    ensures over { IfOk result (λ view. IfSome view.updatable (λ over. IsUpdatableOf (record {
+      known = N.known names.now;
+      parameters = [];
+      scopes = [];
+    }) (select_of user query.now) over.1)) }
 {
     let environment = Environment::new(alloc, user, &[]);
     let mut numbers = SubqueryNumbers::new();
@@ -189,6 +194,7 @@ pub fn bind_check(
     cond: &Cond,
 ) -> Result<BoundCond, BindFault>
     ensures well_formed { IfOk result (IsCond (only place (kinds_of_columns columns.now)) [] (of_base_at place) []) }
+    ensures written { IfOk result (CondIs [] (check_placed (record { user = table.0; name = table.1 }) columns.now cond.now)) }
 {
     let (user, _) = table;
     let environment = Environment::new(alloc, user, &[]);
@@ -208,8 +214,10 @@ fn checked_over<'s>(
 ) -> Result<BoundCond, BindFault>
     requires item { IsItemOver (only own.now.place (kinds_of_columns own.now.columns.now)) (Base own.now.place) item.now }
     requires outermost { IsOutermost environment.now }
-    ensures { IfOk result (IsCond (only own.now.place (kinds_of_columns own.now.columns.now))
+    ensures well_formed { IfOk result (IsCond (only own.now.place (kinds_of_columns own.now.columns.now))
         (kinds_of_parameters environment.now.parameters.now) (of_base_at own.now.place) []) }
+    ensures written { IfOk result (CondIs [] (cond_placed (inside (item.now ∷ []) (around (λ _ _. None) environment.now))
+        (cond_of environment.now.user cond.now))) }
 {
     let scope = environment.scope_over(from_ref(item), None);
     let mut functions = SetFunctions::forbidden(environment.alloc);

@@ -1,69 +1,57 @@
 //! Updatable queries and targets (ISO/IEC 9075:1992, 7.9, 13.6 to 13.10).
 
-ghost use Rattle.std.specs.Prelude.{◌≡◌, ◌∷◌, [], is_some, map, nat_lt, length, true, Ok, Some, IfOk, IfSome, IsTrue};
+ghost use Rattle.std.specs.Prelude.{◌≡◌, ◌∷◌, [], is_some, map, nat_lt, length, true, Some, IfOk, IfSome, IsTrue};
 ghost use Rattle.std.specs.List.{AllByRecursion, list_all, list_any};
-ghost use Rattle.sq_bound.specs.Fits.{FitsQuery, IsBase, IsOver};
+ghost use Rattle.sq_bound.specs.Fits.{FitsQuery, IsBase};
 ghost use Rattle.sq_bound.specs.Condition.{test_of};
 ghost use Rattle.sq_bound.specs.Expression.{expr_of};
 ghost use Rattle.sq_bound.specs.Keyed.{column_named, is_constant, is_named_by, is_plain_base, names_column, names_one_of, start_with_key};
 ghost use Rattle.sq_bound.specs.Names.{is_kind_at, option_all};
 ghost use Rattle.sq_bound.specs.Quiet.{is_sure};
-ghost use Rattle.sq_bound.specs.WellFormed.{BasesAreThere, IsLeaf, IsSelect, IsTable, IsTarget, IsUpdatable, base_kinds, kinds_of_columns, kinds_of_parameters, kinds_of_select, place_of};
+ghost use Rattle.sq_bound.specs.WellFormed.{IsLeaf, IsSelect, IsTarget, IsUpdatable, base_kinds, kinds_of_parameters, kinds_of_select, place_of};
 ghost use Rattle.sq_bound.specs.declared.condition.BoundSpecification.{out-BoundSpecification};
-ghost use Rattle.sq_bound.specs.declared.condition.TablePlace.{TablePlace as AnyPlace};
 ghost use Rattle.sq_bound.specs.declared.condition.TablePlace.TheVariants.{Base};
 ghost use Rattle.sq_tree.specs.declared.cond.Comparison.TheVariants.{Equal};
-ghost use Rattle.sq_meaning.specs.WellFormed.{HasValue};
 ghost use Rattle.sq_scope.specs.WellFormed.{IsItemOver};
 ghost use Rattle.sq_bind.specs.WellFormed.{IsOutermost};
-ghost use Rattle.sq_bind.specs.Updatable.{AreColumns, AreLeaves, IsAmong, IsLeafOf};
+ghost use Rattle.sq_bind.specs.Updatable.{AreColumns, AreLeaves, IsAmong, IsLeafOf, IsOnlyTable};
+ghost use Rattle.sq_bind.specs.Written.{IsUpdatableOf};
 ghost use Rattle.std.specs.Option.{option_map};
-ghost use Rattle.sq_meaning.specs.Spelled.{clause, cond_of};
-ghost use Rattle.sq_select.specs.Placed.{around, clause_placed, inside};
-ghost use Rattle.sq_select.specs.Written.{ClauseIs};
+ghost use Rattle.sq_meaning.specs.Spelled.{clause, cond_of, select_of};
+ghost use Rattle.sq_select.specs.Placed.{around, clause_placed, inside, select_placed};
+ghost use Rattle.sq_select.specs.Written.{ClauseIs, SelectIs};
 
 use sq_bound::{
     BindFault, BoundCond, BoundExpr, BoundSpecification, BoundTest, Column, Leaf, Names, Predicate,
-    Shared, TableBody, TableDesc, TablePlace, Target, UpdatableQuery, is_sure,
+    Shared, TableBody, TableDesc, Target, UpdatableQuery, is_sure,
 };
 use sq_items::Items;
 use sq_lex::Name;
 use sq_scope::{Environment, Findings, Found, FromItem, SetFunctions, both, item_over};
-use sq_select::{SubqueryNumbers, bind_cond, correlation_of, reference_of};
+use sq_select::{SubqueryNumbers, bind_cond, correlation_of, named_table, reference_of};
 use sq_tree::{Comparison, Cond, QuerySpecification, SelectList};
 use std::alloc::Global;
 use std::slice::from_ref;
 
 /// The table of the only FROM item of a query without DISTINCT, GROUP BY, HAVING and set functions, if the table has rows of a
 /// base table under it.
-fn only_table<'a, N: Names>(bound: &BoundSpecification, names: &'a N) -> Option<Under<'a>>
-    requires bases { BasesAreThere (N.base_tables names.now) (N.column_kinds names.now) }
-    requires tables { AllByRecursion (λ t. HasValue (N.column_kinds names.now t)) (out-BoundSpecification bound.now).from.tables }
-    ensures base { IfSome result (λ under. IsBase (N.base_tables names.now) under.leaf.now.table) }
-    ensures leaf { IfSome result (λ under. IsLeaf (N.column_kinds names.now) under.leaf.now) }
-    ensures from { IfSome result (λ under. (t : AnyPlace) × ((out-BoundSpecification bound.now).from.tables ≡ t ∷ []) × (N.column_kinds
-        names.now t ≡ Ok (kinds_of_columns under.table.now.columns))) }
+fn only_table<'a, N: Names>(
+    query: &QuerySpecification,
+    bound: &BoundSpecification,
+    names: &'a N,
+    user: Name,
+) -> Result<Option<Under<'a>>, BindFault>
+    ensures base { IfOk result (λ found. IfSome found (λ under. IsBase (N.base_tables names.now) under.leaf.now.table)) }
+    ensures leaf { IfOk result (λ found. IfSome found (λ under. IsLeaf (N.column_kinds names.now) under.leaf.now)) }
+    ensures only { IfOk result (λ found. IfSome found (λ under. IsOnlyTable (N.known names.now) (N.column_kinds names.now) user query.now
+        bound.now under.table.now)) }
 {
-    match bound.from.tables.as_slice() {
-        [place] if !bound.distinct && bound.grouping.is_none() => {
-            under_table(table_at(names, *place))
-        }
-        _ => None,
+    let from = &query.table.from;
+    if bound.distinct || bound.grouping.is_some() || !from.rest.is_empty() {
+        return Ok(None);
     }
-}
-
-/// A table that is there.
-fn table_at<N: Names>(names: &N, place: TablePlace) -> &TableDesc
-    requires bases { BasesAreThere (N.base_tables names.now) (N.column_kinds names.now) }
-    requires there { HasValue (N.column_kinds names.now place) }
-    ensures over { IsOver (N.base_tables names.now) result.now }
-    ensures well_formed { IsTable (N.column_kinds names.now) result.now }
-    ensures place { place_of result.now.body ≡ place }
-{
-    match names.at(place) {
-        Some(table) => table,
-        None => unreachable!(),
-    }
+    let table = named_table(names, user, from.first.table)?;
+    Ok(under_table(table))
 }
 
 /// What an updatable query is over, its table's owner and name, and the columns that it selects, if the query is updatable
@@ -75,15 +63,17 @@ pub(crate) fn bind_updatable<N: Names>(
     environment: &Environment<'_>,
     numbers: &mut SubqueryNumbers,
 ) -> Result<Option<((Name, Name), UpdatableQuery)>, BindFault>
-    requires bases { BasesAreThere (N.base_tables names.now) (N.column_kinds names.now) }
     requires outermost { IsOutermost environment.now }
     requires bound { IsSelect (N.column_kinds names.now) (kinds_of_parameters environment.now.parameters.now) [] bound.now }
+    requires text { SelectIs (select_placed (around (N.known names.now) environment.now) (select_of environment.now.user query.now)) bound.now }
     ensures fits { IfOk result (λ found. IfSome found (λ query. FitsQuery (N.base_tables names.now) query.1)) }
     ensures well_formed { IfOk result (λ found. IfSome found (λ query. IsUpdatable (N.column_kinds names.now)
         (kinds_of_parameters environment.now.parameters.now) (kinds_of_select bound.now) query.1)) }
     ensures columns { IfOk result (λ found. IfSome found (λ _. AreColumns (out-BoundSpecification bound.now).list)) }
+    ensures written { IfOk result (λ found. IfSome found (λ over. IsUpdatableOf (around (N.known names.now) environment.now)
+        (select_of environment.now.user query.now) over.1)) }
 {
-    match only_table(bound, names) {
+    match only_table(query, bound, names, environment.user)? {
         Some(under) => updatable_over(under, query, bound, names, environment, numbers),
         None => Ok(None),
     }
@@ -99,14 +89,16 @@ fn updatable_over<N: Names>(
 ) -> Result<Option<((Name, Name), UpdatableQuery)>, BindFault>
     requires base { IsBase (N.base_tables names.now) under.leaf.now.table }
     requires leaf { IsLeaf (N.column_kinds names.now) under.leaf.now }
-    requires from { (t : AnyPlace) × ((out-BoundSpecification bound.now).from.tables ≡ t ∷ [])
-        × (N.column_kinds names.now t ≡ Ok (kinds_of_columns under.table.now.columns)) }
+    requires only { IsOnlyTable (N.known names.now) (N.column_kinds names.now) environment.now.user query.now bound.now under.table.now }
     requires outermost { IsOutermost environment.now }
     requires bound { IsSelect (N.column_kinds names.now) (kinds_of_parameters environment.now.parameters.now) [] bound.now }
+    requires text { SelectIs (select_placed (around (N.known names.now) environment.now) (select_of environment.now.user query.now)) bound.now }
     ensures fits { IfOk result (λ found. IfSome found (λ query. FitsQuery (N.base_tables names.now) query.1)) }
     ensures well_formed { IfOk result (λ found. IfSome found (λ query. IsUpdatable (N.column_kinds names.now)
         (kinds_of_parameters environment.now.parameters.now) (kinds_of_select bound.now) query.1)) }
     ensures columns { IfOk result (λ found. IfSome found (λ _. AreColumns (out-BoundSpecification bound.now).list)) }
+    ensures written { IfOk result (λ found. IfSome found (λ over. IsUpdatableOf (around (N.known names.now) environment.now)
+        (select_of environment.now.user query.now) over.1)) }
 {
     let correlation = correlation_of(&query.table.from.first);
     let item = item_over(environment.alloc, under.table, correlation, true)?;
@@ -266,6 +258,7 @@ pub(crate) fn bind_target<'s, N: Names>(
     requires leaf { IsLeaf (N.column_kinds names.now) under.leaf.now }
     requires item { IsItemOver (N.column_kinds names.now) (Base under.leaf.now.table.place) item.now }
     requires outermost { IsOutermost environment.now }
+    ensures table { IfOk result (λ found. found.part.table ≡ place_of under.entry.table.now.body) }
     ensures leaf { IfOk result (λ found. found.part.leaf ≡ under.entry.leaf.now) }
     ensures well_formed { IfOk result (λ found. IsTarget (N.column_kinds names.now) (kinds_of_parameters environment.now.parameters.now)
         found.part) }
@@ -301,6 +294,7 @@ fn whole_target(
     under: Under<'_>,
 ) -> Result<Found<Target>, BindFault>
     requires { option_all (is_named_by under.leaf.now condition) key ≡ true }
+    ensures table { IfOk result (λ found. found.part.table ≡ place_of under.entry.table.now.body) }
     ensures leaf { IfOk result (λ found. found.part.leaf ≡ under.entry.leaf.now) }
     ensures condition { IfOk result (λ found. found.part.condition ≡ condition) }
 {

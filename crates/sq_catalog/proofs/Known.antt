@@ -10,6 +10,8 @@ use Rattle.sq_lex.specs.declared.name.Name.{Name}
 use Rattle.sq_bound.specs.declared.condition.TablePlace.{TablePlace}
 use Rattle.sq_bound.specs.declared.condition.TablePlace.TheVariants.{Base, View}
 use Rattle.sq_bound.specs.declared.names.TableDesc.{TableDesc}
+use Rattle.sq_bound.specs.declared.names.Column.{Column}
+use Rattle.sq_catalog.specs.Declares.{KnowBases, KnowViews}
 use Rattle.sq_catalog.specs.Catalog.{Catalog, is_table, known, known_at, known_first, table_number}
 use Rattle.sq_catalog.specs.Stored.{columns_of}
 use Rattle.sq_catalog.specs.declared.catalog.FullName.{FullName}
@@ -24,18 +26,38 @@ known_here at entries n name t number e there stands =
     (λ i. Some (record { place = stands i; columns = t.columns }))
     ∙ sym (ap (known_at at (columns_of entries)) e ∙ ap (option_map (λ cs. record { place = at n; columns = cs })) (columns_read entries n name t there))
 
--- a base table is known under its name
-pub base_known : (c : Catalog) (user name : Name) (place : ℕ) → table_number c.tables user name ≡ Some place → (t : KnownTable) × (known c user name ≡ Some t) × (t.place ≡ Base place)
-base_known c user name place e =
+-- the columns at a number within
+read_within : (columns : List (List Column)) (place : ℕ) → place < length columns → slice_get columns place ≡ Some (get_or columns place [])
+read_within columns place below = slice_get-get_or columns place [] below
+
+number_within : (tables : List FullName) (user name : Name) (place : ℕ) → table_number tables user name ≡ Some place → place < length tables
+number_within [] user name place e = cc
+number_within (t ∷ tables) user name place e = (position-Some (is_table user name) (t ∷ tables) place t e).0
+
+-- a base table is known under its name, with the columns at its place
+pub base_known : (c : Catalog) → KnowBases c.tables c.columns (known c)
+base_known c = λ user name place e.
     let below : place < length c.columns = subst (λ n. place < n) (sym (eqb-true (length c.columns) (length c.tables) c.described)) (number_within c.tables user name place e) in
     let columns = get_or c.columns place [] in
+    let there = read_within c.columns place below in
     let t : KnownTable = record { place = Base place; columns = columns } in (
       t,
       ap (λ n. known_first (known_at Base c.columns n) (known_at View c.view_columns (table_number c.view_names user name))) e
-          ∙ ap (λ o. known_first (option_map (λ cs. record { place = Base place; columns = cs }) o) (known_at View c.view_columns (table_number c.view_names user name))) (slice_get-get_or c.columns place [] below),
+          ∙ ap (λ o. known_first (option_map (λ cs. record { place = Base place; columns = cs }) o) (known_at View c.view_columns (table_number c.view_names user name))) there,
       refl,
+      there,
     )
-  where
-    number_within : (tables : List FullName) (user name : Name) (place : ℕ) → table_number tables user name ≡ Some place → place < length tables
-    number_within [] user name place e = cc
-    number_within (t ∷ tables) user name place e = (position-Some (is_table user name) (t ∷ tables) place t e).0
+
+-- a view is known under its name, with the columns at its place, where there are as many
+pub view_known : (c : Catalog) → length c.view_columns ≡ length c.view_names → KnowViews c.tables c.view_names c.view_columns (known c)
+view_known c long = λ user name place none e.
+    let below : place < length c.view_columns = subst (λ n. place < n) (sym long) (number_within c.view_names user name place e) in
+    let columns = get_or c.view_columns place [] in
+    let there = read_within c.view_columns place below in
+    let t : KnownTable = record { place = View place; columns = columns } in (
+      t,
+      (λ i. known_first (known_at Base c.columns (none i)) (known_at View c.view_columns (e i)))
+          ∙ ap (λ o. option_map (λ cs. record { place = View place; columns = cs }) o) there,
+      refl,
+      there,
+    )

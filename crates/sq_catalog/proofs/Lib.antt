@@ -1,4 +1,5 @@
 pub mod Added
+pub mod Columns
 pub mod Extending
 pub mod Gains
 pub mod Listed
@@ -6,5 +7,9 @@ pub mod NotNull
 pub mod Quiet
 pub mod Seen
 pub mod Stored
+pub mod ViewNames
 pub mod ViewQueries
 pub mod Known
+pub mod GainsViews
+pub mod StillKnown
+pub mod Declared

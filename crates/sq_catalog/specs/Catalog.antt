@@ -1,9 +1,10 @@
 -- What a catalog defines, and what schema texts declare (ISO/IEC 9075:1992, 11.1 and 11.3).
 use Rattle.std.proofs.Common.{zero, suc, ap, arith}
-use Rattle.std.specs.Prelude.{◌≡◌, ℕ, ◌+◌, ◌<◌, Bool, true, ◌&&◌, List, [], ◌∷◌, ◌++◌, length, flat_map, Ok, Option, None, Some, unwrap_or, nat_eq, position, slice_get}
+use Rattle.std.specs.Prelude.{◌≡◌, ℕ, ◌<◌, Bool, true, ◌&&◌, List, [], ◌∷◌, ◌++◌, length, flat_map, Ok, Option, None, Some, unwrap_or, nat_eq, position, slice_get}
 use Rattle.std.proofs.Math.Logic.{∥∥₁_prop}
 use Rattle.std.specs.Coded.{Π_prop}
 use Rattle.std.specs.Option.{option_and_then, option_map}
+use Rattle.std.specs.List.{AllZip}
 use Rattle.std.specs.Cmp.Lexicographic.{pointwise}
 use Rattle.sq_lex.specs.declared.name.Name.{Name}
 use Rattle.sq_tree.specs.declared.names.TableName.{TableName}
@@ -11,6 +12,7 @@ use Rattle.sq_tree.specs.declared.schema.SchemaDefinition.{SchemaDefinition}
 use Rattle.sq_tree.specs.declared.schema.SchemaElement.{SchemaElement}
 use Rattle.sq_tree.specs.declared.schema.SchemaElement.TheVariants as element
 use Rattle.sq_tree.specs.declared.schema.SchemaText.{SchemaText}
+use Rattle.sq_tree.specs.declared.schema.TableDefinition.{TableDefinition}
 use Rattle.sq_value.specs.declared.domain.Kind.{Kind}
 use Rattle.sq_meaning.specs.Status.{well_formed}
 use Rattle.sq_meaning.specs.WellFormed.{HasValue}
@@ -22,6 +24,7 @@ use Rattle.sq_bound.specs.declared.condition.TablePlace.{TablePlace}
 use Rattle.sq_bound.specs.declared.condition.TablePlace.TheVariants.{Base, View}
 use Rattle.sq_bound.specs.declared.names.BaseTable.{BaseTable}
 use Rattle.sq_bound.specs.declared.names.Column.{Column}
+use Rattle.sq_catalog.specs.Columns.{HasBaseColumnsOf, HasColumnsOf}
 use Rattle.sq_catalog.specs.declared.catalog.FullName.{FullName}
 
 -- the kinds of the columns of these base tables, and of views with these queries
@@ -115,9 +118,36 @@ text_tables t = flat_map schema_tables (t.first ∷ t.rest)
 abbrev pub declared_tables : List SchemaText → List FullName
 declared_tables texts = flat_map text_tables texts
 
+-- ---- their definitions, in the same order
+
+-- the table definition that a schema element is, if it is one
+abbrev pub definition_in : SchemaElement → List TableDefinition
+definition_in (element.Table t) = t ∷ []
+definition_in (element.View v) = []
+definition_in (element.Grant g) = []
+
+abbrev pub schema_definitions : SchemaDefinition → List TableDefinition
+schema_definitions d = flat_map definition_in d.elements
+
+abbrev pub text_definitions : SchemaText → List TableDefinition
+text_definitions t = flat_map schema_definitions (t.first ∷ t.rest)
+
+abbrev pub declared_definitions : List SchemaText → List TableDefinition
+declared_definitions texts = flat_map text_definitions texts
+
 -- ---- a catalog that grows
 
--- base tables of these names are added
-pub record Gains (old new : Catalog) (names : List FullName) : Type 0 where
+-- base tables of these names, with these columns as names see them, are added behind the others
+pub record Adds (old new : Catalog) (names : List FullName) (described : List (List Column)) (added : List BaseTable) : Type 0 where
   pub tables : new.tables ≡ old.tables ++ names
-  pub bases : length new.bases ≡ length old.bases + length names
+  pub columns : new.columns ≡ old.columns ++ described
+  pub bases : new.bases ≡ old.bases ++ added
+
+-- base tables of these names are added, with the columns of these definitions
+pub record Gains (old new : Catalog) (names : List FullName) (definitions : List TableDefinition) : Type 0 where
+  pub columns : List (List Column)
+  pub bases : List BaseTable
+  pub added : Adds old new names columns bases
+  pub columns_are : AllZip HasColumnsOf definitions columns
+  pub bases_are : AllZip HasBaseColumnsOf definitions bases
+  pub count : length bases ≡ length names

@@ -1,7 +1,10 @@
 pub mod Catalog
+pub mod Columns
 pub mod Fault
 pub mod Reference
 pub mod Stored
 pub mod Table
 pub mod View
 pub mod Written
+pub mod Views
+pub mod Declares

@@ -2,8 +2,13 @@
 use Rattle.std.specs.Prelude.{Bool, List, map}
 use Rattle.sq_value.specs.Domain.{kind_of}
 use Rattle.sq_value.specs.declared.domain.Kind.{Kind}
+use Rattle.sq_tree.specs.declared.schema.ColumnDefinition.{ColumnDefinition}
 use Rattle.sq_catalog.specs.Written.{is_written_not_null}
 use Rattle.sq_catalog.specs.declared.written.TypedColumn.{TypedColumn}
+
+-- the definitions
+abbrev pub typed_definitions : List TypedColumn → List ColumnDefinition
+typed_definitions columns = map (λ c. c.definition.now) columns
 
 -- their kinds
 abbrev pub typed_kinds : List TypedColumn → List Kind

@@ -1,13 +1,18 @@
 -- The columns of a table definition.
 use Rattle.std.specs.List.{list_any}
-use Rattle.std.specs.Prelude.{ℕ, Bool, true, false}
+use Rattle.std.specs.Borrow.{Bor}
+use Rattle.std.specs.Prelude.{ℕ, Bool, true, false, List, map}
 use Rattle.indexmap.specs.IndexSet.{index_set_len}
 use Rattle.sq_tree.specs.declared.schema.ColumnConstraint.{ColumnConstraint}
 use Rattle.sq_tree.specs.declared.schema.ColumnConstraint.TheVariants as constraint
 use Rattle.sq_tree.specs.declared.schema.ColumnDefinition.{ColumnDefinition}
 use Rattle.sq_catalog.specs.declared.written.NamedColumns.{NamedColumns}
 
--- how many there are
+-- the column definitions that are lent
+abbrev pub definitions_lent : List (Bor ColumnDefinition) → List ColumnDefinition
+definitions_lent columns = map (λ w. w.now) columns
+
+-- how many columns there are
 abbrev pub column_count : NamedColumns → ℕ
 column_count columns = index_set_len columns.names
 

@@ -9,9 +9,11 @@ ghost use Rattle.sq_bound.specs.Fits.{IsBaseAt, all_refer, keys_of_bases};
 ghost use Rattle.sq_meaning.specs.WellFormed.{HasValue};
 ghost use Rattle.sq_bound.specs.WellFormed.{IsTable, IsViewAmong, TableKinds, place_of};
 ghost use Rattle.sq_bound.specs.declared.names.BaseTable.{BaseTable as Base};
-ghost use Rattle.sq_catalog.specs.Catalog.{AreViewQueries, AreViewQueries-prop, Gains, IsNewName, base_there, column_kinds, declared_tables, known, named_by, schema_tables, table_in, table_number, text_tables};
+ghost use Rattle.sq_catalog.specs.Catalog.{Adds, AreViewQueries, AreViewQueries-prop, Gains, IsNewName, base_there, column_kinds, declared_definitions, declared_tables, definition_in, known, named_by, schema_definitions, schema_tables, table_in, table_number, text_definitions, text_tables};
+ghost use Rattle.sq_catalog.specs.Declares.{Declares};
 ghost use Rattle.sq_catalog.specs.Fault.{IsOfSomeText, IsOfText};
-ghost use Rattle.sq_catalog.specs.Stored.{AreStored, AreTables, IsNamed, IsNext, IsNextView, IsStored, StandsAt, queries_of};
+ghost use Rattle.sq_catalog.specs.Stored.{AreStored, AreTables, IsNamed, IsNext, IsNextView, IsStored, StandsAt, queries_of, query_in};
+ghost use Rattle.sq_catalog.specs.Views.{AddsViews, GainsViews, declared_views, schema_views, text_views, view_in};
 
 use crate::fault::{CatalogFault, ElementFault, RefusalName, SchemaRefusal, refused_if};
 use crate::grants::{Held, Privilege};
@@ -87,6 +89,7 @@ impl Catalog {
         limits: Limits,
     ) -> Result<Catalog, CatalogFault>
         ensures tables { IfOk result (λ c. c.tables ≡ declared_tables texts.now) }
+        ensures declares { IfOk result (λ c. Declares texts.now (known c) c.bases c.views) }
         ensures bases { IfOk result (λ c. length c.bases ≡ length c.tables) }
         ensures refused { IfErr result (IsOfSomeText (length texts.now)) }
     {
@@ -125,7 +128,8 @@ impl Catalog {
     }
 
     fn add_texts(&mut self, texts: &[SchemaText]) -> Result<(), CatalogFault>
-        ensures tables { OnOk result (Gains self.old self.new (declared_tables texts.now)) }
+        ensures tables { OnOk result (Gains self.old self.new (declared_tables texts.now) (declared_definitions texts.now)) }
+        ensures views { OnOk result (GainsViews self.old self.new (declared_views texts.now)) }
         ensures refused { IfErr result (IsOfSomeText (length texts.now)) }
     {
         for (number, text) in texts.iter().enumerate() {
@@ -135,7 +139,8 @@ impl Catalog {
     }
 
     fn add_text(&mut self, text: usize, tree: &SchemaText) -> Result<(), CatalogFault>
-        ensures tables { OnOk result (Gains self.old self.new (text_tables tree.now)) }
+        ensures tables { OnOk result (Gains self.old self.new (text_tables tree.now) (text_definitions tree.now)) }
+        ensures views { OnOk result (GainsViews self.old self.new (text_views tree.now)) }
         ensures refused { IfErr result (IsOfText text) }
     {
         self.add_schema(text, 0, &tree.first)?;
@@ -151,7 +156,8 @@ impl Catalog {
         schema: usize,
         definition: &SchemaDefinition,
     ) -> Result<(), CatalogFault>
-        ensures tables { OnOk result (Gains self.old self.new (schema_tables definition.now)) }
+        ensures tables { OnOk result (Gains self.old self.new (schema_tables definition.now) (schema_definitions definition.now)) }
+        ensures views { OnOk result (GainsViews self.old self.new (schema_views definition.now)) }
         ensures refused { IfErr result (IsOfText text) }
     {
         let user = definition.authorization;
@@ -167,7 +173,8 @@ impl Catalog {
     }
 
     fn add_element(&mut self, user: Name, element: &SchemaElement) -> Result<(), ElementFault>
-        ensures tables { OnOk result (Gains self.old self.new (table_in user element.now)) }
+        ensures tables { OnOk result (Gains self.old self.new (table_in user element.now) (definition_in element.now)) }
+        ensures views { OnOk result (GainsViews self.old self.new (view_in user element.now)) }
     {
         match element {
             SchemaElement::Table(table) => self.create_table(user, table),
@@ -211,9 +218,10 @@ impl Catalog {
         table: TableDesc,
         base: Shared<BaseTable>,
     ) -> Result<(), ElementFault>
-        requires new { table_number self.old.tables name.user name.name ≡ None }
+        requires new { IsNewName self.old name }
         requires next { IsNext self.old.bases name table base }
-        ensures { OnOk result (Gains self.old self.new (name ∷ [])) }
+        ensures tables { OnOk result (Adds self.old self.new (name ∷ []) (table.columns ∷ []) (base ∷ [])) }
+        ensures views { OnOk result (GainsViews self.old self.new []) }
     {
         insert_base(&mut self.bases, &mut self.base_tables, name, table, base)
     }
@@ -222,7 +230,9 @@ impl Catalog {
     pub(crate) fn add_view(&mut self, name: FullName, table: TableDesc) -> Result<(), ElementFault>
         requires new { table_number self.old.view_names name.user name.name ≡ None }
         requires next { IsNextView self.old name table }
-        ensures { Gains self.old self.new [] }
+        ensures tables { Gains self.old self.new [] [] }
+        ensures kept { (self.new.tables ≡ self.old.tables) × (self.new.columns ≡ self.old.columns) }
+        ensures views { OnOk result (AddsViews self.old self.new (name ∷ []) (table.columns ∷ []) (query_in table.body)) }
     {
         insert_table(&mut self.views, name, table)
     }

@@ -3,6 +3,7 @@
 ghost use Rattle.std.specs.Prelude.{◌≡◌, [], true, IfOk, OnOk, length};
 ghost use Rattle.sq_bound.specs.Names.{are_positions};
 ghost use Rattle.sq_catalog.specs.Catalog.{Gains};
+ghost use Rattle.sq_catalog.specs.Views.{GainsViews};
 
 use crate::catalog::{Catalog, FullName, full_name};
 use crate::fault::{ElementFault, RefusalName, refused_if};
@@ -156,7 +157,8 @@ impl Catalog {
         user: Name,
         statement: &GrantStatement,
     ) -> Result<(), ElementFault>
-        ensures { OnOk result (Gains self.old self.new []) }
+        ensures tables { OnOk result (Gains self.old self.new [] []) }
+        ensures views { OnOk result (GainsViews self.old self.new []) }
     {
         let name = full_name(user, statement.table);
         let Some((place, table)) = self.entry(&name) else {

@@ -4,13 +4,16 @@ ghost use Rattle.std.specs.Prelude.{◌≡◌, ◌∷◌, [], is_err, map, nat_l
 ghost use Rattle.std.specs.List.{All, list_all};
 ghost use Rattle.sq_value.specs.Domain.{IsDomain, FitsKind, kind_of};
 ghost use Rattle.sq_bound.specs.Default.{DefaultIsIn};
+ghost use Rattle.sq_bound.specs.declared.names.ColumnDefault.TheVariants.{User as user};
 ghost use Rattle.sq_bound.specs.Names.{are_positions, is_kind_at, option_all};
 ghost use Rattle.sq_bound.specs.NotNull.{are_not_null};
 ghost use Rattle.sq_bound.specs.WellFormed.{base_kinds, kinds_of_columns};
 ghost use Rattle.sq_catalog.specs.Catalog.{Gains, named_by};
+ghost use Rattle.sq_catalog.specs.Columns.{AreBaseColumnsOf, AreColumnsOf, HasBaseColumnsOf, HasColumnsOf, IsDefaultOf, IsStoredAs, columns_written};
 ghost use Rattle.sq_catalog.specs.Reference.{IsFound, is_to, keys_with};
 ghost use Rattle.sq_catalog.specs.Stored.{AreChecksAt, AreColumnsOver, IsDescribed, IsNext};
-ghost use Rattle.sq_catalog.specs.Table.{typed_kinds, written_not_null};
+ghost use Rattle.sq_catalog.specs.Views.{GainsViews};
+ghost use Rattle.sq_catalog.specs.Table.{typed_definitions, typed_kinds, written_not_null};
 ghost use Rattle.sq_catalog.specs.Written.{column_count, is_written_not_null};
 
 use crate::catalog::{Catalog, FullName, full_name};
@@ -59,7 +62,8 @@ impl Catalog {
         user: Name,
         definition: &TableDefinition,
     ) -> Result<(), ElementFault>
-        ensures { OnOk result (Gains self.old self.new (named_by user definition.now.name ∷ [])) }
+        ensures tables { OnOk result (Gains self.old self.new (named_by user definition.now.name ∷ []) (definition.now ∷ [])) }
+        ensures views { OnOk result (GainsViews self.old self.new []) }
     {
         let name = full_name(user, definition.name);
         self.check_new_name(user, &name)?;
@@ -76,6 +80,8 @@ impl Catalog {
     ) -> Result<(TableDesc, Shared<BaseTable>), ElementFault>
         ensures own { OnOk result (name.now.user ≡ user) }
         ensures next { IfOk result (λ new. IsNext self.now.bases name.now new.0 new.1) }
+        ensures columns { IfOk result (λ new. HasColumnsOf definition.now new.0.columns) }
+        ensures base_columns { IfOk result (λ new. HasBaseColumnsOf definition.now new.1) }
     {
         let draft = self.draft(user, name, definition)?;
         let table = self.table_of(user, name, &draft);
@@ -90,7 +96,8 @@ impl Catalog {
         name: &FullName,
         definition: &'t TableDefinition,
     ) -> Result<Draft<'t>, ElementFault>
-        ensures { IfOk result (λ draft. All (IsFound self.now.bases (vec_len draft.written.columns)) draft.references.items) }
+        ensures found { IfOk result (λ draft. All (IsFound self.now.bases (vec_len draft.written.columns)) draft.references.items) }
+        ensures columns { IfOk result (λ draft. typed_definitions draft.columns.items ≡ columns_written definition.now) }
     {
         let written = parts_of(self.alloc(), definition)?;
         let named = named_columns(self.alloc(), written.columns.as_slice());
@@ -141,6 +148,8 @@ impl Catalog {
         requires { All (IsFound self.now.bases (vec_len draft.now.written.columns)) draft.now.references.items }
         ensures own { OnOk result (name.now.user ≡ user) }
         ensures next { IfOk result (λ new. IsNext self.now.bases name.now new.0 new.1) }
+        ensures columns { IfOk result (λ new. AreColumnsOf (typed_definitions draft.now.columns.items) new.0.columns) }
+        ensures base_columns { IfOk result (λ new. AreBaseColumnsOf (typed_definitions draft.now.columns.items) new.1.columns) }
     {
         let columns = columns_of(self.alloc(), draft.columns.as_slice())?;
         match (&*self).checked_base(user, name, columns.as_slice(), &*draft) {
@@ -164,6 +173,7 @@ impl Catalog {
         requires kinds { kinds_of_columns columns.now ≡ typed_kinds draft.now.columns.items }
         requires found { All (IsFound self.now.bases (vec_len draft.now.written.columns)) draft.now.references.items }
         ensures own { OnOk result (name.now.user ≡ user) }
+        ensures columns { IfOk result (λ base. AreBaseColumnsOf (typed_definitions draft.now.columns.items) base.columns) }
         ensures kinds { IfOk result (λ base. base_kinds base ≡ kinds_of_columns columns.now) }
         ensures place { IfOk result (λ base. base.place ≡ length self.now.bases) }
         ensures checks { IfOk result (λ base. AreChecksAt (length self.now.bases) (kinds_of_columns columns.now) base.checks) }
@@ -193,6 +203,7 @@ impl Catalog {
         requires kinds { kinds_of_columns columns.now ≡ typed_kinds draft.now.columns.items }
         requires known_keys { list_all (are_not_null (written_not_null draft.now.columns.items)) draft.now.keys.columns ≡ true }
         requires found { All (IsFound self.now.bases (vec_len draft.now.written.columns)) draft.now.references.items }
+        ensures columns { IfOk result (λ made. AreBaseColumnsOf (typed_definitions draft.now.columns.items) made.0.columns) }
         ensures kinds { IfOk result (λ made. base_kinds made.0 ≡ kinds_of_columns columns.now) }
         ensures place { IfOk result (λ made. made.0.place ≡ length self.now.bases) }
         ensures checks { IfOk result (λ made. AreChecksAt (length self.now.bases) (kinds_of_columns columns.now) made.0.checks) }
@@ -243,7 +254,8 @@ fn base_parts(
     columns: &[Column],
     draft: &Draft<'_>,
 ) -> Result<BaseParts, ElementFault>
-    ensures columns { IfOk result (λ parts. length parts.columns ≡ vec_len draft.now.written.columns) }
+    ensures count { IfOk result (λ parts. length parts.columns ≡ vec_len draft.now.written.columns) }
+    ensures columns { IfOk result (λ parts. AreBaseColumnsOf (typed_definitions draft.now.columns.items) parts.columns) }
     ensures kinds { IfOk result (λ parts. map (λ c. kind_of c.domain) parts.columns ≡ typed_kinds draft.now.columns.items) }
     ensures not_null { IfOk result (λ parts. map (λ c. c.not_null) parts.columns ≡ written_not_null draft.now.columns.items) }
     ensures keys { IfOk result (λ parts. parts.keys ≡ draft.now.keys.columns) }
@@ -337,7 +349,8 @@ fn are_not_null(columns: &[TypedColumn<'_>], key: &[usize]) -> bool
 
 /// The columns as queries see them.
 fn columns_of(alloc: Global, typed: &[TypedColumn<'_>]) -> Result<Items<Column>, ElementFault>
-    ensures { IfOk result (AreColumnsOver (typed_kinds typed.now) (typed_kinds typed.now)) }
+    ensures over { IfOk result (AreColumnsOver (typed_kinds typed.now) (typed_kinds typed.now)) }
+    ensures written { IfOk result (AreColumnsOf (typed_definitions typed.now)) }
 {
     let mut columns = Items::new(alloc);
     for (position, column) in typed.iter().enumerate() {
@@ -355,6 +368,7 @@ fn base_columns(alloc: Global, typed: &[TypedColumn<'_>]) -> Result<Items<BaseCo
     ensures count { IfOk result (λ columns. length columns ≡ length typed.now) }
     ensures kinds { IfOk result (λ columns. map (λ c. kind_of c.domain) columns ≡ typed_kinds typed.now) }
     ensures not_null { IfOk result (λ columns. map (λ c. c.not_null) columns ≡ written_not_null typed.now) }
+    ensures written { IfOk result (AreBaseColumnsOf (typed_definitions typed.now)) }
 {
     let mut columns = Items::new(alloc);
     for column in typed {
@@ -366,6 +380,7 @@ fn base_columns(alloc: Global, typed: &[TypedColumn<'_>]) -> Result<Items<BaseCo
 fn base_column(alloc: Global, typed: &TypedColumn<'_>) -> Result<BaseColumn, ElementFault>
     ensures domain { IfOk result (λ column. column.domain ≡ typed.now.domain) }
     ensures not_null { IfOk result (λ column. column.not_null ≡ is_written_not_null typed.now.definition.now) }
+    ensures default { IfOk result (λ column. IsDefaultOf typed.now.domain typed.now.definition.now.default column.default) }
 {
     Ok(BaseColumn {
         domain: typed.domain,
@@ -387,7 +402,8 @@ fn default_of(
     domain: Domain,
 ) -> Result<ColumnDefault, ElementFault>
     requires { IsDomain domain }
-    ensures { IfOk result (DefaultIsIn domain) }
+    ensures in_domain { IfOk result (DefaultIsIn domain) }
+    ensures written { IfOk result (IsDefaultOf domain written.now) }
 {
     match written {
         None | Some(DefaultValue::Null) => Ok(ColumnDefault::Value(Value::Null)),
@@ -402,7 +418,8 @@ fn default_of(
 }
 
 fn user_default(domain: Domain) -> Result<ColumnDefault, ElementFault>
-    ensures { IfOk result (DefaultIsIn domain) }
+    ensures in_domain { IfOk result (DefaultIsIn domain) }
+    ensures written { IfOk result (λ default. default ≡ user) }
 {
     match domain {
         Domain::Char(length) | Domain::VarChar(length) if length >= USER_LENGTH => {
@@ -419,7 +436,8 @@ fn stored_default(
     domain: Domain,
 ) -> Result<ColumnDefault, ElementFault>
     requires { IsDomain domain }
-    ensures { IfOk result (DefaultIsIn domain) }
+    ensures in_domain { IfOk result (DefaultIsIn domain) }
+    ensures stored { IfOk result (IsStoredAs domain value) }
 {
     if !fits_kind(&value, domain) {
         drop(value);

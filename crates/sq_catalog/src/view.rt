@@ -1,16 +1,21 @@
 //! CREATE VIEW (ISO/IEC 9075:1992, 11.19).
 
-ghost use Rattle.std.specs.Prelude.{◌≡◌, ◌≤◌, ◌&&◌, [], length, IfOk, List, OnOk, Some, slice_get};
+ghost use Rattle.std.specs.Prelude.{◌≡◌, ◌≤◌, ◌&&◌, [], ◌∷◌, length, map, IfOk, List, OnOk, Some, slice_get};
 ghost use Rattle.std.specs.List.{AllZip};
+ghost use Rattle.std.specs.Option.{option_map};
+ghost use Rattle.sq_lex.specs.declared.name.Name.{Name as AnyName};
+ghost use Rattle.sq_meaning.specs.Spelled as meaning;
 ghost use Rattle.sq_value.specs.declared.domain.Kind.{Kind};
 ghost use Rattle.sq_bound.specs.Fits.{IsBase};
 ghost use Rattle.sq_bound.specs.Names.{option_all};
 ghost use Rattle.sq_bound.specs.Quiet.{are_sure, is_sure};
 ghost use Rattle.sq_bound.specs.WellFormed.{IsLeaf, IsSelect, IsTarget, IsUpdatable, TableKinds, base_kinds, kinds_of_columns, kinds_of_results, kinds_of_select};
+ghost use Rattle.sq_select.specs.Names.{NamesAre, names_of, names_placed};
 ghost use Rattle.sq_bind.specs.Updatable.{AreColumns, IsColumn};
-ghost use Rattle.sq_catalog.specs.Catalog.{Gains, column_kinds};
+ghost use Rattle.sq_catalog.specs.Catalog.{Gains, column_kinds, known};
 ghost use Rattle.sq_catalog.specs.Stored.{AreColumnsOver, IsBoundOver, IsNextView};
-ghost use Rattle.sq_catalog.specs.View.{conditions_with};
+ghost use Rattle.sq_catalog.specs.View.{IsViewWith, conditions_with, names_or};
+ghost use Rattle.sq_catalog.specs.Views.{GainsViews, HasQueryOf, IsViewOf};
 
 use crate::catalog::{Catalog, FullName, full_name};
 use crate::fault::{ElementFault, RefusalName, refused_as, refused_if};
@@ -49,7 +54,8 @@ impl Catalog {
         user: Name,
         definition: &ViewDefinition,
     ) -> Result<(), ElementFault>
-        ensures { OnOk result (Gains self.old self.new []) }
+        ensures tables { OnOk result (Gains self.old self.new [] []) }
+        ensures views { OnOk result (GainsViews self.old self.new (record { user = user; view = definition.now } ∷ [])) }
     {
         let name = full_name(user, definition.name);
         self.check_new_name(user, &name)?;
@@ -69,6 +75,7 @@ impl Catalog {
     ) -> Result<NewView, ElementFault>
         ensures own { OnOk result (name.now.user ≡ user) }
         ensures next { IfOk result (λ view. IsNextView self.now name.now view.table) }
+        ensures written { IfOk result (λ view. IsViewOf (known self.now) (record { user = user; view = definition.now }) view.table) }
     {
         let listed = listed_names(self.alloc(), definition)?;
         let bound = bind_view(self.alloc(), self, user, &definition.query);
@@ -84,9 +91,14 @@ impl Catalog {
         listed: Option<Items<Name>>,
         bound: Result<BoundView, BindFault>,
     ) -> Result<NewView, ElementFault>
-        requires { IfOk bound (λ view. IsBoundOver self.now view.query view.updatable) }
+        requires listed { listed ≡ option_map meaning.listed definition.now.columns }
+        requires bound { IfOk bound (λ view. IsBoundOver self.now view.query view.updatable) }
+        requires query { IfOk bound (λ view. HasQueryOf (known self.now) (record { user = user; view = definition.now }) view.query) }
+        requires names { IfOk bound (λ view. NamesAre
+            (names_placed (known self.now) (meaning.select_of user definition.now.query)) view.query) }
         ensures own { OnOk result (name.now.user ≡ user) }
         ensures next { IfOk result (λ view. IsNextView self.now name.now view.table) }
+        ensures written { IfOk result (λ view. IsViewOf (known self.now) (record { user = user; view = definition.now }) view.table) }
     {
         let bound = match bound {
             Ok(bound) => bound,
@@ -204,7 +216,8 @@ impl Catalog {
     ) -> Result<TableDesc, ElementFault>
         requires bound { IsBoundOver self.now bound.query bound.updatable }
         requires names { length names ≡ length (kinds_of_select bound.query) }
-        ensures { IfOk result (IsNextView self.now name.now) }
+        ensures next { IfOk result (IsNextView self.now name.now) }
+        ensures made { IfOk result (IsViewWith names bound.query) }
     {
         let BoundView {
             query,
@@ -230,7 +243,8 @@ impl Catalog {
     ) -> Result<TableDesc, ElementFault>
         requires query { IsSelect (column_kinds self.now) [] [] query }
         requires names { length names.now ≡ length (kinds_of_select query) }
-        ensures { IfOk result (IsNextView self.now name.now) }
+        ensures next { IfOk result (IsNextView self.now name.now) }
+        ensures made { IfOk result (IsViewWith names.now query) }
     {
         let columns = view_columns(self.alloc(), names, query.columns.as_slice());
         let (query, columns) = both(Ok(query), columns)?;
@@ -259,7 +273,8 @@ impl Catalog {
         requires names { length names.now ≡ length (kinds_of_select query) }
         requires base { IsBase self.now.bases over.target.leaf.table }
         requires target { IsUpdatable (column_kinds self.now) [] (kinds_of_select query) over }
-        ensures { IfOk result (IsNextView self.now name.now) }
+        ensures next { IfOk result (IsNextView self.now name.now) }
+        ensures made { IfOk result (IsViewWith names.now query) }
     {
         match view_columns(self.alloc(), names, query.columns.as_slice()) {
             Ok(columns) => {
@@ -285,7 +300,9 @@ impl Catalog {
         requires base { IfOk parts (λ parts. IsBase self.now.bases parts.1.table) }
         requires columns { IfOk parts (λ parts. AreColumnsOver (base_kinds parts.1.table) (kinds_of_select query) parts.0) }
         requires leaf { IfOk parts (λ parts. IsLeaf (column_kinds self.now) parts.1) }
-        ensures { IfOk result (IsNextView self.now name.now) }
+        ensures next { IfOk result (IsNextView self.now name.now) }
+        ensures made { (names : List AnyName) → IfOk parts (λ parts. map (λ c. c.name) parts.0 ≡ names)
+            → IfOk result (IsViewWith names query) }
     {
         match parts {
             Ok((columns, leaf)) => Ok(self.view_over(name, query, columns, leaf)),
@@ -308,7 +325,8 @@ impl Catalog {
         requires base { IsBase self.now.bases leaf.table }
         requires columns { AreColumnsOver (base_kinds leaf.table) (kinds_of_select query) columns }
         requires leaf { IsLeaf (column_kinds self.now) leaf }
-        ensures { IsNextView self.now name.now result }
+        ensures next { IsNextView self.now name.now result }
+        ensures made { IsViewWith (map (λ c. c.name) columns) query result }
     {
         TableDesc {
             user: name.user,
@@ -343,6 +361,7 @@ fn view_parts(
     requires { AllZip (λ p k. slice_get (base_kinds over.target.leaf.table) p ≡ Some k) over.columns (kinds_of_columns columns.now) }
     ensures base { IfOk result (λ parts. parts.1.table ≡ over.target.leaf.table) }
     ensures columns { IfOk result (λ parts. AreColumnsOver (base_kinds over.target.leaf.table) (kinds_of_columns columns.now) parts.0) }
+    ensures names { IfOk result (λ parts. map (λ c. c.name) parts.0 ≡ map (λ c. c.name) columns.now) }
     ensures leaf { IfOk result (λ parts. (known : TableKinds) → IsTarget known [] over.target → IsLeaf known parts.1) }
 {
     let UpdatableQuery {
@@ -462,7 +481,9 @@ fn shared_conditions(
 fn listed_names(
     alloc: Global,
     definition: &ViewDefinition,
-) -> Result<Option<Items<Name>>, ElementFault> {
+) -> Result<Option<Items<Name>>, ElementFault>
+    ensures { IfOk result (λ names. names ≡ option_map meaning.listed definition.now.columns) }
+{
     match &definition.columns {
         None => Ok(None),
         Some(list) => {
@@ -483,7 +504,8 @@ fn check_distinct(alloc: Global, names: &[Name]) -> Result<(), ElementFault> {
 
 /// The names, if there are `count` of them; else `BadView`.
 fn as_many(names: Items<Name>, count: usize) -> Result<Items<Name>, ElementFault>
-    ensures { IfOk result (λ names. length names ≡ count) }
+    ensures names { IfOk result (λ them. them ≡ names) }
+    ensures count { IfOk result (λ them. length them ≡ count) }
 {
     if names.len() == count {
         return Ok(names);
@@ -498,7 +520,8 @@ fn column_names(
     listed: Option<Items<Name>>,
     columns: &[ResultColumn],
 ) -> Result<Items<Name>, ElementFault>
-    ensures { IfOk result (λ names. length names ≡ length columns.now) }
+    ensures names { IfOk result (λ names. map (λ n. Some n) names ≡ names_or listed (names_of columns.now)) }
+    ensures count { IfOk result (λ names. length names ≡ length columns.now) }
 {
     match listed {
         Some(names) => as_many(names, columns.len()),
@@ -508,7 +531,8 @@ fn column_names(
 
 /// The names of a query's columns: none twice, and none missing.
 fn query_names(alloc: Global, columns: &[ResultColumn]) -> Result<Items<Name>, ElementFault>
-    ensures { IfOk result (λ names. length names ≡ length columns.now) }
+    ensures names { IfOk result (λ names. map (λ n. Some n) names ≡ names_of columns.now) }
+    ensures count { IfOk result (λ names. length names ≡ length columns.now) }
 {
     let mut names = Items::new(alloc);
     for column in columns {
@@ -527,7 +551,8 @@ fn view_columns(
     columns: &[ResultColumn],
 ) -> Result<Items<Column>, ElementFault>
     requires { length names.now ≡ length columns.now }
-    ensures { IfOk result (λ described. kinds_of_columns described ≡ kinds_of_results columns.now) }
+    ensures kinds { IfOk result (λ described. kinds_of_columns described ≡ kinds_of_results columns.now) }
+    ensures names { IfOk result (λ described. map (λ c. c.name) described ≡ names.now) }
 {
     let mut described = Items::new(alloc);
     for (position, column) in columns.iter().enumerate() {
@@ -547,8 +572,9 @@ fn placed_columns(
     below: &[usize],
 ) -> Result<Items<Column>, ElementFault>
     requires { length below.now ≡ length columns.now }
-    ensures { IfOk result (λ placed. (base : List Kind) → AllZip (λ p k. slice_get base p ≡ Some k) below.now
+    ensures columns { IfOk result (λ placed. (base : List Kind) → AllZip (λ p k. slice_get base p ≡ Some k) below.now
         (kinds_of_columns columns.now) → AreColumnsOver base (kinds_of_columns columns.now) placed) }
+    ensures names { IfOk result (λ placed. map (λ c. c.name) placed ≡ map (λ c. c.name) columns.now) }
 {
     let mut placed = Items::new(alloc);
     for (position, column) in columns.iter().enumerate() {

@@ -1,10 +1,12 @@
 //! What a table definition writes, by kinds of its elements (ISO/IEC 9075:1992, 11.3, 11.4, 11.6).
 
-ghost use Rattle.std.specs.Prelude.{◌≡◌, ◌<◌, ◌+◌, true, length, vec_len, IfOk, OnOk};
+ghost use Rattle.std.specs.Prelude.{◌≡◌, ◌<◌, ◌+◌, ◌∷◌, ◌++◌, [], Some, true, length, map, vec_len, IfOk, OnOk};
 ghost use Rattle.sq_value.specs.Domain.{IsDomain};
+ghost use Rattle.sq_meaning.specs.Spelled as meaning;
 ghost use Rattle.sq_bound.specs.Names.{are_positions};
 ghost use Rattle.sq_bound.specs.Parameter.{IsDomain-prop};
-ghost use Rattle.sq_catalog.specs.Written.{column_count, is_written_not_null};
+ghost use Rattle.sq_catalog.specs.Columns.{column_in, columns_written};
+ghost use Rattle.sq_catalog.specs.Written.{column_count, definitions_lent, is_written_not_null};
 
 use crate::fault::{ElementFault, RefusalName, refused_if};
 use indexmap::IndexSet;
@@ -47,10 +49,13 @@ pub(crate) struct TypedColumn<'t> {
     pub definition: &'t ColumnDefinition,
     pub domain: Domain,
     ghost is_domain: { IsDomain domain } by { IsDomain-prop domain },
+    ghost of_type: { meaning.domain_of definition.now.data_type ≡ Some domain },
 }
 
 /// The names of a list.
-pub(crate) fn names_of(alloc: Global, list: &CommaList<Name>) -> Result<Items<Name>, ElementFault> {
+pub(crate) fn names_of(alloc: Global, list: &CommaList<Name>) -> Result<Items<Name>, ElementFault>
+    ensures { IfOk result (λ names. names ≡ meaning.listed list.now) }
+{
     let mut names = Items::new(alloc);
     names.push(list.first)?;
     for name in list.rest.as_slice() {
@@ -69,7 +74,9 @@ fn only_name(alloc: Global, name: Name) -> Result<Items<Name>, ElementFault> {
 pub(crate) fn parts_of<'t>(
     alloc: Global,
     definition: &'t TableDefinition,
-) -> Result<Written<'t>, ElementFault> {
+) -> Result<Written<'t>, ElementFault>
+    ensures { IfOk result (λ written. definitions_lent written.columns.items ≡ columns_written definition.now) }
+{
     let mut written = Written {
         columns: Vec::new(alloc),
         keys: Vec::new(alloc),
@@ -84,7 +91,9 @@ pub(crate) fn parts_of<'t>(
 }
 
 impl<'t> Written<'t> {
-    fn add(&mut self, alloc: Global, element: &'t TableElement) -> Result<(), ElementFault> {
+    fn add(&mut self, alloc: Global, element: &'t TableElement) -> Result<(), ElementFault>
+        ensures { OnOk result (definitions_lent self.new.columns.items ≡ definitions_lent self.old.columns.items ++ column_in element.now) }
+    {
         match element {
             TableElement::Column(column) => self.add_column(alloc, column),
             TableElement::Unique(columns) => self.add_key(false, names_of(alloc, columns)),
@@ -103,7 +112,9 @@ impl<'t> Written<'t> {
         &mut self,
         alloc: Global,
         column: &'t ColumnDefinition,
-    ) -> Result<(), ElementFault> {
+    ) -> Result<(), ElementFault>
+        ensures { OnOk result (definitions_lent self.new.columns.items ≡ definitions_lent self.old.columns.items ++ column.now ∷ []) }
+    {
         pushed(self.columns.push(column).is_ok())?;
         for constraint in column.constraints.as_slice() {
             self.add_constraint(alloc, column.name, constraint)?;
@@ -116,7 +127,9 @@ impl<'t> Written<'t> {
         alloc: Global,
         name: Name,
         constraint: &'t ColumnConstraint,
-    ) -> Result<(), ElementFault> {
+    ) -> Result<(), ElementFault>
+        ensures { self.new.columns ≡ self.old.columns }
+    {
         match constraint {
             ColumnConstraint::NotNull => Ok(()),
             ColumnConstraint::Unique => self.add_key(false, only_name(alloc, name)),
@@ -132,7 +145,9 @@ impl<'t> Written<'t> {
         &mut self,
         is_primary: bool,
         columns: Result<Items<Name>, ElementFault>,
-    ) -> Result<(), ElementFault> {
+    ) -> Result<(), ElementFault>
+        ensures { self.new.columns ≡ self.old.columns }
+    {
         let columns = columns?;
         pushed(
             self.keys
@@ -148,7 +163,9 @@ impl<'t> Written<'t> {
         &mut self,
         columns: Result<Items<Name>, ElementFault>,
         to: &'t References,
-    ) -> Result<(), ElementFault> {
+    ) -> Result<(), ElementFault>
+        ensures { self.new.columns ≡ self.old.columns }
+    {
         let columns = columns?;
         pushed(
             self.references
@@ -157,7 +174,9 @@ impl<'t> Written<'t> {
         )
     }
 
-    fn add_check(&mut self, cond: &'t Cond) -> Result<(), ElementFault> {
+    fn add_check(&mut self, cond: &'t Cond) -> Result<(), ElementFault>
+        ensures { self.new.columns ≡ self.old.columns }
+    {
         pushed(self.checks.push(cond).is_ok())
     }
 }
@@ -249,7 +268,8 @@ pub(crate) fn typed_columns<'t>(
     alloc: Global,
     definitions: &[&'t ColumnDefinition],
 ) -> Result<Vec<TypedColumn<'t>>, ElementFault>
-    ensures { IfOk result (λ typed. vec_len typed ≡ length definitions.now) }
+    ensures count { IfOk result (λ typed. vec_len typed ≡ length definitions.now) }
+    ensures definitions { IfOk result (λ typed. map (λ t. t.definition.now) typed.items ≡ definitions_lent definitions.now) }
 {
     let mut typed = Vec::new(alloc);
     for definition in definitions {

@@ -5,9 +5,10 @@ use Rattle.sq_tree.specs.Module.{module_tokens}
 use Rattle.sq_tree.specs.declared.module.ModuleText.{ModuleText}
 use Rattle.sq_tree.specs.declared.schema.SchemaText.{SchemaText}
 use Rattle.sq_model.specs.Report.{Bytes}
-use Rattle.sq_catalog.specs.Catalog.{Catalog, declared_tables}
-use Rattle.sq_catalog.specs.declared.catalog.FullName.{FullName}
+use Rattle.sq_catalog.specs.Catalog.{Catalog, declared_tables, known}
+use Rattle.sq_catalog.specs.Declares.{Declares}
 use Rattle.sq_module.specs.Program.{declared_procedures}
+use Rattle.sq_session.specs.Schemas.{schemas_of}
 use Rattle.sq_session.specs.Session.{AreOfModules, Session, names_of}
 use Rattle.sq_run.specs.Run.{AllSpell, IsOpened, IsStart}
 
@@ -16,15 +17,17 @@ pub record Defined (schemas : List Bytes) (c : Catalog) : Type 0 where
   pub trees : List SchemaText
   pub spelled : AllSpell schema_tokens schemas trees
   pub tables : c.tables ≡ declared_tables trees
+  pub declares : Declares trees (known c) c.bases c.views
   pub bases : length c.bases ≡ length c.tables
 
--- a session over these tables, of trees that the modules spell
-pub record Holds (row_numbers : ℕ) (tables : List FullName) (modules : List Bytes) (s : Session) : Type 0 where
+-- a session over the tables of this catalog, of trees that the modules spell
+pub record Holds (row_numbers : ℕ) (c : Catalog) (modules : List Bytes) (s : Session) : Type 0 where
   pub trees : List ModuleText
   pub spelled : AllSpell module_tokens modules trees
-  pub tables_are : s.tables ≡ tables
+  pub tables_are : s.tables ≡ c.tables
+  pub schemas_are : s.schemas ≡ schemas_of c
   pub procedures : names_of s.procedures ≡ declared_procedures trees
-  pub written : AreOfModules tables trees s.procedures
+  pub written : AreOfModules c.tables (known c) trees s.procedures
   pub start : IsStart row_numbers s
 
 -- a session of trees that the texts spell

@@ -15,7 +15,9 @@ use Rattle.sq_tree.specs.declared.script.ScriptText.{ScriptText}
 use Rattle.sq_store.specs.Content.{no_rows}
 use Rattle.sq_model.specs.Report.{Bytes}
 use Rattle.sq_model.specs.Run.{item_of_script}
+use Rattle.sq_bound.specs.Known.{KnownTables}
 use Rattle.sq_catalog.specs.Catalog.{declared_tables}
+use Rattle.sq_catalog.specs.Declares.{Declares}
 use Rattle.sq_module.specs.Program.{declared_procedures}
 use Rattle.sq_session.specs.Session.{AreOfModules, Session, names_of}
 use Rattle.sq_session.specs.State.{AreClosed}
@@ -50,12 +52,14 @@ pub record IsStart (row_numbers : ℕ) (s : Session) : Type 0 where
   pub numbers : s.state.row_numbers ≡ row_numbers
   pub closed : AreClosed s.state.cursors
 
--- a session of these trees, as it is before the first call: its tables and procedures are those that they declare, in their order,
--- and the procedures are bound as they are written over those tables
+-- a session of these trees, as it is before the first call: its tables and procedures are those that they declare, in their order, its
+-- base tables and views are those that are written, and the procedures are bound as they are written, where names of tables mean these
 pub record IsOpened (row_numbers : ℕ) (schemas : List SchemaText) (modules : List ModuleText) (s : Session) : Type 0 where
   pub tables : s.tables ≡ declared_tables schemas
   pub procedures : names_of s.procedures ≡ declared_procedures modules
-  pub written : AreOfModules (declared_tables schemas) modules s.procedures
+  pub known : KnownTables
+  pub declares : Declares schemas known s.schemas.bases s.schemas.views
+  pub written : AreOfModules (declared_tables schemas) known modules s.procedures
   pub start : IsStart row_numbers s
 
 -- Trees that the texts spell, a session of them as it is before the first call, which takes each item of the script, and what it is asked for: these

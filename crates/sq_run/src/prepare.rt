@@ -6,8 +6,10 @@ ghost use Rattle.sq_tree.specs.Script.{script_tokens};
 ghost use Rattle.sq_bound.specs.Fits.{keys_of_bases};
 ghost use Rattle.sq_module.specs.Refusal.{IsOfSomeModule};
 ghost use Rattle.sq_run.specs.Fault.{IsOfItem, IsOpeningFault, IsScriptFault, IsScriptRefusal, IsUntaken, SomeRefused, run_fault};
-ghost use Rattle.sq_catalog.specs.Catalog.{declared_tables};
+ghost use Rattle.sq_catalog.specs.Catalog.{declared_tables, known};
+ghost use Rattle.sq_catalog.specs.Declares.{Declares};
 ghost use Rattle.sq_module.specs.Program.{declared_procedures};
+ghost use Rattle.sq_session.specs.Schemas.{schemas_of};
 ghost use Rattle.sq_session.specs.Session.{AreOfModules, names_of};
 ghost use Rattle.sq_store.specs.Content.{no_rows};
 ghost use Rattle.sq_run.specs.Opened.{Defined, Holds, Opened};
@@ -90,6 +92,7 @@ fn built(
 ) -> Result<Catalog, TextFault>
     requires spelled { AllSpell schema_tokens (texts schemas.now) trees.now }
     ensures tables { IfOk result (λ c. c.tables ≡ declared_tables trees.now) }
+    ensures declares { IfOk result (λ c. Declares trees.now (known c) c.bases c.views) }
     ensures bases { IfOk result (λ c. length c.bases ≡ length c.tables) }
     ensures refused { IfErr result (SomeRefused schema_tokens schema_depth (texts schemas.now)) }
 {
@@ -137,7 +140,7 @@ fn session_of<S: Store>(
     requires numbers { limits.row_numbers ≤ MOST_ROW_NUMBERS }
     requires bases { length catalog.bases ≡ length catalog.tables }
     ensures spelled { IfOk result (λ _. SomeTrees module_tokens (texts modules.now)) }
-    ensures holds { IfOk result (Holds limits.row_numbers catalog.tables (texts modules.now)) }
+    ensures holds { IfOk result (Holds limits.row_numbers catalog (texts modules.now)) }
     ensures refused { IfErr result (SomeRefused module_tokens module_depth (texts modules.now)) }
 {
     let trees = match read_all::<ModuleText>(alloc, modules) {
@@ -165,7 +168,8 @@ fn session_from<S: Store>(
     requires spelled { AllSpell module_tokens (texts modules.now) trees.now }
     ensures tables { IfOk result (λ s. s.tables ≡ catalog.tables) }
     ensures procedures { IfOk result (λ s. names_of s.procedures ≡ declared_procedures trees.now) }
-    ensures written { IfOk result (λ s. AreOfModules catalog.tables trees.now s.procedures) }
+    ensures schemas { IfOk result (λ s. s.schemas ≡ schemas_of catalog) }
+    ensures written { IfOk result (λ s. AreOfModules catalog.tables (known catalog) trees.now s.procedures) }
     ensures start { IfOk result (IsStart limits.row_numbers) }
     ensures refused { IfErr result (SomeRefused module_tokens module_depth (texts modules.now)) }
 {
@@ -188,7 +192,8 @@ fn session_over<S: Store>(
     requires bases { length catalog.bases ≡ length catalog.tables }
     ensures tables { IfOk result (λ s. s.tables ≡ catalog.tables) }
     ensures procedures { IfOk result (λ s. names_of s.procedures ≡ declared_procedures modules.now) }
-    ensures written { IfOk result (λ s. AreOfModules catalog.tables modules.now s.procedures) }
+    ensures schemas { IfOk result (λ s. s.schemas ≡ schemas_of catalog) }
+    ensures written { IfOk result (λ s. AreOfModules catalog.tables (known catalog) modules.now s.procedures) }
     ensures start { IfOk result (IsStart limits.row_numbers) }
     ensures refused { IfErr result (IsOfSomeModule (length modules.now)) }
 {

@@ -4,6 +4,7 @@ pub mod Trees
 pub mod Contexts
 pub mod Columns
 pub mod ItemsRead
+pub mod Names
 pub mod NoFunctions
 pub mod Notes
 pub mod Numbering

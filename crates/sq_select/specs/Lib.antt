@@ -1,5 +1,6 @@
 pub mod Gathered
 pub mod InOrder
+pub mod Names
 pub mod Noted
 pub mod Numbering
 pub mod Placed

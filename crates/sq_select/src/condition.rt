@@ -19,6 +19,7 @@ ghost use Rattle.sq_select.specs.InOrder.{Adding, bound_functions, conj_function
 ghost use Rattle.sq_select.specs.Noted.{ClauseNoted, EachReads, Every, SelectNoted, SureAndNoted, WithinItems, cond_notes, cond_reads, cond_sure, conj_notes, conj_reads, conj_sure, predicate_notes, predicate_reads, predicate_sure, test_notes, test_reads, test_sure};
 ghost use Rattle.sq_bound.specs.Numbered.{ClauseWith, CondWith, ConjWith, EachWith, PredicateWith, SelectWith, TestWith};
 ghost use Rattle.sq_select.specs.Numbering.{Numbering};
+ghost use Rattle.sq_select.specs.Names.{NamesAre, names_placed};
 ghost use Rattle.sq_select.specs.Placed.{Around, around, clause_placed, cond_placed, inside, select_placed};
 ghost use Rattle.sq_select.specs.Written.{Being, ClauseIs, CondIs, ConjIs, EachIs, PredicateIs, SelectIs, TestIs};
 ghost use Rattle.sq_select.specs.Reach.{ClauseReaches, CondReaches, ConjReaches, EachReaches, PredicateReaches, Reaching, SelectReaches, TestReaches};
@@ -334,6 +335,8 @@ pub fn bind_select<N: Names>(
     ensures reach { IfOk result (Reaching SelectReaches) }
     ensures numbering { IfOk result (Numbering SelectWith numbers.old numbers.new) }
     ensures written { IfOk result (Being (SelectIs (select_placed (around (N.known names.now) environment.now)
+        (select_of_parts environment.now.user quantifier list.now table.now)))) }
+    ensures names { IfOk result (Being (NamesAre (names_placed (N.known names.now)
         (select_of_parts environment.now.user quantifier list.now table.now)))) }
 {
     let FromClause {

@@ -1,11 +1,13 @@
 //! The parts of a query specification: FROM items, grouping columns, select lists (ISO/IEC 9075:1992, 7.4, 7.7, 7.9).
 
-ghost use Rattle.std.specs.Prelude.{◌≡◌, ℕ, ◌||◌, ◌++◌, ◌∷◌, [], IfOk, List, None, Ok, Some, false, if◌then◌else◌, is_some, length, map, nat_lt, slice_get, true};
+ghost use Rattle.std.specs.Prelude.{◌≡◌, ℕ, ◌||◌, ◌++◌, ◌∷◌, [], IfOk, List, None, Ok, Option, Some, false, if◌then◌else◌, is_some, length, map, nat_lt, slice_get, true};
 ghost use Rattle.std.specs.List.{AllZip, enumerate_from, flat_map};
 ghost use Rattle.std.specs.Option.{option_map};
 ghost use Rattle.sq_tree.specs.declared.names.ColumnReference.{ColumnReference as AnyColumn};
 ghost use Rattle.sq_meaning.specs.Environment.{TableReference as AnyReference};
-ghost use Rattle.sq_meaning.specs.Spelled.{expr_of, list_of, listed, listed_if_any, reference_of as reference_meant, table_of};
+ghost use Rattle.sq_lex.specs.declared.name.Name.{Name as AnyName};
+ghost use Rattle.sq_meaning.specs.SortKeys.{item_name};
+ghost use Rattle.sq_meaning.specs.Spelled.{expr_of, factor_of, list_of, listed, listed_if_any, reference_of as reference_meant, table_of, term_of};
 ghost use Rattle.sq_meaning.specs.Status.{Outcome, and_then, each};
 ghost use Rattle.sq_meaning.specs.Syntax.{select};
 ghost use Rattle.sq_meaning.specs.WellFormed.{of_lines};
@@ -13,12 +15,14 @@ ghost use Rattle.sq_bound.specs.Expression.{PlacedExpr, expr_of as expr_of_bound
 ghost use Rattle.sq_bound.specs.Fits.{IsBaseAt, IsOver};
 ghost use Rattle.sq_bound.specs.Known.{KnownTables, known_by};
 ghost use Rattle.sq_bound.specs.WellFormed.{IsTable, Levels, TableKinds, kinds_of_parameters, place_of};
+ghost use Rattle.sq_bound.specs.declared.condition.BoundSpecification.{out-BoundSpecification};
 ghost use Rattle.sq_bound.specs.declared.condition.TablePlace.{TablePlace as AnyPlace};
 ghost use Rattle.sq_bound.specs.declared.expression.Place.{Place as ColumnPlace};
 ghost use Rattle.sq_bound.specs.declared.expression.SetFunctionCall.{SetFunctionCall};
 ghost use Rattle.sq_scope.specs.Expression.{Grows};
 ghost use Rattle.sq_scope.specs.Scope.{scopes_in};
 ghost use Rattle.sq_scope.specs.declared.scope.FromItem.{FromItem as AnyItem};
+ghost use Rattle.sq_select.specs.Names.{item_names, list_names, names_of};
 ghost use Rattle.sq_select.specs.Placed.{Around, all_placed, around, columns_placed, expr_placed, inside, list_placed, select_placed};
 ghost use Rattle.sq_select.specs.Written.{AreWritten, Being, ExprsAre, FromIs, GroupsAre, PartsWritten, SelectIs, SelectText, TypedIs};
 ghost use Rattle.sq_bound.specs.Noted.{may_fail};
@@ -43,7 +47,9 @@ use sq_scope::{
     Environment, ExprResult, Findings, Found, FromItem, SetFunctions, Typed, bind_expr, both,
     column_findings, is_exposed, item_over, kept,
 };
-use sq_tree::{ColumnReference, CommaList, Expr, Primary, SelectList, TableName, TableReference};
+use sq_tree::{
+    ColumnReference, CommaList, Expr, Factor, Primary, SelectList, TableName, TableReference, Term,
+};
 use std::alloc::Global;
 
 /// The greatest number of FROM items (own rule).
@@ -243,9 +249,32 @@ fn push_grouping(
 }
 
 /// The column reference that a select item is: without a sign or brackets.
-pub fn reference_of(expr: &Expr) -> Option<&ColumnReference> {
-    let factor = &expr.first.first;
-    if !expr.rest.is_empty() || !expr.first.rest.is_empty() || factor.sign.is_some() {
+pub fn reference_of(expr: &Expr) -> Option<&ColumnReference>
+    ensures { item_name (expr_of expr.now) ≡ option_map (λ r. r.now.column) result }
+{
+    if expr.rest.is_empty() {
+        term_reference(&expr.first)
+    } else {
+        None
+    }
+}
+
+/// The column reference that a term is.
+fn term_reference(term: &Term) -> Option<&ColumnReference>
+    ensures { item_name (term_of term.now) ≡ option_map (λ r. r.now.column) result }
+{
+    if term.rest.is_empty() {
+        factor_reference(&term.first)
+    } else {
+        None
+    }
+}
+
+/// The column reference that a factor is.
+fn factor_reference(factor: &Factor) -> Option<&ColumnReference>
+    ensures { item_name (factor_of factor.now) ≡ option_map (λ r. r.now.column) result }
+{
+    if factor.sign.is_some() {
         return None;
     }
     match &factor.primary {
@@ -279,6 +308,7 @@ pub fn select_list<'s>(
     ensures own { AreNotedFunctions functions.old → AreNotedFunctions functions.new }
     ensures written { (known : KnownTables) → IfOk result (λ s. ExprsAre functions.new.calls
         (list_placed (inside items.now (around known environment.now)) (list_of list.now)) s.exprs) }
+    ensures names { IfOk result (λ s. names_of s.columns ≡ list_names items.now (list_of list.now)) }
 {
     match list {
         SelectList::Star => all_columns(environment.alloc, items),
@@ -316,6 +346,7 @@ fn listed_columns(
     ensures own { AreNotedFunctions functions.old → AreNotedFunctions functions.new }
     ensures written { (known : KnownTables) → IfOk result (λ s. ExprsAre functions.new.calls
         (each (expr_placed (around known environment.now)) (map expr_of (listed list.now))) s.exprs) }
+    ensures names { IfOk result (λ s. names_of s.columns ≡ map item_name (map expr_of (listed list.now))) }
 {
     let mut selected = Ok(no_columns(environment.alloc, false));
     let first = bind_expr(&list.first, environment, functions);
@@ -328,7 +359,9 @@ fn listed_columns(
 }
 
 /// The name of the column that a select item is, if it is one.
-fn name_of(expr: &Expr) -> Option<Name> {
+fn name_of(expr: &Expr) -> Option<Name>
+    ensures { result ≡ item_name (expr_of expr.now) }
+{
     match reference_of(expr) {
         Some(reference) => Some(reference.column),
         None => None,
@@ -347,6 +380,8 @@ fn with_column(
     ensures written { (calls : List SetFunctionCall) (texts : Outcome (List PlacedExpr)) (text : Outcome PlacedExpr)
         → IfOk selected (λ s. ExprsAre calls texts s.exprs) → IfOk item (Being (TypedIs calls text))
         → IfOk result (λ s. ExprsAre calls (and_then texts (λ ps. and_then text (λ p. Ok (ps ++ p ∷ [])))) s.exprs) }
+    ensures names { (before : List (Option AnyName)) → IfOk selected (λ s. names_of s.columns ≡ before)
+        → IfOk result (λ s. names_of s.columns ≡ before ++ name ∷ []) }
 {
     let (mut selected, item) = both(selected, item)?;
     let Found { part, findings } = item;
@@ -385,6 +420,7 @@ fn all_columns(alloc: Global, items: &[FromItem]) -> Result<SelectedList, BindFa
     ensures reach { IfOk result ListReaching }
     ensures written { (calls : List SetFunctionCall) (outer : List (List AnyItem))
         → IfOk result (λ s. ExprsAre calls (Ok (all_placed (items.now ∷ outer))) s.exprs) }
+    ensures names { IfOk result (λ s. names_of s.columns ≡ flat_map item_names items.now) }
 {
     let mut selected = no_columns(alloc, true);
     let pushed = push_items(&mut selected, items);
@@ -398,6 +434,7 @@ fn push_items(selected: &mut SelectedList, items: &[FromItem]) -> Result<(), Bin
     ensures reach { IfOk result (λ u. ListReaching selected.old → ListReaching selected.new) }
     ensures written { (functions : List PlacedExpr) → IfOk result (λ u. map (expr_of_bound functions) selected.new.exprs
         ≡ map (expr_of_bound functions) selected.old.exprs ++ flat_map columns_placed (enumerate_from 0 items.now)) }
+    ensures names { IfOk result (λ u. names_of selected.new.columns ≡ names_of selected.old.columns ++ flat_map item_names items.now) }
 {
     for (number, item) in items.iter().enumerate() {
         push_table(selected, number, item)?;
@@ -413,6 +450,7 @@ fn push_table(selected: &mut SelectedList, number: usize, item: &FromItem) -> Re
     ensures reach { IfOk result (λ u. ListReaching selected.old → ListReaching selected.new) }
     ensures written { (functions : List PlacedExpr) → IfOk result (λ u. map (expr_of_bound functions) selected.new.exprs
         ≡ map (expr_of_bound functions) selected.old.exprs ++ columns_placed (number, item.now)) }
+    ensures names { IfOk result (λ u. names_of selected.new.columns ≡ names_of selected.old.columns ++ item_names item.now) }
 {
     for column in item.columns.as_slice() {
         let place = Place {
@@ -465,6 +503,8 @@ pub fn make_specification(parts: Selected) -> SubqueryResult
     ensures numbering { (a b c : ℕ) → IfOk parts.condition (Numbering ClauseWith a b) → IfOk parts.having (Numbering ClauseWith b c) → IfOk result (Numbering SelectWith a c) }
     ensures written { (a : Around) (items : List AnyItem) (text : SelectText) → AreWritten a items text parts
         → IfOk result (Being (SelectIs (select_placed a (select text.distinct text.list text.from text.filter text.by text.having)))) }
+    ensures names { (shown : List (Option AnyName)) → IfOk parts.selected (λ s. names_of s.columns ≡ shown)
+        → IfOk result (λ found. names_of (out-BoundSpecification found.part).columns ≡ shown) }
 {
     let Selected {
         is_distinct,
@@ -548,6 +588,7 @@ fn whole_specification(parts: Parts) -> SubqueryResult
     ensures numbering { (a b c : ℕ) → Numbering ClauseWith a b parts.condition → Numbering ClauseWith b c parts.having → IfOk result (Numbering SelectWith a c) }
     ensures written { (a : Around) (items : List AnyItem) (text : SelectText) → PartsWritten a items text parts
         → IfOk result (Being (SelectIs (select_placed a (select text.distinct text.list text.from text.filter text.by text.having)))) }
+    ensures columns { IfOk result (λ found. (out-BoundSpecification found.part).columns ≡ parts.selected.columns) }
 {
     let is_grouped = match parts.grouped() {
         Ok(is_grouped) => is_grouped,

@@ -9,7 +9,6 @@ use Rattle.sq_tree.specs.declared.module.ModuleText.{ModuleText}
 use Rattle.sq_model.specs.Script.{fit}
 use Rattle.sq_bound.specs.declared.fault.BindFault.{BindFault}
 use Rattle.sq_catalog.specs.Catalog.{Catalog, known}
-use Rattle.sq_catalog.proofs.Known.{base_known}
 use Rattle.sq_bound.specs.declared.statement.BoundStatement.{BoundStatement}
 use Rattle.sq_module.specs.declared.program.BoundProcedure.{BoundProcedure}
 use Rattle.sq_module.specs.declared.program.DeclaredCursor.{DeclaredCursor}
@@ -76,5 +75,5 @@ names_are cs (e ∷ es) = ap (λ names. e.0 ∷ names) (names_are cs es)
 -- ---- procedures of module texts
 
 pub of_modules : (c : Catalog) (modules : List ModuleText) (p : Program) (procedures : List Procedure) → IsOfTexts (meant_by c) modules p → procedures ≡ procedures_of p.cursors.items p.procedures.entries
-    → AreOfModules c.tables modules procedures
-of_modules c modules p procedures is_of are = record { program = p; known = known c; bases = base_known c; is_of = is_of; are = are }
+    → AreOfModules c.tables (known c) modules procedures
+of_modules c modules p procedures is_of are = record { program = p; is_of = is_of; are = are }

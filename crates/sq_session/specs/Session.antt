@@ -1,11 +1,10 @@
 -- A session.
-use Rattle.std.specs.Prelude.{◌≡◌, ℕ, Bool, ◌&&◌, List, map, nat_eq, position, Option, Some}
+use Rattle.std.specs.Prelude.{◌≡◌, ℕ, Bool, ◌&&◌, List, map, nat_eq, position, Option}
 use Rattle.std.specs.Cmp.Lexicographic.{pointwise}
 use Rattle.std.specs.Result.{result_map_both}
 use Rattle.sq_lex.specs.declared.name.Name.{Name}
 use Rattle.sq_tree.specs.declared.module.ModuleText.{ModuleText}
-use Rattle.sq_bound.specs.Known.{KnownTable, KnownTables}
-use Rattle.sq_bound.specs.declared.condition.TablePlace.TheVariants.{Base}
+use Rattle.sq_bound.specs.Known.{KnownTables}
 use Rattle.sq_catalog.specs.Catalog.{table_number}
 use Rattle.sq_catalog.specs.declared.catalog.FullName.{FullName}
 use Rattle.sq_module.specs.declared.program.BoundProcedure.{BoundProcedure}
@@ -54,15 +53,9 @@ name_of p = record { «module» = p.«module»; name = p.name }
 abbrev pub names_of : List Procedure → List ProcedureName
 names_of procedures = map name_of procedures
 
--- a table that has a place among the base tables is known under its name by that place
-abbrev pub KnowBases : List FullName → KnownTables → Type 0
-KnowBases tables known = (user name : Name) (place : ℕ) → table_number tables user name ≡ Some place → (t : KnownTable) × (known user name ≡ Some t) × (t.place ≡ Base place)
-
 -- the procedures are those of a program that is bound from these modules over base tables of these names (12.1 and 12.3), where the
--- names of tables and views mean one thing throughout
-pub record AreOfModules (tables : List FullName) (modules : List ModuleText) (procedures : List Procedure) : Type 0 where
+-- names of tables and views mean this
+pub record AreOfModules (tables : List FullName) (known : KnownTables) (modules : List ModuleText) (procedures : List Procedure) : Type 0 where
   pub program : Program
-  pub known : KnownTables
-  pub bases : KnowBases tables known
   pub is_of : IsOfTexts (record { base_number = table_number tables; known = known }) modules program
   pub are : procedures ≡ procedures_of program.cursors.items program.procedures.entries

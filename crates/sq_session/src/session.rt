@@ -4,7 +4,7 @@ ghost use Rattle.std.specs.Prelude.{◌≡◌, ◌<◌, false, true, length, map
 ghost use Rattle.sq_store.specs.Content.{table_at};
 ghost use Rattle.sq_module.specs.Refusal.{IsOfSomeModule};
 ghost use Rattle.sq_session.specs.Lent.{lent};
-ghost use Rattle.sq_catalog.specs.Catalog.{table_number};
+ghost use Rattle.sq_catalog.specs.Catalog.{known, table_number};
 ghost use Rattle.sq_session.specs.Kind.{fault_at, fits_at, kind_at, needs_memory};
 ghost use Rattle.std.specs.Map.{keys_of};
 ghost use Rattle.sq_bound.specs.Fits.{AreInDomains, keys_of_bases};
@@ -90,7 +90,7 @@ impl<S: Store> Session<S> {
             s.state.cursors) }
         ensures numbers { IfOk result (λ s. s.state.row_numbers ≡ S.row_numbers store) }
         ensures procedures { IfOk result (λ s. names_of s.procedures ≡ declared_procedures modules.now) }
-        ensures written { IfOk result (λ s. AreOfModules catalog.tables modules.now s.procedures) }
+        ensures written { IfOk result (λ s. AreOfModules catalog.tables (known catalog) modules.now s.procedures) }
         ensures tables { IfOk result (λ s. s.tables ≡ catalog.tables) }
         ensures schemas { IfOk result (λ s. s.schemas ≡ schemas_of catalog) }
         ensures refused { IfErr result (IsOfSomeModule (length modules.now)) }

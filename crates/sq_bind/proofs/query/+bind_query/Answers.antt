@@ -1,3 +1,4 @@
+use Rattle.sq_select.specs.Names.{names_placed}
 use Rattle.sq_bind.proofs.Spelled as spelled
 use Rattle.std.proofs.Common.{Ok, ap, subst, sym, take, ◌∙◌}
 use Rattle.std.specs.Prelude.{IfOk}
@@ -10,8 +11,8 @@ use Rattle.sq_meaning.specs.Status.{and_then}
 use Rattle.sq_meaning.specs.Syntax.{specification}
 use Rattle.sq_select.proofs.WrittenQuery.{select_text}
 use Rattle.sq_select.specs.Placed.{around, select_placed}
-use Rattle.sq_bind.specs.Spelled.{JoinedIs, TermIs}
-use Rattle.sq_bind.specs.Written.{query_placed}
+use Rattle.sq_bind.specs.Spelled.{JoinedIs, JoinedNamed, TermIs, TermNamed}
+use Rattle.sq_bind.specs.Written.{query_names_placed, query_placed}
 use Rattle.std.proofs.Common.{[]}
 use Rattle.std.proofs.lemmas.Result.{IfOk-weaker}
 use Rattle.sq_bound.specs.WellFormed.{IsSelect, kinds_of_parameters}
@@ -30,6 +31,11 @@ bind_query-loop-union-init g t c = (
       let first = query_term_of environment.user (out-Query c.args.query.now).first in
       subst (λ q. IfOk c.started-joined.result (JoinedIs (query_placed a q))) (sym (spelled.query_begun environment.user c.args.query.now c.as_slice-union-items.result.now))
       (c.started-joined.ensures.written (query_placed a first) c.bind_query_term-first.ensures.written)),
+  (let own = c.args.environment.now.user in
+      let known = g.N.Names.known c.args.names.now in
+      let first = query_term_of own (out-Query c.args.query.now).first in
+      subst (λ q. IfOk c.started-joined.result (JoinedNamed (query_names_placed known q))) (sym (spelled.query_begun own c.args.query.now c.as_slice-union-items.result.now))
+      (c.started-joined.ensures.names (query_names_placed known first) c.bind_query_term-first.ensures.names)),
 )
 
 pub bind_query-loop-union-preserved : goal.bind_query-loop-union-preserved
@@ -44,6 +50,14 @@ bind_query-loop-union-preserved g t c = (
       let item = c.union-item.result in
       subst (λ q. IfOk c.with_union-joined.result (JoinedIs (query_placed a q))) (sym (spelled.query_next own c.args.query.now items index item c.loop-union-test.true (sym c.union-item.is)))
       (c.with_union-joined.ensures.written (query_placed a (spelled.so_far own c.args.query.now (take index items))) (query_placed a (query_term_of own item.term)) c.loop-union.invariant.2 c.bind_query_term-term.ensures.written)),
+  (let known = g.N.Names.known c.args.names.now in
+      let own = c.args.environment.now.user in
+      let items = c.as_slice-union-items.result.now in
+      let index = c.loop-union.union-index in
+      let item = c.union-item.result in
+      subst (λ q. IfOk c.with_union-joined.result (JoinedNamed (query_names_placed known q))) (sym (spelled.query_next own c.args.query.now items index item c.loop-union-test.true (sym c.union-item.is)))
+      (c.with_union-joined.ensures.names (query_names_placed known (spelled.so_far own c.args.query.now (take index items))) (query_names_placed known (query_term_of own item.term)) c.loop-union.invariant.3
+      c.bind_query_term-term.ensures.names)),
 )
 
 pub bind_query-returns-clause-well_formed : goal.bind_query-returns-clause-well_formed
@@ -97,3 +111,27 @@ bind_query_term-returns-in-Bracketed-clause-written g t c =
     subst (λ text. IfOk c.bracketed_term.result (TermIs (query_placed a text)))
     (sym (ap (query_term_of own) (c.in-Bracketed.is ∙ ap term.Bracketed (sym c.get.ensures)) ∙ query_term_of-Bracketed own q))
     (c.bracketed_term.ensures.written (query_placed a (query_of own q)) c.bind_query-query.ensures.written)
+
+pub bind_query-returns-clause-names : goal.bind_query-returns-clause-names
+bind_query-returns-clause-names g t c =
+    subst (λ q. IfOk c.loop-union.joined (JoinedNamed (query_names_placed (g.N.Names.known c.args.names.now) q)))
+    (spelled.query_whole c.args.environment.now.user c.args.query.now c.as_slice-union-items.result.now c.loop-union.union-index c.as_slice-union-items.ensures c.loop-union-test.false) c.loop-union.invariant.3
+
+pub bind_query_term-returns-in-Specification-clause-names : goal.bind_query_term-returns-in-Specification-clause-names
+bind_query_term-returns-in-Specification-clause-names g t c =
+    let known = g.N.Names.known c.args.names.now in
+    let own = c.args.environment.now.user in
+    let q = c.in-Specification.query in
+    subst (λ text. IfOk c.specification_term.result (TermNamed (query_names_placed known text)))
+    (sym (ap (query_term_of own) c.in-Specification.is ∙ query_term_of-Specification own q))
+    (subst (λ text. IfOk c.specification_term.result (TermNamed (names_placed known text))) (sym (select_text own q))
+    (c.specification_term.ensures.names (names_placed known (let o = out-QuerySpecification q in select_of_parts own o.quantifier o.list o.table)) c.bind_select-query.ensures.names))
+
+pub bind_query_term-returns-in-Bracketed-clause-names : goal.bind_query_term-returns-in-Bracketed-clause-names
+bind_query_term-returns-in-Bracketed-clause-names g t c =
+    let known = g.N.Names.known c.args.names.now in
+    let own = c.args.environment.now.user in
+    let q = c.get.result.now in
+    subst (λ text. IfOk c.bracketed_term.result (TermNamed (query_names_placed known text)))
+    (sym (ap (query_term_of own) (c.in-Bracketed.is ∙ ap term.Bracketed (sym c.get.ensures)) ∙ query_term_of-Bracketed own q))
+    (c.bracketed_term.ensures.names (query_names_placed known (query_of own q)) c.bind_query-query.ensures.names)

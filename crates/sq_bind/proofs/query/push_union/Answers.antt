@@ -1,3 +1,4 @@
+use Rattle.sq_bind.specs.declared.query.Joined.{Joined}
 use Rattle.sq_bind.proofs.Spelled as spelled
 use Rattle.std.proofs.Common.{Ok}
 use Rattle.sq_meaning.specs.Status.{and_then}
@@ -40,3 +41,8 @@ returns-clause-written c = λ left right h k.
     on_kept (JoinedIs (and_then left (λ x. and_then right (λ y. Ok (union c.args.all x y))))) c.kept.result _ c.match-pushed.test c.kept.ensures.part c.kept.ensures.test
     (λ e. (λ i. and_then (h i) (λ x. and_then (k i) (λ y. Ok (union c.args.all x y))))
     ∙ ap Ok (sym (spelled.further_query c.args.joined.query _ last (ap (λ o. o.first) (out-roll-BoundQuery _)) (ap (λ o. o.rest) (out-roll-BoundQuery _) ∙ pushed e))))
+
+pub returns-clause-columns : goal.returns-clause-columns
+returns-clause-columns c =
+    on_kept (λ (j : Joined). (out-BoundQuery j.query).columns ≡ c.args.columns) c.kept.result _ c.match-pushed.test c.kept.ensures.part c.kept.ensures.test
+    (λ passed. ap (λ o. o.columns) (out-roll-BoundQuery _))

@@ -1,7 +1,10 @@
+use Rattle.std.proofs.Common.{[], ap, map, sym, ◌∙◌}
+use Rattle.sq_meaning.specs.SortKeys.{sort_columns}
+use Rattle.sq_bind.specs.Written.{sort_meant}
 use Rattle.std.proofs.Common.{Ok}
 use Rattle.sq_meaning.specs.Status.{and_then}
 use Rattle.sq_meaning.specs.Syntax.{specification}
-use Rattle.sq_bind.specs.Spelled.{JoinedIs}
+use Rattle.sq_bind.specs.Spelled.{JoinedIs, JoinedNamed}
 use Rattle.sq_bind.specs.Numbering.{QueryNumbering}
 use Rattle.sq_bind.specs.WellFormed.{IsJoined}
 use Rattle.sq_bind.proofs.Joins.{on_value}
@@ -20,3 +23,8 @@ pub returns-clause-rows : goal.returns-clause-rows
 returns-clause-rows c = λ text h.
     let query = and_then text (λ s. Ok (specification s)) in
     c.rows_cursor.ensures.rows query (on_value (JoinedIs query) c.started.result c.in_ok-joined.joined c.in_ok-joined.was (c.started.ensures.written query (c.specification_term.ensures.written text h)))
+
+pub returns-clause-order : goal.returns-clause-order
+returns-clause-order c = λ text h.
+    let named = on_value (JoinedNamed text) c.started.result c.in_ok-joined.joined c.in_ok-joined.was (c.started.ensures.names text (c.specification_term.ensures.names text h)) in
+    c.rows_cursor.ensures.order text [] (ap (λ o. and_then o (λ names. sort_columns names [])) named ∙ ap (λ sorts. Ok (map sort_meant sorts)) (sym c.new.ensures))

@@ -1,3 +1,6 @@
+use Rattle.std.proofs.Common.{List, Ok, map, ◌∙◌}
+use Rattle.sq_bound.specs.declared.query.SortColumn.{SortColumn}
+use Rattle.sq_bind.specs.Written.{sort_meant}
 use Rattle.std.proofs.Common.{◌≡◌, ap, rules, subst}
 use Rattle.sq_bound.specs.Numbered.{AreNumbered}
 use Rattle.sq_bound.specs.NumberedQuery.{QueryWith}
@@ -15,3 +18,8 @@ pub returns-clause-numbered : goal.returns-clause-numbered
 returns-clause-numbered c = λ a b h.
     let same : c.args.query ≡ c.in_ok-query.query = search rules in
     (a, (b, subst (AreNumbered QueryWith a b) same h))
+
+pub returns-clause-order : goal.returns-clause-order
+returns-clause-order c = λ text by h.
+    let same : c.args.sorts ≡ c.in_ok-query.sorts = search rules in
+    h ∙ ap (λ (sorts : List SortColumn). Ok (map sort_meant sorts)) same

@@ -1,3 +1,4 @@
+use Rattle.sq_select.specs.Names.{NamesAre, names_of}
 use Rattle.std.proofs.Common.{Ok, sym}
 use Rattle.sq_meaning.specs.Status.{and_then}
 use Rattle.sq_meaning.specs.Syntax.{specification}
@@ -39,3 +40,10 @@ returns-clause-written c = λ text h.
     let same : found.part ≡ query = cc (c.in_ok-query.ensures.0) in
     ap (λ o. and_then o (λ s. Ok (specification s))) (on_value (Being (SelectIs text)) c.args.query found c.in_ok-found.was h)
     ∙ ap (λ q. Ok (specification (select_of q))) same ∙ ap Ok (sym (term_of-Specification query))
+
+pub returns-clause-names : goal.returns-clause-names
+returns-clause-names c = λ text h.
+    let found = c.in_ok-found.found in
+    let columns : c.in_ok-query.columns ≡ (out-BoundSpecification found.part).columns =
+    on_value (λ (copy : List ResultColumn). copy ≡ (out-BoundSpecification found.part).columns) c.copied-columns.result c.in_ok-query.columns c.in_ok-query.ensures.1 c.copied-columns.ensures in
+    on_value (Being (NamesAre text)) c.args.query found c.in_ok-found.was h ∙ ap (λ cs. Ok (names_of cs)) (sym columns)

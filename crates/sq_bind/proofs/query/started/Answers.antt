@@ -1,6 +1,7 @@
+use Rattle.sq_select.specs.Names.{names_of}
 use Rattle.sq_bind.proofs.Spelled as spelled
 use Rattle.std.proofs.Common.{Ok, ap, sym, ◌∙◌}
-use Rattle.sq_bind.specs.Spelled.{TermIs}
+use Rattle.sq_bind.specs.Spelled.{TermIs, TermNamed}
 use Rattle.sq_bind.proofs.Numbering.{first_numbering}
 use Rattle.sq_bind.specs.Numbering.{TermNumbering}
 use Rattle.std.proofs.Common.{ap, ◌∙◌}
@@ -24,3 +25,7 @@ returns-clause-written c = λ text h.
     let term = c.in_ok-term.field-0 in
     on_value (TermIs text) c.args.term term c.in_ok-term.was h
     ∙ ap Ok (sym (spelled.first_query _ term.term (ap (λ o. o.first) (out-roll-BoundQuery _)) (ap (λ o. o.rest) (out-roll-BoundQuery _) ∙ c.new.ensures)))
+
+pub returns-clause-names : goal.returns-clause-names
+returns-clause-names c = λ text h.
+    on_value (TermNamed text) c.args.term c.in_ok-term.field-0 c.in_ok-term.was h ∙ ap (λ o. Ok (names_of o.columns)) (sym (out-roll-BoundQuery _))

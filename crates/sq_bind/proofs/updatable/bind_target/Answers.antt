@@ -10,6 +10,7 @@ use Rattle.sq_bound.specs.declared.query.Target.{Target}
 use Rattle.sq_scope.specs.declared.findings.Found.{Found}
 use Rattle.sq_select.specs.Placed.{around, clause_placed, inside}
 use Rattle.sq_select.specs.Written.{ClauseIs}
+use Rattle.sq_select.proofs.Written as written
 use Rattle.sq_bind.proofs.Spelled as spelled
 use Rattle.sq_bind.proofs.updatable.bind_target.Goals as goal
 
@@ -20,9 +21,10 @@ returns-clause-written g c =
     let inner = c.within.result in
     let item = c.args.item.now in
     let text = clause_placed (inside (item ∷ []) (around known environment)) (present (cond_of environment.user c.in-Some.cond.now)) in
-    let is = spelled.target_is known environment inner item c.from_ref.result.now c.in-Some.cond.now c.bind_cond-condition.new.functions.calls c.bind_cond-condition.result c.in_ok-part.field-0 c.in_ok-part.was
+    let is = written.clause_is [] (inside (item ∷ []) (around known environment)) c.in_ok-part.field-0.part (cond_of environment.user c.in-Some.cond.now)
+    (spelled.cond_within known environment inner item c.from_ref.result.now c.in-Some.cond.now c.bind_cond-condition.new.functions.calls c.bind_cond-condition.result c.in_ok-part.field-0 c.in_ok-part.was
     (c.within.ensures.scopes ∙ c.scope_over.ensures.scopes) c.within.ensures.parameters c.within.ensures.user c.from_ref.ensures.value
-    (c.bind_cond-condition.ensures.grows.2 c.forbidden-functions.ensures.allowed ∙ c.forbidden-functions.ensures.calls) c.bind_cond-condition.ensures.written in
+    (c.bind_cond-condition.ensures.grows.2 c.forbidden-functions.ensures.allowed ∙ c.forbidden-functions.ensures.calls) c.bind_cond-condition.ensures.written) in
     subst (λ (o : Option (Bor Cond)). IfOk c.whole_target-2.result (λ (found : Found Target). ClauseIs [] (clause_placed (inside (item ∷ []) (around known environment)) (clause (option_map (λ (c : Bor Cond). cond_of environment.user c.now) o))) found.part.condition)) (sym c.in-Some.is)
     (IfOk-weaker c.whole_target-2.result (λ (found : Found Target). found.part.condition ≡ Some c.in_ok-part.field-0.part) (λ (found : Found Target). ClauseIs [] text found.part.condition)
     (λ found same. subst (ClauseIs [] text) (sym same) is) c.whole_target-2.ensures.condition)

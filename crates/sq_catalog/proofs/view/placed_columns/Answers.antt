@@ -1,10 +1,18 @@
-use Rattle.std.proofs.Common.{refl}
+use Rattle.std.proofs.Common.{map, refl, ap, ◌∙◌}
+use Rattle.sq_bound.specs.declared.names.Column.{Column}
+use Rattle.sq_catalog.proofs.Listed.{copied_next}
 use Rattle.sq_catalog.proofs.Seen.{column_next, kind_read, kinds_zipped}
 use Rattle.sq_catalog.proofs.view.placed_columns.Goals as goal
 
 pub loop-position-preserved : goal.loop-position-preserved
-loop-position-preserved c = λ base over.
-    column_next (λ x. x.kind) c.args.columns.now base c.loop-position.placed c.push.new.self c.loop-position.position c.index-columns-position.result _
-    c.loop-position-test.true c.index-columns-position.is c.in_ok-push.ensures.ok refl
-    (kind_read base _ c.index-columns-position.result.kind (kinds_zipped (λ x. x.kind) base c.args.below.now c.args.columns.now c.loop-position.position c.index-columns-position.result 0 over c.loop-position-test.true c.index-columns-position.is))
-    (c.loop-position.invariant base over)
+loop-position-preserved c = record {
+  columns = λ base over.
+      column_next (λ x. x.kind) c.args.columns.now base c.loop-position.placed c.push.new.self c.loop-position.position c.index-columns-position.result _
+      c.loop-position-test.true c.index-columns-position.is c.in_ok-push.ensures.ok refl
+      (kind_read base _ c.index-columns-position.result.kind (kinds_zipped (λ x. x.kind) base c.args.below.now c.args.columns.now c.loop-position.position c.index-columns-position.result 0 over c.loop-position-test.true c.index-columns-position.is))
+      (c.loop-position.invariant.columns base over);
+  names =
+      ap (map (λ (x : Column). x.name)) c.in_ok-push.ensures.ok
+      ∙ copied_next (λ (x : Column). x.name) (λ (x : Column). x.name) c.loop-position.placed _ c.args.columns.now c.loop-position.position c.index-columns-position.result
+      c.loop-position-test.true c.index-columns-position.is c.loop-position.invariant.names refl;
+}

@@ -1,3 +1,5 @@
+use Rattle.sq_select.proofs.Names as names
+use Rattle.sq_select.specs.Names.{list_names, names_of}
 use Rattle.sq_select.proofs.WrittenQuery as query
 use Rattle.sq_tree.specs.declared.cond.Body.TheVariants as body
 use Rattle.sq_tree.specs.declared.cond.QuerySpecification.{out-QuerySpecification}
@@ -553,3 +555,12 @@ bind_select-returns-clause-written g t c =
           (written.selected_more c.select_list-selected.new.functions.calls calls (list_placed (inside c.as_slice-3.result.now a) text.list) c.select_list-selected.result c.bind_having-having.ensures.grows.0 (c.select_list-selected.ensures.written known));
       having = subst (λ items. IfOk c.bind_having-having.result (Being (ClauseIs calls (clause_placed (inside items a) text.having)))) c.as_slice-4.ensures c.bind_having-having.ensures.written;
     }))
+
+pub bind_select-returns-clause-names : goal.bind_select-returns-clause-names
+bind_select-returns-clause-names g t c =
+    let own = c.args.environment.now.user in
+    let items = c.in_ok-items.field-0.items in
+    let list = list_of c.args.list.now in
+    names.select_named (g.N.Names.known c.args.names.now) own c.args.quantifier c.args.list.now c.args.table.now c.in_ok-items.field-0.tables items c.make_specification.result c.in_ok-items.ensures.written
+    (c.make_specification.ensures.names (list_names items list)
+    (subst (λ items. IfOk c.select_list-selected.result (λ s. names_of s.columns ≡ list_names items list)) c.as_slice-3.ensures c.select_list-selected.ensures.names))

@@ -1,3 +1,7 @@
+use Rattle.sq_select.proofs.Names as names
+use Rattle.std.proofs.Common.{◌≡◌}
+use Rattle.std.specs.List.{flat_map}
+use Rattle.sq_select.specs.Names.{item_names, names_of}
 use Rattle.sq_select.proofs.WrittenQuery as query
 use Rattle.std.proofs.Common.{Ok}
 use Rattle.sq_select.specs.Placed.{all_placed}
@@ -30,3 +34,9 @@ returns-clause-written c = λ calls outer.
     let after = c.push_items-pushed.new.selected in
     kept_with (λ (s : SelectedList). ExprsAre calls (Ok (all_placed (c.args.items.now ∷ outer))) s.exprs) after c.push_items-pushed.result c.kept.result c.kept.ensures.part c.kept.ensures.test
     (query.all_pushed calls c.args.items.now c.no_columns-selected.result.exprs after.exprs c.push_items-pushed.result c.no_columns-selected.ensures.exprs c.push_items-pushed.ensures.written)
+
+pub returns-clause-names : goal.returns-clause-names
+returns-clause-names c =
+    let after = c.push_items-pushed.new.selected in
+    kept_with (λ (s : SelectedList). names_of s.columns ≡ flat_map item_names c.args.items.now) after c.push_items-pushed.result c.kept.result c.kept.ensures.part c.kept.ensures.test
+    (names.all_named c.args.items.now c.no_columns-selected.result.columns after.columns c.push_items-pushed.result c.no_columns-selected.ensures.columns c.push_items-pushed.ensures.names)

@@ -1,3 +1,7 @@
+use Rattle.sq_select.proofs.Names as names
+use Rattle.std.proofs.Common.{◌≡◌, ◌+◌}
+use Rattle.sq_meaning.specs.SortKeys.{item_name}
+use Rattle.sq_select.specs.Names.{names_of}
 use Rattle.sq_select.proofs.Written as written
 use Rattle.sq_select.proofs.WrittenQuery as query
 use Rattle.sq_scope.specs.Reach.{MayReach, outward}
@@ -41,6 +45,8 @@ loop-expr-init c = (
       let first = expr_of c.args.list.now.first in
       c.with_column-selected.ensures.written calls (Ok []) (expr_placed (around known environment) first) (query.none_selected calls c.no_columns.result.exprs c.no_columns.ensures.exprs)
       (written.typed_is (scopes_in environment) environment.parameters.now calls first c.bind_expr-first.result c.bind_expr-first.ensures.bound)),
+  names.item_of_list [] c.name_of.result c.args.list.now.first [] (c.args.list.now.first ∷ []) c.with_column-selected.result c.name_of.ensures refl refl
+      (c.with_column-selected.ensures.names [] (names.none_named c.no_columns.result.columns c.no_columns.ensures.columns)),
 )
 
 pub loop-expr-preserved : goal.loop-expr-preserved
@@ -73,6 +79,13 @@ loop-expr-preserved c = (
       (c.with_column-selected-in-loop-expr.ensures.written calls texts (expr_placed a (expr_of item))
       (written.selected_more before calls texts c.loop-expr.selected c.bind_expr-item.ensures.grows.0 (c.loop-expr.invariant.6 known))
       (written.typed_is (scopes_in environment) environment.parameters.now calls (expr_of item) c.bind_expr-item.result c.bind_expr-item.ensures.bound))),
+  (let first = c.args.list.now.first in
+      let items = c.as_slice-expr-items.result.now in
+      let index = c.loop-expr.expr-index in
+      let item = c.expr-item.result in
+      let before = map item_name (map expr_of (first ∷ take index items)) in
+      names.item_of_list before c.name_of-in-loop-expr.result item (first ∷ take index items) (first ∷ take (index + 1) items) c.with_column-selected-in-loop-expr.result c.name_of-in-loop-expr.ensures
+      (written.texts_next expr_of first items index item c.loop-expr-test.true (sym c.expr-item.is)) refl (c.with_column-selected-in-loop-expr.ensures.names before c.loop-expr.invariant.7)),
 )
 
 pub returns-clause-well_formed : goal.returns-clause-well_formed
@@ -98,3 +111,8 @@ returns-clause-written c = λ known.
     subst (λ o. IfOk c.loop-expr.selected (λ s. ExprsAre c.loop-expr.functions.calls o s.exprs))
     (ap (each (expr_placed (around known c.args.environment.now))) (written.texts_whole expr_of c.args.list.now.first c.as_slice-expr-items.result.now c.args.list.now.rest c.loop-expr.expr-index c.as_slice-expr-items.ensures c.loop-expr-test.false))
     (c.loop-expr.invariant.6 known)
+
+pub returns-clause-names : goal.returns-clause-names
+returns-clause-names c =
+    subst (λ texts. IfOk c.loop-expr.selected (λ s. names_of s.columns ≡ map item_name texts))
+    (written.texts_whole expr_of c.args.list.now.first c.as_slice-expr-items.result.now c.args.list.now.rest c.loop-expr.expr-index c.as_slice-expr-items.ensures c.loop-expr-test.false) c.loop-expr.invariant.7

@@ -1,3 +1,6 @@
+use Rattle.std.proofs.Common.{◌≡◌}
+use Rattle.sq_meaning.specs.SortKeys.{item_name}
+use Rattle.sq_select.specs.Names.{names_of}
 use Rattle.std.proofs.Common.{◌∷◌, map, take}
 use Rattle.sq_bound.specs.Known.{KnownTables}
 use Rattle.sq_meaning.specs.Spelled.{expr_of}
@@ -21,3 +24,4 @@ invariant-loop-expr l = ((kinds : TableKinds) → IfOk l.selected (IsListIn kind
     × (AreNotedFunctions l.fn.functions → AreNotedFunctions l.functions)
     × IfOk l.selected ListSure
     × ((known : KnownTables) → IfOk l.selected (λ s. ExprsAre l.functions.calls (each (expr_placed (around known l.environment)) (map expr_of (l.list.first ∷ take l.expr-index l.expr-items))) s.exprs))
+    × IfOk l.selected (λ s. names_of s.columns ≡ map item_name (map expr_of (l.list.first ∷ take l.expr-index l.expr-items)))

@@ -1,3 +1,5 @@
+use Rattle.sq_select.proofs.Names as names
+use Rattle.sq_select.specs.Names.{names_of}
 use Rattle.sq_select.specs.Placed.{clause_placed, inside, list_placed}
 use Rattle.sq_select.specs.Written.{Being, ClauseIs, ExprsAre, GroupsAre}
 use Rattle.sq_select.specs.declared.select.SelectedList.{SelectedList}
@@ -117,3 +119,11 @@ returns-clause-written c = λ a items text h.
       having = subst (λ (f : SetFunctions). ClauseIs f.calls (clause_placed (inside items a) text.having) d.having.part) same
           (IfOk-at_ok (Being (ClauseIs calls (clause_placed (inside items a) text.having))) conditions.1 h.having);
     })
+
+pub returns-clause-names : goal.returns-clause-names
+returns-clause-names c = λ shown h.
+    let s = c.args.parts in
+    let d = c.in_ok-condition in
+    let all = IfOk-at_ok (λ clauses. (c.both.result ≡ Ok clauses.0) × (c.both-2.result ≡ Ok clauses.1)) d.ensures.0 c.both-clauses.ensures in
+    let lists = IfOk-at_ok (λ parts. (s.groups ≡ Ok parts.0) × (s.selected ≡ Ok parts.1)) all.1 c.both-2.ensures in
+    names.list_kept c.whole_specification.result d.selected shown (IfOk-at_ok (λ (l : SelectedList). names_of l.columns ≡ shown) lists.1 h) c.whole_specification.ensures.columns

@@ -1,3 +1,4 @@
+use Rattle.sq_select.specs.Names.{item_names, names_of}
 use Rattle.std.proofs.Common.{◌++◌, map, take}
 use Rattle.std.specs.List.{enumerate_from, flat_map}
 use Rattle.sq_bound.specs.Expression.{PlacedExpr, expr_of}
@@ -22,3 +23,4 @@ invariant-loop-number l =
     × (ListReaching l.fn.selected → ListReaching l.selected)
     × (ListSure l.fn.selected → ListSure l.selected)
     × ((functions : List PlacedExpr) → map (expr_of functions) l.selected.exprs ≡ map (expr_of functions) l.fn.selected.exprs ++ flat_map columns_placed (enumerate_from 0 (take l.number l.items)))
+    × (names_of l.selected.columns ≡ names_of l.fn.selected.columns ++ flat_map item_names (take l.number l.items))

@@ -1,3 +1,5 @@
+use Rattle.sq_select.proofs.Names as names
+use Rattle.sq_select.specs.Names.{names_of}
 use Rattle.sq_select.proofs.WrittenQuery as query
 use Rattle.sq_meaning.specs.Sure.{is_sure_expr}
 use Rattle.sq_bound.proofs.ExpressionLaws.{expr_of-Column}
@@ -16,7 +18,7 @@ use Rattle.sq_select.proofs.Columns.{column_is, zip_more}
 use Rattle.sq_select.proofs.select.push_table.Goals as goal
 
 pub loop-column-init : goal.loop-column-init
-loop-column-init c = ((λ kinds parameters tables levels calls t at over before. before), refl, (λ before. before), (λ before. before), (λ functions. sym (append-nil (map (expr_of functions) c.args.selected.now.exprs))))
+loop-column-init c = ((λ kinds parameters tables levels calls t at over before. before), refl, (λ before. before), (λ before. before), (λ functions. sym (append-nil (map (expr_of functions) c.args.selected.now.exprs))), sym (append-nil (names_of c.args.selected.now.columns)))
 
 pub returns-in_err-push_column-clause-star : goal.returns-in_err-push_column-clause-star
 returns-in_err-push_column-clause-star c = c.push_column.ensures.star ∙ c.loop-column.invariant.1
@@ -51,6 +53,8 @@ loop-column-preserved c = (
       query.columns_next functions c.args.selected.now.exprs c.loop-column.selected.exprs c.push_column.new.selected.exprs (record { depth = 0; item = number; column = column.position })
       (map (query.column_shown number) (take index items)) (map (query.column_shown number) (take (index + 1) items)) c.in_ok-push_column.ensures.exprs (c.loop-column.invariant.4 functions)
       (query.map_next (query.column_shown number) items index column c.loop-column-test.true (sym c.column-item.is))),
+  names.shown_next (names_of c.args.selected.now.columns) c.loop-column.selected.columns c.push_column.new.selected.columns _ c.as_slice-column-items.result.now c.loop-column.column-index c.column-item.result
+      c.loop-column-test.true (sym c.column-item.is) c.in_ok-push_column.ensures.columns refl c.loop-column.invariant.5,
 )
 
 pub returns-clause-well_formed : goal.returns-clause-well_formed
@@ -70,3 +74,8 @@ returns-clause-written c = λ functions.
     c.loop-column.invariant.4 functions
     ∙ ap (λ l. map (expr_of functions) c.args.selected.now.exprs ++ map (query.column_shown c.args.number) l)
     (take_all c.loop-column.column-index c.as_slice-column-items.result.now c.loop-column-test.false ∙ c.as_slice-column-items.ensures)
+
+pub returns-clause-names : goal.returns-clause-names
+returns-clause-names c =
+    c.loop-column.invariant.5
+    ∙ ap (λ l. names_of c.args.selected.now.columns ++ map names.shown_name l) (take_all c.loop-column.column-index c.as_slice-column-items.result.now c.loop-column-test.false ∙ c.as_slice-column-items.ensures)

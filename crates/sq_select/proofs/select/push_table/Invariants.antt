@@ -1,3 +1,5 @@
+use Rattle.sq_select.proofs.Names.{shown_name}
+use Rattle.sq_select.specs.Names.{names_of}
 use Rattle.std.proofs.Common.{◌++◌, map, take}
 use Rattle.sq_bound.specs.Expression.{PlacedExpr, expr_of}
 use Rattle.sq_select.proofs.WrittenQuery.{column_shown}
@@ -21,3 +23,4 @@ invariant-loop-column l =
     × (ListReaching l.fn.selected → ListReaching l.selected)
     × (ListSure l.fn.selected → ListSure l.selected)
     × ((functions : List PlacedExpr) → map (expr_of functions) l.selected.exprs ≡ map (expr_of functions) l.fn.selected.exprs ++ map (column_shown l.number) (take l.column-index l.column-items))
+    × (names_of l.selected.columns ≡ names_of l.fn.selected.columns ++ map shown_name (take l.column-index l.column-items))

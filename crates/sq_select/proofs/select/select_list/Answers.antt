@@ -1,3 +1,5 @@
+use Rattle.std.proofs.Common.{◌≡◌}
+use Rattle.sq_select.specs.Names.{list_names, names_of}
 use Rattle.sq_select.proofs.WrittenQuery as query
 use Rattle.std.proofs.Common.{subst, sym}
 use Rattle.std.specs.Prelude.{IfOk}
@@ -53,3 +55,11 @@ returns-in-Items-clause-written c = λ known.
     (subst (λ (a : Around). IfOk c.listed_columns.result (λ s. ExprsAre calls (list_placed a (list_of (Items c.in-Items.list))) s.exprs))
     (query.around_inside known environment c.within.result items (c.within.ensures.scopes ∙ c.scope_over.ensures.scopes) c.within.ensures.parameters)
     (c.listed_columns.ensures.written known))
+
+pub returns-in-Star-clause-names : goal.returns-in-Star-clause-names
+returns-in-Star-clause-names c =
+    subst (λ l. IfOk c.all_columns.result (λ s. names_of s.columns ≡ list_names c.args.items.now (list_of l))) (sym c.in-Star.is) c.all_columns.ensures.names
+
+pub returns-in-Items-clause-names : goal.returns-in-Items-clause-names
+returns-in-Items-clause-names c =
+    subst (λ l. IfOk c.listed_columns.result (λ s. names_of s.columns ≡ list_names c.args.items.now (list_of l))) (sym c.in-Items.is) c.listed_columns.ensures.names

@@ -39,3 +39,6 @@ returns-clause-written c = λ a items text h.
     let can_fail = c.can_fail-can_fail.result in
     subst (λ groups. SelectIs (select_placed a (select text.distinct text.list text.from text.filter text.by text.having)) (specification s groups can_fail)) (sym c.grouping_if-grouping.ensures)
     (query.specification_written a items text s h c.in-Ok.is_grouped can_fail c.in-Ok.ensures.grouped_by c.in-Ok.ensures.rightly)
+
+pub returns-clause-columns : goal.returns-clause-columns
+returns-clause-columns c = ap (λ o. o.columns) (out-roll-BoundSpecification _)

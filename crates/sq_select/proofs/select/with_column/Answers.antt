@@ -1,3 +1,5 @@
+use Rattle.sq_select.proofs.Names as names
+use Rattle.sq_select.specs.Names.{names_of}
 use Rattle.sq_select.proofs.Written as written
 use Rattle.std.proofs.Common.{◌≡◌, [], ◌∷◌, ◌++◌, Ok}
 use Rattle.std.proofs.lemmas.Result.{IfOk-weaker}
@@ -63,3 +65,14 @@ returns-clause-written c = λ calls texts text h k.
     (IfOk-weaker c.push_column-pushed.result (λ u. after.exprs ≡ before.exprs ++ found.part.expr ∷ []) (λ u. P after)
     (λ u same. written.exprs_next calls before.exprs found.part.expr after.exprs texts text same (IfOk-at_ok (λ (s : SelectedList). ExprsAre calls texts s.exprs) c.in_ok-selected.ensures.0 h)
     (IfOk-at_ok (Being (TypedIs calls text)) c.in_ok-selected.ensures.1 k)) c.push_column-pushed.ensures.exprs)
+
+pub returns-clause-names : goal.returns-clause-names
+returns-clause-names c = λ shown h.
+    let before = c.in_ok-selected.selected in
+    let typed = c.in_ok-selected.item.part in
+    let after = c.push_column-pushed.new.selected in
+    let P : SelectedList → Type 0 = λ s. names_of s.columns ≡ shown ++ c.args.name ∷ [] in
+    kept_with P after c.push_column-pushed.result c.kept.result c.kept.ensures.part c.kept.ensures.test
+    (IfOk-weaker c.push_column-pushed.result (λ u. after.columns ≡ before.columns ++ record { name = c.args.name; kind = typed.kind; bounded = typed.bounded } ∷ []) (λ u. P after)
+    (λ u more. names.names_next before.columns (record { name = c.args.name; kind = typed.kind; bounded = typed.bounded }) after.columns shown more (IfOk-at_ok (λ (s : SelectedList). names_of s.columns ≡ shown) c.in_ok-selected.ensures.0 h))
+    c.push_column-pushed.ensures.columns)

@@ -1,6 +1,7 @@
-use Rattle.std.proofs.Common.{ap}
+use Rattle.std.proofs.Common.{ap, refl}
 use Rattle.sq_catalog.specs.Catalog.{Catalog}
 use Rattle.sq_catalog.proofs.Added.{refer_whole, stand_whole, whole_added}
+use Rattle.sq_catalog.proofs.GainsViews.{views_beside}
 use Rattle.sq_catalog.proofs.catalog.Catalog.add_base.Goals as goal
 
 pub invariant_of-self-inside : goal.invariant_of-self-inside
@@ -21,3 +22,8 @@ invariant_of-self c =
     let same = ap (λ (s : Catalog). s.bases) c.self.view_is in
     whole_added c.insert_base.result c.self.inside.views.entries c.args.self.now.bases c.self.inside.base_tables.items c.insert_base.new.bases.items c.self.inside.bases.entries c.insert_base.new.tables.entries
     c.args.name c.args.table c.args.base c.insert_base.ensures.added c.insert_base.ensures.bases c.insert_base.ensures.unchanged same c.requires.next c.self.invariant
+
+pub returns-clause-views : goal.returns-clause-views
+returns-clause-views c =
+    views_beside c.insert_base.result c.args.self.now _ c.self.inside.bases.entries c.insert_base.new.tables.entries c.args.name c.args.table c.requires.new
+    (ap (λ (s : Catalog). s.tables) c.self.view_is) (ap (λ (s : Catalog). s.columns) c.self.view_is) refl refl (ap (λ (s : Catalog). s.view_names) c.self.view_is) (ap (λ (s : Catalog). s.view_columns) c.self.view_is) (ap (λ (s : Catalog). s.views) c.self.view_is) c.insert_base.ensures.added

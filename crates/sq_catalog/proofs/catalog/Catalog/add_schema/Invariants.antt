@@ -1,6 +1,9 @@
 use Rattle.std.proofs.Common.{take, flat_map}
-use Rattle.sq_catalog.specs.Catalog.{Gains, table_in}
+use Rattle.sq_catalog.specs.Catalog.{Gains, definition_in, table_in}
+use Rattle.sq_catalog.specs.Views.{GainsViews, view_in}
 use Rattle.sq_catalog.proofs.catalog.Catalog.add_schema.Given as goal
 
 abbrev pub invariant-loop-number : goal.invariant-loop-number
-invariant-loop-number l = Gains l.fn.self l.self (flat_map (table_in l.user) (take l.number l.definition.elements))
+invariant-loop-number l =
+    Gains l.fn.self l.self (flat_map (table_in l.user) (take l.number l.definition.elements)) (flat_map definition_in (take l.number l.definition.elements))
+    × GainsViews l.fn.self l.self (flat_map (view_in l.user) (take l.number l.definition.elements))

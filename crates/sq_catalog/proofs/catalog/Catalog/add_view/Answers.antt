@@ -1,9 +1,11 @@
-use Rattle.std.proofs.Common.{List, ap, subst, sym}
+use Rattle.std.proofs.Common.{List, ap, refl, subst, sym}
 use Rattle.sq_bound.specs.declared.names.BaseTable.{BaseTable}
 use Rattle.sq_catalog.specs.Catalog.{Catalog}
 use Rattle.sq_catalog.specs.Stored.{IsNamed, IsStored}
 use Rattle.sq_catalog.proofs.Added.{stand_added}
 use Rattle.sq_catalog.proofs.Extending.{tables_beside, view_beside}
+use Rattle.sq_catalog.proofs.Gains.{gains_kept}
+use Rattle.sq_catalog.proofs.GainsViews.{adds_view}
 use Rattle.sq_catalog.proofs.Listed.{all_inserted}
 use Rattle.sq_catalog.proofs.ViewQueries.{stand_all}
 use Rattle.sq_catalog.proofs.catalog.Catalog.add_view.Goals as goal
@@ -40,3 +42,11 @@ invariant_of-self-inside c =
         tt,
       ),
     )
+
+pub returns-clause-tables : goal.returns-clause-tables
+returns-clause-tables c = gains_kept c.args.self.now _ (ap (λ (s : Catalog). s.tables) c.self.view_is) (ap (λ (s : Catalog). s.columns) c.self.view_is) (ap (λ (s : Catalog). s.bases) c.self.view_is)
+
+pub returns-clause-views : goal.returns-clause-views
+returns-clause-views c =
+    adds_view c.insert_table.result c.args.self.now _ c.self.inside.views.entries c.insert_table.new.tables.entries c.args.name c.args.table
+    (ap (λ (s : Catalog). s.view_names) c.self.view_is) (ap (λ (s : Catalog). s.view_columns) c.self.view_is) (ap (λ (s : Catalog). s.views) c.self.view_is) refl refl refl c.insert_table.ensures.added

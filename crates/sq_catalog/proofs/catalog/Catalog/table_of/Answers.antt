@@ -8,12 +8,12 @@ use Rattle.sq_catalog.proofs.catalog.Catalog.table_of.Goals as goal
 pub described-requires-clause-columns : goal.described-requires-clause-columns
 described-requires-clause-columns c =
     let lent = ap kinds_of_columns c.as_slice-2.ensures in
-    columns_seen c.in-Ok.base c.in_ok-columns.columns (c.in-Ok.ensures.kinds ∙ lent ∙ c.in_ok-columns.ensures.kinds_are) c.in_ok-columns.ensures.places
+    columns_seen c.in-Ok.base c.in_ok-columns.columns (c.in-Ok.ensures.kinds ∙ lent ∙ c.in_ok-columns.ensures.over.kinds_are) c.in_ok-columns.ensures.over.places
 
 pub described-requires-clause-kinds : goal.described-requires-clause-kinds
 described-requires-clause-kinds c =
     let lent = ap kinds_of_columns c.as_slice-2.ensures in
-    kinds_seen c.in-Ok.base c.in_ok-columns.columns (c.in-Ok.ensures.kinds ∙ lent ∙ c.in_ok-columns.ensures.kinds_are) c.in_ok-columns.ensures.places
+    kinds_seen c.in-Ok.base c.in_ok-columns.columns (c.in-Ok.ensures.kinds ∙ lent ∙ c.in_ok-columns.ensures.over.kinds_are) c.in_ok-columns.ensures.over.places
 
 pub returns-in-Ok-clause-next : goal.returns-in-Ok-clause-next
 returns-in-Ok-clause-next c =

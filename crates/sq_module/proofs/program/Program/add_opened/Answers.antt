@@ -3,16 +3,13 @@ use Rattle.std.proofs.lemmas.List.{append-nil}
 use Rattle.sq_bind.specs.Written.{IsCursorOf}
 use Rattle.sq_bound.specs.WellFormed.{kinds_of_parameters}
 use Rattle.sq_bound.specs.declared.statement.BoundStatement.TheVariants as statement
-use Rattle.sq_catalog.specs.Catalog.{bases_there, column_kinds}
+use Rattle.sq_catalog.specs.Catalog.{column_kinds}
 use Rattle.sq_module.specs.Program.{OpensWellFormed}
 use Rattle.sq_module.specs.Written.{AreNumbers, IsCursorNamed, IsOpenedIn, IsStatementIn, meant_by}
 use Rattle.sq_module.specs.Refusal.{opened_by}
 use Rattle.sq_module.proofs.Apart.{new_found, opened_by_more, opens_last}
 use Rattle.sq_module.proofs.Written.{cursor_found}
 use Rattle.sq_module.proofs.program.Program.add_opened.Goals as goal
-
-pub bind_cursor-bound-requires : goal.bind_cursor-bound-requires
-bind_cursor-bound-requires c = bases_there c.args.catalog.now
 
 pub returns-in-Some-clause-opened : goal.returns-in-Some-clause-opened
 returns-in-Some-clause-opened c =

@@ -1,0 +1,108 @@
+-- What a text becomes stays the same where more tables are known.
+use Rattle.std.proofs.Common.{◌≡◌, List, [], ◌∷◌, Option, Some, None, Ok, ap, refl, ◌∙◌}
+use Rattle.std.specs.Option.{option_map}
+use Rattle.sq_lex.specs.declared.name.Name.{Name}
+use Rattle.sq_meaning.specs.Environment.{Place, TableReference}
+use Rattle.sq_meaning.specs.Placed.{Placed}
+use Rattle.sq_meaning.specs.Spelled.{Named}
+use Rattle.sq_meaning.specs.Status.{Outcome, and_then, each, well_formed}
+use Rattle.sq_meaning.specs.Syntax.{Cond, Conds, Clause, Select, SelectList, all_columns, expressions, compare, compare_subquery, compare_quantified, between, in_subquery, in_list, like, is_null, exists, negated, conjunction, disjunction, no_cond, a_cond, absent, present, select}
+use Rattle.sq_bound.specs.Condition.{PlacedCond, PlacedClause, PlacedSelect, compared_with}
+use Rattle.sq_bound.specs.Expression.{PlacedExpr}
+use Rattle.sq_bound.specs.Known.{KnownTable, KnownTables}
+use Rattle.sq_bound.specs.declared.condition.Compared.TheVariants.{Scalar}
+use Rattle.sq_bound.specs.declared.condition.TablePlace.{TablePlace}
+use Rattle.sq_scope.specs.Expression.{placed_column}
+use Rattle.sq_select.specs.Names.{list_names, names_placed}
+use Rattle.sq_select.specs.Placed.{Around, PlacedItem, clause_placed, compared_as, cond_placed, conds_placed, expr_placed, inside, item_over, item_placed, items_of, list_placed, select_placed, tables_of}
+use Rattle.sq_bind.proofs.Joins.{goes_on}
+
+-- what is known still is
+abbrev pub StillKnown : KnownTables → KnownTables → Type 0
+StillKnown less more = (user name : Name) (t : KnownTable) → less user name ≡ Some t → more user name ≡ Some t
+
+after : {A B : Type 0} (o p : Outcome A) (f g : A → Outcome B) (y : B) → ((x : A) → o ≡ Ok x → p ≡ Ok x) → ((x : A) → f x ≡ Ok y → g x ≡ Ok y) → and_then o f ≡ Ok y → and_then p g ≡ Ok y
+after o p f g y first next e =
+    let step = goes_on o f y e in
+    ap (λ o. and_then o g) (first step.0 step.1) ∙ next step.0 step.2
+
+each_stays : {A B : Type 0} (f g : A → Outcome B) → ((x : A) (y : B) → f x ≡ Ok y → g x ≡ Ok y) → (xs : List A) (ys : List B) → each f xs ≡ Ok ys → each g xs ≡ Ok ys
+each_stays f g keep [] ys e = e
+each_stays f g keep (x ∷ xs) ys e =
+    after (f x) (g x) (λ y. and_then (each f xs) (λ ys. Ok (y ∷ ys))) (λ y. and_then (each g xs) (λ ys. Ok (y ∷ ys))) ys (keep x)
+    (λ y. after (each f xs) (each g xs) (λ ys. Ok (y ∷ ys)) (λ ys. Ok (y ∷ ys)) ys (each_stays f g keep xs) (λ _ h. h)) e
+
+abbrev with : KnownTables → Around → Around
+with k a = record { known = k; parameters = a.parameters; scopes = a.scopes }
+
+module _ (less more : KnownTables) (keep : StillKnown less more) where
+  item_stays : (r : TableReference) (i : PlacedItem) → item_placed less r ≡ Ok i → item_placed more r ≡ Ok i
+  item_stays r i e = found (less r.table.user r.table.name) (keep r.table.user r.table.name) e
+    where
+      found : (o : Option KnownTable) → ((t : KnownTable) → o ≡ Some t → more r.table.user r.table.name ≡ Some t) → well_formed (option_map (item_over r) o) ≡ Ok i → item_placed more r ≡ Ok i
+      found (Some t) kept e = ap (λ o. well_formed (option_map (item_over r) o)) (kept t refl) ∙ e
+      found None kept e = cc
+
+  -- the names of a query specification's columns
+  pub names_stay : (s : Select Named) (names : List (Option Name)) → names_placed less s ≡ Ok names → names_placed more s ≡ Ok names
+  names_stay (select distinct list from filter by having) names e =
+      let all = λ (placed : List PlacedItem). Ok (list_names (items_of placed) list) in
+      after (each (item_placed less) from) (each (item_placed more) from) all all names (each_stays (item_placed less) (item_placed more) item_stays from) (λ _ h. h) e
+
+  list_stays : (a : Around) (list : SelectList Named) (x : List PlacedExpr) → list_placed (with less a) list ≡ Ok x → list_placed (with more a) list ≡ Ok x
+  list_stays a all_columns x e = e
+  list_stays a (expressions es) x e = e
+
+  mutual
+    pub cond_stays : (a : Around) (c : Cond Named) (x : PlacedCond) → cond_placed (with less a) c ≡ Ok x → cond_placed (with more a) c ≡ Ok x
+    cond_stays a (compare op left right) x e = e
+    cond_stays a (compare_subquery op left s) x e =
+        let p = expr_placed (with less a) left in
+        after p p (λ p. and_then (select_placed (with less a) s) (λ q. Ok (compared_with Scalar op p q))) (λ p. and_then (select_placed (with more a) s) (λ q. Ok (compared_with Scalar op p q))) x (λ _ h. h)
+        (λ p. after (select_placed (with less a) s) (select_placed (with more a) s) (λ q. Ok (compared_with Scalar op p q)) (λ q. Ok (compared_with Scalar op p q)) x (select_stays a s) (λ _ h. h)) e
+    cond_stays a (compare_quantified op k left s) x e =
+        let p = expr_placed (with less a) left in
+        let how = compared_as (Some k) in
+        after p p (λ p. and_then (select_placed (with less a) s) (λ q. Ok (compared_with how op p q))) (λ p. and_then (select_placed (with more a) s) (λ q. Ok (compared_with how op p q))) x (λ _ h. h)
+        (λ p. after (select_placed (with less a) s) (select_placed (with more a) s) (λ q. Ok (compared_with how op p q)) (λ q. Ok (compared_with how op p q)) x (select_stays a s) (λ _ h. h)) e
+    cond_stays a (between left low high) x e = e
+    cond_stays a (in_subquery left s) x e =
+        let p = expr_placed (with less a) left in
+        after p p (λ p. and_then (select_placed (with less a) s) (λ q. Ok (in_subquery p q))) (λ p. and_then (select_placed (with more a) s) (λ q. Ok (in_subquery p q))) x (λ _ h. h)
+        (λ p. after (select_placed (with less a) s) (select_placed (with more a) s) (λ q. Ok (in_subquery p q)) (λ q. Ok (in_subquery p q)) x (select_stays a s) (λ _ h. h)) e
+    cond_stays a (in_list left es) x e = e
+    cond_stays a (like left pattern None) x e = e
+    cond_stays a (like left pattern (Some escape)) x e = e
+    cond_stays a (is_null left) x e = e
+    cond_stays a (exists s) x e = after (select_placed (with less a) s) (select_placed (with more a) s) (λ q. Ok (exists q)) (λ q. Ok (exists q)) x (select_stays a s) (λ _ h. h) e
+    cond_stays a (negated c) x e = after (cond_placed (with less a) c) (cond_placed (with more a) c) (λ p. Ok (negated p)) (λ p. Ok (negated p)) x (cond_stays a c) (λ _ h. h) e
+    cond_stays a (conjunction cs) x e = after (conds_placed (with less a) cs) (conds_placed (with more a) cs) (λ ps. Ok (conjunction ps)) (λ ps. Ok (conjunction ps)) x (conds_stay a cs) (λ _ h. h) e
+    cond_stays a (disjunction cs) x e = after (conds_placed (with less a) cs) (conds_placed (with more a) cs) (λ ps. Ok (disjunction ps)) (λ ps. Ok (disjunction ps)) x (conds_stay a cs) (λ _ h. h) e
+
+    conds_stay : (a : Around) (cs : Conds Named) (x : Conds (Placed TablePlace)) → conds_placed (with less a) cs ≡ Ok x → conds_placed (with more a) cs ≡ Ok x
+    conds_stay a no_cond x e = e
+    conds_stay a (a_cond c cs) x e =
+        after (cond_placed (with less a) c) (cond_placed (with more a) c) (λ p. and_then (conds_placed (with less a) cs) (λ ps. Ok (a_cond p ps))) (λ p. and_then (conds_placed (with more a) cs) (λ ps. Ok (a_cond p ps))) x (cond_stays a c)
+        (λ p. after (conds_placed (with less a) cs) (conds_placed (with more a) cs) (λ ps. Ok (a_cond p ps)) (λ ps. Ok (a_cond p ps)) x (conds_stay a cs) (λ _ h. h)) e
+
+    pub clause_stays : (a : Around) (c : Clause Named) (x : PlacedClause) → clause_placed (with less a) c ≡ Ok x → clause_placed (with more a) c ≡ Ok x
+    clause_stays a absent x e = e
+    clause_stays a (present c) x e = after (cond_placed (with less a) c) (cond_placed (with more a) c) (λ p. Ok (present p)) (λ p. Ok (present p)) x (cond_stays a c) (λ _ h. h) e
+
+    pub select_stays : (a : Around) (s : Select Named) (x : PlacedSelect) → select_placed (with less a) s ≡ Ok x → select_placed (with more a) s ≡ Ok x
+    select_stays a (select distinct list from filter by having) x e =
+        let last = λ (ts : List PlacedItem) (kept : PlacedClause) (columns : List Place) (shown : List PlacedExpr) (groups : PlacedClause). Ok (select distinct (expressions shown) (tables_of ts) kept columns groups) in
+        let grouped = λ (k : KnownTables) (ts : List PlacedItem) (kept : PlacedClause) (columns : List Place) (shown : List PlacedExpr). and_then (clause_placed (with k (inside (items_of ts) a)) having) (last ts kept columns shown) in
+        let listed = λ (k : KnownTables) (ts : List PlacedItem) (kept : PlacedClause) (columns : List Place). and_then (list_placed (with k (inside (items_of ts) a)) list) (grouped k ts kept columns) in
+        let by_columns = λ (k : KnownTables) (ts : List PlacedItem) (kept : PlacedClause). and_then (each (placed_column (items_of ts ∷ a.scopes)) by) (listed k ts kept) in
+        let filtered = λ (k : KnownTables) (ts : List PlacedItem). and_then (clause_placed (with k (inside (items_of ts) a)) filter) (by_columns k ts) in
+        after (each (item_placed less) from) (each (item_placed more) from) (filtered less) (filtered more) x (each_stays (item_placed less) (item_placed more) item_stays from)
+        (λ ts.
+        let here = inside (items_of ts) a in
+        after (clause_placed (with less here) filter) (clause_placed (with more here) filter) (by_columns less ts) (by_columns more ts) x (clause_stays here filter)
+        (λ kept.
+        let columns = each (placed_column (items_of ts ∷ a.scopes)) by in
+        after columns columns (listed less ts kept) (listed more ts kept) x (λ _ h. h)
+        (λ columns.
+        after (list_placed (with less here) list) (list_placed (with more here) list) (grouped less ts kept columns) (grouped more ts kept columns) x (list_stays here list)
+        (λ shown. after (clause_placed (with less here) having) (clause_placed (with more here) having) (last ts kept columns shown) (last ts kept columns shown) x (clause_stays here having) (λ _ h. h))))) e

@@ -1,0 +1,76 @@
+-- The names of a view's columns, and that a view is that of its text.
+use Rattle.std.proofs.Common.{◌≡◌, ℕ, suc, ◌+◌, ◌<◌, ◌≤◌, List, [], ◌∷◌, ◌++◌, length, get_or, take, map, Option, Some, None, Result, Ok, Err, IfOk, refl, ap, sym, ◌∙◌, append-nil, arith}
+use Rattle.std.specs.List.{cons_option, filter_map}
+use Rattle.std.specs.Option.{option_map}
+use Rattle.std.proofs.lemmas.List.{take_more}
+use Rattle.std.proofs.lemmas.List.Elements.{filter_map-append}
+use Rattle.std.proofs.lemmas.Simd.{map-map}
+use Rattle.sq_lex.specs.declared.name.Name.{Name}
+use Rattle.sq_tree.specs.declared.list.CommaList.{CommaList}
+use Rattle.sq_meaning.specs.Spelled.{listed, select_of}
+use Rattle.sq_meaning.specs.Status.{Outcome}
+use Rattle.sq_bound.specs.Known.{KnownTables}
+use Rattle.sq_bound.specs.declared.condition.BoundSpecification.{BoundSpecification, out-BoundSpecification}
+use Rattle.sq_bound.specs.declared.names.Column.{Column}
+use Rattle.sq_bound.specs.declared.names.TableDesc.{TableDesc}
+use Rattle.sq_select.specs.Names.{NamesAre, names_of, names_placed}
+use Rattle.sq_catalog.specs.View.{IsViewWith, names_or}
+use Rattle.sq_catalog.specs.Views.{HasQueryOf, IsViewOf, WrittenView, column_names}
+
+-- ---- the items that have a value
+
+module _ {A B : Type 0} (f : A → Option B) where
+  some_within : (xs : List A) → length (filter_map f xs) ≤ length xs
+  some_within [] = omega arith
+  some_within (x ∷ xs) = by_head (f x) (some_within xs)
+    where
+      by_head : (o : Option B) → length (filter_map f xs) ≤ length xs → length (cons_option o (filter_map f xs)) ≤ suc (length xs)
+      by_head None h = omega arith
+      by_head (Some y) h = omega arith
+
+  -- where there are as many, each item has one
+  pub all_some : (xs : List A) → length (filter_map f xs) ≡ length xs → map (λ y. Some y) (filter_map f xs) ≡ map f xs
+  all_some [] h = refl
+  all_some (x ∷ xs) h = by_head (f x) (some_within xs) (λ e. all_some xs e) h
+    where
+      by_head : (o : Option B) → length (filter_map f xs) ≤ length xs → (length (filter_map f xs) ≡ length xs → map (λ y. Some y) (filter_map f xs) ≡ map f xs)
+          → length (cons_option o (filter_map f xs)) ≡ suc (length xs) → map (λ y. Some y) (cons_option o (filter_map f xs)) ≡ o ∷ map f xs
+      by_head None within rest h = absurd (omega arith)
+      by_head (Some y) within rest h = ap (λ l. Some y ∷ l) (rest (omega arith))
+
+  pub all_named : {E : Type 0} (r : Result (List B) E) (ys : List B) (xs : List A) → IfOk r (λ them. them ≡ ys) → IfOk r (λ them. length them ≡ length xs) → ys ≡ filter_map f xs → IfOk r (λ them. map (λ y. Some y) them ≡ map f xs)
+  all_named (Err e) ys xs them count is = tt
+  all_named (Ok zs) ys xs them count is =
+      let same : zs ≡ filter_map f xs = them ∙ is in
+      ap (map (λ y. Some y)) same ∙ all_some xs (ap length (sym same) ∙ count)
+
+  values_next : (xs : List A) (i : ℕ) (x : A) → i < length xs → x ≡ get_or xs i x → filter_map f (take (i + 1) xs) ≡ filter_map f (take i xs) ++ cons_option (f x) []
+  values_next xs i x lt e =
+      ap (filter_map f) (take_more xs i x lt ∙ ap (λ y. take i xs ++ y ∷ []) (sym e)) ∙ filter_map-append f (take i xs) (x ∷ [])
+
+  -- an item more, with a value or without
+  pub one_found : (xs : List A) (i : ℕ) (x : A) (y : B) (ys new : List B) → i < length xs → x ≡ get_or xs i x → f x ≡ Some y → new ≡ ys ++ y ∷ [] → ys ≡ filter_map f (take i xs) → new ≡ filter_map f (take (i + 1) xs)
+  one_found xs i x y ys new lt e is grown h =
+      grown ∙ ap (λ l. l ++ y ∷ []) h ∙ ap (λ o. filter_map f (take i xs) ++ cons_option o []) (sym is) ∙ sym (values_next xs i x lt e)
+
+  pub none_found : (xs : List A) (i : ℕ) (x : A) (ys : List B) → i < length xs → x ≡ get_or xs i x → f x ≡ None → ys ≡ filter_map f (take i xs) → ys ≡ filter_map f (take (i + 1) xs)
+  none_found xs i x ys lt e is h =
+      h ∙ sym (append-nil (filter_map f (take i xs))) ∙ ap (λ o. filter_map f (take i xs) ++ cons_option o []) (sym is) ∙ sym (values_next xs i x lt e)
+
+-- ---- the view of a text
+
+names_listed : (list : Option (CommaList Name)) (text : Outcome (List (Option Name))) (own : List (Option Name)) → text ≡ Ok own → column_names list text ≡ Ok (names_or (option_map listed list) own)
+names_listed None text own e = e
+names_listed (Some list) text own e = refl
+
+pub view_written : (known : KnownTables) (w : WrittenView) (own : Option (List Name)) (names : List Name) (q : BoundSpecification) (t : TableDesc) → own ≡ option_map listed w.view.columns
+    → NamesAre (names_placed known (select_of w.user w.view.query)) q → HasQueryOf known w q → map (λ n. Some n) names ≡ names_or own (names_of (out-BoundSpecification q).columns) → IsViewWith names q t → IsViewOf known w t
+view_written known w own names q t list named is_written is h = record {
+  names =
+      names_listed w.view.columns (names_placed known (select_of w.user w.view.query)) (names_of (out-BoundSpecification q).columns) named
+      ∙ ap (λ l. Ok (names_or l (names_of (out-BoundSpecification q).columns))) (sym list)
+      ∙ ap Ok (sym is ∙ ap (map (λ n. Some n)) (sym h.names_are) ∙ map-map (λ n. Some n) (λ (c : Column). c.name) t.columns);
+  query = q;
+  stands_for = h.stands_for;
+  is_written = is_written;
+}

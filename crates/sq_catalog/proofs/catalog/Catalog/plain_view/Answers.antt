@@ -1,0 +1,12 @@
+use Rattle.std.proofs.Common.{rules, refl, ap}
+use Rattle.sq_bound.specs.declared.condition.TablePlace.TheVariants.{View}
+use Rattle.sq_catalog.proofs.catalog.Catalog.plain_view.Goals as goal
+
+pub returns-clause-next : goal.returns-clause-next
+returns-clause-next c = record {
+  named = (refl, refl);
+  stored = record { over = tt; body = tt; itself = tt };
+  place = ap View c.next_view.ensures;
+  leaf = tt;
+  body = search rules;
+}
