@@ -142,7 +142,7 @@ lacked {R} (n ∷ columns) (v ∷ values) row all lacks = by (is_same v (slice_i
 
 -- ---- tests on a row
 
-none_fit : (o : Outcome (List Kind)) → Fits AreRowsOf o (Err NoData)
+pub none_fit : (o : Outcome (List Kind)) → Fits AreRowsOf o (Err NoData)
 none_fit (Ok kinds) = tt
 none_fit (Err status) = tt
 

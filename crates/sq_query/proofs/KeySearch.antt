@@ -1,11 +1,10 @@
 -- What a search by a key finds is what a search over all rows finds: on each row without the key one of the first tests is false, and
 -- those before it have a truth.
-use Rattle.std.proofs.Common.{◌≡◌, ℕ, zero, suc, ◌+◌, ◌<◌, Bool, true, false, not, ◌&&◌, List, [], ◌∷◌, length, map, take, cond, find, nat_eq, nat_le, slice_get, slice_index_or, IfSome, nat_lt, Option, Some, None, Vec, Global, Result, refl, sym, ap, subst, ◌∙◌, arith, Ok, Err}
-use Rattle.std.specs.Prelude.{IfErr, IfOk, if◌then◌else◌, option_to_list}
+use Rattle.std.proofs.Common.{◌≡◌, ℕ, zero, suc, ◌+◌, ◌<◌, Bool, true, false, not, ◌&&◌, List, [], ◌∷◌, length, map, take, cond, find, nat_eq, slice_get, slice_index_or, Option, Some, None, Vec, Global, Result, refl, sym, ap, subst, ◌∙◌, arith, Ok, Err}
+use Rattle.std.specs.Prelude.{IfErr, IfOk, if◌then◌else◌}
 use Rattle.std.specs.Cmp.Lexicographic.{pointwise}
 use Rattle.std.specs.List.{AllByRecursion, enumerate_from, list_all, list_any, zip}
-use Rattle.std.proofs.lemmas.Bool.{eqb-true, ltb-true}
-use Rattle.std.proofs.lemmas.List.{take-map}
+use Rattle.std.proofs.lemmas.Bool.{eqb-true}
 use Rattle.sq_lex.specs.declared.name.Name.{Name}
 use Rattle.sq_value.specs.Comparison.{is_same}
 use Rattle.sq_value.specs.Key.{in_columns}
@@ -14,7 +13,7 @@ use Rattle.sq_value.specs.declared.truth.Truth.{Truth}
 use Rattle.sq_value.specs.declared.truth.Truth.TheVariants.{False}
 use Rattle.sq_value.specs.declared.value.Value.{Value}
 use Rattle.sq_store.specs.Content.{Content, table_at}
-use Rattle.sq_store.specs.Keys.{Keys, are_keyed, has_key, key_at, keys_at, with_key}
+use Rattle.sq_store.specs.Keys.{Keys, are_keyed, has_key, key_at, with_key}
 use Rattle.sq_store.specs.declared.table.Numbered.{Numbered}
 use Rattle.sq_tree.specs.declared.cond.Comparison.TheVariants as comparison
 use Rattle.sq_meaning.specs.Status.{Outcome, and_then, kept}
@@ -23,24 +22,22 @@ use Rattle.sq_meaning.specs.Environment.{Env, Row}
 use Rattle.sq_meaning.specs.Placed.{by_place}
 use Rattle.sq_meaning.specs.Query.{all_truth, and_also, is_true, or_else, truth}
 use Rattle.sq_meaning.specs.Quiet.{is_quiet, is_quiet_expr}
-use Rattle.sq_meaning.specs.WellFormed.{Has, HasValue, IsDeclaredAt, IsRowOf, WellFormedConds, kinds_by_place}
-use Rattle.sq_bound.specs.Condition.{PlacedCond, cond_of, conj_of, test_of}
+use Rattle.sq_meaning.specs.WellFormed.{Has, HasValue, IsRowOf}
+use Rattle.sq_meaning.proofs.SureLaws.{all_passed}
+use Rattle.sq_bound.specs.Condition.{PlacedCond, cond_of, test_of}
 use Rattle.sq_bound.specs.Expression.{PlacedExpr, expr_of}
 use Rattle.sq_bound.specs.Fits.{IsBase, has_its_values, keys_of_bases, lacks_value, not_nulls_hold}
-use Rattle.sq_bound.specs.Keyed.{column_named, is_constant, is_named_by, names_column, names_key, names_one_of, start_with_key}
-use Rattle.sq_bound.specs.Names.{option_all}
+use Rattle.sq_bound.specs.Keyed.{column_named, is_constant, names_one_of, start_with_key}
 use Rattle.sq_bound.specs.NotNull.{are_not_null, is_not_null}
-use Rattle.sq_bound.specs.WellFormed.{IsCond, IsTarget, TableKinds, base_kinds, of_base_at}
-use Rattle.sq_bound.specs.declared.condition.BoundCond.{BoundCond, out-BoundCond}
-use Rattle.sq_bound.specs.declared.condition.BoundConj.{BoundConj, out-BoundConj}
+use Rattle.sq_bound.specs.WellFormed.{IsTarget, TableKinds, base_kinds}
+use Rattle.sq_bound.specs.declared.condition.BoundCond.{BoundCond}
+use Rattle.sq_bound.specs.declared.condition.BoundConj.{out-BoundConj}
 use Rattle.sq_bound.specs.declared.condition.BoundTest.{BoundTest}
 use Rattle.sq_bound.specs.declared.condition.TablePlace.{TablePlace}
 use Rattle.sq_bound.specs.declared.condition.TablePlace.TheVariants.{Base}
 use Rattle.sq_bound.specs.declared.names.BaseColumn.{BaseColumn}
 use Rattle.sq_bound.specs.declared.names.BaseTable.{BaseTable}
 use Rattle.sq_bound.specs.declared.query.Target.{Target}
-use Rattle.sq_bound.proofs.ConditionLaws.{cond_of-out, conj_of-out}
-use Rattle.sq_bound.proofs.QuietRows.{no_tables}
 use Rattle.sq_bound.proofs.QuietTruths.{both_left, both_right}
 use Rattle.sq_expression.specs.Fault.{Meets, MeetsAs}
 use Rattle.sq_expression.specs.declared.fault.Fault.{Fault}
@@ -52,6 +49,9 @@ use Rattle.sq_query.specs.Table.{stored_numbered}
 use Rattle.sq_query.specs.Target.{and_own, are_true, conditions_of, is_true_of, numbers_chosen, numbers_in}
 use Rattle.sq_query.specs.declared.key.KnownKey.{KnownKey}
 use Rattle.sq_query.proofs.KeyLacked.{IsTestOn, all_also, first_false, lacked, test_answers, test_false, value_there}
+use Rattle.sq_query.proofs.KeyNames.{firsts_name, key_there, no_view, own_keys, own_starts}
+use Rattle.sq_query.proofs.KeyTests.{test_at}
+use Rattle.sq_query.proofs.KeyValues.{all_contained, all_first, among, none_among, term_tree, tests_well}
 use Rattle.sq_query.proofs.KeyedRows.{there_so}
 use Rattle.sq_query.proofs.OnlyOne.{AtMostOne, at_most_one, distinct_at}
 
@@ -110,13 +110,6 @@ column_quiet (negated c) n h = cc
 column_quiet (conjunction cs) n h = cc
 column_quiet (disjunction cs) n h = cc
 
-abbrev among : List ℕ → Option ℕ → Bool
-among key o = list_any (λ n. list_any (nat_eq n) (option_to_list o)) key
-
-none_among : (key : List ℕ) → among key None ≡ false
-none_among [] = refl
-none_among (n ∷ key) = none_among key
-
 not_both : {P : Type 0} (b : Bool) → b ≡ true → b ≡ false → P
 not_both true h k = cc
 not_both false h k = cc
@@ -140,25 +133,6 @@ all_quiet key (t ∷ ts) h = (
 all_both : {A : Type 0} (P Q R : A → Type 0) → ((x : A) → P x → Q x → R x) → (xs : List A) → AllByRecursion P xs → AllByRecursion Q xs → AllByRecursion R xs
 all_both P Q R so [] p q = tt
 all_both P Q R so (x ∷ xs) p q = (so x p.0 q.0, all_both P Q R so xs p.1 q.1)
-
-all_first : {A : Type 0} (P : A → Type 0) (n : ℕ) (xs : List A) → AllByRecursion P xs → AllByRecursion P (take n xs)
-all_first P zero xs all = tt
-all_first P (suc n) [] all = tt
-all_first P (suc n) (x ∷ xs) all = (all.0, all_first P n xs all.1)
-
-all_contained : {A : Type 0} (P : A → Type 0) (xs : List A) (k : ℕ) (x : A) → AllByRecursion P xs → k < length xs → slice_index_or xs k x ≡ x → P x
-all_contained P [] k x all within at = absurd (omega arith)
-all_contained P (y ∷ ys) zero x all within at = subst P at all.0
-all_contained P (y ∷ ys) (suc k) x all within at = all_contained P ys k x all.1 (omega arith) at
-
-all_tests : {A : Type 0} (test : A → Bool) (xs : List A) → list_all test xs ≡ true → AllByRecursion (λ x. test x ≡ true) xs
-all_tests test [] h = tt
-all_tests test (x ∷ xs) h = (both_left (test x) (list_all test xs) h, all_tests test xs (both_right (test x) (list_all test xs) h))
-
-test_at : {A : Type 0} (test : A → Bool) (xs : List A) (k : ℕ) (d : A) → list_all test xs ≡ true → k < length xs → test (slice_index_or xs k d) ≡ true
-test_at test [] k d h within = absurd (omega arith)
-test_at test (x ∷ xs) zero d h within = both_left (test x) (list_all test xs) h
-test_at test (x ∷ xs) (suc k) d h within = test_at test xs k d (both_right (test x) (list_all test xs) h) (omega arith)
 
 no_element : {A : Type 0} (xs : List A) → nat_eq (length xs) 0 ≡ true → xs ≡ []
 no_element [] h = refl
@@ -200,12 +174,7 @@ module _ {A : Type 0} (test : A → Outcome Bool) (has : A → Bool) where
       by true e others = ap (λ (o : Outcome (List A)). and_then (test x) (added_by x o)) (none_kept xs out.1 (one.0 e))
       by false e others = ap (λ (o : Outcome Bool). and_then o (added_by x (kept test xs))) (out.0 e) ∙ itself (kept test xs) ∙ others
 
--- ---- keys and NOT NULL of a base table
-
-keys_of_base : (bases : List BaseTable) (place : ℕ) (b : BaseTable) → slice_get bases place ≡ Some b → keys_at (keys_of_bases bases) place ≡ b.keys
-keys_of_base [] place b e = cc
-keys_of_base (a ∷ bases) zero b e = let same : a ≡ b = cc in ap (λ (t : BaseTable). t.keys) same
-keys_of_base (a ∷ bases) (suc place) b e = keys_of_base bases place b e
+-- ---- NOT NULL of a base table
 
 values_from : (content : Content) (from : ℕ) (bases : List BaseTable) (place : ℕ) (b : BaseTable) → list_all (λ p. list_all (λ n. has_its_values p.1 n.row) (table_at content p.0).rows) (enumerate_from from bases) ≡ true
     → slice_get bases place ≡ Some b → list_all (λ n. has_its_values b n.row) (table_at content (from + place)).rows ≡ true
@@ -228,11 +197,6 @@ all_is : (tables : TablePlace → Outcome (List Row)) (here : Env (Unit {0})) (t
 all_is tables here [] = refl
 all_is tables here (t ∷ ts) = ap (and_also (truth (by_place tables) (test_of [] t) here)) (all_is tables here ts)
 
-term_tree : (own : BoundCond) (term : BoundConj) → (out-BoundCond own).terms ≡ term ∷ [] → cond_of [] own ≡ disjunction (conds (conjunction (conds (map (test_of []) (out-BoundConj term).tests)) ∷ []))
-term_tree own term only =
-    cond_of-out [] own ∙ ap (λ (ts : List BoundConj). disjunction (conds (map (conj_of []) ts))) only
-    ∙ ap (λ (c : PlacedCond). disjunction (conds (c ∷ []))) (conj_of-out [] term)
-
 -- ---- a row without the key
 
 module _ (tables : TablePlace → Outcome (List Row)) (columns : TableKinds) (parameters : List Kind) (values : List Value) (caller : Name) (given : IsRowOf parameters values)
@@ -247,58 +211,29 @@ module _ (tables : TablePlace → Outcome (List Row)) (columns : TableKinds) (pa
   abbrev flags : List Bool
   flags = map (λ (c : BaseColumn). c.not_null) t.leaf.table.columns
 
-  named : is_named_by t.leaf (Some k.own) known.key ≡ true
-  named = sym (λ i. option_all (is_named_by t.leaf (k.is_own i)) (k.is_key i)) ∙ t.keyed
-
-  abbrev no_view : Bool
-  no_view = nat_eq (length t.leaf.conditions) 0
-
-  abbrev there_is : Bool
-  there_is = nat_lt known.key (length t.leaf.table.keys)
-
-  abbrev by_tests : Bool
-  by_tests = names_key (slice_index_or t.leaf.table.keys known.key []) (out-BoundCond k.own).terms
-
   views_none : t.leaf.conditions ≡ []
-  views_none = no_element t.leaf.conditions (both_left no_view there_is (both_left (no_view && there_is) by_tests named))
+  views_none = no_element t.leaf.conditions (no_view t known.key k.is_key)
 
   key_within : known.key < length t.leaf.table.keys
-  key_within = ltb-true known.key (length t.leaf.table.keys) (both_right no_view there_is (both_left (no_view && there_is) by_tests named))
+  key_within = key_there t known.key k.is_key
 
   columns_are : own_columns ≡ slice_index_or t.leaf.table.keys known.key []
-  columns_are =
-      ap (λ (ks : Keys). slice_index_or ks known.key [])
-      ((λ i. keys_at (keys_are i) (t.is_under i)) ∙ keys_of_base bases t.leaf.table.place t.leaf.table base)
+  columns_are = ap (λ (ks : Keys). slice_index_or ks known.key []) (own_keys bases keys t base keys_are)
 
   starts : start_with_key own_columns (map (test_of []) tests) ≡ true
-  starts =
-      ap (λ (key : List ℕ). start_with_key key (map (test_of []) tests)) columns_are
-      ∙ sym (ap (names_key (slice_index_or t.leaf.table.keys known.key [])) k.only_term)
-      ∙ both_right (no_view && there_is) by_tests named
+  starts = ap (λ (key : List ℕ). start_with_key key (map (test_of []) tests)) columns_are ∙ own_starts t known.key k.is_key k.own k.term k.is_own k.only_term
 
   abbrev count : ℕ
   count = length own_columns
 
   firsts_quiet : AllByRecursion (λ x. is_quiet (test_of [] x) ≡ true) (take count tests)
-  firsts_quiet =
-      all_quiet own_columns (take count tests)
-      (ap (list_all (names_one_of own_columns)) (sym (take-map (test_of []) count tests))
-      ∙ both_right (nat_le count (length (map (test_of []) tests))) (list_all (names_one_of own_columns) (take count (map (test_of []) tests)))
-      (both_left (nat_le count (length (map (test_of []) tests)) && list_all (names_one_of own_columns) (take count (map (test_of []) tests)))
-      (list_all (λ n. list_any (names_column n) (take count (map (test_of []) tests))) own_columns) starts))
+  firsts_quiet = all_quiet own_columns (take count tests) (firsts_name own_columns tests starts)
 
   columns_not_null : list_all (is_not_null flags) own_columns ≡ true
   columns_not_null = ap (are_not_null flags) columns_are ∙ test_at (are_not_null flags) t.leaf.table.keys known.key [] t.leaf.table.known_keys key_within
 
   conditions_are : conditions_of t ≡ k.own ∷ []
   conditions_are = (λ i. and_own (views_none i) (k.is_own i))
-
-  own_well : IsCond columns parameters (of_base_at t.leaf.table.place) [] k.own
-  own_well = if_some_is t.condition k.own well.condition k.is_own
-    where
-      if_some_is : (o : Option BoundCond) (c : BoundCond) → IfSome o (IsCond columns parameters (of_base_at t.leaf.table.place) []) → o ≡ Some c → IsCond columns parameters (of_base_at t.leaf.table.place) [] c
-      if_some_is None c h e = cc
-      if_some_is (Some d) c h e = let same : d ≡ c = cc in subst (IsCond columns parameters (of_base_at t.leaf.table.place) []) same h
 
   module _ (row : Row) (is_row : IsRowOf (base_kinds t.leaf.table) row) where
     abbrev here : Env (Unit {0})
@@ -313,15 +248,8 @@ module _ (tables : TablePlace → Outcome (List Row)) (columns : TableKinds) (pa
     abbrev truth_here : BoundTest → Outcome Truth
     truth_here x = truth (by_place tables) (test_of [] x) here
 
-    tests_well : (ts : List BoundTest) → WellFormedConds (by_place no_tables) (kinds_by_place columns parameters) (IsDeclaredAt parameters) (of_base_at t.leaf.table.place) (conds (map (test_of []) ts)) → AllByRecursion (λ x. IsOn (test_of [] x)) ts
-    tests_well [] h = tt
-    tests_well (x ∷ ts) h = (h.0, tests_well ts h.1)
-
     all_well : AllByRecursion (λ x. IsOn (test_of [] x)) tests
-    all_well =
-        let whole : IsOn (cond_of [] k.own) = subst IsOn (sym (own_well.is_tree [])) (own_well.stands no_tables) in
-        let taken : IsOn (disjunction (conds (conjunction (conds (map (test_of []) tests)) ∷ []))) = subst IsOn (term_tree k.own k.term k.only_term) whole in
-        tests_well tests taken.0
+    all_well = tests_well columns parameters t k.own k.term well k.is_own k.only_term
 
     firsts_answer : AllByRecursion (λ x. HasValue (truth_here x)) (take count tests)
     firsts_answer =
@@ -365,7 +293,7 @@ module _ (tables : TablePlace → Outcome (List Row)) (columns : TableKinds) (pa
     all_out =
         all_both (λ (r : Numbered). IsRowOf (base_kinds t.leaf.table) r.row) (λ (r : Numbered). has_its_values t.leaf.table r.row ≡ true) (λ (r : Numbered). has_it r ≡ false → test_own r ≡ Ok false)
         (λ r is_row has_values lacks. left_out r.row is_row has_values lacks) (table_at content t.base).rows rows_are
-        (all_tests (λ (r : Numbered). has_its_values t.leaf.table r.row) (table_at content t.base).rows
+        (all_passed (λ (r : Numbered). has_its_values t.leaf.table r.row) (table_at content t.base).rows
         (subst (λ (p : ℕ). list_all (λ (r : Numbered). has_its_values t.leaf.table r.row) (table_at content p).rows ≡ true) (from_first ∙ sym t.is_under) (values_from content 0 bases t.leaf.table.place t.leaf.table nulls base)))
 
     abbrev pub found_row : Option Numbered

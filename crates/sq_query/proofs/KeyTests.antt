@@ -1,32 +1,26 @@
 -- The values with which tests compare columns.
-use Rattle.std.proofs.Common.{◌≡◌, ℕ, zero, suc, ◌+◌, ◌<◌, ◌≤◌, Bool, true, false, List, [], ◌∷◌, ◌++◌, length, take, get_or, slice_get, slice_index_or, Option, Some, None, refl, sym, ap, subst, ◌∙◌, Ok, Err}
+use Rattle.std.proofs.Common.{◌≡◌, ℕ, zero, suc, ◌+◌, ◌<◌, ◌≤◌, Bool, true, false, List, [], ◌∷◌, ◌++◌, length, take, get_or, slice_get, slice_index_or, Option, Some, None, refl, sym, ap, subst, ◌∙◌, arith, Ok, Err}
 use Rattle.std.proofs.lemmas.List.{take_more, take_all}
 use Rattle.std.specs.Prelude.{IfSome}
-use Rattle.std.specs.List.{AllZip, Contains}
+use Rattle.std.specs.List.{AllZip, Contains, list_all}
 use Rattle.sq_lex.specs.declared.name.Name.{Name}
 use Rattle.sq_value.specs.SetFunctions.{is_null}
 use Rattle.sq_value.specs.declared.value.Value.{Value}
 use Rattle.sq_value.specs.declared.value.Value.TheVariants.{Null}
-use Rattle.sq_tree.specs.declared.cond.Comparison.TheVariants.{Equal}
 use Rattle.sq_tree.specs.declared.expr.Sign.{Sign}
 use Rattle.sq_meaning.specs.Status.{Outcome, and_then, well_formed}
-use Rattle.sq_meaning.specs.Syntax.{literal, parameter, user, column, count_rows, set_function, signed, added, scaled, bracketed, compare}
+use Rattle.sq_meaning.specs.Syntax.{literal, parameter, user, column, count_rows, set_function, signed, added, scaled, bracketed}
 use Rattle.sq_meaning.specs.Environment.{Row, Env, value_at}
 use Rattle.sq_meaning.specs.Expression.{value, with_sign}
 use Rattle.sq_meaning.specs.Placed.{by_place}
 use Rattle.sq_meaning.specs.Quiet.{is_quiet_expr}
-use Rattle.sq_bound.specs.Condition.{predicate_of, not_if}
 use Rattle.sq_bound.specs.Expression.{PlacedExpr, expr_of}
 use Rattle.sq_bound.specs.declared.condition.BoundTest.{BoundTest}
 use Rattle.sq_bound.specs.declared.condition.TablePlace.{TablePlace}
-use Rattle.sq_bound.specs.declared.condition.Predicate.TheVariants as bound
 use Rattle.sq_bound.specs.declared.expression.BoundExpr.{BoundExpr}
-use Rattle.sq_bound.specs.declared.expression.BoundExpr.TheVariants as expr
-use Rattle.sq_bound.specs.declared.expression.Place.{Place}
-use Rattle.sq_bound.proofs.ConditionLaws.{test_of-out, predicate_of-Compare}
-use Rattle.sq_bound.proofs.ExpressionLaws.{expr_of-Column}
+use Rattle.sq_bound.proofs.QuietTruths.{both_left, both_right}
 use Rattle.sq_query.specs.Row.{outside}
-use Rattle.sq_query.specs.Key.{IsComparedWith, AreEqualled, IsEquality}
+use Rattle.sq_query.specs.Key.{IsComparedWith, IsEquality}
 use Rattle.sq_expression.proofs.Kept.{ok_same}
 
 -- ---- what the code finds
@@ -34,18 +28,6 @@ use Rattle.sq_expression.proofs.Kept.{ok_same}
 pub if_some : {A : Type 0} (P : A → Type 0) (o : Option A) (x : A) → IfSome o P → o ≡ Some x → P x
 if_some P None x h e = cc
 if_some P (Some y) x h e = let same : y ≡ x = cc in subst P same h
-
--- a test as it is written
-pub equality_is : (t : BoundTest) (left e : BoundExpr) (p : Place) (n : ℕ) → AreEqualled t left e → left ≡ expr.Column p → p.depth ≡ 0 → p.column ≡ n → IsEquality n e t
-equality_is t left e p n is at depth column_is = (
-  p.item,
-  test_of-out [] t
-      ∙ ap (λ (b : Bool). not_if b (predicate_of [] t.predicate)) is.0
-      ∙ ap (predicate_of []) (is.1 ∙ ap (λ (x : BoundExpr). bound.Compare Equal x e) at)
-      ∙ predicate_of-Compare [] Equal (expr.Column p) e
-      ∙ ap (λ (x : PlacedExpr). compare Equal x (expr_of [] e)) (expr_of-Column [] p)
-      ∙ (λ i. compare Equal (column (record { depth = depth i; item = p.item; column = column_is i })) (expr_of [] e)),
-)
 
 zip_push : {A B : Type 0} (R : A → B → Type 0) (xs : List A) (ys : List B) (x : A) (y : B) → AllZip R xs ys → R x y → AllZip R (xs ++ x ∷ []) (ys ++ y ∷ [])
 zip_push R [] [] x y all last = (last, tt)
@@ -62,6 +44,12 @@ zip_more {A} {B} R xs i d ys next y within all last grown =
 
 pub zip_all : {A B : Type 0} (R : A → B → Type 0) (xs : List A) (i : ℕ) (ys : List B) → length xs ≤ i → AllZip R (take i xs) ys → AllZip R xs ys
 zip_all {A} R xs i ys past all = subst (λ (l : List A). AllZip R l ys) (take_all i xs past) all
+
+-- what is so of all of them is so at an index
+pub test_at : {A : Type 0} (test : A → Bool) (xs : List A) (k : ℕ) (d : A) → list_all test xs ≡ true → k < length xs → test (slice_index_or xs k d) ≡ true
+test_at test [] k d h within = absurd (omega arith)
+test_at test (x ∷ xs) zero d h within = both_left (test x) (list_all test xs) h
+test_at test (x ∷ xs) (suc k) d h within = test_at test xs k d (both_right (test x) (list_all test xs) h) (omega arith)
 
 -- the value with which a test compares a column, unless it is null
 pub compared_if : (tests : List BoundTest) (parameters : List Value) (caller : Name) (n : ℕ) (e : BoundExpr) (v : Value) (o : Option Value) → (test : BoundTest) × Contains tests test × IsEquality n e test

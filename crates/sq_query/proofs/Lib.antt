@@ -3,12 +3,15 @@ pub mod AnyTables
 pub mod Bases
 pub mod Bringable
 pub mod Chosen
+pub mod ColumnTests
 pub mod Finds
 pub mod Fitting
 pub mod JoinedTerms
 pub mod KeyLacked
+pub mod KeyNames
 pub mod KeySearch
 pub mod KeyTests
+pub mod KeyValues
 pub mod KeyedRows
 pub mod KindsOfTables
 pub mod KnownConditions

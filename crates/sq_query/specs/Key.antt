@@ -1,5 +1,5 @@
 -- The key by which a target names one row of its base table (ISO/IEC 9075:1992, 13.7 and 13.10; own rule).
-use Rattle.std.specs.Prelude.{◌≡◌, ◌<◌, ℕ, length, take, false, List, [], ◌∷◌, Some, Ok}
+use Rattle.std.specs.Prelude.{◌≡◌, ◌<◌, ℕ, nat_eq, length, take, if◌then◌else◌, true, false, List, [], ◌∷◌, Option, Some, None, Ok}
 use Rattle.std.specs.List.{AllZip, Contains}
 use Rattle.sq_lex.specs.declared.name.Name.{Name}
 use Rattle.sq_value.specs.declared.value.Value.{Value}
@@ -12,8 +12,10 @@ use Rattle.sq_meaning.specs.Syntax.{column, compare}
 use Rattle.sq_meaning.specs.Environment.{Row}
 use Rattle.sq_meaning.specs.Expression as meaning
 use Rattle.sq_meaning.specs.Placed.{by_place}
+use Rattle.sq_meaning.specs.WellFormed.{HasValue}
 use Rattle.sq_bound.specs.Condition.{test_of}
-use Rattle.sq_bound.specs.Expression.{expr_of}
+use Rattle.sq_bound.specs.Expression.{PlacedExpr, expr_of}
+use Rattle.sq_bound.specs.Keyed.{names_key}
 use Rattle.sq_bound.specs.declared.condition.BoundCond.{BoundCond, out-BoundCond}
 use Rattle.sq_bound.specs.declared.condition.BoundConj.{BoundConj, out-BoundConj}
 use Rattle.sq_bound.specs.declared.condition.BoundTest.{BoundTest}
@@ -31,6 +33,29 @@ AreEqualled test left right = (test.negated ≡ false) × (test.predicate ≡ Co
 -- a test `column = e`
 abbrev pub IsEquality : ℕ → BoundExpr → BoundTest → Type 0
 IsEquality n e test = (item : ℕ) × (test_of [] test ≡ compare Equal (column (record { depth = 0; item = item; column = n })) (expr_of [] e))
+
+-- the column of the row that an expression is
+abbrev pub own_column : PlacedExpr → Option ℕ
+own_column (column p) = if nat_eq p.depth 0 then Some p.column else None
+own_column _ = None
+
+-- the condition of a target names a row by a key with these columns
+abbrev pub NamesBy : List ℕ → Target → Type 0
+NamesBy columns t = (own : BoundCond) × (t.condition ≡ Some own) × (names_key columns (out-BoundCond own).terms ≡ true)
+
+-- the tests by which it does: the first ones of the condition's only term, as many as the key has columns
+pub record AreKeyTests (columns : List ℕ) (t : Target) (tests : List BoundTest) : Type 0 where
+  pub own : BoundCond
+  pub is_own : t.condition ≡ Some own
+  pub term : BoundConj
+  pub only_term : (out-BoundCond own).terms ≡ term ∷ []
+  pub firsts : tests ≡ take (length columns) (out-BoundConj term).tests
+
+-- whatever the tests say that a column is equal to has a value, whatever row there is
+abbrev pub HaveValues : List BoundTest → List Value → Name → Type 0
+HaveValues tests parameters user =
+    (tables : TablePlace → Outcome (List Row)) (test : BoundTest) (n : ℕ) (e : BoundExpr) → Contains tests test → IsEquality n e test
+    → HasValue (meaning.value (by_place tables) (expr_of [] e) (outside [] parameters user))
 
 -- one of the tests compares the column by = with something that has this value, not null, whatever row there is
 pub record IsComparedWith (tests : List BoundTest) (parameters : List Value) (user : Name) (n : ℕ) (v : Value) : Type 0 where

@@ -3,7 +3,9 @@ use Rattle.sq_meaning.specs.Status.{and_then}
 use Rattle.sq_query.specs.Table.{stored_numbered}
 use Rattle.sq_query.specs.Target.{conditions_of, is_true_of, numbers_chosen, numbers_in}
 use Rattle.sq_query.proofs.Fitting.{never_ends}
-use Rattle.sq_query.proofs.KnownConditions.{numbers_answer, target_on_base}
+use Rattle.sq_query.proofs.KeyNames.{base_there, own_keys}
+use Rattle.sq_query.proofs.KeyValues.{handed_memory, memory_meets}
+use Rattle.sq_query.proofs.KnownConditions.{memory_ends, numbers_answer, target_on_base}
 use Rattle.sq_query.proofs.NumbersThere.{numbers_there}
 use Rattle.sq_query.proofs.target.numbers_of.Goals as goal
 
@@ -24,3 +26,21 @@ returns-in-None-clause-right g c = λ parameters tables may well.
     (numbers_answer (g.N.Names.base_tables names) (g.N.Names.view_queries names) columns content user values (g.met.N.Names.kinds_of_bases names) (g.met.N.Names.kinds_of_views names) parameters tables may target.base (conditions_of target)
     (target_on_base columns parameters target well))
     (c.numbers_by_scan.ensures.meant parameters tables may well)
+
+pub known_key-requires : goal.known_key-requires
+known_key-requires g c =
+    let names = c.args.names.now in
+    let store = c.args.store.now in
+    let t = c.args.target.now in record {
+      there = base_there (g.N.Names.base_tables names) (g.S.Store.key_columns store) t c.requires.base c.requires.keys (g.S.Store.content_now store) (g.met.S.Store.keyed store);
+      keys = own_keys (g.N.Names.base_tables names) (g.S.Store.key_columns store) t c.requires.base c.requires.keys;
+    }
+
+pub returns-in_err-known-clause-meant : goal.returns-in_err-known-clause-meant
+returns-in_err-known-clause-meant g c = λ parameters tables may well.
+    memory_meets numbers_in c.from_residual.result c.in_err-known.field-0.0 c.from_residual.ensures.1 (c.in_err-known.ensures.memory (g.N.Names.column_kinds c.args.names.now) parameters well may.inputs) _
+
+pub returns-in_err-known-clause-right : goal.returns-in_err-known-clause-right
+returns-in_err-known-clause-right g c = λ parameters tables may well.
+    memory_ends c.from_residual.result
+    (handed_memory c.from_residual.result c.in_err-known.field-0.0 c.from_residual.ensures.1 (c.in_err-known.ensures.memory (g.N.Names.column_kinds c.args.names.now) parameters well may.inputs))
