@@ -1,5 +1,5 @@
 -- What a text becomes stays the same where more tables are known.
-use Rattle.std.proofs.Common.{◌≡◌, List, [], ◌∷◌, Option, Some, None, Ok, ap, refl, ◌∙◌}
+use Rattle.std.proofs.Common.{◌≡◌, List, [], ◌∷◌, map, Option, Some, None, Ok, ap, refl, ◌∙◌}
 use Rattle.std.specs.Option.{option_map}
 use Rattle.sq_lex.specs.declared.name.Name.{Name}
 use Rattle.sq_meaning.specs.Environment.{Place, TableReference}
@@ -7,14 +7,17 @@ use Rattle.sq_meaning.specs.Placed.{Placed}
 use Rattle.sq_meaning.specs.Spelled.{Named}
 use Rattle.sq_meaning.specs.Status.{Outcome, and_then, each, well_formed}
 use Rattle.sq_meaning.specs.Syntax.{Cond, Conds, Clause, Select, SelectList, all_columns, expressions, compare, compare_subquery, compare_quantified, between, in_subquery, in_list, like, is_null, exists, negated, conjunction, disjunction, no_cond, a_cond, absent, present, select}
-use Rattle.sq_bound.specs.Condition.{PlacedCond, PlacedClause, PlacedSelect, compared_with}
+use Rattle.sq_bound.specs.Condition.{PlacedCond, PlacedClause, PlacedSelect, clause_of, compared_with}
 use Rattle.sq_bound.specs.Expression.{PlacedExpr}
+use Rattle.sq_bound.specs.SetFunction.{call_of}
 use Rattle.sq_bound.specs.Known.{KnownTable, KnownTables}
 use Rattle.sq_bound.specs.declared.condition.Compared.TheVariants.{Scalar}
 use Rattle.sq_bound.specs.declared.condition.TablePlace.{TablePlace}
+use Rattle.sq_bound.specs.declared.query.UpdatableQuery.{UpdatableQuery}
 use Rattle.sq_scope.specs.Expression.{placed_column}
 use Rattle.sq_select.specs.Names.{list_names, names_placed}
 use Rattle.sq_select.specs.Placed.{Around, PlacedItem, clause_placed, compared_as, cond_placed, conds_placed, expr_placed, inside, item_over, item_placed, items_of, list_placed, select_placed, tables_of}
+use Rattle.sq_bind.specs.Written.{IsUpdatableOf, leaf_item}
 use Rattle.sq_bind.proofs.Joins.{goes_on}
 
 -- what is known still is
@@ -106,3 +109,20 @@ module _ (less more : KnownTables) (keep : StillKnown less more) where
         (λ columns.
         after (list_placed (with less here) list) (list_placed (with more here) list) (grouped less ts kept columns) (grouped more ts kept columns) x (list_stays here list)
         (λ shown. after (clause_placed (with less here) having) (clause_placed (with more here) having) (last ts kept columns shown) (last ts kept columns shown) x (clause_stays here having) (λ _ h. h))))) e
+
+  -- an updatable query
+  pub updatable_stays : (a : Around) (s : Select Named) (u : UpdatableQuery) → IsUpdatableOf (with less a) s u → IsUpdatableOf (with more a) s u
+  updatable_stays a s u h = record {
+    list = h.list;
+    reference = h.reference;
+    filter = h.filter;
+    is_plain = h.is_plain;
+    table = h.table;
+    is_known = keep h.reference.table.user h.reference.table.name h.table h.is_known;
+    place = h.place;
+    is_over = h.is_over;
+    condition = λ later. clause_stays (inside (leaf_item h.reference h.table ∷ []) a) h.filter (clause_of (map call_of later) u.target.condition) (h.condition later);
+    shown = h.shown;
+    list_is = list_stays (inside ((item_over h.reference h.table).item ∷ []) a) h.list h.shown h.list_is;
+    columns = h.columns;
+  }

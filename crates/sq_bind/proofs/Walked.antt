@@ -19,13 +19,14 @@ use Rattle.sq_bound.proofs.ExpressionLaws.{expr_of-Column}
 use Rattle.sq_bound.specs.Condition.{PlacedClause, PlacedSelect, clause_of, groups_if, groups_of, select_by}
 use Rattle.sq_bound.specs.Condition as tree
 use Rattle.sq_bound.specs.Expression.{PlacedExpr, expr_of, place_meant}
-use Rattle.sq_bound.specs.Known.{KnownTable, KnownTables, known_by}
+use Rattle.sq_bound.specs.Known.{KnownTable, KnownTables, known_by, under_of}
 use Rattle.sq_bound.specs.WellFormed.{TableKinds}
 use Rattle.sq_bound.specs.declared.condition.BoundSpecification.{BoundSpecification, out-BoundSpecification}
 use Rattle.sq_bound.specs.declared.condition.TablePlace.{TablePlace}
 use Rattle.sq_bound.specs.declared.expression.BoundExpr.{BoundExpr}
 use Rattle.sq_bound.specs.declared.fault.BindFault.{BindFault}
 use Rattle.sq_bound.specs.declared.names.Column.{Column}
+use Rattle.sq_bound.specs.declared.names.Leaf.{Leaf}
 use Rattle.sq_bound.specs.declared.names.TableDesc.{TableDesc}
 use Rattle.sq_bound.specs.declared.query.Target.{Target}
 use Rattle.sq_bound.specs.declared.query.UpdatableQuery.{UpdatableQuery}
@@ -176,13 +177,15 @@ pub written_found : (a : Around) (text : Select Named) (r : TableReference) (t :
     (named : Result (Option (List ℕ)) BindFault) (target : Result (Found Target) BindFault) (positions : Option (List ℕ)) (f : Found Target) (found : Option ((Name × Name) × UpdatableQuery))
     → OverTable a text r t list filter (map (expr_of []) list_bound) tables → own ≡ t.columns → es ≡ list_bound → IfOk named (λ o. IfSome o (AreLeaves own es)) → IfOk target (λ f. f.part.table ≡ t.place)
     → IfOk target (λ f. ClauseIs [] (clause_placed (inside (leaf_item r t ∷ []) a) filter) f.part.condition) → named ≡ Ok positions → target ≡ Ok f
+    → (l : Leaf) → IfOk target (λ f. f.part.leaf ≡ l) → t.under ≡ Some (under_of l)
     → IfSome found (λ x. (positions ≡ Some x.1.columns) × (f.part ≡ x.1.target)) → IfSome found (λ over. IsUpdatableOf a text over.1)
-written_found a text r t items kept list_bound tables own es named target positions f None over same is are placed on n e h = tt {0}
-written_found a text r t items kept list_bound tables own es named target positions f (Some x) over same is are placed on n e h =
+written_found a text r t items kept list_bound tables own es named target positions f None over same is are placed on n e l leaf under h = tt {0}
+written_found a text r t items kept list_bound tables own es named target positions f (Some x) over same is are placed on n e l leaf under h =
     let some : IfSome positions (AreLeaves own es) = subst (λ (r : Result (Option (List ℕ)) BindFault). IfOk r (λ o. IfSome o (AreLeaves own es))) n are in
     let leaves : AreLeaves own es x.1.columns = subst (λ (o : Option (List ℕ)). IfSome o (AreLeaves own es)) h.0 some in
     let at : f.part.table ≡ t.place = subst (λ (r : Result (Found Target) BindFault). IfOk r (λ (g : Found Target). g.part.table ≡ t.place)) e placed in
     let Filtered = λ (u : Target). ClauseIs [] (clause_placed (inside (leaf_item r t ∷ []) a) kept) u.condition in
+    let under_it : f.part.leaf ≡ l = subst (λ (r : Result (Found Target) BindFault). IfOk r (λ (g : Found Target). g.part.leaf ≡ l)) e leaf in
     let condition : Filtered f.part = subst (λ (r : Result (Found Target) BindFault). IfOk r (λ (g : Found Target). Filtered g.part)) e on in record {
       list = items;
       reference = r;
@@ -191,6 +194,7 @@ written_found a text r t items kept list_bound tables own es named target positi
       table = t;
       is_known = over.is_known;
       place = ap (λ (u : Target). u.table) (sym h.1) ∙ at;
+      is_over = under ∙ ap (λ k. Some (under_of k)) (sym under_it ∙ ap (λ (u : Target). u.leaf) h.1);
       condition = subst Filtered h.1 condition;
       shown = map (expr_of []) list_bound;
       list_is = over.list_is;

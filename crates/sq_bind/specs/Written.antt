@@ -38,7 +38,7 @@ use Rattle.sq_meaning.specs.Status.{Outcome, ◌>>=◌, each, well_formed}
 use Rattle.sq_meaning.specs.Syntax.{Clause, Query, Select as Selection, SelectList, absent, column, literal, present, select, specification, union}
 use Rattle.sq_bound.specs.Condition.{PlacedClause, PlacedCond}
 use Rattle.sq_bound.specs.Expression.{PlacedExpr}
-use Rattle.sq_bound.specs.Known.{KnownTable, KnownTables}
+use Rattle.sq_bound.specs.Known.{KnownTable, KnownTables, under_of}
 use Rattle.sq_bound.specs.Query as bound
 use Rattle.sq_bound.specs.Query.{PlacedQuery}
 use Rattle.sq_bound.specs.Fits.{under}
@@ -150,8 +150,8 @@ leaf_item r t = record { user = r.table.user; name = r.table.name; correlation =
 abbrev pub IsShownAt : List Column → PlacedExpr → ℕ → Type 0
 IsShownAt columns e position = (p : Place) × (e ≡ column p) × (slice_get (map (λ c. c.leaf_column) columns) p.column ≡ Some position)
 
--- The query is over one table, without DISTINCT, groups and HAVING. It has the rows of the base table under that table that meet its
--- condition, and shows columns of them.
+-- The query is over one table, without DISTINCT, groups and HAVING. It has the rows under that table that meet its condition, and shows
+-- columns of them.
 pub record IsUpdatableOf (a : Around) (text : Selection Named) (u : UpdatableQuery) : Type 0 where
   pub list : SelectList Named
   pub reference : TableReference
@@ -160,6 +160,7 @@ pub record IsUpdatableOf (a : Around) (text : Selection Named) (u : UpdatableQue
   pub table : KnownTable
   pub is_known : a.known reference.table.user reference.table.name ≡ Some table
   pub place : u.target.table ≡ table.place
+  pub is_over : table.under ≡ Some (under_of u.target.leaf)
   pub condition : ClauseIs [] (clause_placed (inside (leaf_item reference table ∷ []) a) filter) u.target.condition
   pub shown : List PlacedExpr
   pub list_is : list_placed (inside ((item_over reference table).item ∷ []) a) list ≡ Ok shown
@@ -193,13 +194,13 @@ pub record IsCursorOf (known : KnownTables) (user : Name) (parameters : List Par
   pub rows : HasRowsOf (outside known parameters) (query_of user c.query) cursor.body
   pub order : IsSortedBy (query_names_placed known (query_of user c.query)) (listed_if_any c.order_by) cursor.body
 
--- what is under the table of the written name, which is the user's where no schema is written (5.4): that base table itself, if it
--- is one. The places of base tables are given by their owners and names
-pub record IsUnder (base_number : Name → Name → Option ℕ) (user : Name) (t : WrittenTable) (leaf : Leaf) : Type 0 where
-  pub table : TableDesc
-  pub is_named : same_table (table_of user t) (record { user = table.user; name = table.name }) ≡ true
-  pub is_under : table.leaf ≡ Some leaf
-  pub is_base : IfSome (base_number table.user table.name) (λ place. leaf.table.place ≡ place)
+-- what the name of a table means
+abbrev pub table_known : KnownTables → TableName → Option KnownTable
+table_known known t = known t.user t.name
+
+-- what is under the table of the written name, which is the user's where no schema is written (5.4)
+abbrev pub IsUnder : KnownTables → Name → WrittenTable → Leaf → Type 0
+IsUnder known user t leaf = option_and_then (λ k. k.under) (table_known known (table_of user t)) ≡ Some (under_of leaf)
 
 -- ---- values, and the rows that a statement changes
 
@@ -273,47 +274,38 @@ check_placed t columns c = cond_placed (record { known = λ _ _. None; parameter
 
 -- ---- statements
 
--- what names mean where a statement stands: the places of base tables by their owners and names, and all tables and views
-pub record NamesMean : Type 0 where
-  pub base_number : Name → Name → Option ℕ
-  pub known : KnownTables
-
 -- SELECT INTO: the targets, and the query (13.5)
 pub record IsRowOf (a : Around) (user : Name) (s : Select) (row : BoundSelect) : Type 0 where
   pub targets : AreOutputsOf a.parameters row.outputs (listed s.targets)
   pub query : SelectIs (select_placed a (select_of_parts user s.quantifier s.list s.table)) row.query
 
--- what the name of a table means
-abbrev pub table_known : KnownTables → TableName → Option KnownTable
-table_known known t = known t.user t.name
-
 -- INSERT: the table, its columns that get values, and the rows (13.8)
-pub record IsInsertOf (names : NamesMean) (a : Around) (user : Name) (i : Insert) (insert : BoundInsert) : Type 0 where
-  pub under : IsUnder names.base_number user i.table insert.leaf
+pub record IsInsertOf (a : Around) (user : Name) (i : Insert) (insert : BoundInsert) : Type 0 where
+  pub under : IsUnder a.known user i.table insert.leaf
   pub columns : IntoTable (table_known a.known (table_of user i.table)) i.columns insert.columns
   pub source : IsSourceOf a user i.source insert.source
 
 -- DELETE: the table, and the rows (13.6, 13.7)
-pub record IsDeleteOf (names : NamesMean) (IsNumberOf : Name → ℕ → Type 0) (a : Around) (user : Name) (d : Delete) (t : ChangeTarget) : Type 0 where
-  pub is_under : IsUnder names.base_number user d.table (under t)
+pub record IsDeleteOf (IsNumberOf : Name → ℕ → Type 0) (a : Around) (user : Name) (d : Delete) (t : ChangeTarget) : Type 0 where
+  pub is_under : IsUnder a.known user d.table (under t)
   pub rows : IsTargetOf IsNumberOf (filter_placed a user (table_of user d.table)) d.target t
 
 -- UPDATE: the table, the rows, and the set clauses (13.9, 13.10)
-pub record IsUpdateOf (names : NamesMean) (IsNumberOf : Name → ℕ → Type 0) (a : Around) (user : Name) (u : Update) (update : BoundUpdate) : Type 0 where
-  pub is_under : IsUnder names.base_number user u.table (under update.target)
+pub record IsUpdateOf (IsNumberOf : Name → ℕ → Type 0) (a : Around) (user : Name) (u : Update) (update : BoundUpdate) : Type 0 where
+  pub is_under : IsUnder a.known user u.table (under update.target)
   pub rows : IsTargetOf IsNumberOf (filter_placed a user (table_of user u.table)) u.target update.target
   pub values : SetOn a (table_of user u.table) (table_known a.known (table_of user u.table)) (listed u.assignments) update.assignments
 
 -- A statement in a module of the user: its cursors have the numbers that their names have, its targets are parameters of the written
 -- names, the rows that it changes are under the table of the written name, and its queries, conditions and values are the written ones.
-abbrev pub IsStatementOf : NamesMean → (Name → ℕ → Type 0) → Name → List ParameterDesc → Statement → BoundStatement → Type 0
-IsStatementOf names IsNumberOf user parameters (tree.Open name) (statement.Open n) = IsNumberOf name n
-IsStatementOf names IsNumberOf user parameters (tree.Fetch f) (statement.Fetch x) = IsFetchOf IsNumberOf parameters f x
-IsStatementOf names IsNumberOf user parameters (tree.Close name) (statement.Close n) = IsNumberOf name n
-IsStatementOf names IsNumberOf user parameters (tree.Select s) (statement.Select x) = IsRowOf (outside names.known parameters) user s x
-IsStatementOf names IsNumberOf user parameters (tree.Insert i) (statement.Insert x) = IsInsertOf names (outside names.known parameters) user i x
-IsStatementOf names IsNumberOf user parameters (tree.Update u) (statement.Update x) = IsUpdateOf names IsNumberOf (outside names.known parameters) user u x
-IsStatementOf names IsNumberOf user parameters (tree.Delete d) (statement.Delete t) = IsDeleteOf names IsNumberOf (outside names.known parameters) user d t
-IsStatementOf names IsNumberOf user parameters (tree.Commit work) statement.Commit = ⊤
-IsStatementOf names IsNumberOf user parameters (tree.Rollback work) statement.Rollback = ⊤
-IsStatementOf names IsNumberOf user parameters _ _ = ⊥
+abbrev pub IsStatementOf : KnownTables → (Name → ℕ → Type 0) → Name → List ParameterDesc → Statement → BoundStatement → Type 0
+IsStatementOf known IsNumberOf user parameters (tree.Open name) (statement.Open n) = IsNumberOf name n
+IsStatementOf known IsNumberOf user parameters (tree.Fetch f) (statement.Fetch x) = IsFetchOf IsNumberOf parameters f x
+IsStatementOf known IsNumberOf user parameters (tree.Close name) (statement.Close n) = IsNumberOf name n
+IsStatementOf known IsNumberOf user parameters (tree.Select s) (statement.Select x) = IsRowOf (outside known parameters) user s x
+IsStatementOf known IsNumberOf user parameters (tree.Insert i) (statement.Insert x) = IsInsertOf (outside known parameters) user i x
+IsStatementOf known IsNumberOf user parameters (tree.Update u) (statement.Update x) = IsUpdateOf IsNumberOf (outside known parameters) user u x
+IsStatementOf known IsNumberOf user parameters (tree.Delete d) (statement.Delete t) = IsDeleteOf IsNumberOf (outside known parameters) user d t
+IsStatementOf known IsNumberOf user parameters (tree.Commit work) statement.Commit = ⊤
+IsStatementOf known IsNumberOf user parameters (tree.Rollback work) statement.Rollback = ⊤
+IsStatementOf known IsNumberOf user parameters _ _ = ⊥

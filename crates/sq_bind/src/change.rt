@@ -51,7 +51,7 @@ fn changed_table<N: Names>(
 ) -> Result<Under<'_>, BindFault>
     ensures base { IfOk result (λ under. IsBase (N.base_tables names.now) under.leaf.now.table) }
     ensures leaf { IfOk result (λ under. IsLeaf (N.column_kinds names.now) under.leaf.now) }
-    ensures named { IfOk result (λ under. IsUnder (N.base_number names.now) user written under.leaf.now) }
+    ensures named { IfOk result (λ under. IsUnder (N.known names.now) user written under.leaf.now) }
     ensures known { IfOk result (λ under. let name = table_of user written in
         N.known names.now name.user name.name ≡ Some (known_by under.table.now)) }
     ensures owner { IfOk result (λ under. table_of user written ≡ record { user = under.table.now.user; name = under.table.now.name }) }
@@ -211,7 +211,7 @@ pub(crate) fn bind_insert<N: Names>(
     requires { IsOutermost environment.now }
     ensures base { IfOk result (λ found. IsBase (N.base_tables names.now) found.part.leaf.table) }
     ensures leaf { IfOk result (λ found. IsLeaf (N.column_kinds names.now) found.part.leaf) }
-    ensures table { IfOk result (λ found. IsUnder (N.base_number names.now) environment.now.user insert.now.table found.part.leaf) }
+    ensures table { IfOk result (λ found. IsUnder (N.known names.now) environment.now.user insert.now.table found.part.leaf) }
     ensures columns { IfOk result (λ found. AllByRecursion (IsColumnOf found.part.leaf.table) found.part.columns) }
     ensures into { IfOk result (λ found. IntoTable (table_known (N.known names.now) (table_of environment.now.user insert.now.table))
         insert.now.columns found.part.columns) }
@@ -476,7 +476,7 @@ pub(crate) fn bind_delete<N: Names, C: Cursors>(
 ) -> Result<Found<ChangeTarget>, BindFault>
     requires { IsOutermost environment.now }
     ensures fits { IfOk result (λ found. FitsTarget (N.base_tables names.now) (C.cursor_count cursors.now) found.part) }
-    ensures table { IfOk result (λ found. IsUnder (N.base_number names.now) environment.now.user delete.now.table (leaf_of found.part)) }
+    ensures table { IfOk result (λ found. IsUnder (N.known names.now) environment.now.user delete.now.table (leaf_of found.part)) }
     ensures well_formed { IfOk result (λ found. IsChangeTarget (N.column_kinds names.now)
         (kinds_of_parameters environment.now.parameters.now) found.part) }
     ensures written { IfOk result (λ found. IsTargetOf (λ name number. C.number_of cursors.now name ≡ Some number)
@@ -524,7 +524,7 @@ pub(crate) fn bind_update<N: Names, C: Cursors>(
 ) -> Result<Found<BoundUpdate>, BindFault>
     requires { IsOutermost environment.now }
     ensures target { IfOk result (λ found. FitsTarget (N.base_tables names.now) (C.cursor_count cursors.now) found.part.target) }
-    ensures table { IfOk result (λ found. IsUnder (N.base_number names.now) environment.now.user update.now.table
+    ensures table { IfOk result (λ found. IsUnder (N.known names.now) environment.now.user update.now.table
         (leaf_of found.part.target)) }
     ensures written { IfOk result (λ found. IsTargetOf (λ name number. C.number_of cursors.now name ≡ Some number)
         (filter_placed (around (N.known names.now) environment.now) environment.now.user (table_of environment.now.user update.now.table)) update.now.target found.part.target) }

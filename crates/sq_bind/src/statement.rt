@@ -136,8 +136,6 @@ struct OwnColumns<'a> {
 impl Names for OwnColumns<'_> {
     ghost base_tables = { λ _. [] };
 
-    ghost base_number = { λ _ _ _. None };
-
     ghost known = { λ _ _ _. None };
 
     ghost view_queries = { λ _. [] };
@@ -256,7 +254,7 @@ pub fn bind_statement<N: Names, C: Cursors>(
     ensures fits { IfOk result (FitsStatement (N.base_tables names.now) (C.cursor_count cursors.now) (length parameters.now)) }
     ensures well_formed { IfOk result (IsStatement (N.column_kinds names.now) (C.cursor_kinds cursors.now)
         (kinds_of_parameters parameters.now)) }
-    ensures written { IfOk result (IsStatementOf (record { base_number = N.base_number names.now; known = N.known names.now })
+    ensures written { IfOk result (IsStatementOf (N.known names.now)
         (λ name number. C.number_of cursors.now name ≡ Some number) user parameters.now statement.now) }
 {
     let environment = Environment::new(alloc, user, parameters);
@@ -276,7 +274,7 @@ fn statement_of<N: Names, C: Cursors>(
         (length environment.now.parameters.now)) }
     ensures well_formed { IfOk result (IsStatement (N.column_kinds names.now) (C.cursor_kinds cursors.now)
         (kinds_of_parameters environment.now.parameters.now)) }
-    ensures written { IfOk result (IsStatementOf (record { base_number = N.base_number names.now; known = N.known names.now })
+    ensures written { IfOk result (IsStatementOf (N.known names.now)
         (λ name number. C.number_of cursors.now name ≡ Some number) environment.now.user environment.now.parameters.now statement.now) }
 {
     match statement {

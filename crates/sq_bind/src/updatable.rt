@@ -43,6 +43,7 @@ fn only_table<'a, N: Names>(
 ) -> Result<Option<Under<'a>>, BindFault>
     ensures base { IfOk result (λ found. IfSome found (λ under. IsBase (N.base_tables names.now) under.leaf.now.table)) }
     ensures leaf { IfOk result (λ found. IfSome found (λ under. IsLeaf (N.column_kinds names.now) under.leaf.now)) }
+    ensures own { IfOk result (λ found. IfSome found (λ under. under.table.now.leaf ≡ Some under.leaf.now)) }
     ensures only { IfOk result (λ found. IfSome found (λ under. IsOnlyTable (N.known names.now) (N.column_kinds names.now) user query.now
         bound.now under.table.now)) }
 {
@@ -89,6 +90,7 @@ fn updatable_over<N: Names>(
 ) -> Result<Option<((Name, Name), UpdatableQuery)>, BindFault>
     requires base { IsBase (N.base_tables names.now) under.leaf.now.table }
     requires leaf { IsLeaf (N.column_kinds names.now) under.leaf.now }
+    requires own { under.table.now.leaf ≡ Some under.leaf.now }
     requires only { IsOnlyTable (N.known names.now) (N.column_kinds names.now) environment.now.user query.now bound.now under.table.now }
     requires outermost { IsOutermost environment.now }
     requires bound { IsSelect (N.column_kinds names.now) (kinds_of_parameters environment.now.parameters.now) [] bound.now }

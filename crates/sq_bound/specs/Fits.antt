@@ -36,10 +36,6 @@ IsBase bases b = slice_get bases b.place ≡ Some b
 abbrev pub IsOver : List BaseTable → TableDesc → Type 0
 IsOver bases t = IfSome t.leaf (λ l. IsBase bases l.table)
 
--- what is under the base table at a place, if the table is that one, is that base table itself
-abbrev pub IsBaseAt : Option ℕ → TableDesc → Type 0
-IsBaseAt number t = IfSome number (λ place. IfSome t.leaf (λ l. l.table.place ≡ place))
-
 -- the keys of each base table
 abbrev pub keys_of_bases : List BaseTable → List Keys
 keys_of_bases bases = map (λ b. b.keys) bases

@@ -1,17 +1,32 @@
--- What a name of a table or view means: where its rows are, and its columns (ISO/IEC 9075:1992, 5.4 and 6.3).
-use Rattle.std.specs.Prelude.{List, Option}
+-- What a name of a table or view means: where its rows are, its columns, and what is under it (ISO/IEC 9075:1992, 5.4, 6.3 and 7.9).
+use Rattle.std.specs.Prelude.{ℕ, List, Option}
+use Rattle.std.specs.Option.{option_map}
 use Rattle.sq_lex.specs.declared.name.Name.{Name}
 use Rattle.sq_bound.specs.WellFormed.{place_of}
+use Rattle.sq_bound.specs.declared.condition.BoundCond.{BoundCond}
 use Rattle.sq_bound.specs.declared.condition.TablePlace.{TablePlace}
 use Rattle.sq_bound.specs.declared.names.Column.{Column}
+use Rattle.sq_bound.specs.declared.names.Leaf.{Leaf}
 use Rattle.sq_bound.specs.declared.names.TableDesc.{TableDesc}
 
+-- The base table under a table that may be changed, by its place; the conditions of the views in between, each on a row of the base
+-- table, from inside out; and how many of them, from inside out, new and changed rows have to meet.
+pub record Under : Type 0 where
+  pub base : ℕ
+  pub conditions : List BoundCond
+  pub demanded : ℕ
+
+abbrev pub under_of : Leaf → Under
+under_of l = record { base = l.table.place; conditions = l.conditions; demanded = l.demanded }
+
+-- a table that may not be changed has none under it
 pub record KnownTable : Type 0 where
   pub place : TablePlace
   pub columns : List Column
+  pub under : Option Under
 
 abbrev pub known_by : TableDesc → KnownTable
-known_by t = record { place = place_of t.body; columns = t.columns }
+known_by t = record { place = place_of t.body; columns = t.columns; under = option_map under_of t.leaf }
 
 -- the table or view of each owner and name, where there is one
 abbrev pub KnownTables : Type 0

@@ -28,22 +28,18 @@ pub enum Action {
 
 /// The tables, views and privileges that a user's texts may name.
 pub trait Names {
-    ghost use Rattle.std.specs.Prelude.{ℕ, IsSome, Ok, Option};
-    ghost use Rattle.sq_lex.specs.declared.name.Name.{Name as AnyName};
+    ghost use Rattle.std.specs.Prelude.{ℕ, IsSome, Ok};
     ghost use Rattle.sq_value.specs.declared.domain.Kind.{Kind as AnyKind};
     ghost use Rattle.sq_bound.specs.declared.condition.TablePlace.TheVariants as at_place;
     ghost use Rattle.sq_bound.specs.declared.names.BaseTable.{BaseTable};
     ghost use Rattle.std.specs.Option.{option_map};
-    ghost use Rattle.sq_bound.specs.Fits.{IsBaseAt, IsOver, all_refer};
+    ghost use Rattle.sq_bound.specs.Fits.{IsOver, all_refer};
     ghost use Rattle.sq_bound.specs.Known.{KnownTables, known_by};
     ghost use Rattle.sq_meaning.specs.WellFormed.{HasValue};
     ghost use Rattle.sq_bound.specs.WellFormed.{BasesAreThere, IsTable, IsViewAmong, IsViewQuery, TableKinds, base_kinds, place_of};
     ghost use Rattle.sq_bound.specs.declared.condition.BoundSpecification.{BoundSpecification};
 
     ghost base_tables: { Self → List BaseTable };
-
-    /// The place of the base table of an owner and a name, if there is one.
-    ghost base_number: { Self → AnyName → AnyName → Option ℕ };
 
     /// What each owner and name means.
     ghost known: { Self → KnownTables };
@@ -64,7 +60,6 @@ pub trait Names {
         ensures view { IfSome result (λ t. IsViewAmong (view_queries self.now) t.now.body) }
         ensures well_formed { IfSome result (λ t. IsTable (column_kinds self.now) t.now) }
         ensures named { IfSome result (λ t. (t.now.user ≡ user) × (t.now.name ≡ name)) }
-        ensures base { IfSome result (λ t. IsBaseAt (base_number self.now user name) t.now) }
         ensures known { option_map (λ t. known_by t.now) result ≡ known self.now user name };
 
     /// The base table or view at this place.

@@ -62,7 +62,7 @@ place_read at None es place h there = tt
 place_read at (Some t) es place h there = let same : 0 + place ≡ place = omega arith in stands_from at 0 es place there.0 t.now h there.1 ∙ ap at same
 
 -- as many base tables as entries
-described_long : (bs : List BaseTable) (es : List (FullName × TableDesc)) → AreDescribed bs es → length bs ≡ length es
+pub described_long : (bs : List BaseTable) (es : List (FullName × TableDesc)) → AreDescribed bs es → length bs ≡ length es
 described_long [] [] h = refl
 described_long [] (x ∷ es) h = absurd h
 described_long (b ∷ bs) [] h = absurd h

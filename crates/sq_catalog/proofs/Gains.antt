@@ -1,5 +1,5 @@
 -- A catalog grows table by table.
-use Rattle.std.proofs.Common.{◌≡◌, ℕ, ◌+◌, ◌<◌, Bool, false, List, [], ◌∷◌, ◌++◌, length, get_or, take, flat_map, position, Option, Some, None, is_some, refl, ap, sym, ◌∙◌, true≢false, arith, append_assoc, length-append, Result, Ok, Err}
+use Rattle.std.proofs.Common.{◌≡◌, ℕ, ◌+◌, ◌<◌, Bool, false, List, [], ◌∷◌, ◌++◌, length, get_or, take, flat_map, position, Option, Some, None, is_some, refl, ap, sym, subst, ◌∙◌, true≢false, arith, append_assoc, length-append, Result, Ok, Err}
 use Rattle.std.specs.List.{AllZip}
 use Rattle.std.specs.Result.{OnOk}
 use Rattle.std.proofs.lemmas.List.{take_more, append-nil}
@@ -12,8 +12,11 @@ use Rattle.sq_tree.specs.declared.schema.TableDefinition.{TableDefinition}
 use Rattle.sq_bound.specs.declared.names.BaseTable.{BaseTable}
 use Rattle.sq_bound.specs.declared.names.Column.{Column}
 use Rattle.sq_catalog.specs.declared.catalog.FullName.{FullName}
-use Rattle.sq_catalog.specs.Catalog.{Adds, Catalog, Gains}
-use Rattle.sq_catalog.specs.Columns.{HasBaseColumnsOf, HasColumnsOf}
+use Rattle.sq_catalog.specs.Base.{AreBasesOf, IsBaseOf}
+use Rattle.sq_catalog.specs.Catalog.{Adds, Catalog, Gains, HaveReferences}
+use Rattle.sq_catalog.specs.Columns.{HasColumnsOf}
+use Rattle.sq_catalog.specs.Reference.{MakesReferences}
+use Rattle.sq_catalog.proofs.References.{have_append, have_still}
 
 -- ---- a key that is new goes last
 
@@ -39,6 +42,17 @@ zip_append R [] more (y ∷ ys) others h k = absurd h
 zip_append R (x ∷ xs) more [] others h k = absurd h
 zip_append R (x ∷ xs) more (y ∷ ys) others h k = (h.0, zip_append R xs more ys others h.1 k)
 
+bases_append : (names more_names : List FullName) (definitions more : List TableDefinition) (bases others : List BaseTable) → AreBasesOf names definitions bases → AreBasesOf more_names more others
+    → AreBasesOf (names ++ more_names) (definitions ++ more) (bases ++ others)
+bases_append [] more_names [] more [] others h k = k
+bases_append [] more_names [] more (b ∷ bases) others h k = absurd h
+bases_append [] more_names (t ∷ definitions) more [] others h k = absurd h
+bases_append [] more_names (t ∷ definitions) more (b ∷ bases) others h k = absurd h
+bases_append (name ∷ names) more_names [] more [] others h k = absurd h
+bases_append (name ∷ names) more_names [] more (b ∷ bases) others h k = absurd h
+bases_append (name ∷ names) more_names (t ∷ definitions) more [] others h k = absurd h
+bases_append (name ∷ names) more_names (t ∷ definitions) more (b ∷ bases) others h k = (h.0, bases_append names more_names definitions more bases others h.1 k)
+
 adds_more : (a b c : Catalog) (names more_names : List FullName) (columns more_columns : List (List Column)) (bases more_bases : List BaseTable) → Adds a b names columns bases → Adds b c more_names more_columns more_bases
     → Adds a c (names ++ more_names) (columns ++ more_columns) (bases ++ more_bases)
 adds_more a b c names more_names columns more_columns bases more_bases p q = record {
@@ -55,6 +69,7 @@ gains_kept a b tables columns bases = record {
   added = record { tables = tables ∙ sym (append-nil a.tables); columns = columns ∙ sym (append-nil a.columns); bases = bases ∙ sym (append-nil a.bases) };
   columns_are = tt;
   bases_are = tt;
+  references_are = tt;
   count = refl;
 }
 
@@ -65,6 +80,23 @@ pub gains_none_if : {E : Type 0} (r : Result (Unit {0}) E) (a b : Catalog) → b
 gains_none_if (Ok u) a b tables columns bases = gains_kept a b tables columns bases
 gains_none_if (Err e) a b tables columns bases = tt
 
+-- one
+pub gains_one : {E : Type 0} (r : Result (Unit {0}) E) (a b : Catalog) (name : FullName) (t : TableDefinition) (columns : List Column) (base : BaseTable) → OnOk r (Adds a b (name ∷ []) (columns ∷ []) (base ∷ [])) → HasColumnsOf t columns
+    → IsBaseOf name t base → MakesReferences a name t columns base → OnOk r (Gains a b (name ∷ []) (t ∷ []))
+gains_one (Ok u) a b name t columns base adds seen held refer = record {
+  columns = columns ∷ [];
+  bases = base ∷ [];
+  added = adds;
+  columns_are = (seen, tt);
+  bases_are = (held, tt);
+  references_are =
+      subst (λ all. HaveReferences all b.columns b.bases (name ∷ []) (t ∷ []) (base ∷ [])) (sym adds.tables)
+      (subst (λ all. HaveReferences (a.tables ++ name ∷ []) all b.bases (name ∷ []) (t ∷ []) (base ∷ [])) (sym adds.columns)
+      (subst (λ all. HaveReferences (a.tables ++ name ∷ []) (a.columns ++ columns ∷ []) all (name ∷ []) (t ∷ []) (base ∷ [])) (sym adds.bases) (refer, tt)));
+  count = refl;
+}
+gains_one (Err e) a b name t columns base adds seen held refer = tt
+
 pub gains_first : (a b : Catalog) (names : List FullName) (definitions : List TableDefinition) → Gains a b names definitions → Gains a b (names ++ []) (definitions ++ [])
 gains_first a b names definitions h = rw (append-nil names, append-nil definitions) h
 
@@ -74,7 +106,9 @@ gains_more a b c names more_names definitions more p q = record {
   bases = p.bases ++ q.bases;
   added = adds_more a b c names more_names p.columns q.columns p.bases q.bases p.added q.added;
   columns_are = zip_append HasColumnsOf definitions more p.columns q.columns p.columns_are q.columns_are;
-  bases_are = zip_append HasBaseColumnsOf definitions more p.bases q.bases p.bases_are q.bases_are;
+  bases_are = bases_append names more_names definitions more p.bases q.bases p.bases_are q.bases_are;
+  references_are = have_append c.tables c.columns c.bases names more_names definitions more p.bases q.bases
+      (have_still b c more_names q.columns q.bases q.added names definitions p.bases p.references_are) q.references_are;
   count = length-append p.bases q.bases ∙ (λ i. p.count i + q.count i) ∙ sym (length-append names more_names);
 }
 

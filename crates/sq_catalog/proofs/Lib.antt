@@ -5,6 +5,7 @@ pub mod Gains
 pub mod Listed
 pub mod NotNull
 pub mod Quiet
+pub mod References
 pub mod Seen
 pub mod Stored
 pub mod ViewNames
@@ -13,3 +14,5 @@ pub mod Known
 pub mod GainsViews
 pub mod StillKnown
 pub mod Declared
+pub mod WrittenParts
+pub mod Bases

@@ -1,5 +1,5 @@
 -- Columns as names see them, over columns of a base table.
-use Rattle.std.proofs.Common.{◌≡◌, ℕ, zero, suc, ◌+◌, ◌<◌, true, List, [], ◌∷◌, ◌++◌, length, get_or, take, map, nat_eq, nat_lt, Some, refl, ap, sym, subst, ◌∙◌, true≢false, arith, unwrap_or, Result, Ok, Err, IfOk}
+use Rattle.std.proofs.Common.{◌≡◌, ℕ, zero, suc, ◌+◌, ◌<◌, Bool, true, if◌then◌else◌, List, [], ◌∷◌, ◌++◌, length, get_or, take, map, nat_eq, nat_lt, Some, refl, ap, sym, subst, ◌∙◌, true≢false, arith, unwrap_or, Result, Ok, Err, IfOk}
 use Rattle.std.specs.List.{AllZip, list_all, slice_get}
 use Rattle.std.proofs.lemmas.Option.{slice_get-get_or, slice_get_within}
 use Rattle.std.proofs.lemmas.Bool.Decides.{nat_tests}
@@ -12,7 +12,11 @@ use Rattle.sq_bound.specs.WellFormed.{base_kinds}
 use Rattle.sq_bound.specs.declared.names.BaseColumn.{BaseColumn}
 use Rattle.sq_bound.specs.declared.names.BaseTable.{BaseTable}
 use Rattle.sq_bound.specs.declared.names.Column.{Column}
+use Rattle.sq_bound.specs.declared.names.Leaf.{Leaf}
+use Rattle.sq_bound.specs.declared.query.UpdatableQuery.{UpdatableQuery}
+use Rattle.sq_bind.proofs.Joins.{on_value}
 use Rattle.sq_catalog.specs.Stored.{AreColumnsOver}
+use Rattle.sq_catalog.specs.View.{IsAbove, conditions_with}
 use Rattle.sq_catalog.proofs.Listed.{all_push, all_weaker, below, is_below}
 
 itself : (n : ℕ) → nat_eq n n ≡ true
@@ -102,3 +106,23 @@ pub parts_over : {L E : Type 0} (r : Result (List Column × L) E) (s : Result (L
 parts_over (Err x) s t base ps kinds h g over = tt
 parts_over (Ok parts) s t base ps kinds h g over =
     subst (λ o. IfOk o (λ placed. (base : List Kind) → AllZip (λ p k. slice_get base p ≡ Some k) ps kinds → AreColumnsOver base kinds placed)) h.0 g base over
+
+-- the columns of a base table that they are, one after the other
+pub places_next : (below : List ℕ) (placed new : List Column) (i : ℕ) (c : Column) → i < length below → c.leaf_column ≡ get_or below i 0 → new ≡ placed ++ c ∷ [] → map (λ c. c.leaf_column) placed ≡ take i below
+    → map (λ c. c.leaf_column) new ≡ take (i + 1) below
+places_next below placed new i c lt e grown h =
+    let at = λ (c : Column). c.leaf_column in
+    ap (map at) grown ∙ map-append at placed (c ∷ []) ∙ ap (λ l. l ++ c.leaf_column ∷ []) h ∙ ap (λ n. take i below ++ n ∷ []) e ∙ sym (take_more below i 0 lt)
+
+-- what is under a view, made of its columns and its leaf
+pub parts_above : {E : Type 0} (both : Result (List Column × Leaf) E) (columns : Result (List Column) E) (leaf : Result Leaf E) (check_option : Bool) (over : UpdatableQuery) (below : List ℕ) → IfOk both (λ p. (columns ≡ Ok p.0) × (leaf ≡ Ok p.1))
+    → below ≡ over.columns → IfOk columns (λ placed. map (λ c. c.leaf_column) placed ≡ below) → IfOk leaf (λ l. l.table ≡ over.target.leaf.table)
+    → IfOk leaf (λ l. l.conditions ≡ conditions_with over.target.leaf.conditions over.target.condition) → IfOk leaf (λ l. l.demanded ≡ (if check_option then length l.conditions else over.target.leaf.demanded))
+    → IfOk both (λ p. IsAbove check_option over p.0 p.1)
+parts_above (Err e) columns leaf check_option over below parts same places table conditions demanded = tt
+parts_above {E} (Ok p) columns leaf check_option over below parts same places table conditions demanded = record {
+  table = on_value (λ (l : Leaf). l.table ≡ over.target.leaf.table) leaf p.1 parts.1 table;
+  conditions = on_value (λ (l : Leaf). l.conditions ≡ conditions_with over.target.leaf.conditions over.target.condition) leaf p.1 parts.1 conditions;
+  demanded = on_value (λ (l : Leaf). l.demanded ≡ (if check_option then length l.conditions else over.target.leaf.demanded)) leaf p.1 parts.1 demanded;
+  shows = on_value (λ (cs : List Column). map (λ (c : Column). c.leaf_column) cs ≡ below) columns p.0 parts.0 places ∙ same;
+}

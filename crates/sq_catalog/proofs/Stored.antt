@@ -3,18 +3,18 @@ use Rattle.std.proofs.Common.{◌≡◌, ℕ, zero, suc, ◌<◌, true, nat_eq, 
 use Rattle.std.specs.Cmp.Lexicographic.{pointwise, same_text}
 use Rattle.std.specs.List.{list_all, slice_get}
 use Rattle.std.specs.Map.{lookup_key}
-use Rattle.std.specs.Option.{IfSome}
+use Rattle.std.specs.Option.{option_map}
 use Rattle.std.proofs.lemmas.Bool.{and_parts}
 use Rattle.std.proofs.lemmas.List.{length-map, map-append}
 use Rattle.std.proofs.lemmas.List.Elements.{All-get_or, All-weaker}
 use Rattle.std.proofs.lemmas.Map.Made.{lookup_key_passes}
 use Rattle.std.proofs.lemmas.Option.{IfSome_then, slice_get_within, get_or_from_slice_get}
 use Rattle.sq_store.specs.Keys.{Keys, keys_at}
-use Rattle.sq_bound.specs.Fits.{IsBase, IsBaseAt, all_refer, keys_of_bases, refers}
+use Rattle.sq_bound.specs.Fits.{IsBase, all_refer, keys_of_bases, refers}
+use Rattle.sq_bound.specs.Known.{under_of}
 use Rattle.sq_bound.specs.Names.{are_positions}
 use Rattle.sq_bound.specs.WellFormed.{base_kinds, kinds_of_columns, place_of}
-use Rattle.sq_bound.specs.declared.condition.TablePlace.{TablePlace}
-use Rattle.sq_bound.specs.declared.condition.TablePlace.TheVariants.{Base, View}
+use Rattle.sq_bound.specs.declared.condition.TablePlace.TheVariants.{Base}
 use Rattle.sq_bound.specs.declared.names.BaseColumn.{BaseColumn}
 use Rattle.sq_value.specs.Domain.{kind_of}
 use Rattle.sq_bound.specs.declared.names.BaseTable.{BaseTable}
@@ -24,7 +24,7 @@ use Rattle.sq_bound.specs.declared.names.Reference.{Reference}
 use Rattle.sq_bound.specs.declared.names.TableBody.{TableBody}
 use Rattle.sq_bound.specs.declared.names.TableBody.TheVariants as body
 use Rattle.sq_bound.specs.declared.names.TableDesc.{TableDesc}
-use Rattle.sq_catalog.specs.Catalog.{is_table}
+use Rattle.sq_catalog.specs.Catalog.{is_table, itself}
 use Rattle.sq_catalog.specs.Reference.{is_to, keys_with}
 use Rattle.sq_catalog.specs.Stored.{AreChecksAt, AreNamed, AreStored, IsBody, IsDescribed, IsNamed, IsNext, IsStored, IsTableOf, IsUnderItself}
 use Rattle.sq_catalog.specs.declared.catalog.FullName.{FullName}
@@ -67,19 +67,6 @@ named_at es place name found t h there key =
     (All-get_or (λ (e : FullName × TableDesc). IsNamed e.0 e.1) es place (found, t) (slice_get_within es place (found, t) there) h) in
     let same = and_parts (pointwise nat_eq name.user found.user) (pointwise nat_eq name.name found.name) (lookup_key_passes (is_table name.user name.name) es found key) in
     (own.0 ∙ sym (same_text name.user found.user (sym same.0)), own.1 ∙ sym (same_text name.name found.name (sym same.1)))
-
--- under the base table at a place is that base table
-at_place : (t : TableBody) (under : Option Leaf) (place : ℕ) → IsUnderItself t under → place_of t ≡ Base place → IfSome under (λ l. l.table.place ≡ place)
-at_place (body.Base b) under place h is =
-    IfSome_then under {P = λ (l : Leaf). l.table ≡ b} {Q = λ (l : Leaf). l.table.place ≡ place} h (λ l same. ap (λ (y : BaseTable). y.place) same ∙ ap number is)
-  where
-    number : TablePlace → ℕ
-    number (Base n) = n
-    number (View n) = n
-at_place (body.View v) under place h is = absurd cc
-
-pub base_at : (number : Option ℕ) (t : TableDesc) (place : ℕ) → Some place ≡ number → IsUnderItself t.body t.leaf → place_of t.body ≡ Base place → IsBaseAt number t
-base_at number t place is h at = subst (λ (o : Option ℕ). IsBaseAt o t) is (at_place t.body t.leaf place h at)
 
 -- ---- references to keys
 
@@ -138,10 +125,9 @@ place_made : (b : BaseTable) (t : TableBody) → IsTableOf b t → place_of t �
 place_made b (body.Base own) h = ap (λ (y : BaseTable). Base y.place) h
 place_made b (body.View v) h = absurd h
 
-itself_made : (b : BaseTable) (t : TableBody) (under : Option Leaf) → IsTableOf b t → IfSome under (λ l. (l.table ≡ b) × (l.conditions ≡ [])) → IsUnderItself t under
-itself_made b (body.Base own) under h leaf =
-    IfSome_then under {P = λ (l : Leaf). (l.table ≡ b) × (l.conditions ≡ [])} {Q = λ (l : Leaf). l.table ≡ own} leaf (λ l same. same.0 ∙ sym h)
-itself_made b (body.View v) under h leaf = absurd h
+itself_made : (b : BaseTable) (t : TableBody) (under : Option Leaf) → IsTableOf b t → option_map under_of under ≡ Some (itself b.place) → IsUnderItself t under
+itself_made b (body.Base own) under h is = is ∙ ap (λ (y : BaseTable). Some (itself y.place)) (sym h)
+itself_made b (body.View v) under h is = absurd h
 
 pub next_made : (bases : List BaseTable) (name : FullName) (b : BaseTable) (columns : List Column) (width : ℕ) (t : TableDesc) → IsDescribed name b columns t → b.place ≡ length bases → kinds_of_columns columns ≡ base_kinds b
     → AreChecksAt (length bases) (kinds_of_columns columns) b.checks → list_all (is_to (keys_with bases b.keys) width) b.references ≡ true → IsNext bases name t b
@@ -153,7 +139,7 @@ next_made bases name b columns width t h place kinds checks refer =
         over = IfSome_then t.leaf {P = λ (l : Leaf). (l.table ≡ b) × (l.conditions ≡ [])} {Q = λ (l : Leaf). IsBase (bases ++ b ∷ []) l.table} h.leaf
             (λ l same. subst (λ (y : BaseTable). IsBase (bases ++ b ∷ []) y) (sym same.0) (base_behind bases b place));
         body = body_made (bases ++ b ∷ []) b (length t.columns) t.body (base_behind bases b place) (ap length h.columns ∙ count) h.body;
-        itself = itself_made b t.body t.leaf h.body h.leaf;
+        itself = itself_made b t.body t.leaf h.body h.itself;
       };
       place = place_made b t.body h.body ∙ ap Base place;
       table = λ views. table_made bases name b columns views t h place kinds checks;

@@ -1,7 +1,7 @@
 -- The names of a view's columns, and that a view is that of its text.
-use Rattle.std.proofs.Common.{◌≡◌, ℕ, suc, ◌+◌, ◌<◌, ◌≤◌, List, [], ◌∷◌, ◌++◌, length, get_or, take, map, Option, Some, None, Result, Ok, Err, IfOk, refl, ap, sym, ◌∙◌, append-nil, arith}
+use Rattle.std.proofs.Common.{◌≡◌, ℕ, suc, ◌+◌, ◌<◌, ◌≤◌, List, [], ◌∷◌, ◌++◌, length, get_or, take, map, Option, Some, None, Result, Ok, Err, IfOk, refl, ap, sym, subst, ◌∙◌, append-nil, arith}
 use Rattle.std.specs.List.{cons_option, filter_map}
-use Rattle.std.specs.Option.{option_map}
+use Rattle.std.specs.Option.{IfSome, option_map}
 use Rattle.std.proofs.lemmas.List.{take_more}
 use Rattle.std.proofs.lemmas.List.Elements.{filter_map-append}
 use Rattle.std.proofs.lemmas.Simd.{map-map}
@@ -9,13 +9,17 @@ use Rattle.sq_lex.specs.declared.name.Name.{Name}
 use Rattle.sq_tree.specs.declared.list.CommaList.{CommaList}
 use Rattle.sq_meaning.specs.Spelled.{listed, select_of}
 use Rattle.sq_meaning.specs.Status.{Outcome}
-use Rattle.sq_bound.specs.Known.{KnownTables}
+use Rattle.sq_bound.specs.Known.{KnownTables, under_of}
 use Rattle.sq_bound.specs.declared.condition.BoundSpecification.{BoundSpecification, out-BoundSpecification}
+use Rattle.sq_bound.specs.declared.names.BaseTable.{BaseTable}
 use Rattle.sq_bound.specs.declared.names.Column.{Column}
+use Rattle.sq_bound.specs.declared.names.Leaf.{Leaf}
 use Rattle.sq_bound.specs.declared.names.TableDesc.{TableDesc}
+use Rattle.sq_bound.specs.declared.query.UpdatableQuery.{UpdatableQuery}
+use Rattle.sq_bind.specs.Written.{IsUpdatableOf}
 use Rattle.sq_select.specs.Names.{NamesAre, names_of, names_placed}
-use Rattle.sq_catalog.specs.View.{IsViewWith, names_or}
-use Rattle.sq_catalog.specs.Views.{HasQueryOf, IsViewOf, WrittenView, column_names}
+use Rattle.sq_catalog.specs.View.{IsAbove, IsOverQuery, IsViewWith, names_or}
+use Rattle.sq_catalog.specs.Views.{HasQueryOf, IsUnderView, IsViewOf, WrittenView, around_view, column_names}
 
 -- ---- the items that have a value
 
@@ -63,13 +67,34 @@ names_listed : (list : Option (CommaList Name)) (text : Outcome (List (Option Na
 names_listed None text own e = e
 names_listed (Some list) text own e = refl
 
+under_above : (known : KnownTables) (w : WrittenView) (over : UpdatableQuery) (columns : List Column) (under : Option Leaf) → IsUpdatableOf (around_view known) (select_of w.user w.view.query) over
+    → IfSome under (IsAbove w.view.check_option over columns) → IfSome (option_map under_of under) (IsUnderView known w columns)
+under_above known w over columns None is_over h = tt
+under_above known w over columns (Some l) is_over h = record {
+  over = over;
+  is_over = is_over;
+  base = ap (λ (b : BaseTable). b.place) h.table;
+  conditions = h.conditions;
+  demanded = h.demanded;
+  shows = h.shows;
+}
+
+under_written : (known : KnownTables) (w : WrittenView) (t : TableDesc) (updatable : Option ((Name × Name) × UpdatableQuery)) → IfSome updatable (λ over. IsUpdatableOf (around_view known) (select_of w.user w.view.query) over.1)
+    → IsOverQuery w.view.check_option updatable t → IfSome (option_map under_of t.leaf) (IsUnderView known w t.columns)
+under_written known w t None is_over none = subst (λ (l : Option Leaf). IfSome (option_map under_of l) (IsUnderView known w t.columns)) (sym none) tt
+under_written known w t (Some over) is_over h = under_above known w over.1 t.columns t.leaf is_over h
+
 pub view_written : (known : KnownTables) (w : WrittenView) (own : Option (List Name)) (names : List Name) (q : BoundSpecification) (t : TableDesc) → own ≡ option_map listed w.view.columns
-    → NamesAre (names_placed known (select_of w.user w.view.query)) q → HasQueryOf known w q → map (λ n. Some n) names ≡ names_or own (names_of (out-BoundSpecification q).columns) → IsViewWith names q t → IsViewOf known w t
-view_written known w own names q t list named is_written is h = record {
-  names =
-      names_listed w.view.columns (names_placed known (select_of w.user w.view.query)) (names_of (out-BoundSpecification q).columns) named
-      ∙ ap (λ l. Ok (names_or l (names_of (out-BoundSpecification q).columns))) (sym list)
-      ∙ ap Ok (sym is ∙ ap (map (λ n. Some n)) (sym h.names_are) ∙ map-map (λ n. Some n) (λ (c : Column). c.name) t.columns);
+    → NamesAre (names_placed known (select_of w.user w.view.query)) q → HasQueryOf known w q → map (λ n. Some n) names ≡ names_or own (names_of (out-BoundSpecification q).columns) → IsViewWith names q t
+    → (updatable : Option ((Name × Name) × UpdatableQuery)) → IfSome updatable (λ over. IsUpdatableOf (around_view known) (select_of w.user w.view.query) over.1) → IsOverQuery w.view.check_option updatable t → IsViewOf known w t
+view_written known w own names q t list named is_written is h updatable is_over over = record {
+  is_seen = record {
+    names =
+        names_listed w.view.columns (names_placed known (select_of w.user w.view.query)) (names_of (out-BoundSpecification q).columns) named
+        ∙ ap (λ l. Ok (names_or l (names_of (out-BoundSpecification q).columns))) (sym list)
+        ∙ ap Ok (sym is ∙ ap (map (λ n. Some n)) (sym h.names_are) ∙ map-map (λ n. Some n) (λ (c : Column). c.name) t.columns);
+    under = under_written known w t updatable is_over over;
+  };
   query = q;
   stands_for = h.stands_for;
   is_written = is_written;

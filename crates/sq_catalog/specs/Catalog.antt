@@ -1,6 +1,6 @@
 -- What a catalog defines, and what schema texts declare (ISO/IEC 9075:1992, 11.1 and 11.3).
 use Rattle.std.proofs.Common.{zero, suc, ap, arith}
-use Rattle.std.specs.Prelude.{◌≡◌, ℕ, ◌<◌, Bool, true, ◌&&◌, List, [], ◌∷◌, ◌++◌, length, flat_map, Ok, Option, None, Some, unwrap_or, nat_eq, position, slice_get}
+use Rattle.std.specs.Prelude.{⊤, ◌≡◌, ℕ, ◌<◌, Bool, true, ◌&&◌, List, [], ◌∷◌, ◌++◌, length, flat_map, Ok, Option, None, Some, unwrap_or, nat_eq, position, slice_get}
 use Rattle.std.proofs.Math.Logic.{∥∥₁_prop}
 use Rattle.std.specs.Coded.{Π_prop}
 use Rattle.std.specs.Option.{option_and_then, option_map}
@@ -17,14 +17,15 @@ use Rattle.sq_value.specs.declared.domain.Kind.{Kind}
 use Rattle.sq_meaning.specs.Status.{well_formed}
 use Rattle.sq_meaning.specs.WellFormed.{HasValue}
 use Rattle.sq_bound.specs.Fits.{all_refer}
-use Rattle.sq_bound.specs.Known.{KnownTable, KnownTables}
+use Rattle.sq_bound.specs.Known.{KnownTable, KnownTables, Under}
 use Rattle.sq_bound.specs.WellFormed.{BasesAreThere, IsViewQuery, TableKinds, base_kinds, kinds_of_select}
 use Rattle.sq_bound.specs.declared.condition.BoundSpecification.{BoundSpecification}
-use Rattle.sq_bound.specs.declared.condition.TablePlace.{TablePlace}
 use Rattle.sq_bound.specs.declared.condition.TablePlace.TheVariants.{Base, View}
 use Rattle.sq_bound.specs.declared.names.BaseTable.{BaseTable}
 use Rattle.sq_bound.specs.declared.names.Column.{Column}
-use Rattle.sq_catalog.specs.Columns.{HasBaseColumnsOf, HasColumnsOf}
+use Rattle.sq_catalog.specs.Base.{AreBasesOf}
+use Rattle.sq_catalog.specs.Columns.{HasColumnsOf}
+use Rattle.sq_catalog.specs.References.{HasReferencesOf}
 use Rattle.sq_catalog.specs.declared.catalog.FullName.{FullName}
 
 -- the kinds of the columns of these base tables, and of views with these queries
@@ -39,14 +40,19 @@ AreViewQueries bases views = (place : ℕ) (kinds : List Kind) → kinds_at base
 pub AreViewQueries-prop : (bases : List BaseTable) (views : List BoundSpecification) → IsProp (AreViewQueries bases views)
 AreViewQueries-prop bases views = Π_prop λ place. Π_prop λ kinds. Π_prop λ known. ∥∥₁_prop
 
+-- a view as names see it: its columns, and what is under it, if it may be changed
+pub record SeenView : Type 0 where
+  pub columns : List Column
+  pub under : Option Under
+
 -- the base tables' names, their columns and the base tables, each at its place, with references to keys of base tables alone; and
--- the views' names, their columns and their queries, likewise
+-- the views' names, the views as names see them and their queries, likewise
 pub record Catalog : Type 0 where
   pub tables : List FullName
   pub columns : List (List Column)
   pub bases : List BaseTable
   pub view_names : List FullName
-  pub view_columns : List (List Column)
+  pub seen_views : List SeenView
   pub views : List BoundSpecification
   pub described : nat_eq (length columns) (length tables) ≡ true
   pub refer : all_refer bases ≡ true
@@ -81,17 +87,32 @@ is_table user name t = pointwise nat_eq user t.user && pointwise nat_eq name t.n
 abbrev pub table_number : List FullName → Name → Name → Option ℕ
 table_number tables user name = position (is_table user name) tables
 
--- the table at a number, by its place there and its columns
-abbrev pub known_at : (ℕ → TablePlace) → List (List Column) → Option ℕ → Option KnownTable
-known_at at columns number = option_and_then (λ n. option_map (λ cs. record { place = at n; columns = cs }) (slice_get columns n)) number
+-- a base table is under itself
+abbrev pub itself : ℕ → Under
+itself place = record { base = place; conditions = []; demanded = 0 }
+
+-- what a name means that the base table at a place has, with these columns, and one that the view at a place has
+abbrev pub base_meant : ℕ → List Column → KnownTable
+base_meant place columns = record { place = Base place; columns = columns; under = Some (itself place) }
+
+abbrev pub view_meant : ℕ → SeenView → KnownTable
+view_meant place v = record { place = View place; columns = v.columns; under = v.under }
+
+-- what the one at a number means
+abbrev pub known_at : {A : Type 0} → (ℕ → A → KnownTable) → List A → Option ℕ → Option KnownTable
+known_at meant all number = option_and_then (λ n. option_map (meant n) (slice_get all n)) number
 
 abbrev pub known_first : Option KnownTable → Option KnownTable → Option KnownTable
 known_first None other = other
 known_first (Some t) other = Some t
 
--- what an owner and a name mean: a base table, or a view
+-- what an owner and a name mean, where these are the base tables with their columns, and the views: a base table, or a view
+abbrev pub meant : List FullName → List (List Column) → List FullName → List SeenView → KnownTables
+meant tables columns views seen user name =
+    known_first (known_at base_meant columns (table_number tables user name)) (known_at view_meant seen (table_number views user name))
+
 abbrev pub known : Catalog → KnownTables
-known c user name = known_first (known_at Base c.columns (table_number c.tables user name)) (known_at View c.view_columns (table_number c.view_names user name))
+known c = meant c.tables c.columns c.view_names c.seen_views
 
 -- no table and no view has the name (11.3, 11.19)
 abbrev pub IsNewName : Catalog → FullName → Type 0
@@ -135,6 +156,21 @@ text_definitions t = flat_map schema_definitions (t.first ∷ t.rest)
 abbrev pub declared_definitions : List SchemaText → List TableDefinition
 declared_definitions texts = flat_map text_definitions texts
 
+-- ---- their references
+
+-- the number of the base table that a name in a text of a user means
+abbrev pub number_meant : List FullName → Name → TableName → Option ℕ
+number_meant tables user written = table_number tables (named_by user written).user (named_by user written).name
+
+-- Base tables of these names have the references of these definitions, to base tables among all. (An unqualified name is in the schema in
+-- which the table stands.)
+abbrev pub HaveReferences : List FullName → List (List Column) → List BaseTable → List FullName → List TableDefinition → List BaseTable
+    → Type 0
+HaveReferences tables columns all [] [] [] = ⊤
+HaveReferences tables columns all (name ∷ names) (t ∷ definitions) (b ∷ bases) =
+    HasReferencesOf (number_meant tables name.user) columns all t b × HaveReferences tables columns all names definitions bases
+HaveReferences _ _ _ _ _ _ = ⊥
+
 -- ---- a catalog that grows
 
 -- base tables of these names, with these columns as names see them, are added behind the others
@@ -143,11 +179,12 @@ pub record Adds (old new : Catalog) (names : List FullName) (described : List (L
   pub columns : new.columns ≡ old.columns ++ described
   pub bases : new.bases ≡ old.bases ++ added
 
--- base tables of these names are added, with the columns of these definitions
+-- base tables of these names are added, each that of its definition, with its references
 pub record Gains (old new : Catalog) (names : List FullName) (definitions : List TableDefinition) : Type 0 where
   pub columns : List (List Column)
   pub bases : List BaseTable
   pub added : Adds old new names columns bases
   pub columns_are : AllZip HasColumnsOf definitions columns
-  pub bases_are : AllZip HasBaseColumnsOf definitions bases
+  pub bases_are : AreBasesOf names definitions bases
+  pub references_are : HaveReferences new.tables new.columns new.bases names definitions bases
   pub count : length bases ≡ length names

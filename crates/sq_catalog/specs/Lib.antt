@@ -1,7 +1,11 @@
+pub mod Base
 pub mod Catalog
+pub mod Checks
 pub mod Columns
 pub mod Fault
+pub mod Keys
 pub mod Reference
+pub mod References
 pub mod Stored
 pub mod Table
 pub mod View

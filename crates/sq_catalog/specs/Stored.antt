@@ -3,10 +3,12 @@ use Rattle.std.specs.Prelude.{⊤, ◌≡◌, ℕ, suc, true, List, [], ◌∷�
 use Rattle.std.proofs.Common.{◌∙◌, eq-eqb, sym}
 use Rattle.std.proofs.lemmas.List.{length-map}
 use Rattle.std.specs.Map.{keys_of}
+use Rattle.std.specs.Option.{option_map}
 use Rattle.std.specs.List.{All, AllByRecursion, AllZip, list_all}
 use Rattle.sq_lex.specs.declared.name.Name.{Name}
 use Rattle.sq_value.specs.declared.domain.Kind.{Kind}
 use Rattle.sq_bound.specs.Fits.{FitsQuery, IsBase, IsOver, refers}
+use Rattle.sq_bound.specs.Known.{under_of}
 use Rattle.sq_bound.specs.Names.{is_kind_at}
 use Rattle.sq_bound.specs.WellFormed.{IsCond, IsLeaf, IsSelect, IsTable, IsUpdatable, TableKinds, base_kinds, kinds_of_columns, kinds_of_select, of_base_at, only, place_of}
 use Rattle.sq_bound.specs.declared.condition.BoundCond.{BoundCond}
@@ -21,7 +23,7 @@ use Rattle.sq_bound.specs.declared.names.TableBody.{TableBody}
 use Rattle.sq_bound.specs.declared.names.TableBody.TheVariants as body
 use Rattle.sq_bound.specs.declared.names.TableDesc.{TableDesc}
 use Rattle.sq_bind.specs.Updatable.{AreColumns}
-use Rattle.sq_catalog.specs.Catalog.{Catalog, column_kinds, kinds_at}
+use Rattle.sq_catalog.specs.Catalog.{Catalog, SeenView, column_kinds, itself, kinds_at, table_number}
 use Rattle.sq_catalog.specs.declared.catalog.FullName.{FullName}
 
 -- a base table stands at its place and has so many columns
@@ -31,7 +33,7 @@ IsBody bases columns (body.View v) = ⊤
 
 -- a base table is under itself
 abbrev pub IsUnderItself : TableBody → Option Leaf → Type 0
-IsUnderItself (body.Base b) under = IfSome under (λ l. l.table ≡ b)
+IsUnderItself (body.Base b) under = option_map under_of under ≡ Some (itself b.place)
 IsUnderItself (body.View v) under = ⊤
 
 -- a base table, or a view, over these base tables
@@ -51,6 +53,12 @@ AreTables columns entries = All (λ e. IsTable columns e.1) entries
 -- a table has this owner and name
 abbrev pub IsNamed : FullName → TableDesc → Type 0
 IsNamed name t = (t.user ≡ name.user) × (t.name ≡ name.name)
+
+-- a base table has the number that its name means, and so have its columns
+abbrev pub IsNumbered : List FullName → List (List Column) → FullName → List Column → TableBody → Type 0
+IsNumbered tables columns name described (body.Base b) =
+    (table_number tables name.user name.name ≡ Some b.place) × (slice_get columns b.place ≡ Some described)
+IsNumbered tables columns name described (body.View v) = ⊤
 
 -- each has the name under which it stands
 abbrev pub AreNamed : List (FullName × TableDesc) → Type 0
@@ -77,6 +85,13 @@ pub all_described : (entries : List (FullName × TableDesc)) → nat_eq (length 
 all_described entries =
     eq-eqb (length (columns_of entries)) (length (keys_of entries))
     (length-map entries (λ (e : FullName × TableDesc). e.1.columns) ∙ sym (length-map entries (λ (e : FullName × TableDesc). e.0)))
+
+-- each as a view, as names see it
+abbrev pub seen : TableDesc → SeenView
+seen t = record { columns = t.columns; under = option_map under_of t.leaf }
+
+abbrev pub seen_of : List (FullName × TableDesc) → List SeenView
+seen_of entries = map (λ e. seen e.1) entries
 
 -- the query of a view; a base table has none
 abbrev pub query_in : TableBody → List BoundSpecification
@@ -109,6 +124,7 @@ pub record IsDescribed (name : FullName) (b : BaseTable) (described : List Colum
   pub columns : t.columns ≡ described
   pub body : IsTableOf b t.body
   pub leaf : IfSome t.leaf (λ l. (l.table ≡ b) × (l.conditions ≡ []))
+  pub itself : option_map under_of t.leaf ≡ Some (itself b.place)
 
 -- a base table that can be stored behind these, and the table of this name as names see it
 pub record IsNext (bases : List BaseTable) (name : FullName) (t : TableDesc) (b : BaseTable) : Type 0 where

@@ -1,5 +1,5 @@
 -- Views are those of their CREATE VIEW texts (ISO/IEC 9075:1992, 11.19).
-use Rattle.std.specs.Prelude.{◌≡◌, ◌++◌, List, [], ◌∷◌, flat_map, map, Option, None, Some, Ok}
+use Rattle.std.specs.Prelude.{◌≡◌, ◌++◌, if◌then◌else◌, length, List, [], ◌∷◌, flat_map, map, Option, None, Some, IfSome, Ok}
 use Rattle.std.specs.List.{AllZip}
 use Rattle.sq_lex.specs.declared.name.Name.{Name}
 use Rattle.sq_tree.specs.declared.list.CommaList.{CommaList}
@@ -10,15 +10,18 @@ use Rattle.sq_tree.specs.declared.schema.SchemaText.{SchemaText}
 use Rattle.sq_tree.specs.declared.schema.ViewDefinition.{ViewDefinition}
 use Rattle.sq_meaning.specs.Spelled.{listed, select_of}
 use Rattle.sq_meaning.specs.Status.{Outcome}
-use Rattle.sq_bound.specs.Known.{KnownTable, KnownTables}
+use Rattle.sq_bound.specs.Known.{KnownTable, KnownTables, Under}
 use Rattle.sq_bound.specs.declared.condition.BoundSpecification.{BoundSpecification}
 use Rattle.sq_bound.specs.declared.names.Column.{Column}
 use Rattle.sq_bound.specs.declared.names.TableDesc.{TableDesc}
+use Rattle.sq_bound.specs.declared.query.UpdatableQuery.{UpdatableQuery}
+use Rattle.sq_bind.specs.Written.{IsUpdatableOf}
 use Rattle.sq_select.specs.Names.{names_placed}
-use Rattle.sq_select.specs.Placed.{select_placed}
+use Rattle.sq_select.specs.Placed.{Around, select_placed}
 use Rattle.sq_select.specs.Written.{SelectIs}
-use Rattle.sq_catalog.specs.Catalog.{Catalog, known, named_by}
-use Rattle.sq_catalog.specs.Stored.{query_in}
+use Rattle.sq_catalog.specs.Catalog.{Catalog, SeenView, known, named_by}
+use Rattle.sq_catalog.specs.Stored.{query_in, seen}
+use Rattle.sq_catalog.specs.View.{conditions_with}
 use Rattle.sq_catalog.specs.declared.catalog.FullName.{FullName}
 
 -- a view definition, and the user in whose schema it stands
@@ -47,9 +50,13 @@ declared_views texts = flat_map text_views texts
 
 -- ---- what a view is
 
--- a view has no parameters: its query is the text's, where names of tables mean this
+-- a view has no parameters, and is in no query
+abbrev pub around_view : KnownTables → Around
+around_view known = record { known = known; parameters = []; scopes = [] }
+
+-- its query is the text's, where names of tables mean this
 abbrev pub HasQueryOf : KnownTables → WrittenView → BoundSpecification → Type 0
-HasQueryOf known w q = SelectIs (select_placed (record { known = known; parameters = []; scopes = [] }) (select_of w.user w.view.query)) q
+HasQueryOf known w q = SelectIs (select_placed (around_view known) (select_of w.user w.view.query)) q
 
 -- its columns have the names that are listed, or those of the query's columns
 abbrev pub column_names : Option (CommaList Name) → Outcome (List (Option Name)) → Outcome (List (Option Name))
@@ -59,9 +66,25 @@ column_names (Some list) names = Ok (map (λ n. Some n) (listed list))
 abbrev pub HasNamesOf : KnownTables → WrittenView → List Column → Type 0
 HasNamesOf known w columns = column_names w.view.columns (names_placed known (select_of w.user w.view.query)) ≡ Ok (map (λ c. Some c.name) columns)
 
+-- What is under a view that may be changed: the base table under the table of its query, and behind the conditions in between its own.
+-- New and changed rows have to meet all of them where the check option is written, and else those that they have to meet below. Each
+-- column is the one of the base table that the query shows (7.9, 11.19).
+pub record IsUnderView (known : KnownTables) (w : WrittenView) (columns : List Column) (under : Under) : Type 0 where
+  pub over : UpdatableQuery
+  pub is_over : IsUpdatableOf (around_view known) (select_of w.user w.view.query) over
+  pub base : under.base ≡ over.target.leaf.table.place
+  pub conditions : under.conditions ≡ conditions_with over.target.leaf.conditions over.target.condition
+  pub demanded : under.demanded ≡ (if w.view.check_option then length under.conditions else over.target.leaf.demanded)
+  pub shows : map (λ c. c.leaf_column) columns ≡ over.columns
+
+-- a view is seen as it is written: the names of its columns, and what is under it, if it may be changed
+pub record IsSeenAs (known : KnownTables) (w : WrittenView) (v : SeenView) : Type 0 where
+  pub names : HasNamesOf known w v.columns
+  pub under : IfSome v.under (IsUnderView known w v.columns)
+
 -- a description of a table is the view that is written
 pub record IsViewOf (known : KnownTables) (w : WrittenView) (t : TableDesc) : Type 0 where
-  pub names : HasNamesOf known w t.columns
+  pub is_seen : IsSeenAs known w (seen t)
   pub query : BoundSpecification
   pub stands_for : query_in t.body ≡ query ∷ []
   pub is_written : HasQueryOf known w query
@@ -72,17 +95,17 @@ pub record IsViewOf (known : KnownTables) (w : WrittenView) (t : TableDesc) : Ty
 abbrev pub StillKnown : KnownTables → KnownTables → Type 0
 StillKnown less more = (user name : Name) (t : KnownTable) → less user name ≡ Some t → more user name ≡ Some t
 
--- views of these names, with these columns and queries, are added behind the others
-pub record AddsViews (old new : Catalog) (names : List FullName) (described : List (List Column)) (added : List BoundSpecification) : Type 0 where
+-- views of these names, seen as these, with these queries, are added behind the others
+pub record AddsViews (old new : Catalog) (names : List FullName) (seen : List SeenView) (added : List BoundSpecification) : Type 0 where
   pub view_names : new.view_names ≡ old.view_names ++ names
-  pub view_columns : new.view_columns ≡ old.view_columns ++ described
+  pub seen_views : new.seen_views ≡ old.seen_views ++ seen
   pub views : new.views ≡ old.views ++ added
 
 -- these views are added
 pub record GainsViews (old new : Catalog) (views : List WrittenView) : Type 0 where
-  pub columns : List (List Column)
+  pub seen : List SeenView
   pub queries : List BoundSpecification
-  pub added : AddsViews old new (map view_name views) columns queries
+  pub added : AddsViews old new (map view_name views) seen queries
   pub still : StillKnown (known old) (known new)
-  pub columns_are : AllZip (HasNamesOf (known new)) views columns
+  pub seen_are : AllZip (IsSeenAs (known new)) views seen
   pub queries_are : AllZip (HasQueryOf (known new)) views queries

@@ -3,6 +3,8 @@ use Rattle.std.specs.List.{list_any}
 use Rattle.std.specs.Borrow.{Bor}
 use Rattle.std.specs.Prelude.{ℕ, Bool, true, false, List, map}
 use Rattle.indexmap.specs.IndexSet.{index_set_len}
+use Rattle.sq_lex.specs.declared.name.Name.{Name}
+use Rattle.sq_tree.specs.declared.cond.Cond.{Cond}
 use Rattle.sq_tree.specs.declared.schema.ColumnConstraint.{ColumnConstraint}
 use Rattle.sq_tree.specs.declared.schema.ColumnConstraint.TheVariants as constraint
 use Rattle.sq_tree.specs.declared.schema.ColumnDefinition.{ColumnDefinition}
@@ -11,6 +13,14 @@ use Rattle.sq_catalog.specs.declared.written.NamedColumns.{NamedColumns}
 -- the column definitions that are lent
 abbrev pub definitions_lent : List (Bor ColumnDefinition) → List ColumnDefinition
 definitions_lent columns = map (λ w. w.now) columns
+
+-- the conditions that are lent
+abbrev pub conditions_lent : List (Bor Cond) → List Cond
+conditions_lent checks = map (λ c. c.now) checks
+
+-- the names of the columns, each at its place
+abbrev pub names_at : NamedColumns → List Name
+names_at columns = columns.names.keys
 
 -- how many columns there are
 abbrev pub column_count : NamedColumns → ℕ

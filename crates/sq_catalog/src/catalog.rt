@@ -5,14 +5,14 @@ ghost use Rattle.std.specs.Map.{keys_of};
 ghost use Rattle.std.specs.Option.{option_map};
 ghost use Rattle.sq_bound.specs.Known.{known_by};
 ghost use Rattle.sq_store.specs.Keys.{keys_of as keys_given};
-ghost use Rattle.sq_bound.specs.Fits.{IsBaseAt, all_refer, keys_of_bases};
+ghost use Rattle.sq_bound.specs.Fits.{all_refer, keys_of_bases};
 ghost use Rattle.sq_meaning.specs.WellFormed.{HasValue};
 ghost use Rattle.sq_bound.specs.WellFormed.{IsTable, IsViewAmong, TableKinds, place_of};
 ghost use Rattle.sq_bound.specs.declared.names.BaseTable.{BaseTable as Base};
 ghost use Rattle.sq_catalog.specs.Catalog.{Adds, AreViewQueries, AreViewQueries-prop, Gains, IsNewName, base_there, column_kinds, declared_definitions, declared_tables, definition_in, known, named_by, schema_definitions, schema_tables, table_in, table_number, text_definitions, text_tables};
 ghost use Rattle.sq_catalog.specs.Declares.{Declares};
 ghost use Rattle.sq_catalog.specs.Fault.{IsOfSomeText, IsOfText};
-ghost use Rattle.sq_catalog.specs.Stored.{AreStored, AreTables, IsNamed, IsNext, IsNextView, IsStored, StandsAt, queries_of, query_in};
+ghost use Rattle.sq_catalog.specs.Stored.{AreStored, AreTables, IsNamed, IsNext, IsNextView, IsNumbered, IsStored, StandsAt, queries_of, query_in, seen};
 ghost use Rattle.sq_catalog.specs.Views.{AddsViews, GainsViews, declared_views, schema_views, text_views, view_in};
 
 use crate::fault::{CatalogFault, ElementFault, RefusalName, SchemaRefusal, refused_if};
@@ -69,13 +69,13 @@ impl Model for Catalog {
     ghost use Rattle.sq_bound.specs.contracts.names.Column as seen;
     ghost use Rattle.sq_bound.specs.declared.condition.TablePlace.TheVariants.{Base, View};
     ghost use Rattle.sq_catalog.specs.Catalog.{AreViewQueries-prop, Catalog, kinds_at};
-    ghost use Rattle.sq_catalog.specs.Stored.{AreDescribed, AreNamed, AreStored, AreTables, StandFrom, all_described, columns_of, queries_of};
+    ghost use Rattle.sq_catalog.specs.Stored.{AreDescribed, AreNamed, AreStored, AreTables, StandFrom, all_described, columns_of, queries_of, seen_of};
 
     ghost Value = { Catalog };
 
     ghost coded = { Prim.hlevel (codes, base.the_row.coded, column.the_row.coded, condition.the_row.coded, predicate.the_row.coded, specification.the_row.coded, expression.the_row.coded, seen.the_row.coded, AreViewQueries-prop) };
 
-    ghost view = { λ c. record { tables = keys_of c.bases.entries; columns = columns_of c.bases.entries; bases = c.base_tables.items; view_names = keys_of c.views.entries; view_columns = columns_of c.views.entries; views = queries_of c.views.entries; described = all_described c.bases.entries; refer = c.refer; stand = c.stand } };
+    ghost view = { λ c. record { tables = keys_of c.bases.entries; columns = columns_of c.bases.entries; bases = c.base_tables.items; view_names = keys_of c.views.entries; seen_views = seen_of c.views.entries; views = queries_of c.views.entries; described = all_described c.bases.entries; refer = c.refer; stand = c.stand } };
 
     ghost invariant = { λ c. AreStored c.base_tables.items c.bases.entries × AreStored c.base_tables.items c.views.entries × AreTables (kinds_at c.base_tables.items (queries_of c.views.entries)) c.bases.entries × AreTables (kinds_at c.base_tables.items (queries_of c.views.entries)) c.views.entries × AreDescribed c.base_tables.items c.bases.entries × StandFrom Base 0 c.bases.entries × StandFrom View 0 c.views.entries × AreNamed c.bases.entries × AreNamed c.views.entries };
 }
@@ -220,6 +220,7 @@ impl Catalog {
     ) -> Result<(), ElementFault>
         requires new { IsNewName self.old name }
         requires next { IsNext self.old.bases name table base }
+        ensures count { length self.old.bases ≡ length self.old.tables }
         ensures tables { OnOk result (Adds self.old self.new (name ∷ []) (table.columns ∷ []) (base ∷ [])) }
         ensures views { OnOk result (GainsViews self.old self.new []) }
     {
@@ -232,7 +233,7 @@ impl Catalog {
         requires next { IsNextView self.old name table }
         ensures tables { Gains self.old self.new [] [] }
         ensures kept { (self.new.tables ≡ self.old.tables) × (self.new.columns ≡ self.old.columns) }
-        ensures views { OnOk result (AddsViews self.old self.new (name ∷ []) (table.columns ∷ []) (query_in table.body)) }
+        ensures views { OnOk result (AddsViews self.old self.new (name ∷ []) (seen table ∷ []) (query_in table.body)) }
     {
         insert_table(&mut self.views, name, table)
     }
@@ -251,8 +252,9 @@ impl Catalog {
         ensures view { IfSome result (λ entry. IsViewAmong self.now.views entry.1.now.body) }
         ensures well_formed { IfSome result (λ entry. IsTable (column_kinds self.now) entry.1.now) }
         ensures named { IfSome result (λ entry. IsNamed full_name.now entry.1.now) }
-        ensures base { IfSome result (λ entry. IsBaseAt (table_number self.now.tables full_name.now.user full_name.now.name) entry.1.now) }
         ensures known { option_map (λ entry. known_by entry.1.now) result ≡ known self.now full_name.now.user full_name.now.name }
+        ensures number { IfSome result (λ entry. IsNumbered self.now.tables self.now.columns full_name.now
+            entry.1.now.columns entry.1.now.body) }
     {
         match self.bases.get_full(full_name) {
             Some((place, _, table)) => Some((TablePlace::Base(place), table)),
@@ -411,8 +413,6 @@ fn key_columns(alloc: Global, keys: &[Items<usize>]) -> Result<Vec<Vec<usize>>, 
 
 impl Names for Catalog {
     ghost base_tables = { λ c. c.bases };
-
-    ghost base_number = { λ c. table_number c.tables };
 
     ghost known = { known };
 

@@ -1,8 +1,9 @@
 //! Privileges: what users and PUBLIC hold, with or without the grant option, and GRANT (ISO/IEC 9075:1992, 10.3, 11.36).
 
-ghost use Rattle.std.specs.Prelude.{◌≡◌, [], true, IfOk, OnOk, length};
+ghost use Rattle.std.specs.Prelude.{◌≡◌, [], true, IfOk, OnOk, length, map};
 ghost use Rattle.sq_bound.specs.Names.{are_positions};
 ghost use Rattle.sq_catalog.specs.Catalog.{Gains};
+ghost use Rattle.sq_catalog.specs.Keys.{StandAt};
 ghost use Rattle.sq_catalog.specs.Views.{GainsViews};
 
 use crate::catalog::{Catalog, FullName, full_name};
@@ -348,7 +349,8 @@ pub(crate) fn columns_of(
     table: &TableDesc,
     names: &[Name],
 ) -> Result<Items<usize>, ElementFault>
-    ensures { IfOk result (λ positions. are_positions (length table.now.columns) positions ≡ true) }
+    ensures within { IfOk result (λ positions. are_positions (length table.now.columns) positions ≡ true) }
+    ensures named { IfOk result (StandAt (map (λ c. c.name) table.now.columns) names.now) }
 {
     let mut positions = Items::new(alloc);
     for name in names {

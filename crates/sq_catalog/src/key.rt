@@ -1,9 +1,10 @@
 //! Keys of a table definition (ISO/IEC 9075:1992, 11.7; the number of columns is an own rule).
 
-ghost use Rattle.std.specs.Prelude.{◌≡◌, nat_lt, length, true, IfOk, OnOk};
+ghost use Rattle.std.specs.Prelude.{◌≡◌, ◌&&◌, ◌||◌, ◌++◌, ◌∷◌, nat_lt, length, false, true, if◌then◌else◌, is_some, [], IfOk, None, OnOk, Some};
 ghost use Rattle.std.specs.List.{list_all};
 ghost use Rattle.sq_bound.specs.Names.{are_positions, option_all};
-ghost use Rattle.sq_catalog.specs.Written.{column_count};
+ghost use Rattle.sq_catalog.specs.Keys.{KeysStandAt, primary_among};
+ghost use Rattle.sq_catalog.specs.Written.{column_count, names_at};
 
 use crate::fault::{ElementFault, RefusalName, refused_if};
 use crate::written::{NamedColumns, WrittenKey, has_twice};
@@ -30,7 +31,9 @@ pub(crate) fn keys_of(
     named: &NamedColumns,
     written: &[WrittenKey],
 ) -> Result<Keys, ElementFault>
-    ensures { IfOk result (λ keys. list_all (are_positions (column_count named.now)) keys.columns ≡ true) }
+    ensures within { IfOk result (λ keys. list_all (are_positions (column_count named.now)) keys.columns ≡ true) }
+    ensures named { IfOk result (λ keys. KeysStandAt (names_at named.now) written.now keys.columns) }
+    ensures primary { IfOk result (λ keys. keys.has_two_primary ≡ false → keys.primary ≡ primary_among written.now) }
 {
     let mut keys = Keys {
         columns: Items::new(alloc),
@@ -53,23 +56,38 @@ impl Keys {
         named: &NamedColumns,
         written: &[WrittenKey],
     ) -> Result<(), ElementFault>
-        requires { list_all (are_positions (column_count named.now)) self.old.columns ≡ true }
-        ensures { OnOk result (list_all (are_positions (column_count named.now)) self.new.columns ≡ true) }
+        requires none { self.old.columns ≡ [] }
+        requires no_primary { self.old.primary ≡ None }
+        ensures within { OnOk result (list_all (are_positions (column_count named.now)) self.new.columns ≡ true) }
+        ensures named { OnOk result (KeysStandAt (names_at named.now) written.now self.new.columns) }
+        ensures primary { OnOk result (self.new.has_two_primary ≡ false → self.new.primary ≡ primary_among written.now) }
     {
         for key in written {
             let columns = named.positions(alloc, key.columns.as_slice())?;
-            let place = self.columns.len();
-            self.columns.push(columns)?;
-            if key.is_primary {
-                self.has_two_primary = self.has_two_primary || self.primary.is_some();
-                self.primary = Some(place);
-            }
+            self.add(key.is_primary, columns)?;
+        }
+        Ok(())
+    }
+
+    /// Adds a key behind the others.
+    fn add(&mut self, is_primary: bool, columns: Items<usize>) -> Result<(), ElementFault>
+        ensures columns { OnOk result (self.new.columns ≡ self.old.columns ++ columns ∷ []) }
+        ensures primary { OnOk result (self.new.primary ≡ (if is_primary then Some (length self.old.columns) else self.old.primary)) }
+        ensures two { OnOk result (self.new.has_two_primary ≡ (self.old.has_two_primary || (is_primary && is_some self.old.primary))) }
+    {
+        let place = self.columns.len();
+        self.columns.push(columns)?;
+        if is_primary {
+            self.has_two_primary = self.has_two_primary || self.primary.is_some();
+            self.primary = Some(place);
         }
         Ok(())
     }
 
     /// There is at most one primary key, and no list has a column twice or more than 6.
-    pub(crate) fn check(&self) -> Result<(), ElementFault> {
+    pub(crate) fn check(&self) -> Result<(), ElementFault>
+        ensures { OnOk result (self.now.has_two_primary ≡ false) }
+    {
         refused_if(self.has_two_primary, RefusalName::BadKey)?;
         for key in self.columns.as_slice() {
             refused_if(is_bad_list(key.as_slice()), RefusalName::BadKey)?;

@@ -1,12 +1,14 @@
 //! References of a table definition (ISO/IEC 9075:1992, 11.8).
 
-ghost use Rattle.std.specs.Prelude.{◌≡◌, ◌+◌, ◌<◌, nat_eq, nat_lt, ℕ, true, length, IfOk, IfSome, OnOk};
-ghost use Rattle.std.specs.List.{All, list_all, list_any};
+ghost use Rattle.std.specs.Prelude.{◌≡◌, ◌+◌, ◌<◌, [], nat_eq, nat_lt, ℕ, true, length, map, None, Some, IfOk, IfSome, OnOk};
+ghost use Rattle.std.specs.List.{All, AllZip, list_all, list_any};
 ghost use Rattle.sq_store.specs.Keys.{keys_at};
 ghost use Rattle.sq_bound.specs.Names.{are_positions, option_all};
-ghost use Rattle.sq_catalog.specs.Reference.{IsFound, are_listed, is_to, keys_with, target_width};
+ghost use Rattle.sq_catalog.specs.Keys.{StandAt};
+ghost use Rattle.sq_catalog.specs.Reference.{AddsBound, IsBound, IsFound, IsFoundAs, IsKeyReferenced, IsMeant, IsPairAdded, IsTarget, IsTargetBody, constraint_lent, constraints_lent, is_to, keys_with, names_in, target_width};
+ghost use Rattle.sq_catalog.specs.References.{AreListed, IsToKey, are_listed, is_key_of, paired_with};
 ghost use Rattle.sq_catalog.specs.Stored.{IsStored};
-ghost use Rattle.sq_catalog.specs.Written.{column_count};
+ghost use Rattle.sq_catalog.specs.Written.{column_count, names_at};
 
 use crate::catalog::{Catalog, FullName, full_name};
 use crate::fault::{ElementFault, RefusalName, refused_if};
@@ -46,7 +48,9 @@ pub(crate) fn references_of<'t>(
     own: &OwnTable<'_>,
     written: &[WrittenReference<'_>],
 ) -> Result<Vec<FoundReference<'t>>, ElementFault>
-    ensures { IfOk result (λ found. All (IsFound catalog.now.bases (column_count own.now.columns.now)) found.items) }
+    ensures found { IfOk result (λ found. All (IsFound catalog.now.bases (column_count own.now.columns.now)) found.items) }
+    ensures named { IfOk result (λ found. AllZip (IsFoundAs catalog.now own.now.user own.now.full_name (names_at own.now.columns.now))
+        (constraints_lent written.now) found.items) }
 {
     let mut references = Vec::new(catalog.alloc());
     match add_found(catalog, own, written, &mut references) {
@@ -64,8 +68,10 @@ fn add_found<'t>(
     written: &[WrittenReference<'_>],
     references: &mut Vec<FoundReference<'t>>,
 ) -> Result<(), ElementFault>
-    requires { All (IsFound catalog.now.bases (column_count own.now.columns.now)) references.old.items }
-    ensures { OnOk result (All (IsFound catalog.now.bases (column_count own.now.columns.now)) references.new.items) }
+    requires none { references.old.items ≡ [] }
+    ensures found { OnOk result (All (IsFound catalog.now.bases (column_count own.now.columns.now)) references.new.items) }
+    ensures named { OnOk result (AllZip (λ w. IsFoundAs catalog.now own.now.user own.now.full_name (names_at own.now.columns.now)
+        (constraint_lent w)) written.now references.new.items) }
 {
     for reference in written {
         let found = found_reference(catalog, own, reference)?;
@@ -79,7 +85,9 @@ fn found_reference<'t>(
     own: &OwnTable<'_>,
     reference: &WrittenReference<'_>,
 ) -> Result<FoundReference<'t>, ElementFault>
-    ensures { IfOk result (IsFound catalog.now.bases (column_count own.now.columns.now)) }
+    ensures found { IfOk result (IsFound catalog.now.bases (column_count own.now.columns.now)) }
+    ensures named { IfOk result (IsFoundAs catalog.now own.now.user own.now.full_name (names_at own.now.columns.now)
+        (constraint_lent reference.now)) }
 {
     let earlier = earlier_table(catalog, own, full_name(own.user, reference.to.table))?;
     let columns = own
@@ -100,7 +108,8 @@ fn earlier_table<'t>(
     own: &OwnTable<'_>,
     name: FullName,
 ) -> Result<Option<&'t TableDesc>, ElementFault>
-    ensures { IfOk result (λ earlier. IfSome earlier (λ table. IsStored catalog.now.bases table.now)) }
+    ensures stored { IfOk result (λ earlier. IfSome earlier (λ table. IsStored catalog.now.bases table.now)) }
+    ensures meant { IfOk result (IsMeant catalog.now own.now.full_name name) }
 {
     if name == own.full_name {
         return Ok(None);
@@ -118,8 +127,9 @@ fn listed_columns(
     earlier: Option<&TableDesc>,
     to: &References,
 ) -> Result<Option<Items<usize>>, ElementFault>
-    ensures { IfOk result (λ listed. option_all (are_positions (target_width (column_count own.now.columns.now) earlier.entry))
+    ensures within { IfOk result (λ listed. option_all (are_positions (target_width (column_count own.now.columns.now) earlier.entry))
         listed ≡ true) }
+    ensures named { IfOk result (AreListed (names_in (names_at own.now.columns.now) earlier.entry) to.now.columns) }
 {
     match &to.columns {
         Some(list) => {
@@ -137,7 +147,9 @@ fn positions_in(
     earlier: Option<&TableDesc>,
     names: &[Name],
 ) -> Result<Items<usize>, ElementFault>
-    ensures { IfOk result (λ positions. are_positions (target_width (column_count own.now.columns.now) earlier.entry) positions ≡ true) }
+    ensures within { IfOk result (λ positions. are_positions (target_width (column_count own.now.columns.now) earlier.entry)
+        positions ≡ true) }
+    ensures named { IfOk result (StandAt (names_in (names_at own.now.columns.now) earlier.entry) names.now) }
 {
     match earlier {
         None => own.columns.positions(alloc, names),
@@ -190,6 +202,8 @@ fn target_of<'a>(
     ensures keys { IfOk result (λ target. keys_at (keys_with own.entry.before.now own.entry.keys.now.columns)
         target.place ≡ target.keys.now) }
     ensures columns { IfOk result (λ target. length target.columns.now ≡ target_width (length own.entry.columns.now) earlier.entry) }
+    ensures found { IfOk result (λ target. IsTarget own.entry.before.now own.entry.keys.now.columns own.entry.keys.now.primary earlier.entry
+        target.place target.keys.now target.primary) }
 {
     match earlier {
         None => Ok(Target {
@@ -207,6 +221,7 @@ fn base_target<'a>(own: OwnKeys<'a>, table: &'a TableDesc) -> Result<Target<'a>,
     ensures keys { IfOk result (λ target. keys_at (keys_with own.entry.before.now own.entry.keys.now.columns)
         target.place ≡ target.keys.now) }
     ensures columns { IfOk result (λ target. length target.columns.now ≡ length table.now.columns) }
+    ensures found { IfOk result (λ target. IsTargetBody table.now.body target.place target.keys.now target.primary) }
 {
     match &table.body {
         TableBody::Base(base) => {
@@ -238,8 +253,10 @@ pub(crate) fn bound_references<'a>(
     found: &'a [FoundReference<'a>],
 ) -> Result<BoundReferences, ElementFault>
     requires { All (IsFound own.before.now (length own.columns.now)) found.now }
-    ensures { IfOk result (λ bound. list_all (is_to (keys_with own.entry.before.now own.entry.keys.now.columns)
+    ensures refer { IfOk result (λ bound. list_all (is_to (keys_with own.entry.before.now own.entry.keys.now.columns)
         (length own.entry.columns.now)) bound.references ≡ true) }
+    ensures found { IfOk result (λ bound. AllZip (IsBound own.entry.before.now own.entry.keys.now.columns own.entry.keys.now.primary)
+        found.now bound.references) }
 {
     let mut bound = BoundReferences {
         references: Items::new(catalog.alloc()),
@@ -265,8 +282,11 @@ impl BoundReferences {
         requires found { All (IsFound own.before.now (length own.columns.now)) found.now }
         requires bound { list_all (is_to (keys_with own.before.now own.keys.now.columns) (length own.columns.now))
             self.old.references ≡ true }
-        ensures { OnOk result (list_all (is_to (keys_with own.entry.before.now own.entry.keys.now.columns) (length own.entry.columns.now))
-            self.new.references ≡ true) }
+        requires none { self.old.references ≡ [] }
+        ensures refer { OnOk result (list_all (is_to (keys_with own.entry.before.now own.entry.keys.now.columns)
+            (length own.entry.columns.now)) self.new.references ≡ true) }
+        ensures found { OnOk result (AllZip (IsBound own.entry.before.now own.entry.keys.now.columns own.entry.keys.now.primary)
+            found.now self.new.references) }
     {
         for reference in found {
             self.add(catalog, user, own, reference)?;
@@ -284,8 +304,10 @@ impl BoundReferences {
         requires found { IsFound own.before.now (length own.columns.now) reference.now }
         requires bound { list_all (is_to (keys_with own.before.now own.keys.now.columns) (length own.columns.now))
             self.old.references ≡ true }
-        ensures { OnOk result (list_all (is_to (keys_with own.entry.before.now own.entry.keys.now.columns) (length own.entry.columns.now))
-            self.new.references ≡ true) }
+        ensures refer { OnOk result (list_all (is_to (keys_with own.entry.before.now own.entry.keys.now.columns)
+            (length own.entry.columns.now)) self.new.references ≡ true) }
+        ensures found { OnOk result (AddsBound own.entry.before.now own.entry.keys.now.columns own.entry.keys.now.primary
+            reference.now self.old.references self.new.references) }
     {
         let target = target_of(own, reference.earlier)?;
         let key = referenced_key(target, &reference.listed)?;
@@ -331,9 +353,12 @@ fn bound_reference<'a>(
     requires own { are_positions (length own.columns.now) reference.now.columns ≡ true }
     requires listed { are_positions (length target.columns.now) key.listed.now ≡ true }
     requires same { are_listed key.listed.now key.columns.now ≡ true }
+    requires key { IsKeyReferenced target.keys.now target.primary reference.now.listed key }
     ensures place { IfOk result (λ bound. (bound.table ≡ target.entry.place) × (bound.key ≡ key.entry.place)) }
     ensures by_key { IfOk result (λ bound. are_positions (length own.entry.columns.now) bound.by_key ≡ true) }
     ensures paired { IfOk result (λ bound. length bound.by_key ≡ length key.entry.columns.now) }
+    ensures columns { IfOk result (λ bound. bound.columns ≡ reference.now.columns) }
+    ensures to_key { IfOk result (IsToKey target.entry.keys.now target.entry.primary reference.now.listed) }
 {
     let columns = reference.columns.as_slice();
     if columns.len() != key.listed.len()
@@ -366,6 +391,7 @@ fn referenced_key<'a>(
     ensures place { IfOk result (λ key. key.place < length target.entry.keys.now) }
     ensures listed { IfOk result (λ key. are_positions (length target.entry.columns.now) key.listed.now ≡ true) }
     ensures same { IfOk result (λ key. are_listed key.listed.now key.columns.now ≡ true) }
+    ensures key { IfOk result (IsKeyReferenced target.entry.keys.now target.entry.primary listed.now) }
 {
     match listed {
         Some(listed) => listed_key(target, listed.as_slice()),
@@ -381,6 +407,7 @@ fn listed_key<'a>(
     ensures place { IfOk result (λ key. key.place < length target.entry.keys.now) }
     ensures listed { IfOk result (λ key. key.listed.now ≡ listed.now) }
     ensures same { IfOk result (λ key. are_listed key.listed.now key.columns.now ≡ true) }
+    ensures key { IfOk result (IsKeyReferenced target.entry.keys.now target.entry.primary (Some listed.now)) }
 {
     for (place, key) in target.keys.iter().enumerate() {
         let columns = key.as_slice();
@@ -401,6 +428,7 @@ fn primary_key(target: Target<'_>) -> Result<ReferencedKey<'_>, ElementFault>
     ensures place { IfOk result (λ key. key.place < length target.entry.keys.now) }
     ensures listed { IfOk result (λ key. are_positions (length target.entry.columns.now) key.listed.now ≡ true) }
     ensures same { IfOk result (λ key. are_listed key.listed.now key.columns.now ≡ true) }
+    ensures key { IfOk result (IsKeyReferenced target.entry.keys.now target.entry.primary None) }
 {
     let Some(place) = target.primary else {
         return Err(BAD_REFERENCE);
@@ -413,14 +441,15 @@ fn primary_key(target: Target<'_>) -> Result<ReferencedKey<'_>, ElementFault>
     })
 }
 
-/// Whether two lists without repeats have the same columns, in any order.
+/// Whether a key and a list have the same columns, in any order.
 fn are_the_same(key: &[usize], listed: &[usize]) -> bool
-    ensures { result ≡ true → are_listed listed.now key.now ≡ true }
+    ensures listed { result ≡ true → are_listed listed.now key.now ≡ true }
+    ensures same { result ≡ is_key_of listed.now key.now }
 {
-    key.len() == listed.len() && are_all_listed(key, listed)
+    are_all_listed(key, listed) && are_all_listed(listed, key)
 }
 
-/// Whether each column of a key is among those that are listed.
+/// Whether each column of a list is among those of another.
 fn are_all_listed(key: &[usize], listed: &[usize]) -> bool
     ensures { result ≡ are_listed listed.now key.now }
 {
@@ -463,6 +492,7 @@ fn in_key_order(
     requires same { are_listed listed.now key.now ≡ true }
     ensures paired { IfOk result (λ ordered. length ordered ≡ length key.now) }
     ensures positions { IfOk result (λ ordered. (width : ℕ) → are_positions width columns.now ≡ true → are_positions width ordered ≡ true) }
+    ensures by_key { IfOk result (λ ordered. map (paired_with listed.now columns.now) key.now ≡ map (λ own. Some own) ordered) }
 {
     let mut ordered = Items::new(alloc);
     for key_column in key {
@@ -483,6 +513,7 @@ fn push_paired(
     ensures paired { OnOk result (length ordered.new ≡ length ordered.old + 1) }
     ensures positions { OnOk result ((width : ℕ) → are_positions width columns.now ≡ true → are_positions width
         ordered.old ≡ true → are_positions width ordered.new ≡ true) }
+    ensures pair { OnOk result (IsPairAdded (paired_with listed.now columns.now key_column) ordered.old ordered.new) }
 {
     for (pair, other) in listed.iter().enumerate() {
         if *other == key_column {

@@ -1,20 +1,25 @@
 //! CREATE TABLE (ISO/IEC 9075:1992, 11.3 to 11.9).
 
-ghost use Rattle.std.specs.Prelude.{◌≡◌, ◌∷◌, [], is_err, map, nat_lt, true, length, vec_len, IfOk, IsTrue, OnOk};
-ghost use Rattle.std.specs.List.{All, list_all};
+ghost use Rattle.std.specs.Prelude.{◌≡◌, ◌∷◌, ◌++◌, [], is_err, map, nat_lt, false, true, length, vec_len, IfOk, IsTrue, OnOk};
+ghost use Rattle.std.specs.List.{All, AllZip, list_all};
 ghost use Rattle.sq_value.specs.Domain.{IsDomain, FitsKind, kind_of};
 ghost use Rattle.sq_bound.specs.Default.{DefaultIsIn};
+ghost use Rattle.sq_bound.specs.declared.condition.BoundCond.{BoundCond as Condition};
 ghost use Rattle.sq_bound.specs.declared.names.ColumnDefault.TheVariants.{User as user};
 ghost use Rattle.sq_bound.specs.Names.{are_positions, is_kind_at, option_all};
 ghost use Rattle.sq_bound.specs.NotNull.{are_not_null};
 ghost use Rattle.sq_bound.specs.WellFormed.{base_kinds, kinds_of_columns};
-ghost use Rattle.sq_catalog.specs.Catalog.{Gains, named_by};
-ghost use Rattle.sq_catalog.specs.Columns.{AreBaseColumnsOf, AreColumnsOf, HasBaseColumnsOf, HasColumnsOf, IsDefaultOf, IsStoredAs, columns_written};
-ghost use Rattle.sq_catalog.specs.Reference.{IsFound, is_to, keys_with};
+ghost use Rattle.sq_catalog.specs.Base.{IsBaseOf};
+ghost use Rattle.sq_catalog.specs.Catalog.{Gains, IsNewName, named_by};
+ghost use Rattle.sq_catalog.specs.Checks.{AreChecksOf, IsCheckOf, checks_written};
+ghost use Rattle.sq_catalog.specs.Columns.{AreBaseColumnsOf, AreColumnsOf, HasColumnsOf, IsDefaultOf, IsStoredAs, columns_written};
+ghost use Rattle.sq_catalog.specs.Keys.{KeysStandAt, keys_written, names_written, primary_among};
+ghost use Rattle.sq_catalog.specs.Reference.{IsBound, IsFound, IsFoundAs, MakesReferences, constraints_lent, is_to, keys_with};
+ghost use Rattle.sq_catalog.specs.References.{references_written};
 ghost use Rattle.sq_catalog.specs.Stored.{AreChecksAt, AreColumnsOver, IsDescribed, IsNext};
 ghost use Rattle.sq_catalog.specs.Views.{GainsViews};
 ghost use Rattle.sq_catalog.specs.Table.{typed_definitions, typed_kinds, written_not_null};
-ghost use Rattle.sq_catalog.specs.Written.{column_count, is_written_not_null};
+ghost use Rattle.sq_catalog.specs.Written.{column_count, conditions_lent, is_written_not_null, names_at};
 
 use crate::catalog::{Catalog, FullName, full_name};
 use crate::fault::{ElementFault, RefusalName, refused_as, refused_if};
@@ -81,7 +86,9 @@ impl Catalog {
         ensures own { OnOk result (name.now.user ≡ user) }
         ensures next { IfOk result (λ new. IsNext self.now.bases name.now new.0 new.1) }
         ensures columns { IfOk result (λ new. HasColumnsOf definition.now new.0.columns) }
-        ensures base_columns { IfOk result (λ new. HasBaseColumnsOf definition.now new.1) }
+        ensures base { IfOk result (λ new. IsBaseOf name.now definition.now new.1) }
+        ensures references { IfOk result (λ new. IsNewName self.now name.now → length self.now.bases ≡ length self.now.tables
+            → MakesReferences self.now name.now definition.now new.0.columns new.1) }
     {
         let draft = self.draft(user, name, definition)?;
         let table = self.table_of(user, name, &draft);
@@ -98,6 +105,12 @@ impl Catalog {
     ) -> Result<Draft<'t>, ElementFault>
         ensures found { IfOk result (λ draft. All (IsFound self.now.bases (vec_len draft.written.columns)) draft.references.items) }
         ensures columns { IfOk result (λ draft. typed_definitions draft.columns.items ≡ columns_written definition.now) }
+        ensures keys { IfOk result (λ draft. KeysStandAt (names_written definition.now) (keys_written definition.now) draft.keys.columns) }
+        ensures primary { IfOk result (λ draft. draft.keys.has_two_primary ≡ false
+            → draft.keys.primary ≡ primary_among (keys_written definition.now)) }
+        ensures checks { IfOk result (λ draft. conditions_lent draft.written.checks.items ≡ checks_written definition.now) }
+        ensures references { IfOk result (λ draft. AllZip (IsFoundAs self.now user name.now (names_written definition.now))
+            (references_written definition.now) draft.references.items) }
     {
         let written = parts_of(self.alloc(), definition)?;
         let named = named_columns(self.alloc(), written.columns.as_slice());
@@ -126,7 +139,11 @@ impl Catalog {
         written: &Written<'_>,
     ) -> Result<(Keys, Vec<FoundReference<'t>>), ElementFault>
         ensures keys { IfOk result (λ found. list_all (are_positions (column_count columns.now)) found.0.columns ≡ true) }
+        ensures named { IfOk result (λ found. KeysStandAt (names_at columns.now) written.now.keys.items found.0.columns) }
+        ensures primary { IfOk result (λ found. found.0.has_two_primary ≡ false → found.0.primary ≡ primary_among written.now.keys.items) }
         ensures references { IfOk result (λ found. All (IsFound self.now.bases (column_count columns.now)) found.1.items) }
+        ensures constraints { IfOk result (λ found. AllZip (IsFoundAs self.now user full_name.now (names_at columns.now))
+            (constraints_lent written.now.references.items) found.1.items) }
     {
         let own = OwnTable {
             user,
@@ -150,6 +167,13 @@ impl Catalog {
         ensures next { IfOk result (λ new. IsNext self.now.bases name.now new.0 new.1) }
         ensures columns { IfOk result (λ new. AreColumnsOf (typed_definitions draft.now.columns.items) new.0.columns) }
         ensures base_columns { IfOk result (λ new. AreBaseColumnsOf (typed_definitions draft.now.columns.items) new.1.columns) }
+        ensures keys { IfOk result (λ new. new.1.keys ≡ draft.now.keys.columns) }
+        ensures primary { IfOk result (λ new. new.1.primary_key ≡ draft.now.keys.primary) }
+        ensures one_primary { OnOk result (draft.now.keys.has_two_primary ≡ false) }
+        ensures checks { IfOk result (λ new. AreChecksOf name.now new.0.columns (conditions_lent draft.now.written.checks.items)
+            new.1.checks) }
+        ensures references { IfOk result (λ new. AllZip (IsBound self.now.bases draft.now.keys.columns draft.now.keys.primary)
+            draft.now.references.items new.1.references) }
     {
         let columns = columns_of(self.alloc(), draft.columns.as_slice())?;
         match (&*self).checked_base(user, name, columns.as_slice(), &*draft) {
@@ -176,7 +200,14 @@ impl Catalog {
         ensures columns { IfOk result (λ base. AreBaseColumnsOf (typed_definitions draft.now.columns.items) base.columns) }
         ensures kinds { IfOk result (λ base. base_kinds base ≡ kinds_of_columns columns.now) }
         ensures place { IfOk result (λ base. base.place ≡ length self.now.bases) }
+        ensures keys { IfOk result (λ base. base.keys ≡ draft.now.keys.columns) }
+        ensures primary { IfOk result (λ base. base.primary_key ≡ draft.now.keys.primary) }
+        ensures one_primary { OnOk result (draft.now.keys.has_two_primary ≡ false) }
+        ensures references { IfOk result (λ base. AllZip (IsBound self.now.bases draft.now.keys.columns draft.now.keys.primary)
+            draft.now.references.items base.references) }
         ensures checks { IfOk result (λ base. AreChecksAt (length self.now.bases) (kinds_of_columns columns.now) base.checks) }
+        ensures checks_are { IfOk result (λ base. AreChecksOf name.now columns.now (conditions_lent draft.now.written.checks.items)
+            base.checks) }
         ensures refer { IfOk result (λ base. list_all (is_to (keys_with self.now.bases base.keys) (length columns.now))
             base.references ≡ true) }
     {
@@ -206,7 +237,13 @@ impl Catalog {
         ensures columns { IfOk result (λ made. AreBaseColumnsOf (typed_definitions draft.now.columns.items) made.0.columns) }
         ensures kinds { IfOk result (λ made. base_kinds made.0 ≡ kinds_of_columns columns.now) }
         ensures place { IfOk result (λ made. made.0.place ≡ length self.now.bases) }
+        ensures keys { IfOk result (λ made. made.0.keys ≡ draft.now.keys.columns) }
+        ensures primary { IfOk result (λ made. made.0.primary_key ≡ draft.now.keys.primary) }
+        ensures references { IfOk result (λ made. AllZip (IsBound self.now.bases draft.now.keys.columns draft.now.keys.primary)
+            draft.now.references.items made.0.references) }
         ensures checks { IfOk result (λ made. AreChecksAt (length self.now.bases) (kinds_of_columns columns.now) made.0.checks) }
+        ensures checks_are { IfOk result (λ made. AreChecksOf name.now columns.now (conditions_lent draft.now.written.checks.items)
+            made.0.checks) }
         ensures refer { IfOk result (λ made. list_all (is_to (keys_with self.now.bases made.0.keys) (length columns.now))
             made.0.references ≡ true) }
     {
@@ -260,6 +297,8 @@ fn base_parts(
     ensures not_null { IfOk result (λ parts. map (λ c. c.not_null) parts.columns ≡ written_not_null draft.now.columns.items) }
     ensures keys { IfOk result (λ parts. parts.keys ≡ draft.now.keys.columns) }
     ensures checks { IfOk result (λ parts. AreChecksAt place (kinds_of_columns columns.now) parts.checks) }
+    ensures checks_are { IfOk result (λ parts. AreChecksOf name.now columns.now (conditions_lent draft.now.written.checks.items)
+        parts.checks) }
 {
     let checks = bound_checks(alloc, name, place, columns, draft.written.checks.as_slice());
     let held = base_columns(alloc, draft.columns.as_slice());
@@ -287,6 +326,7 @@ fn assembled(
     ensures place { result.0.place ≡ place }
     ensures columns { result.0.columns ≡ parts.columns }
     ensures keys { result.0.keys ≡ parts.keys }
+    ensures primary { result.0.primary_key ≡ primary_key }
     ensures references { result.0.references ≡ bound.references }
     ensures checks { result.0.checks ≡ parts.checks }
 {
@@ -313,7 +353,8 @@ fn assembled(
 impl Draft<'_> {
     /// The keys are in order (that each of their columns is NOT NULL is an own rule), and the lists of the references.
     fn check_keys(&self) -> Result<(), ElementFault>
-        ensures { OnOk result (list_all (are_not_null (written_not_null self.now.columns.items)) self.now.keys.columns ≡ true) }
+        ensures known { OnOk result (list_all (are_not_null (written_not_null self.now.columns.items)) self.now.keys.columns ≡ true) }
+        ensures one_primary { OnOk result (self.now.keys.has_two_primary ≡ false) }
     {
         let are_known = have_not_null(self.columns.as_slice(), self.keys.columns.as_slice());
         refused_if(!are_known, RefusalName::NullableKey)?;
@@ -469,7 +510,8 @@ fn bound_checks(
     columns: &[Column],
     checks: &[&Cond],
 ) -> Result<Items<BoundCond>, ElementFault>
-    ensures { IfOk result (AreChecksAt place (kinds_of_columns columns.now)) }
+    ensures well_formed { IfOk result (AreChecksAt place (kinds_of_columns columns.now)) }
+    ensures written { IfOk result (AreChecksOf name.now columns.now (conditions_lent checks.now)) }
 {
     let mut bound = Items::new(alloc);
     for check in checks {
@@ -490,7 +532,9 @@ fn add_check(
     bound: &mut Items<BoundCond>,
 ) -> Result<(), ElementFault>
     requires { AreChecksAt place (kinds_of_columns columns.now) bound.old }
-    ensures { OnOk result (AreChecksAt place (kinds_of_columns columns.now) bound.new) }
+    ensures well_formed { OnOk result (AreChecksAt place (kinds_of_columns columns.now) bound.new) }
+    ensures written { OnOk result ((cond : Condition) × (bound.new ≡ bound.old ++ cond ∷ [])
+        × IsCheckOf name.now columns.now check.now cond) }
 {
     match bind_check(alloc, (name.user, name.name), place, columns, check) {
         Ok(cond) => Ok(bound.push(cond)?),
@@ -554,6 +598,7 @@ fn base_table(
 ) -> TableDesc
     requires leaf { leaf.table ≡ base }
     requires conditions { leaf.conditions ≡ [] }
+    requires demanded { leaf.demanded ≡ 0 }
     requires columns { list_all (λ c. nat_lt c.leaf_column (length leaf.table.columns)) columns ≡ true }
     requires kinds { list_all (λ c. is_kind_at (base_kinds leaf.table) c.leaf_column c.kind) columns ≡ true }
     ensures { IsDescribed name.now base columns result }
@@ -574,6 +619,7 @@ fn owners(
 ) -> Result<(Shared<BaseTable>, Shared<Leaf>), AllocError>
     ensures owners { IfOk result (λ owners. (owners.0 ≡ base.now) × (owners.1.table ≡ base.now)) }
     ensures conditions { IfOk result (λ owners. owners.1.conditions ≡ []) }
+    ensures demanded { IfOk result (λ owners. owners.1.demanded ≡ 0) }
 {
     both(base.share(), base_leaf(alloc, base))
 }
@@ -582,6 +628,7 @@ fn owners(
 fn base_leaf(alloc: Global, base: &Shared<BaseTable>) -> Result<Shared<Leaf>, AllocError>
     ensures table { IfOk result (λ leaf. leaf.table ≡ base.now) }
     ensures conditions { IfOk result (λ leaf. leaf.conditions ≡ []) }
+    ensures demanded { IfOk result (λ leaf. leaf.demanded ≡ 0) }
 {
     let table = base.share()?;
     Shared::new(

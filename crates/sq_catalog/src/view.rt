@@ -1,6 +1,6 @@
 //! CREATE VIEW (ISO/IEC 9075:1992, 11.19).
 
-ghost use Rattle.std.specs.Prelude.{◌≡◌, ◌≤◌, ◌&&◌, [], ◌∷◌, length, map, IfOk, List, OnOk, Some, slice_get};
+ghost use Rattle.std.specs.Prelude.{◌≡◌, ◌≤◌, ◌&&◌, Bool, if◌then◌else◌, [], ◌∷◌, length, map, IfOk, IfSome, List, None, OnOk, Some, slice_get};
 ghost use Rattle.std.specs.List.{AllZip};
 ghost use Rattle.std.specs.Option.{option_map};
 ghost use Rattle.sq_lex.specs.declared.name.Name.{Name as AnyName};
@@ -12,10 +12,12 @@ ghost use Rattle.sq_bound.specs.Quiet.{are_sure, is_sure};
 ghost use Rattle.sq_bound.specs.WellFormed.{IsLeaf, IsSelect, IsTarget, IsUpdatable, TableKinds, base_kinds, kinds_of_columns, kinds_of_results, kinds_of_select};
 ghost use Rattle.sq_select.specs.Names.{NamesAre, names_of, names_placed};
 ghost use Rattle.sq_bind.specs.Updatable.{AreColumns, IsColumn};
+ghost use Rattle.sq_bind.specs.Written.{IsUpdatableOf};
+ghost use Rattle.sq_bound.specs.declared.query.UpdatableQuery.{UpdatableQuery as AnyUpdatable};
 ghost use Rattle.sq_catalog.specs.Catalog.{Gains, column_kinds, known};
 ghost use Rattle.sq_catalog.specs.Stored.{AreColumnsOver, IsBoundOver, IsNextView};
-ghost use Rattle.sq_catalog.specs.View.{IsViewWith, conditions_with, names_or};
-ghost use Rattle.sq_catalog.specs.Views.{GainsViews, HasQueryOf, IsViewOf};
+ghost use Rattle.sq_catalog.specs.View.{IsAbove, IsOverQuery, IsViewWith, conditions_with, names_or};
+ghost use Rattle.sq_catalog.specs.Views.{GainsViews, HasQueryOf, IsViewOf, around_view};
 
 use crate::catalog::{Catalog, FullName, full_name};
 use crate::fault::{ElementFault, RefusalName, refused_as, refused_if};
@@ -96,6 +98,8 @@ impl Catalog {
         requires query { IfOk bound (λ view. HasQueryOf (known self.now) (record { user = user; view = definition.now }) view.query) }
         requires names { IfOk bound (λ view. NamesAre
             (names_placed (known self.now) (meaning.select_of user definition.now.query)) view.query) }
+        requires over { IfOk bound (λ view. IfSome view.updatable (λ over. IsUpdatableOf (around_view (known self.now))
+            (meaning.select_of user definition.now.query) over.1)) }
         ensures own { OnOk result (name.now.user ≡ user) }
         ensures next { IfOk result (λ view. IsNextView self.now name.now view.table) }
         ensures written { IfOk result (λ view. IsViewOf (known self.now) (record { user = user; view = definition.now }) view.table) }
@@ -218,6 +222,7 @@ impl Catalog {
         requires names { length names ≡ length (kinds_of_select bound.query) }
         ensures next { IfOk result (IsNextView self.now name.now) }
         ensures made { IfOk result (IsViewWith names bound.query) }
+        ensures over { IfOk result (IsOverQuery check_option bound.updatable) }
     {
         let BoundView {
             query,
@@ -245,6 +250,7 @@ impl Catalog {
         requires names { length names.now ≡ length (kinds_of_select query) }
         ensures next { IfOk result (IsNextView self.now name.now) }
         ensures made { IfOk result (IsViewWith names.now query) }
+        ensures leaf { IfOk result (λ view. view.leaf ≡ None) }
     {
         let columns = view_columns(self.alloc(), names, query.columns.as_slice());
         let (query, columns) = both(Ok(query), columns)?;
@@ -275,6 +281,7 @@ impl Catalog {
         requires target { IsUpdatable (column_kinds self.now) [] (kinds_of_select query) over }
         ensures next { IfOk result (IsNextView self.now name.now) }
         ensures made { IfOk result (IsViewWith names.now query) }
+        ensures over { IfOk result (λ view. IfSome view.leaf (IsAbove check_option over view.columns)) }
     {
         match view_columns(self.alloc(), names, query.columns.as_slice()) {
             Ok(columns) => {
@@ -303,6 +310,8 @@ impl Catalog {
         ensures next { IfOk result (IsNextView self.now name.now) }
         ensures made { (names : List AnyName) → IfOk parts (λ parts. map (λ c. c.name) parts.0 ≡ names)
             → IfOk result (IsViewWith names query) }
+        ensures over { (check_option : Bool) (over : AnyUpdatable) → IfOk parts (λ parts. IsAbove check_option over parts.0 parts.1)
+            → IfOk result (λ view. IfSome view.leaf (IsAbove check_option over view.columns)) }
     {
         match parts {
             Ok((columns, leaf)) => Ok(self.view_over(name, query, columns, leaf)),
@@ -327,6 +336,7 @@ impl Catalog {
         requires leaf { IsLeaf (column_kinds self.now) leaf }
         ensures next { IsNextView self.now name.now result }
         ensures made { IsViewWith (map (λ c. c.name) columns) query result }
+        ensures seen { (result.columns ≡ columns) × (result.leaf ≡ Some leaf) }
     {
         TableDesc {
             user: name.user,
@@ -363,6 +373,7 @@ fn view_parts(
     ensures columns { IfOk result (λ parts. AreColumnsOver (base_kinds over.target.leaf.table) (kinds_of_columns columns.now) parts.0) }
     ensures names { IfOk result (λ parts. map (λ c. c.name) parts.0 ≡ map (λ c. c.name) columns.now) }
     ensures leaf { IfOk result (λ parts. (known : TableKinds) → IsTarget known [] over.target → IsLeaf known parts.1) }
+    ensures over { IfOk result (λ parts. IsAbove check_option over parts.0 parts.1) }
 {
     let UpdatableQuery {
         target,
@@ -399,6 +410,8 @@ fn view_leaf(
 ) -> Result<Shared<Leaf>, ElementFault>
     ensures base { IfOk result (λ leaf. leaf.table ≡ target.leaf.table) }
     ensures leaf { IfOk result (λ leaf. (known : TableKinds) → IsTarget known [] target → IsLeaf known leaf) }
+    ensures conditions { IfOk result (λ leaf. leaf.conditions ≡ conditions_with target.leaf.conditions target.condition) }
+    ensures demanded { IfOk result (λ leaf. leaf.demanded ≡ (if check_option then length leaf.conditions else target.leaf.demanded)) }
 {
     let Target {
         leaf,
@@ -423,6 +436,7 @@ fn leaf_above(
     requires { is_quiet ≡ (are_sure below.now.conditions && option_all is_sure condition) }
     ensures base { IfOk result (λ leaf. leaf.table ≡ below.now.table) }
     ensures conditions { IfOk result (λ leaf. leaf.conditions ≡ conditions_with below.now.conditions condition) }
+    ensures demanded { IfOk result (λ leaf. leaf.demanded ≡ (if check_option then length leaf.conditions else below.now.demanded)) }
 {
     let conditions = conditions_above(alloc, below.conditions.as_slice(), condition);
     let (conditions, table) = both(conditions, below.table.share())?;
@@ -575,6 +589,7 @@ fn placed_columns(
     ensures columns { IfOk result (λ placed. (base : List Kind) → AllZip (λ p k. slice_get base p ≡ Some k) below.now
         (kinds_of_columns columns.now) → AreColumnsOver base (kinds_of_columns columns.now) placed) }
     ensures names { IfOk result (λ placed. map (λ c. c.name) placed ≡ map (λ c. c.name) columns.now) }
+    ensures places { IfOk result (λ placed. map (λ c. c.leaf_column) placed ≡ below.now) }
 {
     let mut placed = Items::new(alloc);
     for (position, column) in columns.iter().enumerate() {

@@ -1,12 +1,16 @@
 //! What a table definition writes, by kinds of its elements (ISO/IEC 9075:1992, 11.3, 11.4, 11.6).
 
-ghost use Rattle.std.specs.Prelude.{◌≡◌, ◌<◌, ◌+◌, ◌∷◌, ◌++◌, [], Some, true, length, map, vec_len, IfOk, OnOk};
+ghost use Rattle.std.specs.Prelude.{◌≡◌, ◌<◌, ◌+◌, ◌∷◌, ◌++◌, [], Some, true, flat_map, length, map, position, vec_len, IfOk, IsOkAnd, OnOk};
 ghost use Rattle.sq_value.specs.Domain.{IsDomain};
 ghost use Rattle.sq_meaning.specs.Spelled as meaning;
-ghost use Rattle.sq_bound.specs.Names.{are_positions};
+ghost use Rattle.sq_bound.specs.Names.{are_positions, is_name};
 ghost use Rattle.sq_bound.specs.Parameter.{IsDomain-prop};
+ghost use Rattle.sq_catalog.specs.Checks.{check_of_column, checks_in, checks_written};
 ghost use Rattle.sq_catalog.specs.Columns.{column_in, columns_written};
-ghost use Rattle.sq_catalog.specs.Written.{column_count, definitions_lent, is_written_not_null};
+ghost use Rattle.sq_catalog.specs.Keys.{StandAt, key_of_column, keys_in, keys_written};
+ghost use Rattle.sq_catalog.specs.Reference.{constraints_lent};
+ghost use Rattle.sq_catalog.specs.References.{reference_on, references_in, references_written};
+ghost use Rattle.sq_catalog.specs.Written.{column_count, conditions_lent, definitions_lent, is_written_not_null, names_at};
 
 use crate::fault::{ElementFault, RefusalName, refused_if};
 use indexmap::IndexSet;
@@ -64,7 +68,9 @@ pub(crate) fn names_of(alloc: Global, list: &CommaList<Name>) -> Result<Items<Na
     Ok(names)
 }
 
-fn only_name(alloc: Global, name: Name) -> Result<Items<Name>, ElementFault> {
+fn only_name(alloc: Global, name: Name) -> Result<Items<Name>, ElementFault>
+    ensures { IfOk result (λ names. names ≡ name ∷ []) }
+{
     let mut names = Items::new(alloc);
     names.push(name)?;
     Ok(names)
@@ -75,7 +81,10 @@ pub(crate) fn parts_of<'t>(
     alloc: Global,
     definition: &'t TableDefinition,
 ) -> Result<Written<'t>, ElementFault>
-    ensures { IfOk result (λ written. definitions_lent written.columns.items ≡ columns_written definition.now) }
+    ensures columns { IfOk result (λ written. definitions_lent written.columns.items ≡ columns_written definition.now) }
+    ensures keys { IfOk result (λ written. written.keys.items ≡ keys_written definition.now) }
+    ensures checks { IfOk result (λ written. conditions_lent written.checks.items ≡ checks_written definition.now) }
+    ensures references { IfOk result (λ written. constraints_lent written.references.items ≡ references_written definition.now) }
 {
     let mut written = Written {
         columns: Vec::new(alloc),
@@ -92,7 +101,13 @@ pub(crate) fn parts_of<'t>(
 
 impl<'t> Written<'t> {
     fn add(&mut self, alloc: Global, element: &'t TableElement) -> Result<(), ElementFault>
-        ensures { OnOk result (definitions_lent self.new.columns.items ≡ definitions_lent self.old.columns.items ++ column_in element.now) }
+        ensures columns { OnOk result (definitions_lent self.new.columns.items ≡ definitions_lent self.old.columns.items
+            ++ column_in element.now) }
+        ensures keys { OnOk result (self.new.keys.items ≡ self.old.keys.items ++ keys_in element.now) }
+        ensures checks { OnOk result (conditions_lent self.new.checks.items ≡ conditions_lent self.old.checks.items
+            ++ checks_in element.now) }
+        ensures references { OnOk result (constraints_lent self.new.references.items
+            ≡ constraints_lent self.old.references.items ++ references_in element.now) }
     {
         match element {
             TableElement::Column(column) => self.add_column(alloc, column),
@@ -113,7 +128,14 @@ impl<'t> Written<'t> {
         alloc: Global,
         column: &'t ColumnDefinition,
     ) -> Result<(), ElementFault>
-        ensures { OnOk result (definitions_lent self.new.columns.items ≡ definitions_lent self.old.columns.items ++ column.now ∷ []) }
+        ensures columns { OnOk result (definitions_lent self.new.columns.items ≡ definitions_lent self.old.columns.items
+            ++ column.now ∷ []) }
+        ensures keys { OnOk result (self.new.keys.items ≡ self.old.keys.items
+            ++ flat_map (key_of_column column.now.name) column.now.constraints) }
+        ensures checks { OnOk result (conditions_lent self.new.checks.items ≡ conditions_lent self.old.checks.items
+            ++ flat_map check_of_column column.now.constraints) }
+        ensures references { OnOk result (constraints_lent self.new.references.items
+            ≡ constraints_lent self.old.references.items ++ flat_map (reference_on column.now.name) column.now.constraints) }
     {
         pushed(self.columns.push(column).is_ok())?;
         for constraint in column.constraints.as_slice() {
@@ -128,7 +150,12 @@ impl<'t> Written<'t> {
         name: Name,
         constraint: &'t ColumnConstraint,
     ) -> Result<(), ElementFault>
-        ensures { self.new.columns ≡ self.old.columns }
+        ensures columns { self.new.columns ≡ self.old.columns }
+        ensures keys { OnOk result (self.new.keys.items ≡ self.old.keys.items ++ key_of_column name constraint.now) }
+        ensures checks { OnOk result (conditions_lent self.new.checks.items ≡ conditions_lent self.old.checks.items
+            ++ check_of_column constraint.now) }
+        ensures references { OnOk result (constraints_lent self.new.references.items
+            ≡ constraints_lent self.old.references.items ++ reference_on name constraint.now) }
     {
         match constraint {
             ColumnConstraint::NotNull => Ok(()),
@@ -146,7 +173,11 @@ impl<'t> Written<'t> {
         is_primary: bool,
         columns: Result<Items<Name>, ElementFault>,
     ) -> Result<(), ElementFault>
-        ensures { self.new.columns ≡ self.old.columns }
+        ensures columns { self.new.columns ≡ self.old.columns }
+        ensures keys { OnOk result (IsOkAnd columns (λ names. self.new.keys.items ≡ self.old.keys.items
+            ++ record { is_primary = is_primary; columns = names } ∷ [])) }
+        ensures checks { self.new.checks ≡ self.old.checks }
+        ensures references { self.new.references ≡ self.old.references }
     {
         let columns = columns?;
         pushed(
@@ -164,7 +195,11 @@ impl<'t> Written<'t> {
         columns: Result<Items<Name>, ElementFault>,
         to: &'t References,
     ) -> Result<(), ElementFault>
-        ensures { self.new.columns ≡ self.old.columns }
+        ensures columns { self.new.columns ≡ self.old.columns }
+        ensures keys { self.new.keys ≡ self.old.keys }
+        ensures checks { self.new.checks ≡ self.old.checks }
+        ensures references { OnOk result (IsOkAnd columns (λ names. constraints_lent self.new.references.items
+            ≡ constraints_lent self.old.references.items ++ record { columns = names; to = to.now } ∷ [])) }
     {
         let columns = columns?;
         pushed(
@@ -175,7 +210,10 @@ impl<'t> Written<'t> {
     }
 
     fn add_check(&mut self, cond: &'t Cond) -> Result<(), ElementFault>
-        ensures { self.new.columns ≡ self.old.columns }
+        ensures columns { self.new.columns ≡ self.old.columns }
+        ensures keys { self.new.keys ≡ self.old.keys }
+        ensures checks { OnOk result (conditions_lent self.new.checks.items ≡ conditions_lent self.old.checks.items ++ cond.now ∷ []) }
+        ensures references { self.new.references ≡ self.old.references }
     {
         pushed(self.checks.push(cond).is_ok())
     }
@@ -204,7 +242,8 @@ pub(crate) fn named_columns(
     alloc: Global,
     columns: &[&ColumnDefinition],
 ) -> Result<NamedColumns, ElementFault>
-    ensures { IfOk result (λ named. column_count named ≡ length columns.now) }
+    ensures count { IfOk result (λ named. column_count named ≡ length columns.now) }
+    ensures names { IfOk result (λ named. names_at named ≡ map (λ w. w.name) (definitions_lent columns.now)) }
 {
     let mut named = NamedColumns {
         names: IndexSet::new(alloc),
@@ -220,7 +259,8 @@ pub(crate) fn named_columns(
 
 impl NamedColumns {
     fn add_all(&mut self, columns: &[&ColumnDefinition]) -> Result<(), ElementFault>
-        ensures { OnOk result (column_count self.new ≡ column_count self.old + length columns.now) }
+        ensures count { OnOk result (column_count self.new ≡ column_count self.old + length columns.now) }
+        ensures names { OnOk result (names_at self.new ≡ names_at self.old ++ map (λ w. w.name) (definitions_lent columns.now)) }
     {
         for column in columns {
             self.add(column)?;
@@ -229,7 +269,8 @@ impl NamedColumns {
     }
 
     fn add(&mut self, column: &ColumnDefinition) -> Result<(), ElementFault>
-        ensures { OnOk result (column_count self.new ≡ column_count self.old + 1) }
+        ensures count { OnOk result (column_count self.new ≡ column_count self.old + 1) }
+        ensures names { OnOk result (names_at self.new ≡ names_at self.old ++ column.now.name ∷ []) }
     {
         match self.names.insert_full(column.name) {
             Ok((_, added)) => refused_if(!added, RefusalName::NameTwice),
@@ -239,7 +280,8 @@ impl NamedColumns {
 
     /// The position of the column of a name.
     pub(crate) fn position(&self, name: Name) -> Result<usize, ElementFault>
-        ensures { IfOk result (λ position. position < column_count self.now) }
+        ensures within { IfOk result (λ place. place < column_count self.now) }
+        ensures named { IfOk result (λ place. position (is_name name) (names_at self.now) ≡ Some place) }
     {
         match self.names.get_index_of(&name) {
             Some(position) => Ok(position),
@@ -253,7 +295,8 @@ impl NamedColumns {
         alloc: Global,
         wanted: &[Name],
     ) -> Result<Items<usize>, ElementFault>
-        ensures { IfOk result (λ positions. are_positions (column_count self.now) positions ≡ true) }
+        ensures within { IfOk result (λ positions. are_positions (column_count self.now) positions ≡ true) }
+        ensures named { IfOk result (StandAt (names_at self.now) wanted.now) }
     {
         let mut positions = Items::new(alloc);
         for name in wanted {

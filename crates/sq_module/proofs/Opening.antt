@@ -8,6 +8,7 @@ use Rattle.std.specs.Map.{lookup}
 use Rattle.std.specs.Option.{option_map}
 use Rattle.indexmap.specs.IndexMap.{insert_entry}
 use Rattle.indexmap.proofs.SetLemmas.{AllZip-push}
+use Rattle.sq_bound.specs.Known.{KnownTables}
 use Rattle.sq_lex.specs.declared.name.Name.{Name}
 use Rattle.sq_value.specs.declared.domain.Kind.{Kind}
 use Rattle.sq_tree.specs.declared.statement.Statement.{Statement}
@@ -19,7 +20,7 @@ use Rattle.sq_bound.specs.declared.statement.BoundStatement.{BoundStatement}
 use Rattle.sq_bound.specs.declared.statement.BoundStatement.TheVariants as statement
 use Rattle.sq_bound.specs.WellFormed.{IsCursor, TableKinds, kinds_of_parameters, kinds_of_results}
 use Rattle.sq_bound.specs.declared.names.ParameterDesc.{ParameterDesc}
-use Rattle.sq_bind.specs.Written.{IsStatementOf, NamesMean}
+use Rattle.sq_bind.specs.Written.{IsStatementOf}
 use Rattle.sq_module.specs.Opened.{AreOpened, AreThere, Grow, IsOpened}
 use Rattle.sq_module.specs.Program.{OpensWellFormed, ProcedureOpens, ProceduresOpen, kinds_of_cursors, same_name}
 use Rattle.sq_module.specs.declared.admission.AdmittedProcedure.{AdmittedProcedure}
@@ -161,7 +162,7 @@ number_there n (e ∷ es) name v h is =
 
 -- ---- statements that open no cursor
 
-pub opens_none : (names : NamesMean) → (R : Name → ℕ → Type 0) (columns : TableKinds) (cursors : List DeclaredCursor) (user : Name) (ps : List ParameterDesc) (kinds : List Kind) (s : Statement) (b : BoundStatement)
+pub opens_none : (names : KnownTables) → (R : Name → ℕ → Type 0) (columns : TableKinds) (cursors : List DeclaredCursor) (user : Name) (ps : List ParameterDesc) (kinds : List Kind) (s : Statement) (b : BoundStatement)
     → ((name : Name) → s ≡ tree.Open name → ⊥) → IsStatementOf names R user ps s b → OpensWellFormed columns cursors kinds b
 opens_none names R columns cursors user ps kinds (tree.Open name) (statement.Open n) other h = absurd (other name refl)
 opens_none names R columns cursors user ps kinds s (statement.Open n) other h = absurd h
@@ -174,7 +175,7 @@ opens_none names R columns cursors user ps kinds s (statement.Delete t) other h 
 opens_none names R columns cursors user ps kinds s statement.Commit other h = tt
 opens_none names R columns cursors user ps kinds s statement.Rollback other h = tt
 
-pub opens_no_other : (names : NamesMean) → (R : Name → ℕ → Type 0) (columns : TableKinds) (cursors : List DeclaredCursor) (user : Name) (ps : List ParameterDesc) (kinds : List Kind) (s : Statement) (r : Result BoundStatement BindFault)
+pub opens_no_other : (names : KnownTables) → (R : Name → ℕ → Type 0) (columns : TableKinds) (cursors : List DeclaredCursor) (user : Name) (ps : List ParameterDesc) (kinds : List Kind) (s : Statement) (r : Result BoundStatement BindFault)
     → ((name : Name) → s ≡ tree.Open name → ⊥) → IfOk r (IsStatementOf names R user ps s) → IfOk r (OpensWellFormed columns cursors kinds)
 opens_no_other names R columns cursors user ps kinds s (Ok b) other h = opens_none names R columns cursors user ps kinds s b other h
 opens_no_other names R columns cursors user ps kinds s (Err e) other h = tt

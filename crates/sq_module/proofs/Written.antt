@@ -7,6 +7,7 @@ use Rattle.std.specs.List.{AllByRecursion, IsAmong}
 use Rattle.std.specs.Map.{lookup}
 use Rattle.indexmap.specs.IndexMap.{insert_entry}
 use Rattle.indexmap.proofs.SetLemmas.{AllZip-push}
+use Rattle.sq_bound.specs.Known.{KnownTables}
 use Rattle.sq_lex.specs.declared.name.Name.{Name}
 use Rattle.sq_tree.specs.declared.cond.Cond.{Cond}
 use Rattle.sq_tree.specs.declared.module.Cursor.{Cursor}
@@ -23,7 +24,7 @@ use Rattle.sq_bound.specs.declared.statement.BoundStatement.{BoundStatement}
 use Rattle.sq_bound.specs.declared.statement.BoundStatement.TheVariants as statement
 use Rattle.sq_bound.specs.declared.statement.ChangeTarget.{ChangeTarget}
 use Rattle.sq_bound.specs.declared.statement.ChangeTarget.TheVariants as target
-use Rattle.sq_bind.specs.Written.{IsCursorOf, IsStatementOf, IsTargetOf, NamesMean}
+use Rattle.sq_bind.specs.Written.{IsCursorOf, IsStatementOf, IsTargetOf}
 use Rattle.sq_tree.specs.declared.module.ModuleItem.TheVariants as item
 use Rattle.sq_meaning.specs.Status.{Outcome, well_formed}
 use Rattle.sq_bound.specs.Condition.{PlacedClause}
@@ -91,7 +92,7 @@ target_where R S f filter None (target.Positioned p) h = absurd h
 target_where R S f filter (Some (rows.Condition c)) (target.Positioned p) h = absurd h
 target_where R S f filter (Some (rows.CurrentOf name)) (target.Searched t) h = absurd h
 
-pub statement_where : (names : NamesMean) → (R S : Name → ℕ → Type 0) → ((name : Name) (n : ℕ) → R name n → S name n) → (user : Name) (parameters : List ParameterDesc) (s : Statement) (b : BoundStatement)
+pub statement_where : (names : KnownTables) → (R S : Name → ℕ → Type 0) → ((name : Name) (n : ℕ) → R name n → S name n) → (user : Name) (parameters : List ParameterDesc) (s : Statement) (b : BoundStatement)
     → IsStatementOf names R user parameters s b → IsStatementOf names S user parameters s b
 statement_where names R S f user parameters (tree.Open name) (statement.Open n) h = f name n h
 statement_where names R S f user parameters (tree.Fetch t) (statement.Fetch b) h = (f t.cursor b.cursor h.0, h.1, h.2)
@@ -106,7 +107,7 @@ statement_where names R S f user parameters s b h = absurd h
 
 -- ---- more cursors
 
-number_more : (names : NamesMean) (m : ModuleText) (cursors more : List DeclaredCursor) (name : Name) (n : ℕ) → IsNumberOf names m cursors name n → IsNumberOf names m (cursors ++ more) name n
+number_more : (names : KnownTables) (m : ModuleText) (cursors more : List DeclaredCursor) (name : Name) (n : ℕ) → IsNumberOf names m cursors name n → IsNumberOf names m (cursors ++ more) name n
 number_more names m cursors more name n h = record {
   cursor = h.cursor;
   among = h.among;
@@ -114,18 +115,18 @@ number_more names m cursors more name n h = record {
   bound = there_still (IsDeclaredFrom names m h.cursor) cursors more n h.bound;
 }
 
-statement_more : (names : NamesMean) → (m : ModuleText) (cursors more : List DeclaredCursor) (parameters : List ParameterDesc) (s : Statement) (b : BoundStatement)
+statement_more : (names : KnownTables) → (m : ModuleText) (cursors more : List DeclaredCursor) (parameters : List ParameterDesc) (s : Statement) (b : BoundStatement)
     → IsStatementIn names m cursors parameters s b → IsStatementIn names m (cursors ++ more) parameters s b
 statement_more names m cursors more parameters s b h = statement_where names (IsNumberOf names m cursors) (IsNumberOf names m (cursors ++ more)) (number_more names m cursors more) m.authorization parameters s b h
 
-bound_more : (names : NamesMean) → (m : ModuleText) (cursors more : List DeclaredCursor) (p : Procedure) (b : BoundProcedure) → IsBoundFrom names m cursors p b → IsBoundFrom names m (cursors ++ more) p b
+bound_more : (names : KnownTables) → (m : ModuleText) (cursors more : List DeclaredCursor) (p : Procedure) (b : BoundProcedure) → IsBoundFrom names m cursors p b → IsBoundFrom names m (cursors ++ more) p b
 bound_more names m cursors more p b h = record { user = h.user; parameters = h.parameters; statement = by b.statement h.statement }
   where
     by : (r : Result BoundStatement BindFault) → IfOk r (IsStatementIn names m cursors b.parameters p.statement) → IfOk r (IsStatementIn names m (cursors ++ more) b.parameters p.statement)
     by (Ok s) stands = statement_more names m cursors more b.parameters p.statement s stands
     by (Err e) stands = tt
 
-from_texts_more : (names : NamesMean) → (texts : List ModuleText) (cursors more : List DeclaredCursor) (procedures : List (ProcedureName × BoundProcedure)) → AreFromTexts names texts cursors procedures
+from_texts_more : (names : KnownTables) → (texts : List ModuleText) (cursors more : List DeclaredCursor) (procedures : List (ProcedureName × BoundProcedure)) → AreFromTexts names texts cursors procedures
     → AreFromTexts names texts (cursors ++ more) procedures
 from_texts_more names texts cursors more [] h = tt
 from_texts_more names texts cursors more (e ∷ es) h = (
@@ -141,32 +142,32 @@ from_texts_more names texts cursors more (e ∷ es) h = (
   from_texts_more names texts cursors more es h.1,
 )
 
-numbers_more : (names : NamesMean) (m : ModuleText) (cursors more : List DeclaredCursor) (numbers : List (Name × ℕ)) → AreNumbers names m cursors numbers → AreNumbers names m (cursors ++ more) numbers
+numbers_more : (names : KnownTables) (m : ModuleText) (cursors more : List DeclaredCursor) (numbers : List (Name × ℕ)) → AreNumbers names m cursors numbers → AreNumbers names m (cursors ++ more) numbers
 numbers_more names m cursors more [] h = tt
 numbers_more names m cursors more (e ∷ es) h = (number_more names m cursors more e.0 e.1 h.0, numbers_more names m cursors more es h.1)
 
-opens_named_more : (names : NamesMean) → (m : ModuleText) (cursors more : List DeclaredCursor) (p : AdmittedProcedure) (o : Option ℕ) → OpensNamed names m cursors p o → OpensNamed names m (cursors ++ more) p o
+opens_named_more : (names : KnownTables) → (m : ModuleText) (cursors more : List DeclaredCursor) (p : AdmittedProcedure) (o : Option ℕ) → OpensNamed names m cursors p o → OpensNamed names m (cursors ++ more) p o
 opens_named_more names m cursors more p None h = tt
 opens_named_more names m cursors more p (Some n) h = statement_more names m cursors more p.parameters p.procedure.now.statement (statement.Open n) h
 
-open_named_more : (names : NamesMean) → (m : ModuleText) (cursors more : List DeclaredCursor) (ps : List AdmittedProcedure) (os : List (Option ℕ)) → OpenNamed names m cursors ps os → OpenNamed names m (cursors ++ more) ps os
+open_named_more : (names : KnownTables) → (m : ModuleText) (cursors more : List DeclaredCursor) (ps : List AdmittedProcedure) (os : List (Option ℕ)) → OpenNamed names m cursors ps os → OpenNamed names m (cursors ++ more) ps os
 open_named_more names m cursors more [] [] h = tt
 open_named_more names m cursors more [] (o ∷ os) h = absurd h
 open_named_more names m cursors more (p ∷ ps) [] h = absurd h
 open_named_more names m cursors more (p ∷ ps) (o ∷ os) h = (opens_named_more names m cursors more p o h.0, open_named_more names m cursors more ps os h.1)
 
-pub from_texts_grown : (names : NamesMean) → (texts : List ModuleText) (old new : List DeclaredCursor) (procedures : List (ProcedureName × BoundProcedure)) → Grow old new → AreFromTexts names texts old procedures
+pub from_texts_grown : (names : KnownTables) → (texts : List ModuleText) (old new : List DeclaredCursor) (procedures : List (ProcedureName × BoundProcedure)) → Grow old new → AreFromTexts names texts old procedures
     → AreFromTexts names texts new procedures
 from_texts_grown names texts old new procedures grown h = subst (λ cs. AreFromTexts names texts cs procedures) (sym grown.1) (from_texts_more names texts old grown.0 procedures h)
 
 -- one procedure more, with cursors behind those that were there
-pub named_next : (names : NamesMean) → (m : ModuleText) (old new : List DeclaredCursor) (ps : List AdmittedProcedure) (i : ℕ) (p : AdmittedProcedure) (os : List (Option ℕ)) (o : Option ℕ) → i < length ps → p ≡ get_or ps i p
+pub named_next : (names : KnownTables) → (m : ModuleText) (old new : List DeclaredCursor) (ps : List AdmittedProcedure) (i : ℕ) (p : AdmittedProcedure) (os : List (Option ℕ)) (o : Option ℕ) → i < length ps → p ≡ get_or ps i p
     → Grow old new → OpenNamed names m old (take i ps) os → OpensNamed names m new p o → OpenNamed names m new (take (i + 1) ps) (os ++ o ∷ [])
 named_next names m old new ps i p os o lt is grown h one =
     let wide : OpenNamed names m new (take i ps) os = subst (λ cs. OpenNamed names m cs (take i ps) os) (sym grown.1) (open_named_more names m old grown.0 (take i ps) os h) in
     subst (λ qs. OpenNamed names m new qs (os ++ o ∷ [])) (ap (λ q. take i ps ++ q ∷ []) is ∙ sym (take_more ps i p lt)) (AllZip-push (OpensNamed names m new) (take i ps) os p o wide one)
 
-pub named_at : (names : NamesMean) → (m : ModuleText) (cursors : List DeclaredCursor) (ps : List AdmittedProcedure) (os : List (Option ℕ)) (i : ℕ) (p : AdmittedProcedure) (d : Option ℕ) → OpenNamed names m cursors ps os
+pub named_at : (names : KnownTables) → (m : ModuleText) (cursors : List DeclaredCursor) (ps : List AdmittedProcedure) (os : List (Option ℕ)) (i : ℕ) (p : AdmittedProcedure) (d : Option ℕ) → OpenNamed names m cursors ps os
     → i < length ps → p ≡ get_or ps i p → OpensNamed names m cursors p (get_or os i d)
 named_at names m cursors [] os i p d h lt is = let no : ⊥ = omega (arith, lt) in absurd no
 named_at names m cursors (q ∷ ps) [] i p d h lt is = absurd h
@@ -176,18 +177,18 @@ named_at names m cursors (q ∷ ps) (r ∷ os) (suc i) p d h lt is = named_at na
 -- ---- one cursor more
 
 -- the last cursor, bound from the one of this name
-pub number_last : (names : NamesMean) (m : ModuleText) (a : AdmittedModule) (cursors new : List DeclaredCursor) (name : Name) (bound : Result BoundCursor BindFault) (c : BoundCursor) (d : DeclaredCursor) → bound ≡ Ok c
+pub number_last : (names : KnownTables) (m : ModuleText) (a : AdmittedModule) (cursors new : List DeclaredCursor) (name : Name) (bound : Result BoundCursor BindFault) (c : BoundCursor) (d : DeclaredCursor) → bound ≡ Ok c
     → d.«module» ≡ a.name → d.name ≡ name → d.user ≡ a.user → d.cursor ≡ c → new ≡ cursors ++ d ∷ [] → IsOfText m a → IsCursorNamed names m name bound → IsNumberOf names m new name (length cursors)
 number_last names m a cursors new name bound c d is_bound of_module of_name of_user of_cursor is of h =
-    let written : IsCursorOf names.known m.authorization h.parameters h.cursor c
-    = subst (λ (r : Result BoundCursor BindFault). IfOk r (IsCursorOf names.known m.authorization h.parameters h.cursor)) is_bound h.bound_is in
+    let written : IsCursorOf names m.authorization h.parameters h.cursor c
+    = subst (λ (r : Result BoundCursor BindFault). IfOk r (IsCursorOf names m.authorization h.parameters h.cursor)) is_bound h.bound_is in
     let one : IsDeclaredFrom names m h.cursor d = record {
       of_module = of_module ∙ of.name;
       named = of_name ∙ sym h.named;
       user = of_user ∙ of.user;
       parameters = h.parameters;
       opened = subst (λ n. IsOpenedIn m n h.parameters) (sym h.named) h.opened;
-      cursor = subst (IsCursorOf names.known m.authorization h.parameters h.cursor) (sym of_cursor) written;
+      cursor = subst (IsCursorOf names m.authorization h.parameters h.cursor) (sym of_cursor) written;
     } in
     record {
       cursor = h.cursor;
@@ -197,7 +198,7 @@ number_last names m a cursors new name bound c d is_bound of_module of_name of_u
     }
 
 -- the numbers with that of the last cursor
-pub numbers_next : (names : NamesMean) (m : ModuleText) (cursors new : List DeclaredCursor) (numbers after : List (Name × ℕ)) (name : Name) (n : ℕ) (d : DeclaredCursor) → new ≡ cursors ++ d ∷ []
+pub numbers_next : (names : KnownTables) (m : ModuleText) (cursors new : List DeclaredCursor) (numbers after : List (Name × ℕ)) (name : Name) (n : ℕ) (d : DeclaredCursor) → new ≡ cursors ++ d ∷ []
     → after ≡ insert_entry same_name numbers name n → IsNumberOf names m new name n → AreNumbers names m cursors numbers → AreNumbers names m new after
 numbers_next names m cursors new numbers after name n d is entered one h =
     let wide : AreNumbers names m new numbers = subst (λ cs. AreNumbers names m cs numbers) (sym is) (numbers_more names m cursors (d ∷ []) numbers h) in
@@ -207,7 +208,7 @@ numbers_next names m cursors new numbers after name n d is entered one h =
 -- ---- a procedure
 
 -- the number that a name has
-number_found : (names : NamesMean) (m : ModuleText) (cursors : List DeclaredCursor) (numbers : List (Name × ℕ)) (name : Name) (n : ℕ) → AreNumbers names m cursors numbers → lookup (same_name name) numbers ≡ Some n
+number_found : (names : KnownTables) (m : ModuleText) (cursors : List DeclaredCursor) (numbers : List (Name × ℕ)) (name : Name) (n : ℕ) → AreNumbers names m cursors numbers → lookup (same_name name) numbers ≡ Some n
     → IsNumberOf names m cursors name n
 number_found names m cursors [] name n h is = cc
 number_found names m cursors (e ∷ es) name n h is = by (same_name name e.0) refl is (λ found. number_found names m cursors es name n h.1 found)
@@ -232,7 +233,7 @@ cursor_found items (e ∷ es) name c all is = by (same_name name e.0) refl is (�
     by false same found rest = rest found
 
 -- a statement whose cursors have these numbers
-pub statement_found : (names : NamesMean) → (m : ModuleText) (cursors : List DeclaredCursor) (numbers : List (Name × ℕ)) (user : Name) (parameters : List ParameterDesc) (s : Statement) (r : Result BoundStatement BindFault)
+pub statement_found : (names : KnownTables) → (m : ModuleText) (cursors : List DeclaredCursor) (numbers : List (Name × ℕ)) (user : Name) (parameters : List ParameterDesc) (s : Statement) (r : Result BoundStatement BindFault)
     → user ≡ m.authorization → AreNumbers names m cursors numbers → IfOk r (IsStatementOf names (λ name n. lookup (same_name name) numbers ≡ Some n) user parameters s)
     → IfOk r (IsStatementIn names m cursors parameters s)
 statement_found names m cursors numbers user parameters s (Ok b) is are h =
@@ -241,7 +242,7 @@ statement_found names m cursors numbers user parameters s (Ok b) is are h =
 statement_found names m cursors numbers user parameters s (Err e) is are h = tt
 
 -- a procedure more, or another of that name
-pub procedure_next : (names : NamesMean) → (texts : List ModuleText) (m : ModuleText) (cursors : List DeclaredCursor) (procedures more : List (ProcedureName × BoundProcedure)) (name : ProcedureName) (p : Procedure) (b : BoundProcedure)
+pub procedure_next : (names : KnownTables) → (texts : List ModuleText) (m : ModuleText) (cursors : List DeclaredCursor) (procedures more : List (ProcedureName × BoundProcedure)) (name : ProcedureName) (p : Procedure) (b : BoundProcedure)
     → more ≡ insert_entry same_procedure procedures name b → IsAmong texts m → name.«module» ≡ m.name → IsAmong m.items (item.Procedure p) → name.name ≡ p.name → IsBoundFrom names m cursors p b
     → AreFromTexts names texts cursors procedures → AreFromTexts names texts cursors more
 procedure_next names texts m cursors procedures more name p b is among named is_item is_named bound all =

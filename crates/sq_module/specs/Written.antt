@@ -2,6 +2,7 @@
 use Rattle.std.specs.Prelude.{◌≡◌, ⊤, ℕ, Bool, false, ◌&&◌, List, [], ◌∷◌, ◌++◌, Option, Some, Result, IfOk, IfSome, flat_map, map, slice_get}
 use Rattle.std.specs.Borrow.{Bor}
 use Rattle.std.specs.List.{AllByRecursion, AllZip, IsAmong, list_any}
+use Rattle.sq_bound.specs.Known.{KnownTables}
 use Rattle.sq_lex.specs.declared.name.Name.{Name}
 use Rattle.sq_value.specs.declared.domain.Domain.{Domain}
 use Rattle.sq_tree.specs.declared.module.Cursor.{Cursor}
@@ -23,8 +24,7 @@ use Rattle.sq_bound.specs.declared.fault.BindFault.{BindFault}
 use Rattle.sq_bound.specs.declared.query.BoundCursor.{BoundCursor}
 use Rattle.sq_bound.specs.declared.statement.BoundStatement.{BoundStatement}
 use Rattle.sq_bound.specs.declared.statement.BoundStatement.TheVariants as statement
-use Rattle.sq_bind.specs.Written.{IsCursorOf, IsStatementOf, NamesMean}
-use Rattle.sq_catalog.specs.Catalog.{Catalog, known, table_number}
+use Rattle.sq_bind.specs.Written.{IsCursorOf, IsStatementOf}
 use Rattle.sq_module.specs.Program.{same_name}
 use Rattle.sq_module.specs.declared.program.BoundProcedure.{BoundProcedure}
 use Rattle.sq_module.specs.declared.program.DeclaredCursor.{DeclaredCursor}
@@ -76,10 +76,6 @@ AreOfTexts texts admitted = AllByRecursion (λ a. (m : ModuleText) × IsAmong te
 
 -- ---- what is bound
 
--- what the names of tables and views mean over a catalog
-abbrev pub meant_by : Catalog → NamesMean
-meant_by c = record { base_number = table_number c.tables; known = known c }
-
 -- a procedure of the module opens the cursor of this name, with these parameters
 pub record IsOpenedIn (m : ModuleText) (name : Name) (parameters : List ParameterDesc) : Type 0 where
   pub procedure : Procedure
@@ -89,16 +85,16 @@ pub record IsOpenedIn (m : ModuleText) (name : Name) (parameters : List Paramete
 
 -- a cursor is bound from this one of the module: it has the module's name and user, its name there, and the rows of its query for the
 -- parameters of the procedure that opens it
-pub record IsDeclaredFrom (names : NamesMean) (m : ModuleText) (c : Cursor) (declared : DeclaredCursor) : Type 0 where
+pub record IsDeclaredFrom (names : KnownTables) (m : ModuleText) (c : Cursor) (declared : DeclaredCursor) : Type 0 where
   pub of_module : declared.«module» ≡ m.name
   pub named : declared.name ≡ c.name
   pub user : declared.user ≡ m.authorization
   pub parameters : List ParameterDesc
   pub opened : IsOpenedIn m c.name parameters
-  pub cursor : IsCursorOf names.known m.authorization parameters c declared.cursor
+  pub cursor : IsCursorOf names m.authorization parameters c declared.cursor
 
 -- the cursor with this number is the one that the module declares under this name
-pub record IsNumberOf (names : NamesMean) (m : ModuleText) (cursors : List DeclaredCursor) (name : Name) (number : ℕ) : Type 0 where
+pub record IsNumberOf (names : KnownTables) (m : ModuleText) (cursors : List DeclaredCursor) (name : Name) (number : ℕ) : Type 0 where
   pub cursor : Cursor
   pub among : IsAmong m.items (item.Cursor cursor)
   pub named : cursor.name ≡ name
@@ -114,18 +110,18 @@ AreApart before [] = ⊤
 AreApart before (c ∷ cursors) = (list_any (is_cursor c.«module» c.name) before ≡ false) × AreApart (before ++ c ∷ []) cursors
 
 -- a statement is bound from this one of a procedure with these parameters in the module
-abbrev pub IsStatementIn : NamesMean → ModuleText → List DeclaredCursor → List ParameterDesc → Statement → BoundStatement → Type 0
+abbrev pub IsStatementIn : KnownTables → ModuleText → List DeclaredCursor → List ParameterDesc → Statement → BoundStatement → Type 0
 IsStatementIn names m cursors parameters s bound = IsStatementOf names (IsNumberOf names m cursors) m.authorization parameters s bound
 
 -- a procedure is bound from this one of the module: its parameters are those that it declares, and its statement, if it has no fault,
 -- is the one that is written
-pub record IsBoundFrom (names : NamesMean) (m : ModuleText) (cursors : List DeclaredCursor) (p : Procedure) (bound : BoundProcedure) : Type 0 where
+pub record IsBoundFrom (names : KnownTables) (m : ModuleText) (cursors : List DeclaredCursor) (p : Procedure) (bound : BoundProcedure) : Type 0 where
   pub user : bound.user ≡ m.authorization
   pub parameters : Declare (declarations_of p.declarations) bound.parameters
   pub statement : IfOk bound.statement (IsStatementIn names m cursors bound.parameters p.statement)
 
 -- a procedure of a program is bound from the one of its name in the text of its module's name
-pub record IsFromTexts (names : NamesMean) (texts : List ModuleText) (cursors : List DeclaredCursor) (e : ProcedureName × BoundProcedure) : Type 0 where
+pub record IsFromTexts (names : KnownTables) (texts : List ModuleText) (cursors : List DeclaredCursor) (e : ProcedureName × BoundProcedure) : Type 0 where
   pub text : ModuleText
   pub among : IsAmong texts text
   pub named : e.0.«module» ≡ text.name
@@ -134,36 +130,36 @@ pub record IsFromTexts (names : NamesMean) (texts : List ModuleText) (cursors : 
   pub is_named : e.0.name ≡ procedure.name
   pub bound : IsBoundFrom names text cursors procedure e.1
 
-abbrev pub AreFromTexts : NamesMean → List ModuleText → List DeclaredCursor → List (ProcedureName × BoundProcedure) → Type 0
+abbrev pub AreFromTexts : KnownTables → List ModuleText → List DeclaredCursor → List (ProcedureName × BoundProcedure) → Type 0
 AreFromTexts names texts cursors procedures = AllByRecursion (IsFromTexts names texts cursors) procedures
 
 -- so is each procedure of a program
-abbrev pub AreFrom : NamesMean → List ModuleText → Program → Type 0
+abbrev pub AreFrom : KnownTables → List ModuleText → Program → Type 0
 AreFrom names texts p = AreFromTexts names texts p.cursors.items p.procedures.entries
 
 -- and no two of its cursors have the same module and name
-pub record IsOfTexts (names : NamesMean) (texts : List ModuleText) (p : Program) : Type 0 where
+pub record IsOfTexts (names : KnownTables) (texts : List ModuleText) (p : Program) : Type 0 where
   pub procedures : AreFrom names texts p
   pub cursors : AreApart [] p.cursors.items
 
 -- ---- while a module is bound
 
 -- the numbers that its cursors have so far
-abbrev pub AreNumbers : NamesMean → ModuleText → List DeclaredCursor → List (Name × ℕ) → Type 0
+abbrev pub AreNumbers : KnownTables → ModuleText → List DeclaredCursor → List (Name × ℕ) → Type 0
 AreNumbers names m cursors numbers = AllByRecursion (λ e. IsNumberOf names m cursors e.0 e.1) numbers
 
 -- a cursor, if it has no fault, is bound from the one of this name in the module
-pub record IsCursorNamed (names : NamesMean) (m : ModuleText) (name : Name) (bound : Result BoundCursor BindFault) : Type 0 where
+pub record IsCursorNamed (names : KnownTables) (m : ModuleText) (name : Name) (bound : Result BoundCursor BindFault) : Type 0 where
   pub cursor : Cursor
   pub among : IsAmong m.items (item.Cursor cursor)
   pub named : cursor.name ≡ name
   pub parameters : List ParameterDesc
   pub opened : IsOpenedIn m name parameters
-  pub bound_is : IfOk bound (IsCursorOf names.known m.authorization parameters cursor)
+  pub bound_is : IfOk bound (IsCursorOf names m.authorization parameters cursor)
 
 -- the cursor that a procedure opens, if it opens one without a fault, is that which its OPEN names
-abbrev pub OpensNamed : NamesMean → ModuleText → List DeclaredCursor → AdmittedProcedure → Option ℕ → Type 0
+abbrev pub OpensNamed : KnownTables → ModuleText → List DeclaredCursor → AdmittedProcedure → Option ℕ → Type 0
 OpensNamed names m cursors p opened = IfSome opened (λ n. IsStatementIn names m cursors p.parameters p.procedure.now.statement (statement.Open n))
 
-abbrev pub OpenNamed : NamesMean → ModuleText → List DeclaredCursor → List AdmittedProcedure → List (Option ℕ) → Type 0
+abbrev pub OpenNamed : KnownTables → ModuleText → List DeclaredCursor → List AdmittedProcedure → List (Option ℕ) → Type 0
 OpenNamed names m cursors = AllZip (OpensNamed names m cursors)

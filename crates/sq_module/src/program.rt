@@ -5,17 +5,17 @@ ghost use Rattle.std.specs.Map.{keys_of};
 ghost use Rattle.std.specs.Option.{option_map};
 ghost use Rattle.indexmap.specs.IndexMap.{insert_entry};
 ghost use Rattle.std.specs.List.{IsAmong, list_any};
+ghost use Rattle.sq_bound.specs.Known.{KnownTables};
 ghost use Rattle.sq_lex.specs.declared.name.Name.{Name as AnyName};
 ghost use Rattle.sq_module.specs.Refusal.{is_name};
 ghost use Rattle.sq_module.specs.declared.admission.AdmittedProcedure.{AdmittedProcedure as AnyProcedure};
 ghost use Rattle.sq_tree.specs.declared.module.ModuleText.{ModuleText};
-ghost use Rattle.sq_module.specs.Written.{AreApart, AreFrom, AreNumbers, AreOfTexts, IsBoundFrom, IsCursorNamed, IsNumberOf, IsOfText, IsOfTexts, IsProcedureOf, IsStatementIn, OpenNamed, OpensNamed, meant_by};
+ghost use Rattle.sq_module.specs.Written.{AreApart, AreFrom, AreNumbers, AreOfTexts, IsBoundFrom, IsCursorNamed, IsNumberOf, IsOfText, IsOfTexts, IsProcedureOf, IsStatementIn, OpenNamed, OpensNamed};
 ghost use Rattle.indexmap.specs.IndexSet.{insert_key};
 ghost use Rattle.sq_bound.specs.Fits.{FitsCursor, FitsStatement};
 ghost use Rattle.sq_bound.specs.WellFormed.{IsCursor, IsStatement, TableKinds, kinds_of_parameters};
 ghost use Rattle.sq_bound.specs.declared.names.BaseTable.{BaseTable};
-ghost use Rattle.sq_bind.specs.Written.{NamesMean};
-ghost use Rattle.sq_catalog.specs.Catalog.{column_kinds};
+ghost use Rattle.sq_catalog.specs.Catalog.{column_kinds, known};
 ghost use Rattle.sq_module.specs.Admitted.{AreAdmitted, OpensEachOnce, admitted_procedures, module_keys, name_of, openings};
 ghost use Rattle.sq_module.specs.Opened.{AreOfOthers, AreOpened, AreThere, Grow, IsNew, IsOpened, OpenedBy, OpensNew};
 ghost use Rattle.sq_module.specs.Program.{FitsProcedure, FitsProgram, OpensWellFormed, ProcedureIsWellFormed, ProcedureOpens, ProgramIsWellFormed, kinds_of_cursors, same_name, same_procedure, with_procedures};
@@ -81,7 +81,7 @@ impl Program {
         ensures fits { IfOk result (FitsProgram catalog.now.bases) }
         ensures well_formed { IfOk result (ProgramIsWellFormed (column_kinds catalog.now)) }
         ensures written { (texts : List ModuleText) → AreOfTexts texts modules.now
-            → IfOk result (IsOfTexts (meant_by catalog.now) texts) }
+            → IfOk result (IsOfTexts (known catalog.now) texts) }
     {
         let mut program = Program {
             procedures: IndexMap::new(alloc),
@@ -112,8 +112,8 @@ impl Program {
         ensures fits { OnOk result (FitsProgram catalog.now.bases self.new) }
         ensures well_formed { OnOk result (ProgramIsWellFormed (column_kinds catalog.now) self.new) }
         ensures written { (texts : List ModuleText) → AreOfTexts texts modules.now
-            → AreFrom (meant_by catalog.now) texts self.old
-            → OnOk result (AreFrom (meant_by catalog.now) texts self.new) }
+            → AreFrom (known catalog.now) texts self.old
+            → OnOk result (AreFrom (known catalog.now) texts self.new) }
         ensures apart { OnOk result (AreApart [] self.new.cursors.items) }
     {
         for module in modules {
@@ -138,8 +138,8 @@ impl Program {
         ensures fits { OnOk result (FitsProgram catalog.now.bases self.new) }
         ensures well_formed { OnOk result (ProgramIsWellFormed (column_kinds catalog.now) self.new) }
         ensures written { (texts : List ModuleText) (m : ModuleText) → IsAmong texts m → IsOfText m «module».now
-            → AreFrom (meant_by catalog.now) texts self.old
-            → OnOk result (AreFrom (meant_by catalog.now) texts self.new) }
+            → AreFrom (known catalog.now) texts self.old
+            → OnOk result (AreFrom (known catalog.now) texts self.new) }
         ensures apart { OnOk result (AreApart [] self.new.cursors.items) }
         ensures others { (name : AnyName) → same_name name «module».now.name ≡ false → AreOfOthers name self.old.cursors.items
             → OnOk result (AreOfOthers name self.new.cursors.items) }
@@ -169,8 +169,8 @@ impl Program {
         ensures fits { OnOk result (FitsProgram catalog.now.bases self.new) }
         ensures well_formed { OnOk result (ProgramIsWellFormed (column_kinds catalog.now) self.new) }
         ensures written { (texts : List ModuleText) (m : ModuleText) → IsAmong texts m → IsOfText m «module».now
-            → AreNumbers (meant_by catalog.now) m self.old.cursors.items numbers.old.entries → AreFrom (meant_by catalog.now) texts self.old
-            → OnOk result (AreFrom (meant_by catalog.now) texts self.new) }
+            → AreNumbers (known catalog.now) m self.old.cursors.items numbers.old.entries → AreFrom (known catalog.now) texts self.old
+            → OnOk result (AreFrom (known catalog.now) texts self.new) }
         ensures apart { OnOk result (AreApart [] self.new.cursors.items) }
         ensures others { (name : AnyName) → same_name name «module».now.name ≡ false → AreOfOthers name self.old.cursors.items
             → OnOk result (AreOfOthers name self.new.cursors.items) }
@@ -200,8 +200,8 @@ impl Program {
         ensures fits { OnOk result (FitsProgram catalog.now.bases self.new) }
         ensures well_formed { OnOk result (ProgramIsWellFormed (column_kinds catalog.now) self.new) }
         ensures grows { OnOk result (Grow self.old.cursors.items self.new.cursors.items) }
-        ensures written { (m : ModuleText) → IsOfText m «module».now → AreNumbers (meant_by catalog.now) m self.old.cursors.items numbers.old.entries
-            → IfOk result (λ opened. AreNumbers (meant_by catalog.now) m self.new.cursors.items numbers.new.entries × OpenNamed (meant_by catalog.now) m
+        ensures written { (m : ModuleText) → IsOfText m «module».now → AreNumbers (known catalog.now) m self.old.cursors.items numbers.old.entries
+            → IfOk result (λ opened. AreNumbers (known catalog.now) m self.new.cursors.items numbers.new.entries × OpenNamed (known catalog.now) m
             self.new.cursors.items «module».now.procedures.items opened.items) }
         ensures opened { IfOk result (λ opened. AreOpened (column_kinds catalog.now) self.new.cursors.items «module».now.procedures.items
             opened.items) }
@@ -237,8 +237,8 @@ impl Program {
         ensures fits { OnOk result (FitsProgram catalog.now.bases self.new) }
         ensures well_formed { OnOk result (ProgramIsWellFormed (column_kinds catalog.now) self.new) }
         ensures written { (m : ModuleText) → IsOfText m «module».now → IsProcedureOf m.items opener.now
-            → AreNumbers (meant_by catalog.now) m self.old.cursors.items numbers.old.entries
-            → IfOk result (λ opened. AreNumbers (meant_by catalog.now) m self.new.cursors.items numbers.new.entries × OpensNamed (meant_by catalog.now)
+            → AreNumbers (known catalog.now) m self.old.cursors.items numbers.old.entries
+            → IfOk result (λ opened. AreNumbers (known catalog.now) m self.new.cursors.items numbers.new.entries × OpensNamed (known catalog.now)
             m self.new.cursors.items opener.now opened) }
         ensures grows { OnOk result (Grow self.old.cursors.items self.new.cursors.items) }
         ensures opened { IfOk result (IsOpened (column_kinds catalog.now) self.new.cursors.items opener.now) }
@@ -278,7 +278,7 @@ impl Program {
             → OnOk result (FitsProgram bases self.new) }
         ensures well_formed { (columns : TableKinds) (parameters : List Kind) → ProgramIsWellFormed columns self.old
             → IfOk bound (IsCursor columns parameters) → OnOk result (ProgramIsWellFormed columns self.new) }
-        ensures written { (names : NamesMean) (m : ModuleText) → IsOfText m «module».now → IsCursorNamed names m name bound
+        ensures written { (names : KnownTables) (m : ModuleText) → IsOfText m «module».now → IsCursorNamed names m name bound
             → AreNumbers names m self.old.cursors.items numbers.old.entries
             → IfOk result (λ opened. AreNumbers names m self.new.cursors.items numbers.new.entries × IfSome opened
             (IsNumberOf names m self.new.cursors.items name)) }
@@ -326,10 +326,10 @@ impl Program {
         ensures fits { OnOk result (FitsProgram catalog.now.bases self.new) }
         ensures well_formed { OnOk result (ProgramIsWellFormed (column_kinds catalog.now) self.new) }
         ensures written { (texts : List ModuleText) (m : ModuleText) → IsAmong texts m → IsOfText m «module».now
-            → AreNumbers (meant_by catalog.now) m self.old.cursors.items numbers.now.entries
-            → OpenNamed (meant_by catalog.now) m self.old.cursors.items «module».now.procedures.items opened.now
-            → AreFrom (meant_by catalog.now) texts self.old
-            → OnOk result (AreFrom (meant_by catalog.now) texts self.new) }
+            → AreNumbers (known catalog.now) m self.old.cursors.items numbers.now.entries
+            → OpenNamed (known catalog.now) m self.old.cursors.items «module».now.procedures.items opened.now
+            → AreFrom (known catalog.now) texts self.old
+            → OnOk result (AreFrom (known catalog.now) texts self.new) }
         ensures cursors { OnOk result (self.new.cursors ≡ self.old.cursors) }
     {
         for (place, admitted) in module.procedures.as_slice().iter().enumerate() {
@@ -357,10 +357,10 @@ impl Program {
         ensures fits { OnOk result (FitsProgram catalog.now.bases self.new) }
         ensures well_formed { OnOk result (ProgramIsWellFormed (column_kinds catalog.now) self.new) }
         ensures written { (texts : List ModuleText) (m : ModuleText) → IsAmong texts m → IsOfText m «module».now
-            → IsProcedureOf m.items admitted.now → AreNumbers (meant_by catalog.now) m self.old.cursors.items numbers.now.entries
-            → OpensNamed (meant_by catalog.now) m self.old.cursors.items admitted.now opened
-            → AreFrom (meant_by catalog.now) texts self.old
-            → OnOk result (AreFrom (meant_by catalog.now) texts self.new) }
+            → IsProcedureOf m.items admitted.now → AreNumbers (known catalog.now) m self.old.cursors.items numbers.now.entries
+            → OpensNamed (known catalog.now) m self.old.cursors.items admitted.now opened
+            → AreFrom (known catalog.now) texts self.old
+            → OnOk result (AreFrom (known catalog.now) texts self.new) }
     {
         let cursors = ModuleCursors {
             numbers,
@@ -389,9 +389,9 @@ fn bound_procedure(
     ensures well_formed { IfOk result (ProcedureIsWellFormed (column_kinds catalog.now) (kinds_of_cursors cursors.now.cursors.now)) }
     ensures opens { IfOk result (ProcedureOpens (column_kinds catalog.now) cursors.now.cursors.now) }
     ensures written { (m : ModuleText) → user ≡ m.authorization → IsProcedureOf m.items admitted.now
-        → AreNumbers (meant_by catalog.now) m cursors.now.cursors.now cursors.now.numbers.now.entries
-        → OpensNamed (meant_by catalog.now) m cursors.now.cursors.now admitted.now opened
-        → IfOk result (IsBoundFrom (meant_by catalog.now) m cursors.now.cursors.now admitted.now.procedure.now) }
+        → AreNumbers (known catalog.now) m cursors.now.cursors.now cursors.now.numbers.now.entries
+        → OpensNamed (known catalog.now) m cursors.now.cursors.now admitted.now opened
+        → IfOk result (IsBoundFrom (known catalog.now) m cursors.now.cursors.now admitted.now.procedure.now) }
 {
     let bound = bound_statement(alloc, catalog, user, cursors, admitted, opened);
     let statement = unless_no_memory(bound)?;
@@ -423,9 +423,9 @@ fn bound_statement(
         (kinds_of_parameters admitted.now.parameters)) }
     ensures opens { IfOk result (OpensWellFormed (column_kinds catalog.now) cursors.now.cursors.now
         (kinds_of_parameters admitted.now.parameters)) }
-    ensures written { (m : ModuleText) → user ≡ m.authorization → AreNumbers (meant_by catalog.now) m cursors.now.cursors.now cursors.now.numbers.now.entries
-        → OpensNamed (meant_by catalog.now) m cursors.now.cursors.now admitted.now opened
-        → IfOk result (IsStatementIn (meant_by catalog.now) m cursors.now.cursors.now admitted.now.parameters
+    ensures written { (m : ModuleText) → user ≡ m.authorization → AreNumbers (known catalog.now) m cursors.now.cursors.now cursors.now.numbers.now.entries
+        → OpensNamed (known catalog.now) m cursors.now.cursors.now admitted.now opened
+        → IfOk result (IsStatementIn (known catalog.now) m cursors.now.cursors.now admitted.now.parameters
         admitted.now.procedure.now.statement) }
 {
     let parameters = admitted.parameters.as_slice();

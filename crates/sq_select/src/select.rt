@@ -12,7 +12,7 @@ ghost use Rattle.sq_meaning.specs.Status.{Outcome, and_then, each};
 ghost use Rattle.sq_meaning.specs.Syntax.{select};
 ghost use Rattle.sq_meaning.specs.WellFormed.{of_lines};
 ghost use Rattle.sq_bound.specs.Expression.{PlacedExpr, expr_of as expr_of_bound};
-ghost use Rattle.sq_bound.specs.Fits.{IsBaseAt, IsOver};
+ghost use Rattle.sq_bound.specs.Fits.{IsOver};
 ghost use Rattle.sq_bound.specs.Known.{KnownTables, known_by};
 ghost use Rattle.sq_bound.specs.WellFormed.{IsTable, Levels, TableKinds, kinds_of_parameters, place_of};
 ghost use Rattle.sq_bound.specs.declared.condition.BoundSpecification.{out-BoundSpecification};
@@ -76,7 +76,6 @@ pub fn named_table<N: Names>(
     ensures over { IfOk result (λ table. IsOver (N.base_tables names.now) table.now) }
     ensures well_formed { IfOk result (λ table. IsTable (N.column_kinds names.now) table.now) }
     ensures named { IfOk result (λ table. table_of user written ≡ record { user = table.now.user; name = table.now.name }) }
-    ensures base { IfOk result (λ table. IsBaseAt (N.base_number names.now table.now.user table.now.name) table.now) }
     ensures known { IfOk result (λ table. let name = table_of user written in
         N.known names.now name.user name.name ≡ Some (known_by table.now)) }
 {

@@ -14,7 +14,7 @@ use Rattle.sq_module.specs.declared.program.BoundProcedure.{BoundProcedure}
 use Rattle.sq_module.specs.declared.program.DeclaredCursor.{DeclaredCursor}
 use Rattle.sq_module.specs.declared.program.ProcedureName.{ProcedureName}
 use Rattle.sq_module.specs.declared.program.Program.{Program}
-use Rattle.sq_module.specs.Written.{IsOfTexts, meant_by}
+use Rattle.sq_module.specs.Written.{IsOfTexts}
 use Rattle.sq_session.specs.Kind.{Procedure, fault_at, fits_at, kind_at, kind_of}
 use Rattle.sq_session.specs.Parameter.{declared}
 use Rattle.sq_session.specs.Session.{AreOfModules, is_procedure, names_of, procedure_number, procedures_of}
@@ -74,6 +74,6 @@ names_are cs (e ∷ es) = ap (λ names. e.0 ∷ names) (names_are cs es)
 
 -- ---- procedures of module texts
 
-pub of_modules : (c : Catalog) (modules : List ModuleText) (p : Program) (procedures : List Procedure) → IsOfTexts (meant_by c) modules p → procedures ≡ procedures_of p.cursors.items p.procedures.entries
-    → AreOfModules c.tables (known c) modules procedures
+pub of_modules : (c : Catalog) (modules : List ModuleText) (p : Program) (procedures : List Procedure) → IsOfTexts (known c) modules p → procedures ≡ procedures_of p.cursors.items p.procedures.entries
+    → AreOfModules (known c) modules procedures
 of_modules c modules p procedures is_of are = record { program = p; is_of = is_of; are = are }

@@ -5,7 +5,6 @@ use Rattle.std.specs.Result.{result_map_both}
 use Rattle.sq_lex.specs.declared.name.Name.{Name}
 use Rattle.sq_tree.specs.declared.module.ModuleText.{ModuleText}
 use Rattle.sq_bound.specs.Known.{KnownTables}
-use Rattle.sq_catalog.specs.Catalog.{table_number}
 use Rattle.sq_catalog.specs.declared.catalog.FullName.{FullName}
 use Rattle.sq_module.specs.declared.program.BoundProcedure.{BoundProcedure}
 use Rattle.sq_module.specs.declared.program.DeclaredCursor.{DeclaredCursor}
@@ -53,9 +52,8 @@ name_of p = record { «module» = p.«module»; name = p.name }
 abbrev pub names_of : List Procedure → List ProcedureName
 names_of procedures = map name_of procedures
 
--- the procedures are those of a program that is bound from these modules over base tables of these names (12.1 and 12.3), where the
--- names of tables and views mean this
-pub record AreOfModules (tables : List FullName) (known : KnownTables) (modules : List ModuleText) (procedures : List Procedure) : Type 0 where
+-- the procedures are those of a program that is bound from these modules, where the names of tables and views mean this (12.1 and 12.3)
+pub record AreOfModules (known : KnownTables) (modules : List ModuleText) (procedures : List Procedure) : Type 0 where
   pub program : Program
-  pub is_of : IsOfTexts (record { base_number = table_number tables; known = known }) modules program
+  pub is_of : IsOfTexts known modules program
   pub are : procedures ≡ procedures_of program.cursors.items program.procedures.entries

@@ -11,7 +11,7 @@ ghost use Rattle.sq_bound.specs.Fits.{AreInDomains, keys_of_bases};
 ghost use Rattle.sq_change.specs.Constraints.{constraints_hold};
 ghost use Rattle.sq_catalog.specs.Catalog.{column_kinds};
 ghost use Rattle.sq_module.specs.Program.{FitsProgram, ProgramIsWellFormed, declared_procedures};
-ghost use Rattle.sq_module.specs.Written.{IsOfTexts, meant_by};
+ghost use Rattle.sq_module.specs.Written.{IsOfTexts};
 ghost use Rattle.sq_session.specs.Schemas.{schemas_of};
 ghost use Rattle.sq_session.specs.Session.{AreOfModules, names_of, procedure_number, procedures_of};
 ghost use Rattle.sq_session.specs.State.{AreClosed};
@@ -90,7 +90,7 @@ impl<S: Store> Session<S> {
             s.state.cursors) }
         ensures numbers { IfOk result (λ s. s.state.row_numbers ≡ S.row_numbers store) }
         ensures procedures { IfOk result (λ s. names_of s.procedures ≡ declared_procedures modules.now) }
-        ensures written { IfOk result (λ s. AreOfModules catalog.tables (known catalog) modules.now s.procedures) }
+        ensures written { IfOk result (λ s. AreOfModules (known catalog) modules.now s.procedures) }
         ensures tables { IfOk result (λ s. s.tables ≡ catalog.tables) }
         ensures schemas { IfOk result (λ s. s.schemas ≡ schemas_of catalog) }
         ensures refused { IfErr result (IsOfSomeModule (length modules.now)) }
@@ -236,7 +236,7 @@ fn program_of(
     modules: &[ModuleText],
 ) -> Result<Program, SessionFault>
     ensures procedures { IfOk result (λ program. keys_of program.procedures.entries ≡ declared_procedures modules.now) }
-    ensures written { IfOk result (IsOfTexts (meant_by catalog.now) modules.now) }
+    ensures written { IfOk result (IsOfTexts (known catalog.now) modules.now) }
     ensures fits { IfOk result (λ program. FitsProgram catalog.now.bases program) }
     ensures well_formed { IfOk result (ProgramIsWellFormed (column_kinds catalog.now)) }
     ensures refused { IfErr result (IsOfSomeModule (length modules.now)) }

@@ -1,4 +1,4 @@
-use Rattle.std.proofs.Common.{◌≡◌, [], ◌∷◌, refl, subst, sym, ◌∙◌}
+use Rattle.std.proofs.Common.{◌≡◌, [], ◌∷◌, ap, refl, subst, sym, ◌∙◌}
 use Rattle.std.specs.Borrow.{Bor}
 use Rattle.std.specs.Option.{option_map}
 use Rattle.std.specs.Prelude.{IfOk}
@@ -7,7 +7,7 @@ use Rattle.sq_tree.specs.declared.cond.QuerySpecification.{out-QuerySpecificatio
 use Rattle.sq_tree.specs.declared.cond.TableExpression.{out-TableExpression}
 use Rattle.sq_meaning.specs.Spelled.{Named, clause, cond_of, list_of, reference_of, select_of}
 use Rattle.sq_meaning.specs.Syntax.{Clause}
-use Rattle.sq_bound.specs.Known.{known_by}
+use Rattle.sq_bound.specs.Known.{known_by, under_of}
 use Rattle.sq_bound.specs.declared.query.Target.{Target}
 use Rattle.sq_scope.specs.declared.findings.Found.{Found}
 use Rattle.sq_scope.specs.declared.scope.FromItem.{FromItem}
@@ -84,4 +84,5 @@ returns-clause-written g c =
     (subst (λ (t : Clause Named). IfOk c.bind_target-target.result (λ (f : Found Target). ClauseIs [] (clause_placed (inside (c.in_ok-item.item ∷ []) a) t) f.part.condition)) text c.bind_target-target.ensures.written) in
     walked.written_found a (select_of user q) r (known_by table) (list_of (out-QuerySpecification q).list) filter (out-BoundSpecification c.args.bound.now).list (out-BoundSpecification c.args.bound.now).from.tables
     c.as_slice-own.result.now c.as_slice.result.now c.plain_columns-columns.result c.bind_target-target.result c.in_ok-columns.columns c.in_ok-columns.target c.updatable.result over c.as_slice-own.ensures c.as_slice.ensures
-    c.plain_columns-columns.ensures c.bind_target-target.ensures.table on c.in_ok-columns.ensures.0 c.in_ok-columns.ensures.1 c.updatable.ensures
+    c.plain_columns-columns.ensures c.bind_target-target.ensures.table on c.in_ok-columns.ensures.0 c.in_ok-columns.ensures.1
+    c.args.under.leaf.now c.bind_target-target.ensures.leaf (ap (option_map under_of) c.requires.own) c.updatable.ensures

@@ -1,7 +1,11 @@
-use Rattle.std.specs.List.{All}
-use Rattle.sq_catalog.specs.Reference.{IsFound}
-use Rattle.sq_catalog.specs.Written.{column_count}
+use Rattle.std.proofs.Common.{take}
+use Rattle.std.specs.List.{All, AllZip}
+use Rattle.sq_catalog.specs.Reference.{IsFound, IsFoundAs, constraint_lent}
+use Rattle.sq_catalog.specs.Written.{column_count, names_at}
 use Rattle.sq_catalog.proofs.reference.add_found.Given as goal
 
 abbrev pub invariant-loop-reference : goal.invariant-loop-reference
-invariant-loop-reference l = All (IsFound l.catalog.bases (column_count l.own.columns.now)) l.references.items
+invariant-loop-reference l = record {
+  found : All (IsFound l.catalog.bases (column_count l.own.columns.now)) l.references.items;
+  named : AllZip (λ w. IsFoundAs l.catalog l.own.user l.own.full_name (names_at l.own.columns.now) (constraint_lent w)) (take l.reference-index l.written) l.references.items;
+}

@@ -8,5 +8,6 @@ use Rattle.sq_catalog.proofs.view.placed_columns.Given as goal
 abbrev pub invariant-loop-position : goal.invariant-loop-position
 invariant-loop-position l = record {
   columns : (base : List Kind) → AllZip (λ p k. slice_get base p ≡ Some k) l.below (kinds_of_columns l.columns) → AreColumnsOver base (take l.position (kinds_of_columns l.columns)) l.placed;
+  places : map (λ c. c.leaf_column) l.placed ≡ take l.position l.below;
   names : map (λ c. c.name) l.placed ≡ map (λ c. c.name) (take l.position l.columns);
 }

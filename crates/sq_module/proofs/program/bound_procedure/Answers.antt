@@ -1,9 +1,9 @@
 use Rattle.std.proofs.Common.{IfOk, length, sym, subst, ◌∙◌}
 use Rattle.sq_bound.specs.Fits.{FitsStatement}
 use Rattle.sq_bound.specs.WellFormed.{IsStatement, kinds_of_parameters}
-use Rattle.sq_catalog.specs.Catalog.{column_kinds}
+use Rattle.sq_catalog.specs.Catalog.{column_kinds, known}
 use Rattle.sq_module.specs.Program.{OpensWellFormed, kinds_of_cursors}
-use Rattle.sq_module.specs.Written.{Declare, IsStatementIn, declarations_of, meant_by}
+use Rattle.sq_module.specs.Written.{Declare, IsStatementIn, declarations_of}
 use Rattle.sq_module.proofs.program.bound_procedure.Goals as goal
 
 pub returns-in-Ok-clause-fits : goal.returns-in-Ok-clause-fits
@@ -32,6 +32,6 @@ returns-in-Ok-clause-written c =
     record {
       user = user;
       parameters = subst (Declare (declarations_of p.declarations)) (sym (c.in-Ok.ensures ∙ c.as_slice.ensures)) of.1;
-      statement = subst (λ ps. IfOk c.in_ok-statement.statement (IsStatementIn (meant_by c.args.catalog.now) m c.args.cursors.now.cursors.now ps p.statement)) (sym (c.in-Ok.ensures ∙ c.as_slice.ensures))
+      statement = subst (λ ps. IfOk c.in_ok-statement.statement (IsStatementIn (known c.args.catalog.now) m c.args.cursors.now.cursors.now ps p.statement)) (sym (c.in-Ok.ensures ∙ c.as_slice.ensures))
           (rw c.in_ok-statement.ensures (c.bound_statement-bound.ensures.written m user numbers opens));
     }

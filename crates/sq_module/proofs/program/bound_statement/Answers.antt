@@ -1,9 +1,9 @@
 use Rattle.std.proofs.Common.{length}
 use Rattle.sq_bound.specs.Fits.{FitsStatement}
 use Rattle.sq_bound.specs.WellFormed.{IsStatement, kinds_of_parameters}
-use Rattle.sq_catalog.specs.Catalog.{column_kinds}
+use Rattle.sq_catalog.specs.Catalog.{column_kinds, known}
 use Rattle.sq_module.specs.Program.{OpensWellFormed, kinds_of_cursors}
-use Rattle.sq_module.specs.Written.{IsStatementIn, meant_by}
+use Rattle.sq_module.specs.Written.{IsStatementIn}
 use Rattle.sq_module.proofs.Opening.{any_open, open_is, opened_fits, opens_no_other}
 use Rattle.sq_module.proofs.Written.{statement_found}
 use Rattle.sq_module.proofs.program.bound_statement.Goals as goal
@@ -27,7 +27,7 @@ returns-in-Open-clause-opens c =
 pub returns-in-Open-clause-written : goal.returns-in-Open-clause-written
 returns-in-Open-clause-written c =
     λ m user numbers opens.
-    open_is (IsStatementIn (meant_by c.args.catalog.now) m c.args.cursors.now.cursors.now c.args.admitted.now.parameters c.args.admitted.now.procedure.now.statement) c.open_of.result c.args.opened c.open_of.ensures opens
+    open_is (IsStatementIn (known c.args.catalog.now) m c.args.cursors.now.cursors.now c.args.admitted.now.parameters c.args.admitted.now.procedure.now.statement) c.open_of.result c.args.opened c.open_of.ensures opens
 
 pub returns-in_default-clause-fits : goal.returns-in_default-clause-fits
 returns-in_default-clause-fits c = rw c.as_slice-parameters.ensures at c.bind_statement.ensures.fits
@@ -44,6 +44,6 @@ pub returns-in_default-clause-written : goal.returns-in_default-clause-written
 returns-in_default-clause-written c =
     λ m user numbers opens.
     let cursors = c.args.cursors.now.cursors.now in
-    let found = statement_found (meant_by c.args.catalog.now) m cursors c.args.cursors.now.numbers.now.entries c.args.user c.as_slice-parameters.result.now c.args.admitted.now.procedure.now.statement c.bind_statement.result
+    let found = statement_found (known c.args.catalog.now) m cursors c.args.cursors.now.numbers.now.entries c.args.user c.as_slice-parameters.result.now c.args.admitted.now.procedure.now.statement c.bind_statement.result
     user numbers c.bind_statement.ensures.written in
     rw c.as_slice-parameters.ensures at found

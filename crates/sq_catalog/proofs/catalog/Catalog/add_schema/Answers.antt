@@ -8,7 +8,7 @@ use Rattle.sq_catalog.proofs.catalog.Catalog.add_schema.Goals as goal
 pub loop-number-init : goal.loop-number-init
 loop-number-init c = (
   gains_kept c.args.self.now _ (ap (λ (s : Catalog). s.tables) c.self.view_is) (ap (λ (s : Catalog). s.columns) c.self.view_is) (ap (λ (s : Catalog). s.bases) c.self.view_is),
-  views_as_before c.args.self.now _ (ap (λ (s : Catalog). s.tables) c.self.view_is) (ap (λ (s : Catalog). s.columns) c.self.view_is) (ap (λ (s : Catalog). s.view_names) c.self.view_is) (ap (λ (s : Catalog). s.view_columns) c.self.view_is) (ap (λ (s : Catalog). s.views) c.self.view_is),
+  views_as_before c.args.self.now _ (ap (λ (s : Catalog). s.tables) c.self.view_is) (ap (λ (s : Catalog). s.columns) c.self.view_is) (ap (λ (s : Catalog). s.view_names) c.self.view_is) (ap (λ (s : Catalog). s.seen_views) c.self.view_is) (ap (λ (s : Catalog). s.views) c.self.view_is),
 )
 
 pub loop-number-preserved : goal.loop-number-preserved

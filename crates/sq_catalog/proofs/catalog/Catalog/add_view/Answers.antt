@@ -49,4 +49,4 @@ returns-clause-tables c = gains_kept c.args.self.now _ (ap (λ (s : Catalog). s.
 pub returns-clause-views : goal.returns-clause-views
 returns-clause-views c =
     adds_view c.insert_table.result c.args.self.now _ c.self.inside.views.entries c.insert_table.new.tables.entries c.args.name c.args.table
-    (ap (λ (s : Catalog). s.view_names) c.self.view_is) (ap (λ (s : Catalog). s.view_columns) c.self.view_is) (ap (λ (s : Catalog). s.views) c.self.view_is) refl refl refl c.insert_table.ensures.added
+    (ap (λ (s : Catalog). s.view_names) c.self.view_is) (ap (λ (s : Catalog). s.seen_views) c.self.view_is) (ap (λ (s : Catalog). s.views) c.self.view_is) refl refl refl c.insert_table.ensures.added

@@ -9,7 +9,7 @@ use Rattle.sq_catalog.proofs.catalog.Catalog.base_of.Goals as goal
 
 pub assembled-requires-clause-references : goal.assembled-requires-clause-references
 assembled-requires-clause-references c =
-    let bound = rw c.in_ok-bound.ensures.0 at c.bound_references-bound.ensures in
+    let bound = rw c.in_ok-bound.ensures.0 at c.bound_references-bound.ensures.refer in
     let parts = rw c.in_ok-bound.ensures.1 at c.base_parts-parts.ensures.count in
     by_keys_at (keys_with c.bases.result.now c.args.draft.now.keys.columns) (length c.in_ok-bound.parts.columns) (length c.args.columns.now) c.in_ok-bound.bound.references
     (parts ∙ sym c.requires.width) bound

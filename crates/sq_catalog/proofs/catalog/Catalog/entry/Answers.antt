@@ -1,15 +1,15 @@
 use Rattle.std.proofs.Common.{◌≡◌, None, Some, ap, subst, sym, ◌∙◌}
 use Rattle.std.specs.Map.{keys_of}
 use Rattle.sq_bound.specs.Known.{known_by}
-use Rattle.sq_catalog.proofs.Known.{known_here}
-use Rattle.sq_bound.specs.Fits.{IsBaseAt}
+use Rattle.sq_catalog.proofs.Known.{base_here, view_here}
 use Rattle.sq_bound.specs.WellFormed.{IsViewAmong}
 use Rattle.sq_bound.specs.declared.condition.TablePlace.TheVariants.{Base, View}
-use Rattle.sq_catalog.specs.Catalog.{Catalog, known, known_at, known_first, table_number}
-use Rattle.sq_catalog.specs.Stored.{IsStored, columns_of}
+use Rattle.sq_catalog.specs.Catalog.{Catalog, base_meant, known, known_at, known_first, table_number, view_meant}
+use Rattle.sq_catalog.specs.Stored.{IsNumbered, IsStored, columns_of, seen_of}
 use Rattle.sq_catalog.proofs.Extending.{table_read}
 use Rattle.sq_catalog.proofs.Added.{stands_at}
-use Rattle.sq_catalog.proofs.Stored.{base_at, named_at, stored_at}
+use Rattle.sq_catalog.proofs.References.{numbered_here, view_without}
+use Rattle.sq_catalog.proofs.Stored.{named_at, stored_at}
 use Rattle.sq_catalog.proofs.ViewQueries.{base_among, view_read}
 use Rattle.sq_catalog.proofs.catalog.Catalog.entry.Goals as goal
 
@@ -42,21 +42,15 @@ returns-in-Some-get_full-clause-view c =
     subst (λ (s : Catalog). IsViewAmong s.views c.in-Some-get_full.table.now.body) c.self.view_is
     (view_read c.self.inside.views.entries c.in-Some-get_full.place c.in-Some-get_full.field-0-1.now c.in-Some-get_full.table.now c.self.invariant.6 c.in-Some-get_full.ensures.entry)
 
-pub returns-in-Some-clause-base : goal.returns-in-Some-clause-base
-returns-in-Some-clause-base c =
-    subst (λ (s : Catalog). IsBaseAt (table_number s.tables c.args.full_name.now.user c.args.full_name.now.name) c.in-Some.table.now) c.self.view_is
-    (base_at _ c.in-Some.table.now c.in-Some.place c.in-Some.ensures.index
-    (stored_at c.self.inside.base_tables.items c.self.inside.bases.entries c.in-Some.place c.in-Some.field-0-1.now c.in-Some.table.now c.self.invariant.0 c.in-Some.ensures.entry).itself
-    (stands_at Base c.self.inside.bases.entries c.in-Some.place c.in-Some.field-0-1.now c.in-Some.table.now c.self.invariant.5 c.in-Some.ensures.entry))
-
 pub returns-in-Some-clause-known : goal.returns-in-Some-clause-known
 returns-in-Some-clause-known c =
     let name = c.args.full_name.now in
     let views = c.self.inside.views.entries in
     subst (λ (s : Catalog). Some (known_by c.in-Some.table.now) ≡ known s name.user name.name) c.self.view_is
-    (ap (λ k. known_first k (known_at View (columns_of views) (table_number (keys_of views) name.user name.name)))
-    (known_here Base c.self.inside.bases.entries c.in-Some.place c.in-Some.field-0-1.now c.in-Some.table.now (table_number (keys_of c.self.inside.bases.entries) name.user name.name) (sym c.in-Some.ensures.index) c.in-Some.ensures.entry
-    (stands_at Base c.self.inside.bases.entries c.in-Some.place c.in-Some.field-0-1.now c.in-Some.table.now c.self.invariant.5 c.in-Some.ensures.entry)))
+    (ap (λ k. known_first k (known_at view_meant (seen_of views) (table_number (keys_of views) name.user name.name)))
+    (base_here c.self.inside.bases.entries c.in-Some.place c.in-Some.field-0-1.now c.in-Some.table.now (table_number (keys_of c.self.inside.bases.entries) name.user name.name) (sym c.in-Some.ensures.index) c.in-Some.ensures.entry
+    (stands_at Base c.self.inside.bases.entries c.in-Some.place c.in-Some.field-0-1.now c.in-Some.table.now c.self.invariant.5 c.in-Some.ensures.entry)
+    (stored_at c.self.inside.base_tables.items c.self.inside.bases.entries c.in-Some.place c.in-Some.field-0-1.now c.in-Some.table.now c.self.invariant.0 c.in-Some.ensures.entry).itself))
 
 pub returns-in-Some-get_full-clause-known : goal.returns-in-Some-get_full-clause-known
 returns-in-Some-get_full-clause-known c =
@@ -65,9 +59,9 @@ returns-in-Some-get_full-clause-known c =
     let views = c.self.inside.views.entries in
     let absent : table_number (keys_of bases) name.user name.name ≡ None = sym c.in-None.ensures.index in
     subst (λ (s : Catalog). Some (known_by c.in-Some-get_full.table.now) ≡ known s name.user name.name) c.self.view_is
-    (known_here View views c.in-Some-get_full.place c.in-Some-get_full.field-0-1.now c.in-Some-get_full.table.now (table_number (keys_of views) name.user name.name) (sym c.in-Some-get_full.ensures.index) c.in-Some-get_full.ensures.entry
+    (view_here views c.in-Some-get_full.place c.in-Some-get_full.field-0-1.now c.in-Some-get_full.table.now (table_number (keys_of views) name.user name.name) (sym c.in-Some-get_full.ensures.index) c.in-Some-get_full.ensures.entry
     (stands_at View views c.in-Some-get_full.place c.in-Some-get_full.field-0-1.now c.in-Some-get_full.table.now c.self.invariant.6 c.in-Some-get_full.ensures.entry)
-    ∙ sym (ap (λ n. known_first (known_at Base (columns_of bases) n) (known_at View (columns_of views) (table_number (keys_of views) name.user name.name))) absent))
+    ∙ sym (ap (λ n. known_first (known_at base_meant (columns_of bases) n) (known_at view_meant (seen_of views) (table_number (keys_of views) name.user name.name))) absent))
 
 pub returns-in-None-get_full-clause-known : goal.returns-in-None-get_full-clause-known
 returns-in-None-get_full-clause-known c =
@@ -77,4 +71,17 @@ returns-in-None-get_full-clause-known c =
     let no_base : None ≡ table_number (keys_of bases) name.user name.name = c.in-None.ensures.index in
     let no_view : None ≡ table_number (keys_of views) name.user name.name = c.in-None-get_full.ensures.index in
     subst (λ (s : Catalog). None ≡ known s name.user name.name) c.self.view_is
-    (λ i. known_first (known_at Base (columns_of bases) (no_base i)) (known_at View (columns_of views) (no_view i)))
+    (λ i. known_first (known_at base_meant (columns_of bases) (no_base i)) (known_at view_meant (seen_of views) (no_view i)))
+
+pub returns-in-Some-clause-number : goal.returns-in-Some-clause-number
+returns-in-Some-clause-number c =
+    let name = c.args.full_name.now in
+    let entries = c.self.inside.bases.entries in
+    subst (λ (s : Catalog). IsNumbered s.tables s.columns name c.in-Some.table.now.columns c.in-Some.table.now.body) c.self.view_is
+    (numbered_here (keys_of entries) entries name c.in-Some.field-0-1.now c.in-Some.table.now c.in-Some.place (sym c.in-Some.ensures.index) c.in-Some.ensures.entry
+    (stands_at Base entries c.in-Some.place c.in-Some.field-0-1.now c.in-Some.table.now c.self.invariant.5 c.in-Some.ensures.entry))
+
+pub returns-in-Some-get_full-clause-number : goal.returns-in-Some-get_full-clause-number
+returns-in-Some-get_full-clause-number c =
+    view_without c.args.self.now.tables c.args.self.now.columns c.args.full_name.now c.in-Some-get_full.table.now c.in-Some-get_full.place
+    (stands_at View c.self.inside.views.entries c.in-Some-get_full.place c.in-Some-get_full.field-0-1.now c.in-Some-get_full.table.now c.self.invariant.6 c.in-Some-get_full.ensures.entry)

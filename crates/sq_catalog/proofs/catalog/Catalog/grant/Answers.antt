@@ -9,4 +9,4 @@ returns-clause-tables c = gains_none_if c.add_named-added.result c.args.self.now
 
 pub returns-clause-views : goal.returns-clause-views
 returns-clause-views c =
-    views_none_if c.add_named-added.result c.args.self.now _ (ap (λ (s : Catalog). s.tables) c.self.view_is) (ap (λ (s : Catalog). s.columns) c.self.view_is) (ap (λ (s : Catalog). s.view_names) c.self.view_is) (ap (λ (s : Catalog). s.view_columns) c.self.view_is) (ap (λ (s : Catalog). s.views) c.self.view_is)
+    views_none_if c.add_named-added.result c.args.self.now _ (ap (λ (s : Catalog). s.tables) c.self.view_is) (ap (λ (s : Catalog). s.columns) c.self.view_is) (ap (λ (s : Catalog). s.view_names) c.self.view_is) (ap (λ (s : Catalog). s.seen_views) c.self.view_is) (ap (λ (s : Catalog). s.views) c.self.view_is)

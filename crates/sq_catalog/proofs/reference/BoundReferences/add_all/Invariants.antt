@@ -1,7 +1,10 @@
-use Rattle.std.proofs.Common.{◌≡◌, true, length}
-use Rattle.std.specs.List.{list_all}
-use Rattle.sq_catalog.specs.Reference.{is_to, keys_with}
+use Rattle.std.proofs.Common.{◌≡◌, true, length, take}
+use Rattle.std.specs.List.{AllZip, list_all}
+use Rattle.sq_catalog.specs.Reference.{IsBound, is_to, keys_with}
 use Rattle.sq_catalog.proofs.reference.BoundReferences.add_all.Given as goal
 
 abbrev pub invariant-loop-reference : goal.invariant-loop-reference
-invariant-loop-reference l = list_all (is_to (keys_with l.own.before.now l.own.keys.now.columns) (length l.own.columns.now)) l.self.references ≡ true
+invariant-loop-reference l = record {
+  refer : list_all (is_to (keys_with l.own.before.now l.own.keys.now.columns) (length l.own.columns.now)) l.self.references ≡ true;
+  found : AllZip (IsBound l.own.before.now l.own.keys.now.columns l.own.keys.now.primary) (take l.reference-index l.found) l.self.references;
+}

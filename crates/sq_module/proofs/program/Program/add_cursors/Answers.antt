@@ -1,8 +1,8 @@
 use Rattle.std.proofs.Common.{◌+◌, ◌∙◌, [], refl, subst, sym, take}
 use Rattle.std.proofs.lemmas.List.{append-nil}
-use Rattle.sq_catalog.specs.Catalog.{column_kinds}
+use Rattle.sq_catalog.specs.Catalog.{column_kinds, known}
 use Rattle.sq_module.specs.Opened.{AreOpened}
-use Rattle.sq_module.specs.Written.{OpenNamed, meant_by}
+use Rattle.sq_module.specs.Written.{OpenNamed}
 use Rattle.sq_module.proofs.Apart.{opened_by_none, opened_by_turn, opens_new}
 use Rattle.sq_module.proofs.Opening.{grow_on, opened_next}
 use Rattle.sq_module.proofs.Written.{all_at, named_next, take_whole}
@@ -21,7 +21,7 @@ loop-opener-init c =
       apart = c.requires.apart;
       opened_by = opened_by_none c.args.«module».now.name cursors c.requires.others;
       others = λ name other of. of;
-      written = λ m of numbers. (numbers, subst (OpenNamed (meant_by c.args.catalog.now) m cursors []) (sym c.new-opened.ensures.items) tt);
+      written = λ m of numbers. (numbers, subst (OpenNamed (known c.args.catalog.now) m cursors []) (sym c.new-opened.ensures.items) tt);
     }
 
 pub loop-opener-preserved : goal.loop-opener-preserved
@@ -50,8 +50,8 @@ loop-opener-preserved c =
           (all_at _ procedures c.loop-opener.opener-index c.opener-item.result (rw c.as_slice-opener-items.ensures.value at c.loop-opener-test.true)
           (rw c.as_slice-opener-items.ensures.value at c.opener-item.is) of.procedures) before.0 in (
             after.0,
-            subst (λ os. OpenNamed (meant_by c.args.catalog.now) m new (take (c.loop-opener.opener-index + 1) procedures) os) (sym c.in_ok-push.ensures.items)
-                (named_next (meant_by c.args.catalog.now) m c.loop-opener.self.cursors.items new procedures c.loop-opener.opener-index c.opener-item.result c.loop-opener.opened.items c.in_ok-add_opened.field-0
+            subst (λ os. OpenNamed (known c.args.catalog.now) m new (take (c.loop-opener.opener-index + 1) procedures) os) (sym c.in_ok-push.ensures.items)
+                (named_next (known c.args.catalog.now) m c.loop-opener.self.cursors.items new procedures c.loop-opener.opener-index c.opener-item.result c.loop-opener.opened.items c.in_ok-add_opened.field-0
                 (rw c.as_slice-opener-items.ensures.value at c.loop-opener-test.true) (rw c.as_slice-opener-items.ensures.value at c.opener-item.is)
                 c.in_ok-add_opened.ensures.grows before.1 after.1),
           );

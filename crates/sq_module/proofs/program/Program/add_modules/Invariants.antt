@@ -1,10 +1,10 @@
 use Rattle.std.proofs.Common.{◌≡◌, [], List, map, take}
 use Rattle.std.specs.Map.{keys_of}
-use Rattle.sq_catalog.specs.Catalog.{column_kinds}
+use Rattle.sq_catalog.specs.Catalog.{column_kinds, known}
 use Rattle.sq_module.specs.Admitted.{admitted_procedures}
 use Rattle.sq_module.specs.Program.{FitsProgram, ProgramIsWellFormed, with_procedures}
 use Rattle.sq_tree.specs.declared.module.ModuleText.{ModuleText}
-use Rattle.sq_module.specs.Written.{AreApart, AreFrom, AreOfTexts, meant_by}
+use Rattle.sq_module.specs.Written.{AreApart, AreFrom, AreOfTexts}
 use Rattle.sq_module.proofs.Apart.{AreOfSome}
 use Rattle.sq_module.proofs.program.Program.add_modules.Given as goal
 
@@ -15,5 +15,5 @@ invariant-loop-module l = record {
   well_formed : ProgramIsWellFormed (column_kinds l.catalog) l.self;
   apart : AreApart [] l.self.cursors.items;
   of_some : AreOfSome (map (λ a. a.name) (take l.module-index l.modules)) l.self.cursors.items;
-  written : (texts : List ModuleText) → AreOfTexts texts l.modules → AreFrom (meant_by l.catalog) texts l.fn.self → AreFrom (meant_by l.catalog) texts l.self;
+  written : (texts : List ModuleText) → AreOfTexts texts l.modules → AreFrom (known l.catalog) texts l.fn.self → AreFrom (known l.catalog) texts l.self;
 }

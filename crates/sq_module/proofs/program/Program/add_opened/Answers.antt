@@ -3,9 +3,9 @@ use Rattle.std.proofs.lemmas.List.{append-nil}
 use Rattle.sq_bind.specs.Written.{IsCursorOf}
 use Rattle.sq_bound.specs.WellFormed.{kinds_of_parameters}
 use Rattle.sq_bound.specs.declared.statement.BoundStatement.TheVariants as statement
-use Rattle.sq_catalog.specs.Catalog.{column_kinds}
+use Rattle.sq_catalog.specs.Catalog.{column_kinds, known}
 use Rattle.sq_module.specs.Program.{OpensWellFormed}
-use Rattle.sq_module.specs.Written.{AreNumbers, IsCursorNamed, IsOpenedIn, IsStatementIn, meant_by}
+use Rattle.sq_module.specs.Written.{AreNumbers, IsCursorNamed, IsOpenedIn, IsStatementIn}
 use Rattle.sq_module.specs.Refusal.{opened_by}
 use Rattle.sq_module.proofs.Apart.{new_found, opened_by_more, opens_last}
 use Rattle.sq_module.proofs.Written.{cursor_found}
@@ -20,7 +20,7 @@ returns-in-Some-clause-opened c =
 pub returns-in-Some-clause-written : goal.returns-in-Some-clause-written
 returns-in-Some-clause-written c =
     λ m of procedure numbers.
-    let names = meant_by c.args.catalog.now in
+    let names = known c.args.catalog.now in
     let opener = c.args.opener.now in
     let found = cursor_found m.items c.args.«module».now.cursors.entries c.in-Open.name _ of.cursors (sym c.in-Some.ensures.value) in
     let opened : IsOpenedIn m c.in-Open.name opener.parameters = record { procedure = opener.procedure.now; is_item = procedure.0; opens = c.in-Open.is; declares = procedure.1 } in
@@ -31,10 +31,10 @@ returns-in-Some-clause-written c =
       named = found.1;
       parameters = opener.parameters;
       opened = opened;
-      bound_is = subst (λ u. IfOk c.bind_cursor-bound.result (IsCursorOf names.known u opener.parameters c.in-Some.cursor.now.now)) of.user bound;
+      bound_is = subst (λ u. IfOk c.bind_cursor-bound.result (IsCursorOf names u opener.parameters c.in-Some.cursor.now.now)) of.user bound;
     } in
     let new = c.add_cursor.new.self.cursors.items in
-    subst (λ s. IfOk c.add_cursor.result (λ o. AreNumbers (meant_by c.args.catalog.now) m new c.add_cursor.new.numbers.entries × IfSome o (λ n. IsStatementIn (meant_by c.args.catalog.now) m new c.args.opener.now.parameters s (statement.Open n)))) (sym c.in-Open.is)
+    subst (λ s. IfOk c.add_cursor.result (λ o. AreNumbers (known c.args.catalog.now) m new c.add_cursor.new.numbers.entries × IfSome o (λ n. IsStatementIn (known c.args.catalog.now) m new c.args.opener.now.parameters s (statement.Open n)))) (sym c.in-Open.is)
     (c.add_cursor.ensures.written names m of named numbers)
 
 pub add_cursor-requires-clause-new : goal.add_cursor-requires-clause-new

@@ -1,9 +1,9 @@
 use Rattle.std.proofs.Common.{length, refl}
 use Rattle.std.proofs.lemmas.Result.{on_ok_weaker}
-use Rattle.sq_catalog.specs.Catalog.{column_kinds}
+use Rattle.sq_catalog.specs.Catalog.{column_kinds, known}
 use Rattle.sq_module.proofs.Fitting.{procedure_added}
 use Rattle.sq_module.specs.Program.{FitsProcedure, ProcedureIsWellFormed, ProcedureOpens, kinds_of_cursors}
-use Rattle.sq_module.specs.Written.{AreNumbers, IsBoundFrom, OpensNamed, meant_by}
+use Rattle.sq_module.specs.Written.{AreNumbers, IsBoundFrom, OpensNamed}
 use Rattle.sq_module.proofs.Written.{procedure_next}
 use Rattle.sq_module.proofs.program.Program.add_procedure.Goals as goal
 
@@ -24,8 +24,8 @@ pub returns-clause-written : goal.returns-clause-written
 returns-clause-written c =
     λ texts m among of is_procedure numbers opens before.
     let cursors = c.args.self.now.cursors.items in
-    let numbers_here : AreNumbers (meant_by c.args.catalog.now) m c.as_slice.result.now c.args.numbers.now.entries = rw c.as_slice.ensures.value numbers in
-    let opens_here : OpensNamed (meant_by c.args.catalog.now) m c.as_slice.result.now c.args.admitted.now c.args.opened = rw c.as_slice.ensures.value opens in
-    let one : IsBoundFrom (meant_by c.args.catalog.now) m cursors c.args.admitted.now.procedure.now c.in_ok-bound.bound
+    let numbers_here : AreNumbers (known c.args.catalog.now) m c.as_slice.result.now c.args.numbers.now.entries = rw c.as_slice.ensures.value numbers in
+    let opens_here : OpensNamed (known c.args.catalog.now) m c.as_slice.result.now c.args.admitted.now c.args.opened = rw c.as_slice.ensures.value opens in
+    let one : IsBoundFrom (known c.args.catalog.now) m cursors c.args.admitted.now.procedure.now c.in_ok-bound.bound
     = rw c.as_slice.ensures.value at (c.in_ok-bound.ensures.written m (of.user) is_procedure numbers_here opens_here) in
-    on_ok_weaker c.inserted.result (λ is. procedure_next (meant_by c.args.catalog.now) texts m cursors _ _ _ c.args.admitted.now.procedure.now _ is among of.name is_procedure.0 refl one before) c.inserted.ensures.entries
+    on_ok_weaker c.inserted.result (λ is. procedure_next (known c.args.catalog.now) texts m cursors _ _ _ c.args.admitted.now.procedure.now _ is among of.name is_procedure.0 refl one before) c.inserted.ensures.entries

@@ -1,9 +1,9 @@
 use Rattle.std.proofs.Common.{◌∙◌, None, arith, get_or, length, subst, sym}
 use Rattle.std.proofs.lemmas.Grind.{common_steps}
-use Rattle.sq_catalog.specs.Catalog.{column_kinds}
+use Rattle.sq_catalog.specs.Catalog.{column_kinds, known}
 use Rattle.sq_module.specs.Opened.{AreThere, IsOpened}
 use Rattle.sq_module.proofs.Opening.{opened_at, opened_there}
-use Rattle.sq_module.specs.Written.{AreNumbers, OpensNamed, meant_by}
+use Rattle.sq_module.specs.Written.{AreNumbers, OpensNamed}
 use Rattle.sq_module.proofs.Written.{all_at, named_at}
 use Rattle.sq_module.proofs.program.Program.add_procedures.Goals as goal
 
@@ -32,9 +32,9 @@ loop-place-preserved c =
       well_formed = c.in_ok-add_procedure.ensures.well_formed;
       written = λ texts m among of numbers opens before.
           c.in_ok-add_procedure.ensures.written texts m among of (all_at _ procedures place c.admitted-item.result below at_place of.procedures)
-          (subst (λ cs. AreNumbers (meant_by c.args.catalog.now) m cs.items c.args.numbers.now.entries) (sym c.loop-place.invariant.cursors) numbers)
-          (subst (λ cs. OpensNamed (meant_by c.args.catalog.now) m cs.items c.admitted-item.result (get_or c.args.opened.now place None)) (sym c.loop-place.invariant.cursors)
-          (named_at (meant_by c.args.catalog.now) m c.args.self.now.cursors.items procedures c.args.opened.now place c.admitted-item.result None opens below at_place))
+          (subst (λ cs. AreNumbers (known c.args.catalog.now) m cs.items c.args.numbers.now.entries) (sym c.loop-place.invariant.cursors) numbers)
+          (subst (λ cs. OpensNamed (known c.args.catalog.now) m cs.items c.admitted-item.result (get_or c.args.opened.now place None)) (sym c.loop-place.invariant.cursors)
+          (named_at (known c.args.catalog.now) m c.args.self.now.cursors.items procedures c.args.opened.now place c.admitted-item.result None opens below at_place))
           (c.loop-place.invariant.written texts m among of numbers opens before);
     }
 

@@ -1,13 +1,14 @@
 use Rattle.std.proofs.Common.{[], ap, subst, sym}
 use Rattle.std.specs.List.{list_any}
+use Rattle.sq_catalog.specs.Catalog.{known}
 use Rattle.sq_module.specs.Opened.{is_in}
-use Rattle.sq_module.specs.Written.{AreApart, AreFromTexts, meant_by}
+use Rattle.sq_module.specs.Written.{AreApart, AreFromTexts}
 use Rattle.sq_module.proofs.program.Program.bind.Goals as goal
 
 pub returns-in-Ok-clause-written : goal.returns-in-Ok-clause-written
 returns-in-Ok-clause-written c =
     λ texts of.
-    record { procedures = c.in-Ok.ensures.written texts of (subst (AreFromTexts (meant_by c.args.catalog.now) texts c.new-2.result.items) (sym c.new.ensures.empty) tt); cursors = c.in-Ok.ensures.apart }
+    record { procedures = c.in-Ok.ensures.written texts of (subst (AreFromTexts (known c.args.catalog.now) texts c.new-2.result.items) (sym c.new.ensures.empty) tt); cursors = c.in-Ok.ensures.apart }
 
 pub add_modules-requires-clause-others : goal.add_modules-requires-clause-others
 add_modules-requires-clause-others c = λ name. ap (list_any (is_in name)) c.new-2.ensures.items
