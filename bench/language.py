@@ -145,16 +145,21 @@ def numbers(power, rows):
 
 
 def queried(query, power, rows=None):
+    """The table is filled, and then the query's rows are made, if there is a query."""
     fill = f"INSERT INTO T SELECT {numbers(power, rows or 10 ** power)}"
     module = (MODULE + "PROCEDURE DIG (SQLCODE, :D INTEGER); INSERT INTO D VALUES (:D);\n"
-              + f"PROCEDURE FILL (SQLCODE); {fill};\nDECLARE X CURSOR FOR {query}\nPROCEDURE RUN (SQLCODE); OPEN X;\n")
-    script = calls(10, lambda i: f"CALL M.DIG ({i})") + "CALL M.FILL;\nCALL M.RUN;\n"
+              + f"PROCEDURE FILL (SQLCODE); {fill};\n")
+    script = calls(10, lambda i: f"CALL M.DIG ({i})") + "CALL M.FILL;\n"
+    if query:
+        module += f"DECLARE X CURSOR FOR {query}\nPROCEDURE RUN (SQLCODE); OPEN X;\n"
+        script += "CALL M.RUN;\n"
 
     def lite(db):
         db.executemany("INSERT INTO D VALUES (?)", ((i,) for i in range(10)))
         db.execute(fill)
-        for _row in db.execute(query):
-            pass
+        if query:
+            for _row in db.execute(query):
+                pass
     return lambda: Workload(NUMBERS, [module], script, lite)
 
 
@@ -203,7 +208,9 @@ WORKLOADS = {
     "the same with a positioned UPDATE of each row": positioned_updates,
     "the same inserts, and an UPDATE that moves all keys by one": moved_keys,
     "the same inserts, and ROLLBACK": rollback,
+    "a million rows filled by a query with arithmetic": queried(None, 6),
     "GROUP BY of a million rows": queried("SELECT A, COUNT(*), SUM(N) FROM T GROUP BY A", 6),
+    "100,000 rows filled so": queried(None, 5),
     "DISTINCT of 100,000 rows": queried("SELECT DISTINCT A FROM T", 5),
     "UNION of 100,000 and 100,000 rows": queried("SELECT N FROM T UNION SELECT A FROM T", 5),
     "ORDER BY of 100,000 rows": queried("SELECT A, N FROM T ORDER BY 1 DESC", 5),
