@@ -22,7 +22,7 @@ defined_if schemas trees (Err fault) spelled tables declares bases = tables
 
 pub holds_if : (row_numbers : ℕ) (c : Catalog) (modules : List Bytes) (trees : List ModuleText) (answer : Result Session TextFault) → AllSpell module_tokens modules trees
     → IfOk answer (λ s. s.tables ≡ c.tables) → IfOk answer (λ s. s.schemas ≡ schemas_of c) → IfOk answer (λ s. names_of s.procedures ≡ declared_procedures trees)
-    → IfOk answer (λ s. AreOfModules (known c) trees s.procedures) → IfOk answer (IsStart row_numbers) → IfOk answer (Holds row_numbers c modules)
+    → IfOk answer (λ s. AreOfModules c.bases (known c) trees s.procedures) → IfOk answer (IsStart row_numbers) → IfOk answer (Holds row_numbers c modules)
 holds_if row_numbers c modules trees (Ok s) spelled tables schemas procedures written start =
     record { trees = trees; spelled = spelled; tables_are = tables; schemas_are = schemas; procedures = procedures; written = written; start = start }
 holds_if row_numbers c modules trees (Err fault) spelled tables schemas procedures written start = tables
@@ -38,7 +38,7 @@ opened_by row_numbers schemas modules c s defined holds = record {
     procedures = holds.procedures;
     known = known c;
     declares = subst (λ (x : Schemas). Declares defined.trees (known c) x.bases x.views) (sym holds.schemas_are) defined.declares;
-    written = holds.written;
+    written = subst (λ (x : Schemas). AreOfModules x.bases (known c) holds.trees s.procedures) (sym holds.schemas_are) holds.written;
     start = holds.start;
   };
 }

@@ -27,7 +27,7 @@ pub record Holds (row_numbers : ℕ) (c : Catalog) (modules : List Bytes) (s : S
   pub tables_are : s.tables ≡ c.tables
   pub schemas_are : s.schemas ≡ schemas_of c
   pub procedures : names_of s.procedures ≡ declared_procedures trees
-  pub written : AreOfModules (known c) trees s.procedures
+  pub written : AreOfModules c.bases (known c) trees s.procedures
   pub start : IsStart row_numbers s
 
 -- a session of trees that the texts spell

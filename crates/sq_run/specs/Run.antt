@@ -59,7 +59,7 @@ pub record IsOpened (row_numbers : ℕ) (schemas : List SchemaText) (modules : L
   pub procedures : names_of s.procedures ≡ declared_procedures modules
   pub known : KnownTables
   pub declares : Declares schemas known s.schemas.bases s.schemas.views
-  pub written : AreOfModules known modules s.procedures
+  pub written : AreOfModules s.schemas.bases known modules s.procedures
   pub start : IsStart row_numbers s
 
 -- Trees that the texts spell, a session of them as it is before the first call, which takes each item of the script, and what it is asked for: these

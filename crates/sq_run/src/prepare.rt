@@ -169,7 +169,7 @@ fn session_from<S: Store>(
     ensures tables { IfOk result (λ s. s.tables ≡ catalog.tables) }
     ensures procedures { IfOk result (λ s. names_of s.procedures ≡ declared_procedures trees.now) }
     ensures schemas { IfOk result (λ s. s.schemas ≡ schemas_of catalog) }
-    ensures written { IfOk result (λ s. AreOfModules (known catalog) trees.now s.procedures) }
+    ensures written { IfOk result (λ s. AreOfModules catalog.bases (known catalog) trees.now s.procedures) }
     ensures start { IfOk result (IsStart limits.row_numbers) }
     ensures refused { IfErr result (SomeRefused module_tokens module_depth (texts modules.now)) }
 {
@@ -193,7 +193,7 @@ fn session_over<S: Store>(
     ensures tables { IfOk result (λ s. s.tables ≡ catalog.tables) }
     ensures procedures { IfOk result (λ s. names_of s.procedures ≡ declared_procedures modules.now) }
     ensures schemas { IfOk result (λ s. s.schemas ≡ schemas_of catalog) }
-    ensures written { IfOk result (λ s. AreOfModules (known catalog) modules.now s.procedures) }
+    ensures written { IfOk result (λ s. AreOfModules catalog.bases (known catalog) modules.now s.procedures) }
     ensures start { IfOk result (IsStart limits.row_numbers) }
     ensures refused { IfErr result (IsOfSomeModule (length modules.now)) }
 {

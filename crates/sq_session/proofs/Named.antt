@@ -14,6 +14,7 @@ use Rattle.sq_module.specs.declared.program.BoundProcedure.{BoundProcedure}
 use Rattle.sq_module.specs.declared.program.DeclaredCursor.{DeclaredCursor}
 use Rattle.sq_module.specs.declared.program.ProcedureName.{ProcedureName}
 use Rattle.sq_module.specs.declared.program.Program.{Program}
+use Rattle.sq_module.specs.Program.{FitsProgram}
 use Rattle.sq_module.specs.Written.{IsOfTexts}
 use Rattle.sq_session.specs.Kind.{Procedure, fault_at, fits_at, kind_at, kind_of}
 use Rattle.sq_session.specs.Parameter.{declared}
@@ -74,6 +75,6 @@ names_are cs (e ∷ es) = ap (λ names. e.0 ∷ names) (names_are cs es)
 
 -- ---- procedures of module texts
 
-pub of_modules : (c : Catalog) (modules : List ModuleText) (p : Program) (procedures : List Procedure) → IsOfTexts (known c) modules p → procedures ≡ procedures_of p.cursors.items p.procedures.entries
-    → AreOfModules (known c) modules procedures
-of_modules c modules p procedures is_of are = record { program = p; is_of = is_of; are = are }
+pub of_modules : (c : Catalog) (modules : List ModuleText) (p : Program) (procedures : List Procedure) → IsOfTexts (known c) modules p → FitsProgram c.bases p
+    → procedures ≡ procedures_of p.cursors.items p.procedures.entries → AreOfModules c.bases (known c) modules procedures
+of_modules c modules p procedures is_of fits are = record { program = p; is_of = is_of; fits = fits; are = are }

@@ -5,11 +5,13 @@ use Rattle.std.specs.Result.{result_map_both}
 use Rattle.sq_lex.specs.declared.name.Name.{Name}
 use Rattle.sq_tree.specs.declared.module.ModuleText.{ModuleText}
 use Rattle.sq_bound.specs.Known.{KnownTables}
+use Rattle.sq_bound.specs.declared.names.BaseTable.{BaseTable}
 use Rattle.sq_catalog.specs.declared.catalog.FullName.{FullName}
 use Rattle.sq_module.specs.declared.program.BoundProcedure.{BoundProcedure}
 use Rattle.sq_module.specs.declared.program.DeclaredCursor.{DeclaredCursor}
 use Rattle.sq_module.specs.declared.program.ProcedureName.{ProcedureName}
 use Rattle.sq_module.specs.declared.program.Program.{Program}
+use Rattle.sq_module.specs.Program.{FitsProgram}
 use Rattle.sq_module.specs.Written.{IsOfTexts}
 use Rattle.sq_session.specs.Kind.{Procedure, kind_of}
 use Rattle.sq_session.specs.Parameter.{declared}
@@ -52,8 +54,10 @@ name_of p = record { «module» = p.«module»; name = p.name }
 abbrev pub names_of : List Procedure → List ProcedureName
 names_of procedures = map name_of procedures
 
--- the procedures are those of a program that is bound from these modules, where the names of tables and views mean this (12.1 and 12.3)
-pub record AreOfModules (known : KnownTables) (modules : List ModuleText) (procedures : List Procedure) : Type 0 where
+-- the procedures are those of a program that is bound from these modules over these base tables, where the names of tables and views
+-- mean this (12.1 and 12.3)
+pub record AreOfModules (bases : List BaseTable) (known : KnownTables) (modules : List ModuleText) (procedures : List Procedure) : Type 0 where
   pub program : Program
   pub is_of : IsOfTexts known modules program
+  pub fits : FitsProgram bases program
   pub are : procedures ≡ procedures_of program.cursors.items program.procedures.entries

@@ -90,7 +90,7 @@ impl<S: Store> Session<S> {
             s.state.cursors) }
         ensures numbers { IfOk result (λ s. s.state.row_numbers ≡ S.row_numbers store) }
         ensures procedures { IfOk result (λ s. names_of s.procedures ≡ declared_procedures modules.now) }
-        ensures written { IfOk result (λ s. AreOfModules (known catalog) modules.now s.procedures) }
+        ensures written { IfOk result (λ s. AreOfModules catalog.bases (known catalog) modules.now s.procedures) }
         ensures tables { IfOk result (λ s. s.tables ≡ catalog.tables) }
         ensures schemas { IfOk result (λ s. s.schemas ≡ schemas_of catalog) }
         ensures refused { IfErr result (IsOfSomeModule (length modules.now)) }
