@@ -54,7 +54,8 @@ fn changed_table<N: Names>(
     ensures named { IfOk result (λ under. IsUnder (N.known names.now) user written under.leaf.now) }
     ensures known { IfOk result (λ under. let name = table_of user written in
         N.known names.now name.user name.name ≡ Some (known_by under.table.now)) }
-    ensures owner { IfOk result (λ under. table_of user written ≡ record { user = under.table.now.user; name = under.table.now.name }) }
+    ensures owner { IfOk result (λ under. table_of user written
+        ≡ record { user = under.table.now.user; name = under.table.now.name }) }
 {
     let table = named_table(names, user, written)?;
     match under_table(table) {
@@ -72,9 +73,11 @@ struct Receiver {
 
 /// The column of this name.
 fn receiver_of(under: Under<'_>, name: Name) -> Result<Receiver, BindFault>
-    ensures position { IfOk result (λ receiver. receiver.object.position < length under.entry.leaf.now.table.columns) }
+    ensures position { IfOk result (λ receiver. receiver.object.position
+        < length under.entry.leaf.now.table.columns) }
     ensures column { IfOk result (λ receiver. IsColumnOf under.entry.leaf.now.table receiver.object) }
-    ensures named { IfOk result (λ receiver. leaf_named under.entry.table.now.columns name ≡ Some receiver.object.position) }
+    ensures named { IfOk result (λ receiver. leaf_named under.entry.table.now.columns name
+        ≡ Some receiver.object.position) }
 {
     match under.table.column(name) {
         Some(position) => Ok(receiver_at(under, position)),
@@ -87,7 +90,8 @@ fn receiver_at(under: Under<'_>, position: usize) -> Receiver
     requires { position < length under.table.now.columns }
     ensures position { result.object.position < length under.entry.leaf.now.table.columns }
     ensures column { IsColumnOf under.entry.leaf.now.table result.object }
-    ensures at_leaf { slice_get (map (λ c. c.leaf_column) under.entry.table.now.columns) position ≡ Some result.object.position }
+    ensures at_leaf { slice_get (map (λ c. c.leaf_column) under.entry.table.now.columns) position
+        ≡ Some result.object.position }
 {
     let column = under.table.columns.as_slice()[position];
     let base = under.leaf.get().table.get();
@@ -119,7 +123,8 @@ fn insert_receivers(
     columns: &Option<CommaList<Name>>,
 ) -> Result<Items<Receiver>, BindFault>
     ensures there { IfOk result (AreReceivers under.entry.leaf.now.table) }
-    ensures into { IfOk result (λ receivers. AreInto under.entry.table.now.columns columns.now (objects_of receivers)) }
+    ensures into { IfOk result (λ receivers. AreInto under.entry.table.now.columns columns.now
+        (objects_of receivers)) }
 {
     match columns {
         Some(list) => listed_receivers(alloc, under, list),
@@ -133,7 +138,8 @@ fn listed_receivers(
     list: &CommaList<Name>,
 ) -> Result<Items<Receiver>, BindFault>
     ensures there { IfOk result (AreReceivers under.entry.leaf.now.table) }
-    ensures into { IfOk result (λ receivers. AreInto under.entry.table.now.columns (Some list.now) (objects_of receivers)) }
+    ensures into { IfOk result (λ receivers. AreInto under.entry.table.now.columns (Some list.now)
+        (objects_of receivers)) }
 {
     let mut receivers = Items::new(alloc);
     push_receiver(&mut receivers, receiver_of(under, list.first)?)?;
@@ -145,7 +151,8 @@ fn listed_receivers(
 
 fn all_receivers(alloc: Global, under: Under<'_>) -> Result<Items<Receiver>, BindFault>
     ensures there { IfOk result (AreReceivers under.entry.leaf.now.table) }
-    ensures into { IfOk result (λ receivers. AreInto under.entry.table.now.columns None (objects_of receivers)) }
+    ensures into { IfOk result (λ receivers. AreInto under.entry.table.now.columns None
+        (objects_of receivers)) }
 {
     let mut receivers = Items::new(alloc);
     for position in 0..under.table.columns.len() {
@@ -172,7 +179,8 @@ fn new_value(
     environment: &Environment<'_>,
 ) -> Result<Found<BoundExpr>, BindFault>
     ensures well_formed { IfOk result (λ found. IsNewValueIn environment.now column found.part) }
-    ensures written { (known : KnownTables) → IfOk result (Being (ExprIs [] (value_placed (around known environment.now) value.now))) }
+    ensures written { (known : KnownTables) → IfOk result (Being
+        (ExprIs [] (value_placed (around known environment.now) value.now))) }
 {
     match value {
         NewValue::Null => Ok(Found {
@@ -211,13 +219,18 @@ pub(crate) fn bind_insert<N: Names>(
     requires { IsOutermost environment.now }
     ensures base { IfOk result (λ found. IsBase (N.base_tables names.now) found.part.leaf.table) }
     ensures leaf { IfOk result (λ found. IsLeaf (N.column_kinds names.now) found.part.leaf) }
-    ensures table { IfOk result (λ found. IsUnder (N.known names.now) environment.now.user insert.now.table found.part.leaf) }
-    ensures columns { IfOk result (λ found. AllByRecursion (IsColumnOf found.part.leaf.table) found.part.columns) }
-    ensures into { IfOk result (λ found. IntoTable (table_known (N.known names.now) (table_of environment.now.user insert.now.table))
+    ensures table { IfOk result (λ found. IsUnder (N.known names.now) environment.now.user insert.now.table
+        found.part.leaf) }
+    ensures columns { IfOk result (λ found. AllByRecursion (IsColumnOf found.part.leaf.table)
+        found.part.columns) }
+    ensures into { IfOk result (λ found. IntoTable
+        (table_known (N.known names.now) (table_of environment.now.user insert.now.table))
         insert.now.columns found.part.columns) }
-    ensures source { IfOk result (λ found. IsSource (N.column_kinds names.now) (kinds_of_parameters environment.now.parameters.now)
+    ensures source { IfOk result (λ found. IsSource (N.column_kinds names.now)
+        (kinds_of_parameters environment.now.parameters.now)
         found.part.columns found.part.source) }
-    ensures written { IfOk result (λ found. IsSourceOf (around (N.known names.now) environment.now) environment.now.user insert.now.source found.part.source) }
+    ensures written { IfOk result (λ found. IsSourceOf (around (N.known names.now) environment.now)
+        environment.now.user insert.now.source found.part.source) }
 {
     let under = changed_table(names, environment.user, insert.table)?;
     let parts = insert_parts(insert, names, environment, under, numbers)?;
@@ -262,9 +275,11 @@ fn insert_parts<N: Names>(
     requires { IsOutermost environment.now }
     ensures columns { IfOk result (λ parts. AllByRecursion (IsColumnOf under.entry.leaf.now.table) parts.0) }
     ensures into { IfOk result (λ parts. AreInto under.entry.table.now.columns insert.now.columns parts.0) }
-    ensures source { IfOk result (λ parts. IsSource (N.column_kinds names.now) (kinds_of_parameters environment.now.parameters.now) parts.0
+    ensures source { IfOk result (λ parts. IsSource (N.column_kinds names.now)
+        (kinds_of_parameters environment.now.parameters.now) parts.0
         parts.1.part) }
-    ensures written { IfOk result (λ parts. IsSourceOf (around (N.known names.now) environment.now) environment.now.user insert.now.source parts.1.part) }
+    ensures written { IfOk result (λ parts. IsSourceOf (around (N.known names.now) environment.now)
+        environment.now.user insert.now.source parts.1.part) }
 {
     let receivers = insert_receivers(environment.alloc, under, &insert.columns)?;
     let columns = object_columns(environment.alloc, receivers.as_slice());
@@ -295,9 +310,11 @@ fn insert_source<N: Names>(
     numbers: &mut SubqueryNumbers,
 ) -> Result<Found<InsertedRows>, BindFault>
     requires { IsOutermost environment.now }
-    ensures well_formed { IfOk result (λ found. IsSource (N.column_kinds names.now) (kinds_of_parameters environment.now.parameters.now)
+    ensures well_formed { IfOk result (λ found. IsSource (N.column_kinds names.now)
+        (kinds_of_parameters environment.now.parameters.now)
         (objects_of receivers.now) found.part) }
-    ensures written { IfOk result (Being (IsSourceOf (around (N.known names.now) environment.now) environment.now.user source.now)) }
+    ensures written { IfOk result (Being (IsSourceOf (around (N.known names.now) environment.now)
+        environment.now.user source.now)) }
 {
     match source {
         InsertSource::Values(list) => insert_values(list, environment, receivers),
@@ -350,9 +367,11 @@ fn insert_values(
 ) -> Result<Found<InsertedRows>, BindFault>
     requires { IsOutermost environment.now }
     ensures well_formed { (columns : TableKinds)
-        → IfOk result (λ found. IsSource columns (kinds_of_parameters environment.now.parameters.now) (objects_of receivers.now) found.part) }
+        → IfOk result (λ found. IsSource columns (kinds_of_parameters environment.now.parameters.now)
+        (objects_of receivers.now) found.part) }
     ensures written { (known : KnownTables)
-        → IfOk result (Being (IsSourceOf (around known environment.now) environment.now.user (Values list.now))) }
+        → IfOk result (Being (IsSourceOf (around known environment.now) environment.now.user
+        (Values list.now))) }
 {
     let Some((first, others)) = receivers.split_first() else {
         return Err(BindFault::CountMismatch);
@@ -378,7 +397,8 @@ fn push_value(
     values: &mut Items<BoundExpr>,
     value: Result<Found<BoundExpr>, BindFault>,
 ) -> Result<(), BindFault>
-    ensures { OnOk result ((found : FoundPart BoundTree) × (value ≡ Ok found) × (values.new ≡ values.old ++ found.part ∷ [])) }
+    ensures { OnOk result ((found : FoundPart BoundTree) × (value ≡ Ok found)
+        × (values.new ≡ values.old ++ found.part ∷ [])) }
 {
     values.push(value?.part)?;
     Ok(())
@@ -401,8 +421,10 @@ fn change_target<'s, N: Names, C: Cursors>(
     ensures cursor { IfOk result (λ found. is_cursor (C.cursor_count cursors.now) found.part ≡ true) }
     ensures well_formed { IfOk result (λ found. IsChangeTarget (N.column_kinds names.now)
         (kinds_of_parameters environment.now.parameters.now) found.part) }
-    ensures written { IfOk result (λ found. IsTargetOf (λ name number. C.number_of cursors.now name ≡ Some number)
-        (filter_on (around (N.known names.now) environment.now) environment.now.user item.now) target.now found.part) }
+    ensures written { IfOk result (λ found. IsTargetOf
+        (λ name number. C.number_of cursors.now name ≡ Some number)
+        (filter_on (around (N.known names.now) environment.now) environment.now.user item.now) target.now
+        found.part) }
 {
     match target {
         Some(Where::CurrentOf(name)) => positioned(*name, cursors, under),
@@ -435,10 +457,12 @@ fn positioned<C: Cursors>(
 ) -> Result<Found<ChangeTarget>, BindFault>
     ensures leaf { IfOk result (λ found. leaf_of found.part ≡ under.entry.leaf.now) }
     ensures cursor { IfOk result (λ found. is_cursor (C.cursor_count cursors.now) found.part ≡ true) }
-    ensures well_formed { (columns : TableKinds) (parameters : List KindOf) → IsLeaf columns under.entry.leaf.now
+    ensures well_formed { (columns : TableKinds) (parameters : List KindOf)
+        → IsLeaf columns under.entry.leaf.now
         → IfOk result (λ found. IsChangeTarget columns parameters found.part) }
     ensures written { (filter : AnyCond → Outcome PlacedClause)
-        → IfOk result (λ found. IsTargetOf (λ name number. C.number_of cursors.now name ≡ Some number) filter (Some (CurrentOf name)) found.part) }
+        → IfOk result (λ found. IsTargetOf (λ name number. C.number_of cursors.now name ≡ Some number) filter
+        (Some (CurrentOf name)) found.part) }
 {
     let Some(known) = cursors.cursor(name) else {
         return Err(BindFault::UnknownCursor);
@@ -475,12 +499,16 @@ pub(crate) fn bind_delete<N: Names, C: Cursors>(
     numbers: &mut SubqueryNumbers,
 ) -> Result<Found<ChangeTarget>, BindFault>
     requires { IsOutermost environment.now }
-    ensures fits { IfOk result (λ found. FitsTarget (N.base_tables names.now) (C.cursor_count cursors.now) found.part) }
-    ensures table { IfOk result (λ found. IsUnder (N.known names.now) environment.now.user delete.now.table (leaf_of found.part)) }
+    ensures fits { IfOk result (λ found. FitsTarget (N.base_tables names.now) (C.cursor_count cursors.now)
+        found.part) }
+    ensures table { IfOk result (λ found. IsUnder (N.known names.now) environment.now.user delete.now.table
+        (leaf_of found.part)) }
     ensures well_formed { IfOk result (λ found. IsChangeTarget (N.column_kinds names.now)
         (kinds_of_parameters environment.now.parameters.now) found.part) }
-    ensures written { IfOk result (λ found. IsTargetOf (λ name number. C.number_of cursors.now name ≡ Some number)
-        (filter_placed (around (N.known names.now) environment.now) environment.now.user (table_of environment.now.user delete.now.table)) delete.now.target found.part) }
+    ensures written { IfOk result (λ found. IsTargetOf
+        (λ name number. C.number_of cursors.now name ≡ Some number)
+        (filter_placed (around (N.known names.now) environment.now) environment.now.user
+        (table_of environment.now.user delete.now.table)) delete.now.target found.part) }
 {
     let under = changed_table(names, environment.user, delete.table)?;
     let item = item_over(environment.alloc, under.table, None, true)?;
@@ -523,19 +551,27 @@ pub(crate) fn bind_update<N: Names, C: Cursors>(
     numbers: &mut SubqueryNumbers,
 ) -> Result<Found<BoundUpdate>, BindFault>
     requires { IsOutermost environment.now }
-    ensures target { IfOk result (λ found. FitsTarget (N.base_tables names.now) (C.cursor_count cursors.now) found.part.target) }
+    ensures target { IfOk result (λ found. FitsTarget (N.base_tables names.now) (C.cursor_count cursors.now)
+        found.part.target) }
     ensures table { IfOk result (λ found. IsUnder (N.known names.now) environment.now.user update.now.table
         (leaf_of found.part.target)) }
-    ensures written { IfOk result (λ found. IsTargetOf (λ name number. C.number_of cursors.now name ≡ Some number)
-        (filter_placed (around (N.known names.now) environment.now) environment.now.user (table_of environment.now.user update.now.table)) update.now.target found.part.target) }
-    ensures set { IfOk result (λ found. SetOn (around (N.known names.now) environment.now) (table_of environment.now.user update.now.table)
-        (table_known (N.known names.now) (table_of environment.now.user update.now.table)) (listed update.now.assignments) found.part.assignments) }
-    ensures columns { IfOk result (λ found. are_columns (length (leaf_of found.part.target).table.columns) found.part.assignments ≡ true) }
+    ensures written { IfOk result (λ found. IsTargetOf
+        (λ name number. C.number_of cursors.now name ≡ Some number)
+        (filter_placed (around (N.known names.now) environment.now) environment.now.user
+        (table_of environment.now.user update.now.table)) update.now.target found.part.target) }
+    ensures set { IfOk result (λ found. SetOn (around (N.known names.now) environment.now)
+        (table_of environment.now.user update.now.table)
+        (table_known (N.known names.now) (table_of environment.now.user update.now.table))
+        (listed update.now.assignments) found.part.assignments) }
+    ensures columns { IfOk result (λ found. are_columns (length (leaf_of found.part.target).table.columns)
+        found.part.assignments ≡ true) }
     ensures well_formed { IfOk result (λ found. IsChangeTarget (N.column_kinds names.now)
         (kinds_of_parameters environment.now.parameters.now) found.part.target) }
     ensures assigned { IfOk result (λ found. AllByRecursion (IsAssignment (N.column_kinds names.now)
-        (kinds_of_parameters environment.now.parameters.now) (leaf_of found.part.target).table) found.part.assignments) }
-    ensures objects { IfOk result (λ found. AllByRecursion (λ a. IsColumnOf (leaf_of found.part.target).table a.column)
+        (kinds_of_parameters environment.now.parameters.now) (leaf_of found.part.target).table)
+        found.part.assignments) }
+    ensures objects { IfOk result (λ found. AllByRecursion
+        (λ a. IsColumnOf (leaf_of found.part.target).table a.column)
         found.part.assignments) }
 {
     let under = changed_table(names, environment.user, update.table)?;
@@ -571,10 +607,12 @@ fn assignments_of<'s, N: Names>(
 ) -> Result<Assignments, BindFault>
     requires item { IsItemOver (N.column_kinds names.now) (Base under.leaf.now.table.place) item.now }
     requires outermost { IsOutermost environment.now }
-    ensures columns { IfOk result (λ assignments. are_columns (length under.entry.leaf.now.table.columns) assignments.bound ≡ true) }
+    ensures columns { IfOk result (λ assignments. are_columns (length under.entry.leaf.now.table.columns)
+        assignments.bound ≡ true) }
     ensures assigned { IfOk result (λ assignments. AllByRecursion (IsAssignment (N.column_kinds names.now)
         (kinds_of_parameters environment.now.parameters.now) under.entry.leaf.now.table) assignments.bound) }
-    ensures written { (known : KnownTables) → IfOk result (λ assignments. AreSetTo (inside (item.now ∷ []) (around known environment.now))
+    ensures written { (known : KnownTables) → IfOk result (λ assignments. AreSetTo
+        (inside (item.now ∷ []) (around known environment.now))
         under.entry.table.now.columns (listed list.now) assignments.bound) }
 {
     let scope = environment.scope_over(from_ref(item), None);
@@ -588,11 +626,13 @@ fn assignments_within<N: Names>(
     under: Under<'_>,
 ) -> Result<Assignments, BindFault>
     requires { AreLevelsIn (N.column_kinds names.now) (of_base under.leaf.now.table) environment.now }
-    ensures columns { IfOk result (λ assignments. are_columns (length under.entry.leaf.now.table.columns) assignments.bound ≡ true) }
+    ensures columns { IfOk result (λ assignments. are_columns (length under.entry.leaf.now.table.columns)
+        assignments.bound ≡ true) }
     ensures assigned { IfOk result (λ assignments. AllByRecursion (IsAssignment (N.column_kinds names.now)
         (kinds_of_parameters environment.now.parameters.now) under.entry.leaf.now.table) assignments.bound) }
     ensures written { (known : KnownTables)
-        → IfOk result (λ assignments. AreSetTo (around known environment.now) under.entry.table.now.columns (listed list.now) assignments.bound) }
+        → IfOk result (λ assignments. AreSetTo (around known environment.now) under.entry.table.now.columns
+        (listed list.now) assignments.bound) }
 {
     let mut assignments = Assignments {
         receivers: Items::new(environment.alloc),
@@ -614,15 +654,20 @@ impl Assignments {
         environment: &Environment<'_>,
         under: Under<'_>,
     ) -> Result<(), BindFault>
-        requires levels { AreLevelsIn (N.column_kinds names.now) (of_base under.leaf.now.table) environment.now }
+        requires levels { AreLevelsIn (N.column_kinds names.now) (of_base under.leaf.now.table)
+            environment.now }
         requires columns { are_columns (length under.leaf.now.table.columns) self.old.bound ≡ true }
-        requires assigned { AllByRecursion (IsAssignment (N.column_kinds names.now) (kinds_of_parameters environment.now.parameters.now)
+        requires assigned { AllByRecursion (IsAssignment (N.column_kinds names.now)
+            (kinds_of_parameters environment.now.parameters.now)
             under.leaf.now.table) self.old.bound }
-        ensures columns { OnOk result (are_columns (length under.entry.leaf.now.table.columns) self.new.bound ≡ true) }
+        ensures columns { OnOk result (are_columns (length under.entry.leaf.now.table.columns) self.new.bound
+            ≡ true) }
         ensures assigned { OnOk result (AllByRecursion (IsAssignment (N.column_kinds names.now)
             (kinds_of_parameters environment.now.parameters.now) under.entry.leaf.now.table) self.new.bound) }
-        ensures written { (known : KnownTables) (before : List AnyAssignment) → AreSetTo (around known environment.now) under.entry.table.now.columns before self.old.bound
-            → OnOk result (AreSetTo (around known environment.now) under.entry.table.now.columns (before ++ assignment.now ∷ []) self.new.bound) }
+        ensures written { (known : KnownTables) (before : List AnyAssignment)
+            → AreSetTo (around known environment.now) under.entry.table.now.columns before self.old.bound
+            → OnOk result (AreSetTo (around known environment.now) under.entry.table.now.columns
+            (before ++ assignment.now ∷ []) self.new.bound) }
     {
         let receiver = receiver_of(under, assignment.column)?;
         push_receiver(&mut self.receivers, receiver)?;

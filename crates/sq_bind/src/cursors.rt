@@ -23,5 +23,6 @@ pub trait Cursors {
     fn cursor(&self, name: Name) -> Option<KnownCursor<'_>>
         ensures named { IfSome result (λ known. number_of self.now name ≡ Some known.number) }
         ensures number { IfSome result (λ known. known.number < cursor_count self.now) }
-        ensures columns { IfSome result (λ known. slice_get (cursor_kinds self.now) known.number ≡ Some (kinds_of_results known.cursor.now.columns)) };
+        ensures columns { IfSome result (λ known. slice_get (cursor_kinds self.now) known.number
+            ≡ Some (kinds_of_results known.cursor.now.columns)) };
 }

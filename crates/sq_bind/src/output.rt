@@ -21,7 +21,8 @@ pub(crate) fn bind_outputs(
     columns: &[ResultColumn],
 ) -> Result<Items<Output>, BindFault>
     ensures parameters { IfOk result (λ outputs. are_parameters (length parameters.now) outputs ≡ true) }
-    ensures kinds { IfOk result (λ outputs. TakeKinds (kinds_of_parameters parameters.now) outputs (kinds_of_results columns.now)) }
+    ensures kinds { IfOk result (λ outputs. TakeKinds (kinds_of_parameters parameters.now) outputs
+        (kinds_of_results columns.now)) }
     ensures written { IfOk result (λ outputs. AreOutputsOf parameters.now outputs (listed targets.now)) }
 {
     let outputs = listed_outputs(alloc, parameters, targets, columns)?;
@@ -36,7 +37,8 @@ fn listed_outputs(
     columns: &[ResultColumn],
 ) -> Result<Items<Output>, BindFault>
     ensures parameters { IfOk result (λ outputs. are_parameters (length parameters.now) outputs ≡ true) }
-    ensures kinds { IfOk result (λ outputs. TakeKinds (kinds_of_parameters parameters.now) outputs (kinds_of_results columns.now)) }
+    ensures kinds { IfOk result (λ outputs. TakeKinds (kinds_of_parameters parameters.now) outputs
+        (kinds_of_results columns.now)) }
     ensures written { IfOk result (λ outputs. AreOutputsOf parameters.now outputs (listed targets.now)) }
 {
     let Some((first, others)) = columns.split_first() else {
@@ -59,7 +61,8 @@ fn output_of(
     column: &ResultColumn,
 ) -> Result<Output, BindFault>
     ensures parameters { IfOk result (λ output. is_output (length parameters.now) output ≡ true) }
-    ensures kind { IfOk result (λ output. TakesKind (kinds_of_parameters parameters.now) output column.now.kind) }
+    ensures kind { IfOk result (λ output. TakesKind (kinds_of_parameters parameters.now) output
+        column.now.kind) }
     ensures written { IfOk result (λ output. IsOutputOf parameters.now output target.now) }
 {
     let (parameter, domain) = parameter_of(parameters, target.name)?;

@@ -71,10 +71,13 @@ pub(crate) fn bind_query<N: Names>(
     numbers: &mut SubqueryNumbers,
 ) -> JoinedResult
     requires { IsOutermost environment.now }
-    ensures well_formed { IfOk result (IsJoined (N.column_kinds names.now) (kinds_of_parameters environment.now.parameters.now)) }
+    ensures well_formed { IfOk result (IsJoined (N.column_kinds names.now)
+        (kinds_of_parameters environment.now.parameters.now)) }
     ensures numbering { IfOk result (QueryNumbering numbers.old numbers.new) }
-    ensures written { IfOk result (JoinedIs (query_placed (around (N.known names.now) environment.now) (query_of environment.now.user query.now))) }
-    ensures names { IfOk result (JoinedNamed (query_names_placed (N.known names.now) (query_of environment.now.user query.now))) }
+    ensures written { IfOk result (JoinedIs (query_placed (around (N.known names.now) environment.now)
+        (query_of environment.now.user query.now))) }
+    ensures names { IfOk result (JoinedNamed (query_names_placed (N.known names.now)
+        (query_of environment.now.user query.now))) }
 {
     let first = bind_query_term(&query.first, names, environment, numbers);
     let mut joined = started(environment.alloc, first);
@@ -93,10 +96,13 @@ fn bind_query_term<N: Names>(
     numbers: &mut SubqueryNumbers,
 ) -> TermResult
     requires { IsOutermost environment.now }
-    ensures well_formed { IfOk result (IsTerm (N.column_kinds names.now) (kinds_of_parameters environment.now.parameters.now)) }
+    ensures well_formed { IfOk result (IsTerm (N.column_kinds names.now)
+        (kinds_of_parameters environment.now.parameters.now)) }
     ensures numbering { IfOk result (TermNumbering numbers.old numbers.new) }
-    ensures written { IfOk result (TermIs (query_placed (around (N.known names.now) environment.now) (query_term_of environment.now.user term.now))) }
-    ensures names { IfOk result (TermNamed (query_names_placed (N.known names.now) (query_term_of environment.now.user term.now))) }
+    ensures written { IfOk result (TermIs (query_placed (around (N.known names.now) environment.now)
+        (query_term_of environment.now.user term.now))) }
+    ensures names { IfOk result (TermNamed (query_names_placed (N.known names.now)
+        (query_term_of environment.now.user term.now))) }
 {
     match term {
         QueryTerm::Specification(query) => {
@@ -125,12 +131,14 @@ fn copied(alloc: Global, columns: &Items<ResultColumn>) -> Result<Items<ResultCo
 }
 
 fn specification_term(alloc: Global, query: SubqueryResult) -> TermResult
-    ensures well_formed { (tables : TableKinds) (parameters : List AnyKind) → IfOk query (λ found. IsSelect tables parameters [] found.part)
+    ensures well_formed { (tables : TableKinds) (parameters : List AnyKind)
+        → IfOk query (λ found. IsSelect tables parameters [] found.part)
         → IfOk result (IsTerm tables parameters) }
     ensures numbering { (a b : ℕ) → IfOk query (Numbering SelectWith a b) → IfOk result (TermNumbering a b) }
     ensures written { (text : Outcome PlacedSelect) → IfOk query (Being (SelectIs text))
         → IfOk result (TermIs (and_then text (λ s. Ok (specification s)))) }
-    ensures names { (text : Outcome (List (Option AnyName))) → IfOk query (Being (NamesAre text)) → IfOk result (TermNamed text) }
+    ensures names { (text : Outcome (List (Option AnyName))) → IfOk query (Being (NamesAre text))
+        → IfOk result (TermNamed text) }
 {
     let found = query?;
     let lacks_privilege = found.findings.lacks_privilege;
@@ -144,11 +152,13 @@ fn specification_term(alloc: Global, query: SubqueryResult) -> TermResult
 }
 
 fn bracketed_term(alloc: Global, query: JoinedResult) -> TermResult
-    ensures well_formed { (tables : TableKinds) (parameters : List AnyKind) → IfOk query (IsJoined tables parameters)
+    ensures well_formed { (tables : TableKinds) (parameters : List AnyKind)
+        → IfOk query (IsJoined tables parameters)
         → IfOk result (IsTerm tables parameters) }
     ensures numbering { (a b : ℕ) → IfOk query (QueryNumbering a b) → IfOk result (TermNumbering a b) }
     ensures written { (text : Outcome PlacedQuery) → IfOk query (JoinedIs text) → IfOk result (TermIs text) }
-    ensures names { (text : Outcome (List (Option AnyName))) → IfOk query (JoinedNamed text) → IfOk result (TermNamed text) }
+    ensures names { (text : Outcome (List (Option AnyName))) → IfOk query (JoinedNamed text)
+        → IfOk result (TermNamed text) }
 {
     let Joined {
         query,
@@ -170,11 +180,13 @@ fn boxed_query(alloc: Global, query: BoundQuery) -> Result<Boxed<BoundQuery>, Bi
 }
 
 fn started(alloc: Global, term: TermResult) -> JoinedResult
-    ensures well_formed { (tables : TableKinds) (parameters : List AnyKind) → IfOk term (IsTerm tables parameters)
+    ensures well_formed { (tables : TableKinds) (parameters : List AnyKind)
+        → IfOk term (IsTerm tables parameters)
         → IfOk result (IsJoined tables parameters) }
     ensures numbering { (a b : ℕ) → IfOk term (TermNumbering a b) → IfOk result (QueryNumbering a b) }
     ensures written { (text : Outcome PlacedQuery) → IfOk term (TermIs text) → IfOk result (JoinedIs text) }
-    ensures names { (text : Outcome (List (Option AnyName))) → IfOk term (TermNamed text) → IfOk result (JoinedNamed text) }
+    ensures names { (text : Outcome (List (Option AnyName))) → IfOk term (TermNamed text)
+        → IfOk result (JoinedNamed text) }
 {
     let Term {
         term,
@@ -193,12 +205,16 @@ fn started(alloc: Global, term: TermResult) -> JoinedResult
 
 /// The query expression with a further term.
 fn with_union(alloc: Global, joined: JoinedResult, all: bool, term: TermResult) -> JoinedResult
-    ensures numbering { (a b c : ℕ) → IfOk joined (QueryNumbering a b) → IfOk term (TermNumbering b c) → IfOk result (QueryNumbering a c) }
-    ensures well_formed { (tables : TableKinds) (parameters : List AnyKind) → IfOk joined (IsJoined tables parameters)
+    ensures numbering { (a b c : ℕ) → IfOk joined (QueryNumbering a b) → IfOk term (TermNumbering b c)
+        → IfOk result (QueryNumbering a c) }
+    ensures well_formed { (tables : TableKinds) (parameters : List AnyKind)
+        → IfOk joined (IsJoined tables parameters)
         → IfOk term (IsTerm tables parameters) → IfOk result (IsJoined tables parameters) }
-    ensures written { (left right : Outcome PlacedQuery) → IfOk joined (JoinedIs left) → IfOk term (TermIs right)
+    ensures written { (left right : Outcome PlacedQuery) → IfOk joined (JoinedIs left)
+        → IfOk term (TermIs right)
         → IfOk result (JoinedIs (and_then left (λ x. and_then right (λ y. Ok (union all x y))))) }
-    ensures names { (left right : Outcome (List (Option AnyName))) → IfOk joined (JoinedNamed left) → IfOk term (TermNamed right)
+    ensures names { (left right : Outcome (List (Option AnyName))) → IfOk joined (JoinedNamed left)
+        → IfOk term (TermNamed right)
         → IfOk result (JoinedNamed (and_then left (λ ls. and_then right (λ rs. Ok (common_names ls rs))))) }
 {
     let (joined, term) = both(joined, term)?;
@@ -220,9 +236,11 @@ fn push_union(
     columns: Items<ResultColumn>,
     copy: Items<ResultColumn>,
 ) -> JoinedResult
-    ensures numbering { (a b c : ℕ) → QueryNumbering a b joined → TermNumbering b c term → IfOk result (QueryNumbering a c) }
+    ensures numbering { (a b c : ℕ) → QueryNumbering a b joined → TermNumbering b c term
+        → IfOk result (QueryNumbering a c) }
     ensures well_formed { (tables : TableKinds) (parameters : List AnyKind)
-        → AreCommon (out-BoundQuery joined.query).columns term.columns columns → copy ≡ columns → IsJoined tables parameters joined
+        → AreCommon (out-BoundQuery joined.query).columns term.columns columns → copy ≡ columns
+        → IsJoined tables parameters joined
         → IsTerm tables parameters term → IfOk result (IsJoined tables parameters) }
     ensures written { (left right : Outcome PlacedQuery) → JoinedIs left joined → TermIs right term
         → IfOk result (JoinedIs (and_then left (λ x. and_then right (λ y. Ok (union all x y))))) }
@@ -265,7 +283,8 @@ fn common_columns(
     right: &[ResultColumn],
 ) -> Result<Items<ResultColumn>, BindFault>
     ensures kinds { IfOk result (AreCommon left.now right.now) }
-    ensures names { IfOk result (λ columns. names_of columns ≡ common_names (names_of left.now) (names_of right.now)) }
+    ensures names { IfOk result (λ columns. names_of columns
+        ≡ common_names (names_of left.now) (names_of right.now)) }
 {
     if left.len() != right.len() {
         return Err(BindFault::CountMismatch);
@@ -279,7 +298,8 @@ fn common_columns(
 
 /// The column to which a column of each side is brought.
 fn common_column(left: &ResultColumn, right: &ResultColumn) -> Result<ResultColumn, BindFault>
-    ensures kind { IfOk result (λ column. Some column.kind ≡ result_ok (common_kind left.now.kind right.now.kind)) }
+    ensures kind { IfOk result (λ column. Some column.kind
+        ≡ result_ok (common_kind left.now.kind right.now.kind)) }
     ensures name { IfOk result (λ column. column.name ≡ common_name left.now.name right.now.name) }
 {
     let kind = union_kind(left.kind, right.kind)?;
@@ -300,7 +320,8 @@ fn common_name(left: Option<Name>, right: Option<Name>) -> Option<Name>
 
 /// The column that a sort specification names.
 fn sort_column(columns: &[ResultColumn], sort: &SortSpecification) -> Result<SortColumn, BindFault>
-    ensures { IfOk result (λ column. sort_columns (names_of columns.now) (sort.now ∷ []) ≡ Ok (sort_meant column ∷ [])) }
+    ensures { IfOk result (λ column. sort_columns (names_of columns.now) (sort.now ∷ [])
+        ≡ Ok (sort_meant column ∷ [])) }
 {
     let column = match &sort.key {
         SortKey::Column(name) => named_column(columns, *name)?,
@@ -341,9 +362,10 @@ fn named_column(columns: &[ResultColumn], wanted: Name) -> Result<usize, BindFau
     }
 }
 
-/// The position from 0 among so many columns that a number written without a point counts from 1.
+/// Converts a sort key that counts columns from 1 to a position, or refuses it where it is no whole number or no column has it.
 fn numbered_column(count: usize, number: Number) -> Result<usize, BindFault>
-    ensures { (names : List (Option AnyName)) → length names ≡ count → IfOk result (λ position. key_column names (Position number) ≡ Ok position) }
+    ensures { (names : List (Option AnyName)) → length names ≡ count
+        → IfOk result (λ position. key_column names (Position number) ≡ Ok position) }
 {
     if !is_whole(number) {
         return Err(BindFault::BadSortKey);
@@ -361,7 +383,8 @@ fn sort_columns(
     columns: &[ResultColumn],
     order_by: &Option<CommaList<SortSpecification>>,
 ) -> Result<Items<SortColumn>, BindFault>
-    ensures { IfOk result (λ sorts. sort_columns (names_of columns.now) (listed_if_any order_by.now) ≡ Ok (map sort_meant sorts)) }
+    ensures { IfOk result (λ sorts. sort_columns (names_of columns.now) (listed_if_any order_by.now)
+        ≡ Ok (map sort_meant sorts)) }
 {
     let mut sorts = Items::new(alloc);
     if let Some(list) = order_by {
@@ -376,7 +399,8 @@ fn sort_columns(
 /// The query specification that a query expression is, if there is no UNION; brackets around it change nothing.
 #[cycle(sole_specification)]
 fn sole_specification(query: &Query) -> Option<&QuerySpecification>
-    ensures written { (own : AnyName) → IfSome result (λ s. query_of own query.now ≡ specification (select_of own s.now)) }
+    ensures written { (own : AnyName) → IfSome result (λ s. query_of own query.now
+        ≡ specification (select_of own s.now)) }
 {
     if query.rest.is_empty() {
         sole_term(&query.first)
@@ -387,7 +411,8 @@ fn sole_specification(query: &Query) -> Option<&QuerySpecification>
 
 #[cycle(sole_specification)]
 fn sole_term(term: &QueryTerm) -> Option<&QuerySpecification>
-    ensures written { (own : AnyName) → IfSome result (λ s. query_term_of own term.now ≡ specification (select_of own s.now)) }
+    ensures written { (own : AnyName) → IfSome result (λ s. query_term_of own term.now
+        ≡ specification (select_of own s.now)) }
 {
     match term {
         QueryTerm::Specification(query) => Some(query),
@@ -398,7 +423,8 @@ fn sole_term(term: &QueryTerm) -> Option<&QuerySpecification>
 /// The query specification that a cursor's query is, where the cursor may be updatable (13.1; own rule): there is no UNION, and
 /// neither ORDER BY nor SCROLL nor INSENSITIVE is written.
 fn plain_specification(cursor: &Cursor) -> Option<&QuerySpecification>
-    ensures sole { (own : AnyName) → IfSome result (λ s. query_of own cursor.now.query ≡ specification (select_of own s.now)) }
+    ensures sole { (own : AnyName) → IfSome result (λ s. query_of own cursor.now.query
+        ≡ specification (select_of own s.now)) }
     ensures unsorted { IfSome result (λ s. listed_if_any cursor.now.order_by ≡ []) }
 {
     if cursor.insensitive || cursor.scroll || cursor.order_by.is_some() {
@@ -417,8 +443,10 @@ pub(crate) fn cursor_of<N: Names>(
 ) -> Result<BoundCursor, BindFault>
     requires outermost { IsOutermost environment.now }
     ensures fits { IfOk result (FitsCursor (N.base_tables names.now)) }
-    ensures well_formed { IfOk result (IsCursor (N.column_kinds names.now) (kinds_of_parameters environment.now.parameters.now)) }
-    ensures written { IfOk result (IsCursorOf (N.known names.now) environment.now.user environment.now.parameters.now cursor.now) }
+    ensures well_formed { IfOk result (IsCursor (N.column_kinds names.now)
+        (kinds_of_parameters environment.now.parameters.now)) }
+    ensures written { IfOk result (IsCursorOf (N.known names.now) environment.now.user
+        environment.now.parameters.now cursor.now) }
     ensures numbered { IfOk result (λ cursor. CursorHasNumbers cursor.body) }
 {
     match plain_specification(cursor) {
@@ -439,11 +467,14 @@ fn specification_cursor<N: Names>(
     numbers: &mut SubqueryNumbers,
 ) -> Result<BoundCursor, BindFault>
     requires outermost { IsOutermost environment.now }
-    requires sole { query_of environment.now.user cursor.now.query ≡ specification (select_of environment.now.user query.now) }
+    requires sole { query_of environment.now.user cursor.now.query
+        ≡ specification (select_of environment.now.user query.now) }
     requires unsorted { listed_if_any cursor.now.order_by ≡ [] }
     ensures fits { IfOk result (FitsCursor (N.base_tables names.now)) }
-    ensures well_formed { IfOk result (IsCursor (N.column_kinds names.now) (kinds_of_parameters environment.now.parameters.now)) }
-    ensures written { IfOk result (IsCursorOf (N.known names.now) environment.now.user environment.now.parameters.now cursor.now) }
+    ensures well_formed { IfOk result (IsCursor (N.column_kinds names.now)
+        (kinds_of_parameters environment.now.parameters.now)) }
+    ensures written { IfOk result (IsCursorOf (N.known names.now) environment.now.user
+        environment.now.parameters.now cursor.now) }
     ensures numbered { IfOk result (λ cursor. CursorHasNumbers cursor.body) }
 {
     let found = bind_select(
@@ -473,13 +504,16 @@ fn query_cursor(
     query: JoinedResult,
 ) -> Result<BoundCursor, BindFault>
     ensures fits { (bases : List AnyTable) → IfOk result (FitsCursor bases) }
-    ensures well_formed { (tables : TableKinds) (parameters : List AnyKind) → IfOk query (IsJoined tables parameters)
+    ensures well_formed { (tables : TableKinds) (parameters : List AnyKind)
+        → IfOk query (IsJoined tables parameters)
         → IfOk result (IsCursor tables parameters) }
     ensures words { IfOk result (HasWordsOf cursor.now) }
-    ensures rows { (text : Outcome PlacedQuery) → IfOk query (JoinedIs text) → IfOk result (λ cursor. IsReadOf text cursor.body) }
+    ensures rows { (text : Outcome PlacedQuery) → IfOk query (JoinedIs text)
+        → IfOk result (λ cursor. IsReadOf text cursor.body) }
     ensures order { (text : Outcome (List (Option AnyName))) → IfOk query (JoinedNamed text)
         → IfOk result (λ bound. IsSortedBy text (listed_if_any cursor.now.order_by) bound.body) }
-    ensures numbered { (a b : ℕ) → IfOk query (QueryNumbering a b) → IfOk result (λ cursor. CursorHasNumbers cursor.body) }
+    ensures numbered { (a b : ℕ) → IfOk query (QueryNumbering a b)
+        → IfOk result (λ cursor. CursorHasNumbers cursor.body) }
 {
     let Joined {
         query,
@@ -501,13 +535,16 @@ fn read_cursor(
     query: Found<BoundSpecification>,
 ) -> Result<BoundCursor, BindFault>
     ensures fits { (bases : List AnyTable) → IfOk result (FitsCursor bases) }
-    ensures well_formed { (tables : TableKinds) (parameters : List AnyKind) → IsSelect tables parameters [] query.part
+    ensures well_formed { (tables : TableKinds) (parameters : List AnyKind)
+        → IsSelect tables parameters [] query.part
         → IfOk result (IsCursor tables parameters) }
     ensures words { IfOk result (HasWordsOf cursor.now) }
     ensures rows { (text : Outcome PlacedSelect) → Being (SelectIs text) query
         → IfOk result (λ cursor. IsReadOf (and_then text (λ s. Ok (specification s))) cursor.body) }
-    ensures order { (text : Outcome (List (Option AnyName))) → Being (NamesAre text) query → IfOk result (λ cursor. IsSortedBy text [] cursor.body) }
-    ensures numbered { (a b : ℕ) → Numbering SelectWith a b query → IfOk result (λ cursor. CursorHasNumbers cursor.body) }
+    ensures order { (text : Outcome (List (Option AnyName))) → Being (NamesAre text) query
+        → IfOk result (λ cursor. IsSortedBy text [] cursor.body) }
+    ensures numbered { (a b : ℕ) → Numbering SelectWith a b query
+        → IfOk result (λ cursor. CursorHasNumbers cursor.body) }
 {
     let joined = started(alloc, specification_term(alloc, Ok(query)))?;
     rows_cursor(alloc, cursor, joined.query, Items::new(alloc))
@@ -524,10 +561,13 @@ fn rows_cursor(
     ensures well_formed { (tables : TableKinds) (parameters : List AnyKind) → IsQuery tables parameters query
         → IfOk result (IsCursor tables parameters) }
     ensures words { IfOk result (HasWordsOf cursor.now) }
-    ensures rows { (text : Outcome PlacedQuery) → QueryIs text query → IfOk result (λ cursor. IsReadOf text cursor.body) }
+    ensures rows { (text : Outcome PlacedQuery) → QueryIs text query
+        → IfOk result (λ cursor. IsReadOf text cursor.body) }
     ensures order { (text : Outcome (List (Option AnyName))) (by : List AnySort)
-        → and_then text (λ names. sort_columns names by) ≡ Ok (map sort_meant sorts) → IfOk result (λ cursor. IsSortedBy text by cursor.body) }
-    ensures numbered { (a b : ℕ) → AreNumbered QueryWith a b query → IfOk result (λ cursor. CursorHasNumbers cursor.body) }
+        → and_then text (λ names. sort_columns names by) ≡ Ok (map sort_meant sorts)
+        → IfOk result (λ cursor. IsSortedBy text by cursor.body) }
+    ensures numbered { (a b : ℕ) → AreNumbered QueryWith a b query
+        → IfOk result (λ cursor. CursorHasNumbers cursor.body) }
 {
     let columns = copied(alloc, &query.columns);
     let ((query, sorts), columns) = both(Ok((query, sorts)), columns)?;
@@ -549,7 +589,8 @@ fn updatable_cursor(
 ) -> Result<BoundCursor, BindFault>
     ensures fits { (bases : List AnyTable) → FitsQuery bases over.1 → IfOk result (FitsCursor bases) }
     ensures well_formed { (tables : TableKinds) (parameters : List AnyKind)
-        → IsUpdatable tables parameters (kinds_of_select query.part) over.1 → IfOk result (IsCursor tables parameters) }
+        → IsUpdatable tables parameters (kinds_of_select query.part) over.1
+        → IfOk result (IsCursor tables parameters) }
     ensures words { IfOk result (HasWordsOf cursor.now) }
     ensures body { IfOk result (λ cursor. cursor.body ≡ Updatable over.1) }
     ensures numbered { IfOk result (λ cursor. CursorHasNumbers cursor.body) }

@@ -55,7 +55,8 @@ pub fn bind_cursor<N: Names>(
     cursor: &Cursor,
 ) -> Result<BoundCursor, BindFault>
     ensures fits { IfOk result (FitsCursor (N.base_tables names.now)) }
-    ensures well_formed { IfOk result (IsCursor (N.column_kinds names.now) (kinds_of_parameters parameters.now)) }
+    ensures well_formed { IfOk result (IsCursor (N.column_kinds names.now)
+        (kinds_of_parameters parameters.now)) }
     ensures written { IfOk result (IsCursorOf (N.known names.now) user parameters.now cursor.now) }
     ensures numbered { IfOk result (λ cursor. CursorHasNumbers cursor.body) }
 {
@@ -82,14 +83,19 @@ pub fn bind_view<N: Names>(
     user: Name,
     query: &QuerySpecification,
 ) -> Result<BoundView, BindFault>
-    ensures fits { IfOk result (λ view. IfSome view.updatable (λ over. FitsQuery (N.base_tables names.now) over.1)) }
+    ensures fits { IfOk result (λ view. IfSome view.updatable
+        (λ over. FitsQuery (N.base_tables names.now) over.1)) }
     ensures well_formed { IfOk result (λ view. IsSelect (N.column_kinds names.now) [] [] view.query) }
-    ensures written { IfOk result (λ view. SelectIs (select_placed (record { known = N.known names.now; parameters = []; scopes = [] })
+    ensures written { IfOk result (λ view. SelectIs
+        (select_placed (record { known = N.known names.now; parameters = []; scopes = [] })
         (select_of user query.now)) view.query) }
-    ensures names { IfOk result (λ view. NamesAre (names_placed (N.known names.now) (select_of user query.now)) view.query) }
-    ensures updatable { IfOk result (λ view. IfSome view.updatable (λ over. IsUpdatable (N.column_kinds names.now) []
+    ensures names { IfOk result (λ view. NamesAre
+        (names_placed (N.known names.now) (select_of user query.now)) view.query) }
+    ensures updatable { IfOk result (λ view. IfSome view.updatable
+        (λ over. IsUpdatable (N.column_kinds names.now) []
         (kinds_of_select view.query) over.1)) }
-    ensures columns { IfOk result (λ view. IfSome view.updatable (λ _. AreColumns (out-BoundSpecification view.query).list)) }
+    ensures columns { IfOk result (λ view. IfSome view.updatable
+        (λ _. AreColumns (out-BoundSpecification view.query).list)) }
     ensures over { IfOk result (λ view. IfSome view.updatable (λ over. IsUpdatableOf (record {
       known = N.known names.now;
       parameters = [];
@@ -191,8 +197,10 @@ pub fn bind_check(
     columns: &[Column],
     cond: &Cond,
 ) -> Result<BoundCond, BindFault>
-    ensures well_formed { IfOk result (IsCond (only place (kinds_of_columns columns.now)) [] (of_base_at place) []) }
-    ensures written { IfOk result (CondIs [] (check_placed (record { user = table.0; name = table.1 }) columns.now cond.now)) }
+    ensures well_formed { IfOk result (IsCond (only place (kinds_of_columns columns.now)) []
+        (of_base_at place) []) }
+    ensures written { IfOk result (CondIs [] (check_placed (record { user = table.0; name = table.1 })
+        columns.now cond.now)) }
 {
     let (user, _) = table;
     let environment = Environment::new(alloc, user, &[]);
@@ -210,11 +218,13 @@ fn checked_over<'s>(
     item: &'s FromItem,
     environment: &'s Environment<'s>,
 ) -> Result<BoundCond, BindFault>
-    requires item { IsItemOver (only own.now.place (kinds_of_columns own.now.columns.now)) (Base own.now.place) item.now }
+    requires item { IsItemOver (only own.now.place (kinds_of_columns own.now.columns.now))
+        (Base own.now.place) item.now }
     requires outermost { IsOutermost environment.now }
     ensures well_formed { IfOk result (IsCond (only own.now.place (kinds_of_columns own.now.columns.now))
         (kinds_of_parameters environment.now.parameters.now) (of_base_at own.now.place) []) }
-    ensures written { IfOk result (CondIs [] (cond_placed (inside (item.now ∷ []) (around (λ _ _. None) environment.now))
+    ensures written { IfOk result (CondIs [] (cond_placed
+        (inside (item.now ∷ []) (around (λ _ _. None) environment.now))
         (cond_of environment.now.user cond.now))) }
 {
     let scope = environment.scope_over(from_ref(item), None);
@@ -251,7 +261,8 @@ pub fn bind_statement<N: Names, C: Cursors>(
     cursors: &C,
     statement: &Statement,
 ) -> Result<BoundStatement, BindFault>
-    ensures fits { IfOk result (FitsStatement (N.base_tables names.now) (C.cursor_count cursors.now) (length parameters.now)) }
+    ensures fits { IfOk result (FitsStatement (N.base_tables names.now) (C.cursor_count cursors.now)
+        (length parameters.now)) }
     ensures well_formed { IfOk result (IsStatement (N.column_kinds names.now) (C.cursor_kinds cursors.now)
         (kinds_of_parameters parameters.now)) }
     ensures written { IfOk result (IsStatementOf (N.known names.now)
@@ -275,7 +286,8 @@ fn statement_of<N: Names, C: Cursors>(
     ensures well_formed { IfOk result (IsStatement (N.column_kinds names.now) (C.cursor_kinds cursors.now)
         (kinds_of_parameters environment.now.parameters.now)) }
     ensures written { IfOk result (IsStatementOf (N.known names.now)
-        (λ name number. C.number_of cursors.now name ≡ Some number) environment.now.user environment.now.parameters.now statement.now) }
+        (λ name number. C.number_of cursors.now name ≡ Some number) environment.now.user
+        environment.now.parameters.now statement.now) }
 {
     match statement {
         Statement::Open(name) => Ok(BoundStatement::Open(known(cursors, *name)?.number)),
@@ -352,12 +364,16 @@ fn bind_row<N: Names>(
     numbers: &mut SubqueryNumbers,
 ) -> Result<BoundSelect, BindFault>
     requires { IsOutermost environment.now }
-    ensures parameters { IfOk result (λ row. are_parameters (length environment.now.parameters.now) row.outputs ≡ true) }
-    ensures query { IfOk result (λ row. IsSelect (N.column_kinds names.now) (kinds_of_parameters environment.now.parameters.now) []
+    ensures parameters { IfOk result (λ row. are_parameters (length environment.now.parameters.now)
+        row.outputs ≡ true) }
+    ensures query { IfOk result (λ row. IsSelect (N.column_kinds names.now)
+        (kinds_of_parameters environment.now.parameters.now) []
         row.query) }
-    ensures kinds { IfOk result (λ row. TakeKinds (kinds_of_parameters environment.now.parameters.now) row.outputs
+    ensures kinds { IfOk result (λ row. TakeKinds (kinds_of_parameters environment.now.parameters.now)
+        row.outputs
         (kinds_of_select row.query)) }
-    ensures written { IfOk result (IsRowOf (around (N.known names.now) environment.now) environment.now.user select.now) }
+    ensures written { IfOk result (IsRowOf (around (N.known names.now) environment.now) environment.now.user
+        select.now) }
 {
     let query = bind_select(
         &select.table,
@@ -385,11 +401,15 @@ fn bind_fetch<C: Cursors>(
     cursors: &C,
 ) -> Result<BoundFetch, BindFault>
     ensures cursor { IfOk result (λ bound. bound.cursor < C.cursor_count cursors.now) }
-    ensures outputs { IfOk result (λ bound. are_parameters (length environment.now.parameters.now) bound.outputs ≡ true) }
-    ensures orientation { IfOk result (λ bound. IsOrientation (kinds_of_parameters environment.now.parameters.now) bound.orientation) }
-    ensures kinds { IfOk result (λ bound. Has (TakeKinds (kinds_of_parameters environment.now.parameters.now) bound.outputs)
+    ensures outputs { IfOk result (λ bound. are_parameters (length environment.now.parameters.now)
+        bound.outputs ≡ true) }
+    ensures orientation { IfOk result (λ bound. IsOrientation
+        (kinds_of_parameters environment.now.parameters.now) bound.orientation) }
+    ensures kinds { IfOk result (λ bound. Has
+        (TakeKinds (kinds_of_parameters environment.now.parameters.now) bound.outputs)
         (well_formed (slice_get (C.cursor_kinds cursors.now) bound.cursor))) }
-    ensures written { IfOk result (IsFetchOf (λ name number. C.number_of cursors.now name ≡ Some number) environment.now.parameters.now
+    ensures written { IfOk result (IsFetchOf (λ name number. C.number_of cursors.now name ≡ Some number)
+        environment.now.parameters.now
         fetch.now) }
 {
     let known = known(cursors, fetch.cursor)?;

@@ -1,17 +1,14 @@
 //! Updatable queries and targets (ISO/IEC 9075:1992, 7.9, 13.6 to 13.10).
 
-ghost use Rattle.std.specs.Prelude.{◌≡◌, ◌∷◌, [], is_some, map, nat_lt, length, true, Some, IfOk, IfSome, IsTrue};
-ghost use Rattle.std.specs.List.{AllByRecursion, list_all, list_any};
+ghost use Rattle.std.specs.Prelude.{◌≡◌, ◌∷◌, [], false, is_some, nat_lt, length, true, Some, IfOk, IfSome};
+ghost use Rattle.std.specs.List.{AllByRecursion, list_all};
 ghost use Rattle.sq_bound.specs.Fits.{FitsQuery, IsBase};
-ghost use Rattle.sq_bound.specs.Condition.{test_of};
-ghost use Rattle.sq_bound.specs.Expression.{expr_of};
-ghost use Rattle.sq_bound.specs.Keyed.{column_named, is_constant, is_named_by, is_plain_base, names_column, names_one_of, start_with_key};
+ghost use Rattle.sq_bound.specs.Keyed.{IsKeyNoted, is_named_by, is_plain_base, is_shortest_of};
 ghost use Rattle.sq_bound.specs.Names.{is_kind_at, option_all};
 ghost use Rattle.sq_bound.specs.Quiet.{is_sure};
 ghost use Rattle.sq_bound.specs.WellFormed.{IsLeaf, IsSelect, IsTarget, IsUpdatable, base_kinds, kinds_of_parameters, kinds_of_select, place_of};
 ghost use Rattle.sq_bound.specs.declared.condition.BoundSpecification.{out-BoundSpecification};
 ghost use Rattle.sq_bound.specs.declared.condition.TablePlace.TheVariants.{Base};
-ghost use Rattle.sq_tree.specs.declared.cond.Comparison.TheVariants.{Equal};
 ghost use Rattle.sq_scope.specs.WellFormed.{IsItemOver};
 ghost use Rattle.sq_bind.specs.WellFormed.{IsOutermost};
 ghost use Rattle.sq_bind.specs.Updatable.{AreColumns, AreLeaves, IsAmong, IsLeafOf, IsOnlyTable};
@@ -22,14 +19,14 @@ ghost use Rattle.sq_select.specs.Placed.{around, clause_placed, inside, select_p
 ghost use Rattle.sq_select.specs.Written.{ClauseIs, SelectIs};
 
 use sq_bound::{
-    BindFault, BoundCond, BoundExpr, BoundSpecification, BoundTest, Column, Leaf, Names, Predicate,
-    Shared, TableBody, TableDesc, Target, UpdatableQuery, is_sure,
+    BindFault, BoundCond, BoundExpr, BoundSpecification, Column, Leaf, Names, Shared, TableBody,
+    TableDesc, Target, UpdatableQuery, is_sure, shortest_key,
 };
 use sq_items::Items;
 use sq_lex::Name;
 use sq_scope::{Environment, Findings, Found, FromItem, SetFunctions, both, item_over};
 use sq_select::{SubqueryNumbers, bind_cond, correlation_of, named_table, reference_of};
-use sq_tree::{Comparison, Cond, QuerySpecification, SelectList};
+use sq_tree::{Cond, QuerySpecification, SelectList};
 use std::alloc::Global;
 use std::slice::from_ref;
 
@@ -41,10 +38,13 @@ fn only_table<'a, N: Names>(
     names: &'a N,
     user: Name,
 ) -> Result<Option<Under<'a>>, BindFault>
-    ensures base { IfOk result (λ found. IfSome found (λ under. IsBase (N.base_tables names.now) under.leaf.now.table)) }
-    ensures leaf { IfOk result (λ found. IfSome found (λ under. IsLeaf (N.column_kinds names.now) under.leaf.now)) }
+    ensures base { IfOk result (λ found. IfSome found
+        (λ under. IsBase (N.base_tables names.now) under.leaf.now.table)) }
+    ensures leaf { IfOk result (λ found. IfSome found
+        (λ under. IsLeaf (N.column_kinds names.now) under.leaf.now)) }
     ensures own { IfOk result (λ found. IfSome found (λ under. under.table.now.leaf ≡ Some under.leaf.now)) }
-    ensures only { IfOk result (λ found. IfSome found (λ under. IsOnlyTable (N.known names.now) (N.column_kinds names.now) user query.now
+    ensures only { IfOk result (λ found. IfSome found
+        (λ under. IsOnlyTable (N.known names.now) (N.column_kinds names.now) user query.now
         bound.now under.table.now)) }
 {
     let from = &query.table.from;
@@ -65,13 +65,18 @@ pub(crate) fn bind_updatable<N: Names>(
     numbers: &mut SubqueryNumbers,
 ) -> Result<Option<((Name, Name), UpdatableQuery)>, BindFault>
     requires outermost { IsOutermost environment.now }
-    requires bound { IsSelect (N.column_kinds names.now) (kinds_of_parameters environment.now.parameters.now) [] bound.now }
-    requires text { SelectIs (select_placed (around (N.known names.now) environment.now) (select_of environment.now.user query.now)) bound.now }
-    ensures fits { IfOk result (λ found. IfSome found (λ query. FitsQuery (N.base_tables names.now) query.1)) }
+    requires bound { IsSelect (N.column_kinds names.now) (kinds_of_parameters environment.now.parameters.now)
+        [] bound.now }
+    requires text { SelectIs (select_placed (around (N.known names.now) environment.now)
+        (select_of environment.now.user query.now)) bound.now }
+    ensures fits { IfOk result (λ found. IfSome found
+        (λ query. FitsQuery (N.base_tables names.now) query.1)) }
     ensures well_formed { IfOk result (λ found. IfSome found (λ query. IsUpdatable (N.column_kinds names.now)
         (kinds_of_parameters environment.now.parameters.now) (kinds_of_select bound.now) query.1)) }
-    ensures columns { IfOk result (λ found. IfSome found (λ _. AreColumns (out-BoundSpecification bound.now).list)) }
-    ensures written { IfOk result (λ found. IfSome found (λ over. IsUpdatableOf (around (N.known names.now) environment.now)
+    ensures columns { IfOk result (λ found. IfSome found
+        (λ _. AreColumns (out-BoundSpecification bound.now).list)) }
+    ensures written { IfOk result (λ found. IfSome found
+        (λ over. IsUpdatableOf (around (N.known names.now) environment.now)
         (select_of environment.now.user query.now) over.1)) }
 {
     match only_table(query, bound, names, environment.user)? {
@@ -91,15 +96,21 @@ fn updatable_over<N: Names>(
     requires base { IsBase (N.base_tables names.now) under.leaf.now.table }
     requires leaf { IsLeaf (N.column_kinds names.now) under.leaf.now }
     requires own { under.table.now.leaf ≡ Some under.leaf.now }
-    requires only { IsOnlyTable (N.known names.now) (N.column_kinds names.now) environment.now.user query.now bound.now under.table.now }
+    requires only { IsOnlyTable (N.known names.now) (N.column_kinds names.now) environment.now.user query.now
+        bound.now under.table.now }
     requires outermost { IsOutermost environment.now }
-    requires bound { IsSelect (N.column_kinds names.now) (kinds_of_parameters environment.now.parameters.now) [] bound.now }
-    requires text { SelectIs (select_placed (around (N.known names.now) environment.now) (select_of environment.now.user query.now)) bound.now }
-    ensures fits { IfOk result (λ found. IfSome found (λ query. FitsQuery (N.base_tables names.now) query.1)) }
+    requires bound { IsSelect (N.column_kinds names.now) (kinds_of_parameters environment.now.parameters.now)
+        [] bound.now }
+    requires text { SelectIs (select_placed (around (N.known names.now) environment.now)
+        (select_of environment.now.user query.now)) bound.now }
+    ensures fits { IfOk result (λ found. IfSome found
+        (λ query. FitsQuery (N.base_tables names.now) query.1)) }
     ensures well_formed { IfOk result (λ found. IfSome found (λ query. IsUpdatable (N.column_kinds names.now)
         (kinds_of_parameters environment.now.parameters.now) (kinds_of_select bound.now) query.1)) }
-    ensures columns { IfOk result (λ found. IfSome found (λ _. AreColumns (out-BoundSpecification bound.now).list)) }
-    ensures written { IfOk result (λ found. IfSome found (λ over. IsUpdatableOf (around (N.known names.now) environment.now)
+    ensures columns { IfOk result (λ found. IfSome found
+        (λ _. AreColumns (out-BoundSpecification bound.now).list)) }
+    ensures written { IfOk result (λ found. IfSome found
+        (λ over. IsUpdatableOf (around (N.known names.now) environment.now)
         (select_of environment.now.user query.now) over.1)) }
 {
     let correlation = correlation_of(&query.table.from.first);
@@ -129,6 +140,13 @@ impl Under<'_> {
         ensures { result ≡ self.now.leaf.now.table.place }
     {
         self.leaf.get().table.get().place
+    }
+
+    /// The keys of the base table.
+    fn keys(&self) -> &[Items<usize>]
+        ensures { result.now ≡ self.now.leaf.now.table.keys }
+    {
+        self.leaf.get().table.get().keys.as_slice()
     }
 }
 
@@ -262,10 +280,14 @@ pub(crate) fn bind_target<'s, N: Names>(
     requires outermost { IsOutermost environment.now }
     ensures table { IfOk result (λ found. found.part.table ≡ place_of under.entry.table.now.body) }
     ensures leaf { IfOk result (λ found. found.part.leaf ≡ under.entry.leaf.now) }
-    ensures well_formed { IfOk result (λ found. IsTarget (N.column_kinds names.now) (kinds_of_parameters environment.now.parameters.now)
+    ensures well_formed { IfOk result (λ found. IsTarget (N.column_kinds names.now)
+        (kinds_of_parameters environment.now.parameters.now)
         found.part) }
     ensures condition { IfOk result (λ found. is_some found.part.condition ≡ is_some cond.entry) }
-    ensures written { IfOk result (λ found. ClauseIs [] (clause_placed (inside (item.now ∷ []) (around (N.known names.now) environment.now))
+    ensures key { IfOk result (λ found. found.findings.has_subquery ≡ false
+        → IsKeyNoted under.entry.table.now.body found.part.leaf found.part.condition found.part.key) }
+    ensures written { IfOk result (λ found. ClauseIs []
+        (clause_placed (inside (item.now ∷ []) (around (N.known names.now) environment.now))
         (clause (option_map (λ c. cond_of environment.now.user c.now) cond.entry))) found.part.condition) }
 {
     let Some(cond) = cond else {
@@ -281,11 +303,7 @@ pub(crate) fn bind_target<'s, N: Names>(
     );
     drop(functions);
     let Found { part, findings } = condition?;
-    let key = if findings.has_subquery {
-        None
-    } else {
-        key_of(&part, under)
-    };
+    let key = key_of(&part, findings, under);
     whole_target(Some(part), findings, key, under)
 }
 
@@ -295,10 +313,12 @@ fn whole_target(
     key: Option<usize>,
     under: Under<'_>,
 ) -> Result<Found<Target>, BindFault>
-    requires { option_all (is_named_by under.leaf.now condition) key ≡ true }
+    requires named { option_all (is_named_by under.leaf.now condition) key ≡ true }
+    requires shortest { option_all (is_shortest_of under.leaf.now condition) key ≡ true }
     ensures table { IfOk result (λ found. found.part.table ≡ place_of under.entry.table.now.body) }
     ensures leaf { IfOk result (λ found. found.part.leaf ≡ under.entry.leaf.now) }
     ensures condition { IfOk result (λ found. found.part.condition ≡ condition) }
+    ensures key { IfOk result (λ found. (found.part.key ≡ key) × (found.findings ≡ findings)) }
 {
     let (condition, leaf) = both(Ok(condition), under.leaf.share())?;
     let is_quiet = is_sure_where(&condition) && leaf.get().is_quiet;
@@ -325,111 +345,18 @@ fn is_sure_where(condition: &Option<BoundCond>) -> bool
     }
 }
 
-/// The first key by which a condition on a base table names a row: the condition is one term, and its first tests say
-/// `column = x` for the columns of the key, each with a literal or a parameter x.
-fn key_of(condition: &BoundCond, under: Under<'_>) -> Option<usize>
-    ensures { option_all (is_named_by under.entry.leaf.now (Some condition.now)) result ≡ true }
+/// The key with the fewest columns by which a condition on a base table, if it has no subquery, names a row.
+fn key_of(condition: &BoundCond, findings: Findings, under: Under<'_>) -> Option<usize>
+    ensures named { option_all (is_named_by under.entry.leaf.now (Some condition.now)) result ≡ true }
+    ensures shortest { option_all (is_shortest_of under.entry.leaf.now (Some condition.now)) result ≡ true }
+    ensures noted { findings.has_subquery ≡ false
+        → IsKeyNoted under.entry.table.now.body under.entry.leaf.now (Some condition.now) result }
 {
-    let (TableBody::Base(_), [term]) = (&under.table.body, condition.terms.as_slice()) else {
-        return None;
-    };
-    let base = under.leaf.get().table.get();
-    for (number, key) in base.keys.as_slice().iter().enumerate() {
-        if starts_with_key(term.tests.as_slice(), key.as_slice()) {
-            return Some(number);
-        }
-    }
-    None
-}
-
-/// Whether the first tests name the columns of a key and no other, in any order.
-fn starts_with_key(tests: &[BoundTest], key: &[usize]) -> bool
-    ensures { IsTrue result → start_with_key key.now (map (test_of []) tests.now) ≡ true }
-{
-    if tests.len() < key.len() {
-        return false;
-    }
-    let first = &tests[..key.len()];
-    name_columns_of(first, key) && are_named(key, first)
-}
-
-/// Whether each test names a column of the key.
-fn name_columns_of(tests: &[BoundTest], key: &[usize]) -> bool
-    ensures { IsTrue result → list_all (names_one_of key.now) (map (test_of []) tests.now) ≡ true }
-{
-    for test in tests {
-        if !names_one_of(test, key) {
-            return false;
-        }
-    }
-    true
-}
-
-fn names_one_of(test: &BoundTest, key: &[usize]) -> bool
-    ensures { IsTrue result → names_one_of key.now (test_of [] test.now) ≡ true }
-{
-    match column_named(test) {
-        Some(column) => key.contains(&column),
-        None => false,
-    }
-}
-
-/// Whether each column of the key is named by a test.
-fn are_named(key: &[usize], tests: &[BoundTest]) -> bool
-    ensures { IsTrue result → list_all (λ n. list_any (names_column n) (map (test_of []) tests.now)) key.now ≡ true }
-{
-    for column in key {
-        if !is_named(*column, tests) {
-            return false;
-        }
-    }
-    true
-}
-
-fn is_named(column: usize, tests: &[BoundTest]) -> bool
-    ensures { IsTrue result → list_any (names_column column) (map (test_of []) tests.now) ≡ true }
-{
-    for test in tests {
-        if column_named(test) == Some(column) {
-            return true;
-        }
-    }
-    false
-}
-
-/// The column that a test `column = x` names, with a literal or a parameter x.
-fn column_named(test: &BoundTest) -> Option<usize>
-    ensures { IfSome result (λ n. column_named (test_of [] test.now) ≡ Some n) }
-{
-    let Predicate::Compare(comparison, left, right) = &test.predicate else {
-        return None;
-    };
-    if test.negated || !is_equality(*comparison) || !is_constant(right) {
+    if findings.has_subquery {
         return None;
     }
-    match left {
-        BoundExpr::Column(place) if place.depth == 0 => Some(place.column),
-        _ => None,
-    }
-}
-
-/// Whether a comparison operator is `=`.
-fn is_equality(comparison: Comparison) -> bool
-    ensures { IsTrue result → comparison ≡ Equal }
-{
-    match comparison {
-        Comparison::Equal => true,
-        _ => false,
-    }
-}
-
-/// Whether an expression is a literal, with or without a sign, or a parameter.
-fn is_constant(expr: &BoundExpr) -> bool
-    ensures { IsTrue result → is_constant (expr_of [] expr.now) ≡ true }
-{
-    match expr {
-        BoundExpr::Literal(_) | BoundExpr::Parameter(_) => true,
-        BoundExpr::Negated(operand) => matches!(operand.get(), BoundExpr::Literal(_)),
-        _ => false,
+    match &under.table.body {
+        TableBody::Base(_) => shortest_key(under.keys(), condition),
+        TableBody::View(_) => None,
     }
 }

@@ -2,7 +2,7 @@
 use Rattle.std.proofs.Common.{◌≡◌, ℕ, List, [], ◌∷◌, refl, sym, ◌∙◌, ap, map}
 use Rattle.std.specs.Prelude.{fold, slice_index_or}
 use Rattle.sq_value.specs.declared.value.Value.{Value}
-use Rattle.sq_tree.specs.declared.expr.Sign.TheVariants as sign
+use Rattle.sq_tree.specs.declared.expr.Sign.{Sign}
 use Rattle.sq_meaning.specs.Syntax.{literal, parameter, user, column, signed}
 use Rattle.sq_bound.specs.declared.expression.Place.{Place}
 use Rattle.sq_bound.specs.declared.expression.Input.{Input}
@@ -32,9 +32,9 @@ pub expr_of-SetFunction : (functions : List PlacedExpr) (n : ℕ) → expr_of fu
 unfolding expr_of
 expr_of-SetFunction functions n = ap (expr_of functions) (sym (bound.rolls-SetFunction n)) ∙ fold-roll-BoundExpr _ _ _ _ (layer.SetFunction n)
 
-pub expr_of-Negated : (functions : List PlacedExpr) (e : BoundExpr) → expr_of functions (bound.Negated e) ≡ signed sign.Minus (expr_of functions e)
+pub expr_of-Signed : (functions : List PlacedExpr) (sign : Sign) (e : BoundExpr) → expr_of functions (bound.Signed sign e) ≡ signed sign (expr_of functions e)
 unfolding expr_of
-expr_of-Negated functions e = ap (expr_of functions) (sym (bound.rolls-Negated e)) ∙ fold-roll-BoundExpr _ _ _ _ (layer.Negated e)
+expr_of-Signed functions sign e = ap (expr_of functions) (sym (bound.rolls-Signed sign e)) ∙ fold-roll-BoundExpr _ _ _ _ (layer.Signed sign e)
 
 pub fold_mapped : {A B C : Type 0} (f : C → A → C) (g : B → A) (c : C) (bs : List B) → fold f c (map g bs) ≡ fold (λ x b. f x (g b)) c bs
 fold_mapped f g c [] = refl
@@ -48,4 +48,4 @@ pub operation_of-out : (functions : List PlacedExpr) (o : Operation) (left : Pla
 unfolding expr_of operation_of
 operation_of-out functions o left = ap (λ (f : PlacedExpr → PlacedExpr). f left) (fold_out-Operation _ _ _ _ o)
 
-pub ruleset expr_of_levels = (expr_of-Literal, expr_of-Parameter, expr_of-User, expr_of-Column, expr_of-SetFunction, expr_of-Negated, expr_of-Operations, operation_of-out)
+pub ruleset expr_of_levels = (expr_of-Literal, expr_of-Parameter, expr_of-User, expr_of-Column, expr_of-SetFunction, expr_of-Signed, expr_of-Operations, operation_of-out)

@@ -1,9 +1,11 @@
 pub mod ClosedQueries
 pub mod ColumnLaws
+pub mod ColumnTests
 pub mod ConditionLaws
 pub mod ExpressionLaws
 pub mod FirstRows
 pub mod JoinedLaws
+pub mod Keys
 pub mod Nested
 pub mod Numbered
 pub mod QueryLaws

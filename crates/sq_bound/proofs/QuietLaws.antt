@@ -7,6 +7,7 @@ use Rattle.std.specs.List.{list_all}
 use Rattle.std.specs.Option.{is_some, option_map}
 use Rattle.sq_value.specs.declared.value.Value.{Value}
 use Rattle.sq_tree.specs.declared.cond.Comparison.{Comparison}
+use Rattle.sq_tree.specs.declared.expr.Sign.{Sign}
 use Rattle.sq_meaning.specs.Syntax.{conds}
 use Rattle.sq_meaning.specs.Quiet.{has_no_escape, is_quiet, are_quiet, is_quiet_expr}
 use Rattle.sq_bound.specs.Condition.{PlacedCond, PlacedSelect, cond_of, conj_of, test_of, predicate_of, select_of, not_if, compared_with}
@@ -27,7 +28,7 @@ use Rattle.sq_bound.specs.declared.expression.Operator.{Operator}
 use Rattle.sq_bound.specs.declared.expression.Operator.TheVariants.{Plus, Minus, Times, Over}
 use Rattle.sq_bound.specs.declared.expression.Place.{Place}
 use Rattle.sq_bound.proofs.ConditionLaws.{cond_of-out, conj_of-out, test_of-out, predicate_of-Compare, predicate_of-CompareQuery, predicate_of-Between, predicate_of-InQuery, predicate_of-InList, predicate_of-Like, predicate_of-Null, predicate_of-Exists, predicate_of-Bracketed}
-use Rattle.sq_bound.proofs.ExpressionLaws.{expr_of-Literal, expr_of-Parameter, expr_of-User, expr_of-Column, expr_of-SetFunction, expr_of-Negated, expr_of-Operations, operation_of-out}
+use Rattle.sq_bound.proofs.ExpressionLaws.{expr_of-Literal, expr_of-Parameter, expr_of-User, expr_of-Column, expr_of-SetFunction, expr_of-Signed, expr_of-Operations, operation_of-out}
 
 -- ---- expressions
 
@@ -46,8 +47,8 @@ quiet-Column p = ap is_quiet_expr (expr_of-Column [] p)
 quiet-SetFunction : (n : ℕ) → is_quiet_expr (expr_of [] (expr.SetFunction n)) ≡ true
 quiet-SetFunction n = ap is_quiet_expr (expr_of-SetFunction [] n)
 
-pub quiet-Negated : (e : BoundExpr) → is_quiet_expr (expr_of [] (expr.Negated e)) ≡ is_quiet_expr (expr_of [] e)
-quiet-Negated e = ap is_quiet_expr (expr_of-Negated [] e)
+pub quiet-Signed : (sign : Sign) (e : BoundExpr) → is_quiet_expr (expr_of [] (expr.Signed sign e)) ≡ is_quiet_expr (expr_of [] e)
+quiet-Signed sign e = ap is_quiet_expr (expr_of-Signed [] sign e)
 
 operated_not : (o : Operator) (a b : PlacedExpr) → is_quiet_expr (operated o a b) ≡ false
 operated_not Plus a b = refl

@@ -43,7 +43,7 @@ expr_layer functions (layer.Parameter p) = parameter (parameter_meant p)
 expr_layer functions layer.User = user
 expr_layer functions (layer.Column p) = column (place_meant p)
 expr_layer functions (layer.SetFunction n) = slice_index_or functions n missing
-expr_layer functions (layer.Negated e) = signed sign.Minus e
+expr_layer functions (layer.Signed sign e) = signed sign e
 expr_layer functions (layer.Operations first rest) = fold (λ left operation. operation left) first rest
 
 abbrev pub operation_layer : Operation-F PlacedExpr (PlacedExpr → PlacedExpr) → PlacedExpr → PlacedExpr

@@ -1,7 +1,7 @@
 //! Value expressions with their columns as places.
 
 use sq_items::{Boxed, Items};
-use sq_tree::SetFunction;
+use sq_tree::{SetFunction, Sign};
 use sq_value::Value;
 
 /// Where a column's value stands: how many queries further out, in which item of that query's FROM clause, and in which
@@ -40,7 +40,7 @@ pub enum BoundExpr {
     Column(Place),
     /// The value of the group's set function with this number.
     SetFunction(usize),
-    Negated(Boxed<BoundExpr>),
+    Signed(Sign, Boxed<BoundExpr>),
     /// An operand, and further ones, each with the operator before it; performed from left to right.
     Operations(Boxed<BoundExpr>, Items<Operation>),
 }

@@ -1,5 +1,5 @@
 //! Why a statement, a query or a condition is not well formed. The faults have the names of the definition's
-//! (`BindingFault` of sq_model); `NotInCheck` is none of a statement.
+//! (`BindingFault` of sq_rules); `NotInCheck` is none of a statement.
 
 ghost use Rattle.std.specs.Prelude.{◌≡◌};
 

@@ -5,6 +5,7 @@
 mod condition;
 mod expression;
 mod fault;
+mod keyed;
 mod names;
 mod query;
 mod quiet;
@@ -17,6 +18,7 @@ pub use condition::{
 };
 pub use expression::{Aggregate, BoundExpr, Input, Operation, Operator, Place, SetFunctionCall};
 pub use fault::BindFault;
+pub use keyed::{equal_sides, own_column, shortest_key};
 pub use names::{
     Action, BaseColumn, BaseTable, Column, ColumnDefault, KnownCursor, Leaf, Names, ObjectColumn,
     ParameterDesc, Reference, TableBody, TableDesc, View,

@@ -1,7 +1,7 @@
 //! Query expressions and cursors with their names as places.
 
 ghost use Rattle.std.specs.Prelude.{◌≡◌, ◌&&◌, true};
-ghost use Rattle.sq_bound.specs.Keyed.{is_named_by};
+ghost use Rattle.sq_bound.specs.Keyed.{is_named_by, is_shortest_of};
 ghost use Rattle.sq_bound.specs.Names.{option_all};
 ghost use Rattle.sq_bound.specs.Quiet.{are_sure, is_sure};
 
@@ -55,13 +55,14 @@ pub struct Target {
     pub leaf: Shared<Leaf>,
     /// The condition on a row of the base table.
     pub condition: Option<BoundCond>,
-    /// The key of the base table whose columns the condition's first tests compare, each with a literal or a parameter; the
-    /// condition is one term, and no view is in between.
+    /// The key of the base table whose columns the condition's first tests compare, each with a literal or a parameter: one
+    /// with the fewest columns, where there are more. The condition is one term, and no view is in between.
     pub key: Option<usize>,
     /// Whether the truth of no condition, those of the views included, is ever a fault.
     pub is_quiet: bool,
     ghost is_under: { base ≡ leaf.table.place },
     ghost keyed: { option_all (is_named_by leaf condition) key ≡ true },
+    ghost shortest: { option_all (is_shortest_of leaf condition) key ≡ true },
     ghost quiet: { is_quiet ≡ (are_sure leaf.conditions && option_all is_sure condition) },
 }
 

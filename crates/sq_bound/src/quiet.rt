@@ -72,7 +72,7 @@ fn is_sure_expr(expr: &BoundExpr) -> bool
         | BoundExpr::User
         | BoundExpr::Column(_)
         | BoundExpr::SetFunction(_) => true,
-        BoundExpr::Negated(operand) => is_sure_expr(operand.get()),
+        BoundExpr::Signed(_, operand) => is_sure_expr(operand.get()),
         BoundExpr::Operations(first, rest) => rest.is_empty() && is_sure_expr(first.get()),
     }
 }

@@ -1,10 +1,10 @@
 //! The session that the texts of a run open.
-ghost use Rattle.std.specs.Prelude.{◌≡◌, ◌≤◌, length, IfOk, IfSome};
+ghost use Rattle.std.specs.Prelude.{◌≡◌, ◌≤◌, length, IfOk};
 ghost use Rattle.sq_store.specs.Content.{no_rows};
 ghost use Rattle.sq_bound.specs.Fits.{keys_of_bases};
 
 use crate::run::Run;
-use sq_catalog::{Catalog, Limits};
+use sq_catalog::Catalog;
 use sq_lex::lex;
 use sq_parse::{parse_module, parse_schema, parse_script};
 use sq_session::Session;
@@ -32,15 +32,17 @@ pub fn open_run<S: Store>(alloc: Global, run: &Run) -> Option<OpenRun<S>> {
 }
 
 fn session_of<S: Store>(alloc: Global, run: &Run) -> Option<Session<S>> {
-    let limits = Limits {
-        row_numbers: run.row_numbers.min(MOST_ROW_NUMBERS),
-    };
-    let catalog = catalog_of(alloc, run.schemas.as_slice(), limits)?;
+    let catalog = catalog_of(alloc, run.schemas.as_slice())?;
     let Some(modules) = modules_of(alloc, run.modules.as_slice()) else {
         drop(catalog);
         return None;
     };
-    session_over(alloc, catalog, modules.as_slice(), limits)
+    session_over(
+        alloc,
+        catalog,
+        modules.as_slice(),
+        run.row_numbers.min(MOST_ROW_NUMBERS),
+    )
 }
 
 #[tactic(auto, using(sq_session::proofs::Holding::no_rows_hold, sq_session::proofs::Holding::no_rows_obey))]
@@ -48,12 +50,11 @@ fn session_over<S: Store>(
     alloc: Global,
     catalog: Catalog,
     modules: &[ModuleText],
-    limits: Limits,
+    row_numbers: u64,
 ) -> Option<Session<S>>
-    requires numbers { limits.row_numbers ≤ MOST_ROW_NUMBERS }
-    requires bases { length catalog.bases ≡ length catalog.tables }
+    requires { row_numbers ≤ MOST_ROW_NUMBERS }
 {
-    match store_of::<S>(alloc, &catalog, limits) {
+    match store_of::<S>(alloc, &catalog, row_numbers) {
         Ok(store) => Session::new(alloc, catalog, modules, store).ok(),
         Err(_) => {
             drop(catalog);
@@ -64,21 +65,16 @@ fn session_over<S: Store>(
 
 /// A new store for the base tables of a catalog and their keys.
 #[tactic(auto, using(sq_session::proofs::Holding::keys_count))]
-fn store_of<S: Store>(alloc: Global, catalog: &Catalog, limits: Limits) -> Result<S, AllocError>
-    requires { limits.row_numbers ≤ MOST_ROW_NUMBERS }
+fn store_of<S: Store>(alloc: Global, catalog: &Catalog, row_numbers: u64) -> Result<S, AllocError>
+    requires { row_numbers ≤ MOST_ROW_NUMBERS }
     ensures now { IfOk result (λ store. S.content_now store ≡ no_rows (length catalog.now.bases)) }
     ensures committed { IfOk result (λ store. S.committed store ≡ no_rows (length catalog.now.bases)) }
     ensures keys { IfOk result (λ store. S.key_columns store ≡ keys_of_bases catalog.now.bases) }
 {
-    let keys = catalog.keys(alloc)?;
-    let store = S::new(alloc, keys.as_slice(), limits.row_numbers);
-    drop(keys);
-    store
+    S::new(alloc, catalog.keys(), row_numbers)
 }
 
-fn catalog_of(alloc: Global, texts: &[Vec<u8>], limits: Limits) -> Option<Catalog>
-    ensures bases { IfSome result (λ c. length c.bases ≡ length c.tables) }
-{
+fn catalog_of(alloc: Global, texts: &[Vec<u8>]) -> Option<Catalog> {
     let mut trees = Vec::new(alloc);
     for text in texts {
         let tree = schema_of(alloc, text.as_slice())?;
@@ -86,7 +82,7 @@ fn catalog_of(alloc: Global, texts: &[Vec<u8>], limits: Limits) -> Option<Catalo
             return None;
         }
     }
-    Catalog::build(alloc, trees.as_slice(), limits).ok()
+    Catalog::build(alloc, trees.as_slice()).ok()
 }
 
 fn schema_of(alloc: Global, text: &[u8]) -> Option<SchemaText> {

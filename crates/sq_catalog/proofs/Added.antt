@@ -1,9 +1,11 @@
 -- A base table that was added with the table as names see it, or neither; and tables that are read by place.
-use Rattle.std.proofs.Common.{◌≡◌, ℕ, zero, suc, ◌+◌, ◌<◌, true, length, List, [], ◌∷◌, ◌++◌, Option, Some, None, Result, Ok, Err, refl, ap, sym, subst, ◌∙◌, arith}
+use Rattle.std.proofs.Common.{◌≡◌, ℕ, zero, suc, ◌+◌, ◌<◌, true, nat_eq, eq-eqb, length, List, [], ◌∷◌, ◌++◌, Option, Some, None, Result, Ok, Err, refl, ap, sym, subst, ◌∙◌, arith}
 use Rattle.std.specs.List.{slice_get}
+use Rattle.std.specs.Map.{keys_of}
 use Rattle.std.specs.Option.{IfSome, IsSome}
 use Rattle.std.specs.Result.{OnErr, OnOk}
 use Rattle.std.specs.Borrow.{Bor}
+use Rattle.std.proofs.lemmas.List.{length-map}
 use Rattle.std.proofs.lemmas.Option.{some_pair_parts}
 use Rattle.indexmap.proofs.SetLemmas.{AllZip-push}
 use Rattle.sq_meaning.specs.WellFormed.{HasValue}
@@ -67,6 +69,10 @@ described_long [] [] h = refl
 described_long [] (x ∷ es) h = absurd h
 described_long (b ∷ bs) [] h = absurd h
 described_long (b ∷ bs) (x ∷ es) h = ap suc (described_long bs es h.1)
+
+-- and as many as names
+pub counted_all : (bs : List BaseTable) (es : List (FullName × TableDesc)) → AreDescribed bs es → nat_eq (length bs) (length (keys_of es)) ≡ true
+counted_all bs es h = eq-eqb (length bs) (length (keys_of es)) (described_long bs es h ∙ sym (length-map es (λ (e : FullName × TableDesc). e.0)))
 
 -- a table whose columns are known is found
 pub base_found : (c d : Catalog) (o : Option (Bor TableDesc)) (es : List (FullName × TableDesc)) (place : ℕ) → c ≡ d → AreDescribed c.bases es → (place < length es → IsSome o) → HasValue (column_kinds d (Base place)) → IsSome o

@@ -136,7 +136,7 @@ names_seen t columns h = names_placed 0 (columns_written t) columns h
 
 -- a table of this name, with these columns, behind those of a catalog
 module _ (c : Catalog) (user : Name) (name : FullName) (t : TableDefinition) (columns : List Column) (b : BaseTable)
-    (count : length c.bases ≡ length c.tables) (fresh : table_number c.tables name.user name.name ≡ None) (seen : HasColumnsOf t columns) where
+    (fresh : table_number c.tables name.user name.name ≡ None) (seen : HasColumnsOf t columns) where
   abbrev pub Made : ReferentialConstraint → Reference → Type 0
   Made = IsReferenceOf (number_meant (c.tables ++ name ∷ []) user) (c.columns ++ columns ∷ []) (c.bases ++ b ∷ []) (names_written t)
 
@@ -168,7 +168,7 @@ module _ (c : Catalog) (user : Name) (name : FullName) (t : TableDefinition) (co
       → AreListed (names_in (names_written t) o) w.to.columns listed → IsTo c.bases b.keys b.primary_key o listed r → StandAt (names_written t) w.columns r.columns → Made w r
   to_found w r listed (Some d) meant stored listed_are to referencing = to_body w r listed d.now.columns (length d.now.columns) d.now.body meant stored.body listed_are to referencing
   to_found w r listed None meant stored listed_are to referencing =
-      let at : length c.tables ≡ r.table = sym count ∙ sym to.0 in
+      let at : length c.tables ≡ r.table = sym (eqb-true (length c.bases) (length c.tables) c.counted) ∙ sym to.0 in
       record {
         referencing = referencing;
         table = own_number (named_by user w.to.table) meant ∙ ap Some at;
@@ -201,14 +201,14 @@ module _ (c : Catalog) (user : Name) (name : FullName) (t : TableDefinition) (co
 pub references_made : {E : Type 0} (r : Result (TableDesc × BaseTable) E) (c : Catalog) (user : Name) (name : FullName) (t : TableDefinition) (ws : List ColumnDefinition) (keys : Keys) (primary : Option ℕ) (width : ℕ) (fs : List FoundReference)
     → ws ≡ columns_written t → OnOk r (name.user ≡ user) → IfOk r (λ new. AreColumnsOf ws new.0.columns) → IfOk r (λ new. new.1.keys ≡ keys) → IfOk r (λ new. new.1.primary_key ≡ primary)
     → AllZip (IsFoundAs c user name (names_written t)) (references_written t) fs → All (IsFound c.bases width) fs → IfOk r (λ new. AllZip (IsBound c.bases keys primary) fs new.1.references)
-    → IfOk r (λ new. IsNewName c name → length c.bases ≡ length c.tables → MakesReferences c name t new.0.columns new.1)
+    → IfOk r (λ new. IsNewName c name → MakesReferences c name t new.0.columns new.1)
 references_made (Err e) c user name t ws keys primary width fs written own seen keys_are primary_is found stored bound = tt
-references_made (Ok new) c user name t ws keys primary width fs written own seen keys_are primary_is found stored bound = λ fresh count.
+references_made (Ok new) c user name t ws keys primary width fs written own seen keys_are primary_is found stored bound = λ fresh.
     let to_keys : AllZip (IsBound c.bases new.1.keys new.1.primary_key) fs new.1.references =
     subst (λ own_keys. AllZip (IsBound c.bases own_keys new.1.primary_key) fs new.1.references) (sym keys_are)
     (subst (λ own_primary. AllZip (IsBound c.bases keys own_primary) fs new.1.references) (sym primary_is) bound) in
     subst (λ schema. HasReferencesOf (number_meant (c.tables ++ name ∷ []) schema) (c.columns ++ new.0.columns ∷ []) (c.bases ++ new.1 ∷ []) t new.1) (sym own)
-    (all_made c user name t new.0.columns new.1 count fresh.0 (subst (λ l. AreColumnsOf l new.0.columns) written seen) width (references_written t) fs new.1.references found stored to_keys)
+    (all_made c user name t new.0.columns new.1 fresh.0 (subst (λ l. AreColumnsOf l new.0.columns) written seen) width (references_written t) fs new.1.references found stored to_keys)
 
 -- ---- base tables behind these
 

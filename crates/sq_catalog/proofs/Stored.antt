@@ -1,15 +1,18 @@
 -- Tables and views that stand over base tables, and references to their keys, as base tables are added.
-use Rattle.std.proofs.Common.{◌≡◌, ℕ, zero, suc, ◌<◌, true, nat_eq, nat_lt, List, [], ◌∷◌, ◌++◌, length, get_or, Option, Some, Result, Ok, Err, IfOk, refl, ap, sym, subst, ◌∙◌, arith}
+use Rattle.std.proofs.Common.{◌≡◌, ℕ, zero, suc, ◌<◌, true, nat_eq, nat_lt, List, [], ◌∷◌, ◌++◌, length, map, get_or, Option, Some, Result, Ok, Err, IfOk, refl, ap, ap₂, sym, subst, ◌∙◌, arith}
 use Rattle.std.specs.Cmp.Lexicographic.{pointwise, same_text}
 use Rattle.std.specs.List.{list_all, slice_get}
 use Rattle.std.specs.Map.{lookup_key}
 use Rattle.std.specs.Option.{option_map}
+use Rattle.std.specs.Prelude.{Vec}
+use Rattle.std.specs.Result.{OnErr, OnOk}
+use Rattle.std.specs.declared.alloc.Global.{Global}
 use Rattle.std.proofs.lemmas.Bool.{and_parts}
 use Rattle.std.proofs.lemmas.List.{length-map, map-append}
 use Rattle.std.proofs.lemmas.List.Elements.{All-get_or, All-weaker}
 use Rattle.std.proofs.lemmas.Map.Made.{lookup_key_passes}
 use Rattle.std.proofs.lemmas.Option.{IfSome_then, slice_get_within, get_or_from_slice_get}
-use Rattle.sq_store.specs.Keys.{Keys, keys_at}
+use Rattle.sq_store.specs.Keys.{Keys, keys_at, keys_of}
 use Rattle.sq_bound.specs.Fits.{IsBase, all_refer, keys_of_bases, refers}
 use Rattle.sq_bound.specs.Known.{under_of}
 use Rattle.sq_bound.specs.Names.{are_positions}
@@ -80,6 +83,17 @@ key_more (k ∷ ks) own (suc table) key h = key_more ks own table key h
 
 keys_behind : (bases : List BaseTable) (b : BaseTable) → keys_of_bases (bases ++ b ∷ []) ≡ keys_with bases b.keys
 keys_behind bases b = map-append (λ (x : BaseTable). x.keys) bases (b ∷ [])
+
+-- the columns of its keys behind those of the others
+pub keyed_more : (given more : List (Vec (Vec ℕ Global) Global)) (bases : List BaseTable) (columns : Vec (Vec ℕ Global) Global) (b : BaseTable) → more ≡ given ++ columns ∷ []
+    → map (λ key. key.items) columns.items ≡ b.keys → keys_of given ≡ keys_of_bases bases → keys_of more ≡ keys_of_bases (bases ++ b ∷ [])
+keyed_more given more bases columns b added same h =
+    ap keys_of added ∙ map-append (λ (keys : Vec (Vec ℕ Global) Global). map (λ key. key.items) keys.items) given (columns ∷ []) ∙ ap₂ (λ earlier own. earlier ++ own ∷ []) h same ∙ sym (keys_behind bases b)
+
+pub keyed_added : {E : Type 0} (r : Result (Unit {0}) E) (given more : List (Vec (Vec ℕ Global) Global)) (bases after : List BaseTable) (columns : Vec (Vec ℕ Global) Global) (b : BaseTable) → OnOk r (more ≡ given ++ columns ∷ [])
+    → OnOk r (after ≡ bases ++ b ∷ []) → OnErr r (more ≡ given) → OnErr r (after ≡ bases) → map (λ key. key.items) columns.items ≡ b.keys → keys_of given ≡ keys_of_bases bases → keys_of more ≡ keys_of_bases after
+keyed_added (Ok u) given more bases after columns b added behind unkeyed unchanged same h = keyed_more given more bases columns b added same h ∙ ap keys_of_bases (sym behind)
+keyed_added (Err e) given more bases after columns b added behind unkeyed unchanged same h = ap keys_of unkeyed ∙ h ∙ ap keys_of_bases (sym unchanged)
 
 refers_more : (bases : List BaseTable) (b : BaseTable) (r : Reference) → refers bases r ≡ true → refers (bases ++ b ∷ []) r ≡ true
 refers_more bases b r h = ap (λ keys. nat_lt r.key (length (keys_at keys r.table))) (keys_behind bases b) ∙ key_more (keys_of_bases bases) b.keys r.table r.key h

@@ -45,8 +45,8 @@ pub record SeenView : Type 0 where
   pub columns : List Column
   pub under : Option Under
 
--- the base tables' names, their columns and the base tables, each at its place, with references to keys of base tables alone; and
--- the views' names, the views as names see them and their queries, likewise
+-- the base tables' names, their columns and the base tables, as many of each and each at its place, with references to keys of base
+-- tables alone; and the views' names, the views as names see them and their queries, likewise
 pub record Catalog : Type 0 where
   pub tables : List FullName
   pub columns : List (List Column)
@@ -55,6 +55,7 @@ pub record Catalog : Type 0 where
   pub seen_views : List SeenView
   pub views : List BoundSpecification
   pub described : nat_eq (length columns) (length tables) ≡ true
+  pub counted : nat_eq (length bases) (length tables) ≡ true
   pub refer : all_refer bases ≡ true
   pub stand : AreViewQueries bases views
 

@@ -1,6 +1,6 @@
 //! The catalog, built element by element (ISO/IEC 9075:1992, 11.1).
 
-ghost use Rattle.std.specs.Prelude.{◌≡◌, ◌<◌, List, [], ◌∷◌, ◌++◌, true, IfErr, IfOk, IfSome, IsSome, None, OnErr, OnOk, is_none, length, map};
+ghost use Rattle.std.specs.Prelude.{◌≡◌, ◌<◌, List, [], ◌∷◌, ◌++◌, true, IfErr, IfOk, IfSome, IsSome, None, OnErr, OnOk, is_none, length, map, nat_eq};
 ghost use Rattle.std.specs.Map.{keys_of};
 ghost use Rattle.std.specs.Option.{option_map};
 ghost use Rattle.sq_bound.specs.Known.{known_by};
@@ -29,13 +29,6 @@ use std::marker::Model;
 /// The greatest number of tables and views (own rule).
 const MOST_TABLES: usize = 1000;
 
-/// Limits of a run.
-#[derive(Clone, Copy, Debug, PartialEq, Eq)]
-pub struct Limits {
-    /// The greatest number that a row of a table may have, at most 1000000000.
-    pub row_numbers: u64,
-}
-
 /// A name of a table or view: its owner, and its name in the owner's schema.
 #[derive(Clone, Copy, Debug, PartialEq, Eq, Hash)]
 pub struct FullName {
@@ -47,12 +40,14 @@ pub struct FullName {
 #[derive(Drop)]
 pub struct Catalog {
     alloc: Global,
-    limits: Limits,
     users: IndexSet<Name>,
     bases: IndexMap<FullName, TableDesc>,
     views: IndexMap<FullName, TableDesc>,
     base_tables: Vec<Shared<BaseTable>>,
+    keys: Vec<Vec<Vec<usize>>>,
     pub(crate) held: Held,
+    ghost counted: { nat_eq (length base_tables.items) (length (keys_of bases.entries)) ≡ true },
+    ghost keyed: { keys_given keys.items ≡ keys_of_bases base_tables.items },
     ghost refer: { all_refer base_tables.items ≡ true },
     ghost stand: { AreViewQueries base_tables.items (queries_of views.entries) } by { AreViewQueries-prop base_tables.items (queries_of views.entries) },
 }
@@ -75,7 +70,7 @@ impl Model for Catalog {
 
     ghost coded = { Prim.hlevel (codes, base.the_row.coded, column.the_row.coded, condition.the_row.coded, predicate.the_row.coded, specification.the_row.coded, expression.the_row.coded, seen.the_row.coded, AreViewQueries-prop) };
 
-    ghost view = { λ c. record { tables = keys_of c.bases.entries; columns = columns_of c.bases.entries; bases = c.base_tables.items; view_names = keys_of c.views.entries; seen_views = seen_of c.views.entries; views = queries_of c.views.entries; described = all_described c.bases.entries; refer = c.refer; stand = c.stand } };
+    ghost view = { λ c. record { tables = keys_of c.bases.entries; columns = columns_of c.bases.entries; bases = c.base_tables.items; view_names = keys_of c.views.entries; seen_views = seen_of c.views.entries; views = queries_of c.views.entries; described = all_described c.bases.entries; counted = c.counted; refer = c.refer; stand = c.stand } };
 
     ghost invariant = { λ c. AreStored c.base_tables.items c.bases.entries × AreStored c.base_tables.items c.views.entries × AreTables (kinds_at c.base_tables.items (queries_of c.views.entries)) c.bases.entries × AreTables (kinds_at c.base_tables.items (queries_of c.views.entries)) c.views.entries × AreDescribed c.base_tables.items c.bases.entries × StandFrom Base 0 c.bases.entries × StandFrom View 0 c.views.entries × AreNamed c.bases.entries × AreNamed c.views.entries };
 }
@@ -83,23 +78,18 @@ impl Model for Catalog {
 impl Catalog {
     /// The catalog of schema texts, or the first refusal in the order of the texts, of their schema definitions, of their
     /// elements, and of `RefusalName` within one element.
-    pub fn build(
-        alloc: Global,
-        texts: &[SchemaText],
-        limits: Limits,
-    ) -> Result<Catalog, CatalogFault>
+    pub fn build(alloc: Global, texts: &[SchemaText]) -> Result<Catalog, CatalogFault>
         ensures tables { IfOk result (λ c. c.tables ≡ declared_tables texts.now) }
         ensures declares { IfOk result (λ c. Declares texts.now (known c) c.bases c.views) }
-        ensures bases { IfOk result (λ c. length c.bases ≡ length c.tables) }
         ensures refused { IfErr result (IsOfSomeText (length texts.now)) }
     {
         let mut catalog = Catalog {
             alloc,
-            limits,
             users: IndexSet::new(alloc),
             bases: IndexMap::new(alloc),
             views: IndexMap::new(alloc),
             base_tables: Vec::new(alloc),
+            keys: Vec::new(alloc),
             held: Held::new(alloc),
         };
         match catalog.add_texts(texts) {
@@ -111,16 +101,11 @@ impl Catalog {
         }
     }
 
-    /// The limits that it was built with.
-    pub fn limits(&self) -> Limits {
-        self.limits
-    }
-
-    /// For each base table, the columns of each of its keys.
-    pub fn keys(&self, alloc: Global) -> Result<Vec<Vec<Vec<usize>>>, AllocError>
-        ensures { IfOk result (λ keys. keys_given keys.items ≡ keys_of_bases self.now.bases) }
+    /// For each base table, in the order of the texts, the columns of each of its keys.
+    pub fn keys(&self) -> &[Vec<Vec<usize>>]
+        ensures { keys_given result.now ≡ keys_of_bases self.now.bases }
     {
-        all_keys(alloc, self.base_tables.as_slice())
+        self.keys.as_slice()
     }
 
     pub(crate) fn alloc(&self) -> Global {
@@ -220,11 +205,18 @@ impl Catalog {
     ) -> Result<(), ElementFault>
         requires new { IsNewName self.old name }
         requires next { IsNext self.old.bases name table base }
-        ensures count { length self.old.bases ≡ length self.old.tables }
         ensures tables { OnOk result (Adds self.old self.new (name ∷ []) (table.columns ∷ []) (base ∷ [])) }
         ensures views { OnOk result (GainsViews self.old self.new []) }
     {
-        insert_base(&mut self.bases, &mut self.base_tables, name, table, base)
+        insert_with_keys(
+            self.alloc,
+            &mut self.bases,
+            &mut self.base_tables,
+            &mut self.keys,
+            name,
+            table,
+            base,
+        )
     }
 
     /// Adds a view of a new name behind the others.
@@ -300,6 +292,72 @@ impl Catalog {
         let privilege = Privilege { action, column };
         self.held.has(user, place, privilege, to_grant)
     }
+}
+
+/// Adds a base table as `insert_base` does, and the columns of its keys behind those of the others.
+#[tactic(auto, using(crate::proofs::Stored::keyed_added))]
+fn insert_with_keys(
+    alloc: Global,
+    tables: &mut IndexMap<FullName, TableDesc>,
+    bases: &mut Vec<Shared<BaseTable>>,
+    keys: &mut Vec<Vec<Vec<usize>>>,
+    name: FullName,
+    table: TableDesc,
+    base: Shared<BaseTable>,
+) -> Result<(), ElementFault>
+    requires new { table_number (keys_of tables.old.entries) name.user name.name ≡ None }
+    requires keyed { keys_given keys.old.items ≡ keys_of_bases bases.old.items }
+    ensures names { OnOk result (keys_of tables.new.entries ≡ keys_of tables.old.entries ++ name ∷ []) }
+    ensures added { OnOk result (tables.new.entries ≡ tables.old.entries ++ (name, table) ∷ []) }
+    ensures bases { OnOk result (bases.new.items ≡ bases.old.items ++ base ∷ []) }
+    ensures unchanged { OnErr result ((tables.new.entries ≡ tables.old.entries) × (bases.new.items ≡ bases.old.items)) }
+    ensures keyed { keys_given keys.new.items ≡ keys_of_bases bases.new.items }
+{
+    match columns_of_keys(alloc, base.get()) {
+        Ok(columns) => insert_with(tables, bases, keys, name, table, base, columns),
+        Err(_) => {
+            drop(base);
+            drop(table);
+            Err(ElementFault::NoMemory)
+        }
+    }
+}
+
+/// The columns of each key of a base table.
+fn columns_of_keys(alloc: Global, base: &BaseTable) -> Result<Vec<Vec<usize>>, AllocError>
+    ensures { IfOk result (λ columns. map (λ key. key.items) columns.items ≡ base.now.keys) }
+{
+    key_columns(alloc, base.keys.as_slice())
+}
+
+/// Adds a base table as `insert_base` does, and the columns of its keys.
+fn insert_with(
+    tables: &mut IndexMap<FullName, TableDesc>,
+    bases: &mut Vec<Shared<BaseTable>>,
+    keys: &mut Vec<Vec<Vec<usize>>>,
+    name: FullName,
+    table: TableDesc,
+    base: Shared<BaseTable>,
+    columns: Vec<Vec<usize>>,
+) -> Result<(), ElementFault>
+    requires { table_number (keys_of tables.old.entries) name.user name.name ≡ None }
+    ensures names { OnOk result (keys_of tables.new.entries ≡ keys_of tables.old.entries ++ name ∷ []) }
+    ensures added { OnOk result (tables.new.entries ≡ tables.old.entries ++ (name, table) ∷ []) }
+    ensures bases { OnOk result (bases.new.items ≡ bases.old.items ++ base ∷ []) }
+    ensures keys { OnOk result (keys.new.items ≡ keys.old.items ++ columns ∷ []) }
+    ensures unchanged { OnErr result ((tables.new.entries ≡ tables.old.entries) × (bases.new.items ≡ bases.old.items)) }
+    ensures unkeyed { OnErr result (keys.new.items ≡ keys.old.items) }
+{
+    if keys.push(columns).is_err() {
+        drop(base);
+        drop(table);
+        return Err(ElementFault::NoMemory);
+    }
+    let inserted = insert_base(tables, bases, name, table, base);
+    if inserted.is_err() {
+        drop(keys.pop());
+    }
+    inserted
 }
 
 /// Adds a base table behind the others, and the table as names see it under a new name: both, or out of memory neither.
@@ -387,17 +445,6 @@ pub(crate) fn full_name(user: Name, written: TableName) -> FullName
         },
         name: written.table,
     }
-}
-
-/// For each base table, the columns of each of its keys.
-fn all_keys(alloc: Global, tables: &[Shared<BaseTable>]) -> Result<Vec<Vec<Vec<usize>>>, AllocError>
-    ensures { IfOk result (λ keys. keys_given keys.items ≡ keys_of_bases tables.now) }
-{
-    let mut keys = Vec::new(alloc);
-    for table in tables {
-        keys.push(key_columns(alloc, table.get().keys.as_slice())?)?;
-    }
-    Ok(keys)
 }
 
 /// The columns of each key.

@@ -10,5 +10,5 @@ mod table;
 mod view;
 mod written;
 
-pub use catalog::{Catalog, FullName, Limits};
+pub use catalog::{Catalog, FullName};
 pub use fault::{CatalogFault, RefusalName, SchemaRefusal};

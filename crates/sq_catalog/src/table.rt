@@ -87,7 +87,7 @@ impl Catalog {
         ensures next { IfOk result (λ new. IsNext self.now.bases name.now new.0 new.1) }
         ensures columns { IfOk result (λ new. HasColumnsOf definition.now new.0.columns) }
         ensures base { IfOk result (λ new. IsBaseOf name.now definition.now new.1) }
-        ensures references { IfOk result (λ new. IsNewName self.now name.now → length self.now.bases ≡ length self.now.tables
+        ensures references { IfOk result (λ new. IsNewName self.now name.now
             → MakesReferences self.now name.now definition.now new.0.columns new.1) }
     {
         let draft = self.draft(user, name, definition)?;

@@ -5,7 +5,7 @@ use Rattle.std.specs.Result.{IsErrAnd}
 use Rattle.std.proofs.lemmas.List.{drop_more}
 use Rattle.sq_value.specs.declared.value.Value.{Value}
 use Rattle.sq_meaning.specs.Status.{Outcome, ◌>>=◌, well_formed}
-use Rattle.sq_tree.specs.declared.expr.Sign.TheVariants as sign
+use Rattle.sq_tree.specs.declared.expr.Sign.{Sign}
 use Rattle.sq_meaning.specs.Syntax.{literal, parameter, user, column, signed}
 use Rattle.sq_meaning.specs.Environment.{Env, items_in, value_at}
 use Rattle.sq_meaning.specs.Expression.{Reading, value, user_value, with_sign}
@@ -19,7 +19,7 @@ use Rattle.sq_bound.specs.declared.expression.BoundExpr.TheVariants as bound
 use Rattle.sq_bound.specs.declared.expression.Operator.{Operator}
 use Rattle.sq_bound.specs.declared.expression.Operator.TheVariants.{Plus, Minus, Times, Over}
 use Rattle.sq_bound.specs.declared.expression.Operation.{Operation}
-use Rattle.sq_bound.proofs.ExpressionLaws.{expr_of-Literal, expr_of-Parameter, expr_of-User, expr_of-Column, expr_of-SetFunction, expr_of-Negated, expr_of-Operations, operation_of-out}
+use Rattle.sq_bound.proofs.ExpressionLaws.{expr_of-Literal, expr_of-Parameter, expr_of-User, expr_of-Column, expr_of-SetFunction, expr_of-Signed, expr_of-Operations, operation_of-out}
 use Rattle.sq_expression.specs.Arithmetic.{operation}
 use Rattle.sq_expression.specs.Fault.{Meets}
 use Rattle.sq_expression.specs.declared.fault.Fault.{Fault}
@@ -68,9 +68,9 @@ group_function m env values e n is =
     level m env (map literal values) e (bound.SetFunction n) (slice_index_or (map literal values) n missing) is (expr_of-SetFunction (map literal values) n)
     ∙ function_meant m env values n
 
-pub negated_value : (m : Reading (Placed TablePlace)) (env : Env (Unit {0})) (functions : List PlacedExpr) (e operand : BoundExpr)
-    → e ≡ bound.Negated operand → value m (expr_of functions e) env ≡ (value m (expr_of functions operand) env >>= with_sign sign.Minus)
-negated_value m env functions e operand is = level m env functions e (bound.Negated operand) (signed sign.Minus (expr_of functions operand)) is (expr_of-Negated functions operand)
+pub signed_value : (m : Reading (Placed TablePlace)) (env : Env (Unit {0})) (functions : List PlacedExpr) (e : BoundExpr) (sign : Sign) (operand : BoundExpr)
+    → e ≡ bound.Signed sign operand → value m (expr_of functions e) env ≡ (value m (expr_of functions operand) env >>= with_sign sign)
+signed_value m env functions e sign operand is = level m env functions e (bound.Signed sign operand) (signed sign (expr_of functions operand)) is (expr_of-Signed functions sign operand)
 
 -- ---- operators from left to right
 

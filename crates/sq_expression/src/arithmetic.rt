@@ -1,7 +1,6 @@
 //! Arithmetic: null where an operand is null (ISO/IEC 9075:1992, 6.12).
 
 ghost use Rattle.std.specs.Prelude.{◌+◌, ◌-◌, max};
-ghost use Rattle.sq_tree.specs.declared.expr.Sign.TheVariants as sign;
 ghost use Rattle.sq_meaning.specs.Expression.{number_outcome, with_places, with_sign};
 ghost use Rattle.sq_value.specs.Arithmetic as number;
 ghost use Rattle.sq_value.specs.declared.value.Value.TheVariants.{Num};
@@ -10,6 +9,7 @@ ghost use Rattle.sq_expression.specs.Fault.{Meets};
 
 use crate::fault::Fault;
 use sq_bound::Operator;
+use sq_tree::Sign;
 use sq_value::{ArithmeticFault, Decimal, Value};
 
 /// The greatest scale of a number.
@@ -69,13 +69,14 @@ pub fn number_value(number: Result<Decimal, ArithmeticFault>) -> Result<Value, F
     }
 }
 
-/// The value with the other sign.
-pub(crate) fn negated(value: &Value) -> Result<Value, Fault>
-    ensures { Meets result (with_sign sign.Minus value.now) }
+/// The value with a sign before it.
+pub(crate) fn signed(sign: Sign, value: &Value) -> Result<Value, Fault>
+    ensures { Meets result (with_sign sign value.now) }
 {
-    match value {
-        Value::Null => Ok(Value::Null),
-        Value::Num(number) => Ok(Value::Num(number.neg())),
-        Value::Chars(_) => Err(Fault::NOT_WELL_FORMED),
+    match (sign, value) {
+        (_, Value::Null) => Ok(Value::Null),
+        (Sign::Plus, Value::Num(number)) => Ok(Value::Num(*number)),
+        (Sign::Minus, Value::Num(number)) => Ok(Value::Num(number.neg())),
+        (_, Value::Chars(_)) => Err(Fault::NOT_WELL_FORMED),
     }
 }

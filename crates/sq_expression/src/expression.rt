@@ -3,7 +3,6 @@
 
 ghost use Rattle.std.specs.Prelude.{◌≡◌, [], if◌then◌else◌, map, slice_get, IfOk, Ok};
 ghost use Rattle.sq_value.specs.declared.value.Value.TheVariants.{Null};
-ghost use Rattle.sq_tree.specs.declared.expr.Sign.TheVariants as sign;
 ghost use Rattle.sq_meaning.specs.Status.{Outcome, and_then, each, well_formed};
 ghost use Rattle.sq_meaning.specs.Environment.{with_indicator, is_below_zero};
 ghost use Rattle.sq_meaning.specs.Expression as meaning;
@@ -15,7 +14,7 @@ ghost use Rattle.sq_expression.specs.Arithmetic.{operation};
 ghost use Rattle.sq_expression.specs.Fault.{Meets};
 ghost use Rattle.sq_expression.specs.Frame.{env_of, group_values, inputs_of, on_line, reading};
 
-use crate::arithmetic::{calculated, negated};
+use crate::arithmetic::{calculated, signed};
 use crate::context::Context;
 use crate::fault::Fault;
 use crate::found::Found;
@@ -24,6 +23,7 @@ use crate::whole_expression::whole_value;
 use sq_bound::{BoundExpr, Input, Operator};
 use sq_items::Items;
 use sq_lex::Name;
+use sq_tree::Sign;
 use sq_value::{Row, Text, Value};
 use std::alloc::{AllocError, Global};
 
@@ -55,7 +55,9 @@ fn any_value<'a>(
         BoundExpr::User => user_value(context),
         BoundExpr::Column(place) => column_value(*place, frame),
         BoundExpr::SetFunction(number) => function_value(*number, frame),
-        BoundExpr::Negated(operand) => negated_or_fault(any_value(operand.get(), frame, context)),
+        BoundExpr::Signed(sign, operand) => {
+            signed_or_fault(*sign, any_value(operand.get(), frame, context))
+        }
         BoundExpr::Operations(first, rest) => {
             let mut left = any_value(first.get(), frame, context)?;
             for operation in rest.as_slice() {
@@ -67,12 +69,12 @@ fn any_value<'a>(
     }
 }
 
-/// The operand's value with the other sign, or its fault.
-fn negated_or_fault<'a>(operand: Result<Found<'a>, Fault>) -> Result<Found<'a>, Fault>
-    ensures { (outcome : Outcome AnyValue) → Meets operand.entry outcome → Meets result (and_then outcome (meaning.with_sign sign.Minus)) }
+/// The operand's value with the sign before it, or its fault.
+fn signed_or_fault<'a>(sign: Sign, operand: Result<Found<'a>, Fault>) -> Result<Found<'a>, Fault>
+    ensures { (outcome : Outcome AnyValue) → Meets operand.entry outcome → Meets result (and_then outcome (meaning.with_sign sign)) }
 {
     let operand = operand?;
-    Ok(Found::made(negated(operand.get())?))
+    Ok(Found::made(signed(sign, operand.get())?))
 }
 
 /// What the operator gives of the left value and the right one, or the right one's fault.

@@ -35,10 +35,10 @@ use Rattle.sq_meaning.specs.Target.{Target}
 use Rattle.sq_meaning.specs.declared.status.Status.{Status}
 use Rattle.sq_meaning.specs.declared.status.Status.TheVariants as status
 use Rattle.sq_model.proofs.Bind.{bind_ok}
-use Rattle.sq_model.specs.Catalog.{column_domain}
+use Rattle.sq_rules.specs.Catalog.{column_domain}
 use Rattle.sq_model.specs.Change.{Setting, default_value, domain_at, given_at, given_rows, if_some, new_row, outer_env, reading, replaced, row_env, set_places, stored_row, stored_value, stored_values, updated_row, value_or_default, with_rows, with_values}
 use Rattle.sq_model.specs.Constraints.{AreInDomains}
-use Rattle.sq_model.specs.Schema.{BaseTable, column_definitions}
+use Rattle.sq_rules.specs.Schema.{BaseTable, column_definitions}
 
 -- ---- lists
 

@@ -21,10 +21,10 @@ use Rattle.sq_meaning.specs.Status.{Outcome}
 use Rattle.sq_meaning.specs.Tables.{Declared, Tables, column_kinds, rows_in}
 use Rattle.sq_meaning.specs.WellFormed.{AreRowsOf, IsRowOf}
 use Rattle.sq_model.proofs.DomainLaws.{assigned_in}
-use Rattle.sq_model.specs.Catalog.{column_descriptor, column_domain, table_descriptor}
+use Rattle.sq_rules.specs.Catalog.{column_descriptor, column_domain, table_descriptor}
 use Rattle.sq_model.specs.Constraints.{AreInDomains}
 use Rattle.sq_model.specs.Parameter.{inputs_of, started, started_parameters}
-use Rattle.sq_model.specs.Schema.{column_definitions}
+use Rattle.sq_rules.specs.Schema.{column_definitions}
 
 -- a value of a domain is of the domain's kind
 pub of_its_kind : (d : Domain) (v : Value) → IsInDomain d v → IsOfKind (kind_of d) v

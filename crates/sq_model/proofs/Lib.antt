@@ -1,11 +1,3 @@
 pub mod Bind
-pub mod CallLaws
 pub mod DomainLaws
 pub mod KindLaws
-pub mod AnswerLaws
-pub mod PrivilegeLaws
-pub mod CursorLaws
-pub mod Computed
-pub mod ComputedRules
-pub mod NameLaws
-pub mod FetchLaws

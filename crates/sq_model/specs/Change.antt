@@ -4,7 +4,6 @@
 use Rattle.std.specs.List.{enumerate_from, list_any, zip}
 use Rattle.std.specs.Prelude.{ℕ, ◌+◌, Bool, not, List, [], ◌∷◌, map, length, nat_eq, nat_le, ◌==◌, slice_get, slice_set, fold, filter, find, filter_map, Option, unwrap_or, option_map, option_and_then, Some, None, Ok, Err}
 use Rattle.sq_lex.specs.declared.name.Name.{Name}
-use Rattle.sq_value.specs.Key.{in_columns}
 use Rattle.sq_value.specs.SetFunctions.{numbers}
 use Rattle.sq_value.specs.declared.domain.Domain.{Domain}
 use Rattle.sq_value.specs.declared.domain.Domain.TheVariants as domain
@@ -25,19 +24,19 @@ use Rattle.sq_tree.specs.declared.statement.NewValue.{NewValue}
 use Rattle.sq_tree.specs.declared.statement.NewValue.TheVariants as new_value
 use Rattle.sq_tree.specs.declared.statement.Update.{Update}
 use Rattle.sq_meaning.specs.Assignment.{assigned}
-use Rattle.sq_meaning.specs.Environment.{Env, Input, Item, Row, TableName, alone, outermost, within}
+use Rattle.sq_meaning.specs.Environment.{Env, Input, Item, Row, TableName, outermost}
 use Rattle.sq_meaning.specs.Expression.{Reading, user_value, value}
 use Rattle.sq_meaning.specs.Query.{rows}
 use Rattle.sq_meaning.specs.Spelled.{Named, clause, expr_of, listed, select_of, signed_number, table_of}
 use Rattle.sq_meaning.specs.Status.{Outcome, and_then, each, well_formed, ◌>>=◌}
 use Rattle.sq_meaning.specs.Syntax.{Clause}
 use Rattle.sq_meaning.specs.Syntax.{absent}
-use Rattle.sq_meaning.specs.Tables.{TableDescriptor, Tables, by_name, descriptor_of}
-use Rattle.sq_meaning.specs.Target.{Target, chosen_numbers, meets_check_option, searched_target, target_of}
+use Rattle.sq_meaning.specs.Tables.{TableDescriptor, Tables, by_name, column_names, descriptor_of}
+use Rattle.sq_meaning.specs.Target.{Target, chosen_numbers, meets_check_option, searched_target, seen_at, target_of}
 use Rattle.sq_meaning.specs.declared.status.Status.TheVariants as status
-use Rattle.sq_model.specs.Catalog.{column_domain, tables_of}
+use Rattle.sq_rules.specs.Catalog.{column_domain, tables_of}
 use Rattle.sq_model.specs.Constraints.{all_satisfied, constraints_checked, demanded}
-use Rattle.sq_model.specs.Schema.{BaseTable, Elements, base_tables, column_definitions, place_among}
+use Rattle.sq_rules.specs.Schema.{BaseTable, Elements, base_tables, column_definitions, place_among}
 
 -- what a statement reads: the schema elements, the greatest row number, the database, the parameters, and the module's
 -- user
@@ -67,7 +66,7 @@ rows_at s place = (table_at s.content place).rows
 
 -- null is stored as it is
 abbrev pub stored_value : Setting → Env Item → Domain → NewValue → Outcome Value
-stored_value s env d (new_value.Expr e) = and_then (value (reading s) (expr_of e) env) (assigned d)
+stored_value s env d (new_value.Expr e) = value (reading s) (expr_of e) env >>= assigned d
 stored_value s env d new_value.Null = assigned d value.Null
 
 abbrev pub domain_at : BaseTable → ℕ → Domain
@@ -88,7 +87,9 @@ check_options_met s target rows = all_satisfied (meets_check_option (reading s) 
 
 -- a database in which constraints hold of what was changed
 abbrev pub completed_with : Setting → BaseTable → Content → Outcome Content
-completed_with s t content = and_then (constraints_checked s.elements t content) (λ _. Ok content)
+completed_with s t content = do
+  _ ← constraints_checked s.elements t content
+  Ok content
 
 -- the database with a table changed, where check options and constraints allow it
 abbrev pub completed : Setting → Target → BaseTable → List Row → Table → Outcome Content
@@ -98,10 +99,14 @@ completed s target t rows changed = do
 
 -- ---- INSERT (13.8)
 
+-- the place in the base table of the column that the statement's table has under a name
+abbrev pub place_under : TableDescriptor → Target → Name → Option ℕ
+place_under d target name = option_and_then (slice_get target.columns) (place_among (column_names d) name)
+
 -- the places in the base table of the columns that an insert column list names; without one, of all columns
 abbrev pub insert_places : TableDescriptor → Target → Option (CommaList Name) → List ℕ
 insert_places d target None = target.columns
-insert_places d target (Some columns) = filter_map (λ c. option_and_then (slice_get target.columns) (place_among (map (λ k. k.name) d.columns) c)) (listed columns)
+insert_places d target (Some columns) = filter_map (place_under d target) (listed columns)
 
 abbrev pub stored_row : BaseTable → List ℕ → Row → Outcome (List (ℕ × Value))
 stored_row t places row = each (λ p. and_then (assigned (domain_at t p.0) p.1) (λ v. Ok (p.0, v))) (zip places row)
@@ -112,7 +117,9 @@ if_some (x ∷ xs) = Ok (x ∷ xs)
 
 -- the values that are given, row by row; the rows of a query are all computed before any is stored
 abbrev pub given_rows : Setting → BaseTable → List ℕ → InsertSource → Outcome (List (List (ℕ × Value)))
-given_rows s t places (source.Values values) = and_then (stored_values s (outer_env s) t (zip places (listed values))) (λ row. Ok (row ∷ []))
+given_rows s t places (source.Values values) = do
+  row ← stored_values s (outer_env s) t (zip places (listed values))
+  Ok (row ∷ [])
 given_rows s t places (source.Query q) = do
   found ← rows (reading s) (select_of s.user q) (outer_env s)
   some ← if_some found
@@ -164,7 +171,7 @@ which_target s name (Which.numbered n) = searched_target (tables_in s) name abse
 
 -- of none there is no data; the row under a number is there
 abbrev pub numbers_changed : Setting → Target → Which → Outcome (List ℕ)
-numbers_changed s target (Which.searched clause) = and_then (chosen_numbers (reading s) (outer_env s) target (rows_at s target.place)) if_some
+numbers_changed s target (Which.searched clause) = chosen_numbers (reading s) (outer_env s) target (rows_at s target.place) >>= if_some
 numbers_changed s target (Which.numbered n) = Ok (n ∷ [])
 
 abbrev pub is_numbered : List ℕ → Numbered → Bool
@@ -173,18 +180,23 @@ is_numbered numbers r = list_any (nat_eq r.number) numbers
 -- ---- UPDATE
 
 abbrev pub set_places : TableDescriptor → Target → Update → List (ℕ × NewValue)
-set_places d target u = filter_map (λ a. option_map (λ place. (place, a.value)) (option_and_then (slice_get target.columns) (place_among (map (λ k. k.name) d.columns) a.column))) (listed u.assignments)
+set_places d target u = filter_map (λ a. option_map (λ place. (place, a.value)) (place_under d target a.column)) (listed u.assignments)
+
+abbrev pub item_alone : TableDescriptor → Item
+item_alone d = record { reference = record { table = d.table; correlation = None }; columns = column_names d }
 
 -- the environment in which the statement sees a row of the base table: as its table's columns
 abbrev pub row_env : Setting → TableDescriptor → Target → Row → Env Item
-row_env s d target row = within (alone (record { reference = record { table = d.table; correlation = None }; columns = map (λ k. k.name) d.columns } ∷ []) (in_columns row target.columns ∷ [])) (outer_env s)
+row_env s d target row = seen_at (record { item = item_alone d; columns = target.columns; condition = absent }) row (outer_env s)
 
 abbrev pub with_values : List (ℕ × Value) → Row → Row
 with_values given row = fold (λ r g. slice_set r g.0 g.1) row given
 
 -- a row after the set clauses, which read the values before
 abbrev pub updated_row : Setting → TableDescriptor → Target → BaseTable → Update → Numbered → Outcome Numbered
-updated_row s d target t u r = and_then (stored_values s (row_env s d target r.row) t (set_places d target u)) (λ given. Ok (record { number = r.number; row = with_values given r.row }))
+updated_row s d target t u r = do
+  given ← stored_values s (row_env s d target r.row) t (set_places d target u)
+  Ok (record { number = r.number; row = with_values given r.row })
 
 abbrev pub replaced : List Numbered → Numbered → Numbered
 replaced changed r = unwrap_or (find (λ c. c.number == r.number) changed) r

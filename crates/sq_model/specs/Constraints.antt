@@ -1,6 +1,6 @@
--- Constraints (ISO/IEC 9075:1992, 4.10 and 11.5 to 11.9). They are checked at the end of each statement.
+-- Constraints (ISO/IEC 9075:1992, 4.10, 11.4 and 11.6 to 11.9). They are checked at the end of each statement.
 use Rattle.std.specs.List.{AllByRecursion, list_all, list_any}
-use Rattle.std.specs.Prelude.{◌≡◌, ℕ, Bool, true, not, ◌&&◌, ◌||◌, List, [], ◌∷◌, map, if◌then◌else◌, ⊤, slice_get, filter_map, flat_map, option_to_list, Some, None, Ok, Err}
+use Rattle.std.specs.Prelude.{◌≡◌, ℕ, Bool, not, ◌||◌, List, [], ◌∷◌, map, if◌then◌else◌, ⊤, slice_get, filter_map, flat_map, option_to_list, Some, None, Ok, Err}
 use Rattle.sq_lex.specs.declared.name.Name.{Name}
 use Rattle.sq_value.specs.Domain.{IsInDomain}
 use Rattle.sq_value.specs.Key.{in_columns}
@@ -16,20 +16,16 @@ use Rattle.sq_meaning.specs.Environment.{Env, Item, Row, TableName, alone, outer
 use Rattle.sq_meaning.specs.Query.{rows, truth}
 use Rattle.sq_meaning.specs.Rows.{same_row}
 use Rattle.sq_meaning.specs.Spelled.{cond_of, table_of}
-use Rattle.sq_meaning.specs.Status.{Outcome, and_then}
+use Rattle.sq_meaning.specs.Status.{Outcome, and_then, ◌>>=◌}
 use Rattle.sq_meaning.specs.Tables.{by_name, rows_in}
 use Rattle.sq_meaning.specs.declared.status.Status.{Status}
 use Rattle.sq_meaning.specs.declared.status.Status.TheVariants as status
-use Rattle.sq_model.specs.Catalog.{column_domain}
-use Rattle.sq_model.specs.Schema.{BaseTable, Elements, Reference, base_place, base_tables, checks, column_definitions, keys, not_null_columns, place_among, referenced_columns, table_columns, table_named, table_references}
+use Rattle.sq_rules.specs.Catalog.{column_domain}
+use Rattle.sq_rules.specs.Schema.{BaseTable, Elements, Reference, base_place, base_tables, checks, column_definitions, keys, not_null_columns, place_among, referenced_columns, table_columns, table_named, table_references}
+use Rattle.sq_rules.specs.Words.{has_twice}
 
 abbrev pub demanded : Bool → Status → Outcome (Unit {0})
 demanded holds s = if holds then Ok tt else Err s
-
--- whether a list has no two elements that are the same
-abbrev pub has_no_repeat : List Row → Bool
-has_no_repeat [] = true
-has_no_repeat (r ∷ rs) = not (list_any (same_row r) rs) && has_no_repeat rs
 
 abbrev pub places_among : List Name → List Name → List ℕ
 places_among names columns = filter_map (place_among names) columns
@@ -47,9 +43,12 @@ rows_of_base elements content name = flat_map (λ place. rows_in (table_at conte
 
 -- ---- of one row
 
+abbrev pub own_item : BaseTable → Item
+own_item t = record { reference = record { table = t.name; correlation = None }; columns = table_columns t.definition }
+
 -- the environment of a CHECK: one row of its table, which is named by its own name
 abbrev pub check_env : BaseTable → Row → Env Item
-check_env t row = within (alone (record { reference = record { table = t.name; correlation = None }; columns = table_columns t.definition } ∷ []) (row ∷ [])) (outermost [] [])
+check_env t row = within (alone (own_item t ∷ []) (row ∷ [])) (outermost [] [])
 
 -- a CHECK is satisfied when it is not false
 abbrev pub satisfied : Outcome Truth → Outcome (Unit {0})
@@ -71,13 +70,15 @@ all_satisfied test (x ∷ xs) = and_then (test x) (λ _. all_satisfied test xs)
 
 -- NOT NULL, and then each CHECK in the order of the text
 abbrev pub row_satisfied : BaseTable → Row → Outcome (Unit {0})
-row_satisfied t row = and_then (not_null_satisfied t row) (λ _. all_satisfied (check_satisfied t row) (checks t.definition))
+row_satisfied t row = do
+  _ ← not_null_satisfied t row
+  all_satisfied (check_satisfied t row) (checks t.definition)
 
 -- ---- of one table
 
 -- no two rows are the same in all columns of a key
 abbrev pub key_satisfied : TableDefinition → List Row → List Name → Bool
-key_satisfied t rows key = has_no_repeat (map (values_in t key) rows)
+key_satisfied t rows key = not (has_twice same_row (map (values_in t key) rows))
 
 abbrev pub keys_satisfied : BaseTable → List Row → Outcome (Unit {0})
 keys_satisfied t rows = demanded (list_all (key_satisfied t.definition rows) (keys t.definition)) status.IntegrityConstraintViolation
@@ -106,10 +107,10 @@ references_satisfied elements content t =
 
 -- In the changed table row by row, by rising number; then its keys; then the references of all tables.
 abbrev pub constraints_checked : Elements → BaseTable → Content → Outcome (Unit {0})
-constraints_checked elements t content =
-    and_then (all_satisfied (row_satisfied t) (rows_of_base elements content t.name)) (λ _.
-    and_then (keys_satisfied t (rows_of_base elements content t.name)) (λ _.
-    all_satisfied (references_satisfied elements content) (base_tables elements)))
+constraints_checked elements t content = do
+  _ ← all_satisfied (row_satisfied t) (rows_of_base elements content t.name)
+  _ ← keys_satisfied t (rows_of_base elements content t.name)
+  all_satisfied (references_satisfied elements content) (base_tables elements)
 
 -- ---- constraints hold
 

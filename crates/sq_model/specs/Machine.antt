@@ -1,11 +1,10 @@
--- The table machine: one step is one procedure call (ISO/IEC 9075:1992, 4.21, 12.3, clause 13, 14.3 and 14.4).
+-- The table machine: one step is one procedure call (ISO/IEC 9075:1992, 4.21, 12.4, clause 13, 14.3 and 14.4).
 use Rattle.std.specs.Prelude.{ℕ, Bool, true, false, ◌&&◌, List, [], ◌∷◌, map, ℤ, pos, if◌then◌else◌, ◌==◌, find, flat_map, Option, unwrap_or, option_map, option_and_then, Some, None, Ok, Err}
 use Rattle.sq_lex.specs.declared.name.Name.{Name}
 use Rattle.sq_value.specs.Key.{in_columns}
 use Rattle.sq_value.specs.declared.value.Value.{Value}
 use Rattle.sq_value.specs.declared.value.Value.TheVariants as value
 use Rattle.sq_store.specs.Content.{Content, no_rows}
-use Rattle.sq_tree.specs.declared.cond.Cond.{Cond}
 use Rattle.sq_tree.specs.declared.module.Cursor.{Cursor}
 use Rattle.sq_tree.specs.declared.module.ModuleText.{ModuleText}
 use Rattle.sq_tree.specs.declared.module.Procedure.{Procedure}
@@ -26,21 +25,21 @@ use Rattle.sq_meaning.specs.Query.{rows}
 use Rattle.sq_meaning.specs.QueryExpression.{ordered_rows}
 use Rattle.sq_meaning.specs.Rows.{SortColumn}
 use Rattle.sq_meaning.specs.SortKeys.{sort_columns}
-use Rattle.sq_meaning.specs.Spelled.{Named, cond_of, listed, listed_if_any, signed_number}
-use Rattle.sq_meaning.specs.Status.{Outcome, and_then}
-use Rattle.sq_meaning.specs.Syntax.{Clause, present}
+use Rattle.sq_meaning.specs.Spelled.{cond_of, listed, listed_if_any, signed_number}
+use Rattle.sq_meaning.specs.Status.{Outcome, ◌>>=◌, or_status}
+use Rattle.sq_meaning.specs.Syntax.{present}
 use Rattle.sq_meaning.specs.Syntax.{absent}
 use Rattle.sq_meaning.specs.Tables.{kinds_by_name}
 use Rattle.sq_meaning.specs.Target.{Target, chosen_numbers}
 use Rattle.sq_meaning.specs.declared.status.Status.{Status}
 use Rattle.sq_meaning.specs.declared.status.Status.TheVariants as status
-use Rattle.sq_model.specs.Catalog.{base_count, tables_of}
+use Rattle.sq_rules.specs.Catalog.{base_count, tables_of}
 use Rattle.sq_model.specs.Change.{Setting, Which, delete_outcome, insert_outcome, outer_env, reading, rows_at, update_outcome}
 use Rattle.sq_model.specs.Cursor.{CursorState, Fetched, Move, before_numbers, before_rows, fetched, is_open, number_on, off_row}
-use Rattle.sq_model.specs.Module.{cursor_named, cursors, declared_parameters, module_named, procedure_named}
+use Rattle.sq_rules.specs.Module.{cursor_named, cursors, declared_parameters, module_named, procedure_named}
 use Rattle.sq_model.specs.Parameter.{Parameters, Reply, inputs_of, parameter_named, replied_row, replied_with, started_parameters}
-use Rattle.sq_model.specs.Schema.{Elements}
-use Rattle.sq_model.specs.WellFormed.{Surroundings, cursor_names, cursor_query, is_well_formed_procedure, orientation_of, select_of_statement, unit_of, updatable_cursor}
+use Rattle.sq_rules.specs.Schema.{Elements}
+use Rattle.sq_rules.specs.WellFormed.{Surroundings, cursor_names, cursor_query, is_well_formed_procedure, orientation_of, select_of_statement, surroundings_of, updatable_cursor}
 
 -- what runs: schema elements and modules, and the greatest number that a row may have
 pub record Program : Type 0 where
@@ -50,7 +49,7 @@ pub record Program : Type 0 where
 
 -- a cursor of a module
 pub record CursorEntry : Type 0 where
-  pub text : Name
+  pub in_module : Name
   pub name : Name
   pub state : CursorState
 
@@ -62,7 +61,7 @@ pub record State : Type 0 where
 
 -- a call of a procedure of a module, with the values that it hands in
 pub record Call : Type 0 where
-  pub text : Name
+  pub in_module : Name
   pub procedure : Name
   pub values : List Value
 
@@ -72,16 +71,16 @@ Outcomes = State × Reply
 -- ---- cursors
 
 abbrev pub is_entry : Name → Name → CursorEntry → Bool
-is_entry text name c = same_name c.text text && same_name c.name name
+is_entry module_name name c = same_name c.in_module module_name && same_name c.name name
 
 abbrev pub cursor_at : State → Name → Name → CursorState
-cursor_at s text name = unwrap_or (option_map (λ c. c.state) (find (is_entry text name) s.cursors)) CursorState.closed
+cursor_at s module_name name = unwrap_or (option_map (λ c. c.state) (find (is_entry module_name name) s.cursors)) CursorState.closed
 
 abbrev pub set_cursor : Name → Name → CursorState → CursorEntry → CursorEntry
-set_cursor text name state c = if is_entry text name c then record c { state = state } else c
+set_cursor module_name name state c = if is_entry module_name name c then record c { state = state } else c
 
 abbrev pub with_cursor : State → Name → Name → CursorState → State
-with_cursor s text name state = record s { cursors = map (set_cursor text name state) s.cursors }
+with_cursor s module_name name state = record s { cursors = map (set_cursor module_name name state) s.cursors }
 
 abbrev pub closed_entry : CursorEntry → CursorEntry
 closed_entry c = record c { state = CursorState.closed }
@@ -92,7 +91,7 @@ all_closed cursors = map closed_entry cursors
 -- ---- at first both databases are empty, and all cursors closed
 
 abbrev pub entries_of : ModuleText → List CursorEntry
-entries_of m = map (λ c. record { text = m.name; name = c.name; state = CursorState.closed }) (cursors m)
+entries_of m = map (λ c. record { in_module = m.name; name = c.name; state = CursorState.closed }) (cursors m)
 
 abbrev pub first_state : Program → State
 first_state p = record {
@@ -105,13 +104,13 @@ first_state p = record {
 
 pub record Running : Type 0 where
   pub program : Program
-  pub text : ModuleText
+  pub in_module : ModuleText
   pub procedure : Procedure
   pub parameters : Parameters
   pub state : State
 
 abbrev pub surroundings : Running → Surroundings
-surroundings r = unit_of r.program.elements r.text r.procedure
+surroundings r = surroundings_of r.program.elements r.in_module r.procedure
 
 abbrev pub setting : Running → Setting
 setting r = record {
@@ -119,7 +118,7 @@ setting r = record {
   row_numbers = r.program.row_numbers;
   content = r.state.tables;
   inputs = inputs_of r.parameters;
-  user = r.text.authorization;
+  user = r.in_module.authorization;
 }
 
 abbrev pub ends_with : Running → Status → Outcomes
@@ -127,26 +126,38 @@ ends_with r s = (r.state, replied_with s)
 
 -- the state of a cursor of the module, before and after
 abbrev pub cursor_now : Running → Name → CursorState
-cursor_now r name = cursor_at r.state r.text.name name
+cursor_now r name = cursor_at r.state r.in_module.name name
 
 abbrev pub moved : Running → Name → CursorState → State
-moved r name state = with_cursor r.state r.text.name name state
+moved r name state = with_cursor r.state r.in_module.name name state
 
 -- ---- OPEN (13.2)
 
 abbrev pub sorted_query : Running → Cursor → List SortColumn → Outcome (List Row)
 sorted_query r c order =
-    ordered_rows (reading (setting r)) (kinds_by_name (tables_of r.program.elements) (surroundings r).parameters) (cursor_query (surroundings r) c) order (outer_env (setting r))
+    ordered_rows (reading (setting r)) (kinds_by_name (tables_of r.program.elements) (surroundings r).parameters)
+    (cursor_query (surroundings r) c) order (outer_env (setting r))
+
+-- the columns that ORDER BY sorts by
+abbrev pub sort_order : Running → Cursor → Outcome (List SortColumn)
+sort_order r c = do
+  names ← cursor_names (surroundings r) c
+  sort_columns names (listed_if_any c.order_by)
 
 -- the rows of the cursor's query, in their order
 abbrev pub cursor_rows : Running → Cursor → Outcome (List Row)
-cursor_rows r c = and_then (sort_columns (cursor_names (surroundings r) c) (listed_if_any c.order_by)) (sorted_query r c)
+cursor_rows r c = do
+  order ← sort_order r c
+  sorted_query r c order
 
 -- an updatable cursor fixes the numbers of its rows, any other the rows
 abbrev pub numbers_or_rows : Running → Cursor → Option Target → Outcome CursorState
-numbers_or_rows r c None = and_then (cursor_rows r c) (λ found. Ok (before_rows found))
-numbers_or_rows r c (Some target) =
-    and_then (chosen_numbers (reading (setting r)) (outer_env (setting r)) target (rows_at (setting r) target.place)) (λ numbers. Ok (before_numbers numbers))
+numbers_or_rows r c None = do
+  found ← cursor_rows r c
+  Ok (before_rows found)
+numbers_or_rows r c (Some target) = do
+  numbers ← chosen_numbers (reading (setting r)) (outer_env (setting r)) target (rows_at (setting r) target.place)
+  Ok (before_numbers numbers)
 
 abbrev pub opened : Running → Cursor → Outcome CursorState
 opened r c = numbers_or_rows r c (updatable_cursor (surroundings r) c)
@@ -219,7 +230,9 @@ single_row (row ∷ []) = Ok row
 single_row (row ∷ next ∷ others) = Err status.CardinalityViolation
 
 abbrev pub selected_row : Running → SelectStatement → Outcome Row
-selected_row r s = and_then (rows (reading (setting r)) (select_of_statement r.text.authorization s) (outer_env (setting r))) single_row
+selected_row r s = do
+  found ← rows (reading (setting r)) (select_of_statement r.in_module.authorization s) (outer_env (setting r))
+  single_row found
 
 abbrev pub select_reply : Running → SelectStatement → Outcome Row → Reply
 select_reply r s (Ok row) = replied_row r.parameters (listed s.targets) row
@@ -230,15 +243,10 @@ select_into r s = (r.state, select_reply r s (selected_row r s))
 
 -- ---- INSERT, UPDATE and DELETE (13.6 to 13.10)
 
--- a status leaves the database as it was
-abbrev pub change_by : Running → Outcome Content → Outcomes
-change_by r (Ok content) = (record r.state { tables = content }, replied_with status.SuccessfulCompletion)
-change_by r (Err s) = ends_with r s
-
--- after a positioned DELETE the cursor is before the next row
-abbrev pub delete_at : Running → Name → Outcome Content → Outcomes
-delete_at r cursor (Ok content) = (record (moved r cursor (off_row (cursor_now r cursor))) { tables = content }, replied_with status.SuccessfulCompletion)
-delete_at r cursor (Err s) = ends_with r s
+-- a status leaves everything as it was; else the database is the new one, and the cursors are as `behind` has them
+abbrev pub change_by : Running → State → Outcome Content → Outcomes
+change_by r behind (Ok content) = (record behind { tables = content }, replied_with status.SuccessfulCompletion)
+change_by r behind (Err s) = ends_with r s
 
 -- the number that the cursor is on, if its row is there
 abbrev pub row_is_there : Running → Target → ℕ → Option ℕ
@@ -247,25 +255,30 @@ row_is_there r target number = option_map (λ row. number) (numbered_row (settin
 abbrev pub current_number : Running → Name → Option ℕ
 current_number r cursor =
     option_and_then (λ c. option_and_then (λ target. option_and_then (row_is_there r target) (number_on (cursor_now r cursor))) (updatable_cursor (surroundings r) c))
-    (cursor_named r.text cursor)
+    (cursor_named r.in_module cursor)
 
--- a positioned statement needs a cursor that is on a row that is there
-abbrev pub at_current : Running → Option ℕ → (ℕ → Outcomes) → Outcomes
-at_current r None go_on = ends_with r status.InvalidCursorState
-at_current r (Some number) go_on = go_on number
+-- which rows UPDATE and DELETE change; a positioned statement needs a cursor that is on a row that is there
+abbrev pub which_rows : Running → Option Where → Outcome Which
+which_rows r None = Ok (Which.searched absent)
+which_rows r (Some (rows_where.Condition c)) = Ok (Which.searched (present (cond_of r.in_module.authorization c)))
+which_rows r (Some (rows_where.CurrentOf cursor)) = do
+  number ← or_status status.InvalidCursorState (current_number r cursor)
+  Ok (Which.numbered number)
 
-abbrev pub where_clause_of : Name → Cond → Clause Named
-where_clause_of user c = present (cond_of user c)
+abbrev pub update_rows : Running → Update → Outcome Content
+update_rows r u = do
+  which ← which_rows r u.target
+  update_outcome (setting r) u which
 
-abbrev pub update_rows : Running → Update → Option Where → Outcomes
-update_rows r u None = change_by r (update_outcome (setting r) u (Which.searched absent))
-update_rows r u (Some (rows_where.Condition c)) = change_by r (update_outcome (setting r) u (Which.searched (where_clause_of r.text.authorization c)))
-update_rows r u (Some (rows_where.CurrentOf cursor)) = at_current r (current_number r cursor) (λ n. change_by r (update_outcome (setting r) u (Which.numbered n)))
+abbrev pub delete_rows : Running → Delete → Outcome Content
+delete_rows r x = do
+  which ← which_rows r x.target
+  delete_outcome (setting r) x which
 
-abbrev pub delete_rows : Running → Delete → Option Where → Outcomes
-delete_rows r x None = change_by r (delete_outcome (setting r) x (Which.searched absent))
-delete_rows r x (Some (rows_where.Condition c)) = change_by r (delete_outcome (setting r) x (Which.searched (where_clause_of r.text.authorization c)))
-delete_rows r x (Some (rows_where.CurrentOf cursor)) = at_current r (current_number r cursor) (λ n. delete_at r cursor (delete_outcome (setting r) x (Which.numbered n)))
+-- after a positioned DELETE the cursor is before the next row
+abbrev pub behind_delete : Running → Option Where → State
+behind_delete r (Some (rows_where.CurrentOf cursor)) = moved r cursor (off_row (cursor_now r cursor))
+behind_delete r _ = r.state
 
 -- ---- COMMIT and ROLLBACK (14.3, 14.4) close all cursors
 
@@ -279,30 +292,30 @@ rolled_back s = record { tables = s.committed; committed = s.committed; cursors 
 
 -- the cursor that a statement names; that it is there is a rule of well-formed statements
 abbrev pub with_named : Running → Name → (Cursor → Outcomes) → Outcomes
-with_named r name go_on = unwrap_or (option_map go_on (cursor_named r.text name)) (ends_with r status.SyntaxErrorOrAccessRuleViolation)
+with_named r name go_on = unwrap_or (option_map go_on (cursor_named r.in_module name)) (ends_with r status.SyntaxErrorOrAccessRuleViolation)
 
 abbrev pub performed : Running → Statement → Outcomes
 performed r (statement.Open name) = with_named r name (open_cursor r name)
 performed r (statement.Fetch f) = with_named r f.cursor (fetch_cursor r f)
 performed r (statement.Close name) = close_cursor r name
 performed r (statement.Select s) = select_into r s
-performed r (statement.Insert i) = change_by r (insert_outcome (setting r) i)
-performed r (statement.Update u) = update_rows r u u.target
-performed r (statement.Delete x) = delete_rows r x x.target
+performed r (statement.Insert i) = change_by r r.state (insert_outcome (setting r) i)
+performed r (statement.Update u) = change_by r r.state (update_rows r u)
+performed r (statement.Delete x) = change_by r (behind_delete r x.target) (delete_rows r x)
 performed r (statement.Commit work) = (committed_state r.state, replied_with status.SuccessfulCompletion)
 performed r (statement.Rollback work) = (rolled_back r.state, replied_with status.SuccessfulCompletion)
 
 -- ---- a call
 
 -- a statement that is not well formed changes nothing
-abbrev pub performed_if : Bool → Running → Outcomes
+abbrev pub performed_if : (well_formed : Bool) → Running → Outcomes
 performed_if true r = performed r r.procedure.statement
 performed_if false r = ends_with r status.SyntaxErrorOrAccessRuleViolation
 
 abbrev pub running : Program → State → List Value → ModuleText → Procedure → Running
 running p s values m procedure = record {
   program = p;
-  text = m;
+  in_module = m;
   procedure = procedure;
   parameters = started_parameters (declared_parameters procedure) values;
   state = s;
@@ -316,7 +329,7 @@ call_in p s c m = option_map (call_of p s c.values m) (procedure_named m c.proce
 
 -- the state after a call, and what it answers; a script's calls name procedures that are there
 abbrev pub outcome : Program → State → Call → Outcomes
-outcome p s c = unwrap_or (option_and_then (call_in p s c) (module_named p.modules c.text)) (s, replied_with status.SyntaxErrorOrAccessRuleViolation)
+outcome p s c = unwrap_or (option_and_then (call_in p s c) (module_named p.modules c.in_module)) (s, replied_with status.SyntaxErrorOrAccessRuleViolation)
 
 abbrev pub stepped : Program → State → Call → State
 stepped p s c = (outcome p s c).0

@@ -12,7 +12,7 @@ use Rattle.sq_meaning.specs.declared.status.Status.{Status}
 use Rattle.sq_model.specs.Machine.{Call, Program, State, replied}
 use Rattle.sq_model.specs.Parameter.{Assignment, Reply}
 use Rattle.sq_model.specs.Run.{Item, after_item}
-use Rattle.sq_model.specs.Schema.{base_place}
+use Rattle.sq_rules.specs.Schema.{base_place}
 
 abbrev pub Bytes : Type 0
 Bytes = List ℕ
@@ -40,7 +40,7 @@ output_codes o = codes " " ++ o.name ++ codes "=" ++ value_codes o.value
 
 abbrev pub call_line : Call → Reply → Bytes
 call_line c reply =
-    c.text ++ codes "." ++ c.procedure ++ codes " " ++ status_codes reply.status ++ flat_map output_codes reply.outputs ++ codes "\n"
+    c.in_module ++ codes "." ++ c.procedure ++ codes " " ++ status_codes reply.status ++ flat_map output_codes reply.outputs ++ codes "\n"
 
 -- ---- a table
 

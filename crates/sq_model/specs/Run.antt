@@ -6,8 +6,8 @@ use Rattle.sq_tree.specs.declared.script.ScriptItem.{ScriptItem}
 use Rattle.sq_tree.specs.declared.script.ScriptItem.TheVariants as script
 use Rattle.sq_meaning.specs.Environment.{TableName}
 use Rattle.sq_model.specs.Machine.{Call, Program, State, stepped}
-use Rattle.sq_model.specs.SchemaRefusal.{elements_of}
-use Rattle.sq_model.specs.Script.{argument_values}
+use Rattle.sq_rules.specs.SchemaRefusal.{elements_of}
+use Rattle.sq_rules.specs.Script.{argument_values}
 
 -- a call, or a base table that is shown
 pub data Item : Type 0 where
@@ -15,7 +15,7 @@ pub data Item : Type 0 where
   show : TableName → Item
 
 abbrev pub item_of_script : ScriptItem → Item
-item_of_script (script.Call «module» procedure arguments) = Item.call (record { text = «module»; procedure = procedure; values = argument_values arguments })
+item_of_script (script.Call «module» procedure arguments) = Item.call (record { in_module = «module»; procedure = procedure; values = argument_values arguments })
 item_of_script (script.Table user table) = Item.show (record { user = user; name = table })
 
 -- what texts say: all schemas, then all modules

@@ -2,8 +2,8 @@ pub mod Added
 pub mod AnyTables
 pub mod Bases
 pub mod Bringable
+pub mod BroughtRows
 pub mod Chosen
-pub mod ColumnTests
 pub mod Finds
 pub mod Fitting
 pub mod JoinedTerms
@@ -18,9 +18,11 @@ pub mod KnownConditions
 pub mod KnownQueries
 pub mod Levels
 pub mod MeantTables
+pub mod NamedTests
 pub mod NeededViews
 pub mod NumbersThere
 pub mod OnlyOne
+pub mod QuietTargets
 pub mod ReadAs
 pub mod ReadRows
 pub mod ReadTables

@@ -1,5 +1,5 @@
 -- The rows of a query expression, UNION by UNION (ISO/IEC 9075:1992, 7.10).
-use Rattle.std.proofs.Common.{◌≡◌, ℕ, zero, suc, ◌+◌, ◌<◌, ◌≤◌, Bool, List, [], ◌∷◌, ◌++◌, length, take, get_or, sym, subst, ap, ◌∙◌, None, Result, Ok, Err}
+use Rattle.std.proofs.Common.{◌≡◌, ℕ, zero, suc, ◌+◌, ◌<◌, ◌≤◌, Bool, List, [], ◌∷◌, ◌++◌, length, take, get_or, sym, subst, ap, ◌∙◌, Option, None, Some, Result, Ok, Err}
 use Rattle.std.proofs.lemmas.List.Sums.{fold_more}
 use Rattle.std.proofs.lemmas.List.{take_all}
 use Rattle.std.specs.Prelude.{fold, flat_map, Vec, IsErrAnd}
@@ -36,11 +36,12 @@ use Rattle.sq_expression.specs.Lines.{env_around}
 use Rattle.sq_condition.specs.Memo.{Meant}
 use Rattle.sq_condition.specs.Specification.{rows_meant}
 use Rattle.sq_condition.specs.Subquery.{KnowsQuery}
-use Rattle.sq_query.specs.Union.{AreBringable, AreFitting, HasUnionRows, HasTermRows, IsReadAs, MayReadAs, joined_rows}
+use Rattle.sq_query.specs.Union.{AreBringable, AreFitting, HasUnionRows, HasTermRows, IsReadAs, MayReadAs, WereJoined, joined_rows}
 use Rattle.sq_expression.specs.declared.context.Context.{Context}
 use Rattle.sq_expression.specs.declared.fault.Fault.{Fault}
 use Rattle.sq_expression.specs.declared.fault.Fault.TheVariants as fault
 use Rattle.sq_query.proofs.Bringable.{both_bringable}
+use Rattle.sq_query.proofs.BroughtRows.{left_by}
 use Rattle.sq_query.proofs.JoinedTerms.{IsJoined, all_left, all_right, all_within, opened, kept_are, sides, kinds_so_far, query_of_term}
 use Rattle.sq_query.proofs.Fitting.{exact, query_fits}
 use Rattle.sq_query.proofs.KeyedRows.{inputs_are}
@@ -151,7 +152,7 @@ module _ (m : Reading (Placed TablePlace)) (k : KindsBefore (Placed TablePlace))
 -- ---- answers
 
 -- a fault that one outcome is, and another with it
-passed_on : {A B C D : Type 0} (view : A → B) (shown : C → D) (e : Fault) (o : Outcome B) (p : Outcome D) → ((s : Status) → o ≡ Err s → p ≡ Err s) → MeetsAs {A = A} view (Err e) o → MeetsAs {A = C} shown (Err e) p
+pub passed_on : {A B C D : Type 0} (view : A → B) (shown : C → D) (e : Fault) (o : Outcome B) (p : Outcome D) → ((s : Status) → o ≡ Err s → p ≡ Err s) → MeetsAs {A = A} view (Err e) o → MeetsAs {A = C} shown (Err e) p
 passed_on view shown fault.NoMemory o p step h = tt
 passed_on view shown (fault.Status f) o p step h = step _ h
 
@@ -202,6 +203,12 @@ module _ (result : Result (Vec (List Value) Global) Fault) (context : Context) w
 
 abbrev pub query_so_far : BoundQuery → ℕ → PlacedQuery
 query_so_far q i = fold with_union (term_of (out-BoundQuery q).first) (take i (out-BoundQuery q).rest)
+
+-- the rows so far are as the UNION before has left them
+abbrev pub AreLeft : BoundQuery → Context → Option BoundUnion → List Row → Type 0
+AreLeft q context before rows =
+    (columns : TableKinds) (parameters : List Kind) (tables : TablePlace → Outcome (List Row)) → MayReadAs columns parameters tables context (specifications_of q) → joined_kinds q ≡ Ok (kinds_of_query q)
+    → WereJoined before rows
 
 -- the rows so far are those that the terms so far have together
 abbrev pub AreMeant : BoundQuery → Context → ℕ → List Row → Type 0
@@ -329,10 +336,18 @@ module _ (q : BoundQuery) where
             let rights = found_kinds (term_of u.term) joined.rs right.items (term_known columns parameters tables u.term term_read.well joined.rs joined.rights) (term columns parameters tables term_read joined.rs joined.rights) in
             subst (λ (ks : List Kind). AreBringable ks (left ++ right.items)) joined.noted (both_bringable joined.ls joined.rs known.0 left right.items lefts rights joined.common)
 
-      pub next_meant : (right out : Vec (List Value) Global) → HasTermRows (Ok right) u.term context
-          → (AreBringable (kinds_of_results u.columns) (left ++ right.items) → HasRows (Ok out) (joined_rows u.all (kinds_of_results u.columns) (left ++ right.items))) → AreMeant q context (i + 1) out.items
-      next_meant right out term join columns parameters tables may noted =
-          next_rows columns parameters tables may noted right term ∙ join (bringable columns parameters tables may noted right term)
+      -- what the UNION is given, and what it answers
+      abbrev IsJoinedTo : Option BoundUnion → List Row → Result (Vec (List Value) Global) Fault → Type 0
+      IsJoinedTo before right result =
+          WereJoined before left → AreBringable (kinds_of_results u.columns) (left ++ right) → HasRows result (joined_rows u.all (kinds_of_results u.columns) (left ++ right))
+
+      pub next_meant : (before : Option BoundUnion) (right out : Vec (List Value) Global) → AreLeft q context before left → HasTermRows (Ok right) u.term context → IsJoinedTo before right.items (Ok out) → AreMeant q context (i + 1) out.items
+      next_meant before right out were term join columns parameters tables may noted =
+          next_rows columns parameters tables may noted right term ∙ join (were columns parameters tables may noted) (bringable columns parameters tables may noted right term)
+
+      pub next_left : (before : Option BoundUnion) (right out : Vec (List Value) Global) → AreLeft q context before left → HasTermRows (Ok right) u.term context → IsJoinedTo before right.items (Ok out) → AreLeft q context (Some u) out.items
+      next_left before right out were term join columns parameters tables may noted =
+          left_by u.all (kinds_of_results u.columns) (left ++ right.items) out.items (join (were columns parameters tables may noted) (bringable columns parameters tables may noted right term))
 
       pub term_failed : (e : Fault) → HasTermRows (Err e) u.term context → HasUnionRows (Err e) q context
       term_failed e term columns parameters tables may noted =
@@ -345,9 +360,9 @@ module _ (q : BoundQuery) where
           (ap (λ p. query_rows m k p env) next_query ∙ right_fails m k env u.all (query_so_far q i) (term_of u.term) left status (so_far columns parameters tables may noted) h))
           (term columns parameters tables (term_read columns parameters tables may noted) s.rs s.rights)
 
-      pub join_failed : (e : Fault) (right : Vec (List Value) Global) → HasTermRows (Ok right) u.term context
-          → (AreBringable (kinds_of_results u.columns) (left ++ right.items) → HasRows (Err e) (joined_rows u.all (kinds_of_results u.columns) (left ++ right.items))) → HasUnionRows (Err e) q context
-      join_failed e right term join columns parameters tables may noted =
+      pub join_failed : (before : Option BoundUnion) (e : Fault) (right : Vec (List Value) Global) → AreLeft q context before left → HasTermRows (Ok right) u.term context → IsJoinedTo before right.items (Err e)
+          → HasUnionRows (Err e) q context
+      join_failed before e right were term join columns parameters tables may noted =
           passed_on rows_in rows_in e (joined_rows u.all (kinds_of_results u.columns) (left ++ right.items)) (query_rows (by_place tables) (kinds_by_place columns parameters) (query_of q) (env_around None context))
           (λ status h. fails_at columns parameters tables may noted status (next_rows columns parameters tables may noted right term ∙ h))
-          (join (bringable columns parameters tables may noted right term))
+          (join (were columns parameters tables may noted) (bringable columns parameters tables may noted right term))

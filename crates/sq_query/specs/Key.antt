@@ -1,5 +1,5 @@
 -- The key by which a target names one row of its base table (ISO/IEC 9075:1992, 13.7 and 13.10; own rule).
-use Rattle.std.specs.Prelude.{◌≡◌, ◌<◌, ℕ, nat_eq, length, take, if◌then◌else◌, true, false, List, [], ◌∷◌, Option, Some, None, Ok}
+use Rattle.std.specs.Prelude.{◌≡◌, ◌<◌, ℕ, length, take, true, false, List, [], ◌∷◌, Some, Ok}
 use Rattle.std.specs.List.{AllZip, Contains}
 use Rattle.sq_lex.specs.declared.name.Name.{Name}
 use Rattle.sq_value.specs.declared.value.Value.{Value}
@@ -14,30 +14,20 @@ use Rattle.sq_meaning.specs.Expression as meaning
 use Rattle.sq_meaning.specs.Placed.{by_place}
 use Rattle.sq_meaning.specs.WellFormed.{HasValue}
 use Rattle.sq_bound.specs.Condition.{test_of}
-use Rattle.sq_bound.specs.Expression.{PlacedExpr, expr_of}
+use Rattle.sq_bound.specs.Expression.{expr_of}
 use Rattle.sq_bound.specs.Keyed.{names_key}
 use Rattle.sq_bound.specs.declared.condition.BoundCond.{BoundCond, out-BoundCond}
 use Rattle.sq_bound.specs.declared.condition.BoundConj.{BoundConj, out-BoundConj}
 use Rattle.sq_bound.specs.declared.condition.BoundTest.{BoundTest}
 use Rattle.sq_bound.specs.declared.condition.TablePlace.{TablePlace}
-use Rattle.sq_bound.specs.declared.condition.Predicate.TheVariants.{Compare}
 use Rattle.sq_bound.specs.declared.expression.BoundExpr.{BoundExpr}
 use Rattle.sq_bound.specs.declared.query.Target.{Target}
 use Rattle.sq_query.specs.Row.{outside}
 use Rattle.sq_query.specs.declared.key.KnownKey.{KnownKey}
 
--- a test `left = right`
-abbrev pub AreEqualled : BoundTest → BoundExpr → BoundExpr → Type 0
-AreEqualled test left right = (test.negated ≡ false) × (test.predicate ≡ Compare Equal left right)
-
 -- a test `column = e`
 abbrev pub IsEquality : ℕ → BoundExpr → BoundTest → Type 0
 IsEquality n e test = (item : ℕ) × (test_of [] test ≡ compare Equal (column (record { depth = 0; item = item; column = n })) (expr_of [] e))
-
--- the column of the row that an expression is
-abbrev pub own_column : PlacedExpr → Option ℕ
-own_column (column p) = if nat_eq p.depth 0 then Some p.column else None
-own_column _ = None
 
 -- the condition of a target names a row by a key with these columns
 abbrev pub NamesBy : List ℕ → Target → Type 0

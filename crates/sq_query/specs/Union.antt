@@ -1,11 +1,12 @@
 -- Query expressions (ISO/IEC 9075:1992, 7.10).
-use Rattle.std.specs.Prelude.{◌≡◌, ◌≤◌, ⊤, ℕ, Bool, if◌then◌else◌, List, [], length, None, Result, Vec, Ok}
+use Rattle.std.specs.Prelude.{◌≡◌, ◌≤◌, ⊤, Bool, true, false, nat_eq, if◌then◌else◌, List, [], Option, None, IfSome, Result, Vec, Ok}
+use Rattle.std.specs.Cmp.Lexicographic.{pointwise}
 use Rattle.std.specs.List.{AllByRecursion, zip}
 use Rattle.std.specs.declared.alloc.Global.{Global}
 use Rattle.sq_value.specs.declared.domain.Kind.{Kind}
 use Rattle.sq_value.specs.declared.domain.Kind.TheVariants as kind
 use Rattle.sq_value.specs.declared.value.Value.{Value}
-use Rattle.sq_value.specs.declared.value.Value.TheVariants.{Num, Chars}
+use Rattle.sq_value.specs.declared.value.Value.TheVariants.{Num}
 use Rattle.sq_meaning.specs.Status.{Outcome, ◌>>=◌, each}
 use Rattle.sq_meaning.specs.Environment.{Row}
 use Rattle.sq_meaning.specs.Placed.{by_place}
@@ -15,11 +16,13 @@ use Rattle.sq_meaning.specs.WellFormed.{Fits, IsRowOf, AreRowsOf, kinds_by_place
 use Rattle.sq_bound.specs.Condition.{select_of}
 use Rattle.sq_bound.specs.Joined.{specifications_of, term_specifications, joined_kinds, term_kinds}
 use Rattle.sq_bound.specs.Query.{query_of, term_of}
-use Rattle.sq_bound.specs.WellFormed.{TableKinds, IsSelect, kinds_of_query}
+use Rattle.sq_bound.specs.WellFormed.{TableKinds, IsSelect, kinds_of_query, kinds_of_results}
 use Rattle.sq_bound.specs.declared.condition.BoundSpecification.{BoundSpecification}
+use Rattle.sq_bound.specs.declared.condition.ResultColumn.{ResultColumn}
 use Rattle.sq_bound.specs.declared.condition.TablePlace.{TablePlace}
 use Rattle.sq_bound.specs.declared.query.BoundQuery.{BoundQuery}
 use Rattle.sq_bound.specs.declared.query.BoundTerm.{BoundTerm}
+use Rattle.sq_bound.specs.declared.query.BoundUnion.{BoundUnion}
 use Rattle.sq_expression.specs.Fault.{HasRows}
 use Rattle.sq_expression.specs.Frame.{table_rows}
 use Rattle.sq_expression.specs.Lines.{env_around}
@@ -73,11 +76,27 @@ IsBringable kinds row = AllByRecursion (λ p. MayBeBrought p.0 p.1) (zip kinds r
 abbrev pub AreBringable : List Kind → List Row → Type 0
 AreBringable kinds = AllByRecursion (IsBringable kinds)
 
--- a text of this length
-abbrev pub IsTextOf : ℕ → Value → Type 0
-IsTextOf n (Chars t) = length t ≡ n
-IsTextOf n _ = ⊥
-
 -- all brought to their common kinds; without ALL each row at its first occurrence
 abbrev pub joined_rows : Bool → List Kind → List Row → Outcome (List Row)
 joined_rows all kinds found = each (row_brought_to kinds) found >>= λ joined. Ok (if all then joined else firsts same_row joined)
+
+-- ---- UNION after UNION
+
+-- rows that were brought to these kinds: they are the same where they are brought to them once more
+abbrev pub AreBrought : List Kind → List Row → Type 0
+AreBrought kinds = AllByRecursion (λ row. row_brought_to kinds row ≡ Ok row)
+
+-- the rows that a UNION has left, if there was one
+abbrev pub WereJoined : Option BoundUnion → List Row → Type 0
+WereJoined before rows = IfSome before (λ u. AreBrought (kinds_of_results u.columns) rows)
+
+-- what was brought to the one kind is the same where it is brought to the other: a varying text is as it is
+abbrev pub stays : Kind → Kind → Bool
+stays (kind.Num s) (kind.Num t) = nat_eq s t
+stays (kind.Chars m) (kind.Chars n) = nat_eq m n
+stays (kind.Chars m) (kind.Vary n) = true
+stays (kind.Vary m) (kind.Vary n) = true
+stays _ _ = false
+
+abbrev pub all_stay : List ResultColumn → List ResultColumn → Bool
+all_stay = pointwise (λ c d. stays c.kind d.kind)

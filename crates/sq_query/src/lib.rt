@@ -19,4 +19,5 @@ mod view;
 pub use inputs::Inputs;
 pub use order::{ordered_rows, specification_rows};
 pub use row::{truth_of, value_of};
+pub use sq_expression::{Failure, Fault};
 pub use target::{is_chosen, numbers_of};

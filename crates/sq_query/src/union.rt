@@ -1,19 +1,19 @@
 //! The rows of a query expression (ISO/IEC 9075:1992, 7.10).
 
-ghost use Rattle.std.specs.Prelude.{◌≤◌, ◌++◌, Ok};
+ghost use Rattle.std.specs.Prelude.{◌≡◌, ◌≤◌, ◌++◌, IsSomeAnd, IsTrue, Ok, option_copied, true};
 ghost use Rattle.sq_value.specs.Storing.{IsStored};
 ghost use Rattle.sq_value.specs.declared.domain.Kind.TheVariants.{Num, Chars};
 ghost use Rattle.sq_value.specs.declared.value.Value.{Value as AnyValue};
 ghost use Rattle.sq_meaning.specs.QueryExpression as meaning;
-ghost use Rattle.sq_meaning.specs.Status.{each};
+ghost use Rattle.sq_meaning.specs.Status.{and_then, each};
 ghost use Rattle.sq_bound.specs.WellFormed.{kinds_of_results};
 ghost use Rattle.sq_expression.specs.Fault.{Meets, HasRows};
-ghost use Rattle.sq_query.specs.Union.{HasUnionRows, HasTermRows, MayBeBrought, IsBringable, AreBringable, IsTextOf, joined_rows};
+ghost use Rattle.sq_query.specs.Union.{HasUnionRows, HasTermRows, MayBeBrought, IsBringable, AreBringable, WereJoined, all_stay, joined_rows, stays};
 
 use sq_bound::{BoundQuery, BoundTerm, BoundUnion, ResultColumn};
 use sq_condition::outermost_rows;
 use sq_expression::{Context, Fault, distinct_rows, number_value};
-use sq_value::{Decimal, Domain, Kind, Row, StoreFault, Value, store};
+use sq_value::{Decimal, Domain, Kind, Row, StoreFault, Text, Value, store};
 use std::alloc::Global;
 
 /// The rows of a query expression: terms are joined from left to right.
@@ -25,11 +25,13 @@ pub(crate) fn query_rows<'a, 'm>(
     ensures { HasUnionRows result query.now context.now }
 {
     let mut so_far = term_rows(&query.first, context)?;
+    let mut before = None;
     for union in query.rest.as_slice() {
         match term_rows(&union.term, context) {
-            Ok(others) => so_far = joined(union, so_far, others, context.alloc)?,
+            Ok(others) => so_far = joined(before, union, so_far, others, context.alloc)?,
             Err(fault) => return Err(fault),
         }
+        before = Some(union);
     }
     Ok(so_far)
 }
@@ -44,19 +46,21 @@ fn term_rows<'a, 'm>(term: &'a BoundTerm, context: &'a Context<'m>) -> Result<Ve
     }
 }
 
-/// The rows of both sides, brought to their common kinds; without ALL each row at its first occurrence.
+/// The rows of both sides, brought to their common kinds; without ALL each row at its first occurrence. The left rows are
+/// those that the UNION before it has left, if there is one.
 fn joined(
+    before: Option<&BoundUnion>,
     union: &BoundUnion,
     left: Vec<Row>,
     right: Vec<Row>,
     alloc: Global,
 ) -> Result<Vec<Row>, Fault>
-    ensures { AreBringable (kinds_of_results union.now.columns) (left.items ++ right.items)
+    ensures { WereJoined (option_copied before.entry) left.items
+        → AreBringable (kinds_of_results union.now.columns) (left.items ++ right.items)
         → HasRows result (joined_rows union.now.all (kinds_of_results union.now.columns) (left.items ++ right.items)) }
 {
-    let found = both(left, right)?;
-    let brought = rows_brought_to(union.columns.as_slice(), found.as_slice(), alloc);
-    drop(found);
+    let columns = union.columns.as_slice();
+    let brought = both_brought_to(columns, before, left, right, alloc);
     if union.all {
         brought
     } else {
@@ -64,34 +68,101 @@ fn joined(
     }
 }
 
-/// The left rows, and then the right ones.
-fn both(left: Vec<Row>, right: Vec<Row>) -> Result<Vec<Row>, Fault>
-    ensures { HasRows result (Ok (left.items ++ right.items)) }
+/// The left rows and then the right ones, brought to the columns.
+fn both_brought_to(
+    columns: &[ResultColumn],
+    before: Option<&BoundUnion>,
+    left: Vec<Row>,
+    right: Vec<Row>,
+    alloc: Global,
+) -> Result<Vec<Row>, Fault>
+    ensures { WereJoined (option_copied before.entry) left.items
+        → AreBringable (kinds_of_results columns.now) (left.items ++ right.items)
+        → HasRows result (each (meaning.row_brought_to (kinds_of_results columns.now)) (left.items ++ right.items)) }
 {
-    let mut rows = left;
-    let mut others = right;
-    rows.append(&mut others)?;
-    Ok(rows)
+    match left_brought_to(columns, before, left, alloc) {
+        Ok(rows) => with_brought(rows, columns, right, alloc),
+        Err(fault) => {
+            drop(right);
+            Err(fault)
+        }
+    }
 }
 
-fn rows_brought_to(columns: &[ResultColumn], rows: &[Row], alloc: Global) -> Result<Vec<Row>, Fault>
-    ensures { AreBringable (kinds_of_results columns.now) rows.now
-        → HasRows result (each (meaning.row_brought_to (kinds_of_results columns.now)) rows.now) }
+/// The left rows, brought to the columns. They stay where the UNION before has brought them to such columns already.
+fn left_brought_to(
+    columns: &[ResultColumn],
+    before: Option<&BoundUnion>,
+    rows: Vec<Row>,
+    alloc: Global,
+) -> Result<Vec<Row>, Fault>
+    ensures { WereJoined (option_copied before.entry) rows.items → AreBringable (kinds_of_results columns.now) rows.items
+        → HasRows result (each (meaning.row_brought_to (kinds_of_results columns.now)) rows.items) }
 {
-    let mut brought = Vec::new(alloc);
-    for row in rows {
-        let row = row_brought_to(columns, row.as_slice(), alloc)?;
+    if stay_under(before, columns) {
+        Ok(rows)
+    } else {
+        with_brought(Vec::new(alloc), columns, rows, alloc)
+    }
+}
+
+/// Whether rows that a UNION has brought to its columns are the same where they are brought to these.
+fn stay_under(before: Option<&BoundUnion>, columns: &[ResultColumn]) -> bool
+    ensures { IsTrue result → IsSomeAnd (option_copied before.entry) (λ u. all_stay u.columns columns.now ≡ true) }
+{
+    match before {
+        Some(before) => all_stay(before.columns.as_slice(), columns),
+        None => false,
+    }
+}
+
+fn all_stay(before: &[ResultColumn], columns: &[ResultColumn]) -> bool
+    ensures { IsTrue result → all_stay before.now columns.now ≡ true }
+{
+    before.len() == columns.len()
+        && before
+            .iter()
+            .zip(columns)
+            .all(|(before, column)| stays(before.kind, column.kind))
+}
+
+/// Whether a value that was brought to a kind is the same where it is brought to another one: a varying text is as it is.
+fn stays(before: Kind, kind: Kind) -> bool
+    ensures { result ≡ stays before kind }
+{
+    match (before, kind) {
+        (Kind::Num(before), Kind::Num(scale)) => before == scale,
+        (Kind::Chars(before), Kind::Chars(length)) => before == length,
+        (Kind::Chars(_) | Kind::Vary(_), Kind::Vary(_)) => true,
+        _ => false,
+    }
+}
+
+/// Rows, and behind them others that are brought to the columns.
+fn with_brought(
+    rows: Vec<Row>,
+    columns: &[ResultColumn],
+    others: Vec<Row>,
+    alloc: Global,
+) -> Result<Vec<Row>, Fault>
+    ensures { AreBringable (kinds_of_results columns.now) others.items
+        → HasRows result (and_then (each (meaning.row_brought_to (kinds_of_results columns.now)) others.items)
+        (λ brought. Ok (rows.items ++ brought))) }
+{
+    let mut brought = rows;
+    for row in others {
+        let row = row_brought_to(columns, row, alloc)?;
         brought.push(row)?;
     }
     Ok(brought)
 }
 
-fn row_brought_to(columns: &[ResultColumn], row: &[Value], alloc: Global) -> Result<Row, Fault>
-    ensures { IsBringable (kinds_of_results columns.now) row.now
-        → Meets result (meaning.row_brought_to (kinds_of_results columns.now) row.now) }
+fn row_brought_to(columns: &[ResultColumn], row: Row, alloc: Global) -> Result<Row, Fault>
+    ensures { IsBringable (kinds_of_results columns.now) row
+        → Meets result (meaning.row_brought_to (kinds_of_results columns.now) row) }
 {
     let mut brought = Row::new(alloc);
-    for (column, value) in columns.iter().zip(row) {
+    for (column, value) in columns.iter().zip(row.into_vec()) {
         let value = brought_to(*column, value, alloc)?;
         brought.push(value)?;
     }
@@ -100,18 +171,34 @@ fn row_brought_to(columns: &[ResultColumn], row: &[Value], alloc: Global) -> Res
 
 /// A value as a column of a UNION has it: a number at the scale, a fixed text padded with blanks to the length, a varying
 /// text as it is.
-#[tactic(auto, using(crate::proofs::Bringable::bounded_scale, crate::proofs::Bringable::bounded_length))]
-fn brought_to(column: ResultColumn, value: &Value, alloc: Global) -> Result<Value, Fault>
-    ensures { MayBeBrought column.kind value.now → Meets result (meaning.brought_to column.kind value.now) }
+fn brought_to(column: ResultColumn, value: Value, alloc: Global) -> Result<Value, Fault>
+    ensures { MayBeBrought column.kind value → Meets result (meaning.brought_to column.kind value) }
 {
-    match (column.kind, value) {
-        (_, Value::Null) => Ok(Value::Null),
-        (Kind::Num(scale), Value::Num(number)) => at_scale(scale, *number),
-        (Kind::Chars(length), Value::Chars(text)) => {
-            padded(value, text.codes().len(), length, alloc)
-        }
-        (Kind::Vary(_), Value::Chars(_)) => Ok(value.copy(alloc)?),
-        _ => Err(Fault::NOT_WELL_FORMED),
+    match value {
+        Value::Null => Ok(Value::Null),
+        Value::Num(number) => number_brought_to(column, number),
+        Value::Chars(text) => text_brought_to(column, text, alloc),
+    }
+}
+
+#[tactic(auto, using(crate::proofs::Bringable::bounded_scale))]
+fn number_brought_to(column: ResultColumn, number: Decimal) -> Result<Value, Fault>
+    ensures { MayBeBrought column.kind (Value.Num number) → Meets result (meaning.brought_to column.kind (Value.Num number)) }
+{
+    match column.kind {
+        Kind::Num(scale) => at_scale(scale, number),
+        Kind::Chars(_) | Kind::Vary(_) => Err(Fault::NOT_WELL_FORMED),
+    }
+}
+
+#[tactic(auto, using(crate::proofs::Bringable::bounded_length))]
+fn text_brought_to(column: ResultColumn, text: Text, alloc: Global) -> Result<Value, Fault>
+    ensures { Meets result (meaning.brought_to column.kind (Value.Chars text)) }
+{
+    match column.kind {
+        Kind::Chars(length) => padded(text, length, alloc),
+        Kind::Vary(_) => Ok(Value::Chars(text)),
+        Kind::Num(_) => Err(Fault::NOT_WELL_FORMED),
     }
 }
 
@@ -123,16 +210,18 @@ fn at_scale(scale: u8, number: Decimal) -> Result<Value, Fault>
     number_value(number.add(Decimal::new(0, scale)))
 }
 
-/// A text of a length, with blanks behind it up to another one.
-fn padded(text: &Value, from: usize, to: u16, alloc: Global) -> Result<Value, Fault>
-    requires text { IsTextOf from text.now }
-    requires length { to ≤ 240 }
-    ensures { Meets result (meaning.brought_to (Chars to) text.now) }
+/// A text with blanks behind it, up to a length.
+fn padded(text: Text, length: u16, alloc: Global) -> Result<Value, Fault>
+    requires { length ≤ 240 }
+    ensures { Meets result (meaning.brought_to (Chars length) (Value.Chars text)) }
 {
-    if from >= to as usize {
-        Ok(text.copy(alloc)?)
+    if text.codes().len() >= length as usize {
+        Ok(Value::Chars(text))
     } else {
-        stored(store(alloc, text, Domain::Char(to)))
+        let text = Value::Chars(text);
+        let padded = stored(store(alloc, &text, Domain::Char(length)));
+        drop(text);
+        padded
     }
 }
 

@@ -1,5 +1,5 @@
 -- What schema and module texts open, step by step.
-use Rattle.std.proofs.Common.{◌≡◌, ◌∙◌, ℕ, List, length, Result, Ok, Err, subst, sym}
+use Rattle.std.proofs.Common.{◌≡◌, ◌∙◌, ℕ, List, Result, Ok, Err, subst, sym}
 use Rattle.std.specs.Prelude.{IfOk}
 use Rattle.sq_tree.specs.Schema.{schema_tokens}
 use Rattle.sq_tree.specs.Module.{module_tokens}
@@ -16,9 +16,9 @@ use Rattle.sq_run.specs.Run.{AllSpell, IsStart}
 use Rattle.sq_run.specs.declared.texts.TextFault.{TextFault}
 
 pub defined_if : (schemas : List Bytes) (trees : List SchemaText) (answer : Result Catalog TextFault) → AllSpell schema_tokens schemas trees
-    → IfOk answer (λ c. c.tables ≡ declared_tables trees) → IfOk answer (λ c. Declares trees (known c) c.bases c.views) → IfOk answer (λ c. length c.bases ≡ length c.tables) → IfOk answer (Defined schemas)
-defined_if schemas trees (Ok c) spelled tables declares bases = record { trees = trees; spelled = spelled; tables = tables; declares = declares; bases = bases }
-defined_if schemas trees (Err fault) spelled tables declares bases = tables
+    → IfOk answer (λ c. c.tables ≡ declared_tables trees) → IfOk answer (λ c. Declares trees (known c) c.bases c.views) → IfOk answer (Defined schemas)
+defined_if schemas trees (Ok c) spelled tables declares = record { trees = trees; spelled = spelled; tables = tables; declares = declares }
+defined_if schemas trees (Err fault) spelled tables declares = tables
 
 pub holds_if : (row_numbers : ℕ) (c : Catalog) (modules : List Bytes) (trees : List ModuleText) (answer : Result Session TextFault) → AllSpell module_tokens modules trees
     → IfOk answer (λ s. s.tables ≡ c.tables) → IfOk answer (λ s. s.schemas ≡ schemas_of c) → IfOk answer (λ s. names_of s.procedures ≡ declared_procedures trees)

@@ -9,7 +9,7 @@ use Rattle.sq_run.specs.declared.action.ShowAction.{ShowAction}
 
 -- the call as its line names it
 abbrev pub call_of : CallAction → MachineCall
-call_of c = record { text = c.«module»; procedure = c.name; values = c.values }
+call_of c = record { in_module = c.«module»; procedure = c.name; values = c.values }
 
 -- the table as its lines name it
 abbrev pub table_of : ShowAction → TableName

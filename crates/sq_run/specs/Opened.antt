@@ -1,5 +1,5 @@
 -- What schema and module texts open.
-use Rattle.std.specs.Prelude.{◌≡◌, ℕ, List, length}
+use Rattle.std.specs.Prelude.{◌≡◌, ℕ, List}
 use Rattle.sq_tree.specs.Schema.{schema_tokens}
 use Rattle.sq_tree.specs.Module.{module_tokens}
 use Rattle.sq_tree.specs.declared.module.ModuleText.{ModuleText}
@@ -18,7 +18,6 @@ pub record Defined (schemas : List Bytes) (c : Catalog) : Type 0 where
   pub spelled : AllSpell schema_tokens schemas trees
   pub tables : c.tables ≡ declared_tables trees
   pub declares : Declares trees (known c) c.bases c.views
-  pub bases : length c.bases ≡ length c.tables
 
 -- a session over the tables of this catalog, of trees that the modules spell
 pub record Holds (row_numbers : ℕ) (c : Catalog) (modules : List Bytes) (s : Session) : Type 0 where

@@ -2,7 +2,7 @@
 ghost use Rattle.std.specs.Prelude.{◌≡◌, map, IfErr, IfOk};
 ghost use Rattle.sq_tree.specs.declared.script.ScriptItem.TheVariants as script;
 ghost use Rattle.sq_meaning.specs.Spelled.{listed};
-ghost use Rattle.sq_model.specs.Script as model;
+ghost use Rattle.sq_rules.specs.Script as model;
 ghost use Rattle.sq_model.specs.Run.{item_of_script};
 ghost use Rattle.sq_run.specs.Action.{item_of};
 ghost use Rattle.sq_run.specs.Fault.{IsItemFault};

@@ -3,15 +3,17 @@
 
 mod action;
 mod items;
+mod limits;
 mod perform;
 mod prepare;
 mod refusal;
 mod report;
 mod texts;
 
+pub use limits::Limits;
 pub use perform::run;
 pub use refusal::{Refusal, RefusalName, RunFault};
-pub use sq_catalog::{Limits, RefusalName as SchemaRefusalName};
+pub use sq_catalog::RefusalName as SchemaRefusalName;
 pub use sq_lex::LexFaultKind;
 pub use sq_module::ModuleRefusalName;
 pub use sq_out::{Out, OutFault, OutOf};

@@ -6,10 +6,10 @@ ghost use Rattle.sq_run.specs.Performed.{IsScriptStop, Performed};
 ghost use Rattle.sq_run.specs.Stop.{StoppedAt, Wrote, is_write};
 
 use crate::action::Action;
+use crate::limits::Limits;
 use crate::prepare::{open_session, read_script};
 use crate::refusal::RunFault;
 use crate::report::{call_line, table_lines};
-use sq_catalog::Limits;
 use sq_out::{Out, write_whole};
 use sq_session::Session;
 use sq_store::{MOST_ROW_NUMBERS, Store};

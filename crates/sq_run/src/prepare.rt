@@ -20,9 +20,10 @@ ghost use Rattle.sq_run.specs.Steps.{IsPrepared};
 
 use crate::action::Action;
 use crate::items::{ItemFault, action_of};
+use crate::limits::Limits;
 use crate::refusal::{RefusalName, RunFault};
 use crate::texts::{TextFault, read_all, read_text, refused_again};
-use sq_catalog::{Catalog, CatalogFault, Limits, SchemaRefusal};
+use sq_catalog::{Catalog, CatalogFault, SchemaRefusal};
 use sq_session::{ModuleRefusal, Session, SessionFault};
 use sq_spell::{module_item_start, schema_element_start, schema_start, script_item_start};
 use sq_store::{MOST_ROW_NUMBERS, Store};
@@ -43,7 +44,7 @@ pub(crate) fn open_session<S: Store>(
     ensures opened { IfOk result (Opened limits.row_numbers (texts schemas.now) (texts modules.now)) }
     ensures refused { IfErr result (IsOpeningFault (texts schemas.now) (texts modules.now)) }
 {
-    let catalog = match catalog_of(alloc, schemas, limits) {
+    let catalog = match catalog_of(alloc, schemas) {
         Ok(catalog) => catalog,
         Err(fault) => return Err(schema_fault(fault)),
     };
@@ -71,32 +72,25 @@ pub(crate) fn read_script<S: Store>(
 
 /// What the schema texts define.
 #[tactic(auto, using(crate::proofs::Opened::defined_if))]
-fn catalog_of(alloc: Global, schemas: &[Vec<u8>], limits: Limits) -> Result<Catalog, TextFault>
+fn catalog_of(alloc: Global, schemas: &[Vec<u8>]) -> Result<Catalog, TextFault>
     ensures spelled { IfOk result (λ _. SomeTrees schema_tokens (texts schemas.now)) }
     ensures defined { IfOk result (Defined (texts schemas.now)) }
-    ensures bases { IfOk result (λ c. length c.bases ≡ length c.tables) }
     ensures refused { IfErr result (SomeRefused schema_tokens schema_depth (texts schemas.now)) }
 {
     let trees = read_all::<SchemaText>(alloc, schemas)?;
-    let answer = built(alloc, schemas, trees.as_slice(), limits);
+    let answer = built(alloc, schemas, trees.as_slice());
     drop(trees);
     answer
 }
 
 /// What the trees of the schema texts define.
-fn built(
-    alloc: Global,
-    schemas: &[Vec<u8>],
-    trees: &[SchemaText],
-    limits: Limits,
-) -> Result<Catalog, TextFault>
+fn built(alloc: Global, schemas: &[Vec<u8>], trees: &[SchemaText]) -> Result<Catalog, TextFault>
     requires spelled { AllSpell schema_tokens (texts schemas.now) trees.now }
     ensures tables { IfOk result (λ c. c.tables ≡ declared_tables trees.now) }
     ensures declares { IfOk result (λ c. Declares trees.now (known c) c.bases c.views) }
-    ensures bases { IfOk result (λ c. length c.bases ≡ length c.tables) }
     ensures refused { IfErr result (SomeRefused schema_tokens schema_depth (texts schemas.now)) }
 {
-    match Catalog::build(alloc, trees, limits) {
+    match Catalog::build(alloc, trees) {
         Ok(catalog) => Ok(catalog),
         Err(CatalogFault::NoMemory) => Err(TextFault::NoMemory),
         Err(CatalogFault::Refused(refusal)) => Err(refused_schema(alloc, schemas, trees, refusal)),
@@ -138,7 +132,6 @@ fn session_of<S: Store>(
     limits: Limits,
 ) -> Result<Session<S>, TextFault>
     requires numbers { limits.row_numbers ≤ MOST_ROW_NUMBERS }
-    requires bases { length catalog.bases ≡ length catalog.tables }
     ensures spelled { IfOk result (λ _. SomeTrees module_tokens (texts modules.now)) }
     ensures holds { IfOk result (Holds limits.row_numbers catalog (texts modules.now)) }
     ensures refused { IfErr result (SomeRefused module_tokens module_depth (texts modules.now)) }
@@ -164,7 +157,6 @@ fn session_from<S: Store>(
     limits: Limits,
 ) -> Result<Session<S>, TextFault>
     requires numbers { limits.row_numbers ≤ MOST_ROW_NUMBERS }
-    requires bases { length catalog.bases ≡ length catalog.tables }
     requires spelled { AllSpell module_tokens (texts modules.now) trees.now }
     ensures tables { IfOk result (λ s. s.tables ≡ catalog.tables) }
     ensures procedures { IfOk result (λ s. names_of s.procedures ≡ declared_procedures trees.now) }
@@ -189,7 +181,6 @@ fn session_over<S: Store>(
     limits: Limits,
 ) -> Result<Session<S>, SessionFault>
     requires numbers { limits.row_numbers ≤ MOST_ROW_NUMBERS }
-    requires bases { length catalog.bases ≡ length catalog.tables }
     ensures tables { IfOk result (λ s. s.tables ≡ catalog.tables) }
     ensures procedures { IfOk result (λ s. names_of s.procedures ≡ declared_procedures modules.now) }
     ensures schemas { IfOk result (λ s. s.schemas ≡ schemas_of catalog) }
@@ -215,10 +206,7 @@ fn store_of<S: Store>(alloc: Global, catalog: &Catalog, limits: Limits) -> Resul
     ensures keys { IfOk result (λ store. S.key_columns store ≡ keys_of_bases catalog.now.bases) }
     ensures numbers { IfOk result (λ store. S.row_numbers store ≡ limits.row_numbers) }
 {
-    let keys = catalog.keys(alloc)?;
-    let store = S::new(alloc, keys.as_slice(), limits.row_numbers);
-    drop(keys);
-    store
+    S::new(alloc, catalog.keys(), limits.row_numbers)
 }
 
 /// A refusal of a module at its first token, or of one of its cursors or procedures at that one's.

@@ -40,7 +40,7 @@ use Rattle.sq_bound.specs.declared.expression.Operator.{Operator}
 use Rattle.sq_bound.specs.declared.expression.SetFunctionCall.{SetFunctionCall}
 use Rattle.sq_bound.specs.declared.fault.BindFault.{BindFault}
 use Rattle.sq_bound.specs.declared.names.ParameterDesc.{ParameterDesc}
-use Rattle.sq_scope.specs.Expression.{Adds, Grows, IsBound, IsSigned, IsTree, IsTreeAmong, IsTypedOperation, column_kind, indicator_named, kinds_in, parameter_kind, parameter_named, placed, placed_column, placed_parameter, product_operator, sum_operator, with_sign}
+use Rattle.sq_scope.specs.Expression.{Adds, Grows, IsBound, IsSigned, IsTree, IsTreeAmong, IsTypedOperation, column_kind, indicator_named, kinds_in, parameter_kind, parameter_named, placed, placed_column, placed_parameter, product_operator, sum_operator}
 use Rattle.sq_scope.specs.Kinds.{operated_kind}
 use Rattle.sq_scope.specs.Scope.{Means, column_at, scopes_in}
 use Rattle.sq_scope.specs.WellFormed.{IsColumn}
@@ -189,9 +189,9 @@ module _ (scopes : List (List FromItem)) (parameters : List ParameterDesc) where
   pub bound_signed : (calls : List SetFunctionCall) (sign : Sign) (e : Expr Named) (operand typed : Typed) → Bound calls e operand → IsSigned sign operand typed → Bound calls (signed sign e) typed
   bound_signed calls sign e operand typed b s =
       record {
-        tree = with_sign sign b.tree;
-        is_placed = ap (λ o. and_then o (λ x. Ok (with_sign sign x))) b.is_placed;
-        is_tree = λ later. s.0 (map call_of (calls ++ later)) ∙ ap (with_sign sign) (b.is_tree later);
+        tree = signed sign b.tree;
+        is_placed = ap (λ o. and_then o (λ x. Ok (signed sign x))) b.is_placed;
+        is_tree = λ later. s.0 (map call_of (calls ++ later)) ∙ ap (signed sign) (b.is_tree later);
         kind_is = ap (λ o. and_then o signed_kind) b.kind_is ∙ s.1;
       }
 

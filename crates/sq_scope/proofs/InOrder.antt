@@ -8,7 +8,6 @@ use Rattle.sq_value.specs.Spelling.{read}
 use Rattle.sq_value.specs.declared.domain.Kind.TheVariants as kinds
 use Rattle.sq_value.specs.declared.value.Value.TheVariants as value
 use Rattle.sq_tree.specs.declared.expr.Sign.{Sign}
-use Rattle.sq_tree.specs.declared.expr.Sign.TheVariants.{Plus, Minus}
 use Rattle.sq_tree.specs.declared.names.ColumnReference.{ColumnReference}
 use Rattle.sq_tree.specs.declared.names.Parameter.{Parameter}
 use Rattle.sq_meaning.specs.Expression.{set_functions}
@@ -22,7 +21,7 @@ use Rattle.sq_bound.specs.declared.expression.SetFunctionCall.{SetFunctionCall}
 use Rattle.sq_bound.specs.declared.expression.SetFunctionCall.TheVariants as call
 use Rattle.sq_bound.specs.declared.fault.BindFault.{BindFault}
 use Rattle.sq_bound.specs.declared.names.ParameterDesc.{ParameterDesc}
-use Rattle.sq_scope.specs.Expression.{AddsExpr, AddsInOrder, IsSigned, IsTree, IsTreeAmong, IsTypedOperation, expr_functions, parameter_kind, placed_parameter, with_sign}
+use Rattle.sq_scope.specs.Expression.{AddsExpr, AddsInOrder, IsSigned, IsTree, IsTreeAmong, IsTypedOperation, expr_functions, parameter_kind, placed_parameter}
 use Rattle.sq_scope.specs.WellFormed.{IsColumn}
 use Rattle.sq_scope.specs.declared.typed.Typed.{Typed}
 use Rattle.sq_scope.specs.declared.scope.Environment.{Environment}
@@ -91,15 +90,11 @@ column_in_order calls environment has_ungrouped r (Ok typed) h = none_in_order c
 
 -- ---- operations
 
-sign_same : (sign : Sign) (tree : PlacedExpr) → set_functions (with_sign sign tree) ≡ set_functions tree
-sign_same Plus tree = refl
-sign_same Minus tree = refl
-
 pub signed_in_order : (before after : Calls) (sign : Sign) (operand o : Result Typed BindFault) → IfOk operand (AddsExpr before after)
     → IfOk o (λ typed. (x : Typed) × (operand ≡ Ok x) × IsSigned sign x typed) → IfOk o (AddsExpr before after)
 signed_in_order before after sign operand (Err fault) b s = tt
 signed_in_order before after sign operand (Ok typed) b (x, is, s) =
-    adds_same (expr_functions x.expr) (expr_functions typed.expr) before after (λ functions. ap set_functions (s.0 functions) ∙ sign_same sign (expr_of functions x.expr)) (IfOk-at_ok (AddsExpr before after) is b)
+    adds_same (expr_functions x.expr) (expr_functions typed.expr) before after (λ functions. ap set_functions (s.0 functions)) (IfOk-at_ok (AddsExpr before after) is b)
 
 operated_functions : (o : Operator) (a b : PlacedExpr) → set_functions (operated o a b) ≡ set_functions a ++ set_functions b
 operated_functions operator.Plus a b = refl

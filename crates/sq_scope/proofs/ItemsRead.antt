@@ -7,7 +7,6 @@ use Rattle.sq_value.specs.Spelling.{read}
 use Rattle.sq_value.specs.declared.domain.Kind.TheVariants as kinds
 use Rattle.sq_value.specs.declared.value.Value.TheVariants as value
 use Rattle.sq_tree.specs.declared.expr.Sign.{Sign}
-use Rattle.sq_tree.specs.declared.expr.Sign.TheVariants.{Plus, Minus}
 use Rattle.sq_tree.specs.declared.names.Parameter.{Parameter}
 use Rattle.sq_meaning.specs.Placed.{PlacedParameter}
 use Rattle.sq_meaning.specs.Syntax.{literal, parameter}
@@ -21,7 +20,7 @@ use Rattle.sq_bound.specs.declared.expression.Operator.{Operator}
 use Rattle.sq_bound.specs.declared.expression.Operator.TheVariants as operator
 use Rattle.sq_bound.specs.declared.fault.BindFault.{BindFault}
 use Rattle.sq_bound.specs.declared.names.ParameterDesc.{ParameterDesc}
-use Rattle.sq_scope.specs.Expression.{IsReadTyped, IsSigned, IsTree, IsTypedOperation, parameter_kind, placed_parameter, with_sign}
+use Rattle.sq_scope.specs.Expression.{IsReadTyped, IsSigned, IsTree, IsTypedOperation, parameter_kind, placed_parameter}
 use Rattle.sq_scope.specs.declared.typed.Typed.{Typed}
 
 -- ---- leaves
@@ -62,15 +61,11 @@ read_more items more (Ok typed) e h = expr_among_more items more e (expr_of [] t
 
 -- ---- signs and operators
 
-sign_read : (items : ℕ) (sign : Sign) (tree : PlacedExpr) → ExprReadsItems items tree → ExprReadsItems items (with_sign sign tree)
-sign_read items Plus tree h = h
-sign_read items Minus tree h = h
-
 pub signed_read : (items : ℕ) (sign : Sign) (operand o : Result Typed BindFault) → IfOk operand (IsReadTyped items)
     → IfOk o (λ typed. (x : Typed) × (operand ≡ Ok x) × IsSigned sign x typed) → IfOk o (IsReadTyped items)
 signed_read items sign operand (Err fault) b s = tt
 signed_read items sign operand (Ok typed) b (x, is, s) =
-    subst (ExprReadsItems items) (sym (s.0 [])) (sign_read items sign (expr_of [] x.expr) (IfOk-at_ok (IsReadTyped items) is b))
+    subst (ExprReadsItems items) (sym (s.0 [])) (IfOk-at_ok (IsReadTyped items) is b)
 
 operated_read : (items : ℕ) (op : Operator) (left right : PlacedExpr) → ExprReadsItems items left → ExprReadsItems items right → ExprReadsItems items (operated op left right)
 operated_read items operator.Plus left right h k = (h, k)

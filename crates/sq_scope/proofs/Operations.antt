@@ -1,7 +1,7 @@
 -- Trees of bound expressions with a further level.
 use Rattle.std.proofs.Common.{◌≡◌, true, not, List, [], ◌∷◌, ◌++◌, Ok, Err, refl, sym, ap, ◌∙◌}
 use Rattle.std.specs.Prelude.{fold, IfOk, Result}
-use Rattle.sq_tree.specs.declared.expr.Sign.TheVariants.{Minus}
+use Rattle.sq_tree.specs.declared.expr.Sign.{Sign}
 use Rattle.sq_value.specs.declared.domain.Kind.{Kind}
 use Rattle.sq_value.specs.declared.domain.Kind.TheVariants as kind
 use Rattle.sq_meaning.specs.Kind.{signed_kind}
@@ -14,7 +14,7 @@ use Rattle.sq_bound.specs.declared.expression.Operation.{Operation}
 use Rattle.sq_bound.specs.declared.expression.Operator.{Operator}
 use Rattle.sq_bound.specs.declared.fault.BindFault.{BindFault}
 use Rattle.sq_scope.specs.declared.typed.Typed.{Typed}
-use Rattle.sq_bound.proofs.ExpressionLaws.{expr_of-Negated, expr_of-Operations, operation_of-out}
+use Rattle.sq_bound.proofs.ExpressionLaws.{expr_of-Signed, expr_of-Operations, operation_of-out}
 use Rattle.sq_scope.specs.Expression.{IsOperation, IsTree, IsTypedOperation}
 
 fold_behind : {A B : Type 0} (f : A → B → A) (a : A) (bs : List B) (b : B) → fold f a (bs ++ b ∷ []) ≡ f (fold f a bs) b
@@ -38,8 +38,8 @@ operation_first left first rest o is e functions =
     ∙ operation_of-out functions o (expr_of functions first)
     ∙ ap (λ x. operated o.operator (expr_of functions x) (expr_of functions o.operand)) is
 
-pub negated_is : (operand boxed : BoundExpr) → boxed ≡ operand → IsTree (λ functions. signed Minus (expr_of functions operand)) (bound.Negated boxed)
-negated_is operand boxed e functions = expr_of-Negated functions boxed ∙ ap (λ x. signed Minus (expr_of functions x)) e
+pub signed_is : (sign : Sign) (operand boxed : BoundExpr) → boxed ≡ operand → IsTree (λ functions. signed sign (expr_of functions operand)) (bound.Signed sign boxed)
+signed_is sign operand boxed e functions = expr_of-Signed functions sign boxed ∙ ap (λ x. signed sign (expr_of functions x)) e
 
 pub signed_number : (k : Kind) → true ≡ not (is_text k) → signed_kind k ≡ Ok k
 signed_number (kind.Num s) h = refl

@@ -7,7 +7,6 @@ use Rattle.sq_value.specs.Spelling.{read}
 use Rattle.sq_value.specs.declared.domain.Kind.TheVariants as kinds
 use Rattle.sq_value.specs.declared.value.Value.TheVariants as value
 use Rattle.sq_tree.specs.declared.expr.Sign.{Sign}
-use Rattle.sq_tree.specs.declared.expr.Sign.TheVariants.{Plus, Minus}
 use Rattle.sq_tree.specs.declared.names.ColumnReference.{ColumnReference}
 use Rattle.sq_tree.specs.declared.names.Parameter.{Parameter}
 use Rattle.sq_meaning.specs.Placed.{PlacedParameter}
@@ -19,7 +18,7 @@ use Rattle.sq_bound.specs.Noted.{AreSure, IsSureExpr}
 use Rattle.sq_bound.specs.declared.expression.BoundExpr.TheVariants as bound
 use Rattle.sq_bound.specs.declared.fault.BindFault.{BindFault}
 use Rattle.sq_bound.specs.declared.names.ParameterDesc.{ParameterDesc}
-use Rattle.sq_scope.specs.Expression.{IsSureUnless, IsSigned, IsTree, parameter_kind, placed_parameter, with_sign}
+use Rattle.sq_scope.specs.Expression.{IsSureUnless, IsSigned, IsTree, parameter_kind, placed_parameter}
 use Rattle.sq_scope.specs.WellFormed.{IsColumn}
 use Rattle.sq_scope.specs.declared.typed.Typed.{Typed}
 use Rattle.sq_scope.specs.declared.scope.Environment.{Environment}
@@ -75,12 +74,8 @@ column_quiet can_fail environment has_ungrouped r (Ok typed) h = λ no. leaf_qui
 
 -- ---- signs
 
-sign_quiet : (sign : Sign) (tree : PlacedExpr) → is_sure_expr (with_sign sign tree) ≡ is_sure_expr tree
-sign_quiet Plus tree = refl
-sign_quiet Minus tree = refl
-
 pub signed_quiet : (can_fail : Bool) (sign : Sign) (operand o : Result Typed BindFault) → IfOk operand (IsSureUnless can_fail)
     → IfOk o (λ typed. (x : Typed) × (operand ≡ Ok x) × IsSigned sign x typed) → IfOk o (IsSureUnless can_fail)
 signed_quiet can_fail sign operand (Err fault) b s = tt
 signed_quiet can_fail sign operand (Ok typed) b (x, is, s) = λ no functions are.
-    ap is_sure_expr (s.0 functions) ∙ sign_quiet sign (expr_of functions x.expr) ∙ IfOk-at_ok (IsSureUnless can_fail) is b no functions are
+    ap is_sure_expr (s.0 functions) ∙ IfOk-at_ok (IsSureUnless can_fail) is b no functions are

@@ -8,13 +8,12 @@ use Rattle.sq_value.specs.Spelling.{read}
 use Rattle.sq_value.specs.declared.domain.Kind.TheVariants as kinds
 use Rattle.sq_value.specs.declared.value.Value.TheVariants as value
 use Rattle.sq_tree.specs.declared.expr.Sign.{Sign}
-use Rattle.sq_tree.specs.declared.expr.Sign.TheVariants.{Plus, Minus}
 use Rattle.sq_tree.specs.declared.names.Parameter.{Parameter}
 use Rattle.sq_meaning.proofs.AnswerLaws.{all_appended}
 use Rattle.sq_meaning.specs.Environment as meaning
 use Rattle.sq_meaning.specs.Placed.{PlacedParameter}
 use Rattle.sq_meaning.specs.Sure.{is_extreme, is_sure_expr}
-use Rattle.sq_meaning.specs.Syntax.{literal, parameter, user, column}
+use Rattle.sq_meaning.specs.Syntax.{literal, parameter, user, column, signed}
 use Rattle.sq_bound.proofs.ExpressionLaws.{expr_of-SetFunction}
 use Rattle.sq_bound.proofs.ReadColumns.{expr_from, cond_from, select_from}
 use Rattle.sq_bound.specs.Columns.{CondReads, ExprReads, IsClosed, IsInside, IsWithin, SelectReads}
@@ -32,7 +31,7 @@ use Rattle.sq_bound.specs.declared.expression.SetFunctionCall.TheVariants.{Over}
 use Rattle.sq_bound.specs.declared.fault.BindFault.{BindFault}
 use Rattle.sq_bound.specs.declared.names.ParameterDesc.{ParameterDesc}
 use Rattle.sq_tree.specs.declared.expr.SetFunction.{SetFunction}
-use Rattle.sq_scope.specs.Expression.{IsSigned, IsSureUnless, IsTree, IsTypedOperation, parameter_kind, placed_parameter, with_sign}
+use Rattle.sq_scope.specs.Expression.{IsSigned, IsSureUnless, IsTree, IsTypedOperation, parameter_kind, placed_parameter}
 use Rattle.sq_scope.specs.Reach.{AreNotedFunctions, AreOwn, AreOwnCalls, IsFromInside, IsOutward, MayReach, NoFurther, Outward, ReadsOutward, ReadsWithin, no_further}
 use Rattle.sq_scope.specs.declared.expression.SetFunctions.{SetFunctions}
 use Rattle.sq_scope.specs.declared.typed.Typed.{Typed}
@@ -186,10 +185,8 @@ extreme_sure function distinct operand can_fail h none =
 pub signed_reaches : (r : Outward) (sign : Sign) (operand o : Result Typed BindFault) → IfOk operand (λ typed. MayReach r typed.expr)
     → IfOk o (λ typed. (x : Typed) × (operand ≡ Ok x) × IsSigned sign x typed) → IfOk o (λ typed. MayReach r typed.expr)
 signed_reaches r sign operand (Err fault) b s = tt
-signed_reaches r Plus operand (Ok typed) b (x, is, s) =
-    reach_tree r (λ functions. with_sign Plus (expr_of functions x.expr)) typed.expr s.0 (IfOk-at_ok (λ (t : Typed). MayReach r t.expr) is b)
-signed_reaches r Minus operand (Ok typed) b (x, is, s) =
-    reach_tree r (λ functions. with_sign Minus (expr_of functions x.expr)) typed.expr s.0 (IfOk-at_ok (λ (t : Typed). MayReach r t.expr) is b)
+signed_reaches r sign operand (Ok typed) b (x, is, s) =
+    reach_tree r (λ functions. signed sign (expr_of functions x.expr)) typed.expr s.0 (IfOk-at_ok (λ (t : Typed). MayReach r t.expr) is b)
 
 operated_reads : (r : Outward) (o : Operator) (a b : PlacedExpr) → ReadsOutward r a → ReadsOutward r b → ReadsOutward r (operated o a b)
 operated_reads r operator.Plus a b h g = (h, g)

@@ -23,7 +23,7 @@ use Rattle.sq_meaning.specs.Environment.{Place, Row, same_name}
 use Rattle.sq_meaning.specs.Kind.{function_kind, kind, signed_kind, sum_kind, product_kind}
 use Rattle.sq_meaning.specs.Placed.{PlacedParameter, by_place}
 use Rattle.sq_meaning.specs.Status.{Outcome, and_then, each, well_formed}
-use Rattle.sq_meaning.specs.Syntax.{literal, parameter, user, column, count_rows, set_function}
+use Rattle.sq_meaning.specs.Syntax.{literal, parameter, user, column, count_rows, set_function, signed}
 use Rattle.sq_meaning.specs.WellFormed.{Has, HasLine, HasValue, IsDeclaredAt, IsInQuery, IsThere, MayStand, froms, inside_function, kind_there, kinds_by_place}
 use Rattle.sq_meaning.proofs.OutcomeLaws.{each_value}
 use Rattle.sq_bound.specs.Expression.{PlacedExpr, expr_of, operated, place_meant}
@@ -36,7 +36,7 @@ use Rattle.sq_bound.specs.declared.expression.Operator.TheVariants as operator
 use Rattle.sq_bound.specs.declared.expression.SetFunctionCall.{SetFunctionCall}
 use Rattle.sq_bound.specs.declared.fault.BindFault.{BindFault}
 use Rattle.sq_bound.specs.declared.names.ParameterDesc.{ParameterDesc}
-use Rattle.sq_scope.specs.Expression.{Adds, IsSigned, IsTree, IsTreeAmong, IsTypedOperation, indicator_named, parameter_kind, parameter_named, placed_parameter, with_sign}
+use Rattle.sq_scope.specs.Expression.{Adds, IsSigned, IsTree, IsTreeAmong, IsTypedOperation, indicator_named, parameter_kind, parameter_named, placed_parameter}
 use Rattle.sq_scope.specs.Kinds.{operated_kind}
 use Rattle.sq_scope.specs.Scope.{Means, scopes_in}
 use Rattle.sq_scope.specs.WellFormed.{AreLevelsIn, IsColumn, IsRead, IsTyped, MayStandAt, groupings_in, may_read}
@@ -133,19 +133,9 @@ parameter_is parameters p q k e f = named (parameter_named parameters p.name) re
 
 -- ---- signs and operators
 
-signed_same : (k l : Kind) → signed_kind k ≡ Ok l → k ≡ l
-signed_same (kinds.Num s) l e = cc
-signed_same (kinds.Chars n) l e = cc
-signed_same (kinds.Vary n) l e = cc
-
 module _ (columns : TableKinds) (parameters : List Kind) (levels : Levels) where
-  sign_kind : (sign : Sign) (x : PlacedExpr) (k l : Kind) → HasKind columns parameters levels x k → signed_kind k ≡ Ok l → HasKind columns parameters levels (with_sign sign x) l
-  sign_kind Plus x k l h e = h ∙ ap (λ k. Ok k) (signed_same k l e)
-  sign_kind Minus x k l h e = ap (λ o. and_then o signed_kind) h ∙ e
-
-  sign_stands : (sign : Sign) (x : PlacedExpr) → Stands columns parameters levels x → Stands columns parameters levels (with_sign sign x)
-  sign_stands Plus x h = h
-  sign_stands Minus x h = h
+  sign_kind : (sign : Sign) (x : PlacedExpr) (k l : Kind) → HasKind columns parameters levels x k → signed_kind k ≡ Ok l → HasKind columns parameters levels (signed sign x) l
+  sign_kind sign x k l h e = ap (λ o. and_then o signed_kind) h ∙ e
 
   both_kinds : (f : Kind → Kind → Outcome Kind) (x y : Outcome Kind) (k l m : Kind) → x ≡ Ok k → y ≡ Ok l → f k l ≡ Ok m → and_then x (λ a. and_then y (f a)) ≡ Ok m
   both_kinds f x y k l m g h e = ap (λ x. and_then x (λ a. and_then y (f a))) g ∙ ap (λ y. and_then y (f k)) h ∙ e
@@ -170,10 +160,10 @@ module _ (columns : TableKinds) (parameters : List Kind) (levels : Levels) where
 
   expr_signed : (calls : List SetFunctionCall) (sign : Sign) (operand typed : Typed) → IsExpr columns parameters levels calls operand.kind operand.expr → IsSigned sign operand typed → IsExpr columns parameters levels calls typed.kind typed.expr
   expr_signed calls sign operand typed h s = record {
-    tree = with_sign sign h.tree;
-    is_tree = λ later. s.0 (map call_of (calls ++ later)) ∙ ap (with_sign sign) (h.is_tree later);
+    tree = signed sign h.tree;
+    is_tree = λ later. s.0 (map call_of (calls ++ later)) ∙ ap (signed sign) (h.is_tree later);
     kind_is = sign_kind columns parameters levels sign h.tree operand.kind typed.kind h.kind_is s.1;
-    stands = sign_stands columns parameters levels sign h.tree h.stands;
+    stands = h.stands;
   }
 
   expr_operated : (calls : List SetFunctionCall) (o : Operator) (l r typed : Typed) → IsExpr columns parameters levels calls l.kind l.expr → IsExpr columns parameters levels calls r.kind r.expr → IsTypedOperation l o r typed

@@ -55,13 +55,8 @@ abbrev pub product_operator : TimesSign → Operator
 product_operator Times = operator.Times
 product_operator Over = operator.Over
 
--- a plus changes nothing
-abbrev pub with_sign : Sign → PlacedExpr → PlacedExpr
-with_sign Plus tree = tree
-with_sign Minus tree = signed Minus tree
-
 abbrev pub IsSigned : Sign → Typed → Typed → Type 0
-IsSigned sign operand typed = IsTree (λ functions. with_sign sign (expr_of functions operand.expr)) typed.expr × (signed_kind operand.kind ≡ Ok typed.kind)
+IsSigned sign operand typed = IsTree (λ functions. signed sign (expr_of functions operand.expr)) typed.expr × (signed_kind operand.kind ≡ Ok typed.kind)
 
 -- ---- names as places
 
@@ -87,7 +82,7 @@ placed_column scopes r = place_of r (heads_of scopes) >>= λ at. well_formed (op
 abbrev pub column_kind : List (List FromItem) → ColumnReference → Outcome Kind
 column_kind scopes r = place_of r (heads_of scopes) >>= λ at. well_formed (option_map (λ c. c.kind) (column_at scopes at))
 
--- an expression whose columns and parameters are placed. Brackets and a plus change nothing
+-- an expression whose columns and parameters are placed. Brackets change nothing
 abbrev pub placed : List (List FromItem) → List ParameterDesc → Expr Named → Outcome PlacedExpr
 placed scopes parameters (literal v) = Ok (literal v)
 placed scopes parameters (parameter p) = placed_parameter parameters p >>= λ q. Ok (parameter q)
@@ -95,7 +90,7 @@ placed scopes parameters user = Ok user
 placed scopes parameters (column c) = placed_column scopes c >>= λ p. Ok (column p)
 placed scopes parameters count_rows = Ok count_rows
 placed scopes parameters (set_function f distinct e) = placed scopes parameters e >>= λ x. Ok (set_function f distinct x)
-placed scopes parameters (signed sign e) = placed scopes parameters e >>= λ x. Ok (with_sign sign x)
+placed scopes parameters (signed sign e) = placed scopes parameters e >>= λ x. Ok (signed sign x)
 placed scopes parameters (added sign a b) = placed scopes parameters a >>= λ x. placed scopes parameters b >>= λ y. Ok (added sign x y)
 placed scopes parameters (scaled sign a b) = placed scopes parameters a >>= λ x. placed scopes parameters b >>= λ y. Ok (scaled sign x y)
 placed scopes parameters (bracketed e) = placed scopes parameters e

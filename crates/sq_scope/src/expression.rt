@@ -13,11 +13,10 @@ ghost use Rattle.sq_bound.specs.Expression.{expr_of};
 ghost use Rattle.sq_bound.specs.Noted.{IsSureExpr};
 ghost use Rattle.sq_bound.specs.SetFunction.{call_of};
 ghost use Rattle.sq_bound.specs.WellFormed.{kinds_of_parameters};
-ghost use Rattle.sq_tree.specs.declared.expr.Sign.TheVariants.{Minus};
 ghost use Rattle.sq_value.specs.Spelling.{read};
 ghost use Rattle.sq_value.specs.declared.value.Value.TheVariants as value;
 ghost use Rattle.sq_value.specs.declared.domain.Kind.TheVariants as kind;
-ghost use Rattle.sq_scope.specs.Expression.{Adds, AddsExpr, Grows, IsBound, IsOperation, IsSureUnless, IsReadTyped, IsSigned, IsTree, IsTreeAmong, IsTypedOperation, indicator_named, parameter_kind, parameter_named, placed_parameter, product_operator, sum_operator, with_sign};
+ghost use Rattle.sq_scope.specs.Expression.{Adds, AddsExpr, Grows, IsBound, IsOperation, IsSureUnless, IsReadTyped, IsSigned, IsTree, IsTreeAmong, IsTypedOperation, indicator_named, parameter_kind, parameter_named, placed_parameter, product_operator, sum_operator};
 ghost use Rattle.sq_scope.specs.Reach.{AreNotedFunctions, MayReach, NoFurther, ReadsWithin, no_further, outward};
 ghost use Rattle.sq_scope.specs.Scope.{scopes_in};
 ghost use Rattle.sq_scope.specs.WellFormed.{Finds, IsColumn, IsTyped};
@@ -410,21 +409,11 @@ fn signed(alloc: Global, sign: Sign, operand: TypedResult) -> TypedResult
     Ok(Typed { expr, kind })
 }
 
-/// A plus changes nothing.
 fn with_sign(alloc: Global, sign: Sign, operand: BoundExpr) -> Result<BoundExpr, BindFault>
-    ensures { IfOk result (IsTree (λ functions. with_sign sign (expr_of functions operand))) }
-{
-    match sign {
-        Sign::Plus => Ok(operand),
-        Sign::Minus => negated(alloc, operand),
-    }
-}
-
-fn negated(alloc: Global, operand: BoundExpr) -> Result<BoundExpr, BindFault>
-    ensures { IfOk result (IsTree (λ functions. signed Minus (expr_of functions operand))) }
+    ensures { IfOk result (IsTree (λ functions. signed sign (expr_of functions operand))) }
 {
     let boxed = Boxed::new(alloc, operand)?;
-    Ok(BoundExpr::Negated(boxed))
+    Ok(BoundExpr::Signed(sign, boxed))
 }
 
 /// Two operands and the operator between them. The fault of the first is answered first.

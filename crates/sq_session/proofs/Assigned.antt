@@ -7,6 +7,7 @@ use Rattle.std.specs.List.{list_any}
 use Rattle.std.specs.Option.{option_map}
 use Rattle.sq_value.specs.declared.value.Value.{Value}
 use Rattle.sq_tree.specs.declared.cond.Comparison.{Comparison}
+use Rattle.sq_tree.specs.declared.expr.Sign.{Sign}
 use Rattle.sq_meaning.specs.Syntax.{conds}
 use Rattle.sq_bound.specs.Condition.{PlacedCond, PlacedSelect, cond_of, conj_of, test_of, predicate_of, select_of, not_if, compared_with}
 use Rattle.sq_bound.specs.Expression.{PlacedExpr, expr_of, operation_of, operated}
@@ -26,7 +27,7 @@ use Rattle.sq_bound.specs.declared.expression.Operator.TheVariants.{Plus, Minus,
 use Rattle.sq_bound.specs.declared.expression.Place.{Place}
 use Rattle.sq_bound.specs.declared.statement.BoundAssignment.{BoundAssignment}
 use Rattle.sq_bound.proofs.ConditionLaws.{cond_of-out, conj_of-out, test_of-out, predicate_of-Compare, predicate_of-CompareQuery, predicate_of-Between, predicate_of-InQuery, predicate_of-InList, predicate_of-Like, predicate_of-Null, predicate_of-Exists, predicate_of-Bracketed}
-use Rattle.sq_bound.proofs.ExpressionLaws.{expr_of-Literal, expr_of-Parameter, expr_of-User, expr_of-Column, expr_of-SetFunction, expr_of-Negated, expr_of-Operations, operation_of-out}
+use Rattle.sq_bound.proofs.ExpressionLaws.{expr_of-Literal, expr_of-Parameter, expr_of-User, expr_of-Column, expr_of-SetFunction, expr_of-Signed, expr_of-Operations, operation_of-out}
 use Rattle.sq_query.specs.Target.{and_own}
 use Rattle.sq_session.specs.Reads.{cond_reads, conds_read, escape_reads, expr_reads, is_assigned, one_reads}
 
@@ -55,8 +56,8 @@ reads_column sets p = ap (expr_reads sets) (expr_of-Column [] p)
 pub reads_function : (sets : List BoundAssignment) (n : ℕ) → expr_reads sets (expr_of [] (expr.SetFunction n)) ≡ false
 reads_function sets n = ap (expr_reads sets) (expr_of-SetFunction [] n)
 
-pub reads_negated : (sets : List BoundAssignment) (e : BoundExpr) → expr_reads sets (expr_of [] (expr.Negated e)) ≡ expr_reads sets (expr_of [] e)
-reads_negated sets e = ap (expr_reads sets) (expr_of-Negated [] e)
+pub reads_signed : (sets : List BoundAssignment) (sign : Sign) (e : BoundExpr) → expr_reads sets (expr_of [] (expr.Signed sign e)) ≡ expr_reads sets (expr_of [] e)
+reads_signed sets sign e = ap (expr_reads sets) (expr_of-Signed [] sign e)
 
 operated_reads : (sets : List BoundAssignment) (o : Operator) (a b : PlacedExpr) → expr_reads sets (operated o a b) ≡ (expr_reads sets a || expr_reads sets b)
 operated_reads sets Plus a b = refl
@@ -82,7 +83,7 @@ pub reads_operations : (sets : List BoundAssignment) (first : BoundExpr) (rest :
     → expr_reads sets (expr_of [] (expr.Operations first rest)) ≡ (expr_reads sets (expr_of [] first) || list_any (λ o. expr_reads sets (expr_of [] o.operand)) rest)
 reads_operations sets first rest = ap (expr_reads sets) (expr_of-Operations [] first rest) ∙ after_reads sets (expr_of [] first) rest
 
-pub ruleset expr_levels = (reads_literal, reads_parameter, reads_user, reads_column, reads_function, reads_negated, reads_operations)
+pub ruleset expr_levels = (reads_literal, reads_parameter, reads_user, reads_column, reads_function, reads_signed, reads_operations)
 
 -- ---- predicates
 

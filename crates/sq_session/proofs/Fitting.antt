@@ -12,7 +12,7 @@ use Rattle.sq_value.specs.declared.fault.StoreFault.{StoreFault}
 use Rattle.sq_value.specs.declared.value.Value.{Value}
 use Rattle.sq_value.specs.declared.value.Value.TheVariants.{Null, Num, Chars}
 use Rattle.sq_bound.specs.declared.names.ParameterDesc.{ParameterDesc}
-use Rattle.sq_model.specs.Script.{fit, fits_in}
+use Rattle.sq_rules.specs.Script.{fit, fits_in}
 use Rattle.sq_session.specs.Parameter.{declared}
 use Rattle.sq_session.proofs.Holding.{both}
 

@@ -20,6 +20,7 @@ use Rattle.sq_bound.specs.declared.names.Reference.{Reference}
 use Rattle.sq_bound.specs.declared.query.UpdatableQuery.{UpdatableQuery}
 use Rattle.sq_bound.specs.declared.statement.ChangeTarget.TheVariants as target
 use Rattle.sq_bound.specs.declared.statement.PositionedTarget.{PositionedTarget}
+use Rattle.sq_catalog.specs.Catalog.{Catalog}
 use Rattle.sq_change.specs.Constraints.{constraints_hold, is_met_in, reference_met_in, references_met}
 
 pub none : {A : Type 0} → false ≡ true → A
@@ -97,6 +98,10 @@ as_many_tables [] [] h = refl
 as_many_tables [] (t ∷ ts) h = none h
 as_many_tables (b ∷ bases) [] h = none h
 as_many_tables (b ∷ bases) (t ∷ ts) h = ap suc (as_many_tables bases ts (both (have_width (length b.columns) t.rows) (holds bases ts) h).1)
+
+-- and as many names
+pub as_many_names : (c : Catalog) → length c.bases ≡ length c.tables
+as_many_names c = eqb-true (length c.bases) (length c.tables) c.counted
 
 -- ---- the table of a base table
 

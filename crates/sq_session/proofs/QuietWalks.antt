@@ -1,7 +1,7 @@
 -- The conditions of a walk answer no status, and what a declared cursor gives of that.
-use Rattle.std.proofs.Common.{◌≡◌, ◌<◌, ◌≤◌, ℕ, zero, suc, Bool, true, false, ◌&&◌, ◌++◌, nat_le, List, [], ◌∷◌, length, get_or, map, slice_get, if◌then◌else◌, Option, Some, None, Ok, Err, IfSome, refl, sym, ◌∙◌, subst, arith}
+use Rattle.std.proofs.Common.{◌≡◌, ◌<◌, ◌≤◌, ℕ, zero, suc, Bool, true, false, nat_le, List, [], ◌∷◌, length, get_or, map, slice_get, if◌then◌else◌, Option, Some, None, Ok, Err, refl, sym, ◌∙◌, subst, arith}
 use Rattle.std.proofs.lemmas.Bool.{eqb-true}
-use Rattle.std.specs.List.{AllByRecursion, list_any}
+use Rattle.std.specs.List.{AllByRecursion}
 use Rattle.sq_lex.specs.declared.name.Name.{Name}
 use Rattle.sq_value.specs.Domain.{kind_of}
 use Rattle.sq_value.specs.declared.domain.Kind.{Kind}
@@ -14,12 +14,9 @@ use Rattle.sq_meaning.specs.Environment.{Row}
 use Rattle.sq_meaning.specs.Placed.{by_place}
 use Rattle.sq_meaning.specs.Query.{truth}
 use Rattle.sq_meaning.specs.Status.{Outcome}
-use Rattle.sq_meaning.specs.Target.{has_subquery}
 use Rattle.sq_meaning.specs.WellFormed.{AreInputsOf, HasValue, IsRowOf}
 use Rattle.sq_bound.specs.Condition.{cond_of}
 use Rattle.sq_bound.specs.Fits.{AreInDomains, AreRowsIn, FitsBody}
-use Rattle.sq_bound.specs.Names.{option_all}
-use Rattle.sq_bound.specs.Quiet.{are_sure, is_sure}
 use Rattle.sq_bound.specs.WellFormed.{TableKinds, base_kinds}
 use Rattle.sq_bound.specs.declared.condition.BoundCond.{BoundCond}
 use Rattle.sq_bound.specs.declared.names.BaseColumn.{BaseColumn}
@@ -30,12 +27,13 @@ use Rattle.sq_bound.specs.declared.query.CursorBody.TheVariants as body
 use Rattle.sq_bound.specs.declared.query.Target.{Target}
 use Rattle.sq_bound.specs.declared.query.UpdatableQuery.{UpdatableQuery}
 use Rattle.sq_bound.proofs.QuietRows as quiet
-use Rattle.sq_bound.proofs.QuietTruths.{both_left, both_right, quiet_plain}
 use Rattle.sq_module.specs.Program.{CursorsFit}
 use Rattle.sq_module.specs.declared.program.DeclaredCursor.{DeclaredCursor}
 use Rattle.sq_expression.specs.Frame.{inputs_of}
 use Rattle.sq_query.specs.Row.{outside}
-use Rattle.sq_query.specs.Target.{IsChosen, and_own, are_true, conditions_of}
+use Rattle.sq_query.specs.Target.{IsChosen, are_true, conditions_of}
+use Rattle.sq_query.proofs.KeyedRows.{both_are}
+use Rattle.sq_query.proofs.QuietTargets.{are_plain}
 use Rattle.sq_expression.specs.declared.fault.Failure.{Failure}
 use Rattle.sq_expression.specs.declared.fault.Fault.TheVariants as fault
 use Rattle.sq_session.specs.Cursors.{HasKept, HasKeptAt, HaveKept, MayKeep, is_over, is_over_table}
@@ -50,15 +48,6 @@ use Rattle.sq_session.proofs.Holding.{none}
 
 -- ---- conditions one after the other
 
--- what holds of the conditions of the views, and of the target's own, holds of all
-all_own : (P : BoundCond → Type 0) (cs : List BoundCond) (own : Option BoundCond) → AllByRecursion P cs → IfSome own P → AllByRecursion P (and_own cs own)
-all_own P cs None h k = h
-all_own P cs (Some c) h k = behind cs h
-  where
-    behind : (ds : List BoundCond) → AllByRecursion P ds → AllByRecursion P (ds ++ c ∷ [])
-    behind [] g = (k, tt)
-    behind (d ∷ ds) g = (g.0, behind ds g.1)
-
 -- where each has a truth it is known whether all are true
 truths_known : (test : BoundCond → Outcome Truth) (cs : List BoundCond) → AllByRecursion (λ c. HasValue (test c)) cs → HasValue (are_true test cs)
 truths_known test [] h = tt
@@ -72,25 +61,6 @@ truths_known test (c ∷ cs) h = by (test c) refl h.0 (truths_known test cs h.1)
 
 -- ---- a quiet target
 
-sure_plain : (cs : List BoundCond) → are_sure cs ≡ true → AllByRecursion (λ c. has_subquery (cond_of [] c) ≡ false) cs
-sure_plain [] h = tt
-sure_plain (c ∷ cs) h = (quiet_plain (cond_of [] c) (both_left (is_sure c) (are_sure cs) h), sure_plain cs (both_right (is_sure c) (are_sure cs) h))
-
-own_plain : (own : Option BoundCond) → option_all is_sure own ≡ true → IfSome own (λ c. has_subquery (cond_of [] c) ≡ false)
-own_plain None h = tt
-own_plain (Some c) h = quiet_plain (cond_of [] c) h
-
-no_subquery : (cs : List BoundCond) → AllByRecursion (λ c. has_subquery (cond_of [] c) ≡ false) cs → list_any (λ c. has_subquery (cond_of [] c)) cs ≡ false
-no_subquery [] h = refl
-no_subquery (c ∷ cs) h = rw h.0 (no_subquery cs h.1)
-
-are_plain : (t : Target) → t.is_quiet ≡ true → list_any (λ c. has_subquery (cond_of [] c)) (conditions_of t) ≡ false
-are_plain t h =
-    let sure : (are_sure t.leaf.conditions && option_all is_sure t.condition) ≡ true = sym t.quiet ∙ h in
-    no_subquery (conditions_of t) (all_own (λ c. has_subquery (cond_of [] c) ≡ false) t.leaf.conditions t.condition
-    (sure_plain t.leaf.conditions (both_left (are_sure t.leaf.conditions) (option_all is_sure t.condition) sure))
-    (own_plain t.condition (both_right (are_sure t.leaf.conditions) (option_all is_sure t.condition) sure)))
-
 inputs_given : (parameters : List Kind) (values : List Value) → IsRowOf parameters values → AreInputsOf parameters (inputs_of values)
 inputs_given [] [] is = tt
 inputs_given [] (v ∷ values) is = absurd is
@@ -102,7 +72,7 @@ known_on_row : (columns : TableKinds) (t : Target) (values : List Value) (user :
 known_on_row columns t values user row q is_row =
     let each = quiet.target_on_row columns q.parameters row (inputs_of values) user (inputs_given q.parameters values q.given) t q.quiet q.is_target is_row in
     truths_known (λ c. truth (by_place quiet.no_tables) (cond_of [] c) (outside (row ∷ []) values user)) (conditions_of t)
-    (all_own (λ c. HasValue (truth (by_place quiet.no_tables) (cond_of [] c) (outside (row ∷ []) values user))) t.leaf.conditions t.condition each.0 each.1)
+    (both_are (λ c. HasValue (truth (by_place quiet.no_tables) (cond_of [] c) (outside (row ∷ []) values user))) t.leaf.conditions t.condition each.0 each.1)
 
 -- it answers no status on a row of its base table
 pub no_status : (columns : TableKinds) (t : Target) (values : List Value) (user : Name) (row : Row) (f : Failure) → IsQuietWith columns t values → IsRowOf (base_kinds t.leaf.table) row

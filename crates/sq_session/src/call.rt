@@ -7,7 +7,7 @@ ghost use Rattle.sq_catalog.specs.Catalog.{column_kinds};
 ghost use Rattle.sq_change.specs.Constraints.{constraints_hold};
 ghost use Rattle.sq_module.specs.Program.{CursorsAreWellFormed, CursorsFit, FitsProgram, ProgramIsWellFormed};
 ghost use Rattle.sq_expression.specs.declared.fault.Fault.TheVariants as fault;
-ghost use Rattle.sq_model.specs.Script.{fit};
+ghost use Rattle.sq_rules.specs.Script.{fit};
 ghost use Rattle.sq_session.specs.Asked.{IsAsked};
 ghost use Rattle.sq_session.specs.Cursors.{IsWhole, OpenHaveKept};
 ghost use Rattle.sq_session.specs.Kind.{fits_at, kind_at, kind_of, needs_memory, takes_memory};

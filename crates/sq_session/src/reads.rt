@@ -115,7 +115,7 @@ fn expr_reads(expr: &BoundExpr, assignments: &[BoundAssignment]) -> bool
         | BoundExpr::Parameter(_)
         | BoundExpr::User
         | BoundExpr::SetFunction(_) => false,
-        BoundExpr::Negated(operand) => expr_reads(operand.get(), assignments),
+        BoundExpr::Signed(_, operand) => expr_reads(operand.get(), assignments),
         BoundExpr::Operations(first, rest) => {
             expr_reads(first.get(), assignments) || operands_read(rest.as_slice(), assignments)
         }

@@ -65,7 +65,7 @@ impl<S: Store> Model for Session<S> {
 
     ghost view = { λ s. record { procedures = procedures_of s.program.cursors.items s.program.procedures.entries; tables = s.catalog.tables; schemas = schemas_of s.catalog; state = s.machine } };
 
-    ghost invariant = { λ s. (length s.catalog.bases ≡ length s.catalog.tables) × FitsProgram s.catalog.bases s.program
+    ghost invariant = { λ s. FitsProgram s.catalog.bases s.program
         × ProgramIsWellFormed (column_kinds s.catalog) s.program
         × IsWhole (column_kinds s.catalog) s.catalog.bases s.program.cursors.items s.machine };
 }
@@ -85,7 +85,6 @@ impl<S: Store> Session<S> {
         requires constraints { constraints_hold catalog.bases (S.content_now store) ≡ true }
         requires committed_constraints { constraints_hold catalog.bases (S.committed store) ≡ true }
         requires keys { S.key_columns store ≡ keys_of_bases catalog.bases }
-        requires bases { length catalog.bases ≡ length catalog.tables }
         ensures start { IfOk result (λ s. (s.state.tables ≡ S.content_now store) × (s.state.committed ≡ S.committed store) × AreClosed
             s.state.cursors) }
         ensures numbers { IfOk result (λ s. s.state.row_numbers ≡ S.row_numbers store) }
@@ -120,7 +119,6 @@ impl<S: Store> Session<S> {
         requires constraints { constraints_hold catalog.bases (S.content_now store) ≡ true }
         requires committed_constraints { constraints_hold catalog.bases (S.committed store) ≡ true }
         requires keys { S.key_columns store ≡ keys_of_bases catalog.bases }
-        requires bases { length catalog.bases ≡ length catalog.tables }
         ensures start { IfOk result (λ s. (s.state.tables ≡ S.content_now store) × (s.state.committed ≡ S.committed store) × AreClosed
             s.state.cursors) }
         ensures numbers { IfOk result (λ s. s.state.row_numbers ≡ S.row_numbers store) }
@@ -219,7 +217,7 @@ impl<S: Store> Session<S> {
     }
 
     /// The rows of the base table at a place, as they are now, with their numbers.
-    #[tactic(auto, using(crate::proofs::Holding::as_many_tables))]
+    #[tactic(auto, using(crate::proofs::Holding::as_many_tables, crate::proofs::Holding::as_many_names))]
     pub fn rows(&self, alloc: Global, table: usize) -> Result<Vec<(u64, &Row)>, AllocError>
         requires { table < length self.now.tables }
         ensures { IfOk result (λ rows. map lent rows.items ≡ (table_at self.now.state.tables table).rows) }

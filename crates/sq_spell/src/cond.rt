@@ -3,14 +3,16 @@
 ghost use Rattle.std.specs.Prelude.{◌≡◌, ◌∷◌, [], fold, OnOk};
 ghost use Rattle.sq_lex.specs.declared.lexeme.Lexeme.TheVariants as lexeme;
 ghost use Rattle.sq_lex.specs.declared.word.Word.TheVariants as word;
-ghost use Rattle.sq_tree.specs.Tree.{optional};
+ghost use Rattle.sq_tree.specs.Tree.{bracketed, optional};
 ghost use Rattle.sq_tree.specs.Cond as spec;
 
+use crate::list::walk_bracketed;
 use crate::sink::Sink;
 use crate::tree::Tree;
+use sq_items::Boxed;
 use sq_lex::{Symbol, Word};
 use sq_tree::{
-    Body, ColumnReference, CommaList, Comparison, Cond, Conj, Correlation, Quantifier,
+    Body, ColumnReference, CommaList, Comparison, Cond, Conj, Correlation, Expr, Quantifier,
     QuerySpecification, SelectList, TableExpression, TableReference, Tail, Test,
 };
 
@@ -124,9 +126,7 @@ impl Tree for Body {
             }
             Body::Exists(query) => {
                 sink.word(Word::Exists)?;
-                sink.symbol(Symbol::Open)?;
-                query.get().walk(sink)?;
-                sink.symbol(Symbol::Close)
+                walk_subquery(query.get(), sink)
             }
             Body::Bracketed(cond) => {
                 sink.symbol(Symbol::Open)?;
@@ -151,9 +151,7 @@ impl Tree for Tail {
             Tail::CompareQuery(operator, quantifier, query) => {
                 operator.walk(sink)?;
                 quantifier.walk(sink)?;
-                sink.symbol(Symbol::Open)?;
-                query.get().walk(sink)?;
-                sink.symbol(Symbol::Close)
+                walk_subquery(query.get(), sink)
             }
             Tail::Between(negated, low, high) => {
                 sink.words_if(*negated, &[Word::Not])?;
@@ -165,26 +163,18 @@ impl Tree for Tail {
             Tail::InQuery(negated, query) => {
                 sink.words_if(*negated, &[Word::Not])?;
                 sink.word(Word::In)?;
-                sink.symbol(Symbol::Open)?;
-                query.get().walk(sink)?;
-                sink.symbol(Symbol::Close)
+                walk_subquery(query.get(), sink)
             }
             Tail::InList(negated, values) => {
                 sink.words_if(*negated, &[Word::Not])?;
                 sink.word(Word::In)?;
-                sink.symbol(Symbol::Open)?;
-                values.walk(sink)?;
-                sink.symbol(Symbol::Close)
+                walk_bracketed(values, sink)
             }
             Tail::Like(negated, pattern, escape) => {
                 sink.words_if(*negated, &[Word::Not])?;
                 sink.word(Word::Like)?;
                 pattern.walk(sink)?;
-                if let Some(escape) = escape {
-                    sink.word(Word::Escape)?;
-                    escape.get().walk(sink)?;
-                }
-                Ok(())
+                walk_escape(escape, sink)
             }
             Tail::Null(negated) => {
                 sink.word(Word::Is)?;
@@ -220,6 +210,28 @@ impl Tree for QuerySpecification {
         self.list.walk(sink)?;
         self.table.walk(sink)
     }
+}
+
+/// Writes a query specification in brackets.
+#[cycle(walk_cond)]
+#[tactic(auto, using(sq_tree::proofs::CondLaws::cond_tokens_levels, std::proofs::lemmas::Grind::common_steps))]
+fn walk_subquery<S: Sink>(query: &QuerySpecification, sink: &mut S) -> Result<(), S::Stop>
+    ensures { OnOk result (sink.new ≡ fold S.after sink.old (bracketed (spec.query_specification_tokens query.now))) }
+{
+    sink.symbol(Symbol::Open)?;
+    query.walk(sink)?;
+    sink.symbol(Symbol::Close)
+}
+
+/// Writes ESCAPE and the expression behind it, where there is one.
+fn walk_escape<S: Sink>(escape: &Option<Boxed<Expr>>, sink: &mut S) -> Result<(), S::Stop>
+    ensures { OnOk result (sink.new ≡ fold S.after sink.old (optional spec.escape_tokens escape.now)) }
+{
+    if let Some(escape) = escape {
+        sink.word(Word::Escape)?;
+        escape.get().walk(sink)?;
+    }
+    Ok(())
 }
 
 /// Writes a word and the condition behind it, where there is one.

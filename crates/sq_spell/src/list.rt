@@ -1,5 +1,7 @@
-//! The spelling of lists with commas, of rows without, and of parts that a text may lack.
+//! The spelling of lists with commas, of rows without, of parts that a text may lack, and of parts in brackets.
 
+ghost use Rattle.std.specs.Prelude.{◌≡◌, fold, OnOk};
+ghost use Rattle.sq_tree.specs.Tree.{bracketed};
 ghost use Rattle.sq_tree.specs.List as spec;
 
 use crate::sink::Sink;
@@ -53,4 +55,14 @@ impl<T: Tree> Tree for Option<T> {
             None => Ok(()),
         }
     }
+}
+
+/// Writes a part in brackets.
+#[tactic(auto, using(std::proofs::lemmas::Grind::common_steps))]
+pub fn walk_bracketed<T: Tree, S: Sink>(part: &T, sink: &mut S) -> Result<(), S::Stop>
+    ensures { OnOk result (sink.new ≡ fold S.after sink.old (bracketed (T.tokens part.now))) }
+{
+    sink.symbol(Symbol::Open)?;
+    part.walk(sink)?;
+    sink.symbol(Symbol::Close)
 }

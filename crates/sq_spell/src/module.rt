@@ -4,6 +4,7 @@ ghost use Rattle.std.specs.Prelude.{◌≡◌, ◌∷◌, [], fold, OnOk};
 ghost use Rattle.sq_tree.specs.Tree.{optional};
 ghost use Rattle.sq_tree.specs.Module as spec;
 
+use crate::list::walk_bracketed;
 use crate::sink::Sink;
 use crate::tree::Tree;
 use sq_lex::{Symbol, Word};
@@ -17,12 +18,9 @@ impl Tree for ModuleText {
 
     #[tactic(auto, using(std::proofs::lemmas::Grind::common_steps))]
     fn walk<S: Sink>(&self, sink: &mut S) -> Result<(), S::Stop> {
-        sink.word(Word::Module)?;
-        sink.name(self.name)?;
-        sink.word(Word::Language)?;
-        sink.name(self.language)?;
-        sink.word(Word::Authorization)?;
-        sink.name(self.authorization)?;
+        sink.word_and_name(Word::Module, self.name)?;
+        sink.word_and_name(Word::Language, self.language)?;
+        sink.word_and_name(Word::Authorization, self.authorization)?;
         self.items.walk(sink)
     }
 }
@@ -43,12 +41,10 @@ impl Tree for Cursor {
 
     #[tactic(auto, using(std::proofs::lemmas::Grind::common_steps))]
     fn walk<S: Sink>(&self, sink: &mut S) -> Result<(), S::Stop> {
-        sink.word(Word::Declare)?;
-        sink.name(self.name)?;
+        sink.word_and_name(Word::Declare, self.name)?;
         sink.words_if(self.insensitive, &[Word::Insensitive])?;
         sink.words_if(self.scroll, &[Word::Scroll])?;
-        sink.word(Word::Cursor)?;
-        sink.word(Word::For)?;
+        sink.words(&[Word::Cursor, Word::For])?;
         self.query.walk(sink)?;
         walk_order_by(&self.order_by, sink)?;
         sink.symbol_if(self.semicolon, Symbol::Semicolon)
@@ -83,8 +79,7 @@ impl Tree for Procedure {
 
     #[tactic(auto, using(std::proofs::lemmas::Grind::common_steps))]
     fn walk<S: Sink>(&self, sink: &mut S) -> Result<(), S::Stop> {
-        sink.word(Word::Procedure)?;
-        sink.name(self.name)?;
+        sink.word_and_name(Word::Procedure, self.name)?;
         self.declarations.walk(sink)?;
         sink.symbol(Symbol::Semicolon)?;
         self.statement.walk(sink)?;
@@ -98,11 +93,7 @@ impl Tree for Declarations {
     #[tactic(auto, using(std::proofs::lemmas::Grind::common_steps))]
     fn walk<S: Sink>(&self, sink: &mut S) -> Result<(), S::Stop> {
         match self {
-            Declarations::Bracketed(declarations) => {
-                sink.symbol(Symbol::Open)?;
-                declarations.walk(sink)?;
-                sink.symbol(Symbol::Close)
-            }
+            Declarations::Bracketed(declarations) => walk_bracketed(declarations, sink),
             Declarations::Bare(first, rest) => {
                 first.walk(sink)?;
                 rest.walk(sink)

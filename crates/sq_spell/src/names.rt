@@ -4,6 +4,7 @@ ghost use Rattle.std.specs.Prelude.{◌≡◌, ◌∷◌, [], fold, OnOk};
 ghost use Rattle.sq_tree.specs.Tree.{optional};
 ghost use Rattle.sq_tree.specs.Names as spec;
 
+use crate::list::walk_bracketed;
 use crate::sink::Sink;
 use crate::tree::Tree;
 use sq_lex::{Name, Symbol, Word};
@@ -65,9 +66,7 @@ impl Tree for Parameter {
 pub fn walk_columns<S: Sink>(columns: &CommaList<Name>, sink: &mut S) -> Result<(), S::Stop>
     ensures { OnOk result (sink.new ≡ fold S.after sink.old (spec.columns_tokens columns.now)) }
 {
-    sink.symbol(Symbol::Open)?;
-    columns.walk(sink)?;
-    sink.symbol(Symbol::Close)
+    walk_bracketed(columns, sink)
 }
 
 /// Writes a list of columns in brackets, where there is one.

@@ -3,6 +3,7 @@
 ghost use Rattle.std.specs.Prelude.{◌≡◌, ◌∷◌, [], fold, OnOk};
 ghost use Rattle.sq_tree.specs.Schema as spec;
 
+use crate::list::walk_bracketed;
 use crate::names::{walk_columns, walk_some_columns};
 use crate::sink::Sink;
 use crate::tree::Tree;
@@ -54,9 +55,7 @@ impl Tree for TableDefinition {
     fn walk<S: Sink>(&self, sink: &mut S) -> Result<(), S::Stop> {
         sink.words(&[Word::Create, Word::Table])?;
         self.name.walk(sink)?;
-        sink.symbol(Symbol::Open)?;
-        self.elements.walk(sink)?;
-        sink.symbol(Symbol::Close)
+        walk_bracketed(&self.elements, sink)
     }
 }
 
@@ -221,7 +220,5 @@ fn walk_check<S: Sink>(cond: &Cond, sink: &mut S) -> Result<(), S::Stop>
     ensures { OnOk result (sink.new ≡ fold S.after sink.old (spec.check_tokens cond.now)) }
 {
     sink.word(Word::Check)?;
-    sink.symbol(Symbol::Open)?;
-    cond.walk(sink)?;
-    sink.symbol(Symbol::Close)
+    walk_bracketed(cond, sink)
 }

@@ -1,7 +1,11 @@
 //! The spelling of script texts.
 
+ghost use Rattle.std.specs.Prelude.{◌≡◌, ◌∷◌, [], fold, OnOk};
+ghost use Rattle.sq_lex.specs.declared.lexeme.Lexeme.TheVariants as lexeme;
+ghost use Rattle.sq_lex.specs.declared.symbol.Symbol.TheVariants as symbol;
 ghost use Rattle.sq_tree.specs.Script as spec;
 
+use crate::list::walk_bracketed;
 use crate::sink::Sink;
 use crate::tree::Tree;
 use sq_lex::{Name, Symbol, Word};
@@ -20,25 +24,7 @@ impl Tree for ScriptItem {
     ghost tokens = { spec.ended_item_tokens };
 
     fn walk<S: Sink>(&self, sink: &mut S) -> Result<(), S::Stop> {
-        match self {
-            ScriptItem::Call {
-                module,
-                procedure,
-                arguments,
-            } => {
-                sink.name(Name::new(b"CALL"))?;
-                sink.name(*module)?;
-                sink.symbol(Symbol::Dot)?;
-                sink.name(*procedure)?;
-                arguments.walk(sink)?;
-            }
-            ScriptItem::Table { schema, table } => {
-                sink.word(Word::Table)?;
-                sink.name(*schema)?;
-                sink.symbol(Symbol::Dot)?;
-                sink.name(*table)?;
-            }
-        }
+        walk_item(self, sink)?;
         sink.symbol(Symbol::Semicolon)
     }
 }
@@ -53,11 +39,7 @@ impl Tree for Arguments {
                 sink.symbol(Symbol::Open)?;
                 sink.symbol(Symbol::Close)
             }
-            Arguments::Listed(arguments) => {
-                sink.symbol(Symbol::Open)?;
-                arguments.walk(sink)?;
-                sink.symbol(Symbol::Close)
-            }
+            Arguments::Listed(arguments) => walk_bracketed(arguments, sink),
         }
     }
 }
@@ -72,4 +54,35 @@ impl Tree for Argument {
             Argument::Null => sink.symbol(Symbol::Star),
         }
     }
+}
+
+/// Writes an item without the semicolon.
+#[tactic(auto, using(std::proofs::lemmas::Grind::common_steps))]
+fn walk_item<S: Sink>(item: &ScriptItem, sink: &mut S) -> Result<(), S::Stop>
+    ensures { OnOk result (sink.new ≡ fold S.after sink.old (spec.script_item_tokens item.now)) }
+{
+    match item {
+        ScriptItem::Call {
+            module,
+            procedure,
+            arguments,
+        } => {
+            sink.name(Name::new(b"CALL"))?;
+            walk_two_names(*module, *procedure, sink)?;
+            arguments.walk(sink)
+        }
+        ScriptItem::Table { schema, table } => {
+            sink.word(Word::Table)?;
+            walk_two_names(*schema, *table, sink)
+        }
+    }
+}
+
+/// Writes two names with a period between.
+fn walk_two_names<S: Sink>(first: Name, second: Name, sink: &mut S) -> Result<(), S::Stop>
+    ensures { OnOk result (sink.new ≡ fold S.after sink.old (lexeme.Name first ∷ lexeme.Symbol symbol.Dot ∷ lexeme.Name second ∷ [])) }
+{
+    sink.name(first)?;
+    sink.symbol(Symbol::Dot)?;
+    sink.name(second)
 }

@@ -76,6 +76,14 @@ pub trait Sink {
         self.take(Lexeme::Name(name))
     }
 
+    /// Takes a reserved word and a name.
+    final fn word_and_name(&mut self, word: Word, name: Name) -> Result<(), Self::Stop>
+        ensures { OnOk result (self.new ≡ fold after self.old (lexeme.Word word ∷ lexeme.Name name ∷ [])) }
+    {
+        self.word(word)?;
+        self.name(name)
+    }
+
     /// Takes a number.
     final fn number(&mut self, number: Number) -> Result<(), Self::Stop>
         ensures { OnOk result (self.new ≡ after self.old (lexeme.Number number)) }

@@ -2,6 +2,7 @@
 
 ghost use Rattle.sq_tree.specs.Statement as spec;
 
+use crate::list::walk_bracketed;
 use crate::names::walk_some_columns;
 use crate::sink::Sink;
 use crate::tree::Tree;
@@ -16,15 +17,9 @@ impl Tree for Statement {
 
     fn walk<S: Sink>(&self, sink: &mut S) -> Result<(), S::Stop> {
         match self {
-            Statement::Open(cursor) => {
-                sink.word(Word::Open)?;
-                sink.name(*cursor)
-            }
+            Statement::Open(cursor) => sink.word_and_name(Word::Open, *cursor),
             Statement::Fetch(fetch) => fetch.walk(sink),
-            Statement::Close(cursor) => {
-                sink.word(Word::Close)?;
-                sink.name(*cursor)
-            }
+            Statement::Close(cursor) => sink.word_and_name(Word::Close, *cursor),
             Statement::Select(select) => select.walk(sink),
             Statement::Insert(insert) => insert.walk(sink),
             Statement::Update(update) => update.walk(sink),
@@ -117,8 +112,7 @@ impl Tree for Insert {
 
     #[tactic(auto, using(std::proofs::lemmas::Grind::common_steps))]
     fn walk<S: Sink>(&self, sink: &mut S) -> Result<(), S::Stop> {
-        sink.word(Word::Insert)?;
-        sink.word(Word::Into)?;
+        sink.words(&[Word::Insert, Word::Into])?;
         self.table.walk(sink)?;
         walk_some_columns(&self.columns, sink)?;
         self.source.walk(sink)
@@ -133,9 +127,7 @@ impl Tree for InsertSource {
         match self {
             InsertSource::Values(values) => {
                 sink.word(Word::Values)?;
-                sink.symbol(Symbol::Open)?;
-                values.walk(sink)?;
-                sink.symbol(Symbol::Close)
+                walk_bracketed(values, sink)
             }
             InsertSource::Query(query) => query.walk(sink),
         }
@@ -181,8 +173,7 @@ impl Tree for Delete {
 
     #[tactic(auto, using(std::proofs::lemmas::Grind::common_steps))]
     fn walk<S: Sink>(&self, sink: &mut S) -> Result<(), S::Stop> {
-        sink.word(Word::Delete)?;
-        sink.word(Word::From)?;
+        sink.words(&[Word::Delete, Word::From])?;
         self.table.walk(sink)?;
         self.target.walk(sink)
     }
@@ -197,8 +188,7 @@ impl Tree for Where {
             Where::Condition(cond) => cond.walk(sink),
             Where::CurrentOf(cursor) => {
                 sink.word(Word::Current)?;
-                sink.word(Word::Of)?;
-                sink.name(*cursor)
+                sink.word_and_name(Word::Of, *cursor)
             }
         }
     }

@@ -1,5 +1,5 @@
--- What texts come to, from their bytes alone: the report of a run, or the first refusal with its position and cause. All
--- schema texts are read and judged, then all modules, then the script; then the script runs.
+-- What texts come to, from their bytes alone: the report of a run, or the first refusal with its position and cause. In which
+-- order they are read and judged says `judgement` of sq_model.
 use Rattle.std.specs.Prelude.{ℕ, zero, suc, ◌+◌, ◌-◌, List, [], ◌∷◌, map, length, drop, slice_get, nat_lt, if◌then◌else◌, Option, option_map, Some, None, unwrap_or, Result, Ok, Err}
 use Rattle.sq_lex.specs.Position.{position}
 use Rattle.sq_lex.specs.Reading.{reading}
@@ -17,15 +17,14 @@ use Rattle.sq_grammar.specs.Module.{item as module_item, module_text}
 use Rattle.sq_grammar.specs.Reading.{Outcome, Parser, Tokens, whole}
 use Rattle.sq_grammar.specs.Schema.{element as schema_element, next_definition, schema_text}
 use Rattle.sq_grammar.specs.Script.{item as script_item, script_text}
-use Rattle.sq_model.specs.Machine.{first_state}
-use Rattle.sq_model.specs.ModuleRefusal.{ModuleRefusal, first_module_refusal}
-use Rattle.sq_model.specs.Report.{Bytes, report}
-use Rattle.sq_model.specs.Run.{item_of_script, program_of}
-use Rattle.sq_model.specs.SchemaRefusal.{SchemaRefusal, elements_of, first_schema_refusal}
-use Rattle.sq_model.specs.Script.{ScriptRefusal, first_script_refusal}
-use Rattle.sq_model.specs.declared.refusal.ModuleFault.{ModuleFault}
-use Rattle.sq_model.specs.declared.refusal.SchemaFault.{SchemaFault}
-use Rattle.sq_model.specs.declared.refusal.ScriptFault.{ScriptFault}
+use Rattle.sq_rules.specs.ModuleRefusal.{ModuleRefusal}
+use Rattle.sq_model.specs.Judgement.{Judgement, judgement}
+use Rattle.sq_model.specs.Report.{Bytes}
+use Rattle.sq_rules.specs.SchemaRefusal.{SchemaRefusal}
+use Rattle.sq_rules.specs.Script.{ScriptRefusal}
+use Rattle.sq_rules.specs.declared.refusal.ModuleFault.{ModuleFault}
+use Rattle.sq_rules.specs.declared.refusal.SchemaFault.{SchemaFault}
+use Rattle.sq_rules.specs.declared.refusal.ScriptFault.{ScriptFault}
 
 -- ---- what is answered
 
@@ -102,9 +101,6 @@ abbrev pub read_texts : {T : Type 0} → Parser T → ℕ → List Bytes → Res
 read_texts rule number [] = Ok []
 read_texts rule number (text ∷ texts) = with_first number (read_text rule text) (read_texts rule (number + 1) texts)
 
-abbrev pub trees : {T : Type 0} → List (ReadText T) → List T
-trees texts = map (λ t. t.tree) texts
-
 -- ---- where the parts of a text begin
 
 abbrev pub behind_item : {A : Type 0} → Tokens → Outcome A → Tokens
@@ -139,32 +135,7 @@ text_of texts number = unwrap_or (option_map (λ t. t.text) (slice_get texts num
 abbrev pub tokens_of : {T : Type 0} → List (ReadText T) → ℕ → List Token
 tokens_of texts number = unwrap_or (option_map (λ t. t.tokens) (slice_get texts number)) []
 
--- ---- the script, the modules, the schemas
-
-abbrev pub of_script_refusal : Option ScriptRefusal → List SchemaText → List ModuleText → ReadText ScriptText → ℕ → Answer
-of_script_refusal (Some r) schemas modules script row_numbers =
-    Answer.script_refused (fault_before script.text script.tokens (behind_items script_item r.item (lexemes script.tokens)) (Cause.of_script r.fault))
-of_script_refusal None schemas modules script row_numbers =
-    let p = program_of schemas modules row_numbers in Answer.reported (report p (first_state p) (map item_of_script script.tree.items))
-
-abbrev pub with_script : List SchemaText → List ModuleText → Result (ReadText ScriptText) Fault → ℕ → Answer
-with_script schemas modules (Err fault) row_numbers = Answer.script_refused fault
-with_script schemas modules (Ok script) row_numbers =
-    of_script_refusal (first_script_refusal (elements_of schemas) modules script.tree) schemas modules script row_numbers
-
-abbrev pub module_refusal : List (ReadText ModuleText) → ModuleRefusal → Refusal
-module_refusal texts r = record {
-  text = r.text;
-  fault = fault_before (text_of texts r.text) (tokens_of texts r.text) (behind_module_part r.item (lexemes (tokens_of texts r.text))) (Cause.of_module r.fault);
-}
-
-abbrev pub of_module_refusal : Option ModuleRefusal → List SchemaText → List (ReadText ModuleText) → Bytes → ℕ → Answer
-of_module_refusal (Some r) schemas modules script row_numbers = Answer.module_refused (module_refusal modules r)
-of_module_refusal None schemas modules script row_numbers = with_script schemas (trees modules) (read_text script_text script) row_numbers
-
-abbrev pub with_modules : List SchemaText → Result (List (ReadText ModuleText)) Refusal → Bytes → ℕ → Answer
-with_modules schemas (Err refusal) script row_numbers = Answer.module_refused refusal
-with_modules schemas (Ok modules) script row_numbers = of_module_refusal (first_module_refusal (trees modules)) schemas modules script row_numbers
+-- ---- refusals with their places
 
 abbrev pub schema_refusal : List (ReadText SchemaText) → SchemaRefusal → Refusal
 schema_refusal texts r = record {
@@ -172,14 +143,52 @@ schema_refusal texts r = record {
   fault = fault_before (text_of texts r.text) (tokens_of texts r.text) (behind_schemas r.schema r.element (lexemes (tokens_of texts r.text))) (Cause.of_schema r.fault);
 }
 
-abbrev pub of_schema_refusal : Option SchemaRefusal → List (ReadText SchemaText) → List Bytes → Bytes → ℕ → Answer
-of_schema_refusal (Some r) schemas modules script row_numbers = Answer.schema_refused (schema_refusal schemas r)
-of_schema_refusal None schemas modules script row_numbers = with_modules (trees schemas) (read_texts (module_text MAX_DEPTH) 0 modules) script row_numbers
+abbrev pub module_refusal : List (ReadText ModuleText) → ModuleRefusal → Refusal
+module_refusal texts r = record {
+  text = r.text;
+  fault = fault_before (text_of texts r.text) (tokens_of texts r.text) (behind_module_part r.item (lexemes (tokens_of texts r.text))) (Cause.of_module r.fault);
+}
 
-abbrev pub with_schemas : Result (List (ReadText SchemaText)) Refusal → List Bytes → Bytes → ℕ → Answer
-with_schemas (Err refusal) modules script row_numbers = Answer.schema_refused refusal
-with_schemas (Ok schemas) modules script row_numbers = of_schema_refusal (first_schema_refusal (trees schemas)) schemas modules script row_numbers
+abbrev pub script_fault : List (ReadText ScriptText) → ScriptRefusal → Fault
+script_fault texts r =
+    fault_before (text_of texts 0) (tokens_of texts 0) (behind_items script_item r.item (lexemes (tokens_of texts 0))) (Cause.of_script r.fault)
+
+-- ---- all texts
+
+-- texts that were read
+abbrev pub those_read : {T : Type 0} → Result (List (ReadText T)) Refusal → List (ReadText T)
+those_read (Err refusal) = []
+those_read (Ok texts) = texts
+
+abbrev pub trees_read : {T : Type 0} → Result (List (ReadText T)) Refusal → Result (List T) Refusal
+trees_read (Err refusal) = Err refusal
+trees_read (Ok texts) = Ok (map (λ t. t.tree) texts)
+
+-- the only script
+abbrev pub script_read : Result (ReadText ScriptText) Fault → Result (List (ReadText ScriptText)) Refusal
+script_read (Err fault) = Err (record { text = 0; fault = fault })
+script_read (Ok script) = Ok (script ∷ [])
+
+abbrev pub tree_read : Result (ReadText ScriptText) Fault → Result ScriptText Refusal
+tree_read (Err fault) = Err (record { text = 0; fault = fault })
+tree_read (Ok script) = Ok script.tree
+
+-- a judgement of trees, with the places of the texts
+abbrev pub placed : Result (List (ReadText SchemaText)) Refusal → Result (List (ReadText ModuleText)) Refusal → Result (ReadText ScriptText) Fault
+    → Judgement Refusal → Answer
+placed schemas modules script (Judgement.schema_unread refusal) = Answer.schema_refused refusal
+placed schemas modules script (Judgement.schema_refused r) = Answer.schema_refused (schema_refusal (those_read schemas) r)
+placed schemas modules script (Judgement.module_unread refusal) = Answer.module_refused refusal
+placed schemas modules script (Judgement.module_refused r) = Answer.module_refused (module_refusal (those_read modules) r)
+placed schemas modules script (Judgement.script_unread refusal) = Answer.script_refused refusal.fault
+placed schemas modules script (Judgement.script_refused r) = Answer.script_refused (script_fault (those_read (script_read script)) r)
+placed schemas modules script (Judgement.reported bytes) = Answer.reported bytes
+
+abbrev pub of_read : Result (List (ReadText SchemaText)) Refusal → Result (List (ReadText ModuleText)) Refusal → Result (ReadText ScriptText) Fault → ℕ → Answer
+of_read schemas modules script row_numbers =
+    placed schemas modules script (judgement (trees_read schemas) (trees_read modules) (tree_read script) row_numbers)
 
 -- schema texts, module texts, a script, and the greatest number of a row
 abbrev pub answered : List Bytes → List Bytes → Bytes → ℕ → Answer
-answered schemas modules script row_numbers = with_schemas (read_texts (schema_text MAX_DEPTH (MAX_DEPTH - 1)) 0 schemas) modules script row_numbers
+answered schemas modules script row_numbers =
+    of_read (read_texts (schema_text MAX_DEPTH (MAX_DEPTH - 1)) 0 schemas) (read_texts (module_text MAX_DEPTH) 0 modules) (read_text script_text script) row_numbers

@@ -11,6 +11,7 @@ use Rattle.sq_scope.specs.declared.findings.Found.{Found}
 use Rattle.sq_select.specs.Placed.{around, clause_placed, inside}
 use Rattle.sq_select.specs.Written.{ClauseIs}
 use Rattle.sq_select.proofs.Written as written
+use Rattle.sq_bind.proofs.Noted.{key_noted}
 use Rattle.sq_bind.proofs.Spelled as spelled
 use Rattle.sq_bind.proofs.updatable.bind_target.Goals as goal
 
@@ -28,3 +29,9 @@ returns-clause-written g c =
     subst (λ (o : Option (Bor Cond)). IfOk c.whole_target-2.result (λ (found : Found Target). ClauseIs [] (clause_placed (inside (item ∷ []) (around known environment)) (clause (option_map (λ (c : Bor Cond). cond_of environment.user c.now) o))) found.part.condition)) (sym c.in-Some.is)
     (IfOk-weaker c.whole_target-2.result (λ (found : Found Target). found.part.condition ≡ Some c.in_ok-part.field-0.part) (λ (found : Found Target). ClauseIs [] text found.part.condition)
     (λ found same. subst (ClauseIs [] text) (sym same) is) c.whole_target-2.ensures.condition)
+
+pub returns-clause-key : goal.returns-clause-key
+returns-clause-key g c =
+    let under = c.args.under in
+    key_noted under.table.now.body under.leaf.now (Some c.in_ok-part.field-0.part) c.key_of-key.result c.in_ok-part.field-0.findings c.whole_target-2.result
+    c.key_of-key.ensures.noted c.whole_target-2.ensures.leaf c.whole_target-2.ensures.condition c.whole_target-2.ensures.key

@@ -2,7 +2,7 @@ use Rattle.std.proofs.Common.{◌∙◌, Bool, [], sym, ap}
 use Rattle.sq_meaning.specs.Quiet.{is_quiet_expr}
 use Rattle.sq_bound.specs.Expression.{expr_of}
 use Rattle.sq_bound.specs.declared.expression.BoundExpr.{BoundExpr}
-use Rattle.sq_bound.proofs.QuietLaws.{alone, quiet-Negated, no_operation, operations, false_not}
+use Rattle.sq_bound.proofs.QuietLaws.{alone, quiet-Signed, no_operation, operations, false_not}
 use Rattle.sq_bound.proofs.quiet.+is_sure_expr.Goals as goal
 
 abbrev is_quiet_bound : BoundExpr → Bool
@@ -23,8 +23,8 @@ returns-in-Literal-4 t c = sym (alone _ c.in-Literal.is)
 pub returns-in-Literal-5 : goal.returns-in-Literal-5
 returns-in-Literal-5 t c = sym (alone _ c.in-Literal.is)
 
-pub returns-in-Negated : goal.returns-in-Negated
-returns-in-Negated t c = c.is_sure_expr.ensures ∙ ap is_quiet_bound c.get.ensures ∙ sym (ap is_quiet_bound c.in-Negated.is ∙ quiet-Negated _)
+pub returns-in-Signed : goal.returns-in-Signed
+returns-in-Signed t c = c.is_sure_expr.ensures ∙ ap is_quiet_bound c.get.ensures ∙ sym (ap is_quiet_bound c.in-Signed.is ∙ quiet-Signed _ _)
 
 pub returns-then-is_empty : goal.returns-then-is_empty
 returns-then-is_empty t c =

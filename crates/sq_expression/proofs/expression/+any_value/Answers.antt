@@ -4,13 +4,12 @@ use Rattle.sq_meaning.specs.Environment.{items_in, value_at}
 use Rattle.sq_meaning.specs.Status.{◌>>=◌, well_formed}
 use Rattle.std.specs.Prelude.{slice_get}
 use Rattle.sq_meaning.specs.Expression.{value, with_sign, user_value}
-use Rattle.sq_tree.specs.declared.expr.Sign.TheVariants as sign
 use Rattle.sq_bound.specs.Expression.{expr_of, place_meant, parameter_meant}
 use Rattle.sq_bound.specs.declared.expression.BoundExpr.{BoundExpr}
 use Rattle.sq_bound.specs.declared.expression.BoundExpr.TheVariants as bound
 use Rattle.sq_bound.specs.declared.expression.Operation.{Operation}
 use Rattle.sq_expression.specs.Frame.{env_of, group_values, reading}
-use Rattle.sq_expression.proofs.Expressions.{handed_on, meets_by, literal_value, parameter_value, name_value, placed_column, group_function, negated_value, first_failed, first_done, operation_done, operation_failed}
+use Rattle.sq_expression.proofs.Expressions.{handed_on, meets_by, literal_value, parameter_value, name_value, placed_column, group_function, signed_value, first_failed, first_done, operation_done, operation_failed}
 use Rattle.sq_expression.proofs.expression.+any_value.Goals as goal
 
 pub returns-in-Literal : goal.returns-in-Literal
@@ -52,15 +51,16 @@ returns-in-SetFunction t c =
     meets_by c.function_value.result (value m (expr_of (map literal values) c.args.expr.now) env) (well_formed (slice_get values c.in-SetFunction.number))
     (group_function m env values c.args.expr.now c.in-SetFunction.number c.in-SetFunction.is) c.function_value.ensures
 
-pub returns-in-Negated : goal.returns-in-Negated
-returns-in-Negated t c =
+pub returns-in-Signed : goal.returns-in-Signed
+returns-in-Signed t c =
     let m = reading c.args.context.now in
     let env = env_of c.args.frame.now c.args.context.now in
     let fs = map literal (group_values c.args.frame.now) in
+    let sign = c.in-Signed.sign in
     let operand = c.get.result.now in
-    meets_by c.negated_or_fault.result (value m (expr_of fs c.args.expr.now) env) (value m (expr_of fs operand) env >>= with_sign sign.Minus)
-    (negated_value m env fs c.args.expr.now operand (c.in-Negated.is ∙ ap bound.Negated (sym c.get.ensures)))
-    (c.negated_or_fault.ensures (value m (expr_of fs operand) env) c.any_value.ensures)
+    meets_by c.signed_or_fault.result (value m (expr_of fs c.args.expr.now) env) (value m (expr_of fs operand) env >>= with_sign sign)
+    (signed_value m env fs c.args.expr.now sign operand (c.in-Signed.is ∙ ap (bound.Signed sign) (sym c.get.ensures)))
+    (c.signed_or_fault.ensures (value m (expr_of fs operand) env) c.any_value.ensures)
 
 pub returns-in_err-left-in-Operations : goal.returns-in_err-left-in-Operations
 returns-in_err-left-in-Operations t c =

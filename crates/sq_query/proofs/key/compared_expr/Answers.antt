@@ -1,5 +1,5 @@
 use Rattle.std.proofs.Common.{sym}
-use Rattle.sq_query.proofs.ColumnTests.{named_within}
+use Rattle.sq_query.proofs.NamedTests.{named_within}
 use Rattle.sq_query.proofs.key.compared_expr.Goals as goal
 
 pub returns-in-Some : goal.returns-in-Some

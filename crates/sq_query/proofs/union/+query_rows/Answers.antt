@@ -1,15 +1,24 @@
 use Rattle.std.proofs.Common.{ap, sym, ◌∙◌}
+use Rattle.std.specs.Prelude.{option_copied}
 use Rattle.sq_bound.specs.declared.query.BoundTerm.TheVariants.{Bracketed}
-use Rattle.sq_query.proofs.UnionRows.{union_handed_on, rows_of_specification, rows_of_bracketed, first_meant, first_failed, next_meant, term_failed, join_failed, all_meant}
+use Rattle.sq_query.proofs.UnionRows.{union_handed_on, rows_of_specification, rows_of_bracketed, first_meant, first_failed, next_left, next_meant, term_failed, join_failed, all_meant}
 use Rattle.sq_query.proofs.union.+query_rows.Goals as goal
 
 pub query_rows-loop-union-init : goal.query_rows-loop-union-init
-query_rows-loop-union-init t c = first_meant c.args.query.now c.args.context.now c.in_ok-so_far.so_far c.in_ok-so_far.ensures
+query_rows-loop-union-init t c = record {
+  meant = first_meant c.args.query.now c.args.context.now c.in_ok-so_far.so_far c.in_ok-so_far.ensures;
+  left = λ columns parameters tables may noted. tt;
+}
 
 pub query_rows-loop-union-preserved : goal.query_rows-loop-union-preserved
 query_rows-loop-union-preserved t c =
-    next_meant c.args.query.now c.args.context.now c.as_slice-union-items.result.now c.loop-union.union-index c.union-item.result c.loop-union.so_far.items
-    c.as_slice-union-items.ensures c.loop-union-test.true c.union-item.is c.loop-union.invariant c.in-Ok.others c.in_ok-so_far-in-Ok.so_far c.in-Ok.ensures c.in_ok-so_far-in-Ok.ensures
+    let before = option_copied c.loop-union.before in
+    record {
+      meant = next_meant c.args.query.now c.args.context.now c.as_slice-union-items.result.now c.loop-union.union-index c.union-item.result c.loop-union.so_far.items
+          c.as_slice-union-items.ensures c.loop-union-test.true c.union-item.is c.loop-union.invariant.meant before c.in-Ok.others c.in_ok-so_far-in-Ok.so_far c.loop-union.invariant.left c.in-Ok.ensures c.in_ok-so_far-in-Ok.ensures;
+      left = next_left c.args.query.now c.args.context.now c.as_slice-union-items.result.now c.loop-union.union-index c.union-item.result c.loop-union.so_far.items
+          c.as_slice-union-items.ensures c.loop-union-test.true c.union-item.is c.loop-union.invariant.meant before c.in-Ok.others c.in_ok-so_far-in-Ok.so_far c.loop-union.invariant.left c.in-Ok.ensures c.in_ok-so_far-in-Ok.ensures;
+    }
 
 pub term_rows-returns-in-Specification : goal.term_rows-returns-in-Specification
 term_rows-returns-in-Specification t c = rows_of_specification c.outermost_rows.result c.args.context.now c.args.term.now _ c.in-Specification.is c.outermost_rows.ensures
@@ -20,7 +29,7 @@ term_rows-returns-in-Bracketed t c =
 
 pub query_rows-returns : goal.query_rows-returns
 query_rows-returns t c =
-    all_meant c.args.query.now c.args.context.now c.as_slice-union-items.result.now c.loop-union.union-index c.loop-union.so_far c.as_slice-union-items.ensures c.loop-union-test.false c.loop-union.invariant
+    all_meant c.args.query.now c.args.context.now c.as_slice-union-items.result.now c.loop-union.union-index c.loop-union.so_far c.as_slice-union-items.ensures c.loop-union-test.false c.loop-union.invariant.meant
 
 pub query_rows-returns-in_err-so_far : goal.query_rows-returns-in_err-so_far
 query_rows-returns-in_err-so_far t c =
@@ -32,9 +41,9 @@ query_rows-returns-in_err-so_far-in-Ok t c =
     let e = c.in_err-so_far-in-Ok.field-0.0 in
     union_handed_on c.from_residual-in_err-so_far-in-Ok.result e c.args.query.now c.args.context.now c.from_residual-in_err-so_far-in-Ok.ensures.1
     (join_failed c.args.query.now c.args.context.now c.as_slice-union-items.result.now c.loop-union.union-index c.union-item.result c.loop-union.so_far.items
-    c.as_slice-union-items.ensures c.loop-union-test.true c.union-item.is c.loop-union.invariant e c.in-Ok.others c.in-Ok.ensures c.in_err-so_far-in-Ok.ensures)
+    c.as_slice-union-items.ensures c.loop-union-test.true c.union-item.is c.loop-union.invariant.meant (option_copied c.loop-union.before) e c.in-Ok.others c.loop-union.invariant.left c.in-Ok.ensures c.in_err-so_far-in-Ok.ensures)
 
 pub query_rows-returns-in-Err : goal.query_rows-returns-in-Err
 query_rows-returns-in-Err t c =
     term_failed c.args.query.now c.args.context.now c.as_slice-union-items.result.now c.loop-union.union-index c.union-item.result c.loop-union.so_far.items
-    c.as_slice-union-items.ensures c.loop-union-test.true c.union-item.is c.loop-union.invariant c.in-Err.fault c.in-Err.ensures
+    c.as_slice-union-items.ensures c.loop-union-test.true c.union-item.is c.loop-union.invariant.meant c.in-Err.fault c.in-Err.ensures

@@ -12,5 +12,5 @@ abbrev pub invariant-loop-column : goal.invariant-loop-column
 invariant-loop-column l = record {
   can_next : (goal.iterator-loop-column).can_next l.column-iterator;
   is_finite : (goal.iterator-loop-column).is_finite l.column-iterator;
-  brought : IsBringable (kinds_of_results l.columns) l.row → row_brought_to (kinds_of_results l.columns) l.row ≡ after l.brought (each pair_brought (map of_kind (drop (length l.yielded) (zip l.columns l.row))));
+  brought : IsBringable (kinds_of_results l.columns) l.fn.row → row_brought_to (kinds_of_results l.columns) l.fn.row ≡ after l.brought (each pair_brought (map of_kind (drop (length l.yielded) (zip l.columns l.fn.row))));
 }

@@ -32,14 +32,20 @@ invariant_of-self c =
 pub invariant_of-self-inside : goal.invariant_of-self-inside
 invariant_of-self-inside c =
     let same = ap (λ (s : Catalog). s.bases) c.self.view_is in (
-      c.self.inside.refer,
+      c.self.inside.counted,
       (
-        stand_all c.self.inside.base_tables.items c.insert_table.new.tables.entries
-            (view_beside c.insert_table.result c.args.self.now c.self.inside.base_tables.items c.self.inside.views.entries c.insert_table.new.tables.entries c.args.name c.args.table
-            c.insert_table.ensures.added c.insert_table.ensures.unchanged same (ap (λ (s : Catalog). s.views) c.self.view_is) c.requires.next c.self.invariant.3)
-            (stand_added c.insert_table.result c.args.self.now c.self.inside.views.entries c.insert_table.new.tables.entries c.args.name c.args.table
-            c.insert_table.ensures.added c.insert_table.ensures.unchanged (ap (λ (s : Catalog). s.views) c.self.view_is) c.requires.next c.self.invariant.6),
-        tt,
+        c.self.inside.keyed,
+        (
+          c.self.inside.refer,
+          (
+            stand_all c.self.inside.base_tables.items c.insert_table.new.tables.entries
+                (view_beside c.insert_table.result c.args.self.now c.self.inside.base_tables.items c.self.inside.views.entries c.insert_table.new.tables.entries c.args.name c.args.table
+                c.insert_table.ensures.added c.insert_table.ensures.unchanged same (ap (λ (s : Catalog). s.views) c.self.view_is) c.requires.next c.self.invariant.3)
+                (stand_added c.insert_table.result c.args.self.now c.self.inside.views.entries c.insert_table.new.tables.entries c.args.name c.args.table
+                c.insert_table.ensures.added c.insert_table.ensures.unchanged (ap (λ (s : Catalog). s.views) c.self.view_is) c.requires.next c.self.invariant.6),
+            tt,
+          ),
+        ),
       ),
     )
 

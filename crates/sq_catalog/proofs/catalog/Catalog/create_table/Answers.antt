@@ -12,4 +12,4 @@ returns-clause-tables c =
     let fresh = c.in_ok-check_new_name.ensures made.own in
     subst (λ (name : FullName). OnOk c.add_base.result (Gains c.args.self.now c.add_base.new.self (name ∷ []) (definition ∷ []))) c.full_name-name.ensures
     (gains_one c.add_base.result c.args.self.now c.add_base.new.self c.full_name-name.result definition c.in_ok-table.table.columns c.in_ok-table.base c.add_base.ensures.tables made.columns made.base
-    (made.references fresh c.add_base.ensures.count))
+    (made.references fresh))

@@ -1,0 +1,13 @@
+pub mod Words
+pub mod Schema
+pub mod Catalog
+pub mod Privilege
+pub mod Site
+pub mod Privileges
+pub mod Binding
+pub mod Module
+pub mod WellFormed
+pub mod SchemaRefusal
+pub mod ModuleRefusal
+pub mod Script
+pub mod Keyed
