@@ -2,7 +2,10 @@
 """Makes docs/STATUSES.md of crates/sq_cases/data/runs-statuses.txt, whose runs the gate makes.
 
 make_statuses.py [check]: with `check` it writes nothing, and fails where the page isn't that of the data.
+
+Texts stand on the page whole. One of many lines that differ in a number alone stands there as a command that prints it.
 """
+import re
 import sys
 from pathlib import Path
 
@@ -15,12 +18,20 @@ PARTS = {
     "Script": "## Refusals of scripts",
     "Fault": "## Statements that are not well formed\n\nEach call of the procedure answers 42000. The name of the fault isn't printed.",
 }
-WIDEST = 160
+# What a text is of: a name may be both a refusal and a fault of a statement.
+OF = {"Schema": " of a schema", "Module": " of a module", "Script": " of a script", "Fault": " of a statement"}
+MOST_LINES = 30
 
 
 def shown(lines):
-    """A text's lines as a block; a long line is cut."""
-    return [line if len(line) <= WIDEST else line[:WIDEST] + " .." for line in lines]
+    """A text's lines; or the command that prints a long text, whose lines count from 0 behind the first."""
+    if len(lines) <= MOST_LINES:
+        return lines
+    first, *others = lines
+    pattern = re.sub("0", "%d", others[0], count=1)
+    if others != [pattern % number for number in range(len(others))]:
+        sys.exit("no command prints the text that begins with " + first)
+    return ["-- printed by this command:", f"printf '%s\\n' '{first}'; seq -f '{pattern.replace('%d', '%.0f')}' 0 {len(others) - 1}"]
 
 
 def texts(lines):
@@ -41,7 +52,7 @@ def texts_block(parts):
         if part.startswith("rows"):
             lines.append(f"-- run with --{part}")
         else:
-            lines += [f"-- {part}", *shown(written[:4] + ["..", written[-1]] if len(written) > 8 else written)]
+            lines += [f"-- {part}", *shown(written)]
     return ["```", *lines, "```", ""]
 
 
@@ -66,7 +77,7 @@ def main():
             page += [PARTS[kind], ""]
             seen = kind
         title, says = rest.split(": ", 1)
-        page += [f"### `{title}`", "", says[0].upper() + says[1:] + ".", ""]
+        page += [f"### `{title}`{OF.get(kind, '')}", "", says[0].upper() + says[1:] + ".", ""]
         *parts, answer = texts(lines)
         page += texts_block(parts) + answer_block(*answer)
     text = "\n".join(page).rstrip() + "\n"

@@ -16,8 +16,8 @@ DATA = os.path.join(os.path.dirname(os.path.abspath(__file__)), "..", "crates", 
 KIT = (("schema", "schema.sql"), ("first_module", "module.sql"), ("second_module", "second-module.sql"),
        ("scrolling_module", "scrolling-module.sql"))
 USUAL_ROW_NUMBERS = "1000000"
-FAULTS = (("lexical", "sq_lex.specs.declared.fault.LexFaultKind"), ("schema_fault", "sq_model.specs.declared.refusal.SchemaFault"),
-          ("module_fault", "sq_model.specs.declared.refusal.ModuleFault"), ("script_fault", "sq_model.specs.declared.refusal.ScriptFault"))
+FAULTS = (("lexical", "sq_lex.specs.declared.fault.LexFaultKind"), ("schema_fault", "sq_rules.specs.declared.refusal.SchemaFault"),
+          ("module_fault", "sq_rules.specs.declared.refusal.ModuleFault"), ("script_fault", "sq_rules.specs.declared.refusal.ScriptFault"))
 
 
 def unescaped(line):

@@ -1,20 +1,34 @@
 #!/usr/bin/env python3
-"""Refuses each allocation of the trials of the stores, one in each run.
+"""Refuses each allocation of a program, one in each run of it.
 
-refuse_allocations.py [PROGRAM]: runs the built program of crates/sq_store_trials (`rt run` there proves and builds it)
-once for each of its allocations, and has that one refused. A small C library between the program and `malloc` does it; `cc`
-compiles it. Where an `apply` is refused memory, the trial looks whether the store shows what it showed before, and makes the
-`apply` once more, so what the program prints is as ever. Where something else is refused, the program ends with an error, and
-what it printed is the beginning of that. Anything else is a fault.
+refuse_allocations.py [TRIALS [SQMOD]]: two built programs, by default those that the gate leaves in crates/*/out. A small C
+library between a program and `malloc` refuses the allocation of one number; `cc` compiles it.
+
+The trials of the stores (crates/sq_store_trials): where an `apply` is refused memory, the trial looks whether the store shows
+what it showed before, and makes the `apply` once more, so what the program prints is as ever. Where something else is refused,
+the program ends with an error, and what it printed is the beginning of that.
+
+`sqmod run`, on seven runs of crates/sq_cases/data and on the examples: it prints what it prints as ever; or it ends with
+status 3, says after how many items memory ran out, and has written the lines of exactly those items; or memory ran out
+while a file was read, which then can't be read, and nothing is written.
+
+Anything else is a fault.
 """
 
 import os
+import re
 import subprocess
 import sys
 import tempfile
+from concurrent.futures import ThreadPoolExecutor
 from pathlib import Path
 
-FOLDER = Path(__file__).resolve().parent.parent / "crates" / "sq_store_trials"
+from print_runs import runs_of
+
+ROOT = Path(__file__).resolve().parent.parent
+RUNS = ("keys_move_together", "no_row_of_a_refused_copy", "changes_below_open_cursors",
+        "cut_text_and_null_without_indicator", "rollback_closes_cursors", "references", "walking_cursor_under_changes")
+EXAMPLES = ("first", "constraints", "cursors", "grants")
 LIBRARY = """
 #include <stdio.h>
 #include <stdlib.h>
@@ -38,31 +52,98 @@ def library(room):
     return made
 
 
-def run(program, made, number):
-    """What the program prints and its status, where the allocation of that number is refused."""
-    done = subprocess.run([program], env={"LD_PRELOAD": str(made), "REFUSED": str(number)}, capture_output=True, text=True)
+def run(words, made, number, folder=None):
+    """What a program prints, its status and its lines on standard error, where the allocation of that number is refused."""
+    done = subprocess.run(words, cwd=folder, env={"LD_PRELOAD": str(made), "REFUSED": str(number)}, capture_output=True, text=True)
     return done.stdout, done.returncode, done.stderr
 
 
+def endings(words, made, wanted, is_ending, folder=None):
+    """How many allocations a program makes, and at how many it ends otherwise than as ever; a fault ends this program."""
+    printed, status, errors = run(words, made, 0, folder)
+    if status or printed != wanted:
+        sys.exit(f"{words} doesn't print what is wanted")
+    count = int(errors.split()[-1])
+
+    def ends(number):
+        printed, status, errors = run(words, made, number, folder)
+        if status == 0 and printed == wanted:
+            return False
+        if is_ending(printed, status, errors):
+            return True
+        raise RuntimeError(f"{words}, allocation {number} refused: status {status}, {errors!r}, and it prints\n{printed}")
+
+    try:
+        with ThreadPoolExecutor(os.cpu_count()) as pool:
+            return count, sum(pool.map(ends, range(1, count + 1)))
+    except RuntimeError as fault:
+        sys.exit(str(fault))
+
+
+def items_of(report):
+    """The lines of each item: a call has one, a table one and one for each row, which begins with two blanks."""
+    return re.findall(r"^\S.*\n(?:  .*\n)*", report, re.MULTILINE)
+
+
+def stops_in_time(report):
+    """Whether `sqmod` ended for want of memory, and has written exactly the items that it says."""
+    items = items_of(report)
+
+    def is_ending(printed, status, errors):
+        line = errors.split("\n")[0]
+        unread = re.fullmatch(r"sqmod: \S+: cannot be read", line)
+        if status == 1 and unread:
+            return printed == ""
+        after = re.fullmatch(r"sqmod: want of memory after (\d+) items", line)
+        return status == 3 and after is not None and int(after[1]) < max(len(items), 1) and printed == "".join(items[:int(after[1])])
+
+    return is_ending
+
+
+def trials(program, made):
+    wanted = (ROOT / "crates/sq_store_trials/stdout").read_text()
+    count, ended = endings([program], made, wanted, lambda printed, status, _: status == 1 and wanted.startswith(printed))
+    print(f"The trials of the stores: {count} allocations: {count - ended} refused within an `apply` or where nothing is lost, "
+          f"and the report is as ever; at {ended} the program ends")
+
+
+def texts(room, found):
+    """The words of `sqmod` for a run of the data, its files written to a folder."""
+    words = []
+    for kind, parts in (("schema", found.schemas), ("module", found.modules), ("script", [found.script])):
+        for number, part in enumerate(parts, 1):
+            Path(room, f"{kind}{number}").write_text(part)
+            words += [f"--{kind}", f"{kind}{number}"]
+    return [*words, "--rows", found.rows]
+
+
+def of_sqmod(program, made, room):
+    """The runs of `sqmod`: words, report, folder."""
+    worked = {found.name: found for found in runs_of(ROOT / "crates/sq_cases/data/runs-worked.txt")}
+    for name in RUNS:
+        folder = Path(room, name)
+        folder.mkdir()
+        yield [program, "run", *texts(folder, worked[name])], worked[name].report, folder
+    for name in EXAMPLES:
+        folder = ROOT / "examples" / name
+        modules = sorted(file.name for file in folder.glob("*.sql") if file.name != "schema.sql")
+        words = ["--schema", "schema.sql", *(word for module in modules for word in ("--module", module))]
+        yield [program, "run", *words, "--script", "script.txt"], (folder / "report.txt").read_text(), folder
+
+
+def whole_program(program, made, room):
+    counts = [endings(words, made, report, stops_in_time(report), folder) for words, report, folder in of_sqmod(program, made, room)]
+    print(f"sqmod: {len(counts)} runs, {sum(count for count, _ in counts)} allocations, each refused once: at "
+          f"{sum(ended for _, ended in counts)} it ends after exactly the items that it says, else the report is as ever")
+
+
 def main():
-    program = Path(sys.argv[1] if len(sys.argv) > 1 else FOLDER / "out" / "sq_store_trials").resolve()
-    wanted = (FOLDER / "stdout").read_text()
+    built = [str(Path(word).resolve()) for word in sys.argv[1:]]
+    built += [str(ROOT / "crates" / name / "out" / name) for name in ("sq_store_trials", "sqmod")[len(built):]]
     with tempfile.TemporaryDirectory() as room:
         made = library(room)
-        printed, status, errors = run(program, made, 0)
-        if status or printed != wanted:
-            sys.exit("the program doesn't print what is stored")
-        count = int(errors.split()[-1])
-        as_ever, ended = [], []
-        for number in range(1, count + 1):
-            printed, status, _ = run(program, made, number)
-            if status == 0 and printed == wanted:
-                as_ever.append(number)
-            elif status == 1 and wanted.startswith(printed):
-                ended.append(number)
-            else:
-                sys.exit("allocation %d refused: status %d, and it prints\n%s" % (number, status, printed))
-    print("%d allocations: %d refused within an `apply` or where nothing is lost, and the report is as ever; at %d the program ends" % (count, len(as_ever), len(ended)))
+        trials(built[0], made)
+        whole_program(built[1], made, room)
 
 
 main()

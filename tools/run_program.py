@@ -1,5 +1,5 @@
 #!/usr/bin/env python3
-"""Runs the built program on every run of crates/sq_cases/data and on the examples, and compares what comes of it.
+"""Runs the built program on every run of crates/sq_cases/data and compares what comes of it.
 
 run_program.py [PROGRAM]: `./sqmod prove` builds the program, and so does the gate. The report has to be the wanted one, with
 exit status 0; where a refusal is wanted, its line on standard error, with exit status 2 and nothing written.
@@ -40,21 +40,11 @@ def is_as_wanted(program, run):
     return found == (b"", f"sqmod: {kind}{number}:{place}: {fault}\n".encode(), 2)
 
 
-def is_reported(program, example):
-    """Whether an example comes to the report beside it."""
-    texts = sorted(path.name for path in example.glob("*.sql"))
-    modules = [name for name in texts if name != "schema.sql"]
-    found = outcome(program, example, ["schema.sql"], modules, "script.txt", "1000000")
-    return found == ((example / "report.txt").read_bytes(), b"", 0)
-
-
 def main():
     program = str(Path(sys.argv[1] if len(sys.argv) > 1 else ROOT / "crates/sqmod/out/sqmod").resolve())
     runs = [run for path in sorted((ROOT / "crates/sq_cases/data").glob("runs-*.txt")) for run in runs_of(path)]
-    examples = [path.parent for path in sorted((ROOT / "examples").glob("*/report.txt"))]
     wrong = [run.name for run in runs if not is_as_wanted(program, run)]
-    wrong += [example.name for example in examples if not is_reported(program, example)]
-    print(f"The built program: {len(runs)} runs and {len(examples)} examples, {len(wrong)} differ")
+    print(f"The built program: {len(runs)} runs, {len(wrong)} differ")
     sys.exit("these differ: " + " ".join(wrong) if wrong else 0)
 
 
