@@ -24,6 +24,8 @@ from concurrent.futures import ThreadPoolExecutor
 from pathlib import Path
 
 from print_runs import runs_of
+from run_program import written
+from run_suite import words_of
 
 ROOT = Path(__file__).resolve().parent.parent
 RUNS = ("keys_move_together", "no_row_of_a_refused_copy", "changes_below_open_cursors",
@@ -107,32 +109,20 @@ def trials(program, made):
           f"and the report is as ever; at {ended} the program ends")
 
 
-def texts(room, found):
-    """The words of `sqmod` for a run of the data, its files written to a folder."""
-    words = []
-    for kind, parts in (("schema", found.schemas), ("module", found.modules), ("script", [found.script])):
-        for number, part in enumerate(parts, 1):
-            Path(room, f"{kind}{number}").write_text(part)
-            words += [f"--{kind}", f"{kind}{number}"]
-    return [*words, "--rows", found.rows]
-
-
-def of_sqmod(program, made, room):
+def runs_of_sqmod(room):
     """The runs of `sqmod`: words, report, folder."""
     worked = {found.name: found for found in runs_of(ROOT / "crates/sq_cases/data/runs-worked.txt")}
     for name in RUNS:
         folder = Path(room, name)
         folder.mkdir()
-        yield [program, "run", *texts(folder, worked[name])], worked[name].report, folder
+        yield written(worked[name], folder), worked[name].report, folder
     for name in EXAMPLES:
         folder = ROOT / "examples" / name
-        modules = sorted(file.name for file in folder.glob("*.sql") if file.name != "schema.sql")
-        words = ["--schema", "schema.sql", *(word for module in modules for word in ("--module", module))]
-        yield [program, "run", *words, "--script", "script.txt"], (folder / "report.txt").read_text(), folder
+        yield words_of(folder), (folder / "report.txt").read_text(), folder
 
 
 def whole_program(program, made, room):
-    counts = [endings(words, made, report, stops_in_time(report), folder) for words, report, folder in of_sqmod(program, made, room)]
+    counts = [endings([program, *words], made, report, stops_in_time(report), folder) for words, report, folder in runs_of_sqmod(room)]
     print(f"sqmod: {len(counts)} runs, {sum(count for count, _ in counts)} allocations, each refused once: at "
           f"{sum(ended for _, ended in counts)} it ends after exactly the items that it says, else the report is as ever")
 

@@ -15,25 +15,21 @@ from print_runs import runs_of
 ROOT = Path(__file__).resolve().parent.parent
 
 
-def outcome(program, folder, schemas, modules, script, rows):
-    """What the program prints, its line on standard error, and its status, for these files of a folder."""
-    words = [program, "run"]
-    for kind, names in (("schema", schemas), ("module", modules), ("script", [script])):
-        for name in names:
-            words += [f"--{kind}", name]
-    done = subprocess.run([*words, "--rows", rows], cwd=folder, capture_output=True, timeout=120)
-    return done.stdout, done.stderr, done.returncode
+def written(run, folder):
+    """Writes the texts of a run to a folder, and gives the words of `sqmod` for them."""
+    words = ["run"]
+    for kind, texts in (("schema", run.schemas), ("module", run.modules), ("script", [run.script])):
+        for number, text in enumerate(texts, 1):
+            Path(folder, f"{kind}{number}").write_bytes(text.encode("latin-1"))
+            words += [f"--{kind}", f"{kind}{number}"]
+    return [*words, "--rows", run.rows]
 
 
 def is_as_wanted(program, run):
     """Whether a run of the data comes to its report, or to its refusal."""
     with tempfile.TemporaryDirectory() as room:
-        names = {}
-        for kind, texts in (("schema", run.schemas), ("module", run.modules), ("script", [run.script])):
-            names[kind] = [f"{kind}{number}" for number in range(1, len(texts) + 1)]
-            for name, text in zip(names[kind], texts):
-                Path(room, name).write_bytes(text.encode("latin-1"))
-        found = outcome(program, room, names["schema"], names["module"], names["script"][0], run.rows)
+        done = subprocess.run([program, *written(run, room)], cwd=room, capture_output=True, timeout=120)
+    found = done.stdout, done.stderr, done.returncode
     if run.refused is None:
         return found == (run.report.encode("latin-1"), b"", 0)
     kind, number, place, fault = run.refused
