@@ -1,0 +1,11 @@
+pub mod Conditions
+pub mod Expressions
+pub mod Items
+pub mod Lists
+pub mod Outcomes
+pub mod Parameters
+pub mod Phases
+pub mod Seen
+pub mod Setting
+pub mod Specifications
+pub mod Stars

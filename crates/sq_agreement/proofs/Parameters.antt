@@ -1,0 +1,77 @@
+-- A parameter means by its position what it means by its name, where the inputs are those of the parameters (ISO/IEC
+-- 9075:1992, 6.2).
+use Rattle.std.proofs.Common.{◌≡◌, ℕ, zero, suc, ◌+◌, Bool, true, false, not, cond, List, [], ◌∷◌, length, map, Option, Some, None, refl, sym, ap, ◌∙◌, Ok, Err}
+use Rattle.std.proofs.lemmas.List.Folds.{find_at}
+use Rattle.std.specs.Prelude.{⊤, nat_lt, find, slice_get, IfOk}
+use Rattle.std.specs.List.{position, position_or_len}
+use Rattle.std.specs.Option.{option_map, option_and_then}
+use Rattle.sq_lex.specs.declared.name.Name.{Name}
+use Rattle.sq_tree.specs.declared.names.Indicator.{Indicator}
+use Rattle.sq_tree.specs.declared.names.Parameter.{Parameter}
+use Rattle.sq_value.specs.declared.domain.Domain.{Domain}
+use Rattle.sq_value.specs.declared.value.Value.{Value}
+use Rattle.sq_meaning.specs.Status.{Outcome, and_then, well_formed}
+use Rattle.sq_meaning.specs.Environment.{Input, same_name, input_named, input_value, with_indicator}
+use Rattle.sq_meaning.specs.Placed.{PlacedParameter, input_at, placed_value}
+use Rattle.sq_bound.specs.declared.names.ParameterDesc.{ParameterDesc}
+use Rattle.sq_scope.specs.Expression.{parameter_named, indicator_named, placed_parameter}
+use Rattle.sq_agreement.proofs.Outcomes.{if_then}
+
+-- the inputs of a call have the names of the procedure's parameters, in their order
+abbrev pub AreNamed : List ParameterDesc → List Input → Type 0
+AreNamed parameters inputs = map (λ p. p.name) parameters ≡ map (λ i. i.name) inputs
+
+-- the first of a name stands where the names have it first
+first_named : {A : Type 0} (of : A → Name) (name : Name) (xs : List A) → position_or_len (λ x. same_name (of x) name) xs ≡ position_or_len (λ n. same_name n name) (map of xs)
+first_named of name [] = refl
+first_named of name (x ∷ xs) = ap (λ n. cond (not (same_name (of x) name)) (1 + n) 0) (first_named of name xs)
+
+same_first : (parameters : List ParameterDesc) (inputs : List Input) (name : Name) → AreNamed parameters inputs
+    → position_or_len (λ p. same_name p.name name) parameters ≡ position_or_len (λ i. same_name i.name name) inputs
+same_first parameters inputs name e =
+    first_named (λ (p : ParameterDesc). p.name) name parameters
+    ∙ ap (λ names. position_or_len (λ n. same_name n name) names) e
+    ∙ sym (first_named (λ (i : Input). i.name) name inputs)
+
+-- the parameter of a name
+abbrev pub SameNamed : List ParameterDesc → Name → ℕ × Domain → Type 0
+SameNamed parameters name at = (inputs : List Input) → AreNamed parameters inputs → input_named inputs name ≡ input_at inputs at.0
+
+named_same : (parameters : List ParameterDesc) (name : Name) → IfOk (parameter_named parameters name) (SameNamed parameters name)
+named_same parameters name = where_there (nat_lt first (length parameters))
+  where
+    first : ℕ
+    first = position_or_len (λ p. same_name p.name name) parameters
+
+    there : (found : Option ParameterDesc) → IfOk (well_formed (option_map (λ p. (first, p.domain)) found)) (SameNamed parameters name)
+    there None = tt
+    there (Some p) = λ inputs e.
+        ap (λ o. well_formed (option_map (λ i. i.value) o)) (find_at (λ (i : Input). same_name i.name name) inputs)
+        ∙ ap (λ n. input_at inputs n) (sym (same_first parameters inputs name e))
+
+    where_there : (b : Bool)
+        → IfOk (well_formed (option_and_then (λ at. option_map (λ p. (at, p.domain)) (slice_get parameters at)) (cond b (Some first) None))) (SameNamed parameters name)
+    where_there false = tt
+    where_there true = there (slice_get parameters first)
+
+-- its indicator parameter, where one is written
+abbrev SameIndicator : List ParameterDesc → Option Indicator → Option ℕ → Type 0
+SameIndicator parameters indicator at = (inputs : List Input) → AreNamed parameters inputs → (v : Value)
+    → with_indicator (λ i. input_named inputs i.name) indicator v ≡ with_indicator (input_at inputs) at v
+
+indicator_same : (parameters : List ParameterDesc) (indicator : Option Indicator) → IfOk (indicator_named parameters indicator) (SameIndicator parameters indicator)
+indicator_same parameters None = λ inputs e v. refl
+indicator_same parameters (Some i) =
+    if_then (parameter_named parameters i.name) (λ at. Ok (Some at.0)) (SameNamed parameters i.name) (SameIndicator parameters (Some i)) (named_same parameters i.name)
+    (λ at same inputs e v. ap (λ (o : Outcome Value). with_indicator (λ (k : ℕ). o) (Some at.0) v) (same inputs e))
+
+abbrev pub SameParameter : List ParameterDesc → Parameter → PlacedParameter → Type 0
+SameParameter parameters p q = (inputs : List Input) → AreNamed parameters inputs → input_value p inputs ≡ placed_value q inputs
+
+pub parameter_same : (parameters : List ParameterDesc) (p : Parameter) → IfOk (placed_parameter parameters p) (SameParameter parameters p)
+parameter_same parameters p =
+    if_then (parameter_named parameters p.name) (λ at. and_then (indicator_named parameters p.indicator) (λ i. Ok (record { position = at.0; indicator = i }))) (SameNamed parameters p.name) (SameParameter parameters p)
+    (named_same parameters p.name)
+    (λ at named. if_then (indicator_named parameters p.indicator) (λ i. Ok (record { position = at.0; indicator = i })) (SameIndicator parameters p.indicator) (SameParameter parameters p)
+    (indicator_same parameters p.indicator)
+    (λ i indicated inputs e. (λ j. and_then (named inputs e j) (λ v. indicated inputs e v j))))
