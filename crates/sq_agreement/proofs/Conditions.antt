@@ -30,8 +30,7 @@ use Rattle.sq_agreement.proofs.Expressions.{SameExpr, SameValue, expr_same}
 use Rattle.sq_agreement.proofs.Items.{IsFit, SameItem, in_order_same, item_same}
 use Rattle.sq_agreement.proofs.Lists.{SameList, exprs_functions, list_same}
 use Rattle.sq_agreement.proofs.Outcomes.{append_zip, if_each, if_one, if_then, if_three, if_two}
-use Rattle.sq_agreement.proofs.Parameters.{AreNamed}
-use Rattle.sq_agreement.proofs.Seen.{SameColumn, SeenScopes, column_same, with_scopes}
+use Rattle.sq_agreement.proofs.Seen.{SameColumn, SeenEnv, SeenScopes, column_same}
 use Rattle.sq_agreement.proofs.Setting.{Setting, around, named, at_places}
 use Rattle.sq_agreement.proofs.Specifications.{SameClause, SameParts, specification_same}
 use Rattle.sq_agreement.proofs.Stars.{ClauseStars, CondStars, CondsStars, ListStars, SelectStars}
@@ -41,7 +40,7 @@ PlacedConds = Conds (Placed TablePlace)
 
 -- wherever the items of the queries around are seen, the outcomes are one
 abbrev pub SameOutcome : {A : Type 0} → Setting → List (List FromItem) → (Env Item → Outcome A) → (Env (Unit {0}) → Outcome A) → Type 0
-SameOutcome s scopes by_name by_place = (env : Env Item) (ts : List (Scope (Unit {0}))) → AreNamed s.parameters env.inputs → SeenScopes scopes env.scopes ts → by_name env ≡ by_place (with_scopes env ts)
+SameOutcome s scopes by_name by_place = (env : Env Item) (other : Env (Unit {0})) → SeenEnv s.parameters scopes env other → by_name env ≡ by_place other
 
 pub record SameCond (s : Setting) (scopes : List (List FromItem)) (c : Cond Named) (t : PlacedCond) : Type 0 where
   pub truth : SameOutcome s scopes (truth (named s) c) (truth (at_places s) t)
@@ -60,7 +59,7 @@ SameRows s scopes q t = SameOutcome s scopes (rows (named s) q) (rows (at_places
 
 compared_same : (s : Setting) (scopes : List (List FromItem)) (op : Comparison) (a b : Expr Named) (x y : PlacedExpr) → SameExpr s scopes a x → SameExpr s scopes b y
     → SameOutcome s scopes (compared (named s) op a b) (compared (at_places s) op x y)
-compared_same s scopes op a b x y left right env ts g h = (λ i. and_then (left.value env ts g h i) (λ v. and_then (right.value env ts g h i) (λ w. Ok (comparison op v w))))
+compared_same s scopes op a b x y left right env other h = (λ i. and_then (left.value env other h i) (λ v. and_then (right.value env other h i) (λ w. Ok (comparison op v w))))
 
 both_functions : (s : Setting) (scopes : List (List FromItem)) (a b : Expr Named) (x y : PlacedExpr) → SameExpr s scopes a x → SameExpr s scopes b y
     → AllZip (SameValue s scopes) (set_functions a ++ set_functions b) (set_functions x ++ set_functions y)
@@ -69,7 +68,7 @@ both_functions s scopes a b x y left right = append_zip (SameValue s scopes) (se
 between_same : (s : Setting) (scopes : List (List FromItem)) (a low high : Expr Named) (x y z : PlacedExpr) → SameExpr s scopes a x → SameExpr s scopes low y → SameExpr s scopes high z
     → SameCond s scopes (between a low high) (between x y z)
 between_same s scopes a low high x y z p q r = record {
-  truth = λ env ts g h. (λ i. and_also (compared_same s scopes GreaterOrEqual a low x y p q env ts g h i) (compared_same s scopes LessOrEqual a high x z p r env ts g h i));
+  truth = λ env other h. (λ i. and_also (compared_same s scopes GreaterOrEqual a low x y p q env other h i) (compared_same s scopes LessOrEqual a high x z p r env other h i));
   functions = append_zip (SameValue s scopes) (set_functions a ++ set_functions low) (set_functions high) (set_functions x ++ set_functions y) (set_functions z) (both_functions s scopes a low x y p q) r.functions;
 }
 
@@ -77,24 +76,24 @@ between_same s scopes a low high x y z p q r = record {
 quantified_same : (s : Setting) (scopes : List (List FromItem)) (op : Comparison) (k : Quantifier) (a : Expr Named) (q : Select Named) (x : PlacedExpr) (t : PlacedSelect) → SameExpr s scopes a x → SameRows s scopes q t
     → SameCond s scopes (compare_quantified op k a q) (compared_with (compared_as (Some k)) op x t)
 quantified_same s scopes op quantifier.All a q x t p r = record {
-  truth = λ env ts g h. (λ i. and_then (p.value env ts g h i) (λ v. and_then (r env ts g h i) (λ found. Ok (compared_with_rows op quantifier.All v found))));
+  truth = λ env other h. (λ i. and_then (p.value env other h i) (λ v. and_then (r env other h i) (λ found. Ok (compared_with_rows op quantifier.All v found))));
   functions = p.functions;
 }
 quantified_same s scopes op quantifier.Any a q x t p r = record {
-  truth = λ env ts g h. (λ i. and_then (p.value env ts g h i) (λ v. and_then (r env ts g h i) (λ found. Ok (compared_with_rows op quantifier.Any v found))));
+  truth = λ env other h. (λ i. and_then (p.value env other h i) (λ v. and_then (r env other h i) (λ found. Ok (compared_with_rows op quantifier.Any v found))));
   functions = p.functions;
 }
 quantified_same s scopes op quantifier.Some a q x t p r = record {
-  truth = λ env ts g h. (λ i. and_then (p.value env ts g h i) (λ v. and_then (r env ts g h i) (λ found. Ok (compared_with_rows op quantifier.Any v found))));
+  truth = λ env other h. (λ i. and_then (p.value env other h i) (λ v. and_then (r env other h i) (λ found. Ok (compared_with_rows op quantifier.Any v found))));
   functions = p.functions;
 }
 
 list_truth : (s : Setting) (scopes : List (List FromItem)) (a : Expr Named) (x : PlacedExpr) → SameExpr s scopes a x → (es : List (Expr Named)) (fs : List PlacedExpr) → AllZip (SameExpr s scopes) es fs
     → SameOutcome s scopes (λ env. any_in_turn (λ e. compared (named s) Equal a e env) es) (λ env. any_in_turn (λ f. compared (at_places s) Equal x f env) fs)
-list_truth s scopes a x p [] [] r env ts g h = refl
-list_truth s scopes a x p [] (f ∷ fs) r env ts g h = absurd r
-list_truth s scopes a x p (e ∷ es) [] r env ts g h = absurd r
-list_truth s scopes a x p (e ∷ es) (f ∷ fs) r env ts g h = (λ i. or_else (compared_same s scopes Equal a e x f p r.0 env ts g h i) (list_truth s scopes a x p es fs r.1 env ts g h i))
+list_truth s scopes a x p [] [] r env other h = refl
+list_truth s scopes a x p [] (f ∷ fs) r env other h = absurd r
+list_truth s scopes a x p (e ∷ es) [] r env other h = absurd r
+list_truth s scopes a x p (e ∷ es) (f ∷ fs) r env other h = (λ i. or_else (compared_same s scopes Equal a e x f p r.0 env other h i) (list_truth s scopes a x p es fs r.1 env other h i))
 
 in_list_same : (s : Setting) (scopes : List (List FromItem)) (a : Expr Named) (es : List (Expr Named)) (x : PlacedExpr) (fs : List PlacedExpr) → SameExpr s scopes a x → AllZip (SameExpr s scopes) es fs
     → SameCond s scopes (in_list a es) (in_list x fs)
@@ -119,10 +118,10 @@ like_functions s scopes _ _ r = absurd r
 
 liked_same : (s : Setting) (scopes : List (List FromItem)) (a b : Expr Named) (e : Option (Expr Named)) (x y : PlacedExpr) (f : Option PlacedExpr) → SameExpr s scopes a x → SameExpr s scopes b y → SameEscape s scopes e f
     → SameOutcome s scopes (like_truth (named s) a b e) (like_truth (at_places s) x y f)
-liked_same s scopes a b None x y None p q r env ts g h = (λ i. and_then (p.value env ts g h i) (λ t. and_then (q.value env ts g h i) (λ u. with_status like_status (liked t u None))))
-liked_same s scopes a b (Some e) x y (Some f) p q r env ts g h =
-    (λ i. and_then (p.value env ts g h i) (λ t. and_then (q.value env ts g h i) (λ u. and_then (r.value env ts g h i) (λ v. with_status like_status (liked t u (Some v))))))
-liked_same s scopes a b _ x y _ p q r env ts g h = absurd r
+liked_same s scopes a b None x y None p q r env other h = (λ i. and_then (p.value env other h i) (λ t. and_then (q.value env other h i) (λ u. with_status like_status (liked t u None))))
+liked_same s scopes a b (Some e) x y (Some f) p q r env other h =
+    (λ i. and_then (p.value env other h i) (λ t. and_then (q.value env other h i) (λ u. and_then (r.value env other h i) (λ v. with_status like_status (liked t u (Some v))))))
+liked_same s scopes a b _ x y _ p q r env other h = absurd r
 
 like_same : (s : Setting) (scopes : List (List FromItem)) (a b : Expr Named) (e : Option (Expr Named)) (x y : PlacedExpr) (f : Option PlacedExpr) → SameExpr s scopes a x → SameExpr s scopes b y → SameEscape s scopes e f
     → SameCond s scopes (like a b e) (like x y f)
@@ -155,9 +154,9 @@ parts_same s fit scopes distinct list from filter by having stars filters having
     (if_each (placed_column (items_of tables ∷ scopes)) (SameColumn (items_of tables ∷ scopes)) (column_same (items_of tables ∷ scopes)) by)
     (list_same s scopes (items_of tables) (in_order_same s from tables from_is) list)
     (havings (items_of tables))
-    (λ columns shown groups by_is list_is having_is env ts g h.
+    (λ columns shown groups by_is list_is having_is env other h.
     specification_same s scopes distinct from tables list shown filter kept by columns having groups
-    (record { from_is = from_is; list_is = list_is; filter_is = filter_is; by_is = by_is; having_is = having_is }) stars env ts g h)))
+    (record { from_is = from_is; list_is = list_is; filter_is = filter_is; by_is = by_is; having_is = having_is }) stars env other h)))
 
 mutual
   pub cond_same : (s : Setting) → IsFit s → (scopes : List (List FromItem)) (c : Cond Named) → CondStars c → IfOk (cond_placed (around s scopes) c) (SameCond s scopes c)
@@ -167,7 +166,7 @@ mutual
   cond_same s fit scopes (compare_subquery op a q) stars =
       if_two (expr_placed (around s scopes) a) (select_placed (around s scopes) q) (λ x t. compared_with Scalar op x t) (SameExpr s scopes a) (SameRows s scopes q) (SameCond s scopes (compare_subquery op a q)) (expr_same s scopes a) (select_same s fit scopes q stars)
       (λ x t p r. record {
-        truth = λ env ts g h. (λ i. and_then (p.value env ts g h i) (λ v. and_then (r env ts g h i) (λ found. and_then (only_value found) (λ w. Ok (comparison op v w)))));
+        truth = λ env other h. (λ i. and_then (p.value env other h i) (λ v. and_then (r env other h i) (λ found. and_then (only_value found) (λ w. Ok (comparison op v w)))));
         functions = p.functions;
       })
   cond_same s fit scopes (compare_quantified op k a q) stars =
@@ -181,7 +180,7 @@ mutual
   cond_same s fit scopes (in_subquery a q) stars =
       if_two (expr_placed (around s scopes) a) (select_placed (around s scopes) q) (λ x t. in_subquery x t) (SameExpr s scopes a) (SameRows s scopes q) (SameCond s scopes (in_subquery a q)) (expr_same s scopes a) (select_same s fit scopes q stars)
       (λ x t p r. record {
-        truth = λ env ts g h. (λ i. and_then (p.value env ts g h i) (λ v. and_then (r env ts g h i) (λ found. Ok (compared_with_rows Equal quantifier.Any v found))));
+        truth = λ env other h. (λ i. and_then (p.value env other h i) (λ v. and_then (r env other h i) (λ found. Ok (compared_with_rows Equal quantifier.Any v found))));
         functions = p.functions;
       })
   cond_same s fit scopes (in_list a es) stars =
@@ -194,13 +193,13 @@ mutual
       (λ x y f p q r. like_same s scopes a b escape x y f p q r)
   cond_same s fit scopes (is_null a) stars =
       if_one (expr_placed (around s scopes) a) (λ x. is_null x) (SameExpr s scopes a) (SameCond s scopes (is_null a)) (expr_same s scopes a)
-      (λ x p. record { truth = λ env ts g h. (λ i. and_then (p.value env ts g h i) (λ v. Ok (known (is_null_value v)))); functions = p.functions })
+      (λ x p. record { truth = λ env other h. (λ i. and_then (p.value env other h i) (λ v. Ok (known (is_null_value v)))); functions = p.functions })
   cond_same s fit scopes (exists q) stars =
       if_one (select_placed (around s scopes) q) (λ t. exists t) (SameRows s scopes q) (SameCond s scopes (exists q)) (select_same s fit scopes q stars)
-      (λ t r. record { truth = λ env ts g h. (λ i. and_then (r env ts g h i) (λ found. Ok (known (has_rows found)))); functions = tt })
+      (λ t r. record { truth = λ env other h. (λ i. and_then (r env other h i) (λ found. Ok (known (has_rows found)))); functions = tt })
   cond_same s fit scopes (negated c) stars =
       if_one (cond_placed (around s scopes) c) (λ d. negated d) (SameCond s scopes c) (SameCond s scopes (negated c)) (cond_same s fit scopes c stars)
-      (λ d p. record { truth = λ env ts g h. (λ i. and_then (p.truth env ts g h i) (λ t. Ok (negation t))); functions = p.functions })
+      (λ d p. record { truth = λ env other h. (λ i. and_then (p.truth env other h i) (λ t. Ok (negation t))); functions = p.functions })
   cond_same s fit scopes (conjunction cs) stars =
       if_one (conds_placed (around s scopes) cs) (λ ds. conjunction ds) (SameConds s scopes cs) (SameCond s scopes (conjunction cs)) (conds_same s fit scopes cs stars)
       (λ ds p. record { truth = p.all; functions = p.functions })
@@ -209,17 +208,17 @@ mutual
       (λ ds p. record { truth = p.any; functions = p.functions })
 
   conds_same : (s : Setting) → IsFit s → (scopes : List (List FromItem)) (cs : Conds Named) → CondsStars cs → IfOk (conds_placed (around s scopes) cs) (SameConds s scopes cs)
-  conds_same s fit scopes no_cond stars = record { all = λ env ts g h. refl; any = λ env ts g h. refl; functions = tt }
+  conds_same s fit scopes no_cond stars = record { all = λ env other h. refl; any = λ env other h. refl; functions = tt }
   conds_same s fit scopes (a_cond c cs) stars =
       if_two (cond_placed (around s scopes) c) (conds_placed (around s scopes) cs) (λ d ds. a_cond d ds) (SameCond s scopes c) (SameConds s scopes cs) (SameConds s scopes (a_cond c cs)) (cond_same s fit scopes c stars.0) (conds_same s fit scopes cs stars.1)
       (λ d ds p q. record {
-        all = λ env ts g h. (λ i. and_also (p.truth env ts g h i) (q.all env ts g h i));
-        any = λ env ts g h. (λ i. or_else (p.truth env ts g h i) (q.any env ts g h i));
+        all = λ env other h. (λ i. and_also (p.truth env other h i) (q.all env other h i));
+        any = λ env other h. (λ i. or_else (p.truth env other h i) (q.any env other h i));
         functions = append_zip (SameValue s scopes) (cond_functions c) (conds_functions cs) (cond_functions d) (conds_functions ds) p.functions q.functions;
       })
 
   pub clause_same : (s : Setting) → IsFit s → (scopes : List (List FromItem)) (c : Clause Named) → ClauseStars c → IfOk (clause_placed (around s scopes) c) (SameClause s scopes c)
-  clause_same s fit scopes absent stars = record { truth = λ env ts g h. refl; functions = tt; presence = refl }
+  clause_same s fit scopes absent stars = record { truth = λ env other h. refl; functions = tt; presence = refl }
   clause_same s fit scopes (present c) stars =
       if_one (cond_placed (around s scopes) c) (λ d. present d) (SameCond s scopes c) (SameClause s scopes (present c)) (cond_same s fit scopes c stars)
       (λ d p. record { truth = p.truth; functions = p.functions; presence = refl })

@@ -1,3 +1,4 @@
+pub mod ColumnKinds
 pub mod Conditions
 pub mod Expressions
 pub mod Items
@@ -5,7 +6,10 @@ pub mod Lists
 pub mod Outcomes
 pub mod Parameters
 pub mod Phases
+pub mod Queries
 pub mod Seen
 pub mod Setting
 pub mod Specifications
+pub mod StarRules
 pub mod Stars
+pub mod Targets

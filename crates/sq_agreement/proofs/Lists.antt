@@ -21,8 +21,7 @@ use Rattle.sq_select.specs.Placed.{all_placed, columns_placed, expr_placed, list
 use Rattle.sq_agreement.proofs.Expressions.{SameExpr, SameValue, expr_same}
 use Rattle.sq_agreement.proofs.Items.{AreInOrder, HasWidth, HaveWidths}
 use Rattle.sq_agreement.proofs.Outcomes.{append_zip, each_zip, if_also, if_each, weaker_zip}
-use Rattle.sq_agreement.proofs.Parameters.{AreNamed}
-use Rattle.sq_agreement.proofs.Seen.{SeenScopes, with_scopes}
+use Rattle.sq_agreement.proofs.Seen.{SeenEnv, SeenScopes}
 use Rattle.sq_agreement.proofs.Setting.{Setting, around, named, at_places}
 
 -- ---- expressions
@@ -35,31 +34,31 @@ exprs_functions s scopes (e ∷ es) (t ∷ ts) h =
 exprs_functions s scopes _ _ h = absurd h
 
 pub values_same : (s : Setting) (scopes : List (List FromItem)) (es : List (Expr Named)) (fs : List PlacedExpr) → AllZip (SameValue s scopes) es fs
-    → (env : Env Item) (ts : List (Scope (Unit {0}))) → AreNamed s.parameters env.inputs → SeenScopes scopes env.scopes ts
-    → each (λ e. value (named s) e env) es ≡ each (λ f. value (at_places s) f (with_scopes env ts)) fs
-values_same s scopes es fs h env ts g seen =
-    each_zip (SameValue s scopes) (λ e. value (named s) e env) (λ f. value (at_places s) f (with_scopes env ts)) (λ e f same. same env ts g seen) es fs h
+    → (env : Env Item) (other : Env (Unit {0})) → SeenEnv s.parameters scopes env other
+    → each (λ e. value (named s) e env) es ≡ each (λ f. value (at_places s) f other) fs
+values_same s scopes es fs same env other h =
+    each_zip (SameValue s scopes) (λ e. value (named s) e env) (λ f. value (at_places s) f other) (λ e f one. one env other h) es fs same
 
 -- ---- all columns
 
-at_drop : {A : Type 0} (n : ℕ) (xs : List A) (y : A) (ys : List A) → drop n xs ≡ y ∷ ys → (slice_get xs n ≡ Some y) × (drop (suc n) xs ≡ ys)
+pub at_drop : {A : Type 0} (n : ℕ) (xs : List A) (y : A) (ys : List A) → drop n xs ≡ y ∷ ys → (slice_get xs n ≡ Some y) × (drop (suc n) xs ≡ ys)
 at_drop zero [] y ys e = cc
 at_drop zero (x ∷ xs) y ys e = let same : x ≡ y = cc in let others : xs ≡ ys = cc in (ap Some same, others)
 at_drop (suc n) [] y ys e = cc
 at_drop (suc n) (x ∷ xs) y ys e = at_drop n xs y ys e
 
 -- the columns from the k-th on, each at its own position
-abbrev AreFrom : ℕ → List ItemColumn → Type 0
+abbrev pub AreFrom : ℕ → List ItemColumn → Type 0
 AreFrom k [] = ⊤
 AreFrom k (c ∷ cs) = (c.position ≡ k) × AreFrom (suc k) cs
 
-from_order : (k : ℕ) (columns : List ItemColumn) → ((j : ℕ) (c : ItemColumn) → slice_get columns j ≡ Some c → c.position ≡ k + j) → AreFrom k columns
+pub from_order : (k : ℕ) (columns : List ItemColumn) → ((j : ℕ) (c : ItemColumn) → slice_get columns j ≡ Some c → c.position ≡ k + j) → AreFrom k columns
 from_order k [] h = tt
 from_order k (c ∷ cs) h =
     let first : k + 0 ≡ k = omega arith in
     (h 0 c refl ∙ first, from_order (suc k) cs (λ j d e. let further : k + suc j ≡ suc k + j = omega arith in h (suc j) d e ∙ further))
 
-abbrev shown_columns : ℕ → List ItemColumn → List PlacedExpr
+abbrev pub shown_columns : ℕ → List ItemColumn → List PlacedExpr
 shown_columns item columns = map (λ c. column (record { depth = 0; item = item; column = c.position })) columns
 
 row_shown : (s : Setting) (x : Scope (Unit {0})) (env : Env (Unit {0})) (item : ℕ) (row : Row) → slice_get x.line item ≡ Some row
@@ -118,22 +117,22 @@ seen_by_place heads line group = record { items = heads; line = line; group = gr
 -- a row is shown alike, and the set functions are the same one by one
 pub record SameList (s : Setting) (scopes : List (List FromItem)) (items : List FromItem) (list : SelectList Named) (shown : List PlacedExpr) : Type 0 where
   pub functions : AllZip (SameValue s (items ∷ scopes)) (list_functions list) (flat_map set_functions shown)
-  pub values : (heads : List (Unit {0})) (line : Line) (group : List Line) (env : Env Item) (ts : List (Scope (Unit {0}))) → ListsLine list items line → AreNamed s.parameters env.inputs
-      → SeenScopes (items ∷ scopes) (seen_by_name items line group ∷ env.scopes) (seen_by_place heads line group ∷ ts)
-      → listed_values (named s) list (within (seen_by_name items line group) env) ≡ listed_values (at_places s) (expressions shown) (within (seen_by_place heads line group) (with_scopes env ts))
+  pub values : (heads : List (Unit {0})) (line : Line) (group : List Line) (env : Env Item) (other : Env (Unit {0})) → ListsLine list items line
+      → SeenEnv s.parameters (items ∷ scopes) (within (seen_by_name items line group) env) (within (seen_by_place heads line group) other)
+      → listed_values (named s) list (within (seen_by_name items line group) env) ≡ listed_values (at_places s) (expressions shown) (within (seen_by_place heads line group) other)
 
 pub list_same : (s : Setting) (scopes : List (List FromItem)) (items : List FromItem) → AreInOrder items → (list : SelectList Named)
     → IfOk (list_placed (around s (items ∷ scopes)) list) (SameList s scopes items list)
 list_same s scopes items order all_columns = record {
   functions = subst (λ fs. AllZip (SameValue s (items ∷ scopes)) [] fs) (sym (no_functions 0 items)) tt;
-  values = λ heads line group env ts w g seen. sym (line_shown s (seen_by_place heads line group) (with_scopes env ts) 0 line items refl order w);
+  values = λ heads line group env other w h. sym (line_shown s (seen_by_place heads line group) other 0 line items refl order w);
 }
 list_same s scopes items order (expressions es) =
     if_also (each (expr_placed (around s (items ∷ scopes))) es) (AllZip (SameExpr s (items ∷ scopes)) es) (SameList s scopes items (expressions es))
     (if_each (expr_placed (around s (items ∷ scopes))) (SameExpr s (items ∷ scopes)) (expr_same s (items ∷ scopes)) es)
     (λ fs same. record {
       functions = exprs_functions s (items ∷ scopes) es fs same;
-      values = λ heads line group env ts w g seen.
+      values = λ heads line group env other w h.
           values_same s (items ∷ scopes) es fs (weaker_zip (SameExpr s (items ∷ scopes)) (SameValue s (items ∷ scopes)) (λ e f r. r.value) es fs same)
-          (within (seen_by_name items line group) env) (seen_by_place heads line group ∷ ts) g seen;
+          (within (seen_by_name items line group) env) (within (seen_by_place heads line group) other) h;
     })

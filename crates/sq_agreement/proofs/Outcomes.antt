@@ -15,6 +15,14 @@ pub if_also : {A : Type 0} (o : Outcome A) (P Q : A → Type 0) → IfOk o P →
 if_also (Ok x) P Q p g = g x p
 if_also (Err status) P Q p g = tt
 
+pub if_both : {A : Type 0} (o : Outcome A) (P Q : A → Type 0) → IfOk o P → IfOk o Q → IfOk o (λ x. P x × Q x)
+if_both (Ok x) P Q p q = (p, q)
+if_both (Err status) P Q p q = tt
+
+pub if_any : {A : Type 0} (o : Outcome A) → IfOk o (λ x. ⊤)
+if_any (Ok x) = tt
+if_any (Err status) = tt
+
 -- of one, two or three parts that are made one
 pub if_one : {A D : Type 0} (o : Outcome A) (f : A → D) (P : A → Type 0) (S : D → Type 0) → IfOk o P → ((x : A) → P x → S (f x)) → IfOk (and_then o (λ x. Ok (f x))) S
 if_one (Ok x) f P S p g = g x p

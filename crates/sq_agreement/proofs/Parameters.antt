@@ -17,16 +17,33 @@ use Rattle.sq_bound.specs.declared.names.ParameterDesc.{ParameterDesc}
 use Rattle.sq_scope.specs.Expression.{parameter_named, indicator_named, placed_parameter}
 use Rattle.sq_agreement.proofs.Outcomes.{if_then}
 
--- the inputs of a call have the names of the procedure's parameters, in their order
+-- The inputs of a call have the names of the procedure's parameters, in their order. The text of a view or of a CHECK knows no
+-- parameters, whatever the inputs of the call are.
 abbrev pub AreNamed : List ParameterDesc → List Input → Type 0
-AreNamed parameters inputs = map (λ p. p.name) parameters ≡ map (λ i. i.name) inputs
+AreNamed [] inputs = ⊤
+AreNamed (p ∷ parameters) inputs = map (λ q. q.name) (p ∷ parameters) ≡ map (λ i. i.name) inputs
+
+-- and these values in two readings of them
+pub record SameInputs (parameters : List ParameterDesc) (inputs others : List Input) : Type 0 where
+  pub names : AreNamed parameters inputs
+  pub values : map (λ i. i.value) inputs ≡ map (λ i. i.value) others
+
+pub get_map : {A B : Type 0} (f : A → B) (xs : List A) (n : ℕ) → option_map f (slice_get xs n) ≡ slice_get (map f xs) n
+get_map f [] n = refl
+get_map f (x ∷ xs) zero = refl
+get_map f (x ∷ xs) (suc n) = get_map f xs n
+
+-- by position the names have no bearing
+by_position : (inputs others : List Input) (n : ℕ) → map (λ i. i.value) inputs ≡ map (λ i. i.value) others → input_at inputs n ≡ input_at others n
+by_position inputs others n e =
+    ap well_formed (get_map (λ (i : Input). i.value) inputs n ∙ ap (λ vs. slice_get vs n) e ∙ sym (get_map (λ (i : Input). i.value) others n))
 
 -- the first of a name stands where the names have it first
 first_named : {A : Type 0} (of : A → Name) (name : Name) (xs : List A) → position_or_len (λ x. same_name (of x) name) xs ≡ position_or_len (λ n. same_name n name) (map of xs)
 first_named of name [] = refl
 first_named of name (x ∷ xs) = ap (λ n. cond (not (same_name (of x) name)) (1 + n) 0) (first_named of name xs)
 
-same_first : (parameters : List ParameterDesc) (inputs : List Input) (name : Name) → AreNamed parameters inputs
+same_first : (parameters : List ParameterDesc) (inputs : List Input) (name : Name) → map (λ p. p.name) parameters ≡ map (λ i. i.name) inputs
     → position_or_len (λ p. same_name p.name name) parameters ≡ position_or_len (λ i. same_name i.name name) inputs
 same_first parameters inputs name e =
     first_named (λ (p : ParameterDesc). p.name) name parameters
@@ -35,38 +52,40 @@ same_first parameters inputs name e =
 
 -- the parameter of a name
 abbrev pub SameNamed : List ParameterDesc → Name → ℕ × Domain → Type 0
-SameNamed parameters name at = (inputs : List Input) → AreNamed parameters inputs → input_named inputs name ≡ input_at inputs at.0
+SameNamed parameters name at = (inputs others : List Input) → SameInputs parameters inputs others → input_named inputs name ≡ input_at others at.0
 
 named_same : (parameters : List ParameterDesc) (name : Name) → IfOk (parameter_named parameters name) (SameNamed parameters name)
-named_same parameters name = where_there (nat_lt first (length parameters))
+named_same [] name = tt
+named_same (q ∷ parameters) name = where_there (nat_lt first (length (q ∷ parameters)))
   where
     first : ℕ
-    first = position_or_len (λ p. same_name p.name name) parameters
+    first = position_or_len (λ p. same_name p.name name) (q ∷ parameters)
 
-    there : (found : Option ParameterDesc) → IfOk (well_formed (option_map (λ p. (first, p.domain)) found)) (SameNamed parameters name)
+    there : (found : Option ParameterDesc) → IfOk (well_formed (option_map (λ p. (first, p.domain)) found)) (SameNamed (q ∷ parameters) name)
     there None = tt
-    there (Some p) = λ inputs e.
+    there (Some p) = λ inputs others same.
         ap (λ o. well_formed (option_map (λ i. i.value) o)) (find_at (λ (i : Input). same_name i.name name) inputs)
-        ∙ ap (λ n. input_at inputs n) (sym (same_first parameters inputs name e))
+        ∙ ap (λ n. input_at inputs n) (sym (same_first (q ∷ parameters) inputs name same.names))
+        ∙ by_position inputs others first same.values
 
     where_there : (b : Bool)
-        → IfOk (well_formed (option_and_then (λ at. option_map (λ p. (at, p.domain)) (slice_get parameters at)) (cond b (Some first) None))) (SameNamed parameters name)
+        → IfOk (well_formed (option_and_then (λ at. option_map (λ p. (at, p.domain)) (slice_get (q ∷ parameters) at)) (cond b (Some first) None))) (SameNamed (q ∷ parameters) name)
     where_there false = tt
-    where_there true = there (slice_get parameters first)
+    where_there true = there (slice_get (q ∷ parameters) first)
 
 -- its indicator parameter, where one is written
 abbrev SameIndicator : List ParameterDesc → Option Indicator → Option ℕ → Type 0
-SameIndicator parameters indicator at = (inputs : List Input) → AreNamed parameters inputs → (v : Value)
-    → with_indicator (λ i. input_named inputs i.name) indicator v ≡ with_indicator (input_at inputs) at v
+SameIndicator parameters indicator at = (inputs others : List Input) → SameInputs parameters inputs others → (v : Value)
+    → with_indicator (λ i. input_named inputs i.name) indicator v ≡ with_indicator (input_at others) at v
 
 indicator_same : (parameters : List ParameterDesc) (indicator : Option Indicator) → IfOk (indicator_named parameters indicator) (SameIndicator parameters indicator)
-indicator_same parameters None = λ inputs e v. refl
+indicator_same parameters None = λ inputs others e v. refl
 indicator_same parameters (Some i) =
     if_then (parameter_named parameters i.name) (λ at. Ok (Some at.0)) (SameNamed parameters i.name) (SameIndicator parameters (Some i)) (named_same parameters i.name)
-    (λ at same inputs e v. ap (λ (o : Outcome Value). with_indicator (λ (k : ℕ). o) (Some at.0) v) (same inputs e))
+    (λ at same inputs others e v. ap (λ (o : Outcome Value). with_indicator (λ (k : ℕ). o) (Some at.0) v) (same inputs others e))
 
 abbrev pub SameParameter : List ParameterDesc → Parameter → PlacedParameter → Type 0
-SameParameter parameters p q = (inputs : List Input) → AreNamed parameters inputs → input_value p inputs ≡ placed_value q inputs
+SameParameter parameters p q = (inputs others : List Input) → SameInputs parameters inputs others → input_value p inputs ≡ placed_value q others
 
 pub parameter_same : (parameters : List ParameterDesc) (p : Parameter) → IfOk (placed_parameter parameters p) (SameParameter parameters p)
 parameter_same parameters p =
@@ -74,4 +93,4 @@ parameter_same parameters p =
     (named_same parameters p.name)
     (λ at named. if_then (indicator_named parameters p.indicator) (λ i. Ok (record { position = at.0; indicator = i })) (SameIndicator parameters p.indicator) (SameParameter parameters p)
     (indicator_same parameters p.indicator)
-    (λ i indicated inputs e. (λ j. and_then (named inputs e j) (λ v. indicated inputs e v j))))
+    (λ i indicated inputs others e. (λ j. and_then (named inputs others e j) (λ v. indicated inputs others e v j))))

@@ -9,10 +9,12 @@ use Rattle.sq_tree.specs.declared.names.ColumnReference.{ColumnReference}
 use Rattle.sq_value.specs.declared.value.Value.{Value}
 use Rattle.sq_meaning.specs.Status.{Outcome, and_then, well_formed}
 use Rattle.sq_meaning.specs.Environment.{Item, Line, Scope, Env, Place, items_in, place_of, value_at}
+use Rattle.sq_bound.specs.declared.names.ParameterDesc.{ParameterDesc}
 use Rattle.sq_scope.specs.declared.scope.FromItem.{FromItem}
 use Rattle.sq_scope.specs.declared.column.ItemColumn.{ItemColumn}
 use Rattle.sq_scope.specs.Scope.{column_at, heads_of, items_meant}
 use Rattle.sq_scope.specs.Expression.{placed_column}
+use Rattle.sq_agreement.proofs.Parameters.{SameInputs}
 
 -- the value in a column of an item's row
 abbrev pub cell : Line → ℕ → ℕ → Option Value
@@ -37,9 +39,11 @@ SeenScopes [] [] [] = ⊤
 SeenScopes (items ∷ outer) (s ∷ ss) (t ∷ ts) = SeenScope items s t × SeenScopes outer ss ts
 SeenScopes _ _ _ = ⊥
 
--- the same environment with other scopes
-abbrev pub with_scopes : Env Item → List (Scope (Unit {0})) → Env (Unit {0})
-with_scopes env scopes = record { scopes = scopes; inputs = env.inputs; user = env.user }
+-- an environment of names and one of places
+pub record SeenEnv (parameters : List ParameterDesc) (scopes : List (List FromItem)) (env : Env Item) (other : Env (Unit {0})) : Type 0 where
+  pub scopes_are : SeenScopes scopes env.scopes other.scopes
+  pub inputs_are : SameInputs parameters env.inputs other.inputs
+  pub user_is : env.user ≡ other.user
 
 -- ---- columns
 
@@ -62,7 +66,7 @@ at_seen _ _ _ h depth item column c e = absurd h
 
 -- a column reference means by name the value at the place where it is placed
 abbrev pub SameColumn : List (List FromItem) → ColumnReference → Place → Type 0
-SameColumn scopes r p = (env : Env Item) (ts : List (Scope (Unit {0}))) → SeenScopes scopes env.scopes ts → and_then (place_of r (items_in env)) (value_at env) ≡ value_at (with_scopes env ts) p
+SameColumn scopes r p = (env : Env Item) (other : Env (Unit {0})) → SeenScopes scopes env.scopes other.scopes → and_then (place_of r (items_in env)) (value_at env) ≡ value_at other p
 
 pub column_same : (scopes : List (List FromItem)) (r : ColumnReference) → IfOk (placed_column scopes r) (SameColumn scopes r)
 column_same scopes r = by_place (place_of r (heads_of scopes)) refl
@@ -70,10 +74,10 @@ column_same scopes r = by_place (place_of r (heads_of scopes)) refl
     by_column : (at : Place) → place_of r (heads_of scopes) ≡ Ok at → (found : Option ItemColumn) → column_at scopes at ≡ found
         → IfOk (well_formed (option_map (λ c. record { depth = at.depth; item = at.item; column = c.position }) found)) (SameColumn scopes r)
     by_column at p None e = tt
-    by_column at p (Some c) e = λ env ts seen.
-        ap (λ hs. and_then (place_of r hs) (value_at env)) (heads_seen scopes env.scopes ts seen)
+    by_column at p (Some c) e = λ env other seen.
+        ap (λ hs. and_then (place_of r hs) (value_at env)) (heads_seen scopes env.scopes other.scopes seen)
         ∙ ap (λ (o : Outcome Place). and_then o (value_at env)) p
-        ∙ ap well_formed (at_seen scopes env.scopes ts seen at.depth at.item at.column c e)
+        ∙ ap well_formed (at_seen scopes env.scopes other.scopes seen at.depth at.item at.column c e)
 
     by_place : (o : Outcome Place) → place_of r (heads_of scopes) ≡ o
         → IfOk (and_then o (λ at. well_formed (option_map (λ c. record { depth = at.depth; item = at.item; column = c.position }) (column_at scopes at)))) (SameColumn scopes r)

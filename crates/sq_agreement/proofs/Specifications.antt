@@ -23,16 +23,15 @@ use Rattle.sq_agreement.proofs.Expressions.{SameValue}
 use Rattle.sq_agreement.proofs.Items.{HaveWidths, SameItem, heads_same, line_seen, product_wide, tables_same}
 use Rattle.sq_agreement.proofs.Lists.{ListsLine, SameList, seen_by_name, seen_by_place, values_same}
 use Rattle.sq_agreement.proofs.Outcomes.{all_each, all_self, append_zip, each_zip, if_also, kept_of, same_then}
-use Rattle.sq_agreement.proofs.Parameters.{AreNamed}
 use Rattle.sq_agreement.proofs.Phases.{groups_then, shown_by, shown_is, shown_of, shown_same, ungrouped_way}
-use Rattle.sq_agreement.proofs.Seen.{SameColumn, SeenLine, SeenScopes, with_scopes}
+use Rattle.sq_agreement.proofs.Seen.{SameColumn, SeenEnv, SeenLine, SeenScopes}
 use Rattle.sq_agreement.proofs.Setting.{Setting, named, at_places}
 use Rattle.sq_agreement.proofs.Stars.{ListStars}
 
 -- a clause has the same truth, and the same set functions one by one
 pub record SameClause (s : Setting) (scopes : List (List FromItem)) (c : Clause Named) (d : PlacedClause) : Type 0 where
-  pub truth : (env : Env Item) (ts : List (Scope (Unit {0}))) → AreNamed s.parameters env.inputs → SeenScopes scopes env.scopes ts
-      → clause_truth (named s) c env ≡ clause_truth (at_places s) d (with_scopes env ts)
+  pub truth : (env : Env Item) (other : Env (Unit {0})) → SeenEnv s.parameters scopes env other
+      → clause_truth (named s) c env ≡ clause_truth (at_places s) d other
   pub functions : AllZip (SameValue s scopes) (clause_functions c) (clause_functions d)
   pub presence : is_present c ≡ is_present d
 
@@ -44,10 +43,10 @@ some_same R [] (y ∷ ys) r = absurd r
 some_same R (x ∷ xs) [] r = absurd r
 some_same R (x ∷ xs) (y ∷ ys) r = refl
 
-keys_same : (s : Setting) (scopes : List (List FromItem)) (cs : List ColumnReference) (ps : List Place) → AllZip (SameColumn scopes) cs ps → (env : Env Item) (ts : List (Scope (Unit {0}))) → SeenScopes scopes env.scopes ts
-    → grouping_values (named s) cs env ≡ grouping_values (at_places s) ps (with_scopes env ts)
-keys_same s scopes cs ps h env ts seen =
-    each_zip (SameColumn scopes) (λ c. and_then ((named s).place c (items_in env)) (value_at env)) (λ p. value_at (with_scopes env ts) p) (λ c p same. same env ts seen) cs ps h
+keys_same : (s : Setting) (scopes : List (List FromItem)) (cs : List ColumnReference) (ps : List Place) → AllZip (SameColumn scopes) cs ps → (env : Env Item) (other : Env (Unit {0})) → SeenScopes scopes env.scopes other.scopes
+    → grouping_values (named s) cs env ≡ grouping_values (at_places s) ps other
+keys_same s scopes cs ps h env other seen =
+    each_zip (SameColumn scopes) (λ c. and_then ((named s).place c (items_in env)) (value_at env)) (λ p. value_at other p) (λ c p same. same env other seen) cs ps h
 
 -- ---- the rows
 
@@ -72,9 +71,9 @@ lists_wide (expressions es) items lines wide = all_each (ListsLine (expressions 
 pub specification_same : (s : Setting) (scopes : List (List FromItem)) (d : Bool) (from : List TableReference) (placed : List PlacedItem) (list : SelectList Named) (shown : List PlacedExpr)
     (filter : Clause Named) (filtered : PlacedClause) (by : List ColumnReference) (columns : List Place) (having : Clause Named) (groups : PlacedClause)
     → SameParts s scopes from placed list shown filter filtered by columns having groups → ListStars list by having
-    → (env : Env Item) (ts : List (Scope (Unit {0}))) → AreNamed s.parameters env.inputs → SeenScopes scopes env.scopes ts
-    → rows (named s) (select d list from filter by having) env ≡ rows (at_places s) (select d (expressions shown) (tables_of placed) filtered columns groups) (with_scopes env ts)
-specification_same s scopes d from placed list shown filter filtered by columns having groups same stars env ts g seen =
+    → (env : Env Item) (other : Env (Unit {0})) → SeenEnv s.parameters scopes env other
+    → rows (named s) (select d list from filter by having) env ≡ rows (at_places s) (select d (expressions shown) (tables_of placed) filtered columns groups) other
+specification_same s scopes d from placed list shown filter filtered by columns having groups same stars env other h =
     ap (λ (o : Outcome (List Item)). and_then o (λ hs. and_then (each m.rows from) (λ tables. from_product hs tables))) (heads_same s from placed same.from_is)
     ∙ ap (λ (o : Outcome (List (List Row))). and_then o (from_product (items_meant items))) (tables_same s from placed same.from_is)
     ∙ same_then (each s.shown (tables_of placed)) (λ tables. AllByRecursion (HaveWidths items) (product tables)) (from_product (items_meant items)) (placed_product heads) (product_wide s from placed same.from_is) products_same
@@ -92,29 +91,30 @@ specification_same s scopes d from placed list shown filter filtered by columns 
     heads : List (Unit {0})
     heads = map (λ t. tt) (tables_of placed)
 
-    outer : Env (Unit {0})
-    outer = with_scopes env ts
-
     from_product : List Item → List (List Row) → Outcome (List Row)
     from_product hs tables = and_then (kept (λ line. is_true (clause_truth m filter (within (alone hs line) env))) (product tables)) (λ lines. and_then (scopes_of m list by having hs lines env) (shown_of m d list having env))
 
     placed_product : List (Unit {0}) → List (List Row) → Outcome (List Row)
-    placed_product hs tables = and_then (kept (λ line. is_true (clause_truth n filtered (within (alone hs line) outer))) (product tables)) (λ lines. and_then (scopes_of n (expressions shown) columns groups hs lines outer) (shown_of n d (expressions shown) groups outer))
+    placed_product hs tables = and_then (kept (λ line. is_true (clause_truth n filtered (within (alone hs line) other))) (product tables)) (λ lines. and_then (scopes_of n (expressions shown) columns groups hs lines other) (shown_of n d (expressions shown) groups other))
 
     line_is : (line : Line) → SeenLine items line line
     line_is line = line_seen s from placed same.from_is line
 
-    scopes_are : (line : Line) (group : List Line) → SeenScopes (items ∷ scopes) (seen_by_name items line group ∷ env.scopes) (seen_by_place heads line group ∷ ts)
-    scopes_are line group = (record { items_are = refl; line = line_is line; group = all_self (SeenLine items) line_is group }, seen)
+    lines_are : (line : Line) (group : List Line) → SeenEnv s.parameters (items ∷ scopes) (within (seen_by_name items line group) env) (within (seen_by_place heads line group) other)
+    lines_are line group = record {
+      scopes_are = (record { items_are = refl; line = line_is line; group = all_self (SeenLine items) line_is group }, h.scopes_are);
+      inputs_are = h.inputs_are;
+      user_is = h.user_is;
+    }
 
-    wheres : (line : Line) → clause_truth m filter (within (alone (items_meant items) line) env) ≡ clause_truth n filtered (within (alone heads line) outer)
-    wheres line = same.filter_is.truth (within (alone (items_meant items) line) env) (alone heads line ∷ ts) g (scopes_are line [])
+    wheres : (line : Line) → clause_truth m filter (within (alone (items_meant items) line) env) ≡ clause_truth n filtered (within (alone heads line) other)
+    wheres line = same.filter_is.truth (within (alone (items_meant items) line) env) (within (alone heads line) other) (lines_are line [])
 
-    havings : (line : Line) (group : List Line) → clause_truth m having (within (seen_by_name items line group) env) ≡ clause_truth n groups (within (seen_by_place heads line group) outer)
-    havings line group = same.having_is.truth (within (seen_by_name items line group) env) (seen_by_place heads line group ∷ ts) g (scopes_are line group)
+    havings : (line : Line) (group : List Line) → clause_truth m having (within (seen_by_name items line group) env) ≡ clause_truth n groups (within (seen_by_place heads line group) other)
+    havings line group = same.having_is.truth (within (seen_by_name items line group) env) (within (seen_by_place heads line group) other) (lines_are line group)
 
-    listed : (line : Line) (group : List Line) → ListsLine list items line → listed_values m list (within (seen_by_name items line group) env) ≡ listed_values n (expressions shown) (within (seen_by_place heads line group) outer)
-    listed line group w = same.list_is.values heads line group env ts w g (scopes_are line group)
+    listed : (line : Line) (group : List Line) → ListsLine list items line → listed_values m list (within (seen_by_name items line group) env) ≡ listed_values n (expressions shown) (within (seen_by_place heads line group) other)
+    listed line group w = same.list_is.values heads line group env other w (lines_are line group)
 
     functions : AllZip (SameValue s (items ∷ scopes)) (list_functions list ++ clause_functions having) (flat_map set_functions shown ++ clause_functions groups)
     functions = append_zip (SameValue s (items ∷ scopes)) (list_functions list) (clause_functions having) (flat_map set_functions shown) (clause_functions groups) same.list_is.functions same.having_is.functions
@@ -123,60 +123,60 @@ specification_same s scopes d from placed list shown filter filtered by columns 
     grouped_same = (λ i. some_same (SameColumn (items ∷ scopes)) by columns same.by_is i || same.having_is.presence i || some_same (SameValue s (items ∷ scopes)) (list_functions list) (flat_map set_functions shown) same.list_is.functions i)
 
     -- each line by itself
-    line_tail : (lines : List Line) → AllByRecursion (ListsLine list items) lines → shown_of m d list having env (map (alone (items_meant items)) lines) ≡ shown_of n d (expressions shown) groups outer (map (alone heads) lines)
+    line_tail : (lines : List Line) → AllByRecursion (ListsLine list items) lines → shown_of m d list having env (map (alone (items_meant items)) lines) ≡ shown_of n d (expressions shown) groups other (map (alone heads) lines)
     line_tail lines wide =
         shown_is m d list having env (alone (items_meant items)) lines
         ∙ shown_same d (ListsLine list items)
-        (λ line. clause_truth m having (within (alone (items_meant items) line) env)) (λ line. clause_truth n groups (within (alone heads line) outer))
-        (λ line. listed_values m list (within (alone (items_meant items) line) env)) (λ line. listed_values n (expressions shown) (within (alone heads line) outer))
+        (λ line. clause_truth m having (within (alone (items_meant items) line) env)) (λ line. clause_truth n groups (within (alone heads line) other))
+        (λ line. listed_values m list (within (alone (items_meant items) line) env)) (λ line. listed_values n (expressions shown) (within (alone heads line) other))
         (λ line. havings line []) (λ line w. listed line [] w) lines wide
-        ∙ sym (shown_is n d (expressions shown) groups outer (alone heads) lines)
+        ∙ sym (shown_is n d (expressions shown) groups other (alone heads) lines)
 
     -- the groups, where any line will do
-    groups_are : (cs : List ColumnReference) (ps : List Place) → AllZip (SameColumn (items ∷ scopes)) cs ps → (lines : List Line) → groups_by m cs (items_meant items) lines env ≡ groups_by n ps heads lines outer
-    groups_are [] [] h lines = refl
-    groups_are [] (p ∷ ps) h lines = absurd h
-    groups_are (c ∷ cs) [] h lines = absurd h
-    groups_are (c ∷ cs) (p ∷ ps) h lines =
-        (λ i. and_then (each (λ line. and_then (keys_same s (items ∷ scopes) (c ∷ cs) (p ∷ ps) h (within (alone (items_meant items) line) env) (alone heads line ∷ ts) (scopes_are line []) i) (λ key. Ok (key, line))) lines) (λ keyed. Ok (grouped keyed)))
+    groups_are : (cs : List ColumnReference) (ps : List Place) → AllZip (SameColumn (items ∷ scopes)) cs ps → (lines : List Line) → groups_by m cs (items_meant items) lines env ≡ groups_by n ps heads lines other
+    groups_are [] [] r lines = refl
+    groups_are [] (p ∷ ps) r lines = absurd r
+    groups_are (c ∷ cs) [] r lines = absurd r
+    groups_are (c ∷ cs) (p ∷ ps) r lines =
+        (λ i. and_then (each (λ line. and_then (keys_same s (items ∷ scopes) (c ∷ cs) (p ∷ ps) r (within (alone (items_meant items) line) env) (within (alone heads line) other) (lines_are line []).scopes_are i) (λ key. Ok (key, line))) lines) (λ keyed. Ok (grouped keyed)))
 
     functions_are : (group : List Line) → each (λ f. value m f (within (group_scope (items_meant items) group) env)) (list_functions list ++ clause_functions having)
-        ≡ each (λ f. value n f (within (group_scope heads group) outer)) (flat_map set_functions shown ++ clause_functions groups)
+        ≡ each (λ f. value n f (within (group_scope heads group) other)) (flat_map set_functions shown ++ clause_functions groups)
     functions_are group =
         values_same s (items ∷ scopes) (list_functions list ++ clause_functions having) (flat_map set_functions shown ++ clause_functions groups) functions
-        (within (group_scope (items_meant items) group) env) (group_scope heads group ∷ ts) g (scopes_are (first_line group) group)
+        (within (group_scope (items_meant items) group) env) (within (group_scope heads group) other) (lines_are (first_line group) group)
 
-    group_tail : ((line : Line) → ListsLine list items line) → (found : List (List Line)) → shown_of m d list having env (map (group_scope (items_meant items)) found) ≡ shown_of n d (expressions shown) groups outer (map (group_scope heads) found)
+    group_tail : ((line : Line) → ListsLine list items line) → (found : List (List Line)) → shown_of m d list having env (map (group_scope (items_meant items)) found) ≡ shown_of n d (expressions shown) groups other (map (group_scope heads) found)
     group_tail any found =
         shown_is m d list having env (group_scope (items_meant items)) found
         ∙ (λ i. shown_by d (λ group. havings (first_line group) group i) (λ group. listed (first_line group) group (any (first_line group)) i) found)
-        ∙ sym (shown_is n d (expressions shown) groups outer (group_scope heads) found)
+        ∙ sym (shown_is n d (expressions shown) groups other (group_scope heads) found)
 
     group_lines : ((line : Line) → ListsLine list items line) → (lines : List Line) → and_then (group_scopes m (list_functions list ++ clause_functions having) by (items_meant items) lines env) (shown_of m d list having env)
-        ≡ and_then (group_scopes n (flat_map set_functions shown ++ clause_functions groups) columns heads lines outer) (shown_of n d (expressions shown) groups outer)
+        ≡ and_then (group_scopes n (flat_map set_functions shown ++ clause_functions groups) columns heads lines other) (shown_of n d (expressions shown) groups other)
     group_lines any lines =
         groups_then m (list_functions list ++ clause_functions having) by (items_meant items) lines env (shown_of m d list having env)
         ∙ (λ i. and_then (groups_are by columns same.by_is lines i) (λ found. and_then (each (λ group. functions_are group i) found) (λ _. group_tail any found i)))
-        ∙ sym (groups_then n (flat_map set_functions shown ++ clause_functions groups) columns heads lines outer (shown_of n d (expressions shown) groups outer))
+        ∙ sym (groups_then n (flat_map set_functions shown ++ clause_functions groups) columns heads lines other (shown_of n d (expressions shown) groups other))
 
     by_groups : ((line : Line) → ListsLine list items line) → (lines : List Line) → and_then (scopes_of m list by having (items_meant items) lines env) (shown_of m d list having env)
-        ≡ and_then (scopes_of n (expressions shown) columns groups heads lines outer) (shown_of n d (expressions shown) groups outer)
+        ≡ and_then (scopes_of n (expressions shown) columns groups heads lines other) (shown_of n d (expressions shown) groups other)
     by_groups any lines =
         either_way (is_grouped list by having) (is_grouped (expressions shown) columns groups) grouped_same
         (group_scopes m (list_functions list ++ clause_functions having) by (items_meant items) lines env) (Ok (map (alone (items_meant items)) lines))
-        (group_scopes n (flat_map set_functions shown ++ clause_functions groups) columns heads lines outer) (Ok (map (alone heads) lines))
-        (shown_of m d list having env) (shown_of n d (expressions shown) groups outer) (group_lines any lines) (line_tail lines (all_each (ListsLine list items) any lines))
+        (group_scopes n (flat_map set_functions shown ++ clause_functions groups) columns heads lines other) (Ok (map (alone heads) lines))
+        (shown_of m d list having env) (shown_of n d (expressions shown) groups other) (group_lines any lines) (line_tail lines (all_each (ListsLine list items) any lines))
 
     by_lines : is_grouped list by having ≡ false → (lines : List Line) → AllByRecursion (ListsLine list items) lines → and_then (scopes_of m list by having (items_meant items) lines env) (shown_of m d list having env)
-        ≡ and_then (scopes_of n (expressions shown) columns groups heads lines outer) (shown_of n d (expressions shown) groups outer)
+        ≡ and_then (scopes_of n (expressions shown) columns groups heads lines other) (shown_of n d (expressions shown) groups other)
     by_lines e lines wide =
         ungrouped_way (is_grouped list by having) (is_grouped (expressions shown) columns groups) e (sym grouped_same ∙ e)
         (group_scopes m (list_functions list ++ clause_functions having) by (items_meant items) lines env) (Ok (map (alone (items_meant items)) lines))
-        (group_scopes n (flat_map set_functions shown ++ clause_functions groups) columns heads lines outer) (Ok (map (alone heads) lines))
-        (shown_of m d list having env) (shown_of n d (expressions shown) groups outer) (line_tail lines wide)
+        (group_scopes n (flat_map set_functions shown ++ clause_functions groups) columns heads lines other) (Ok (map (alone heads) lines))
+        (shown_of m d list having env) (shown_of n d (expressions shown) groups other) (line_tail lines wide)
 
     lines_same : (lines : List Line) → AllByRecursion (ListsLine list items) lines → and_then (scopes_of m list by having (items_meant items) lines env) (shown_of m d list having env)
-        ≡ and_then (scopes_of n (expressions shown) columns groups heads lines outer) (shown_of n d (expressions shown) groups outer)
+        ≡ and_then (scopes_of n (expressions shown) columns groups heads lines other) (shown_of n d (expressions shown) groups other)
     lines_same lines wide = elim (lists_any list items by having stars) [
       | inl e ↦ by_lines e lines wide
       | inr any ↦ by_groups any lines
@@ -185,8 +185,8 @@ specification_same s scopes d from placed list shown filter filtered by columns 
     products_same : (tables : List (List Row)) → AllByRecursion (HaveWidths items) (product tables) → from_product (items_meant items) tables ≡ placed_product heads tables
     products_same tables wide =
         (λ i. and_then (kept (λ line. is_true (wheres line i)) (product tables)) (λ lines. and_then (scopes_of m list by having (items_meant items) lines env) (shown_of m d list having env)))
-        ∙ same_then (kept (λ line. is_true (clause_truth n filtered (within (alone heads line) outer))) (product tables)) (AllByRecursion (ListsLine list items))
+        ∙ same_then (kept (λ line. is_true (clause_truth n filtered (within (alone heads line) other))) (product tables)) (AllByRecursion (ListsLine list items))
         (λ lines. and_then (scopes_of m list by having (items_meant items) lines env) (shown_of m d list having env))
-        (λ lines. and_then (scopes_of n (expressions shown) columns groups heads lines outer) (shown_of n d (expressions shown) groups outer))
-        (kept_of (ListsLine list items) (λ line. is_true (clause_truth n filtered (within (alone heads line) outer))) (product tables) (lists_wide list items (product tables) wide))
+        (λ lines. and_then (scopes_of n (expressions shown) columns groups heads lines other) (shown_of n d (expressions shown) groups other))
+        (kept_of (ListsLine list items) (λ line. is_true (clause_truth n filtered (within (alone heads line) other))) (product tables) (lists_wide list items (product tables) wide))
         lines_same
