@@ -1,3 +1,4 @@
+pub mod Bound
 pub mod ColumnKinds
 pub mod Conditions
 pub mod Expressions
