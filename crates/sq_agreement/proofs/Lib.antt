@@ -10,6 +10,7 @@ pub mod Phases
 pub mod Queries
 pub mod Seen
 pub mod Setting
+pub mod ShownColumns
 pub mod Specifications
 pub mod StarRules
 pub mod Stars
