@@ -1,0 +1,6 @@
+pub mod Expression
+pub mod Findings
+pub mod Numbered
+pub mod Outcome
+pub mod Placed
+pub mod Scope
