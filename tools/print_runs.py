@@ -20,8 +20,13 @@ FAULTS = (("lexical", "sq_lex.specs.declared.fault.LexFaultKind"), ("schema_faul
           ("module_fault", "sq_rules.specs.declared.refusal.ModuleFault"), ("script_fault", "sq_rules.specs.declared.refusal.ScriptFault"))
 
 
+def repeated(line):
+    """A line in which `{3:AB}` stands for three times AB."""
+    return re.sub(r"\{(\d+):([^}]*)\}", lambda found: found.group(2) * int(found.group(1)), line)
+
+
 def unescaped(line):
-    return re.sub(r"\\(x[0-9a-f]{2}|.)", lambda m: {"r": "\r", "n": "\n", "t": "\t", "\\": "\\"}.get(m.group(1)) or chr(int(m.group(1)[1:], 16)), line)
+    return re.sub(r"\\(x[0-9a-f]{2}|.)", lambda m: {"r": "\r", "n": "\n", "t": "\t", "\\": "\\"}.get(m.group(1)) or chr(int(m.group(1)[1:], 16)), repeated(line))
 
 
 class Run:
