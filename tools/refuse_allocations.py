@@ -136,4 +136,5 @@ def main():
         whole_program(built[1], made, room)
 
 
-main()
+if __name__ == "__main__":
+    main()
