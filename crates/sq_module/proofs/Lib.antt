@@ -1,5 +1,8 @@
 pub mod Apart
 pub mod Fitting
+pub mod Parameters
+pub mod Refused
+pub mod Repeats
 pub mod Names
 pub mod Openers
 pub mod Opening

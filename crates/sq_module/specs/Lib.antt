@@ -1,4 +1,5 @@
 pub mod Admitted
+pub mod FirstRefusal
 pub mod Opened
 pub mod Program
 pub mod Refusal

@@ -1,17 +1,15 @@
 -- Which modules are refused for their cursors and status parameters (ISO/IEC 9075:1992, 12.1 and 12.3; that exactly one procedure
 -- opens each cursor is an own rule), and which module a refusal is of.
-use Rattle.std.specs.Prelude.{◌≡◌, ◌<◌, ◌==◌, ◌&&◌, ◌||◌, ℕ, Bool, false, true, List, None, Option, Some, count_by, nat_lt, not, ⊤}
+use Rattle.std.specs.Prelude.{◌≡◌, ◌<◌, ◌==◌, ℕ, Bool, false, List, None, Option, Some, count_by, nat_lt, not, ⊤}
 use Rattle.std.specs.List.{AllByRecursion, list_any}
 use Rattle.sq_lex.specs.declared.name.Name.{Name}
-use Rattle.sq_tree.specs.declared.module.Declaration.{Declaration}
-use Rattle.sq_tree.specs.declared.module.Declaration.TheVariants as declaration
 use Rattle.sq_tree.specs.declared.module.ModuleItem.{ModuleItem}
 use Rattle.sq_tree.specs.declared.module.ModuleItem.TheVariants as item
 use Rattle.sq_tree.specs.declared.module.ModuleText.{ModuleText}
 use Rattle.sq_tree.specs.declared.statement.Statement.{Statement}
 use Rattle.sq_tree.specs.declared.statement.Statement.TheVariants as statement
 use Rattle.sq_module.specs.Program.{same_name}
-use Rattle.sq_module.specs.Written.{declarations_of}
+use Rattle.sq_rules.specs.ModuleRefusal.{has_status_fault}
 use Rattle.sq_module.specs.declared.opener.Openers.{Openers}
 use Rattle.sq_module.specs.declared.refusal.SessionFault.{SessionFault}
 use Rattle.sq_module.specs.declared.refusal.SessionFault.TheVariants.{Refused, NoMemory}
@@ -44,28 +42,6 @@ has_open_count items (item.Procedure p) = false
 pub record AreOpeners (items : List ModuleItem) (openers : Openers) : Type 0 where
   pub opened : (cursor : Name) → list_any (same_name cursor) openers.opened.keys ≡ nat_lt 0 (opener_count items cursor)
   pub shared : (cursor : Name) → list_any (same_name cursor) openers.shared.keys ≡ nat_lt 1 (opener_count items cursor)
-
--- ---- status parameters (12.3)
-
-abbrev pub is_sqlcode : Declaration → Bool
-is_sqlcode declaration.Sqlcode = true
-is_sqlcode _ = false
-
-abbrev pub is_sqlstate : Declaration → Bool
-is_sqlstate declaration.Sqlstate = true
-is_sqlstate _ = false
-
--- neither SQLCODE nor SQLSTATE, or one of them more than once
-abbrev pub are_bad_counts : ℕ → ℕ → Bool
-are_bad_counts codes states = codes == 0 && states == 0 || nat_lt 1 codes || nat_lt 1 states
-
-abbrev pub has_bad_status : List Declaration → Bool
-has_bad_status ds = are_bad_counts (count_by is_sqlcode ds) (count_by is_sqlstate ds)
-
--- the item is a procedure whose status parameters are so
-abbrev pub has_status_fault : ModuleItem → Bool
-has_status_fault (item.Procedure p) = has_bad_status (declarations_of p.declarations)
-has_status_fault (item.Cursor c) = false
 
 -- ---- modules
 

@@ -8,15 +8,13 @@ use Rattle.sq_value.specs.declared.domain.Domain.{Domain}
 use Rattle.sq_tree.specs.declared.module.Cursor.{Cursor}
 use Rattle.sq_tree.specs.declared.module.Declaration.{Declaration}
 use Rattle.sq_tree.specs.declared.module.Declaration.TheVariants as declaration
-use Rattle.sq_tree.specs.declared.module.Declarations.{Declarations}
-use Rattle.sq_tree.specs.declared.module.Declarations.TheVariants as declarations
 use Rattle.sq_tree.specs.declared.module.ModuleItem.{ModuleItem}
 use Rattle.sq_tree.specs.declared.module.ModuleItem.TheVariants as item
 use Rattle.sq_tree.specs.declared.module.ModuleText.{ModuleText}
 use Rattle.sq_tree.specs.declared.module.Procedure.{Procedure}
 use Rattle.sq_tree.specs.declared.statement.Statement.{Statement}
 use Rattle.sq_tree.specs.declared.statement.Statement.TheVariants as tree
-use Rattle.sq_meaning.specs.Spelled.{domain_of, listed}
+use Rattle.sq_meaning.specs.Spelled.{domain_of}
 use Rattle.sq_meaning.specs.Status.{well_formed}
 use Rattle.sq_meaning.specs.WellFormed.{Has}
 use Rattle.sq_bound.specs.declared.names.ParameterDesc.{ParameterDesc}
@@ -25,6 +23,7 @@ use Rattle.sq_bound.specs.declared.query.BoundCursor.{BoundCursor}
 use Rattle.sq_bound.specs.declared.statement.BoundStatement.{BoundStatement}
 use Rattle.sq_bound.specs.declared.statement.BoundStatement.TheVariants as statement
 use Rattle.sq_bind.specs.Written.{IsCursorOf, IsStatementOf}
+use Rattle.sq_rules.specs.Module.{declarations_of}
 use Rattle.sq_module.specs.Program.{same_name}
 use Rattle.sq_module.specs.declared.program.BoundProcedure.{BoundProcedure}
 use Rattle.sq_module.specs.declared.program.DeclaredCursor.{DeclaredCursor}
@@ -34,11 +33,6 @@ use Rattle.sq_module.specs.declared.admission.AdmittedModule.{AdmittedModule}
 use Rattle.sq_module.specs.declared.admission.AdmittedProcedure.{AdmittedProcedure}
 
 -- ---- parameters (12.3)
-
--- the declarations of a procedure, in their order
-abbrev pub declarations_of : Declarations → List Declaration
-declarations_of (declarations.Bracketed list) = listed list
-declarations_of (declarations.Bare first rest) = first ∷ map (λ d. d.declaration) rest
 
 -- the name of the parameter that is declared, and the domain of its data type, if it has one
 abbrev pub named_in : Declaration → List (Name × Option Domain)

@@ -1,15 +1,22 @@
 //! Which modules are refused (ISO/IEC 9075:1992, 12.1 to 12.3 and 13.1; that exactly one procedure opens each cursor is an
 //! own rule).
 
-ghost use Rattle.std.specs.Prelude.{◌≡◌, [], ◌∷◌, ◌++◌, true, false, IfErr, IfOk, List, None, OnOk, flat_map, length, position};
+ghost use Rattle.std.specs.Prelude.{◌≡◌, [], ◌∷◌, ◌++◌, true, false, IfErr, IfOk, List, None, OnOk, Some, flat_map, length, map, not, option_to_list, position};
 ghost use Rattle.std.specs.List.{AllByRecursion, IsAmong, list_any};
+ghost use Rattle.std.specs.Map.{keys_of};
 ghost use Rattle.sq_tree.specs.declared.module.ModuleItem.TheVariants.{Cursor as CursorItem};
 ghost use Rattle.sq_tree.specs.declared.module.ModuleItem.{ModuleItem as AnyItem};
 ghost use Rattle.sq_module.specs.declared.admission.AdmittedModule.{AdmittedModule as Admitted};
 ghost use Rattle.sq_module.specs.Admitted.{AreAdmitted, OpensEachOnce, admitted_procedures, module_keys, opening_in, openings, procedure_names};
 ghost use Rattle.sq_module.specs.Program.{AreNew, HaveNames, declared_procedures, module_procedures, name_in, names_in, same_name};
-ghost use Rattle.sq_module.specs.Written.{AreOfTexts, Declare, IsCursorIn, IsOfText, IsProcedureOf, declarations_of};
-ghost use Rattle.sq_module.specs.Refusal.{AreAdmissible, IsAdmissible, IsOfModule, IsOfSomeModule, has_open_count, has_status_fault};
+ghost use Rattle.sq_rules.specs.Module.{declarations_of, parameter_declarations};
+ghost use Rattle.sq_rules.specs.ModuleRefusal.{at_item, cursor_name, first_module_refusal, first_repeated, has_bad_declared, has_bad_parameter, has_status_fault, module_refusal, procedure_name};
+ghost use Rattle.sq_rules.specs.Schema.{is_among};
+ghost use Rattle.sq_rules.specs.Words.{is_some_and};
+ghost use Rattle.sq_rules.specs.declared.refusal.ModuleFault.TheVariants as fault;
+ghost use Rattle.sq_module.specs.FirstRefusal.{IsFaultFor, IsFaultAt, fault_of, item_refusal, procedure_refusal};
+ghost use Rattle.sq_module.specs.Written.{AreOfTexts, Declare, IsCursorIn, IsOfText, IsProcedureOf};
+ghost use Rattle.sq_module.specs.Refusal.{AreAdmissible, IsAdmissible, IsOfModule, IsOfSomeModule, has_open_count};
 
 use crate::declared::{has_bad_status, is_new, listed, parameters_of};
 use crate::opener::Openers;
@@ -49,6 +56,8 @@ pub fn admit<'a>(
     ensures admitted { IfOk result (λ admitted. AreAdmitted [] admitted.items) }
     ensures admissible { IfOk result (λ _. AreAdmissible modules.now) }
     ensures refused { IfErr result (IsOfSomeModule (length modules.now)) }
+    ensures taken { IfOk result (λ _. first_module_refusal modules.now ≡ None) }
+    ensures first { IfErr result (IsFaultFor (first_module_refusal modules.now)) }
 {
     let mut names = IndexSet::new(alloc);
     let admitted = admit_all(alloc, &mut names, modules);
@@ -69,6 +78,8 @@ fn admit_all<'a>(
     ensures admitted { IfOk result (λ admitted. AreAdmitted [] admitted.items) }
     ensures admissible { IfOk result (λ _. AreAdmissible modules.now) }
     ensures refused { IfErr result (IsOfSomeModule (length modules.now)) }
+    ensures taken { IfOk result (λ _. first_module_refusal modules.now ≡ None) }
+    ensures first { IfErr result (IsFaultFor (first_module_refusal modules.now)) }
 {
     let mut admitted = Vec::new(alloc);
     for (text, module) in modules.iter().enumerate() {
@@ -98,6 +109,8 @@ fn admit_next<'a>(
         one × OpensEachOnce one) }
     ensures admissible { OnOk result (IsAdmissible «module».now.items) }
     ensures refused { IfErr result (IsOfModule text) }
+    ensures taken { OnOk result (module_refusal names.old.keys text «module».now ≡ None) }
+    ensures first { IfErr result (IsFaultFor (module_refusal names.old.keys text «module».now)) }
 {
     if !is_new(names, module.name)? {
         return Err(SessionFault::Refused(ModuleRefusal {
@@ -124,6 +137,8 @@ fn admit_module<'a>(
     ensures once { IfOk result OpensEachOnce }
     ensures admissible { IfOk result (λ _. IsAdmissible «module».now.items) }
     ensures refused { IfErr result (IsOfModule text) }
+    ensures taken { IfOk result (λ _. item_refusal text «module».now.items ≡ None) }
+    ensures first { IfErr result (IsFaultFor (item_refusal text «module».now.items)) }
 {
     let items = module.items.as_slice();
     let place = second_procedure(alloc, items)?;
@@ -154,6 +169,8 @@ fn admit_procedures<'a>(
     ensures openings { IfOk result (λ admitted. openings admitted.items ≡ flat_map opening_in items.now) }
     ensures admissible { IfOk result (λ _. IsAdmissible items.now) }
     ensures refused { IfErr result (IsOfModule text) }
+    ensures taken { IfOk result (λ _. procedure_refusal text items.now ≡ None) }
+    ensures first { IfErr result (IsFaultFor (procedure_refusal text items.now)) }
 {
     let place = without_one_opener(alloc, items)?;
     refused_at(ModuleRefusalName::OpenCount, text, place)?;
@@ -170,6 +187,7 @@ fn refused_at(
 ) -> Result<(), SessionFault>
     ensures taken { OnOk result (place ≡ None) }
     ensures refused { IfErr result (IsOfModule text) }
+    ensures first { IfErr result (IsFaultFor (at_item text (fault_of name) place)) }
 {
     match place {
         None => Ok(()),
@@ -178,7 +196,8 @@ fn refused_at(
 }
 
 fn refusal_at(name: ModuleRefusalName, text: usize, item: usize) -> SessionFault
-    ensures { IsOfModule text result }
+    ensures of { IsOfModule text result }
+    ensures is { IsFaultFor (at_item text (fault_of name) (Some item)) result }
 {
     SessionFault::Refused(ModuleRefusal {
         name,
@@ -189,7 +208,8 @@ fn refusal_at(name: ModuleRefusalName, text: usize, item: usize) -> SessionFault
 
 /// The first procedure that has the name of an earlier one.
 fn second_procedure(alloc: Global, items: &[ModuleItem]) -> Result<Option<usize>, AllocError>
-    ensures { IfOk result (λ place. place ≡ None → AreNew [] (names_in items.now)) }
+    ensures new { IfOk result (λ place. place ≡ None → AreNew [] (names_in items.now)) }
+    ensures first { IfOk result (λ place. place ≡ first_repeated (map procedure_name items.now)) }
 {
     let mut names = IndexSet::new(alloc);
     for (place, item) in items.iter().enumerate() {
@@ -200,10 +220,11 @@ fn second_procedure(alloc: Global, items: &[ModuleItem]) -> Result<Option<usize>
     Ok(None)
 }
 
-/// Adds the name of an item that is a procedure; whether it was not there.
+/// Adds the name of an item that is a procedure and returns whether it was new.
 fn is_new_procedure(names: &mut IndexSet<Name>, item: &ModuleItem) -> Result<bool, AllocError>
     ensures new { IfOk result (λ is. is ≡ true → AllByRecursion (λ n. list_any (same_name n) names.old.keys ≡ false) (name_in item.now)) }
     ensures last { IfOk result (λ is. is ≡ true → names.new.keys ≡ names.old.keys ++ name_in item.now) }
+    ensures repeated { IfOk result (λ is. not is ≡ is_some_and (is_among names.old.keys) (procedure_name item.now)) }
 {
     match item {
         ModuleItem::Procedure(procedure) => is_new(names, procedure.name),
@@ -219,6 +240,8 @@ fn cursors_of<'a>(
 ) -> Result<IndexMap<Name, &'a Cursor>, SessionFault>
     ensures refused { IfErr result (IsOfModule text) }
     ensures written { IfOk result (λ cursors. AllByRecursion (IsCursorIn items.now) cursors.entries) }
+    ensures taken { IfOk result (λ _. first_repeated (map cursor_name items.now) ≡ None) }
+    ensures first { IfErr result (IsFaultFor (at_item text fault.TwoCursors (first_repeated (map cursor_name items.now)))) }
 {
     let mut cursors = IndexMap::new(alloc);
     for (place, item) in items.iter().enumerate() {
@@ -240,6 +263,10 @@ fn add_item<'a>(
     ensures refused { IfErr result (IsOfModule text) }
     ensures written { (items : List AnyItem) → IsAmong items item.now → AllByRecursion (IsCursorIn items) cursors.old.entries
         → OnOk result (AllByRecursion (IsCursorIn items) cursors.new.entries) }
+    ensures keys { OnOk result (keys_of cursors.new.entries ≡ keys_of cursors.old.entries ++ option_to_list (cursor_name item.now)) }
+    ensures new { OnOk result (is_some_and (is_among (keys_of cursors.old.entries)) (cursor_name item.now) ≡ false) }
+    ensures repeated { IfErr result (IsFaultAt text place fault.TwoCursors
+        (is_some_and (is_among (keys_of cursors.old.entries)) (cursor_name item.now) ≡ true)) }
 {
     match item {
         ModuleItem::Cursor(cursor) => add_cursor(cursors, text, place, cursor),
@@ -256,6 +283,10 @@ fn add_cursor<'a>(
     ensures refused { IfErr result (IsOfModule text) }
     ensures written { (items : List AnyItem) → IsAmong items (CursorItem cursor.now) → AllByRecursion (IsCursorIn items) cursors.old.entries
         → OnOk result (AllByRecursion (IsCursorIn items) cursors.new.entries) }
+    ensures keys { OnOk result (keys_of cursors.new.entries ≡ keys_of cursors.old.entries ++ cursor.now.name ∷ []) }
+    ensures new { OnOk result (is_among (keys_of cursors.old.entries) cursor.now.name ≡ false) }
+    ensures repeated { IfErr result (IsFaultAt text place fault.TwoCursors
+        (is_among (keys_of cursors.old.entries) cursor.now.name ≡ true)) }
 {
     match cursors.insert(cursor.name, cursor) {
         Ok(None) => Ok(()),
@@ -310,6 +341,8 @@ fn procedures_of<'a>(
     ensures written { IfOk result (λ admitted. AllByRecursion (IsProcedureOf items.now) admitted.items) }
     ensures openings { IfOk result (λ admitted. openings admitted.items ≡ flat_map opening_in items.now) }
     ensures refused { IfErr result (IsOfModule text) }
+    ensures taken { IfOk result (λ _. position has_bad_parameter items.now ≡ None) }
+    ensures first { IfErr result (IsFaultFor (at_item text fault.BadParameter (position has_bad_parameter items.now))) }
 {
     let mut procedures = Vec::new(alloc);
     for (place, item) in items.iter().enumerate() {
@@ -334,6 +367,8 @@ fn add_procedure<'a>(
     ensures written { (items : List AnyItem) → IsAmong items item.now → AllByRecursion (IsProcedureOf items) procedures.old.items
         → OnOk result (AllByRecursion (IsProcedureOf items) procedures.new.items) }
     ensures refused { IfErr result (IsOfModule text) }
+    ensures good { OnOk result (has_bad_parameter item.now ≡ false) }
+    ensures bad { IfErr result (IsFaultAt text place fault.BadParameter (has_bad_parameter item.now ≡ true)) }
 {
     match item {
         ModuleItem::Procedure(procedure) => {
@@ -354,6 +389,9 @@ fn admitted<'a>(
     ensures same { IfOk result (λ admitted. admitted.procedure.now ≡ procedure.now) }
     ensures parameters { IfOk result (λ admitted. Declare (declarations_of procedure.now.declarations) admitted.parameters) }
     ensures refused { IfErr result (IsOfModule text) }
+    ensures good { IfOk result (λ _. has_bad_declared (parameter_declarations procedure.now) ≡ false) }
+    ensures bad { IfErr result (IsFaultAt text place fault.BadParameter
+        (has_bad_declared (parameter_declarations procedure.now) ≡ true)) }
 {
     let declarations = listed(alloc, &procedure.declarations)?;
     let parameters = parameters_of(alloc, declarations.as_slice());

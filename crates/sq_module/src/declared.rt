@@ -1,12 +1,15 @@
 //! Declarations of parameters (ISO/IEC 9075:1992, 12.3).
 
-ghost use Rattle.std.specs.Prelude.{◌≡◌, [], ◌∷◌, ◌++◌, count_by, flat_map, map, not, true, false, IfOk, IfSome, OnOk, Some};
+ghost use Rattle.std.specs.Prelude.{◌≡◌, ◌==◌, ◌+◌, ◌||◌, [], ◌∷◌, ◌++◌, count_by, filter_map, flat_map, is_none, map, nat_lt, not, option_to_list, true, false, IfOk, IfSome, OnOk, Some};
 ghost use Rattle.std.specs.List.{list_any};
 ghost use Rattle.indexmap.specs.IndexSet.{insert_key};
 ghost use Rattle.sq_meaning.specs.Spelled.{domain_of as domain_meant};
 ghost use Rattle.sq_module.specs.Program.{same_name};
-ghost use Rattle.sq_module.specs.Refusal.{are_bad_counts, has_bad_status, is_sqlcode, is_sqlstate};
-ghost use Rattle.sq_module.specs.Written.{Declare, declarations_of, named_as, named_in};
+ghost use Rattle.sq_rules.specs.Module.{declarations_of, declared_in, is_sqlcode, is_sqlstate};
+ghost use Rattle.sq_rules.specs.ModuleRefusal.{has_bad_declared, has_bad_status, is_bad_type};
+ghost use Rattle.sq_rules.specs.Schema.{has_name_twice, is_among};
+ghost use Rattle.sq_rules.specs.Words.{is_some_and};
+ghost use Rattle.sq_module.specs.Written.{Declare, named_as, named_in};
 
 use indexmap::IndexSet;
 use sq_bound::ParameterDesc;
@@ -82,7 +85,7 @@ fn state_count(declarations: &[Declaration]) -> usize
 }
 
 fn are_bad_counts(codes: usize, states: usize) -> bool
-    ensures { result ≡ are_bad_counts codes states }
+    ensures { result ≡ (codes + states == 0 || nat_lt 1 codes || nat_lt 1 states) }
 {
     (codes == 0 && states == 0) || codes > 1 || states > 1
 }
@@ -105,7 +108,7 @@ fn is_sqlstate(declaration: &Declaration) -> bool
     }
 }
 
-/// Adds a name; whether it was not there.
+/// Adds a name and returns whether it was new.
 pub(crate) fn is_new(names: &mut IndexSet<Name>, name: Name) -> Result<bool, AllocError>
     ensures answer { IfOk result (λ is. is ≡ not (list_any (same_name name) names.old.keys)) }
     ensures keys { OnOk result (names.new.keys ≡ insert_key same_name names.old.keys name) }
@@ -123,7 +126,8 @@ pub(crate) fn parameters_of(
     alloc: Global,
     declarations: &[Declaration],
 ) -> Result<Option<Items<ParameterDesc>>, AllocError>
-    ensures { IfOk result (λ found. IfSome found (Declare declarations.now)) }
+    ensures declares { IfOk result (λ found. IfSome found (Declare declarations.now)) }
+    ensures bad { IfOk result (λ found. is_none found ≡ has_bad_declared (filter_map declared_in declarations.now)) }
 {
     let mut names = IndexSet::new(alloc);
     let mut parameters = Items::new(alloc);
@@ -144,14 +148,17 @@ pub(crate) fn parameters_of(
     }
 }
 
-/// Adds the named parameters, up to the first that is declared twice or of a bad type; whether there was none.
+/// Adds the named parameters, up to the first that is declared twice or of a bad type, and returns whether there was none.
 fn are_added(
     names: &mut IndexSet<Name>,
     parameters: &mut Items<ParameterDesc>,
     declarations: &[Declaration],
 ) -> Result<bool, AllocError>
-    ensures { IfOk result (λ is. is ≡ true → map named_as parameters.new ≡ map named_as parameters.old ++ flat_map
+    requires { names.old.keys ≡ [] }
+    ensures added { IfOk result (λ is. is ≡ true → map named_as parameters.new ≡ map named_as parameters.old ++ flat_map
         named_in declarations.now) }
+    ensures bad { IfOk result (λ is. let declared = filter_map declared_in declarations.now in
+        not is ≡ (has_name_twice (map (λ d. d.name) declared) || list_any (λ d. is_bad_type d.data_type) declared)) }
 {
     for declaration in declarations {
         if !is_taken(names, parameters, declaration)? {
@@ -161,13 +168,17 @@ fn are_added(
     Ok(true)
 }
 
-/// Adds the parameter of a declaration, if it has a name; whether it is declared once and of a good type.
+/// Adds the parameter of a declaration, if it has a name, and returns whether it is declared once and of a good type.
 fn is_taken(
     names: &mut IndexSet<Name>,
     parameters: &mut Items<ParameterDesc>,
     declaration: &Declaration,
 ) -> Result<bool, AllocError>
-    ensures { IfOk result (λ is. is ≡ true → map named_as parameters.new ≡ map named_as parameters.old ++ named_in declaration.now) }
+    ensures added { IfOk result (λ is. is ≡ true → map named_as parameters.new ≡ map named_as parameters.old ++ named_in declaration.now) }
+    ensures names { IfOk result (λ is. is ≡ true → names.new.keys ≡ names.old.keys
+        ++ map (λ d. d.name) (option_to_list (declared_in declaration.now))) }
+    ensures bad { IfOk result (λ is. not is ≡ is_some_and (λ d. is_among names.old.keys d.name || is_bad_type d.data_type)
+        (declared_in declaration.now)) }
 {
     match declaration {
         Declaration::Parameter(name, data_type) => is_added(names, parameters, *name, data_type),
@@ -181,8 +192,10 @@ fn is_added(
     name: Name,
     data_type: &DataType,
 ) -> Result<bool, AllocError>
-    ensures { IfOk result (λ is. is ≡ true → map named_as parameters.new ≡ map named_as
+    ensures added { IfOk result (λ is. is ≡ true → map named_as parameters.new ≡ map named_as
         parameters.old ++ (name, domain_meant data_type.now) ∷ []) }
+    ensures names { IfOk result (λ is. is ≡ true → names.new.keys ≡ names.old.keys ++ name ∷ []) }
+    ensures bad { IfOk result (λ is. not is ≡ (is_among names.old.keys name || is_bad_type data_type.now)) }
 {
     if !is_new(names, name)? {
         return Ok(false);

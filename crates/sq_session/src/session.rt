@@ -1,7 +1,9 @@
 //! A session: the modules, the tables, and the cursors.
 
-ghost use Rattle.std.specs.Prelude.{◌≡◌, ◌<◌, false, true, length, map, IfErr, IfOk, IsOk, OnErr, OnOk};
+ghost use Rattle.std.specs.Prelude.{◌≡◌, ◌<◌, false, true, length, map, IfErr, IfOk, IsOk, MatchResult, None, OnErr, OnOk};
 ghost use Rattle.sq_store.specs.Content.{table_at};
+ghost use Rattle.sq_rules.specs.ModuleRefusal.{first_module_refusal};
+ghost use Rattle.sq_module.specs.FirstRefusal.{IsFaultFor};
 ghost use Rattle.sq_module.specs.Refusal.{IsOfSomeModule};
 ghost use Rattle.sq_session.specs.Lent.{lent};
 ghost use Rattle.sq_catalog.specs.Catalog.{known, table_number};
@@ -72,7 +74,7 @@ impl<S: Store> Model for Session<S> {
 
 impl<S: Store> Session<S> {
     /// A session of these modules over a store of the catalog's tables and keys, with all cursors closed; or the first refusal,
-    /// module by module, and within a module in the order of `ModuleRefusalName`.
+    /// module by module, and within a module in the order of `ModuleRefusalName` (12.1 to 12.3 and 13.1).
     #[tactic(auto, using(crate::proofs::Named::of_modules))]
     pub fn new(
         alloc: Global,
@@ -93,6 +95,8 @@ impl<S: Store> Session<S> {
         ensures tables { IfOk result (λ s. s.tables ≡ catalog.tables) }
         ensures schemas { IfOk result (λ s. s.schemas ≡ schemas_of catalog) }
         ensures refused { IfErr result (IsOfSomeModule (length modules.now)) }
+        ensures first { MatchResult result (λ _. first_module_refusal modules.now ≡ None)
+            (IsFaultFor (first_module_refusal modules.now)) }
     {
         match program_of(alloc, &catalog, modules) {
             Ok(program) => Ok(Session::with_program(alloc, catalog, program, store)?),
@@ -238,6 +242,8 @@ fn program_of(
     ensures fits { IfOk result (λ program. FitsProgram catalog.now.bases program) }
     ensures well_formed { IfOk result (ProgramIsWellFormed (column_kinds catalog.now)) }
     ensures refused { IfErr result (IsOfSomeModule (length modules.now)) }
+    ensures first { MatchResult result (λ _. first_module_refusal modules.now ≡ None)
+        (IsFaultFor (first_module_refusal modules.now)) }
 {
     let admitted = admit(alloc, modules)?;
     let program = Program::bind(alloc, catalog, admitted.as_slice());

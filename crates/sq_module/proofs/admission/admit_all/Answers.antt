@@ -1,4 +1,4 @@
-use Rattle.std.proofs.Common.{◌∙◌, [], ap, map, subst, sym}
+use Rattle.std.proofs.Common.{◌∙◌, [], ap, arith, map, refl, subst, sym}
 use Rattle.sq_module.specs.Admitted.{AreAdmitted, admitted_procedures}
 use Rattle.sq_module.specs.Written.{AreOfTexts}
 use Rattle.sq_module.specs.declared.admission.AdmittedModule.{AdmittedModule}
@@ -6,6 +6,7 @@ use Rattle.sq_module.specs.Refusal.{IsAdmissible}
 use Rattle.sq_module.proofs.Apart.{admitted_next}
 use Rattle.sq_module.proofs.Names.{declared_next, modules_next}
 use Rattle.sq_module.proofs.Places.{all_next}
+use Rattle.sq_module.proofs.Refused.{all_taken, refused_first, taken_next}
 use Rattle.sq_module.proofs.Written.{among_at, of_texts_next}
 use Rattle.sq_module.proofs.admission.admit_all.Goals as goal
 
@@ -20,6 +21,7 @@ loop-text-init c =
       named = c.requires ∙ ap (map (λ (a : AdmittedModule). a.name)) none;
       admitted = subst (AreAdmitted []) none tt;
       admissible = tt;
+      taken = refl;
     }
 
 pub loop-text-preserved : goal.loop-text-preserved
@@ -41,4 +43,14 @@ loop-text-preserved c =
       admitted = apart.1;
       admissible = all_next (λ m. IsAdmissible m.items) c.args.modules.now c.loop-text.text c.index-modules-text.result c.loop-text-test.true c.index-modules-text.is
           c.loop-text.invariant.admissible c.in_default.ensures.admissible;
+      taken = taken_next c.args.modules.now c.loop-text.names.keys c.loop-text.text c.index-modules-text.result c.loop-text-test.true c.index-modules-text.is c.loop-text.invariant.keys
+          c.loop-text.invariant.taken c.in_default.ensures.taken;
     }
+
+pub returns-clause-taken : goal.returns-clause-taken
+returns-clause-taken c = all_taken c.args.modules.now c.loop-text.text (omega (arith, c.loop-text-test.false)) c.loop-text.invariant.taken
+
+pub returns-in-Err-clause-first : goal.returns-in-Err-clause-first
+returns-in-Err-clause-first c =
+    refused_first c.args.modules.now c.loop-text.names.keys c.loop-text.text c.index-modules-text.result c.loop-text-test.true c.index-modules-text.is c.loop-text.invariant.keys
+    c.loop-text.invariant.taken c.in-Err.fault c.in-Err.ensures.first

@@ -3,7 +3,8 @@ use Rattle.sq_bound.specs.Fits.{FitsStatement}
 use Rattle.sq_bound.specs.WellFormed.{IsStatement, kinds_of_parameters}
 use Rattle.sq_catalog.specs.Catalog.{column_kinds, known}
 use Rattle.sq_module.specs.Program.{OpensWellFormed, kinds_of_cursors}
-use Rattle.sq_module.specs.Written.{Declare, IsStatementIn, declarations_of}
+use Rattle.sq_rules.specs.Module.{declarations_of}
+use Rattle.sq_module.specs.Written.{Declare, IsStatementIn}
 use Rattle.sq_module.proofs.program.bound_procedure.Goals as goal
 
 pub returns-in-Ok-clause-fits : goal.returns-in-Ok-clause-fits
