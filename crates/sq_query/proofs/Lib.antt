@@ -12,6 +12,7 @@ pub mod KeyNames
 pub mod KeySearch
 pub mod KeyTests
 pub mod KeyValues
+pub mod KnownKeys
 pub mod KeyedRows
 pub mod KindsOfTables
 pub mod KnownConditions
@@ -28,6 +29,7 @@ pub mod ReadRows
 pub mod ReadTables
 pub mod Rows
 pub mod SameTables
+pub mod ShortestKnown
 pub mod Sorting
 pub mod StableSort
 pub mod Tables

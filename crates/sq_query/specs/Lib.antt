@@ -1,4 +1,5 @@
 pub mod Key
+pub mod Keyed
 pub mod MayRead
 pub mod Needed
 pub mod Order

@@ -1,5 +1,6 @@
 use Rattle.sq_query.proofs.KeyTests.{compared_if}
 use Rattle.sq_query.proofs.KeyValues.{valued_memory}
+use Rattle.sq_query.proofs.KnownKeys.{known_found}
 use Rattle.sq_query.proofs.key.compared_value.Goals as goal
 
 pub returns-in_err-value-clause-memory : goal.returns-in_err-value-clause-memory
@@ -9,4 +10,8 @@ returns-in_err-value-clause-memory c = λ valued.
 
 pub returns-clause-value : goal.returns-clause-value
 returns-clause-value c =
-    compared_if c.args.tests.now c.args.call.now.parameters.now c.args.call.now.user c.args.column c.compared_expr.result.now c.in_ok-value.value c.unless_null.result c.compared_expr.ensures (λ tables. c.in_ok-value.ensures tables) c.unless_null.ensures
+    compared_if c.args.tests.now c.args.call.now.parameters.now c.args.call.now.user c.args.column c.compared_expr.result.now c.in_ok-value.value c.unless_null.result c.compared_expr.ensures (λ tables. c.in_ok-value.ensures tables) c.unless_null.ensures.known
+
+pub returns-clause-found : goal.returns-clause-found
+returns-clause-found c =
+    known_found c.args.tests.now c.args.call.now.parameters.now c.args.call.now.user c.args.column c.compared_expr.result.now c.in_ok-value.value c.unless_null.result c.compared_expr.ensures (λ tables. c.in_ok-value.ensures tables) c.unless_null.ensures.found

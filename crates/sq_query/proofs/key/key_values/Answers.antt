@@ -1,7 +1,8 @@
-use Rattle.std.proofs.Common.{[], get_or, subst, sym}
+use Rattle.std.proofs.Common.{[], get_or, refl, subst, sym}
 use Rattle.std.specs.List.{AllZip}
 use Rattle.sq_query.specs.Key.{IsComparedWith}
 use Rattle.sq_query.proofs.KeyTests.{if_some, zip_more, zip_all}
+use Rattle.sq_query.proofs.KnownKeys.{not_none}
 use Rattle.sq_query.proofs.key.key_values.Goals as goal
 
 pub loop-column-init : goal.loop-column-init
@@ -17,3 +18,9 @@ loop-column-preserved c =
 pub returns-clause-values : goal.returns-clause-values
 returns-clause-values c =
     zip_all (IsComparedWith c.args.tests.now c.args.call.now.parameters.now c.args.call.now.user) c.args.columns.now c.loop-column.column-index c.loop-column.values.items c.loop-column-test.false c.loop-column.invariant
+
+pub returns-in-None-clause-found : goal.returns-in-None-clause-found
+returns-in-None-clause-found c = λ known. absurd (not_none c.in_ok-value.field-0 c.in-None.is (c.in_ok-value.ensures.found known))
+
+pub returns-clause-found : goal.returns-clause-found
+returns-clause-found c = λ known. refl

@@ -1,4 +1,4 @@
-use Rattle.std.proofs.Common.{ℕ, ap, ◌∙◌}
+use Rattle.std.proofs.Common.{ℕ, ap, false, true, ◌∙◌}
 use Rattle.sq_store.specs.Content.{table_at}
 use Rattle.sq_store.specs.Keys.{has_key, key_at}
 use Rattle.sq_store.specs.declared.table.Numbered.{Numbered}
@@ -7,6 +7,7 @@ use Rattle.sq_bound.specs.WellFormed.{base_kinds}
 use Rattle.sq_bound.specs.declared.condition.TablePlace.TheVariants.{Base}
 use Rattle.sq_query.specs.Target.{numbers_in}
 use Rattle.sq_query.proofs.KeySearch.{none_found, one_fails, one_found}
+use Rattle.sq_query.proofs.KnownKeys.{one_at_most}
 use Rattle.sq_query.proofs.KnownConditions.{ends_so, found_right, memory_ends, rows_fit}
 use Rattle.sq_query.proofs.NumbersThere.{only_there}
 use Rattle.sq_query.proofs.OnlyOne.{found_is}
@@ -97,3 +98,12 @@ returns-in_ok-is_chosen-in-Some-clause-there g c =
 
 pub returns-in-None-clause-there : goal.returns-in-None-clause-there
 returns-in-None-clause-there g c = rw c.new.ensures.items tt
+
+pub returns-in-None-clause-read : goal.returns-in-None-clause-read
+returns-in-None-clause-read g c = one_at_most false c.args.meter.now c.find_key.new.meter c.in-None.ensures.metered
+
+pub returns-in_ok-is_chosen-in-Some-clause-read : goal.returns-in_ok-is_chosen-in-Some-clause-read
+returns-in_ok-is_chosen-in-Some-clause-read g c = one_at_most true c.args.meter.now c.find_key.new.meter c.in-Some.ensures.metered
+
+pub returns-in_err-is_chosen-in-Some-clause-read : goal.returns-in_err-is_chosen-in-Some-clause-read
+returns-in_err-is_chosen-in-Some-clause-read g c = one_at_most true c.args.meter.now c.find_key.new.meter c.in-Some.ensures.metered

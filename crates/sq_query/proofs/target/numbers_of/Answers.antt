@@ -1,3 +1,4 @@
+use Rattle.std.proofs.Common.{arith}
 use Rattle.std.specs.Prelude.{⊤}
 use Rattle.sq_meaning.specs.Status.{and_then}
 use Rattle.sq_query.specs.Table.{stored_numbered}
@@ -6,6 +7,7 @@ use Rattle.sq_query.proofs.Fitting.{never_ends}
 use Rattle.sq_query.proofs.KeyNames.{base_there, own_keys}
 use Rattle.sq_query.proofs.KeyValues.{handed_memory, memory_meets}
 use Rattle.sq_query.proofs.KnownConditions.{memory_ends, numbers_answer, target_on_base}
+use Rattle.sq_query.proofs.KnownKeys.{not_none}
 use Rattle.sq_query.proofs.NumbersThere.{numbers_there}
 use Rattle.sq_query.proofs.target.numbers_of.Goals as goal
 
@@ -44,3 +46,9 @@ pub returns-in_err-known-clause-right : goal.returns-in_err-known-clause-right
 returns-in_err-known-clause-right g c = λ parameters tables may well.
     memory_ends c.from_residual.result
     (handed_memory c.from_residual.result c.in_err-known.field-0.0 c.from_residual.ensures.1 (c.in_err-known.ensures.memory (g.N.Names.column_kinds c.args.names.now) parameters well may.inputs))
+
+pub returns-in-None-clause-read : goal.returns-in-None-clause-read
+returns-in-None-clause-read g c = λ keyed. absurd (not_none c.in_ok-known.field-0 c.in-None.is (c.in_ok-known.ensures.found keyed))
+
+pub returns-in_err-known-clause-read : goal.returns-in_err-known-clause-read
+returns-in_err-known-clause-read g c = λ keyed. omega arith

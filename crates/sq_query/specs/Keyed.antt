@@ -1,0 +1,42 @@
+-- A target that names a row by a key whose values are known in a call (own rule: then one row at most is read to find it; ISO/IEC
+-- 9075:1992 asks nothing of how rows are found).
+use Rattle.std.specs.Prelude.{◌≡◌, ℕ, false, get_or, List, [], Some, Ok, Err}
+use Rattle.std.specs.List.{Contains}
+use Rattle.sq_lex.specs.declared.name.Name.{Name}
+use Rattle.sq_value.specs.SetFunctions.{is_null}
+use Rattle.sq_value.specs.declared.value.Value.{Value}
+use Rattle.sq_meaning.specs.Environment.{Row}
+use Rattle.sq_meaning.specs.Expression as meaning
+use Rattle.sq_meaning.specs.Placed.{by_place}
+use Rattle.sq_meaning.specs.Status.{Outcome}
+use Rattle.sq_bound.specs.Expression.{expr_of}
+use Rattle.sq_bound.specs.declared.condition.BoundTest.{BoundTest}
+use Rattle.sq_bound.specs.declared.condition.TablePlace.{TablePlace}
+use Rattle.sq_bound.specs.declared.expression.BoundExpr.{BoundExpr}
+use Rattle.sq_bound.specs.declared.query.Target.{Target}
+use Rattle.sq_bound.specs.declared.statement.ChangeTarget.{ChangeTarget}
+use Rattle.sq_bound.specs.declared.statement.ChangeTarget.TheVariants as target
+use Rattle.sq_query.specs.Key.{AreKeyTests, IsEquality}
+use Rattle.sq_query.specs.Row.{outside}
+
+-- there is a value, and it is not null
+abbrev pub IsKnownValue : Outcome Value → Type 0
+IsKnownValue (Ok v) = is_null v ≡ false
+IsKnownValue (Err status) = ⊥
+
+-- whatever the tests say that a column is equal to has such a value in a call with these values of parameters, whatever row there is
+abbrev pub AreKnownEqual : List BoundTest → List Value → Name → Type 0
+AreKnownEqual tests parameters user =
+    (tables : TablePlace → Outcome (List Row)) (test : BoundTest) (n : ℕ) (e : BoundExpr) → Contains tests test → IsEquality n e test
+    → IsKnownValue (meaning.value (by_place tables) (expr_of [] e) (outside [] parameters user))
+
+-- a key is noted for the target, and the tests that name its columns compare them with such values
+pub record IsKeyed (t : Target) (parameters : List Value) (user : Name) : Type 0 where
+  pub key : ℕ
+  pub is_noted : t.key ≡ Some key
+  pub known : (tests : List BoundTest) → AreKeyTests (get_or t.leaf.table.keys key []) t tests → AreKnownEqual tests parameters user
+
+-- an UPDATE or DELETE whose target is so; a positioned one searches no row
+abbrev pub IsKeyedChange : ChangeTarget → List Value → Name → Type 0
+IsKeyedChange (target.Searched t) parameters user = IsKeyed t parameters user
+IsKeyedChange (target.Positioned p) parameters user = ⊥
