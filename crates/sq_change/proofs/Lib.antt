@@ -10,6 +10,7 @@ pub mod Fitting
 pub mod GivenRows
 pub mod Held
 pub mod InTurn
+pub mod KeyedChange
 pub mod KeptKeys
 pub mod KeptRest
 pub mod KeptValues

@@ -7,6 +7,7 @@ ghost use Rattle.sq_store.specs.Content.{row_at, table_at};
 ghost use Rattle.sq_bound.specs.Fits.{AreInDomains, IsBase, IsColumnOf, are_columns, holds, keys_of_bases, not_nulls_hold, under};
 ghost use Rattle.sq_bound.specs.WellFormed.{IsLeaf};
 ghost use Rattle.sq_expression.specs.Fault.{MeetsAs};
+ghost use Rattle.sq_query.specs.Keyed.{IsKeyedChange};
 ghost use Rattle.sq_query.specs.MayRead.{MayEnd};
 ghost use Rattle.sq_change.specs.Changed.{AreRowsPut, KeepsRest, Removals, Replacements, are_insertions, are_wide, changed_in};
 ghost use Rattle.sq_change.specs.Constraints.{constraints_hold};
@@ -139,6 +140,7 @@ pub fn update<N: Names, S: Store>(
     ensures keys { S.key_columns store.new ≡ S.key_columns store.old }
     ensures numbers { S.row_numbers store.new ≡ S.row_numbers store.old }
     ensures right { IfErr result MayEnd }
+    ensures read { IsKeyedChange update.now.target inputs.entry.parameters.now inputs.entry.user → meter.new ≤ meter.old + 1 }
 {
     let Inputs { user, parameters } = inputs;
     let setting = Setting::new(alloc, names, &*store, user, parameters);
@@ -180,6 +182,7 @@ fn updated<N: Names, S: Store>(
         (rows_put changed.changes.items) ≡ true) }
     ensures in_domains { IfOk result (λ changed. AreRowsPut (under update.now.target).table.columns changed.changes.items) }
     ensures right { IfErr result MayEnd }
+    ensures read { IsKeyedChange update.now.target setting.now.parameters.now setting.now.user → meter.new ≤ meter.old + 1 }
 {
     let table = leaf_under(&update.target).table.get();
     let assignments = update.assignments.as_slice();
@@ -244,6 +247,7 @@ pub fn delete<N: Names, S: Store>(
     ensures keys { S.key_columns store.new ≡ S.key_columns store.old }
     ensures numbers { S.row_numbers store.new ≡ S.row_numbers store.old }
     ensures right { IfErr result MayEnd }
+    ensures read { IsKeyedChange target.now inputs.entry.parameters.now inputs.entry.user → meter.new ≤ meter.old + 1 }
 {
     let Inputs { user, parameters } = inputs;
     let setting = Setting::new(alloc, names, &*store, user, parameters);
@@ -275,6 +279,7 @@ fn deleted<N: Names, S: Store>(
         setting.now.parameters.now in (shown : Shown) → IsShown seen shown
         → IfErr result (λ f. Fails f (numbers_changed shown seen target.now on)) }
     ensures right { IfErr result MayEnd }
+    ensures read { IsKeyedChange target.now setting.now.parameters.now setting.now.user → meter.new ≤ meter.old + 1 }
 {
     let numbers = numbers_changed(setting, target, on, meter)?;
     let changes = removed(setting.alloc, numbers.as_slice());

@@ -1,11 +1,12 @@
 //! The rows that UPDATE and DELETE change (ISO/IEC 9075:1992, 13.6, 13.7, 13.9 and 13.10).
 
-ghost use Rattle.std.specs.Prelude.{◌≡◌, ◌<◌, ◌∷◌, [], length, map, true, IfErr, IfOk, IfSome, IsSome, Some};
+ghost use Rattle.std.specs.Prelude.{◌≡◌, ◌<◌, ◌≤◌, ◌+◌, ◌∷◌, [], length, map, true, IfErr, IfOk, IfSome, IsSome, Some};
 ghost use Rattle.std.specs.List.{AllByRecursion};
 ghost use Rattle.sq_store.specs.Change.{rows_put};
 ghost use Rattle.sq_store.specs.Content.{row_at, table_at};
 ghost use Rattle.sq_bound.specs.Fits.{AreInDomains, IsBase, IsColumnOf, IsRowIn, are_columns, holds, keys_of_bases, not_nulls_hold, under};
 ghost use Rattle.sq_bound.specs.declared.names.BaseTable.{BaseTable as AnyTable};
+ghost use Rattle.sq_query.specs.Keyed.{IsKeyedChange};
 ghost use Rattle.sq_query.specs.MayRead.{MayEnd};
 ghost use Rattle.sq_query.specs.Target.{AreNumbersOf, numbers_in};
 ghost use Rattle.sq_expression.specs.Fault.{Meets, MeetsAs};
@@ -58,6 +59,7 @@ pub(crate) fn numbers_changed<N: Names, S: Store>(
         → IfOk result (λ numbers. AreNumbersOf (table_at (S.content_now setting.now.store.now)
         (under target.now).table.place) numbers.items) }
     ensures right { IfErr result MayEnd }
+    ensures read { IsKeyedChange target.now setting.now.parameters.now setting.now.user → meter.new ≤ meter.old + 1 }
 {
     match target {
         ChangeTarget::Searched(target) => {

@@ -73,3 +73,9 @@ returns-in_err-changed-clause-meant g c = λ shown is.
     let found = numbers_changed shown seen t c.args.on in
     stops_as (λ (x : Unit {0}). _) c.from_residual.result e found
     (λ numbers. completed shown seen bases (under t) [] (without (table_at content (under t).table.place) numbers)) c.from_residual.ensures.1 (meant shown is)
+
+pub returns-in_err-changed-clause-read : goal.returns-in_err-changed-clause-read
+returns-in_err-changed-clause-read g c = let same = c.new-setting.ensures in rw (same.user, same.parameters) at c.in_err-changed.ensures.read
+
+pub returns-clause-read : goal.returns-clause-read
+returns-clause-read g c = let same = c.new-setting.ensures in rw (same.user, same.parameters) at c.in_ok-changed.ensures.read

@@ -41,3 +41,9 @@ returns-clause-keeps g c =
     (removals_kept c.removed-changes.result c.changed.result c.changed.ensures.changes s t c.args.on c.as_slice.result.now
     (subst (Chosen s t c.args.on) (sym c.as_slice.ensures.value) c.in_ok-numbers.ensures.meant) c.removed-changes.ensures.removals)
     (rw (c.get-table.ensures, c.leaf_under.ensures) at c.all_keys.ensures.lost)
+
+pub returns-in_err-numbers-clause-read : goal.returns-in_err-numbers-clause-read
+returns-in_err-numbers-clause-read g c = c.in_err-numbers.ensures.read
+
+pub returns-clause-read : goal.returns-clause-read
+returns-clause-read g c = c.in_ok-numbers.ensures.read

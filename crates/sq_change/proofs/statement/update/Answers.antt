@@ -72,3 +72,9 @@ returns-in_err-changed-clause-meant g c = λ shown is.
     stops_as (λ (x : Unit {0}). _) c.from_residual.result e made
     (λ rows. completed shown seen bases (under u.target) (map (λ n. n.row) rows) (with_replaced (table_at content (under u.target).table.place) rows)) c.from_residual.ensures.1
     (failed_as changed_in e made (meant shown is))
+
+pub returns-in_err-changed-clause-read : goal.returns-in_err-changed-clause-read
+returns-in_err-changed-clause-read g c = let same = c.new-setting.ensures in rw (same.user, same.parameters) at c.in_err-changed.ensures.read
+
+pub returns-clause-read : goal.returns-clause-read
+returns-clause-read g c = let same = c.new-setting.ensures in rw (same.user, same.parameters) at c.in_ok-changed.ensures.read

@@ -66,3 +66,9 @@ returns-clause-keeps g c =
     (λ shown. rw (base_under u.target, ← c.leaf_under.ensures, ← c.get-table.ensures, ← c.as_slice-assignments.ensures) (c.replaced-changes.ensures.meant shown)) in
     replaced_rest c.keys_assigned.result c.changed.result c.changed.ensures.lost s u c.args.on (g.S.Store.row_numbers setting.store.now) (g.met.S.Store.rises setting.store.now) replacements
     (rw (c.as_slice-assignments.ensures, c.get-table.ensures, c.leaf_under.ensures) at c.keys_assigned.ensures.lost)
+
+pub returns-in_err-numbers-clause-read : goal.returns-in_err-numbers-clause-read
+returns-in_err-numbers-clause-read g c = c.in_err-numbers.ensures.read
+
+pub returns-clause-read : goal.returns-clause-read
+returns-clause-read g c = c.in_ok-numbers.ensures.read

@@ -18,6 +18,7 @@ use Rattle.sq_change.specs.Statement.{IsShown}
 use Rattle.sq_change.proofs.Chosen.{none_found, only_number, reads_shown, some_found}
 use Rattle.sq_change.proofs.Outcomes.{stops_as}
 use Rattle.sq_change.proofs.Endings.{ends_so}
+use Rattle.sq_change.proofs.KeyedChange.{searched_read}
 use Rattle.sq_change.proofs.target.numbers_changed.Goals as goal
 
 pub numbers_of-requires-clause-finds : goal.numbers_of-requires-clause-finds
@@ -93,3 +94,18 @@ returns-in_err-numbers-in-Searched-clause-right g c =
     ends_so c.from_residual.result numbers.field-0.0 c.from_residual.ensures.1
     (numbers.ensures.right may.parameters may.tables (rw (c.inputs.ensures.user, c.inputs.ensures.parameters) may.reads)
     (subst (IsChangeTarget (g.N.Names.column_kinds c.args.setting.now.names.now) may.parameters) c.in-Searched.is may.target))
+
+pub returns-else-is_empty-clause-read : goal.returns-else-is_empty-clause-read
+returns-else-is_empty-clause-read g c = searched_read c.args.target.now c.in-Searched.target c.args.setting.now.parameters.now c.inputs.result.parameters.now c.args.setting.now.user c.inputs.result.user _ _ c.in-Searched.is
+    c.inputs.ensures.parameters c.inputs.ensures.user c.in_ok-numbers-in-Searched.ensures.read
+
+pub returns-then-is_empty-clause-read : goal.returns-then-is_empty-clause-read
+returns-then-is_empty-clause-read g c = searched_read c.args.target.now c.in-Searched.target c.args.setting.now.parameters.now c.inputs.result.parameters.now c.args.setting.now.user c.inputs.result.user _ _ c.in-Searched.is
+    c.inputs.ensures.parameters c.inputs.ensures.user c.in_ok-numbers-in-Searched.ensures.read
+
+pub returns-in_err-numbers-in-Searched-clause-read : goal.returns-in_err-numbers-in-Searched-clause-read
+returns-in_err-numbers-in-Searched-clause-read g c = searched_read c.args.target.now c.in-Searched.target c.args.setting.now.parameters.now c.inputs.result.parameters.now c.args.setting.now.user c.inputs.result.user _ _ c.in-Searched.is
+    c.inputs.ensures.parameters c.inputs.ensures.user c.in_err-numbers-in-Searched.ensures.read
+
+pub returns-in-Some-clause-read : goal.returns-in-Some-clause-read
+returns-in-Some-clause-read g c = λ keyed. omega arith
