@@ -13,6 +13,7 @@ pub mod GoOn
 pub mod Holding
 pub mod Kept
 pub mod Listing
+pub mod Metering
 pub mod Named
 pub mod NextNumber
 pub mod Opened

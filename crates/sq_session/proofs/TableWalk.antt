@@ -53,6 +53,12 @@ found_from number (r ∷ rs) f e = found_by number r f rs (number ≤ f.number) 
     (λ t q. rw (← q) (grind (arith, common_steps)))
     (λ t k. found_from number rs f k)
 
+found_least : (low number : ℕ) (rs : List Numbered) (next : ℕ) (f : Numbered) → rising_between low rs next ≡ true → find (λ r. nat_le number r.number) rs ≡ Some f → low ≤ f.number
+found_least low number [] next f h e = cc
+found_least low number (r ∷ rs) next f h e = found_by number r f rs (low ≤ f.number) e
+    (λ t q. rw (← q) (grind (arith, common_steps)))
+    (λ t k. let above : r.number + 1 ≤ f.number = found_least (r.number + 1) number rs next f (grind (arith, common_steps)) k in grind (arith, common_steps))
+
 -- what is found by a number or more is found by its own number
 row_by : (number : ℕ) (rs : List Numbered) (f : Numbered) → find (λ r. nat_le number r.number) rs ≡ Some f → find (λ r. nat_eq r.number f.number) rs ≡ Some f
 row_by number [] f e = cc
@@ -90,6 +96,11 @@ found_row content table number f e = ap (λ o. option_map (λ (r : Numbered). r.
 -- what is found from a number is not before it
 pub found_behind : (content : Content) (table number : ℕ) (f : Numbered) → first_from (table_at content table) number ≡ Some f → number ≤ f.number
 found_behind content table number f e = found_from number (table_at content table).rows f e
+
+-- and numbers begin at 1
+pub found_positive : (row_numbers : ℕ) (content : Content) (table number : ℕ) (f : Numbered) → all_rising row_numbers content ≡ true → first_from (table_at content table) number ≡ Some f → 1 ≤ f.number
+found_positive row_numbers content table number f h e =
+    let t = table_at content table in found_least 1 number t.rows t.next f (rows_rise_at row_numbers content table h) e
 
 -- ---- before a mark
 

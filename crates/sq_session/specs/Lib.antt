@@ -3,6 +3,7 @@ pub mod Cursors
 pub mod Fetch
 pub mod Kind
 pub mod Lent
+pub mod Metered
 pub mod Open
 pub mod Parameter
 pub mod Reads

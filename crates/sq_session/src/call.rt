@@ -11,6 +11,7 @@ ghost use Rattle.sq_rules.specs.Script.{fit};
 ghost use Rattle.sq_session.specs.Asked.{IsAsked};
 ghost use Rattle.sq_session.specs.Cursors.{IsWhole, OpenHaveKept};
 ghost use Rattle.sq_session.specs.Kind.{fits_at, kind_at, kind_of, needs_memory, takes_memory};
+ghost use Rattle.sq_session.specs.Metered.{CallReads, StepReads};
 ghost use Rattle.sq_session.specs.Parameter.{AreGiven, declared, started_values};
 ghost use Rattle.sq_session.specs.Schemas.{schemas_of};
 ghost use Rattle.sq_session.specs.Session.{procedures_of};
@@ -42,11 +43,14 @@ pub(crate) fn call<S: Store>(
     requires well_formed { ProgramIsWellFormed (column_kinds catalog.now) program.now }
     requires values_fit { fits_at (procedures_of program.now.cursors.items program.now.procedures.entries) procedure values.now ≡ true }
     requires whole { IsWhole (column_kinds catalog.now) catalog.now.bases program.now.cursors.items machine.old }
+    requires meter { meter.old ≡ 0 }
     ensures step { IfSome (ending result) (λ d.
         MayCall (schemas_of catalog.now)
         (kind_at (procedures_of program.now.cursors.items program.now.procedures.entries) procedure) values.now machine.old d machine.new) }
     ensures whole { IsWhole (column_kinds catalog.now) catalog.now.bases program.now.cursors.items machine.new }
     ensures err { OnErr result (machine.new ≡ machine.old) }
+    ensures read { IfSome (ending result) (λ d. CallReads (kind_at (procedures_of program.now.cursors.items program.now.procedures.entries)
+        procedure) values.now machine.old meter.new) }
     ensures memory { needs_memory (kind_at (procedures_of program.now.cursors.items program.now.procedures.entries) procedure) ≡ false
         → IsSome (ending result) }
 {
@@ -78,6 +82,7 @@ fn performed<S: Store>(
     requires well_formed { CursorsAreWellFormed (column_kinds catalog.now) program.now.cursors.items }
     requires values_fit { fit (map declared procedure.now.parameters) values.now ≡ true }
     requires whole { IsWhole (column_kinds catalog.now) catalog.now.bases program.now.cursors.items machine.old }
+    requires meter { meter.old ≡ 0 }
     ensures rows { holds catalog.now.bases machine.new.tables ≡ true }
     ensures in_domains { AreInDomains catalog.now.bases machine.new.tables }
     ensures constraints { constraints_hold catalog.now.bases machine.new.tables ≡ true }
@@ -86,6 +91,9 @@ fn performed<S: Store>(
         (kind_of program.now.cursors.items procedure.now.user procedure.now.parameters statement.now)
         (started_values procedure.now.parameters values.now) machine.old d machine.new) }
     ensures err { OnErr result (machine.new ≡ machine.old) }
+    ensures read { IfSome (ending result) (λ d. StepReads
+        (kind_of program.now.cursors.items procedure.now.user procedure.now.parameters statement.now)
+        (started_values procedure.now.parameters values.now) machine.old meter.new) }
     ensures memory { takes_memory (kind_of program.now.cursors.items procedure.now.user procedure.now.parameters statement.now) ≡ false
         → IsSome (ending result) }
     ensures right { IfSome (ending result) EndsRight }
@@ -119,6 +127,7 @@ fn with_values<S: Store>(
     requires well_formed { CursorsAreWellFormed (column_kinds catalog.now) program.now.cursors.items }
     requires values_fit { fit (map declared procedure.now.parameters) values.now ≡ true }
     requires whole { IsWhole (column_kinds catalog.now) catalog.now.bases program.now.cursors.items machine.old }
+    requires meter { meter.old ≡ 0 }
     requires memory { takes_memory (kind_of program.now.cursors.items procedure.now.user procedure.now.parameters statement.now) ≡ true }
     ensures rows { holds catalog.now.bases machine.new.tables ≡ true }
     ensures in_domains { AreInDomains catalog.now.bases machine.new.tables }
@@ -128,6 +137,9 @@ fn with_values<S: Store>(
         (kind_of program.now.cursors.items procedure.now.user procedure.now.parameters statement.now)
         (started_values procedure.now.parameters values.now) machine.old d machine.new) }
     ensures err { OnErr result (machine.new ≡ machine.old) }
+    ensures read { IfSome (ending result) (λ d. StepReads
+        (kind_of program.now.cursors.items procedure.now.user procedure.now.parameters statement.now)
+        (started_values procedure.now.parameters values.now) machine.old meter.new) }
     ensures right { IfSome (ending result) EndsRight }
 {
     let values = started_values(alloc, procedure.parameters.as_slice(), values)?;
@@ -158,6 +170,7 @@ fn performed_with<S: Store>(
     requires fit { CursorsFit called.now.catalog.now.bases called.now.cursors.now }
     requires well_formed { CursorsAreWellFormed (column_kinds called.now.catalog.now) called.now.cursors.now }
     requires whole { IsWhole (column_kinds called.now.catalog.now) called.now.catalog.now.bases called.now.cursors.now machine.old }
+    requires meter { meter.old ≡ 0 }
     requires memory { takes_memory (kind_of called.now.cursors.now called.now.procedure.now.user called.now.procedure.now.parameters
         statement.now) ≡ true }
     ensures rows { holds called.now.catalog.now.bases machine.new.tables ≡ true }
@@ -168,6 +181,9 @@ fn performed_with<S: Store>(
         (kind_of called.now.cursors.now called.now.procedure.now.user called.now.procedure.now.parameters statement.now)
         called.now.values.now machine.old d machine.new) }
     ensures err { OnErr result (machine.new ≡ machine.old) }
+    ensures read { IfSome (ending result) (λ d. StepReads
+        (kind_of called.now.cursors.now called.now.procedure.now.user called.now.procedure.now.parameters statement.now)
+        called.now.values.now machine.old meter.new) }
     ensures right { IfSome (ending result) EndsRight }
 {
     match statement {
@@ -190,6 +206,7 @@ pub(crate) fn reply_of(
 ) -> Result<Reply, AllocError>
     ensures ends { IfOk result (λ r. ending ended ≡ Some (record { status = r.status; outputs = r.outputs })) }
     ensures err { OnErr result (ending ended ≡ None) }
+    ensures reads { IfOk result (λ r. r.reads ≡ reads) }
 {
     let Done { status, outputs } = match ended {
         Ok(done) => done,

@@ -12,6 +12,7 @@ ghost use Rattle.sq_store.specs.Content.{table_at};
 ghost use Rattle.sq_session.specs.Cursors.{HasKeptAt, HaveKept, are_over, is_over, is_updatable};
 ghost use Rattle.sq_session.specs.Fetch.{HasCome, HasFetched, IsFetch, MayTakeFrom, MayTakeShown, MeansPlace, come_to_number, come_to_row, come_to_walk};
 ghost use Rattle.sq_session.specs.Kind.{IsDeclaredAt, fetching, over_at};
+ghost use Rattle.sq_session.specs.Metered.{FetchReads, FetchReadsFrom};
 ghost use Rattle.sq_session.specs.Parameter.{AreGiven};
 ghost use Rattle.sq_session.specs.Step.{EndsRight, MayFetch, ending};
 ghost use Rattle.sq_session.specs.Target.{MayTake, MayTakeRows, row_reply};
@@ -49,12 +50,17 @@ pub(crate) fn fetch_at<S: Store>(
     requires well_formed { CursorsAreWellFormed (column_kinds called.now.catalog.now) called.now.cursors.now }
     requires in_domains { AreInDomains called.now.catalog.now.bases (S.content_now store.now) }
     requires kept { HaveKept (column_kinds called.now.catalog.now) called.now.cursors.now cursors.old }
+    requires meter { meter.old ≡ 0 }
     ensures step { IfSome (ending result) (λ d. MayFetch
         (fetching called.now.cursors.now called.now.procedure.now.user called.now.procedure.now.parameters fetch.now) called.now.values.now
         (record { tables = S.content_now store.now; committed = S.committed store.now; keys = S.key_columns store.now; row_numbers = S.row_numbers store.now; cursors = cursors.old }) d
         (record { tables = S.content_now store.now; committed = S.committed store.now; keys = S.key_columns store.now; row_numbers = S.row_numbers store.now; cursors = cursors.new })) }
     ensures err { OnErr result (cursors.new ≡ cursors.old) }
     ensures right { IfSome (ending result) EndsRight }
+    ensures read { IfSome (ending result) (λ d. FetchReads
+        (fetching called.now.cursors.now called.now.procedure.now.user called.now.procedure.now.parameters fetch.now)
+        (record { tables = S.content_now store.now; committed = S.committed store.now; keys = S.key_columns store.now; row_numbers = S.row_numbers store.now; cursors = cursors.old })
+        meter.new) }
 {
     fetch_cursor(called, fetch, &mut cursors[fetch.cursor], store, meter)
 }
@@ -76,10 +82,13 @@ fn fetch_cursor<S: Store>(
         fetch.now) (S.content_now store.now) cursor.old }
     requires kept { HasKeptAt (column_kinds called.now.catalog.now) called.now.cursors.now fetch.now.cursor cursor.old }
     requires domains { AreInDomains called.now.catalog.now.bases (S.content_now store.now) }
+    requires meter { meter.old ≡ 0 }
     ensures fetched { HasFetched (fetching called.now.cursors.now called.now.procedure.now.user called.now.procedure.now.parameters fetch.now) called.now.values.now (S.content_now store.now)
         cursor.old result cursor.new }
     ensures err { OnErr result (cursor.new ≡ cursor.old) }
     ensures right { IfSome (ending result) EndsRight }
+    ensures read { IfSome (ending result) (λ d. FetchReadsFrom cursor.old (fetching called.now.cursors.now called.now.procedure.now.user
+        called.now.procedure.now.parameters fetch.now) (S.content_now store.now) meter.new) }
 {
     match cursor {
         CursorState::Closed => Err(Fault::Status(Failure::InvalidCursorState)),
@@ -168,10 +177,13 @@ fn fetch_walk<S: Store>(
         fetch.now) (table_at (S.content_now store.now) walk.old.table) }
     requires kept { HasKeptAt (column_kinds called.now.catalog.now) called.now.cursors.now fetch.now.cursor (CursorState.Walking walk.old) }
     requires domains { AreInDomains called.now.catalog.now.bases (S.content_now store.now) }
+    requires meter { meter.old ≡ 0 }
     ensures comes { HasCome result walk.new (come_to_walk (fetching called.now.cursors.now called.now.procedure.now.user
         called.now.procedure.now.parameters fetch.now) (S.content_now store.now) walk.old) }
     ensures err { OnErr result (walk.new ≡ walk.old) }
     ensures right { IfSome (ending result) EndsRight }
+    ensures read { IfSome (ending result) (λ d. FetchReadsFrom (CursorState.Walking walk.old) (fetching called.now.cursors.now
+        called.now.procedure.now.user called.now.procedure.now.parameters fetch.now) (S.content_now store.now) meter.new) }
 {
     let query = updatable_query(called, fetch.cursor);
     let Some((number, row)) = next_of_walk(called, &query.target, store, walk, meter)? else {

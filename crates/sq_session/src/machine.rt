@@ -15,7 +15,8 @@ ghost use Rattle.sq_expression.specs.declared.fault.Failure.TheVariants as failu
 ghost use Rattle.sq_expression.specs.declared.fault.Fault.TheVariants as fault;
 ghost use Rattle.sq_session.specs.Cursors.{HaveKept, IsWhole};
 ghost use Rattle.sq_session.specs.Fetch.{IsFetch};
-ghost use Rattle.sq_session.specs.Kind.{fetching, kind_of, opening, selecting};
+ghost use Rattle.sq_session.specs.Kind.{fetching, kind_of, opening, over_at, selecting};
+ghost use Rattle.sq_session.specs.Metered.{FetchReads, OpenReads, StepReads};
 ghost use Rattle.sq_session.specs.Parameter.{AreGiven};
 ghost use Rattle.sq_session.specs.Schemas.{schemas_of};
 ghost use Rattle.sq_session.specs.State.{committed_state, rolled_back};
@@ -82,6 +83,7 @@ impl<S: Store> Machine<S> {
         requires asked { OpensWellFormed (column_kinds called.now.catalog.now) called.now.cursors.now
             (kinds_of_parameters called.now.procedure.now.parameters) (Open number) }
         requires given { AreGiven (kinds_of_parameters called.now.procedure.now.parameters) called.now.values.now }
+        requires meter { meter.old ≡ 0 }
         ensures kept { HaveKept (column_kinds called.now.catalog.now) called.now.cursors.now self.new.cursors }
         ensures step { IfSome (ending result) (λ d. MayOpen (schemas_of called.now.catalog.now)
             (opening called.now.cursors.now called.now.procedure.now.user called.now.procedure.now.parameters number)
@@ -89,6 +91,7 @@ impl<S: Store> Machine<S> {
         ensures right { IfSome (ending result) EndsRight }
         ensures tables { self.new.tables ≡ self.old.tables }
         ensures err { OnErr result (self.new ≡ self.old) }
+        ensures read { IfSome (ending result) (λ d. OpenReads (over_at called.now.cursors.now number) meter.new) }
     {
         match &self.cursors[number] {
             CursorState::Closed => self.open_closed(called, number, meter),
@@ -109,6 +112,7 @@ impl<S: Store> Machine<S> {
         requires asked { OpensWellFormed (column_kinds called.now.catalog.now) called.now.cursors.now
             (kinds_of_parameters called.now.procedure.now.parameters) (Open number) }
         requires given { AreGiven (kinds_of_parameters called.now.procedure.now.parameters) called.now.values.now }
+        requires meter { meter.old ≡ 0 }
         ensures kept { HaveKept (column_kinds called.now.catalog.now) called.now.cursors.now self.new.cursors }
         ensures step { IfSome (ending result) (λ d. MayOpenClosed (schemas_of called.now.catalog.now)
             (opening called.now.cursors.now called.now.procedure.now.user called.now.procedure.now.parameters number)
@@ -116,6 +120,7 @@ impl<S: Store> Machine<S> {
         ensures right { IfSome (ending result) EndsRight }
         ensures tables { self.new.tables ≡ self.old.tables }
         ensures err { OnErr result (self.new ≡ self.old) }
+        ensures read { OpenReads (over_at called.now.cursors.now number) meter.new }
     {
         open_closed(
             called,
@@ -141,12 +146,15 @@ impl<S: Store> Machine<S> {
             fetch.now }
         requires given { AreGiven (kinds_of_parameters called.now.procedure.now.parameters) called.now.values.now }
         requires well_formed { CursorsAreWellFormed (column_kinds called.now.catalog.now) called.now.cursors.now }
+        requires meter { meter.old ≡ 0 }
         ensures step { IfSome (ending result) (λ d. MayFetch
             (fetching called.now.cursors.now called.now.procedure.now.user called.now.procedure.now.parameters fetch.now)
             called.now.values.now self.old d self.new) }
         ensures right { IfSome (ending result) EndsRight }
         ensures tables { self.new.tables ≡ self.old.tables }
         ensures err { OnErr result (self.new ≡ self.old) }
+        ensures read { IfSome (ending result) (λ d. FetchReads
+            (fetching called.now.cursors.now called.now.procedure.now.user called.now.procedure.now.parameters fetch.now) self.old meter.new) }
     {
         fetch_at(
             called,
@@ -264,6 +272,7 @@ impl<S: Store> Machine<S> {
         requires given { AreGiven (kinds_of_parameters called.now.procedure.now.parameters) called.now.values.now }
         requires fit { CursorsFit called.now.catalog.now.bases called.now.cursors.now }
         requires whole { IsWhole (column_kinds called.now.catalog.now) called.now.catalog.now.bases called.now.cursors.now self.old }
+        requires meter { meter.old ≡ 0 }
         ensures rows { holds called.now.catalog.now.bases self.new.tables ≡ true }
         ensures in_domains { AreInDomains called.now.catalog.now.bases self.new.tables }
         ensures constraints { constraints_hold called.now.catalog.now.bases self.new.tables ≡ true }
@@ -272,6 +281,9 @@ impl<S: Store> Machine<S> {
             called.now.values.now self.old d self.new) }
         ensures right { IfSome (ending result) EndsRight }
         ensures err { OnErr result (self.new ≡ self.old) }
+        ensures read { IfSome (ending result) (λ d. StepReads
+            (kind_of called.now.cursors.now called.now.procedure.now.user called.now.procedure.now.parameters (Update statement.now))
+            called.now.values.now self.old meter.new) }
     {
         let on = self.current(called, &statement.target)?;
         let lists = listed_walks(called, statement, self.cursors.as_slice(), &self.store)?;
@@ -309,6 +321,7 @@ impl<S: Store> Machine<S> {
             (kinds_of_parameters called.now.procedure.now.parameters) (Delete target.now) }
         requires given { AreGiven (kinds_of_parameters called.now.procedure.now.parameters) called.now.values.now }
         requires whole { IsWhole (column_kinds called.now.catalog.now) called.now.catalog.now.bases called.now.cursors.now self.old }
+        requires meter { meter.old ≡ 0 }
         ensures rows { holds called.now.catalog.now.bases self.new.tables ≡ true }
         ensures in_domains { AreInDomains called.now.catalog.now.bases self.new.tables }
         ensures constraints { constraints_hold called.now.catalog.now.bases self.new.tables ≡ true }
@@ -317,6 +330,9 @@ impl<S: Store> Machine<S> {
             called.now.values.now self.old d self.new) }
         ensures right { IfSome (ending result) EndsRight }
         ensures err { OnErr result (self.new ≡ self.old) }
+        ensures read { IfSome (ending result) (λ d. StepReads
+            (kind_of called.now.cursors.now called.now.procedure.now.user called.now.procedure.now.parameters (Delete target.now))
+            called.now.values.now self.old meter.new) }
     {
         let on = self.current(called, target)?;
         let deleted = delete(

@@ -8,7 +8,8 @@ ghost use Rattle.sq_catalog.specs.Catalog.{column_kinds};
 ghost use Rattle.sq_module.specs.Program.{CursorsFit, OpensWellFormed};
 ghost use Rattle.sq_query.specs.MayRead.{MayEnd};
 ghost use Rattle.sq_session.specs.Cursors.{HasKept, HasListed, HaveKept, are_over};
-ghost use Rattle.sq_session.specs.Kind.{Over, opening, over_of, over_target};
+ghost use Rattle.sq_session.specs.Kind.{Over, opening, over_at, over_of, over_target};
+ghost use Rattle.sq_session.specs.Metered.{OpenReads};
 ghost use Rattle.sq_session.specs.Open.{HasOpened, IsMeant, NumbersAreMeant, RowsAreMeant, TargetIsMeant};
 ghost use Rattle.sq_session.specs.Parameter.{AreGiven};
 ghost use Rattle.sq_session.specs.Schemas.{schemas_of};
@@ -44,6 +45,7 @@ pub(crate) fn open_closed<S: Store>(
         (kinds_of_parameters called.now.procedure.now.parameters) (Open number) }
     requires given { AreGiven (kinds_of_parameters called.now.procedure.now.parameters) called.now.values.now }
     requires domains { AreInDomains called.now.catalog.now.bases (S.content_now store.now) }
+    requires meter { meter.old ≡ 0 }
     ensures kept { HaveKept (column_kinds called.now.catalog.now) called.now.cursors.now cursors.new }
     ensures step { IfSome (ending result) (λ d. MayOpenClosed (schemas_of called.now.catalog.now)
         (opening called.now.cursors.now called.now.procedure.now.user called.now.procedure.now.parameters number) called.now.values.now
@@ -51,6 +53,7 @@ pub(crate) fn open_closed<S: Store>(
         (record { tables = S.content_now store.now; committed = S.committed store.now; keys = S.key_columns store.now; row_numbers = S.row_numbers store.now; cursors = cursors.new })) }
     ensures err { OnErr result (cursors.new ≡ cursors.old) }
     ensures right { IfSome (ending result) EndsRight }
+    ensures read { OpenReads (over_at called.now.cursors.now number) meter.new }
 {
     let declared = &called.cursors[number];
     match opened(called, &declared.cursor, store, meter) {
@@ -76,11 +79,13 @@ fn opened<S: Store>(
     requires asked { IsCursor (column_kinds called.now.catalog.now) (kinds_of_parameters called.now.procedure.now.parameters) cursor.now }
     requires given { AreGiven (kinds_of_parameters called.now.procedure.now.parameters) called.now.values.now }
     requires domains { AreInDomains called.now.catalog.now.bases (S.content_now store.now) }
+    requires meter { meter.old ≡ 0 }
     ensures opened { HasOpened (over_of cursor.now.body) (IsMeant (schemas_of called.now.catalog.now) cursor.now.body
         called.now.procedure.now.user called.now.procedure.now.parameters called.now.values.now (S.content_now store.now))
         called.now.values.now (S.content_now store.now) result }
     ensures kept { IfOk result (HasKept (column_kinds called.now.catalog.now) cursor.now) }
     ensures right { IfErr result MayEnd }
+    ensures read { OpenReads (over_of cursor.now.body) meter.new }
 {
     match &cursor.body {
         CursorBody::Rows(query, order) => {
@@ -126,7 +131,7 @@ fn opened_over_rows<S: Store>(
 }
 
 /// An updatable cursor: a walk where its conditions are quiet, else the numbers of its rows.
-#[tactic(auto, using(crate::proofs::Opened::target_walked, crate::proofs::Opened::target_listed))]
+#[tactic(auto, using(crate::proofs::Opened::target_walked, crate::proofs::Opened::target_listed, crate::proofs::Metering::walk_opened, crate::proofs::Metering::numbers_found))]
 fn opened_over<S: Store>(
     called: &Called<'_>,
     target: &Target,
@@ -141,10 +146,12 @@ fn opened_over<S: Store>(
     requires asked { IsTarget (column_kinds called.now.catalog.now) (kinds_of_parameters called.now.procedure.now.parameters) target.now }
     requires given { AreGiven (kinds_of_parameters called.now.procedure.now.parameters) called.now.values.now }
     requires domains { AreInDomains called.now.catalog.now.bases (S.content_now store.now) }
+    requires meter { meter.old ≡ 0 }
     ensures opened { HasOpened (over_target target.now) (TargetIsMeant (schemas_of called.now.catalog.now) target.now
         called.now.procedure.now.user called.now.values.now (S.content_now store.now)) called.now.values.now
         (S.content_now store.now) result }
     ensures right { IfErr result MayEnd }
+    ensures read { OpenReads (over_target target.now) meter.new }
 {
     if target.is_quiet {
         opened_walk(called, target.base, store)

@@ -8,6 +8,7 @@ ghost use Rattle.sq_module.specs.Refusal.{IsOfSomeModule};
 ghost use Rattle.sq_session.specs.Lent.{lent};
 ghost use Rattle.sq_catalog.specs.Catalog.{known, table_number};
 ghost use Rattle.sq_session.specs.Kind.{fault_at, fits_at, kind_at, needs_memory};
+ghost use Rattle.sq_session.specs.Metered.{CallReads};
 ghost use Rattle.std.specs.Map.{keys_of};
 ghost use Rattle.sq_bound.specs.Fits.{AreInDomains, keys_of_bases};
 ghost use Rattle.sq_change.specs.Constraints.{constraints_hold};
@@ -178,7 +179,7 @@ impl<S: Store> Session<S> {
     /// Makes one call of the procedure with this number, with these values for its named parameters in the order in
     /// which they are declared. Where its statement has a fault the status is 42000. Where memory runs out the session is as
     /// it was.
-    #[tactic(auto, using(crate::proofs::Failed::kept_by_failure))]
+    #[tactic(auto, using(crate::proofs::Failed::kept_by_failure, crate::proofs::Metering::told))]
     pub fn call(
         &mut self,
         alloc: Global,
@@ -189,6 +190,7 @@ impl<S: Store> Session<S> {
         ensures step { IfOk result (λ r.
             MayCall self.old.schemas (kind_at self.old.procedures procedure) values.now self.old.state
             (record { status = r.status; outputs = r.outputs }) self.new.state) }
+        ensures reads { IfOk result (λ r. CallReads (kind_at self.old.procedures procedure) values.now self.old.state r.reads) }
         ensures kept { IfOk result (λ r. is_success r.status ≡ false → self.new.state.tables ≡ self.old.state.tables) }
         ensures procedures { self.new.procedures ≡ self.old.procedures }
         ensures tables { self.new.tables ≡ self.old.tables }

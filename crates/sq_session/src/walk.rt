@@ -3,7 +3,7 @@
 //! Such a cursor means the same rows as a list of their numbers made at OPEN, as long as no UPDATE changes what its
 //! conditions read. So the rows that are left are listed before an UPDATE of a column that they read.
 
-ghost use Rattle.std.specs.Prelude.{◌≡◌, ◌&&◌, ◌≤◌, ◌<◌, ℕ, length, nat_eq, true, Some, IfOk, IfSome, option_map};
+ghost use Rattle.std.specs.Prelude.{◌≡◌, ◌&&◌, ◌≤◌, ◌<◌, ◌+◌, ◌-◌, ℕ, length, nat_eq, true, Some, IfOk, IfSome, option_map};
 ghost use Rattle.std.specs.Bool.{then_some};
 ghost use Rattle.sq_bound.specs.Fits.{AreInDomains, FitsBody, holds};
 ghost use Rattle.sq_bound.specs.WellFormed.{base_kinds};
@@ -17,6 +17,7 @@ ghost use Rattle.sq_session.specs.Kind.{over_of};
 ghost use Rattle.sq_store.specs.Content.{table_at};
 ghost use Rattle.sq_session.specs.Cursors.{AreThere, HaveKept, MayKeep, are_over, go_on, is_over, listed, put_all, reads};
 ghost use Rattle.sq_session.specs.Fetch.{row_on};
+ghost use Rattle.sq_session.specs.Metered.{last_number};
 ghost use Rattle.sq_session.specs.Reads.{one_reads};
 ghost use Rattle.sq_session.specs.Open.{walk_before};
 ghost use Rattle.sq_session.specs.Walk.{AreRowsUnder, IsQuietWith, first_meant, is_meant, numbers_meant};
@@ -100,7 +101,8 @@ impl<'a> Walk<'a> {
     }
 }
 
-/// The first row from a number on, and before a mark, that the target means.
+/// The first row from a number on, and before a mark, that the target means. The meter counts the rows up to it, which have
+/// different numbers from 1 on.
 #[tactic(auto, using(crate::proofs::TableWalk::found_behind))]
 fn next_chosen<'s, S: Store>(
     walk: &Walk<'_>,
@@ -117,6 +119,7 @@ fn next_chosen<'s, S: Store>(
     ensures found { IfOk result (λ found. IfSome found (λ r. (from ≤ r.0) × (r.0 < mark))) }
     ensures there { IfOk result (λ found. IfSome found (λ r. row_on (table_at (S.content_now store.now) walk.now.table) (Some r.0) ≡ Some
         r.1.now)) }
+    ensures read { IfOk result (λ found. IfSome found (λ r. (1 ≤ meter.new) × (meter.new ≤ meter.old + (r.0 - (from - 1))))) }
 {
     let mut number = from;
     while let Some((found, row)) = store.next_from(walk.table, number, meter) {
@@ -147,6 +150,8 @@ pub(crate) fn next_of_walk<'s, S: Store>(
     ensures found { IfOk result (λ found. IfSome found (λ r. (cursor.now.next ≤ r.0) × (r.0 < cursor.now.mark))) }
     ensures there { IfOk result (λ found. IfSome found (λ r. row_on (table_at (S.content_now store.now) cursor.now.table) (Some r.0) ≡ Some
         r.1.now)) }
+    ensures read { IfOk result (λ found. IfSome found (λ r. (1 ≤ meter.new) × (meter.new
+        ≤ meter.old + (r.0 - last_number cursor.now)))) }
 {
     let walk = Walk {
         alloc: called.alloc,

@@ -8,6 +8,7 @@ use Rattle.sq_session.proofs.After.{after}
 use Rattle.sq_session.proofs.Ending.{all_if}
 use Rattle.sq_session.proofs.Found.{asked_at, fitting_at, no_kind_is}
 use Rattle.sq_session.proofs.Named.{entry_of, fits_are, fits_there, kind_is}
+use Rattle.sq_session.proofs.Metering.{call_read}
 use Rattle.sq_session.proofs.Read.{as_read}
 use Rattle.sq_session.proofs.Reading.{has_tables}
 use Rattle.sq_session.proofs.call.call.Goals as goal
@@ -50,7 +51,8 @@ returns-in-Ok g c =
     let read = as_read schemas cursors entry.1.user entry.1.parameters c.in-Ok.statement c.args.values.now c.args.machine.now (ending c.performed.result) _ c.performed.ensures.step in
     let step = all_if _ EndsRight _ (ending c.performed.result) read c.performed.ensures.right (has_tables c.args.catalog.now c.args.machine.now.tables) in
     let kept = after schemas (column_kinds c.args.catalog.now) c.args.catalog.now.bases cursors entry.1.user entry.1.parameters c.in-Ok.statement _ c.args.machine.now c.performed.result c.performed.new.machine c.requires.whole c.performed.ensures.rows c.performed.ensures.in_domains c.performed.ensures.constraints c.performed.ensures.opened c.performed.ensures.step c.performed.ensures.err in
-    record { step = rw kind step; whole = kept; err = c.performed.ensures.err; memory = rw kind c.performed.ensures.memory }
+    let read = call_read cursors entry.1.user entry.1.parameters c.in-Ok.statement c.args.values.now c.args.machine.now (ending c.performed.result) _ c.performed.ensures.read in
+    record { step = rw kind step; whole = kept; err = c.performed.ensures.err; memory = rw kind c.performed.ensures.memory; read = rw kind read }
 
 pub returns-in-Err-clause-step : goal.returns-in-Err-clause-step
 returns-in-Err-clause-step g c =
@@ -58,3 +60,10 @@ returns-in-Err-clause-step g c =
     let found = entry_of program.procedures.entries c.args.procedure c.index-procedure.result.now c.index-procedure.ensures in
     let entry : ProcedureName × BoundProcedure = (found.0, c.index-procedure.result.now) in
     rw (no_kind_is program.cursors.items program.procedures.entries c.args.procedure entry c.in-Err.field-0 found.1 c.in-Err.is) (refl, refl)
+
+pub returns-in-Err-clause-read : goal.returns-in-Err-clause-read
+returns-in-Err-clause-read g c =
+    let program = c.args.program.now in
+    let found = entry_of program.procedures.entries c.args.procedure c.index-procedure.result.now c.index-procedure.ensures in
+    let entry : ProcedureName × BoundProcedure = (found.0, c.index-procedure.result.now) in
+    rw (no_kind_is program.cursors.items program.procedures.entries c.args.procedure entry c.in-Err.field-0 found.1 c.in-Err.is) tt

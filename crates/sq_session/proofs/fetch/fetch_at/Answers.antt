@@ -3,6 +3,7 @@ use Rattle.sq_catalog.specs.Catalog.{column_kinds}
 use Rattle.sq_session.specs.Kind.{fetching}
 use Rattle.sq_session.proofs.Coming.{fetched_taken}
 use Rattle.sq_session.proofs.Fetched.{may_fetch}
+use Rattle.sq_session.proofs.Metering.{fetched_at}
 use Rattle.sq_session.proofs.Over.{as_many}
 use Rattle.sq_session.proofs.QuietWalks.{kept_there}
 use Rattle.sq_session.proofs.fetch.fetch_at.Goals as goal
@@ -31,3 +32,13 @@ returns-clause-step g c =
     let old = get_or cursors number c.index-cursors-fetch.result in
     may_fetch (fetching called.cursors.now called.procedure.now.user called.procedure.now.parameters c.args.fetch.now) called.values.now (g.S.Store.content_now c.args.store.now) (g.S.Store.committed c.args.store.now) (g.S.Store.key_columns c.args.store.now) (g.S.Store.row_numbers c.args.store.now) cursors
     old c.fetch_cursor.new.cursor c.fetch_cursor.result there (ap (λ d. get_or cursors number d) c.index-cursors-fetch.is) c.fetch_cursor.ensures.fetched c.fetch_cursor.ensures.err
+
+pub returns-clause-read : goal.returns-clause-read
+returns-clause-read g c =
+    let called = c.args.called.now in
+    let cursors = c.args.cursors.now in
+    let number = c.args.fetch.now.cursor in
+    let there : number < length cursors = omega (arith, as_many called.cursors.now cursors c.requires.cursors, c.requires.there) in
+    let old = get_or cursors number c.index-cursors-fetch.result in
+    fetched_at (fetching called.cursors.now called.procedure.now.user called.procedure.now.parameters c.args.fetch.now) (g.S.Store.content_now c.args.store.now) (g.S.Store.committed c.args.store.now) (g.S.Store.key_columns c.args.store.now) (g.S.Store.row_numbers c.args.store.now) cursors
+    old c.fetch_cursor.result _ there (ap (λ d. get_or cursors number d) c.index-cursors-fetch.is) c.fetch_cursor.ensures.read

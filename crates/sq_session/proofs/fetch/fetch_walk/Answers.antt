@@ -1,11 +1,13 @@
-use Rattle.std.proofs.Common.{None, Some, subst}
+use Rattle.std.proofs.Common.{Err, None, Some, subst}
 use Rattle.sq_catalog.specs.Catalog.{column_kinds}
 use Rattle.sq_store.specs.Content.{table_at}
 use Rattle.sq_store.specs.declared.table.Numbered.{Numbered}
 use Rattle.sq_query.specs.Target.{conditions_of}
 use Rattle.sq_session.specs.Kind.{fetching}
+use Rattle.sq_session.specs.Step.{ending}
 use Rattle.sq_session.proofs.Coming.{shown_taken_on}
 use Rattle.sq_session.proofs.Holding.{HasColumns}
+use Rattle.sq_session.proofs.Metering.{end_come_to, however, row_come_to}
 use Rattle.sq_session.proofs.Over.{walk_over}
 use Rattle.sq_session.proofs.QuietWalks.{columns_are, conditions_are, quiet_at, under_at}
 use Rattle.sq_session.proofs.Reached.{next_is, walks_not, walks_on, walks_to_end}
@@ -76,3 +78,40 @@ returns-in-Err-clause-comes g c =
     let next = next_is fetch (table_at tables c.args.walk.now.table) c.args.walk.now (conditions_of query.target) (Some row)
     (conditions_are called.cursors.now c.args.fetch.now.cursor query c.updatable_query-query.ensures) meant in
     walks_not fetch tables c.args.walk.now query.columns row c.in-Err.fault (columns_are called.cursors.now c.args.fetch.now.cursor query c.updatable_query-query.ensures) next c.in-Err.ensures.reply
+
+pub returns-in_default-clause-read : goal.returns-in_default-clause-read
+returns-in_default-clause-read g c =
+    let called = c.args.called.now in
+    let tables = g.S.Store.content_now c.args.store.now in
+    let query = c.updatable_query-query.result.now in
+    let fetch = fetching called.cursors.now called.procedure.now.user called.procedure.now.parameters c.args.fetch.now in
+    let meant = rw c.in_default.is at c.in_ok-number.ensures.meant in
+    let none = next_is fetch (table_at tables c.args.walk.now.table) c.args.walk.now (conditions_of query.target) None
+    (conditions_are called.cursors.now c.args.fetch.now.cursor query c.updatable_query-query.ensures) meant in
+    end_come_to fetch tables c.args.walk.now _ none
+
+pub returns-in-Ok-clause-read : goal.returns-in-Ok-clause-read
+returns-in-Ok-clause-read g c =
+    let called = c.args.called.now in
+    let tables = g.S.Store.content_now c.args.store.now in
+    let query = c.updatable_query-query.result.now in
+    let fetch = fetching called.cursors.now called.procedure.now.user called.procedure.now.parameters c.args.fetch.now in
+    let row : Numbered = record { number = c.in-Some.number; row = c.in-Some.row.now } in
+    let meant = rw c.in-Some.is at c.in_ok-number.ensures.meant in
+    let read = rw c.in-Some.is at c.in_ok-number.ensures.read in
+    let next = next_is fetch (table_at tables c.args.walk.now.table) c.args.walk.now (conditions_of query.target) (Some row)
+    (conditions_are called.cursors.now c.args.fetch.now.cursor query c.updatable_query-query.ensures) meant in
+    row_come_to fetch tables c.args.walk.now row _ _ next c.requires.meter read
+
+pub returns-in-Err-clause-read : goal.returns-in-Err-clause-read
+returns-in-Err-clause-read g c =
+    let called = c.args.called.now in
+    let tables = g.S.Store.content_now c.args.store.now in
+    let query = c.updatable_query-query.result.now in
+    let fetch = fetching called.cursors.now called.procedure.now.user called.procedure.now.parameters c.args.fetch.now in
+    let row : Numbered = record { number = c.in-Some.number; row = c.in-Some.row.now } in
+    let meant = rw c.in-Some.is at c.in_ok-number.ensures.meant in
+    let read = rw c.in-Some.is at c.in_ok-number.ensures.read in
+    let next = next_is fetch (table_at tables c.args.walk.now.table) c.args.walk.now (conditions_of query.target) (Some row)
+    (conditions_are called.cursors.now c.args.fetch.now.cursor query c.updatable_query-query.ensures) meant in
+    however (ending (Err c.in-Err.fault)) (row_come_to fetch tables c.args.walk.now row _ _ next c.requires.meter read)

@@ -9,6 +9,7 @@ use Rattle.sq_session.specs.State.{State}
 use Rattle.sq_session.proofs.Asking.{cursor_there}
 use Rattle.sq_session.proofs.Ending.{fault_right}
 use Rattle.sq_session.proofs.Kept.{put_kept}
+use Rattle.sq_session.proofs.Metering.{opened_at}
 use Rattle.sq_session.proofs.Opened.{opens, opens_not}
 use Rattle.sq_session.proofs.open.open_closed.Goals as goal
 
@@ -43,3 +44,17 @@ returns-in-Ok-clause-kept g c =
 
 pub returns-in-Err-clause-right : goal.returns-in-Err-clause-right
 returns-in-Err-clause-right g c = fault_right c.in-Err.fault c.in-Err.ensures.right
+
+pub returns-in-Ok-clause-read : goal.returns-in-Ok-clause-read
+returns-in-Ok-clause-read g c =
+    let called = c.args.called.now in
+    let number = c.args.number in
+    let declared = get_or called.cursors.now number c.index-called-number.result in
+    opened_at called.cursors.now number declared _ (slice_get-get_or called.cursors.now number c.index-called-number.result c.requires.there) c.in-Ok.ensures.read
+
+pub returns-in-Err-clause-read : goal.returns-in-Err-clause-read
+returns-in-Err-clause-read g c =
+    let called = c.args.called.now in
+    let number = c.args.number in
+    let declared = get_or called.cursors.now number c.index-called-number.result in
+    opened_at called.cursors.now number declared _ (slice_get-get_or called.cursors.now number c.index-called-number.result c.requires.there) c.in-Err.ensures.read

@@ -27,3 +27,9 @@ returns-in-Updatable-clause-kept g c =
 
 pub returns-in-Rows-clause-opened : goal.returns-in-Rows-clause-opened
 returns-in-Rows-clause-opened g c = rw c.in-Rows.is (rw c.as_slice.ensures at c.opened_over_rows.ensures.opened)
+
+pub returns-in-Rows-clause-read : goal.returns-in-Rows-clause-read
+returns-in-Rows-clause-read g c = rw c.in-Rows.is tt
+
+pub returns-in-Updatable-clause-read : goal.returns-in-Updatable-clause-read
+returns-in-Updatable-clause-read g c = rw c.in-Updatable.is c.opened_over.ensures.read

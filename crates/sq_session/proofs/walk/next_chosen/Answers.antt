@@ -3,8 +3,9 @@ use Rattle.sq_store.specs.Content.{table_at}
 use Rattle.sq_store.specs.declared.table.Numbered.{Numbered}
 use Rattle.sq_query.specs.Target.{conditions_of}
 use Rattle.sq_session.specs.Walk.{is_meant, rows_between}
+use Rattle.sq_session.proofs.Metering.{meter_comes, meter_passes}
 use Rattle.sq_session.proofs.QuietWalks.{found_under as row_under}
-use Rattle.sq_session.proofs.TableWalk.{between_end, between_next, between_past, find_first, find_later, found_behind, found_row}
+use Rattle.sq_session.proofs.TableWalk.{between_end, between_next, between_past, find_first, find_later, found_behind, found_positive, found_row}
 use Rattle.sq_session.proofs.walk.next_chosen.Goals as goal
 
 pub returns-then-branch-clause-there : goal.returns-then-branch-clause-there
@@ -42,6 +43,15 @@ returns-clause-meant g c =
     let meant : Numbered → Bool = is_meant (conditions_of walk.target.now) walk.values.now walk.user in
     sym (c.loop-found.invariant.1 ∙ ap (find meant) (between_end (g.S.Store.content_now c.args.store.now) walk.table c.loop-found.number c.args.mark c.in_default.ensures.row))
 
+pub returns-then-branch-clause-read : goal.returns-then-branch-clause-read
+returns-then-branch-clause-read g c =
+    let store = c.args.store.now in
+    let walk = c.args.walk.now in
+    let row : Numbered = record { number = c.in-Some.found; row = c.in-Some.row.now } in
+    let behind = found_behind (g.S.Store.content_now store) walk.table c.loop-found.number row c.in-Some.ensures.row in
+    let positive = found_positive (g.S.Store.row_numbers store) (g.S.Store.content_now store) walk.table c.loop-found.number row (g.met.S.Store.rises store) c.in-Some.ensures.row in
+    meter_comes _ _ _ c.args.from c.loop-found.number c.in-Some.found c.loop-found.invariant.2 c.loop-found.invariant.0 behind positive c.in-Some.ensures.metered
+
 pub loop-found-preserved : goal.loop-found-preserved
 loop-found-preserved g c =
     let store = c.args.store.now in
@@ -50,7 +60,9 @@ loop-found-preserved g c =
     let meant : Numbered → Bool = is_meant (conditions_of walk.target.now) walk.values.now walk.user in
     let row : Numbered = record { number = c.in-Some.found; row = c.in-Some.row.now } in
     let next = between_next (g.S.Store.row_numbers store) (g.S.Store.content_now store) walk.table c.loop-found.number c.args.mark row (g.met.S.Store.rises store) c.in-Some.ensures.row c.if-found-mark.false in
-    let behind = found_behind (g.S.Store.content_now store) walk.table c.loop-found.number row c.in-Some.ensures.row in (
+    let behind = found_behind (g.S.Store.content_now store) walk.table c.loop-found.number row c.in-Some.ensures.row in
+    let positive = found_positive (g.S.Store.row_numbers store) (g.S.Store.content_now store) walk.table c.loop-found.number row (g.met.S.Store.rises store) c.in-Some.ensures.row in (
       omega (arith, c.loop-found.invariant.0, behind),
       c.loop-found.invariant.1 ∙ ap (find meant) next ∙ find_later meant row (rows_between (row.number + 1) c.args.mark rows) (c.in_ok-is_chosen.ensures c.in-Some.found ∙ c.if-branch.false),
+      meter_passes _ _ _ c.args.from c.loop-found.number c.in-Some.found c.loop-found.invariant.2 behind positive c.in-Some.ensures.metered,
     )

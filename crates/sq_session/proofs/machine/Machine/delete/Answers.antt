@@ -1,4 +1,4 @@
-use Rattle.std.proofs.Common.{◌≡◌, ◌∙◌, List, Ok, Err, ap, refl, rules, slice_set, subst, sym}
+use Rattle.std.proofs.Common.{◌≡◌, ◌∙◌, List, Ok, Err, ap, arith, refl, rules, slice_set, subst, sym}
 use Rattle.std.specs.List.{slice_index_or}
 use Rattle.std.proofs.lemmas.List.{places, with_items_is}
 use Rattle.sq_value.specs.declared.value.Value.{Value}
@@ -22,6 +22,7 @@ use Rattle.sq_session.specs.declared.cursor.CursorState.TheVariants as cursor
 use Rattle.sq_session.proofs.Changing.{deletes_done, deletes_not, left_behind, same_but_tables}
 use Rattle.sq_session.proofs.Ending.{fault_right}
 use Rattle.sq_session.proofs.Asking.{may_choose}
+use Rattle.sq_session.proofs.Metering.{delete_read}
 use Rattle.sq_session.proofs.machine.Machine.delete.Goals as goal
 use Rattle.sq_session.proofs.machine.Machine.delete.Goals.{in-Positioned, in_default-target}
 
@@ -81,3 +82,23 @@ returns-clause-step g c =
           (same_but_tables a (with_cursor b p.cursor (off_row (cursor_at b p.cursor))) (search rules) (search rules) (search rules) cursors) (search rules)
       | in_default-target w ↦ done t refl (search rules) (search rules)
     ]
+
+pub returns-in-Err-clause-read : goal.returns-in-Err-clause-read
+returns-in-Err-clause-read g c =
+    let called = c.args.called.now in
+    let caller : Caller = caller_of called.procedure.now.user called.procedure.now.parameters in
+    let read = rw (c.inputs.ensures.user, c.inputs.ensures.parameters) at c.delete-deleted.ensures.read in
+    delete_read caller c.args.target.now called.values.now c.args.self.now (Err c.in-Err.fault) _ _ c.requires.meter read
+
+pub returns-clause-read : goal.returns-clause-read
+returns-clause-read g c =
+    let called = c.args.called.now in
+    let caller : Caller = caller_of called.procedure.now.user called.procedure.now.parameters in
+    let read = rw (c.inputs.ensures.user, c.inputs.ensures.parameters) at c.delete-deleted.ensures.read in
+    delete_read caller c.args.target.now called.values.now c.args.self.now (Ok c.successful.result) _ _ c.requires.meter read
+
+pub returns-in_err-on-clause-read : goal.returns-in_err-on-clause-read
+returns-in_err-on-clause-read g c =
+    let called = c.args.called.now in
+    let caller : Caller = caller_of called.procedure.now.user called.procedure.now.parameters in
+    delete_read caller c.args.target.now called.values.now c.args.self.now c.from_residual.result c.args.meter.now c.args.meter.now c.requires.meter (λ keyed. omega arith)

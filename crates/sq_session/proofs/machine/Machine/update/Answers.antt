@@ -1,4 +1,4 @@
-use Rattle.std.proofs.Common.{◌≡◌, ◌∙◌, List, Ok, Err, ap, rules, subst, sym}
+use Rattle.std.proofs.Common.{◌≡◌, ◌∙◌, List, Ok, Err, ap, arith, rules, subst, sym}
 use Rattle.std.proofs.lemmas.List.{places, with_items_is}
 use Rattle.sq_value.specs.declared.value.Value.{Value}
 use Rattle.std.specs.Prelude.{IfSome, IsSome}
@@ -22,6 +22,7 @@ use Rattle.sq_session.specs.Cursors.{go_on, put_all}
 use Rattle.sq_session.specs.declared.cursor.CursorState.{CursorState}
 use Rattle.sq_session.proofs.Changing.{put_as_many, same_but_tables, updates_done, updates_not}
 use Rattle.sq_session.proofs.Ending.{fault_right}
+use Rattle.sq_session.proofs.Metering.{update_read}
 use Rattle.sq_session.proofs.machine.Machine.update.Goals as goal
 
 pub update-updated-requires-clause-assigned : goal.update-updated-requires-clause-assigned
@@ -81,3 +82,33 @@ returns-in-Ok-clause-step g c =
     (subst (λ (m : State). (shown : Shown) → IsShown (seen_in schemas caller values m.tables) shown
     → update_outcome shown (seen_in schemas caller values m.tables) schemas.bases c.args.statement.now on ≡ Ok content) c.self.view_is
     (λ shown is. meant shown is))
+
+pub returns-in-Err-clause-read : goal.returns-in-Err-clause-read
+returns-in-Err-clause-read g c =
+    let called = c.args.called.now in
+    let caller : Caller = caller_of called.procedure.now.user called.procedure.now.parameters in
+    let u = updating called.cursors.now caller c.args.statement.now in
+    let read = rw (c.inputs.ensures.user, c.inputs.ensures.parameters) at c.update-updated.ensures.read in
+    update_read u c.args.statement.now.target called.values.now c.args.self.now (Err c.in-Err.fault) _ _ c.requires.meter read
+
+pub returns-in-Ok-clause-read : goal.returns-in-Ok-clause-read
+returns-in-Ok-clause-read g c =
+    let called = c.args.called.now in
+    let caller : Caller = caller_of called.procedure.now.user called.procedure.now.parameters in
+    let u = updating called.cursors.now caller c.args.statement.now in
+    let read = rw (c.inputs.ensures.user, c.inputs.ensures.parameters) at c.update-updated.ensures.read in
+    update_read u c.args.statement.now.target called.values.now c.args.self.now (Ok c.successful.result) _ _ c.requires.meter read
+
+pub returns-in_err-on-clause-read : goal.returns-in_err-on-clause-read
+returns-in_err-on-clause-read g c =
+    let called = c.args.called.now in
+    let caller : Caller = caller_of called.procedure.now.user called.procedure.now.parameters in
+    let u = updating called.cursors.now caller c.args.statement.now in
+    update_read u c.args.statement.now.target called.values.now c.args.self.now c.from_residual.result c.args.meter.now c.args.meter.now c.requires.meter (λ keyed. omega arith)
+
+pub returns-in_err-lists-clause-read : goal.returns-in_err-lists-clause-read
+returns-in_err-lists-clause-read g c =
+    let called = c.args.called.now in
+    let caller : Caller = caller_of called.procedure.now.user called.procedure.now.parameters in
+    let u = updating called.cursors.now caller c.args.statement.now in
+    update_read u c.args.statement.now.target called.values.now c.args.self.now c.from_residual-in_err-lists.result c.args.meter.now c.args.meter.now c.requires.meter (λ keyed. omega arith)
