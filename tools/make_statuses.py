@@ -1,7 +1,7 @@
 #!/usr/bin/env python3
-"""Makes docs/STATUSES.md of crates/sq_cases/data/runs-statuses.txt, whose runs the gate makes.
+"""Makes docs/STATUSES.md, and the texts of `sqmod explain`, of crates/sq_cases/data/runs-statuses.txt, whose runs the gate makes.
 
-make_statuses.py [check]: with `check` it writes nothing, and fails where the page isn't that of the data.
+make_statuses.py [check]: with `check` it writes nothing, and fails where the page or the texts aren't those of the data.
 
 Texts stand on the page whole. One of many lines that differ in a number alone stands there as a command that prints it.
 """
@@ -64,28 +64,88 @@ def answer_block(part, lines):
     return ["```", *lines, "```", ""]
 
 
-def main():
+def status_names():
+    """The name of each SQLSTATE."""
+    code = (ROOT / "crates/sq_meaning/src/status.rt").read_text()
+    return {state: name for name, state in re.findall(r'Status::(\w+) => \*b"(\w{5})",', code)}
+
+
+def runs():
+    """Each run of the data: its kind, its name, what it says, its texts and its answer."""
     data = (ROOT / "crates/sq_cases/data/runs-statuses.txt").read_text()
-    page = ["# Statuses, refusals and faults", "",
-            "Each with a small text that shows it, and what the program prints. This page is made of",
-            "`crates/sq_cases/data/runs-statuses.txt` by `tools/make_statuses.py`; the gate runs each of these texts and compares.", ""]
-    seen = None
     for run in data.split("\nrun ")[1:]:
-        name, *lines = run.split("\n")
-        kind, rest = name.split(" ", 1)
-        if kind != seen:
-            page += [PARTS[kind], ""]
-            seen = kind
-        title, says = rest.split(": ", 1)
-        page += [f"### `{title}`{OF.get(kind, '')}", "", says[0].upper() + says[1:] + ".", ""]
+        heading, *lines = run.split("\n")
+        kind, rest = heading.split(" ", 1)
+        name, says = rest.split(": ", 1)
         *parts, answer = texts(lines)
-        page += texts_block(parts) + answer_block(*answer)
-    text = "\n".join(page).rstrip() + "\n"
-    made = ROOT / "docs/STATUSES.md"
-    if sys.argv[1:] != ["check"]:
-        made.write_text(text)
-    elif made.read_text() != text:
-        sys.exit("docs/STATUSES.md is not made of crates/sq_cases/data/runs-statuses.txt: run tools/make_statuses.py")
+        yield kind, name, says[0].upper() + says[1:] + ".", texts_block(parts) + answer_block(*answer)
+
+
+def page():
+    """The page docs/STATUSES.md."""
+    statuses = status_names()
+    lines = ["# Statuses, refusals and faults", "",
+             "Each with a small text that shows it, and what the program prints. `./sqmod explain NAME` prints what stands here",
+             "below a name, and `./sqmod explain` lists the names.",
+             "This page and the texts of the program are made of `crates/sq_cases/data/runs-statuses.txt` by",
+             "`tools/make_statuses.py`; the gate runs each of these texts and compares.", ""]
+    seen = None
+    for kind, name, says, blocks in runs():
+        if kind != seen:
+            lines += [PARTS[kind], ""]
+            seen = kind
+        status = f" {statuses[name]}" if kind == "Status" else ""
+        lines += [f"### `{name}`{OF.get(kind, status)}", "", says, "", *blocks]
+    return "\n".join(lines).rstrip() + "\n"
+
+
+def entries():
+    """For each name, in the order of the page, what `sqmod explain` prints: the paragraphs and blocks below it."""
+    found = {}
+    for kind, name, says, blocks in runs():
+        what = f"{name}{OF.get(kind, '')}: {says}"
+        lines = ["  " + line if line and not line.startswith("On standard error") else line for line in blocks if line != "```"]
+        found.setdefault(name, []).append("\n".join([what, "", *lines]).rstrip() + "\n")
+    return {name: "\n".join(parts) for name, parts in found.items()}
+
+
+def quoted(text):
+    """A text as a literal that spans lines."""
+    return '"' + text.replace("\\", "\\\\").replace('"', '\\"') + '"'
+
+
+def word_of(name):
+    """A name as a word of a function's name."""
+    return re.sub(r"(?<=[a-z0-9])(?=[A-Z])", "_", name).lower()
+
+
+def code():
+    """The source of the table of `sqmod explain`. Each text has a function of its own, so that no proof has to carry them all."""
+    statuses = status_names()
+    found = entries()
+    lines = ["//! What `explain` says, made by tools/make_statuses.py of crates/sq_cases/data/runs-statuses.txt.", "",
+             "use crate::explain::Entry;", "",
+             "/// The statuses, refusals and faults, in the order of docs/STATUSES.md.",
+             f"pub(crate) static ENTRIES: [Entry; {len(found)}] = ["]
+    for number, name in enumerate(found):
+        status = f'Some("{statuses[name]}")' if name in statuses else "None"
+        lines += ["    Entry {", f'        name: "{name}",', f"        status: {status},", f"        text: {number},", "    },"]
+    lines += ["];", "", "/// The text with a number; none has a higher one than the table.", "pub fn text_of(number: usize) -> &'static str {",
+              "    match number {"]
+    lines += [f"        {number} => text_of_{word_of(name)}()," for number, name in enumerate(found)]
+    lines += ['        _ => "",', "    }", "}"]
+    for name, text in found.items():
+        lines += ["", f"fn text_of_{word_of(name)}() -> &'static str {{", f"    {quoted(text)}", "}"]
+    return "\n".join([*lines, ""])
+
+
+def main():
+    for name, text in (("docs/STATUSES.md", page()), ("crates/sq_explain/src/entries.rt", code())):
+        made = ROOT / name
+        if sys.argv[1:] != ["check"]:
+            made.write_text(text)
+        elif made.read_text() != text:
+            sys.exit(f"{name} is not made of crates/sq_cases/data/runs-statuses.txt: run tools/make_statuses.py")
 
 
 if __name__ == "__main__":

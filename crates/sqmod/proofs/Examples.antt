@@ -1,5 +1,5 @@
 -- Command lines, by the definitions: what is refused, by which kind, and what is read of those that are taken.
-use Rattle.std.proofs.Common.{◌≡◌, ℕ, refl, List, [], ◌∷◌, Option, Some}
+use Rattle.std.proofs.Common.{◌≡◌, ℕ, refl, List, [], ◌∷◌, Option, Some, None}
 use Rattle.std.specs.Prelude.{codes, option_map}
 use Rattle.clap.specs.Words.{Text, fault_of, first_of, subcommand_of}
 use Rattle.clap.specs.declared.error.kind.ErrorKind.TheVariants.{ArgumentConflict, DisplayHelp, MissingRequiredArgument}
@@ -72,3 +72,20 @@ help = refl
 other_option : fault_of sqmod (call (codes "--file" ∷ [])) ≡ UnknownArgument ∷ []
 unfolding clap_on_literals
 other_option = refl
+
+-- ---- the other subcommand
+
+explained : List Text → Option (Text × Option Text)
+explained words = option_map (λ s. (s.0, first_of (codes "name") s.1)) (subcommand_of sqmod words)
+
+explains : explained (codes "sqmod" ∷ codes "explain" ∷ codes "22001" ∷ []) ≡ Some (codes "explain", Some (codes "22001"))
+unfolding clap_on_literals explained
+explains = refl
+
+lists : explained (codes "sqmod" ∷ codes "explain" ∷ []) ≡ Some (codes "explain", None)
+unfolding clap_on_literals explained
+lists = refl
+
+one_name : fault_of sqmod (codes "sqmod" ∷ codes "explain" ∷ codes "a" ∷ codes "b" ∷ []) ≡ UnknownArgument ∷ []
+unfolding clap_on_literals
+one_name = refl

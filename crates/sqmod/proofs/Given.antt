@@ -1,4 +1,4 @@
--- What `run` was given, where a parse had no fault.
+-- What a subcommand was given, where a parse had no fault.
 use Rattle.std.proofs.Common.{◌≡◌, ◌∙◌, ◌<◌, ◌||◌, Bool, cond, true, false, not, refl, sym, ap, subst, arith, true≢false}
 use Rattle.std.proofs.Common.{List, [], ◌∷◌, length, Option, Some, None, is_some}
 use Rattle.std.specs.Prelude.{IfSome, codes, find, option_and_then, option_map, slice_get, unwrap_or}
@@ -19,7 +19,7 @@ use Rattle.clap.specs.Faults.{check_fault, entered_fault, fault_of, is_simple_an
 use Rattle.clap.specs.declared.error.kind.ErrorKind.TheVariants.{MissingRequiredArgument}
 use Rattle.clap.proofs.OnLiterals.{clap_on_literals}
 use Rattle.clap.proofs.ValueTestLemmas.{accepts-Accepts}
-use Rattle.sqmod.specs.CommandLine.{sqmod}
+use Rattle.sqmod.specs.CommandLine.{is_subcommand, sqmod}
 use Rattle.sq_store.specs.declared.store.TheConstants.{MOST_ROW_NUMBERS}
 use Rattle.sqmod.proofs.Level.{IsPastHelp, level_passed}
 use Rattle.sqmod.proofs.Uses.{AllPassed, Each, IsOption, Passed, neither, some_kind}
@@ -31,8 +31,11 @@ whole = built sqmod
 abbrev run_level : Shape
 run_level = unwrap_or (slice_get whole.subs 0) (new_shape [])
 
+abbrev explain_level : Shape
+explain_level = unwrap_or (slice_get whole.subs 1) (new_shape [])
+
 abbrev help_level : Shape
-help_level = unwrap_or (slice_get whole.subs 1) (new_shape [])
+help_level = unwrap_or (slice_get whole.subs 2) (new_shape [])
 
 pub is_simple_command : is_simple sqmod ≡ true
 is_simple_command = refl
@@ -77,36 +80,57 @@ no_help name other named = go (bytes_eq (codes "help") name) refl named
         true≢false bad
     go false e h = true≢false (sym h)
 
--- the subcommand that was met is `run`, with what it was given
-abbrev pub MeetsRun : Option (Text × List Row) → Type 0
-MeetsRun met = (rows : List Row) × (met ≡ Some (codes "run", rows)) × IsSoundRun rows
+-- the subcommand that was met is one of the program's, with what it was given
+pub record MeetsOne (met : Option (Text × List Row)) : Type 0 where
+  pub name : Text
+  pub rows : List Row
+  pub is : met ≡ Some (name, rows)
+  pub known : is_subcommand name ≡ true
+  pub sound : bytes_eq name (codes "run") ≡ true → IsSoundRun rows
 
-abbrev level_by : Bool → Bool → Option Shape
-level_by is_run is_help = cond is_run (Some run_level) (cond is_help (Some help_level) None)
+abbrev level_by : Bool → Bool → Bool → Option Shape
+level_by is_run is_explain is_help =
+    cond is_run (Some run_level) (cond is_explain (Some explain_level) (cond is_help (Some help_level) None))
 
-met_run : (own : List Row) (stop : Option (Text × List Text)) → IsPastHelp whole.top stop → entered_fault whole stop ≡ []
-    → check_fault whole.top own (is_some (entered whole stop)) ≡ [] → MeetsRun (entered whole stop)
-met_run own None past under checked = some_kind _ _ checked
-met_run own (Some p) past under checked =
-    go (answers_to p.0 (label_of run_level)) (answers_to p.0 (label_of help_level)) (no_help p.0 (past refl)) under checked
+is_one : is_subcommand (codes "run") ≡ true
+unfolding clap_on_literals
+is_one = refl
+
+explain_is_one : is_subcommand (codes "explain") ≡ true
+unfolding clap_on_literals
+explain_is_one = refl
+
+explain_is_other : bytes_eq (codes "explain") (codes "run") ≡ false
+unfolding clap_on_literals
+explain_is_other = refl
+
+met_one : (own : List Row) (stop : Option (Text × List Text)) → IsPastHelp whole.top stop → entered_fault whole stop ≡ []
+    → check_fault whole.top own (is_some (entered whole stop)) ≡ [] → MeetsOne (entered whole stop)
+met_one own None past under checked = some_kind _ _ checked
+met_one own (Some p) past under checked =
+    go (answers_to p.0 (label_of run_level)) (answers_to p.0 (label_of explain_level))
+    (answers_to p.0 (label_of help_level)) (no_help p.0 (past refl)) under checked
   where
-    go : (is_run is_help : Bool) → (is_help ≡ true → ⊥)
-        → option_map_or (λ s. level_fault s [] nothing_held p.1 false []) (level_by is_run is_help) [] ≡ []
-        → check_fault whole.top own (is_some (option_map (λ s. rows_at s p.1) (level_by is_run is_help))) ≡ []
-        → MeetsRun (option_map (λ s. rows_at s p.1) (level_by is_run is_help))
-    go true is_help other e checked = ((rows_at run_level p.1).1, refl, sound_run p.1 e)
-    go false true other e checked = absurd (other refl)
-    go false false other e checked = some_kind _ _ checked
+    go : (is_run is_explain is_help : Bool) → (is_help ≡ true → ⊥)
+        → option_map_or (λ s. level_fault s [] nothing_held p.1 false []) (level_by is_run is_explain is_help) [] ≡ []
+        → check_fault whole.top own (is_some (option_map (λ s. rows_at s p.1) (level_by is_run is_explain is_help))) ≡ []
+        → MeetsOne (option_map (λ s. rows_at s p.1) (level_by is_run is_explain is_help))
+    go true is_explain is_help other e checked =
+        record { name = codes "run"; rows = (rows_at run_level p.1).1; is = refl; known = is_one; sound = λ _. sound_run p.1 e }
+    go false true is_help other e checked =
+        record { name = codes "explain"; rows = (rows_at explain_level p.1).1; is = refl; known = explain_is_one; sound = λ same. absurd (true≢false (sym same ∙ explain_is_other)) }
+    go false false true other e checked = absurd (other refl)
+    go false false false other e checked = some_kind _ _ checked
 
--- words with no fault name `run`
-pub meets_run : (words : List Text) → fault_of sqmod words ≡ [] → MeetsRun (subcommand_of sqmod words)
-meets_run words none =
+-- words with no fault name a subcommand
+pub meets_one : (words : List Text) → fault_of sqmod words ≡ [] → MeetsOne (subcommand_of sqmod words)
+meets_one words none =
     let given = argument_words sqmod words in
     let stop = stop_after whole.top.rules (names_of whole) given in
     let level = level_passed whole.top (names_of whole) given (is_some (entered whole stop)) (entered_fault whole stop) top_options none in
-    met_run (rows_after whole.top.rules (names_of whole) given) stop level.stop level.under level.checked
+    met_one (rows_after whole.top.rules (names_of whole) given) stop level.stop level.under level.checked
 
--- ---- what it was given
+-- ---- what `run` was given
 
 abbrev row_numbers : ValueParser
 row_numbers = Unsigned 1 MOST_ROW_NUMBERS

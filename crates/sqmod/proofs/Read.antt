@@ -5,16 +5,16 @@ use Rattle.std.specs.Prelude.{IfSome, codes, option_map, unwrap_or}
 use Rattle.std.specs.Option.{option_map_or}
 use Rattle.std.specs.Borrow.{Bor}
 use Rattle.std.specs.Str.Parse.{ParsesUnsigned}
-use Rattle.clap.specs.Matches.{ReadsOne, first_value, matched_of, one_text, raw_values}
+use Rattle.clap.specs.Matches.{ReadsOne, first_value, matched_of, one_text, raw_values, subcommand_name_of}
 use Rattle.clap.specs.Words.{App, HasMatchesOf, IsUnsignedIn, Row, Text, fault_of, first_of, is_simple, is_simple_and_free, one_of, rows_of}
 use Rattle.clap.specs.Words.{subcommand_of, subcommand_rows_of}
-use Rattle.clap.specs.declared.parser.matches.ArgMatches.{ArgMatches}
+use Rattle.clap.specs.declared.parser.matches.ArgMatches.{ArgMatches, out-ArgMatches}
 use Rattle.clap.specs.declared.parser.matches.Found.{Found as Entries}
 use Rattle.clap.proofs.WalkLemmas.{first_value-rows, one_text-rows, raw_values-rows}
 use Rattle.sq_store.specs.declared.store.TheConstants.{MOST_ROW_NUMBERS}
 use Rattle.sqmod.specs.declared.command_line.TheConstants.{USUAL_ROW_NUMBERS}
 use Rattle.sqmod.specs.CommandLine.{IsRun, files_of, number_of, row_numbers_of, sqmod}
-use Rattle.sqmod.proofs.Given.{IsSoundRun, is_free_command, is_simple_command, meets_run}
+use Rattle.sqmod.proofs.Given.{MeetsOne, is_free_command, is_simple_command, meets_one}
 
 -- the texts of an option, or none
 pub files_read : (f : Entries) (option : Text) (given : Option (Bor (List (Bor Text))))
@@ -51,31 +51,41 @@ pub script_read : (f : Entries) (given : Option (Bor Text)) → option_map (λ s
     → option_map (λ s. s.now) given ≡ first_of (codes "script") (rows_of f)
 script_read f given is = is ∙ first_value-rows f (codes "script")
 
--- what a parse that ended well found: words with no fault, which name `run`
+-- what a parse that ended well found: words with no fault, which name a subcommand
 pub record Found (words : List Text) (m : ArgMatches) : Type 0 where
   pub no_fault : fault_of sqmod words ≡ []
-  pub rows : List Row
-  pub named : subcommand_of sqmod words ≡ Some (codes "run", rows)
-  pub entered : subcommand_rows_of m ≡ Some (codes "run", rows)
-  pub sound : IsSoundRun rows
+  pub met : MeetsOne (subcommand_of sqmod words)
+  pub entered : subcommand_rows_of m ≡ Some (met.name, met.rows)
 
-pub run_found : (a : App) (words : List Text) (m : ArgMatches) → a ≡ sqmod → (is_simple_and_free a ≡ true → fault_of a words ≡ [])
+pub one_found : (a : App) (words : List Text) (m : ArgMatches) → a ≡ sqmod → (is_simple_and_free a ≡ true → fault_of a words ≡ [])
     → HasMatchesOf a words m
     → Found words m
-run_found a words m app none matches =
+one_found a words m app none matches =
     let no_fault : fault_of sqmod words ≡ [] = ap (λ x. fault_of x words) (sym app) ∙ none (ap is_simple_and_free app ∙ is_free_command) in
-    let run = meets_run words no_fault in
+    let met = meets_one words no_fault in
     record {
       no_fault = no_fault;
-      rows = run.0;
-      named = run.1;
-      entered = (matches (ap is_simple app ∙ is_simple_command)).1 ∙ (ap (λ x. subcommand_of x words) app ∙ run.1);
-      sound = run.2;
+      met = met;
+      entered = (matches (ap is_simple app ∙ is_simple_command)).1 ∙ (ap (λ x. subcommand_of x words) app ∙ met.is);
     }
 
--- the getter of the subcommand gives the rows of `run`
+-- the getter of the subcommand gives its rows
 pub rows_found : {P : Type 0} (words : List Text) (m : ArgMatches) (found : Found words m) (rows_at : P → List Row) (o : Option P) (p : P)
-    → option_map rows_at o ≡ option_map (λ run. run.1) (subcommand_rows_of m) → o ≡ Some p → found.rows ≡ rows_at p
+    → option_map rows_at o ≡ option_map (λ s. s.1) (subcommand_rows_of m) → o ≡ Some p → found.met.rows ≡ rows_at p
 rows_found words m found rows_at o p is some =
-    let given : Some found.rows ≡ option_map rows_at o = sym (ap (option_map (λ run. run.1)) found.entered) ∙ sym is in
-    ap (λ x. unwrap_or x found.rows) (given ∙ ap (option_map rows_at) some)
+    let given : Some found.met.rows ≡ option_map rows_at o = sym (ap (option_map (λ s. s.1)) found.entered) ∙ sym is in
+    ap (λ x. unwrap_or x found.met.rows) (given ∙ ap (option_map rows_at) some)
+
+mapped_twice : {A B C : Type 0} (f : A → B) (g : B → C) (o : Option A) → option_map (λ a. g (f a)) o ≡ option_map g (option_map f o)
+mapped_twice f g None = refl
+mapped_twice f g (Some a) = refl
+
+named_alike : (m : ArgMatches) → subcommand_name_of m ≡ option_map (λ s. s.0) (subcommand_rows_of m)
+named_alike m = mapped_twice _ (λ s. s.0) (out-ArgMatches m).subcommand
+
+-- and its name
+pub name_found : {P : Type 0} (words : List Text) (m : ArgMatches) (found : Found words m) (name_at : P → Text) (o : Option P) (p : P)
+    → option_map name_at o ≡ subcommand_name_of m → o ≡ Some p → found.met.name ≡ name_at p
+name_found words m found name_at o p is some =
+    let given : Some found.met.name ≡ option_map name_at o = sym (named_alike m ∙ ap (option_map (λ s. s.0)) found.entered) ∙ sym is in
+    ap (λ x. unwrap_or x found.met.name) (given ∙ ap (option_map name_at) some)

@@ -1,5 +1,6 @@
 -- The command line, and what it asks for.
-use Rattle.std.specs.Prelude.{ℕ, ◌≡◌, ◌<◌, List, [], length, map, codes, slice_get, Option, Some, ⊤, true, IfSome, IsSome, unwrap_or}
+use Rattle.std.specs.Prelude.{ℕ, ◌≡◌, ◌<◌, ◌≤◌, ◌||◌, Bool, List, [], length, map, codes, slice_get, Option, None, Some, ⊤, true, IfSome, IsSome, unwrap_or}
+use Rattle.std.specs.Str.{bytes_eq}
 use Rattle.std.specs.Borrow.{Bor}
 use Rattle.std.specs.Option.{option_map, option_map_or}
 use Rattle.std.specs.Str.Parse.{digits_value, without_leading_plus}
@@ -10,7 +11,10 @@ use Rattle.clap.specs.declared.builder.action.ArgAction.TheVariants.{Append, Set
 use Rattle.clap.specs.declared.builder.value_parser.ValueParser.TheVariants.{Unsigned}
 use Rattle.sq_store.specs.declared.store.TheConstants.{MOST_ROW_NUMBERS}
 use Rattle.sqmod.specs.declared.command_line.TheConstants.{USUAL_ROW_NUMBERS}
+use Rattle.sqmod.specs.declared.command_line.ExplainRequest.{ExplainRequest}
 use Rattle.sqmod.specs.declared.command_line.Request.{Request}
+use Rattle.sqmod.specs.declared.command_line.Task.{Task}
+use Rattle.sqmod.specs.declared.command_line.Task.TheVariants.{Run, Explain}
 use Rattle.sqmod.specs.declared.fault.Source.{Source}
 use Rattle.sqmod.specs.declared.fault.Source.TheVariants.{Schema, Module, Script}
 
@@ -57,10 +61,19 @@ run =
     let with_modules = with_rule with_schemas (files_rule (codes "module")) in
     with_rule (with_rule with_modules script_rule) rows_rule
 
--- `sqmod`, of which `run` is the only subcommand and must be given
+-- a word without a name of its own
+abbrev pub name_rule : Rule
+name_rule = record (new_rule (codes "name")) { value_names = 1; action = Some Set }
+
+-- `explain [NAME]`
+abbrev pub explain : App
+explain = with_rule (new_app (codes "explain")) name_rule
+
+-- `sqmod`, of which one of these subcommands must be given
 abbrev pub sqmod : App
 sqmod =
-    with_subcommand (on_top (λ shape. record shape { subcommand_required = true }) (new_app (codes "sqmod"))) run.top
+    let without = on_top (λ shape. record shape { subcommand_required = true }) (new_app (codes "sqmod")) in
+    with_subcommand (with_subcommand without run.top) explain.top
 
 -- ---- what `run` was given
 
@@ -87,7 +100,33 @@ pub record Makes (rows : List Row) (request : Request) : Type 0 where
   pub script : Some request.script.now ≡ first_of (codes "script") rows
   pub row_numbers : request.row_numbers ≡ row_numbers_of rows
 
--- the words are a call of `run`, and ask for this
-abbrev pub AskFor : List Text → Request → Type 0
-AskFor words request =
-    (rows : List Row) × (subcommand_of sqmod words ≡ Some (codes "run", rows)) × Makes rows request
+-- ---- what `explain` was given
+
+-- the request that `explain` makes of it
+abbrev pub MakesExplain : List Row → ExplainRequest → Type 0
+MakesExplain rows request = option_map (λ name. name.now) request.name ≡ first_of (codes "name") rows
+
+-- ---- what the words ask for
+
+abbrev pub is_subcommand : Text → Bool
+is_subcommand name = bytes_eq name (codes "run") || bytes_eq name (codes "explain")
+
+-- a subcommand that the program has, with what it may be given
+abbrev pub IsGiven : Text → List Row → Type 0
+IsGiven name rows =
+    (is_subcommand name ≡ true) × (bytes_eq name (codes "run") ≡ true → IsRun rows)
+
+-- the task that the subcommand of this name makes of what it was given
+abbrev pub MakesTask : Text → List Row → Task → Type 0
+MakesTask name rows (Run request) = (name ≡ codes "run") × Makes rows request
+MakesTask name rows (Explain request) = (name ≡ codes "explain") × MakesExplain rows request
+
+-- the words name a subcommand, and ask for this
+abbrev pub AskFor : List Text → Task → Type 0
+AskFor words task =
+    (name : Text) × (rows : List Row) × (subcommand_of sqmod words ≡ Some (name, rows)) × MakesTask name rows task
+
+-- the row numbers that a run is to have are not too many
+abbrev pub IsLimited : Task → Type 0
+IsLimited (Run request) = request.row_numbers ≤ MOST_ROW_NUMBERS
+IsLimited (Explain request) = ⊤

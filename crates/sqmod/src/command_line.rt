@@ -37,16 +37,41 @@ impl<'a> Request<'a> {
     }
 }
 
-/// Reads `sqmod run [--schema F]... [--module F]... --script F [--rows N]`.
-pub(crate) fn read_request<'a>(alloc: Global, words: &'a [String]) -> Result<Request<'a>, Error>
+/// What is to be explained: a status, a refusal or a fault. Without a name, the names are asked for.
+#[derive(Clone, Copy)]
+pub(crate) struct ExplainRequest<'a> {
+    pub(crate) name: Option<&'a str>,
+}
+
+/// What a command line asks for.
+#[derive(Drop)]
+pub(crate) enum Task<'a> {
+    Run(Request<'a>),
+    Explain(ExplainRequest<'a>),
+}
+
+/// Reads `sqmod run [--schema F]... [--module F]... --script F [--rows N]` or `sqmod explain [NAME]`.
+pub(crate) fn read_task<'a>(alloc: Global, words: &'a [String]) -> Result<Task<'a>, Error>
     ensures refused { FailsBy (fault_of spec.sqmod (map string_bytes words.now)) result }
     ensures asked { IfOk result (spec.AskFor (map string_bytes words.now)) }
-    ensures limited { IfOk result (λ request. request.row_numbers ≤ MOST_ROW_NUMBERS) }
+    ensures limited { IfOk result spec.IsLimited }
 {
     let command = sqmod_command(alloc)?;
     let matches = command.try_get_matches_from(words)?;
-    let (_, run) = matches.subcommand().unwrap();
-    Ok(request_of(alloc, run)?)
+    let (name, given) = matches.subcommand().unwrap();
+    Ok(task_of(alloc, name, given)?)
+}
+
+/// What a subcommand asks for, by what it was given.
+fn task_of<'a>(alloc: Global, name: &str, given: &ArgMatches<'a>) -> Result<Task<'a>, AllocError>
+    requires { spec.IsGiven name.now (rows_of (found_of given.now)) }
+    ensures made { IfOk result (spec.MakesTask name.now (rows_of (found_of given.now))) }
+    ensures limited { IfOk result spec.IsLimited }
+{
+    match name {
+        "run" => Ok(Task::Run(request_of(alloc, given)?)),
+        _ => Ok(Task::Explain(explain_request_of(given))),
+    }
 }
 
 /// The request that `run` makes of what it was given.
@@ -61,6 +86,15 @@ fn request_of<'a>(alloc: Global, run: &ArgMatches<'a>) -> Result<Request<'a>, Al
         script: run.get_str("script").unwrap(),
         row_numbers: row_numbers(run),
     })
+}
+
+/// The request that `explain` makes of what it was given.
+fn explain_request_of<'a>(explain: &ArgMatches<'a>) -> ExplainRequest<'a>
+    ensures { spec.MakesExplain (rows_of (found_of explain.now)) result }
+{
+    ExplainRequest {
+        name: explain.get_str("name"),
+    }
 }
 
 /// The files given by an option, in the order of the words.
@@ -87,10 +121,12 @@ fn sqmod_command<'a>(alloc: Global) -> Result<Command<'a>, AllocError>
     ensures app { IfOk result (λ command. app_of command ≡ spec.sqmod) }
 {
     let run = run_command(alloc)?;
+    let explain = explain_command(alloc)?;
     Command::new(alloc, "sqmod")
         .about("Processes SQL-92 schemas and modules, and runs a script of procedure calls")
         .subcommand_required(true)
-        .subcommand(run)
+        .subcommand(run)?
+        .subcommand(explain)
 }
 
 fn run_command<'a>(alloc: Global) -> Result<Command<'a>, AllocError>
@@ -103,6 +139,25 @@ fn run_command<'a>(alloc: Global) -> Result<Command<'a>, AllocError>
         .arg(files_option(alloc, "module", "A file with a module"))?
         .arg(script_option(alloc))?
         .arg(rows_option(alloc))
+}
+
+fn explain_command<'a>(alloc: Global) -> Result<Command<'a>, AllocError>
+    ensures app { IfOk result (λ command. app_of command ≡ spec.explain) }
+    ensures local { IfOk result (λ command. (fields_of command).has_globals ≡ false) }
+{
+    Command::new(alloc, "explain")
+        .about("Explains a status, a refusal or a fault, or lists their names")
+        .arg(name_argument(alloc))
+}
+
+fn name_argument<'a>(alloc: Global) -> Arg<'a>
+    ensures rule { rule_of result ≡ spec.name_rule }
+    ensures local { result.global ≡ false }
+{
+    Arg::new(alloc, "name")
+        .value_name("NAME")
+        .help("An SQLSTATE, or a name that sqmod prints")
+        .action(ArgAction::Set)
 }
 
 /// An option that may be given again and again.

@@ -7,12 +7,14 @@ ghost use Rattle.sqmod.specs.Fault.{status_of};
 ghost use Rattle.sqmod.specs.Request.{NamesFile};
 
 mod command_line;
+mod explain;
 mod fault;
 mod request;
 mod texts;
 
 use clap::error::ErrorKind;
-use command_line::{Request, read_request};
+use command_line::{Request, Task, read_task};
+use explain::status_of_explain;
 use fault::{Fault, NO_MEMORY, REFUSED};
 use sq_store::MOST_ROW_NUMBERS;
 use std::process::ExitCode;
@@ -38,8 +40,9 @@ fn words<R: Env + AllocGlobal>(rt: &R) -> io::Result<Vec<String>> {
 }
 
 fn status_of_words<R: Files + Print + Eprint + AllocGlobal>(rt: &R, words: &[String]) -> u8 {
-    match read_request(rt.alloc(), words) {
-        Ok(request) => status_of_request(rt, &request),
+    match read_task(rt.alloc(), words) {
+        Ok(Task::Run(request)) => status_of_request(rt, &request),
+        Ok(Task::Explain(request)) => status_of_explain(rt, request),
         Err(error) => refuse_words(rt, &error),
     }
 }

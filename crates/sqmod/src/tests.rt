@@ -2,7 +2,7 @@
 ghost use Rattle.std.specs.Prelude.{IsTrue};
 ghost use Rattle.sqmod.specs.Request.{NamesFile};
 
-use crate::command_line::{Request, read_request};
+use crate::command_line::{Request, Task, read_task};
 use crate::fault::{Fault, Source};
 use crate::recorder::Recorder;
 use crate::texts::read_texts;
@@ -48,13 +48,17 @@ const TAKEN: [(&str, u64); 5] = [
 /// Whether a line asks for the schemas `a` and `b`, the module `m`, the script `c` and this many rows.
 fn asks_for(alloc: Global, line: &str, row_numbers: u64) -> Result<bool, Fail> {
     let words = words_of(alloc, line)?;
-    let request = read_request(alloc, words.as_slice())?;
-    Ok(
-        request.schemas.as_slice() == ["a", "b"].as_slice()
-            && request.modules.as_slice() == ["m"].as_slice()
-            && request.script == "c"
-            && request.row_numbers == row_numbers,
-    )
+    match read_task(alloc, words.as_slice())? {
+        Task::Run(request) => Ok(is_of_files(&request, row_numbers)),
+        _ => Ok(false),
+    }
+}
+
+fn is_of_files(request: &Request<'_>, row_numbers: u64) -> bool {
+    request.schemas.as_slice() == ["a", "b"].as_slice()
+        && request.modules.as_slice() == ["m"].as_slice()
+        && request.script == "c"
+        && request.row_numbers == row_numbers
 }
 
 #[test]
@@ -65,8 +69,24 @@ fn reads_what_is_asked(rt: HostRuntime) -> Result<(), Fail> {
     Ok(())
 }
 
+/// Whether a line asks what this name means, or for the names.
+fn asks_to_explain(alloc: Global, line: &str, name: Option<&str>) -> Result<bool, Fail> {
+    let words = words_of(alloc, line)?;
+    match read_task(alloc, words.as_slice())? {
+        Task::Explain(request) => Ok(request.name == name),
+        _ => Ok(false),
+    }
+}
+
+#[test]
+fn reads_what_is_explained(rt: HostRuntime) -> Result<(), Fail> {
+    assert!(rt; asks_to_explain(rt.alloc(), "sqmod explain 22001", Some("22001"))?);
+    assert!(rt; asks_to_explain(rt.alloc(), "sqmod explain", None)?);
+    Ok(())
+}
+
 /// Lines that are refused, with what is printed.
-const REFUSED: [(&str, &str); 10] = [
+const REFUSED: [(&str, &str); 11] = [
     (
         "sqmod run",
         "error: the following required arguments were not provided:
@@ -126,7 +146,7 @@ For more information, try '--help'.
     (
         "sqmod",
         "error: 'sqmod' requires a subcommand but one was not provided
-  [subcommands: run, help]
+  [subcommands: run, explain, help]
 
 Usage: sqmod <COMMAND>
 
@@ -140,8 +160,9 @@ For more information, try '--help'.
 Usage: sqmod <COMMAND>
 
 Commands:
-  run   Runs a script
-  help  Print this message or the help of the given subcommand(s)
+  run      Runs a script
+  explain  Explains a status, a refusal or a fault, or lists their names
+  help     Print this message or the help of the given subcommand(s)
 
 Options:
   -h, --help  Print help
@@ -161,13 +182,26 @@ Options:
   -h, --help        Print help
 ",
     ),
+    (
+        "sqmod explain --help",
+        "Explains a status, a refusal or a fault, or lists their names
+
+Usage: sqmod explain [NAME]
+
+Arguments:
+  [NAME]  An SQLSTATE, or a name that sqmod prints
+
+Options:
+  -h, --help  Print help
+",
+    ),
 ];
 
 /// Whether a line is refused with status 2 and this text.
 fn is_refused(alloc: Global, line: &str, text: &str) -> Result<bool, Fail> {
     let words = words_of(alloc, line)?;
     let recorder = Recorder::new(alloc);
-    match read_request(alloc, words.as_slice()) {
+    match read_task(alloc, words.as_slice()) {
         Ok(_) => Ok(false),
         Err(error) => Ok(refuse_words(&recorder, &error) == 2 && recorder.has_printed(text)),
     }
@@ -216,7 +250,9 @@ fn is_read_up_to<R: Files + AllocGlobal>(
     fault: Option<Fault>,
 ) -> Result<bool, Fail> {
     let words = words_of(rt.alloc(), line)?;
-    let request = read_request(rt.alloc(), words.as_slice())?;
+    let Task::Run(request) = read_task(rt.alloc(), words.as_slice())? else {
+        return Ok(false);
+    };
     match read_texts(rt, &request) {
         Ok(_) => Ok(fault.is_none()),
         Err(unread) => Ok(fault == Some(unread)),

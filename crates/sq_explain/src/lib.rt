@@ -1,0 +1,8 @@
+//! What each status, refusal and fault means, with a small text that shows it: docs/STATUSES.md, name by name.
+#![tactic(auto)]
+
+mod entries;
+mod explain;
+
+pub use entries::text_of;
+pub use explain::{Entry, all_entries, named, names_of, nearest};

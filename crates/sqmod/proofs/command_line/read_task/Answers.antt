@@ -1,0 +1,43 @@
+use Rattle.std.proofs.Common.{List, map, string_bytes, subst, sym}
+use Rattle.clap.specs.Words.{Row, Text, app_of, found_of, rows_of}
+use Rattle.sqmod.specs.CommandLine.{IsGiven, MakesTask}
+use Rattle.sqmod.proofs.Given.{rows_in_range, script_there}
+use Rattle.sqmod.proofs.Read.{name_found, one_found, rows_found}
+use Rattle.sqmod.proofs.command_line.read_task.Goals as goal
+
+pub task_of-requires : goal.task_of-requires
+task_of-requires c =
+    let words : List Text = map string_bytes c.args.words.now in
+    let parse = c.in_ok-matches.ensures in
+    let found = one_found (app_of c.in_ok-command.command) words c.in_ok-matches.matches
+    c.in_ok-command.ensures.app parse.kinds parse.matches in
+    let rows = rows_found words c.in_ok-matches.matches found (λ p. rows_of (found_of p.1.now))
+    c.subcommand.result c.unwrap.result c.subcommand.ensures.rows c.unwrap.ensures in
+    let name = name_found words c.in_ok-matches.matches found (λ p. p.0.now)
+    c.subcommand.result c.unwrap.result c.subcommand.ensures.name c.unwrap.ensures in
+    let met = found.met in
+    subst (λ n. IsGiven n (rows_of (found_of c.unwrap.result.1.now))) name
+    (subst (IsGiven met.name) rows (met.known, λ is. let sound = met.sound is in (script_there met.rows sound, rows_in_range met.rows sound)))
+
+pub returns-clause-refused : goal.returns-clause-refused
+returns-clause-refused c =
+    let words : List Text = map string_bytes c.args.words.now in
+    let parse = c.in_ok-matches.ensures in
+    let found = one_found (app_of c.in_ok-command.command) words c.in_ok-matches.matches
+    c.in_ok-command.ensures.app parse.kinds parse.matches in
+    found.no_fault
+
+pub returns-clause-asked : goal.returns-clause-asked
+returns-clause-asked c =
+    let words : List Text = map string_bytes c.args.words.now in
+    let parse = c.in_ok-matches.ensures in
+    let found = one_found (app_of c.in_ok-command.command) words c.in_ok-matches.matches
+    c.in_ok-command.ensures.app parse.kinds parse.matches in
+    let rows = rows_found words c.in_ok-matches.matches found (λ p. rows_of (found_of p.1.now))
+    c.subcommand.result c.unwrap.result c.subcommand.ensures.rows c.unwrap.ensures in
+    let name = name_found words c.in_ok-matches.matches found (λ p. p.0.now)
+    c.subcommand.result c.unwrap.result c.subcommand.ensures.name c.unwrap.ensures in
+    let met = found.met in
+    let task = c.in_ok-task_of.field-0 in
+    let made = subst (λ n. MakesTask n met.rows task) (sym name) (subst (λ (given : List Row). MakesTask c.unwrap.result.0.now given task) (sym rows) c.in_ok-task_of.ensures.made) in
+    (met.name, met.rows, met.is, made)

@@ -1,0 +1,76 @@
+//! What a status, a refusal or a fault means, on standard output.
+use crate::command_line::ExplainRequest;
+use crate::fault::{FAILED, NO_MEMORY, REFUSED};
+use sq_explain::{Entry, all_entries, named, names_of, nearest, text_of};
+use std::alloc::{AllocError, Global};
+use std::io;
+
+/// Prints what the name that is asked for means, or all names: the status to end with.
+pub(crate) fn status_of_explain<R: Print + Eprint + AllocGlobal>(
+    rt: &R,
+    request: ExplainRequest<'_>,
+) -> u8 {
+    let entries = all_entries();
+    match request.name {
+        Some(name) => explain(rt, entries, name),
+        None => printed(rt, print_names(rt, entries)),
+    }
+}
+
+fn explain<R: Print + Eprint + AllocGlobal>(rt: &R, entries: &[Entry], name: &str) -> u8 {
+    match named(entries, name) {
+        Some(entry) => printed(rt, rt.print(text_of(entry.text))),
+        None => refuse_name(rt, entries, name),
+    }
+}
+
+/// Prints the names of each entry in a line.
+fn print_names<R: Print>(rt: &R, entries: &[Entry]) -> io::Result<()> {
+    for entry in entries {
+        match entry.status {
+            Some(status) => println!(rt; "{} {status}", entry.name)?,
+            None => println!(rt; "{}", entry.name)?,
+        }
+    }
+    Ok(())
+}
+
+/// The status for what was printed.
+fn printed<R: Eprint>(rt: &R, printed: io::Result<()>) -> u8 {
+    match printed {
+        Ok(()) => 0,
+        Err(_) => {
+            let _ = eprintln!(rt; "sqmod: output fault");
+            FAILED
+        }
+    }
+}
+
+/// Says that there is no such name, and which are nearest.
+fn refuse_name<R: Eprint + AllocGlobal>(rt: &R, entries: &[Entry], name: &str) -> u8 {
+    match near_names(rt.alloc(), entries, name) {
+        Ok(near) => {
+            let _ = eprintln!(rt; "sqmod: {name} is no status, refusal or fault; the nearest are:");
+            for name in near.as_slice() {
+                let _ = eprintln!(rt; "  {name}");
+            }
+            REFUSED
+        }
+        Err(_) => {
+            let _ = eprintln!(rt; "sqmod: want of memory after 0 items");
+            NO_MEMORY
+        }
+    }
+}
+
+/// The names nearest to one that there isn't.
+fn near_names(
+    alloc: Global,
+    entries: &[Entry],
+    name: &str,
+) -> Result<Vec<&'static str>, AllocError> {
+    let names = names_of(alloc, entries)?;
+    let near = nearest(alloc, names.as_slice(), name);
+    drop(names);
+    near
+}
