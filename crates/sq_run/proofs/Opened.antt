@@ -1,10 +1,11 @@
 -- What schema and module texts open, step by step.
-use Rattle.std.proofs.Common.{◌≡◌, ◌∙◌, ℕ, List, Result, Ok, Err, subst, sym}
+use Rattle.std.proofs.Common.{◌≡◌, ◌∙◌, ℕ, List, None, Result, Ok, Err, subst, sym}
 use Rattle.std.specs.Prelude.{IfOk}
 use Rattle.sq_tree.specs.Schema.{schema_tokens}
 use Rattle.sq_tree.specs.Module.{module_tokens}
 use Rattle.sq_tree.specs.declared.module.ModuleText.{ModuleText}
 use Rattle.sq_tree.specs.declared.schema.SchemaText.{SchemaText}
+use Rattle.sq_rules.specs.ModuleRefusal.{first_module_refusal}
 use Rattle.sq_model.specs.Report.{Bytes}
 use Rattle.sq_catalog.specs.Catalog.{Catalog, declared_tables, known}
 use Rattle.sq_catalog.specs.Declares.{Declares}
@@ -22,10 +23,11 @@ defined_if schemas trees (Err fault) spelled tables declares = tables
 
 pub holds_if : (row_numbers : ℕ) (c : Catalog) (modules : List Bytes) (trees : List ModuleText) (answer : Result Session TextFault) → AllSpell module_tokens modules trees
     → IfOk answer (λ s. s.tables ≡ c.tables) → IfOk answer (λ s. s.schemas ≡ schemas_of c) → IfOk answer (λ s. names_of s.procedures ≡ declared_procedures trees)
-    → IfOk answer (λ s. AreOfModules c.bases (known c) trees s.procedures) → IfOk answer (IsStart row_numbers) → IfOk answer (Holds row_numbers c modules)
-holds_if row_numbers c modules trees (Ok s) spelled tables schemas procedures written start =
-    record { trees = trees; spelled = spelled; tables_are = tables; schemas_are = schemas; procedures = procedures; written = written; start = start }
-holds_if row_numbers c modules trees (Err fault) spelled tables schemas procedures written start = tables
+    → IfOk answer (λ s. AreOfModules c.bases (known c) trees s.procedures) → IfOk answer (λ s. first_module_refusal trees ≡ None) → IfOk answer (IsStart row_numbers)
+    → IfOk answer (Holds row_numbers c modules)
+holds_if row_numbers c modules trees (Ok s) spelled tables schemas procedures written admitted start =
+    record { trees = trees; spelled = spelled; tables_are = tables; schemas_are = schemas; procedures = procedures; written = written; admitted = admitted; start = start }
+holds_if row_numbers c modules trees (Err fault) spelled tables schemas procedures written admitted start = tables
 
 pub opened_by : (row_numbers : ℕ) (schemas modules : List Bytes) (c : Catalog) (s : Session) → Defined schemas c → Holds row_numbers c modules s → Opened row_numbers schemas modules s
 opened_by row_numbers schemas modules c s defined holds = record {
@@ -39,6 +41,7 @@ opened_by row_numbers schemas modules c s defined holds = record {
     known = known c;
     declares = subst (λ (x : Schemas). Declares defined.trees (known c) x.bases x.views) (sym holds.schemas_are) defined.declares;
     written = subst (λ (x : Schemas). AreOfModules x.bases (known c) holds.trees s.procedures) (sym holds.schemas_are) holds.written;
+    admitted = holds.admitted;
     start = holds.start;
   };
 }

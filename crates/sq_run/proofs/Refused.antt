@@ -14,11 +14,16 @@ use Rattle.sq_tree.specs.Module.{module_tokens, module_depth}
 use Rattle.sq_tree.specs.Script.{script_tokens, script_depth}
 use Rattle.sq_model.specs.Report.{Bytes}
 use Rattle.sq_session.specs.Session.{Session}
-use Rattle.sq_run.specs.Fault.{IsMisspelled, IsOfMeaning, IsOpeningFault, IsParseFault, IsRefusalIfAny, IsRefusedText, IsScriptFault, IsScriptRefusal, IsUnread, SomeRefused, run_fault}
-use Rattle.sq_run.specs.Refused.{Matter, Tokens, Grammar, Depth, Meaning, IsRefused, IsRefusedScript, OneRefused, matter}
+use Rattle.sq_rules.specs.ModuleRefusal.{first_module_refusal}
+use Rattle.sq_module.specs.FirstRefusal.{refusal_of}
+use Rattle.sq_module.specs.declared.refusal.ModuleRefusal.{ModuleRefusal}
+use Rattle.sq_tree.specs.declared.module.ModuleText.{ModuleText}
+use Rattle.sq_run.specs.Fault.{IsMisspelled, IsModuleFault, IsOfMeaning, IsOfSpelling, IsOpeningFault, IsParseFault, IsRefusalIfAny, IsRefusedText, IsScriptFault, IsScriptRefusal, IsUnread, SomeRefused, run_fault}
+use Rattle.sq_run.specs.Refused.{Matter, Tokens, Grammar, Depth, Meaning, IsOfModules, IsRefused, IsRefusedScript, OneRefused, matter, module_fault}
 use Rattle.sq_run.specs.Run.{AllSpell, SomeTrees, Spells, texts}
 use Rattle.sq_run.specs.declared.refusal.Refusal.{Refusal}
 use Rattle.sq_run.specs.declared.refusal.RefusalName.{RefusalName}
+use Rattle.sq_run.specs.declared.refusal.RefusalName.TheVariants as what
 use Rattle.sq_run.specs.declared.refusal.RunFault.TheVariants as run
 use Rattle.sq_run.specs.declared.texts.TextFault.{TextFault}
 use Rattle.sq_run.specs.declared.texts.TextFault.TheVariants.{NoMemory, Refused}
@@ -115,6 +120,35 @@ pub named : (number : ℕ) (what : RefusalName) (fault : TextFault) → matter w
 named number what NoMemory e is = tt
 named number what (Refused refusal) e is = (is.0, ap matter is.1 ∙ e)
 
+-- ---- modules
+
+misspelled_only : {T : Type 0} (tokens_of : T → List Lexeme) (depth_of : T → ℕ) (text : Bytes) (refusal : Refusal) (m : Matter) → IsMisspelled tokens_of depth_of text refusal m → m ≡ Meaning → ⊥
+misspelled_only tokens_of depth_of text refusal m is e = subst (IsMisspelled tokens_of depth_of text refusal) e is
+
+-- a text that has no tree is not refused for what it means
+pub of_spelling : {T : Type 0} (tokens_of : T → List Lexeme) (depth_of : T → ℕ) (number : ℕ) (text : Bytes) (fault : TextFault) → IsRefusedText number tokens_of depth_of text fault → IsOfSpelling fault
+of_spelling tokens_of depth_of number text NoMemory is = tt
+of_spelling tokens_of depth_of number text (Refused refusal) is = misspelled_only tokens_of depth_of text refusal (matter refusal.what) is.1
+
+by_matter : (modules : List Bytes) (refusal : Refusal) (m : Matter) → (m ≡ Meaning → ⊥) → IsOfModules modules refusal m
+by_matter modules refusal Tokens h = tt
+by_matter modules refusal Grammar h = tt
+by_matter modules refusal Depth h = tt
+by_matter modules refusal Meaning h = absurd (h refl)
+
+-- it says nothing of what modules mean
+pub spelling_only : (modules : List Bytes) (fault : TextFault) → IsOfSpelling fault → IsModuleFault modules fault
+spelling_only modules NoMemory h = tt
+spelling_only modules (Refused refusal) h = by_matter modules refusal (matter refusal.what) h
+
+-- a module that the definitions refuse first
+pub first_of_modules : (modules : List Bytes) (trees : List ModuleText) (r : ModuleRefusal) (fault : TextFault) → AllSpell module_tokens modules trees → first_module_refusal trees ≡ Some (refusal_of r)
+    → IsRefusalIfAny r.text (what.Module r.name) fault → IsModuleFault modules fault
+first_of_modules modules trees r NoMemory spelled first is = tt
+first_of_modules modules trees r (Refused refusal) spelled first is =
+    subst (IsOfModules modules refusal) (sym (ap matter is.1))
+    (record { trees = trees; spelled = spelled; found = refusal_of r; first = first; text = is.0; what = ap module_fault is.1 })
+
 -- ---- the script
 
 misspelled_is_refused : (s : Session) (script : Bytes) (refusal : Refusal) (m : Matter)
@@ -135,9 +169,9 @@ of_schemas schemas modules NoMemory is = refl
 of_schemas schemas modules (Refused refusal) is = is
 
 pub of_modules : (schemas modules : List Bytes) (fault : TextFault) → SomeTrees schema_tokens schemas → SomeRefused module_tokens module_depth modules fault
-    → IsOpeningFault schemas modules (run_fault run.ModuleRefused fault)
-of_modules schemas modules NoMemory s is = refl
-of_modules schemas modules (Refused refusal) s is = (is, s)
+    → IsModuleFault modules fault → IsOpeningFault schemas modules (run_fault run.ModuleRefused fault)
+of_modules schemas modules NoMemory s is first = refl
+of_modules schemas modules (Refused refusal) s is first = (is, s, first)
 
 pub of_script : (s : Session) (script : Bytes) (fault : TextFault) → IsScriptRefusal s script fault → IsScriptFault s script (run_fault run.ScriptRefused fault)
 of_script s script NoMemory is = refl

@@ -132,7 +132,7 @@ opening_wrote row_numbers schemas modules script taken (NoMemory (suc items)) is
 
 pub opening_refused : (row_numbers : ℕ) (schemas modules : List Bytes) (script : Bytes) (fault : RunFault) → IsOpeningFault schemas modules fault → RefusedText row_numbers schemas modules script fault
 opening_refused row_numbers schemas modules script (SchemaRefused refusal) is = is
-opening_refused row_numbers schemas modules script (ModuleRefused refusal) is = is.0
+opening_refused row_numbers schemas modules script (ModuleRefused refusal) is = (is.0, is.2)
 opening_refused row_numbers schemas modules script (ScriptRefused refusal) is = absurd is
 opening_refused row_numbers schemas modules script (Write bytes) is = tt
 opening_refused row_numbers schemas modules script (NoMemory items) is = tt

@@ -20,7 +20,7 @@ use Rattle.sq_run.specs.declared.refusal.RunFault.{RunFault}
 use Rattle.sq_run.specs.declared.refusal.RunFault.TheVariants as run
 use Rattle.sq_run.specs.declared.texts.TextFault.{TextFault}
 use Rattle.sq_run.specs.declared.texts.TextFault.TheVariants.{NoMemory, Refused}
-use Rattle.sq_run.specs.Refused.{Matter, Tokens, Grammar, Depth, Meaning, matter, IsFirstFault, IsFirstItem, IsRefused, IsRefusedScript, IsTokenOf, OneRefused, StandsAt}
+use Rattle.sq_run.specs.Refused.{Matter, Tokens, Grammar, Depth, Meaning, matter, IsFirstFault, IsFirstItem, IsOfModules, IsRefused, IsRefusedScript, IsTokenOf, OneRefused, StandsAt}
 use Rattle.sq_run.specs.Run.{SomeTrees}
 
 -- a refusal of the text of this number, by this name
@@ -102,6 +102,16 @@ abbrev pub SomeRefused : {T : Type 0} → (T → List Lexeme) → (T → ℕ) �
 SomeRefused tokens_of depth_of all NoMemory = ⊤
 SomeRefused tokens_of depth_of all (Refused refusal) = OneRefused tokens_of depth_of all refusal
 
+-- it is not for what a text means
+abbrev pub IsOfSpelling : TextFault → Type 0
+IsOfSpelling NoMemory = ⊤
+IsOfSpelling (Refused refusal) = matter refusal.what ≡ Meaning → ⊥
+
+-- what a fault says of what these modules mean
+abbrev pub IsModuleFault : List Bytes → TextFault → Type 0
+IsModuleFault modules NoMemory = ⊤
+IsModuleFault modules (Refused refusal) = IsOfModules modules refusal (matter refusal.what)
+
 -- what a fault says of a script whose tree a session does not take
 abbrev pub IsUntaken : Session → Bytes → TextFault → Type 0
 IsUntaken start script NoMemory = ⊤
@@ -115,7 +125,8 @@ IsScriptRefusal start script (Refused refusal) = (refusal.text ≡ 0) × IsRefus
 -- what a fault says of the schemas and modules of which no session is made
 abbrev pub IsOpeningFault : List Bytes → List Bytes → RunFault → Type 0
 IsOpeningFault schemas modules (run.SchemaRefused refusal) = OneRefused schema_tokens schema_depth schemas refusal
-IsOpeningFault schemas modules (run.ModuleRefused refusal) = OneRefused module_tokens module_depth modules refusal × SomeTrees schema_tokens schemas
+IsOpeningFault schemas modules (run.ModuleRefused refusal) =
+    OneRefused module_tokens module_depth modules refusal × SomeTrees schema_tokens schemas × IsOfModules modules refusal (matter refusal.what)
 IsOpeningFault schemas modules (run.ScriptRefused refusal) = ⊥
 IsOpeningFault schemas modules (run.Write bytes) = ⊥
 IsOpeningFault schemas modules (run.NoMemory items) = items ≡ 0

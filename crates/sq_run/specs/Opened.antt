@@ -1,9 +1,10 @@
 -- What schema and module texts open.
-use Rattle.std.specs.Prelude.{◌≡◌, ℕ, List}
+use Rattle.std.specs.Prelude.{◌≡◌, ℕ, List, None}
 use Rattle.sq_tree.specs.Schema.{schema_tokens}
 use Rattle.sq_tree.specs.Module.{module_tokens}
 use Rattle.sq_tree.specs.declared.module.ModuleText.{ModuleText}
 use Rattle.sq_tree.specs.declared.schema.SchemaText.{SchemaText}
+use Rattle.sq_rules.specs.ModuleRefusal.{first_module_refusal}
 use Rattle.sq_model.specs.Report.{Bytes}
 use Rattle.sq_catalog.specs.Catalog.{Catalog, declared_tables, known}
 use Rattle.sq_catalog.specs.Declares.{Declares}
@@ -27,6 +28,7 @@ pub record Holds (row_numbers : ℕ) (c : Catalog) (modules : List Bytes) (s : S
   pub schemas_are : s.schemas ≡ schemas_of c
   pub procedures : names_of s.procedures ≡ declared_procedures trees
   pub written : AreOfModules c.bases (known c) trees s.procedures
+  pub admitted : first_module_refusal trees ≡ None
   pub start : IsStart row_numbers s
 
 -- a session of trees that the texts spell

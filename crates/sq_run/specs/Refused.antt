@@ -1,5 +1,5 @@
 -- What the refusal of a text says of the text.
-use Rattle.std.specs.Prelude.{◌≡◌, ℕ, ◌<◌, List, slice_get, take, Some, Ok, Err, ⊤}
+use Rattle.std.specs.Prelude.{◌≡◌, ℕ, ◌<◌, List, slice_get, take, Option, None, Some, Ok, Err, ⊤}
 use Rattle.std.specs.List.{All}
 use Rattle.sq_grammar.specs.declared.brackets.TheConstants.{MAX_DEPTH}
 use Rattle.sq_lex.specs.declared.fault.LexFault.{LexFault}
@@ -11,16 +11,20 @@ use Rattle.sq_tree.specs.Schema.{schema_tokens, schema_depth}
 use Rattle.sq_tree.specs.Module.{module_tokens, module_depth}
 use Rattle.sq_tree.specs.Script.{script_tokens, script_depth}
 use Rattle.sq_tree.specs.Starts.{script_item_start}
+use Rattle.sq_tree.specs.declared.module.ModuleText.{ModuleText}
 use Rattle.sq_tree.specs.declared.script.ScriptItem.{ScriptItem}
 use Rattle.sq_tree.specs.declared.script.ScriptText.{ScriptText}
+use Rattle.sq_rules.specs.ModuleRefusal.{ModuleRefusal as Found, first_module_refusal}
+use Rattle.sq_rules.specs.declared.refusal.ModuleFault.{ModuleFault}
 use Rattle.sq_model.specs.Report.{Bytes}
+use Rattle.sq_module.specs.FirstRefusal.{fault_of}
 use Rattle.sq_session.specs.Session.{Session}
 use Rattle.sq_run.specs.Items.{IsTaken, item_fault}
 use Rattle.sq_run.specs.Opened.{Opened}
-use Rattle.sq_run.specs.Run.{SomeTrees, Spells}
+use Rattle.sq_run.specs.Run.{AllSpell, SomeTrees, Spells}
 use Rattle.sq_run.specs.declared.refusal.Refusal.{Refusal}
 use Rattle.sq_run.specs.declared.refusal.RefusalName.{RefusalName}
-use Rattle.sq_run.specs.declared.refusal.RefusalName.TheVariants.{Lexical, TooDeep, Unexpected, EndOfText}
+use Rattle.sq_run.specs.declared.refusal.RefusalName.TheVariants.{Lexical, Module, TooDeep, Unexpected, EndOfText}
 use Rattle.sq_run.specs.declared.refusal.RunFault.{RunFault}
 use Rattle.sq_run.specs.declared.refusal.RunFault.TheVariants.{SchemaRefused, ModuleRefused, ScriptRefused, Write, NoMemory}
 
@@ -68,6 +72,27 @@ pub record OneRefused {T : Type 0} (tokens_of : T → List Lexeme) (depth_of : T
   pub refused : IsRefused tokens_of depth_of text refusal (matter refusal.what)
   pub before : SomeTrees tokens_of (read_before (matter refusal.what) refusal.text all)
 
+-- ---- modules
+
+-- the fault of a module that a refusal is named for
+abbrev pub module_fault : RefusalName → Option ModuleFault
+module_fault (Module name) = Some (fault_of name)
+module_fault _ = None
+
+-- the first refusal of the modules that these texts spell, by the definitions: its text and its fault
+pub record IsFirstModule (modules : List Bytes) (refusal : Refusal) : Type 0 where
+  pub trees : List ModuleText
+  pub spelled : AllSpell module_tokens modules trees
+  pub found : Found
+  pub first : first_module_refusal trees ≡ Some found
+  pub text : refusal.text ≡ found.text
+  pub what : module_fault refusal.what ≡ Some found.fault
+
+-- what a refusal says of what the modules mean, if it is one for that
+abbrev pub IsOfModules : List Bytes → Refusal → Matter → Type 0
+IsOfModules modules refusal Meaning = IsFirstModule modules refusal
+IsOfModules modules refusal _ = ⊤
+
 -- ---- the script
 
 -- the line and the column of the first byte of a token
@@ -109,11 +134,12 @@ pub record ScriptIsRefused (row_numbers : ℕ) (schemas modules : List Bytes) (s
 -- ---- the texts of a run
 
 -- A text is refused for its tokens only with the first fault of its reading, for its grammar only where no tree spells it, and for its depth only where
--- each tree that spells it is deeper than MAX_DEPTH brackets. Those of its kind before it spell trees. The script is refused for what it means only at its
--- first item that has a fault, and for that.
+-- each tree that spells it is deeper than MAX_DEPTH brackets. Those of its kind before it spell trees. For what it means a module is refused only where the
+-- definitions refuse it first, for the fault that they find, and the script only at its first item that has a fault, and for that.
 abbrev pub RefusedText : ℕ → List Bytes → List Bytes → Bytes → RunFault → Type 0
 RefusedText row_numbers schemas modules script (SchemaRefused refusal) = OneRefused schema_tokens schema_depth schemas refusal
-RefusedText row_numbers schemas modules script (ModuleRefused refusal) = OneRefused module_tokens module_depth modules refusal
+RefusedText row_numbers schemas modules script (ModuleRefused refusal) =
+    OneRefused module_tokens module_depth modules refusal × IsOfModules modules refusal (matter refusal.what)
 RefusedText row_numbers schemas modules script (ScriptRefused refusal) = ScriptIsRefused row_numbers schemas modules script refusal
 RefusedText row_numbers schemas modules script (Write bytes) = ⊤
 RefusedText row_numbers schemas modules script (NoMemory items) = ⊤

@@ -1,5 +1,5 @@
 -- What the texts of a run spell, and what a session does with them.
-use Rattle.std.specs.Prelude.{◌≡◌, ℕ, List, [], ◌∷◌, length, map, Ok, Vec, ⊤}
+use Rattle.std.specs.Prelude.{◌≡◌, ℕ, List, [], ◌∷◌, length, map, None, Ok, Vec, ⊤}
 use Rattle.std.specs.List.{All}
 use Rattle.std.specs.declared.alloc.Global.{Global}
 use Rattle.sq_lex.specs.declared.lexeme.Lexeme.{Lexeme}
@@ -13,6 +13,7 @@ use Rattle.sq_tree.specs.declared.module.ModuleText.{ModuleText}
 use Rattle.sq_tree.specs.declared.schema.SchemaText.{SchemaText}
 use Rattle.sq_tree.specs.declared.script.ScriptText.{ScriptText}
 use Rattle.sq_store.specs.Content.{no_rows}
+use Rattle.sq_rules.specs.ModuleRefusal.{first_module_refusal}
 use Rattle.sq_model.specs.Report.{Bytes}
 use Rattle.sq_model.specs.Run.{item_of_script}
 use Rattle.sq_bound.specs.Known.{KnownTables}
@@ -53,13 +54,15 @@ pub record IsStart (row_numbers : ℕ) (s : Session) : Type 0 where
   pub closed : AreClosed s.state.cursors
 
 -- a session of these trees, as it is before the first call: its tables and procedures are those that they declare, in their order, its
--- base tables and views are those that are written, and the procedures are bound as they are written, where names of tables mean these
+-- base tables and views are those that are written, and the procedures are bound as they are written, where names of tables mean these.
+-- The definitions refuse none of the modules.
 pub record IsOpened (row_numbers : ℕ) (schemas : List SchemaText) (modules : List ModuleText) (s : Session) : Type 0 where
   pub tables : s.tables ≡ declared_tables schemas
   pub procedures : names_of s.procedures ≡ declared_procedures modules
   pub known : KnownTables
   pub declares : Declares schemas known s.schemas.bases s.schemas.views
   pub written : AreOfModules s.schemas.bases known modules s.procedures
+  pub admitted : first_module_refusal modules ≡ None
   pub start : IsStart row_numbers s
 
 -- Trees that the texts spell, a session of them as it is before the first call, which takes each item of the script, and what it is asked for: these

@@ -45,8 +45,9 @@ pub fn run<S: Store, W: Out>(
 
     // A text is refused for its tokens with the first fault of its reading, for its grammar only where no tree spells it,
     // and for its depth only where each tree that spells it is deeper than `MAX_DEPTH` brackets; those of its kind before
-    // it spell trees. For its meaning the script is refused at its first item that the session does not take. A module is
-    // refused only where all schemas spell trees, the script only where all modules do, too.
+    // it spell trees. For its meaning a module is refused where the definitions refuse it first, for the fault that they find, and
+    // the script at its first item that the session does not take. A module is refused only where all schemas spell trees, the
+    // script only where all modules do, too.
     ensures refused { IfErr result (RefusedText limits.row_numbers (texts schemas.now) (texts modules.now) script.now) }
     ensures order { IfErr result (InOrder (texts schemas.now) (texts modules.now)) }
 {

@@ -1,11 +1,13 @@
 //! From texts to a session and what its script asks for.
-ghost use Rattle.std.specs.Prelude.{◌≡◌, ◌≤◌, ◌<◌, length, All, IfErr, IfOk};
+ghost use Rattle.std.specs.Prelude.{◌≡◌, ◌≤◌, ◌<◌, length, All, IfErr, IfOk, MatchResult, None, Some};
 ghost use Rattle.sq_tree.specs.Schema.{schema_tokens, schema_depth};
 ghost use Rattle.sq_tree.specs.Module.{module_tokens, module_depth};
 ghost use Rattle.sq_tree.specs.Script.{script_tokens};
 ghost use Rattle.sq_bound.specs.Fits.{keys_of_bases};
+ghost use Rattle.sq_rules.specs.ModuleRefusal.{first_module_refusal};
+ghost use Rattle.sq_module.specs.FirstRefusal.{IsFaultFor, refusal_of};
 ghost use Rattle.sq_module.specs.Refusal.{IsOfSomeModule};
-ghost use Rattle.sq_run.specs.Fault.{IsOfItem, IsOpeningFault, IsScriptFault, IsScriptRefusal, IsUntaken, SomeRefused, run_fault};
+ghost use Rattle.sq_run.specs.Fault.{IsModuleFault, IsOfItem, IsOpeningFault, IsScriptFault, IsScriptRefusal, IsUntaken, SomeRefused, run_fault};
 ghost use Rattle.sq_catalog.specs.Catalog.{declared_tables, known};
 ghost use Rattle.sq_catalog.specs.Declares.{Declares};
 ghost use Rattle.sq_module.specs.Program.{declared_procedures};
@@ -135,6 +137,7 @@ fn session_of<S: Store>(
     ensures spelled { IfOk result (λ _. SomeTrees module_tokens (texts modules.now)) }
     ensures holds { IfOk result (Holds limits.row_numbers catalog (texts modules.now)) }
     ensures refused { IfErr result (SomeRefused module_tokens module_depth (texts modules.now)) }
+    ensures first { IfErr result (IsModuleFault (texts modules.now)) }
 {
     let trees = match read_all::<ModuleText>(alloc, modules) {
         Ok(trees) => trees,
@@ -163,7 +166,9 @@ fn session_from<S: Store>(
     ensures schemas { IfOk result (λ s. s.schemas ≡ schemas_of catalog) }
     ensures written { IfOk result (λ s. AreOfModules catalog.bases (known catalog) trees.now s.procedures) }
     ensures start { IfOk result (IsStart limits.row_numbers) }
+    ensures admitted { IfOk result (λ _. first_module_refusal trees.now ≡ None) }
     ensures refused { IfErr result (SomeRefused module_tokens module_depth (texts modules.now)) }
+    ensures first { IfErr result (IsModuleFault (texts modules.now)) }
 {
     match session_over(alloc, catalog, trees, limits) {
         Ok(session) => Ok(session),
@@ -187,6 +192,8 @@ fn session_over<S: Store>(
     ensures written { IfOk result (λ s. AreOfModules catalog.bases (known catalog) modules.now s.procedures) }
     ensures start { IfOk result (IsStart limits.row_numbers) }
     ensures refused { IfErr result (IsOfSomeModule (length modules.now)) }
+    ensures first { MatchResult result (λ _. first_module_refusal modules.now ≡ None)
+        (IsFaultFor (first_module_refusal modules.now)) }
 {
     match store_of::<S>(alloc, &catalog, limits) {
         Ok(store) => Session::new(alloc, catalog, modules, store),
@@ -218,7 +225,9 @@ fn refused_module(
 ) -> TextFault
     requires spelled { AllSpell module_tokens (texts modules.now) trees.now }
     requires there { refusal.text < length trees.now }
-    ensures { SomeRefused module_tokens module_depth (texts modules.now) result }
+    requires first { first_module_refusal trees.now ≡ Some (refusal_of refusal) }
+    ensures refused { SomeRefused module_tokens module_depth (texts modules.now) result }
+    ensures first { IsModuleFault (texts modules.now) result }
 {
     let ModuleRefusal { name, text, item } = refusal;
     let token = match item {

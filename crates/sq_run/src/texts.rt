@@ -6,7 +6,7 @@ ghost use Rattle.sq_parse.specs.Refusal.{HasNoTree};
 ghost use Rattle.sq_tree.specs.Schema.{schema_tokens, schema_depth};
 ghost use Rattle.sq_tree.specs.Module.{module_tokens, module_depth};
 ghost use Rattle.sq_tree.specs.Script.{script_tokens, script_depth};
-ghost use Rattle.sq_run.specs.Fault.{IsParseFault, IsPlacedIfAny, IsPlacedIn, IsRefusal, IsRefusalIfAny, IsRefusedText, IsUnread, SomeRefused};
+ghost use Rattle.sq_run.specs.Fault.{IsOfSpelling, IsParseFault, IsPlacedIfAny, IsPlacedIn, IsRefusal, IsRefusalIfAny, IsRefusedText, IsUnread, SomeRefused};
 ghost use Rattle.sq_run.specs.Run.{AllSpell, Spells, texts};
 
 use crate::refusal::{Refusal, RefusalName};
@@ -95,6 +95,7 @@ impl TextTree for ScriptText {
 pub(crate) fn read_all<T: TextTree>(alloc: Global, all: &[Vec<u8>]) -> Result<Vec<T>, TextFault>
     ensures spelled { IfOk result (λ trees. AllSpell T.tokens (texts all.now) trees.items) }
     ensures refused { IfErr result (SomeRefused T.tokens T.depth (texts all.now)) }
+    ensures spelling { IfErr result IsOfSpelling }
 {
     let mut trees = Vec::new(alloc);
     for (number, text) in all.iter().enumerate() {

@@ -1,7 +1,8 @@
 use Rattle.std.proofs.Common.{arith, refl}
 use Rattle.sq_tree.specs.Module.{module_tokens, module_depth}
 use Rattle.sq_run.specs.declared.refusal.RefusalName.TheVariants as name
-use Rattle.sq_run.proofs.Refused.{named, one_of_meaning}
+use Rattle.sq_run.specs.Run.{texts}
+use Rattle.sq_run.proofs.Refused.{first_of_modules, named, one_of_meaning}
 use Rattle.sq_run.proofs.Spelled.{spelled_count, spelled_read}
 use Rattle.sq_run.proofs.prepare.refused_module.Goals as goal
 
@@ -16,8 +17,12 @@ refused_again-requires c =
     rw c.as_slice.ensures.value
     (spelled_read module_tokens c.args.modules.now c.args.trees.now c.args.refusal.text c.index-modules-text.result c.requires.spelled (omega (arith, count, c.requires.there)) c.index-modules-text.is)
 
-pub returns : goal.returns
-returns c =
+pub returns-clause-first : goal.returns-clause-first
+returns-clause-first c =
+    first_of_modules (texts c.args.modules.now) c.args.trees.now c.args.refusal c.refused_again.result c.requires.spelled c.requires.first c.refused_again.ensures.what
+
+pub returns-clause-refused : goal.returns-clause-refused
+returns-clause-refused c =
     let count = spelled_count module_tokens c.args.modules.now c.args.trees.now c.requires.spelled in
     one_of_meaning module_tokens module_depth c.args.modules.now c.args.refusal.text c.index-modules-text.result c.refused_again.result c.args.trees.now
     (omega (arith, count, c.requires.there)) c.index-modules-text.is c.requires.spelled

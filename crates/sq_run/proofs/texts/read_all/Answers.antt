@@ -1,4 +1,4 @@
-use Rattle.sq_run.proofs.Refused.{first_without}
+use Rattle.sq_run.proofs.Refused.{first_without, of_spelling}
 use Rattle.sq_run.proofs.Spelled.{spelled_more}
 use Rattle.sq_run.proofs.texts.read_all.Goals as goal
 
@@ -12,3 +12,6 @@ loop-number-preserved g c =
     rw c.in_ok-push-in-Ok.ensures.items
     (spelled_more g.T.TextTree.tokens c.args.all.now c.loop-number.number c.index-all-number.result c.loop-number.trees.items c.in-Ok.tree
     c.loop-number-test.true c.index-all-number.is c.loop-number.invariant (rw c.as_slice.ensures.value at c.in-Ok.ensures.spelled))
+
+pub returns-in-Err-clause-spelling : goal.returns-in-Err-clause-spelling
+returns-in-Err-clause-spelling g c = of_spelling g.T.TextTree.tokens g.T.TextTree.depth c.loop-number.number _ c.in-Err.fault c.in-Err.ensures.refused
