@@ -9,7 +9,7 @@ ghost use Rattle.sq_value.specs.declared.domain.Kind.{Kind};
 ghost use Rattle.sq_value.specs.declared.value.Value.{Value as AnyValue};
 ghost use Rattle.sq_meaning.specs.Status.{Outcome, each};
 ghost use Rattle.sq_meaning.specs.WellFormed.{AreRowsOf};
-ghost use Rattle.sq_bound.specs.Fits.{IsColumnOf, IsRowIn};
+ghost use Rattle.sq_bound.specs.Fits.{IsColumnOf, IsRowIn, keys_of_bases, not_nulls_hold};
 ghost use Rattle.sq_bound.specs.WellFormed.{IsSelect, kinds_of_select};
 ghost use Rattle.sq_bound.specs.declared.condition.TablePlace.{TablePlace};
 ghost use Rattle.sq_expression.specs.Fault.{Meets, MeetsAs, rows_in};
@@ -45,6 +45,8 @@ pub(crate) fn new_rows<N: Names, S: Store>(
     requires given { MayGive (N.base_tables setting.now.names.now) (N.view_queries setting.now.names.now)
         (N.column_kinds setting.now.names.now)
         (S.content_now setting.now.store.now) setting.now.user setting.now.parameters.now insert.now.columns insert.now.source }
+    requires keys { S.key_columns setting.now.store.now ≡ keys_of_bases (N.base_tables setting.now.names.now) }
+    requires not_null { not_nulls_hold (N.base_tables setting.now.names.now) (S.content_now setting.now.store.now) ≡ true }
     ensures made { let seen = seen_by (N.view_queries setting.now.names.now) (S.content_now setting.now.store.now) setting.now.user
         setting.now.parameters.now in (shown : Shown) → IsShown seen shown
         → MeetsAs new_rows_in result (rows_made shown seen table.now insert.now.columns insert.now.source) }
@@ -67,6 +69,8 @@ fn given_rows<N: Names, S: Store>(
     requires given { MayGive (N.base_tables setting.now.names.now) (N.view_queries setting.now.names.now)
         (N.column_kinds setting.now.names.now)
         (S.content_now setting.now.store.now) setting.now.user setting.now.parameters.now insert.now.columns insert.now.source }
+    requires keys { S.key_columns setting.now.store.now ≡ keys_of_bases (N.base_tables setting.now.names.now) }
+    requires not_null { not_nulls_hold (N.base_tables setting.now.names.now) (S.content_now setting.now.store.now) ≡ true }
     ensures made { let seen = seen_by (N.view_queries setting.now.names.now) (S.content_now setting.now.store.now) setting.now.user
         setting.now.parameters.now in (shown : Shown) → IsShown seen shown
         → MeetsAs rows_in result (rows_given shown seen insert.now.columns insert.now.source) }
@@ -101,7 +105,7 @@ fn given_values<N: Names, S: Store>(
     ensures stored { IfOk result (AreStored columns.now) }
     ensures right { IfErr result MayEnd }
 {
-    let mut row = Items::new(setting.alloc);
+    let mut row = Items::from_vec(Vec::with_capacity(setting.alloc, columns.len())?);
     for (column, value) in columns.iter().zip(values) {
         row.push(stored_value(setting, *column, value, None)?)?;
     }
@@ -114,7 +118,9 @@ fn rows_found<N: Names, S: Store>(
     query: &BoundSpecification,
     meter: &mut Meter,
 ) -> Result<Vec<Row>, Fault>
-    requires { FindsSelect (N.base_tables setting.now.names.now) (N.column_kinds setting.now.names.now) query.now }
+    requires finds { FindsSelect (N.base_tables setting.now.names.now) (N.column_kinds setting.now.names.now) query.now }
+    requires keys { S.key_columns setting.now.store.now ≡ keys_of_bases (N.base_tables setting.now.names.now) }
+    requires not_null { not_nulls_hold (N.base_tables setting.now.names.now) (S.content_now setting.now.store.now) ≡ true }
     ensures found { let seen = seen_by (N.view_queries setting.now.names.now) (S.content_now setting.now.store.now) setting.now.user
         setting.now.parameters.now in (parameters : List Kind) (shown : Shown)
         → MayRead (N.base_tables setting.now.names.now) (N.view_queries setting.now.names.now) (N.column_kinds setting.now.names.now)
@@ -154,7 +160,7 @@ fn stored_rows(alloc: Global, columns: &[ObjectColumn], rows: &[Row]) -> Result<
     ensures stored { IfOk result (λ stored. AllByRecursion (AreStored columns.now) stored.items) }
     ensures right { IfErr result MayEnd }
 {
-    let mut stored = Vec::new(alloc);
+    let mut stored = Vec::with_capacity(alloc, rows.len())?;
     for row in rows {
         stored.push(stored_row(alloc, columns, row.as_slice())?)?;
     }
@@ -168,7 +174,7 @@ fn stored_row(alloc: Global, columns: &[ObjectColumn], row: &[Value]) -> Result<
     ensures stored { IfOk result (AreStored columns.now) }
     ensures right { IfErr result MayEnd }
 {
-    let mut stored = Items::new(alloc);
+    let mut stored = Items::from_vec(Vec::with_capacity(alloc, columns.len())?);
     for (column, value) in columns.iter().zip(row) {
         stored.push(assigned(alloc, column.domain, value)?)?;
     }
@@ -191,7 +197,7 @@ fn completed_rows<N: Names, S: Store>(
     ensures length { IfOk result (λ changes. vec_len changes ≡ length given.now) }
     ensures right { IfErr result MayEnd }
 {
-    let mut changes = Vec::new(setting.alloc);
+    let mut changes = Vec::with_capacity(setting.alloc, given.len())?;
     for values in given {
         let row = new_row(setting, table, columns, values.as_slice())?;
         changes.push(Change::Insert(row))?;
@@ -213,8 +219,9 @@ fn new_row<N: Names, S: Store>(
     ensures in_domains { IfOk result (IsRowIn table.now.columns) }
     ensures right { IfErr result MayEnd }
 {
-    let mut row = Items::new(setting.alloc);
-    for (place, column) in table.columns.as_slice().iter().enumerate() {
+    let own = table.columns.as_slice();
+    let mut row = Items::from_vec(Vec::with_capacity(setting.alloc, own.len())?);
+    for (place, column) in own.iter().enumerate() {
         let given = given_at(columns, given, place);
         row.push(value_or_default(setting, column, given)?)?;
     }

@@ -78,6 +78,8 @@ fn inserted<N: Names, S: Store>(
     requires given { MayGive (N.base_tables setting.now.names.now) (N.view_queries setting.now.names.now)
         (N.column_kinds setting.now.names.now)
         (S.content_now setting.now.store.now) setting.now.user setting.now.parameters.now insert.now.columns insert.now.source }
+    requires keys { S.key_columns setting.now.store.now ≡ keys_of_bases (N.base_tables setting.now.names.now) }
+    requires not_null { not_nulls_hold (N.base_tables setting.now.names.now) (S.content_now setting.now.store.now) ≡ true }
     ensures made { let seen = seen_by (N.view_queries setting.now.names.now) (S.content_now setting.now.store.now) setting.now.user
         setting.now.parameters.now in (shown : Shown) → IsShown seen shown → MeetsAs (λ changed. rows_put changed.changes.items) result
         (rows_inserted shown seen (S.row_numbers setting.now.store.now) insert.now) }

@@ -1,5 +1,5 @@
 -- What is needed after the tables of a tree were added.
-use Rattle.std.proofs.Common.{◌≡◌, ◌∙◌, ℕ, ◌+◌, ◌<◌, ◌≤◌, nat_eq, Bool, true, false, List, [], ◌∷◌, ◌++◌, length, drop, map, get_or, fold, Option, Some, None, Result, refl, sym, ap, subst, append-nil}
+use Rattle.std.proofs.Common.{◌≡◌, ◌∙◌, ℕ, ◌+◌, ◌<◌, ◌≤◌, nat_eq, Bool, true, false, List, [], ◌∷◌, ◌++◌, length, drop, map, get_or, fold, Result, refl, sym, ap, subst, append-nil}
 use Rattle.std.specs.List.{AllByRecursion, list_any}
 use Rattle.std.specs.Option.{option_map}
 use Rattle.std.specs.Prelude.{◌||◌, if◌then◌else◌, flat_map, OnOk}
@@ -14,10 +14,9 @@ use Rattle.sq_meaning.specs.Syntax.{Conds, compare, compare_subquery, compare_qu
 use Rattle.sq_meaning.specs.WellFormed.{HasValue}
 use Rattle.sq_meaning.proofs.AnswerLaws.{all_weaker}
 use Rattle.sq_tree.specs.declared.cond.Comparison.{Comparison}
-use Rattle.sq_bound.specs.Condition.{PlacedCond, PlacedClause, PlacedSelect, cond_of, conj_of, test_of, predicate_of, select_of, clause_of, groups_of, Groups, groups_if, groups_by, no_groups, not_if, compared_with}
+use Rattle.sq_bound.specs.Condition.{PlacedCond, PlacedClause, PlacedSelect, cond_of, conj_of, test_of, predicate_of, select_of, not_if, compared_with}
 use Rattle.sq_bound.specs.Expression.{PlacedExpr, expr_of}
 use Rattle.sq_bound.specs.Joined.{specifications_of, term_specifications, union_specifications}
-use Rattle.sq_bound.specs.SetFunction.{call_of}
 use Rattle.sq_bound.specs.declared.condition.BoundCond.{BoundCond, out-BoundCond}
 use Rattle.sq_bound.specs.declared.condition.BoundConj.{BoundConj, out-BoundConj}
 use Rattle.sq_bound.specs.declared.condition.BoundTest.{BoundTest}
@@ -27,18 +26,18 @@ use Rattle.sq_bound.specs.declared.condition.Predicate.{Predicate, Predicate-F, 
 use Rattle.sq_bound.specs.declared.condition.Predicate.TheOpen as layer
 use Rattle.sq_bound.specs.declared.condition.Predicate.TheVariants as bound
 use Rattle.sq_bound.specs.declared.expression.BoundExpr.{BoundExpr}
-use Rattle.sq_bound.proofs.ConditionLaws.{cond_of-out, conj_of-out, test_of-out, predicate_of-Compare, predicate_of-CompareQuery, predicate_of-Between, predicate_of-InQuery, predicate_of-InList, predicate_of-Like, predicate_of-Null, predicate_of-Exists, predicate_of-Bracketed, select_of-out, groups_of-out}
+use Rattle.sq_bound.proofs.ConditionLaws.{cond_of-out, conj_of-out, test_of-out, predicate_of-Compare, predicate_of-CompareQuery, predicate_of-Between, predicate_of-InQuery, predicate_of-InList, predicate_of-Like, predicate_of-Null, predicate_of-Exists, predicate_of-Bracketed}
 use Rattle.sq_bound.proofs.JoinedLaws.{specifications_of-out, union_specifications-out, term_specifications-Specification, term_specifications-Bracketed}
 use Rattle.sq_bound.specs.declared.query.BoundQuery.{BoundQuery, out-BoundQuery}
 use Rattle.sq_bound.specs.declared.query.BoundUnion.{BoundUnion}
 use Rattle.sq_bound.specs.declared.query.BoundTerm.{BoundTerm}
 use Rattle.sq_bound.specs.declared.query.BoundTerm.TheVariants as term
 use Rattle.sq_bound.specs.WellFormed.{TableKinds}
-use Rattle.sq_bound.specs.declared.condition.BoundSpecification.{BoundSpecification, out-BoundSpecification}
-use Rattle.sq_bound.specs.declared.condition.Grouping.{Grouping, out-Grouping}
+use Rattle.sq_bound.specs.declared.condition.BoundSpecification.{BoundSpecification}
+use Rattle.sq_bound.specs.declared.condition.Grouping.{Grouping}
 use Rattle.sq_bound.specs.declared.condition.TablePlace.{TablePlace}
 use Rattle.sq_bound.specs.declared.condition.TablePlace.TheVariants.{Base, View}
-use Rattle.sq_query.specs.Needed.{ReadsCond, ReadsConds, ReadsClause, ReadsSelect, IsNeeded, AreKnown, NeedsMore, NeedsNone, places_in, with_table, cond_tables, conds_tables, clause_tables, select_tables, specification_tables, specifications_tables, Adds}
+use Rattle.sq_query.specs.Needed.{ReadsCond, ReadsConds, ReadsClause, ReadsInside, ReadsSelect, IsNeeded, AreKnown, NeedsMore, NeedsNone, places_in, with_table, cond_tables, conds_tables, clause_tables, inside_tables, select_tables, specification_tables, specifications_tables, Adds}
 use Rattle.sq_query.specs.declared.needed.Needed.{Needed}
 
 abbrev Places : Type 0
@@ -192,6 +191,14 @@ module _ (P : TablePlace → Type 0) where
           clause_read having (all_right P (clause_tables filter) (clause_tables having) later),
         )
 
+  -- the same of the subqueries alone
+  inside_listed : (q : PlacedSelect) → ReadsInside P q → AllByRecursion P (inside_tables q)
+  inside_listed (select distinct list from filter by having) h = all_joined P (clause_tables filter) (clause_tables having) (clause_listed filter h.0) (clause_listed having h.1)
+
+  inside_read : (q : PlacedSelect) → AllByRecursion P (inside_tables q) → ReadsInside P q
+  inside_read (select distinct list from filter by having) h =
+      (clause_read filter (all_left P (clause_tables filter) (clause_tables having) h), clause_read having (all_right P (clause_tables filter) (clause_tables having) h))
+
   specifications_listed : (ss : List BoundSpecification) → AllByRecursion (λ s. ReadsSelect P (select_of s)) ss → AllByRecursion P (specifications_tables ss)
   specifications_listed [] h = tt
   specifications_listed (s ∷ ss) h = all_joined P (specification_tables s) (specifications_tables ss) (select_listed (select_of s) h.0) (specifications_listed ss h.1)
@@ -220,6 +227,9 @@ module _ (before after : Needed) where
   pub select_needed : (q : PlacedSelect) → Adds before (select_tables q) after → ReadsSelect (IsNeeded after) q
   select_needed q adds = select_read (IsNeeded after) q (own before after (select_tables q) adds)
 
+  pub inside_needed : (q : PlacedSelect) → Adds before (inside_tables q) after → ReadsInside (IsNeeded after) q
+  inside_needed q adds = inside_read (IsNeeded after) q (own before after (inside_tables q) adds)
+
   pub cond_needed : (c : PlacedCond) → Adds before (cond_tables c) after → ReadsCond (IsNeeded after) c
   cond_needed c adds = cond_read (IsNeeded after) c (own before after (cond_tables c) adds)
 
@@ -229,6 +239,9 @@ module _ (before after : Needed) where
   module _ (columns : TableKinds) (known : AreKnown columns before) where
     pub select_known : (q : PlacedSelect) → Adds before (select_tables q) after → ReadsSelect (λ t. HasValue (columns t)) q → AreKnown columns after
     select_known q adds h = old_or_added before after (select_tables q) adds (λ t. HasValue (columns t)) known (select_listed (λ t. HasValue (columns t)) q h)
+
+    pub inside_known : (q : PlacedSelect) → Adds before (inside_tables q) after → ReadsInside (λ t. HasValue (columns t)) q → AreKnown columns after
+    inside_known q adds h = old_or_added before after (inside_tables q) adds (λ t. HasValue (columns t)) known (inside_listed (λ t. HasValue (columns t)) q h)
 
     pub cond_known : (c : PlacedCond) → Adds before (cond_tables c) after → ReadsCond (λ t. HasValue (columns t)) c → AreKnown columns after
     cond_known c adds h = old_or_added before after (cond_tables c) adds (λ t. HasValue (columns t)) known (cond_listed (λ t. HasValue (columns t)) c h)
@@ -329,30 +342,10 @@ module _ (functions : List PlacedExpr) where
 
 -- ---- query specifications
 
-tables_by : (s : BoundSpecification) (groups : Groups) → groups_if (option_map groups_of (out-BoundSpecification s).grouping) ≡ groups
-    → specification_tables s ≡ (out-BoundSpecification s).from.tables ++ (clause_tables (clause_of [] (out-BoundSpecification s).condition) ++ clause_tables groups.having)
-tables_by s groups is =
-    let o = out-BoundSpecification s in
-    ap select_tables (select_of-out s) ∙ ap (λ (g : Groups). o.from.tables ++ (clause_tables (clause_of [] o.condition) ++ clause_tables g.having)) is
-
-pub tables_of_ungrouped : (s : BoundSpecification) → (out-BoundSpecification s).grouping ≡ None
-    → specification_tables s ≡ (out-BoundSpecification s).from.tables ++ (clause_tables (clause_of [] (out-BoundSpecification s).condition) ++ [])
-tables_of_ungrouped s is = tables_by s no_groups (ap (λ (g : Option Grouping). groups_if (option_map groups_of g)) is)
-
-pub tables_of_grouped : (s : BoundSpecification) (g : Grouping) → (out-BoundSpecification s).grouping ≡ Some g
-    → specification_tables s ≡ (out-BoundSpecification s).from.tables ++ (clause_tables (clause_of [] (out-BoundSpecification s).condition) ++ clause_tables (clause_of (map call_of (out-Grouping g).set_functions) (out-Grouping g).having))
-tables_of_grouped s g is =
-    tables_by s (groups_by (out-Grouping g).columns (map call_of (out-Grouping g).set_functions) (clause_of (map call_of (out-Grouping g).set_functions) (out-Grouping g).having))
-    (ap (λ (h : Option Grouping). groups_if (option_map groups_of h)) is ∙ groups_of-out g)
-
--- its items, its WHERE and its HAVING in turn
-pub added_three : (start first second : Places) (whole items filter having : List TablePlace) → whole ≡ items ++ (filter ++ having)
-    → first ≡ fold with_table start items → second ≡ fold with_table first filter → fold with_table second having ≡ fold with_table start whole
-added_three start first second whole items filter having is one two =
-    ap (λ (ps : Places). fold with_table ps having) (two ∙ ap (λ (ps : Places). fold with_table ps filter) one)
-    ∙ sym (fold-append with_table (fold with_table start items) filter having)
-    ∙ sym (fold-append with_table start items (filter ++ having))
-    ∙ ap (fold with_table start) (sym is)
+-- first some, and then others
+pub added_both : (start first : Places) (whole items others : List TablePlace) → whole ≡ items ++ others → first ≡ fold with_table start items → fold with_table first others ≡ fold with_table start whole
+added_both start first whole items others is one =
+    ap (λ (ps : Places). fold with_table ps others) one ∙ sym (fold-append with_table start items others) ∙ ap (fold with_table start) (sym is)
 
 pub items_added : (start now : Places) (items from : List TablePlace) (i : ℕ) → items ≡ from → length items ≤ i → fold with_table now (drop i items) ≡ fold with_table start items → now ≡ fold with_table start from
 items_added start now items from i are past so_far =

@@ -1,25 +1,29 @@
--- The key by which a target names a row is one of its base table, and the condition has the tests that name its columns.
-use Rattle.std.proofs.Common.{◌≡◌, ℕ, zero, suc, ◌<◌, Bool, true, ◌&&◌, List, [], ◌∷◌, length, map, take, Option, Some, None, refl, sym, ap, ◌∙◌, arith}
-use Rattle.std.specs.Prelude.{nat_eq, nat_le, nat_lt, slice_get, slice_index_or}
-use Rattle.std.specs.List.{list_all, list_any}
+-- The key by which a condition names a row is one of the base table, and the condition has the tests that name its columns.
+use Rattle.std.proofs.Common.{◌≡◌, ℕ, zero, suc, ◌<◌, Bool, true, ◌&&◌, List, [], ◌∷◌, length, map, take, Option, Some, None, Result, refl, sym, ap, subst, ◌∙◌, arith, Ok, Err}
+use Rattle.std.specs.Prelude.{IfOk, IfSome, IsSome, is_some, nat_eq, nat_le, nat_lt, slice_get, slice_index_or}
+use Rattle.std.specs.List.{AllZip, list_all, list_any}
 use Rattle.std.proofs.lemmas.Bool.{ltb-true}
-use Rattle.std.proofs.lemmas.List.{get_or_read, length-map, take-map}
-use Rattle.std.proofs.lemmas.Option.{slice_get_within}
+use Rattle.std.proofs.lemmas.List.{length-map, take-map}
+use Rattle.std.proofs.lemmas.Option.{get_or_from_slice_get, slice_get_within}
+use Rattle.sq_lex.specs.declared.name.Name.{Name}
+use Rattle.sq_value.specs.declared.value.Value.{Value}
 use Rattle.sq_store.specs.Content.{Content}
-use Rattle.sq_store.specs.Keys.{Keys, are_keyed, keys_at}
+use Rattle.sq_store.specs.Keys.{Keys, are_keyed, key_at, keys_at}
 use Rattle.sq_store.proofs.Sound.{keyed_length}
 use Rattle.sq_bound.specs.Condition.{PlacedCond, test_of}
 use Rattle.sq_bound.specs.Fits.{IsBase, keys_of_bases}
-use Rattle.sq_bound.specs.Keyed.{is_named_by, names_column, names_key, names_one_of, start_with_key}
+use Rattle.sq_bound.specs.Keyed.{IsShortestKey, is_named_by, names_column, names_key, names_one_of, start_with_key}
 use Rattle.sq_bound.specs.Names.{option_all}
 use Rattle.sq_bound.specs.declared.condition.BoundCond.{BoundCond, out-BoundCond}
-use Rattle.sq_bound.specs.declared.condition.BoundConj.{BoundConj, out-BoundConj}
+use Rattle.sq_bound.specs.declared.condition.BoundConj.{out-BoundConj}
 use Rattle.sq_bound.specs.declared.condition.BoundTest.{BoundTest}
 use Rattle.sq_bound.specs.declared.names.BaseTable.{BaseTable}
 use Rattle.sq_bound.specs.declared.names.Leaf.{Leaf}
 use Rattle.sq_bound.specs.declared.query.Target.{Target}
 use Rattle.sq_bound.proofs.QuietTruths.{both_left, both_right}
-use Rattle.sq_query.specs.Key.{AreKeyTests}
+use Rattle.sq_expression.specs.declared.fault.Fault.{Fault}
+use Rattle.sq_query.specs.Key.{AreFirstTests, IsComparedWith, IsKeyOf, IsKeyOn}
+use Rattle.sq_query.specs.declared.key.KnownKey.{KnownKey}
 
 -- ---- the key of a target
 
@@ -58,9 +62,12 @@ module _ (t : Target) (key : ℕ) (is : t.key ≡ Some key) where
   pub key_there : key < length t.leaf.table.keys
   key_there = (parts condition_there.0 condition_there.1).1
 
-  -- the tests of the condition's only term start with those that name its columns
-  pub own_starts : (own : BoundCond) (term : BoundConj) → t.condition ≡ Some own → (out-BoundCond own).terms ≡ term ∷ [] → start_with_key (slice_index_or t.leaf.table.keys key []) (map (test_of []) (out-BoundConj term).tests) ≡ true
-  own_starts own term is_own only = sym (ap (names_key (slice_index_or t.leaf.table.keys key [])) only) ∙ (parts own is_own).2
+  -- there is a condition, and it names a row by the key
+  pub has_condition : IsSome t.condition
+  has_condition = ap is_some condition_there.1
+
+  pub own_named : (own : BoundCond) → t.condition ≡ Some own → names_key (slice_index_or t.leaf.table.keys key []) (out-BoundCond own).terms ≡ true
+  own_named own is_own = (parts own is_own).2
 
 -- ---- the tests that name its columns
 
@@ -87,18 +94,58 @@ module _ (key : List ℕ) (tests : List BoundTest) (starts : start_with_key key 
       ap (λ (first : List PlacedCond). list_all (λ n. list_any (names_column n) first) key) (sym (take-map (test_of []) (length key) tests))
       ∙ both_right (enough && naming) all_named starts
 
--- the tests by which a target names a row start so
-pub key_tests_start : (t : Target) (key : ℕ) (columns : List ℕ) (tests : List BoundTest) → t.key ≡ Some key → columns ≡ slice_index_or t.leaf.table.keys key columns → (r : AreKeyTests columns t tests)
+-- the tests by which a condition names a row start so
+pub first_tests_start : (own : BoundCond) (columns : List ℕ) (tests : List BoundTest) → names_key columns (out-BoundCond own).terms ≡ true → (r : AreFirstTests columns own tests)
     → start_with_key columns (map (test_of []) (out-BoundConj r.term).tests) ≡ true
-key_tests_start t key columns tests is among r =
-    ap (λ (c : List ℕ). start_with_key c (map (test_of []) (out-BoundConj r.term).tests)) (get_or_read t.leaf.table.keys key columns (key_there t key is) among [])
-    ∙ own_starts t key is r.own r.term r.is_own r.only_term
+first_tests_start own columns tests named r = sym (ap (names_key columns) r.only_term) ∙ named
 
-pub key_tests_name : (t : Target) (key : ℕ) (columns : List ℕ) (tests : List BoundTest) → t.key ≡ Some key → columns ≡ slice_index_or t.leaf.table.keys key columns → AreKeyTests columns t tests
+pub first_tests_name : (own : BoundCond) (columns : List ℕ) (tests : List BoundTest) → names_key columns (out-BoundCond own).terms ≡ true → AreFirstTests columns own tests
     → list_all (λ n. list_any (names_column n) (map (test_of []) tests)) columns ≡ true
-key_tests_name t key columns tests is among r =
+first_tests_name own columns tests named r =
     ap (λ (firsts : List BoundTest). list_all (λ n. list_any (names_column n) (map (test_of []) firsts)) columns) r.firsts
-    ∙ columns_named columns (out-BoundConj r.term).tests (key_tests_start t key columns tests is among r)
+    ∙ columns_named columns (out-BoundConj r.term).tests (first_tests_start own columns tests named r)
+
+-- ---- the key of a condition
+
+-- the values of the first tests are those of a key
+pub key_on : (place : ℕ) (own : BoundCond) (content : Content) (keys : List Keys) (parameters : List Value) (user : Name) (key : ℕ) (columns : List ℕ) (tests : List BoundTest) (values : List Value) (known : KnownKey)
+    → place < length content → key < length (keys_at keys place) → names_key (key_at keys place key) (out-BoundCond own).terms ≡ true → columns ≡ key_at keys place key → AreFirstTests columns own tests
+    → AllZip (IsComparedWith tests parameters user) columns values → known.key ≡ key → known.values ≡ values → IsKeyOn place own content keys parameters user known
+key_on place own content keys parameters user key columns tests values known there within named columns_are r all is_key values_are =
+    let at : columns ≡ key_at keys place known.key = columns_are ∙ ap (key_at keys place) (sym is_key) in
+    let compared : AllZip (IsComparedWith (take (length columns) (out-BoundConj r.term).tests) parameters user) columns known.values =
+    subst (λ (vs : List Value). AllZip (IsComparedWith (take (length columns) (out-BoundConj r.term).tests) parameters user) columns vs) (sym values_are)
+    (subst (λ (ts : List BoundTest). AllZip (IsComparedWith ts parameters user) columns values) r.firsts all) in
+    record {
+      table = there;
+      key = subst (λ (k : ℕ). k < length (keys_at keys place)) (sym is_key) within;
+      named = subst (λ (k : ℕ). names_key (key_at keys place k) (out-BoundCond own).terms ≡ true) (sym is_key) named;
+      term = r.term;
+      only_term = r.only_term;
+      values = subst (λ (cs : List ℕ). AllZip (IsComparedWith (take (length cs) (out-BoundConj r.term).tests) parameters user) cs known.values) at compared;
+    }
+
+-- so it is of the key that is noted for a target
+pub noted_key : (t : Target) (own : BoundCond) (content : Content) (keys : List Keys) (parameters : List Value) (user : Name) (key : ℕ) (r : Result (Option KnownKey) Fault) → t.condition ≡ Some own → t.key ≡ Some key
+    → IfOk r (λ found. IfSome found (λ known. (known.key ≡ key) × IsKeyOn t.base own content keys parameters user known)) → IfOk r (λ found. IfSome found (IsKeyOf t content keys parameters user))
+noted_key t own content keys parameters user key (Err e) is_own is h = tt
+noted_key t own content keys parameters user key (Ok None) is_own is h = tt
+noted_key t own content keys parameters user key (Ok (Some known)) is_own is h = record { own = own; is_own = is_own; is_key = is ∙ ap Some (sym h.0); on = h.1 }
+
+-- and of the shortest by which a condition names a row
+pub shortest_names : (keys : Keys) (own : BoundCond) (key : ℕ) (found : Option ℕ) → IsShortestKey keys own found → found ≡ Some key
+    → (key < length keys) × (names_key (slice_index_or keys key []) (out-BoundCond own).terms ≡ true)
+shortest_names keys own key None h is = cc
+shortest_names keys own key (Some k) h is =
+    let same : k ≡ key = cc in
+    subst (λ (n : ℕ). (n < length keys) × (names_key (slice_index_or keys n []) (out-BoundCond own).terms ≡ true)) same
+    (slice_get_within keys k h.0 h.1, ap (λ (columns : List ℕ). names_key columns (out-BoundCond own).terms) (get_or_from_slice_get keys k h.0 [] h.1) ∙ h.2)
+
+pub shortest_known : (place : ℕ) (own : BoundCond) (content : Content) (keys : List Keys) (parameters : List Value) (user : Name) (key : ℕ) (r : Result (Option KnownKey) Fault)
+    → IfOk r (λ found. IfSome found (λ known. (known.key ≡ key) × IsKeyOn place own content keys parameters user known)) → IfOk r (λ found. IfSome found (IsKeyOn place own content keys parameters user))
+shortest_known place own content keys parameters user key (Err e) h = tt
+shortest_known place own content keys parameters user key (Ok None) h = tt
+shortest_known place own content keys parameters user key (Ok (Some known)) h = h.1
 
 -- ---- the store has the base table and its keys
 
@@ -107,12 +154,28 @@ keys_of_base [] place b e = cc
 keys_of_base (a ∷ bases) zero b e = let same : a ≡ b = cc in ap (λ (t : BaseTable). t.keys) same
 keys_of_base (a ∷ bases) (suc place) b e = keys_of_base bases place b e
 
-module _ (bases : List BaseTable) (keys : List Keys) (t : Target) (base : IsBase bases t.leaf.table) (keys_are : keys ≡ keys_of_bases bases) where
-  pub base_there : (content : Content) → are_keyed keys content ≡ true → t.base < length content
-  base_there content keyed =
-      let place : t.leaf.table.place < length bases = slice_get_within bases t.leaf.table.place t.leaf.table base in
+module _ (bases : List BaseTable) (keys : List Keys) (keys_are : keys ≡ keys_of_bases bases) where
+  pub place_there : (content : Content) (place : ℕ) → are_keyed keys content ≡ true → place < length bases → place < length content
+  place_there content place keyed within =
       let as_many : length content ≡ length bases = keyed_length keys content keyed ∙ ap length keys_are ∙ length-map bases (λ b. b.keys) in
-      omega (arith, t.is_under)
+      omega (arith, within, as_many)
+
+  pub base_keys : (place : ℕ) (b : BaseTable) → slice_get bases place ≡ Some b → keys_at keys place ≡ b.keys
+  base_keys place b at = ap (λ (ks : List Keys). keys_at ks place) keys_are ∙ keys_of_base bases place b at
+
+module _ (bases : List BaseTable) (keys : List Keys) (t : Target) (base : IsBase bases t.leaf.table) (keys_are : keys ≡ keys_of_bases bases) where
+  -- the base table under a target
+  pub base_under : slice_get bases t.base ≡ Some t.leaf.table
+  base_under = subst (λ (p : ℕ). slice_get bases p ≡ Some t.leaf.table) (sym t.is_under) base
+
+  pub base_there : (content : Content) → are_keyed keys content ≡ true → t.base < length content
+  base_there content keyed = place_there bases keys keys_are content t.base keyed (slice_get_within bases t.base t.leaf.table base_under)
 
   pub own_keys : keys_at keys t.base ≡ t.leaf.table.keys
-  own_keys = (λ i. keys_at (keys_are i) (t.is_under i)) ∙ keys_of_base bases t.leaf.table.place t.leaf.table base
+  own_keys = base_keys bases keys keys_are t.base t.leaf.table base_under
+
+-- a place in a list has an element
+pub element_at : {A : Type 0} (xs : List A) (i : ℕ) → i < length xs → (x : A) × (slice_get xs i ≡ Some x)
+element_at [] i within = absurd (omega arith)
+element_at (x ∷ xs) zero within = (x, refl)
+element_at (x ∷ xs) (suc i) within = element_at xs i (omega arith)

@@ -27,7 +27,7 @@ use Rattle.sq_meaning.proofs.SureLaws.{all_passed}
 use Rattle.sq_bound.specs.Condition.{PlacedCond, cond_of, test_of}
 use Rattle.sq_bound.specs.Expression.{PlacedExpr, expr_of}
 use Rattle.sq_bound.specs.Fits.{IsBase, has_its_values, keys_of_bases, lacks_value, not_nulls_hold}
-use Rattle.sq_bound.specs.Keyed.{column_named, is_constant, names_one_of, start_with_key}
+use Rattle.sq_bound.specs.Keyed.{column_named, is_constant, names_key, names_one_of, start_with_key}
 use Rattle.sq_bound.specs.NotNull.{are_not_null, is_not_null}
 use Rattle.sq_bound.specs.WellFormed.{IsTarget, TableKinds, base_kinds}
 use Rattle.sq_bound.specs.declared.condition.BoundCond.{BoundCond}
@@ -38,20 +38,21 @@ use Rattle.sq_bound.specs.declared.condition.TablePlace.TheVariants.{Base}
 use Rattle.sq_bound.specs.declared.names.BaseColumn.{BaseColumn}
 use Rattle.sq_bound.specs.declared.names.BaseTable.{BaseTable}
 use Rattle.sq_bound.specs.declared.query.Target.{Target}
+use Rattle.sq_bound.proofs.QuietRows.{no_tables}
 use Rattle.sq_bound.proofs.QuietTruths.{both_left, both_right}
 use Rattle.sq_expression.specs.Fault.{Meets, MeetsAs}
 use Rattle.sq_expression.specs.declared.fault.Fault.{Fault}
 use Rattle.sq_expression.specs.declared.fault.Fault.TheVariants as fault
 use Rattle.sq_condition.proofs.Conditions.{neither_left, neither_right}
-use Rattle.sq_query.specs.Key.{IsComparedWith, IsKeyOf}
+use Rattle.sq_query.specs.Key.{IsComparedWith, IsKeyOf, IsKeyOn, StandsOn}
 use Rattle.sq_query.specs.Row.{outside, truth_on_row}
 use Rattle.sq_query.specs.Table.{stored_numbered}
 use Rattle.sq_query.specs.Target.{and_own, are_true, conditions_of, is_true_of, numbers_chosen, numbers_in}
 use Rattle.sq_query.specs.declared.key.KnownKey.{KnownKey}
 use Rattle.sq_query.proofs.KeyLacked.{IsTestOn, all_also, first_false, lacked, test_answers, test_false, value_there}
-use Rattle.sq_query.proofs.KeyNames.{firsts_name, key_there, no_view, own_keys, own_starts}
+use Rattle.sq_query.proofs.KeyNames.{base_keys, base_under, firsts_name, no_view}
 use Rattle.sq_query.proofs.KeyTests.{test_at}
-use Rattle.sq_query.proofs.KeyValues.{all_contained, all_first, among, none_among, term_tree, tests_well}
+use Rattle.sq_query.proofs.KeyValues.{all_contained, all_first, among, none_among, own_stands, term_tree, tests_stand}
 use Rattle.sq_query.proofs.KeyedRows.{there_so}
 use Rattle.sq_query.proofs.OnlyOne.{AtMostOne, at_most_one, distinct_at}
 
@@ -156,7 +157,7 @@ module _ {A : Type 0} (test : A → Outcome Bool) (has : A → Bool) where
   abbrev LeavesOut : A → Type 0
   LeavesOut x = has x ≡ false → test x ≡ Ok false
 
-  itself : (o : Outcome (List A)) → and_then o (λ ys. let is : Outcome (List A) = Ok ys in is) ≡ o
+  pub itself : (o : Outcome (List A)) → and_then o (λ ys. let is : Outcome (List A) = Ok ys in is) ≡ o
   itself (Ok ys) = refl
   itself (Err s) = refl
 
@@ -200,28 +201,25 @@ all_is tables here (t ∷ ts) = ap (and_also (truth (by_place tables) (test_of [
 -- ---- a row without the key
 
 module _ (tables : TablePlace → Outcome (List Row)) (columns : TableKinds) (parameters : List Kind) (values : List Value) (caller : Name) (given : IsRowOf parameters values)
-    (bases : List BaseTable) (content : Content) (keys : List Keys) (t : Target) (known : KnownKey) (k : IsKeyOf t content keys values caller known)
-    (well : IsTarget columns parameters t) (base : IsBase bases t.leaf.table) (keys_are : keys ≡ keys_of_bases bases) (nulls : not_nulls_hold bases content ≡ true) where
+    (bases : List BaseTable) (content : Content) (keys : List Keys) (place : ℕ) (b : BaseTable) (own : BoundCond) (known : KnownKey) (k : IsKeyOn place own content keys values caller known)
+    (at : slice_get bases place ≡ Some b) (kinds_are : columns (Base place) ≡ Ok (base_kinds b)) (stands : StandsOn columns parameters place own) (keys_are : keys ≡ keys_of_bases bases) (nulls : not_nulls_hold bases content ≡ true) where
   abbrev own_columns : List ℕ
-  own_columns = key_at keys t.base known.key
+  own_columns = key_at keys place known.key
 
   abbrev tests : List BoundTest
   tests = (out-BoundConj k.term).tests
 
   abbrev flags : List Bool
-  flags = map (λ (c : BaseColumn). c.not_null) t.leaf.table.columns
+  flags = map (λ (c : BaseColumn). c.not_null) b.columns
 
-  views_none : t.leaf.conditions ≡ []
-  views_none = no_element t.leaf.conditions (no_view t known.key k.is_key)
+  key_within : known.key < length b.keys
+  key_within = subst (λ (ks : Keys). known.key < length ks) (base_keys bases keys keys_are place b at) k.key
 
-  key_within : known.key < length t.leaf.table.keys
-  key_within = key_there t known.key k.is_key
-
-  columns_are : own_columns ≡ slice_index_or t.leaf.table.keys known.key []
-  columns_are = ap (λ (ks : Keys). slice_index_or ks known.key []) (own_keys bases keys t base keys_are)
+  columns_are : own_columns ≡ slice_index_or b.keys known.key []
+  columns_are = ap (λ (ks : Keys). slice_index_or ks known.key []) (base_keys bases keys keys_are place b at)
 
   starts : start_with_key own_columns (map (test_of []) tests) ≡ true
-  starts = ap (λ (key : List ℕ). start_with_key key (map (test_of []) tests)) columns_are ∙ own_starts t known.key k.is_key k.own k.term k.is_own k.only_term
+  starts = sym (ap (names_key own_columns) k.only_term) ∙ k.named
 
   abbrev count : ℕ
   count = length own_columns
@@ -230,37 +228,34 @@ module _ (tables : TablePlace → Outcome (List Row)) (columns : TableKinds) (pa
   firsts_quiet = all_quiet own_columns (take count tests) (firsts_name own_columns tests starts)
 
   columns_not_null : list_all (is_not_null flags) own_columns ≡ true
-  columns_not_null = ap (are_not_null flags) columns_are ∙ test_at (are_not_null flags) t.leaf.table.keys known.key [] t.leaf.table.known_keys key_within
+  columns_not_null = ap (are_not_null flags) columns_are ∙ test_at (are_not_null flags) b.keys known.key [] b.known_keys key_within
 
-  conditions_are : conditions_of t ≡ k.own ∷ []
-  conditions_are = (λ i. and_own (views_none i) (k.is_own i))
-
-  module _ (row : Row) (is_row : IsRowOf (base_kinds t.leaf.table) row) where
+  module _ (row : Row) (is_row : IsRowOf (base_kinds b) row) where
     abbrev here : Env (Unit {0})
     here = outside (row ∷ []) values caller
 
-    fits : Has (λ ks. IsRowOf ks row) (columns (Base t.leaf.table.place))
-    fits = subst (Has (λ ks. IsRowOf ks row)) (sym well.leaf.kinds_are) is_row
+    fits : Has (λ ks. IsRowOf ks row) (columns (Base place))
+    fits = subst (Has (λ ks. IsRowOf ks row)) (sym kinds_are) is_row
 
     abbrev IsOn : PlacedCond → Type 0
-    IsOn = IsTestOn tables columns parameters values caller row t.leaf.table.place fits given
+    IsOn = IsTestOn tables columns parameters values caller row place fits given
 
     abbrev truth_here : BoundTest → Outcome Truth
     truth_here x = truth (by_place tables) (test_of [] x) here
 
     all_well : AllByRecursion (λ x. IsOn (test_of [] x)) tests
-    all_well = tests_well columns parameters t k.own k.term well k.is_own k.only_term
+    all_well = tests_stand columns parameters place own k.term k.only_term (stands no_tables)
 
     firsts_answer : AllByRecursion (λ x. HasValue (truth_here x)) (take count tests)
     firsts_answer =
         all_both (λ x. IsOn (test_of [] x)) (λ x. is_quiet (test_of [] x) ≡ true) (λ x. HasValue (truth_here x))
-        (λ x w q. test_answers tables columns parameters values caller row t.leaf.table.place fits given (test_of [] x) w q)
+        (λ x w q. test_answers tables columns parameters values caller row place fits given (test_of [] x) w q)
         (take count tests) (all_first (λ x. IsOn (test_of [] x)) count tests all_well) firsts_quiet
 
-    none_null : has_its_values t.leaf.table row ≡ true → list_any lacks_value (zip t.leaf.table.columns row) ≡ false
-    none_null h = is_not (list_any lacks_value (zip t.leaf.table.columns row)) h
+    none_null : has_its_values b row ≡ true → list_any lacks_value (zip b.columns row) ≡ false
+    none_null h = is_not (list_any lacks_value (zip b.columns row)) h
 
-    pub left_out : has_its_values t.leaf.table row ≡ true → pointwise is_same known.values (in_columns row own_columns) ≡ false → is_true (truth (by_place tables) (cond_of [] k.own) here) ≡ Ok false
+    left_out : has_its_values b row ≡ true → pointwise is_same known.values (in_columns row own_columns) ≡ false → is_true (truth (by_place tables) (cond_of [] own) here) ≡ Ok false
     left_out has_values lacks =
         let found = lacked {R = IsComparedWith (take count tests) values caller} own_columns known.values row k.values lacks in
         let c = found.3 in
@@ -268,36 +263,65 @@ module _ (tables : TablePlace → Outcome (List Row)) (columns : TableKinds) (pa
         let on : IsOn (test_of [] c.test) = all_contained (λ x. IsOn (test_of [] x)) (take count tests) c.among.0 c.test (all_first (λ x. IsOn (test_of [] x)) count tests all_well) c.among.1 c.among.2 in
         let written : is_not_null flags found.0 ≡ true = subst (λ n. is_not_null flags n ≡ true) found.2.2 (test_at (is_not_null flags) own_columns found.2.0 found.0 columns_not_null found.2.1) in
         let not_so : truth (by_place tables) (compare comparison.Equal (column (record { depth = 0; item = c.is.0; column = found.0 })) (expr_of [] c.expr)) here ≡ Ok False =
-        test_false tables columns parameters values caller row t.leaf.table.place fits given c.is.0 found.0 (expr_of [] c.expr) found.1
+        test_false tables columns parameters values caller row place fits given c.is.0 found.0 (expr_of [] c.expr) found.1
         (both_right true (is_quiet_expr (expr_of [] c.expr)) (sym (ap is_quiet c.is.1) ∙ quiet)) (subst IsOn c.is.1 on) (c.has_value tables) c.known
-        (λ x there. value_there t.leaf.table.columns row found.0 x there written (none_null has_values)) found.4 in
+        (λ x there. value_there b.columns row found.0 x there written (none_null has_values)) found.4 in
         let all_false : all_truth (by_place tables) (conds (map (test_of []) tests)) here ≡ Ok False =
         all_is tables here tests
         ∙ first_false truth_here count tests c.among.0 c.test firsts_answer c.among.1 c.among.2 (ap (λ (x : PlacedCond). truth (by_place tables) x here) c.is.1 ∙ not_so) in
-        ap (λ (x : PlacedCond). is_true (truth (by_place tables) x here)) (term_tree k.own k.term k.only_term)
+        ap (λ (x : PlacedCond). is_true (truth (by_place tables) x here)) (term_tree own k.term k.only_term)
         ∙ ap (λ (o : Outcome Truth). is_true (or_else o (Ok False))) all_false
 
   -- ---- over all rows
 
-  module _ (rows_are : AllByRecursion (λ (r : Numbered). IsRowOf (base_kinds t.leaf.table) r.row) (table_at content t.base).rows) (keyed : are_keyed keys content ≡ true) where
+  module _ (rows_are : AllByRecursion (λ (r : Numbered). IsRowOf (base_kinds b) r.row) (table_at content place).rows) (keyed : are_keyed keys content ≡ true) where
     abbrev test_own : Numbered → Outcome Bool
-    test_own = is_true_of tables values caller k.own
+    test_own = is_true_of tables values caller own
 
     abbrev has_it : Numbered → Bool
     has_it = has_key own_columns known.values
 
-    from_first : 0 + t.leaf.table.place ≡ t.leaf.table.place
+    from_first : 0 + place ≡ place
     from_first = omega arith
 
-    all_out : AllByRecursion (λ (r : Numbered). has_it r ≡ false → test_own r ≡ Ok false) (table_at content t.base).rows
+    all_out : AllByRecursion (λ (r : Numbered). has_it r ≡ false → test_own r ≡ Ok false) (table_at content place).rows
     all_out =
-        all_both (λ (r : Numbered). IsRowOf (base_kinds t.leaf.table) r.row) (λ (r : Numbered). has_its_values t.leaf.table r.row ≡ true) (λ (r : Numbered). has_it r ≡ false → test_own r ≡ Ok false)
-        (λ r is_row has_values lacks. left_out r.row is_row has_values lacks) (table_at content t.base).rows rows_are
-        (all_passed (λ (r : Numbered). has_its_values t.leaf.table r.row) (table_at content t.base).rows
-        (subst (λ (p : ℕ). list_all (λ (r : Numbered). has_its_values t.leaf.table r.row) (table_at content p).rows ≡ true) (from_first ∙ sym t.is_under) (values_from content 0 bases t.leaf.table.place t.leaf.table nulls base)))
+        all_both (λ (r : Numbered). IsRowOf (base_kinds b) r.row) (λ (r : Numbered). has_its_values b r.row ≡ true) (λ (r : Numbered). has_it r ≡ false → test_own r ≡ Ok false)
+        (λ r is_row has_values lacks. left_out r.row is_row has_values lacks) (table_at content place).rows rows_are
+        (all_passed (λ (r : Numbered). has_its_values b r.row) (table_at content place).rows
+        (subst (λ (p : ℕ). list_all (λ (r : Numbered). has_its_values b r.row) (table_at content p).rows ≡ true) from_first (values_from content 0 bases place b nulls at)))
+
+    -- a search over all rows finds what the key finds
+    pub rows_kept : kept test_own (table_at content place).rows ≡ decided test_own has_it (with_key (table_at content place) own_columns known.values)
+    rows_kept =
+        scan_finds test_own has_it (table_at content place).rows all_out (at_most_one own_columns known.values (table_at content place).rows (distinct_at keys content place known.key keyed k.table k.key))
+
+-- ---- the rows that a target means
+
+module _ (tables : TablePlace → Outcome (List Row)) (columns : TableKinds) (parameters : List Kind) (values : List Value) (caller : Name) (given : IsRowOf parameters values)
+    (bases : List BaseTable) (content : Content) (keys : List Keys) (t : Target) (known : KnownKey) (k : IsKeyOf t content keys values caller known)
+    (well : IsTarget columns parameters t) (base : IsBase bases t.leaf.table) (keys_are : keys ≡ keys_of_bases bases) (nulls : not_nulls_hold bases content ≡ true) where
+  views_none : t.leaf.conditions ≡ []
+  views_none = no_element t.leaf.conditions (no_view t known.key k.is_key)
+
+  conditions_are : conditions_of t ≡ k.own ∷ []
+  conditions_are = (λ i. and_own (views_none i) (k.is_own i))
+
+  under_kinds : columns (Base t.base) ≡ Ok (base_kinds t.leaf.table)
+  under_kinds = ap (λ (p : ℕ). columns (Base p)) t.is_under ∙ well.leaf.kinds_are
+
+  under_stands : StandsOn columns parameters t.base k.own
+  under_stands = subst (λ (p : ℕ). StandsOn columns parameters p k.own) (sym t.is_under) (own_stands columns parameters t k.own well k.is_own)
+
+  module _ (rows_are : AllByRecursion (λ (r : Numbered). IsRowOf (base_kinds t.leaf.table) r.row) (table_at content t.base).rows) (keyed : are_keyed keys content ≡ true) where
+    abbrev target_test : Numbered → Outcome Bool
+    target_test = is_true_of tables values caller k.own
+
+    abbrev has_its_key : Numbered → Bool
+    has_its_key = has_key (key_at keys t.base known.key) known.values
 
     abbrev pub found_row : Option Numbered
-    found_row = with_key (table_at content t.base) own_columns known.values
+    found_row = with_key (table_at content t.base) (key_at keys t.base known.key) known.values
 
     abbrev numbers_of_rows : List Numbered → Outcome (List ℕ)
     numbers_of_rows rs = Ok (map (λ (r : Numbered). r.number) rs)
@@ -305,18 +329,18 @@ module _ (tables : TablePlace → Outcome (List Row)) (columns : TableKinds) (pa
     abbrev pub whole_search : Outcome (List ℕ)
     whole_search = and_then (stored_numbered content t.base) (numbers_chosen (is_true_of tables values caller) (conditions_of t))
 
-    search_is : whole_search ≡ and_then (decided test_own has_it found_row) numbers_of_rows
+    search_is : whole_search ≡ and_then (decided target_test has_its_key found_row) numbers_of_rows
     search_is =
-        ap (λ (o : Outcome (List Numbered)). and_then o (numbers_chosen (is_true_of tables values caller) (conditions_of t))) (there_so content t.base k.table)
+        ap (λ (o : Outcome (List Numbered)). and_then o (numbers_chosen (is_true_of tables values caller) (conditions_of t))) (there_so content t.base k.on.table)
         ∙ ap (λ (cs : List BoundCond). numbers_chosen (is_true_of tables values caller) cs (table_at content t.base).rows) conditions_are
-        ∙ ap (λ (o : Outcome (List Numbered)). and_then o numbers_of_rows) (itself test_own has_it (kept test_own (table_at content t.base).rows))
+        ∙ ap (λ (o : Outcome (List Numbered)). and_then o numbers_of_rows) (itself target_test has_its_key (kept target_test (table_at content t.base).rows))
         ∙ ap (λ (o : Outcome (List Numbered)). and_then o numbers_of_rows)
-        (scan_finds test_own has_it (table_at content t.base).rows all_out (at_most_one own_columns known.values (table_at content t.base).rows (distinct_at keys content t.base known.key keyed k.table k.key)))
+        (rows_kept tables columns parameters values caller given bases content keys t.base t.leaf.table k.own known k.on (base_under bases keys t base keys_are) under_kinds under_stands keys_are nulls rows_are keyed)
 
     -- no row has the key
     pub none_found : (numbers : Vec ℕ Global) → found_row ≡ None → numbers.items ≡ [] → whole_search ≡ Ok (numbers_in numbers)
     none_found numbers none empty =
-        search_is ∙ ap (λ (o : Option Numbered). and_then (decided test_own has_it o) numbers_of_rows) none
+        search_is ∙ ap (λ (o : Option Numbered). and_then (decided target_test has_its_key o) numbers_of_rows) none
         ∙ ap (λ (ns : List ℕ). let is : Outcome (List ℕ) = Ok ns in is) (sym empty)
 
     -- what the conditions say of one row
@@ -326,13 +350,13 @@ module _ (tables : TablePlace → Outcome (List Row)) (columns : TableKinds) (pa
     one_condition (Err s) = refl
 
     module _ (r : Numbered) (is : found_row ≡ Some r) where
-      said : are_true (truth_on_row tables values caller r.row) (conditions_of t) ≡ test_own r
-      said = ap (are_true (truth_on_row tables values caller r.row)) conditions_are ∙ one_condition (test_own r)
+      said : are_true (truth_on_row tables values caller r.row) (conditions_of t) ≡ target_test r
+      said = ap (are_true (truth_on_row tables values caller r.row)) conditions_are ∙ one_condition (target_test r)
 
       search_at : (o : Outcome Bool) → are_true (truth_on_row tables values caller r.row) (conditions_of t) ≡ o
           → whole_search ≡ and_then (and_then o (λ passes. Ok (if passes then r ∷ [] else []))) numbers_of_rows
       search_at o e =
-          search_is ∙ ap (λ (x : Option Numbered). and_then (decided test_own has_it x) numbers_of_rows) is
+          search_is ∙ ap (λ (x : Option Numbered). and_then (decided target_test has_its_key x) numbers_of_rows) is
           ∙ ap (λ (x : Outcome Bool). and_then (and_then x (λ passes. Ok (if passes then r ∷ [] else []))) numbers_of_rows) (sym said ∙ e)
 
       numbers_if : (b : Bool) → map (λ (x : Numbered). x.number) (if b then r ∷ [] else []) ≡ (if b then r.number ∷ [] else [])

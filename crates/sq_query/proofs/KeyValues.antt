@@ -1,4 +1,4 @@
--- What the tests by which a target names a row compare its columns with has a value: a literal, with or without a sign, or a parameter.
+-- What the tests by which a condition names a row compare its columns with has a value: a literal, with or without a sign, or a parameter.
 use Rattle.std.proofs.Common.{◌≡◌, ℕ, zero, suc, ◌<◌, Bool, true, false, List, [], ◌∷◌, length, map, take, slice_index_or, Option, Some, None, Result, refl, sym, ap, subst, ◌∙◌, arith, Ok, Err}
 use Rattle.std.specs.Prelude.{⊤, IfErr, IfSome, if◌then◌else◌, nat_eq, option_to_list}
 use Rattle.std.specs.List.{AllByRecursion, Contains, list_all, list_any}
@@ -24,7 +24,7 @@ use Rattle.sq_meaning.proofs.SureLaws.{all_passed, sure_value}
 use Rattle.sq_meaning.proofs.ValueKinds.{value_fits}
 use Rattle.sq_bound.specs.Condition.{PlacedCond, cond_of, conj_of, test_of}
 use Rattle.sq_bound.specs.Expression.{PlacedExpr, expr_of}
-use Rattle.sq_bound.specs.Keyed.{is_constant, names_one_of}
+use Rattle.sq_bound.specs.Keyed.{is_constant, names_key, names_one_of}
 use Rattle.sq_bound.specs.WellFormed.{IsCond, IsTarget, TableKinds, of_base_at}
 use Rattle.sq_bound.specs.declared.condition.BoundCond.{BoundCond, out-BoundCond}
 use Rattle.sq_bound.specs.declared.condition.BoundConj.{BoundConj, out-BoundConj}
@@ -39,10 +39,10 @@ use Rattle.sq_expression.specs.Fault.{Meets, MeetsAs}
 use Rattle.sq_expression.specs.Frame.{inputs_of}
 use Rattle.sq_expression.specs.declared.fault.Fault.{Fault}
 use Rattle.sq_expression.specs.declared.fault.Fault.TheVariants as fault
-use Rattle.sq_query.specs.Key.{AreKeyTests, HaveValues, IsEquality}
+use Rattle.sq_query.specs.Key.{AreFirstTests, HaveValues, IsEquality, StandsOn}
 use Rattle.sq_query.specs.Row.{outside}
 use Rattle.sq_query.proofs.KeyLacked.{none_fit}
-use Rattle.sq_query.proofs.KeyNames.{firsts_name, key_tests_start}
+use Rattle.sq_query.proofs.KeyNames.{first_tests_start, firsts_name}
 use Rattle.sq_query.proofs.KeyedRows.{inputs_are}
 
 -- ---- lists
@@ -82,11 +82,14 @@ module _ (columns : TableKinds) (parameters : List Kind) where
       by None h e = cc
       by (Some d) h e = let same : d ≡ own = cc in subst (IsCond columns parameters (of_base_at t.leaf.table.place) []) same h
 
-  pub tests_well : (t : Target) (own : BoundCond) (term : BoundConj) → IsTarget columns parameters t → t.condition ≡ Some own → (out-BoundCond own).terms ≡ term ∷ []
-      → AllByRecursion (λ x. IsTestAt t.leaf.table.place (test_of [] x)) (out-BoundConj term).tests
-  tests_well t own term well is only =
-      let place : ℕ = t.leaf.table.place in
-      let whole : IsTestAt place (cond_of [] own) = subst (IsTestAt place) (sym ((own_well t own well is).is_tree [])) ((own_well t own well is).stands no_tables) in
+  -- so it stands on the rows of the base table
+  pub own_stands : (t : Target) (own : BoundCond) → IsTarget columns parameters t → t.condition ≡ Some own → StandsOn columns parameters t.leaf.table.place own
+  own_stands t own well is rows_of =
+      let c = own_well t own well is in
+      subst (WellFormedCond (by_place rows_of) known_kinds (IsDeclaredAt parameters) (of_base_at t.leaf.table.place)) (sym (c.is_tree [])) (c.stands rows_of)
+
+  pub tests_stand : (place : ℕ) (own : BoundCond) (term : BoundConj) → (out-BoundCond own).terms ≡ term ∷ [] → IsTestAt place (cond_of [] own) → AllByRecursion (λ x. IsTestAt place (test_of [] x)) (out-BoundConj term).tests
+  tests_stand place own term only whole =
       let taken : IsTestAt place (disjunction (conds (conjunction (conds (map (test_of []) (out-BoundConj term).tests)) ∷ []))) = subst (IsTestAt place) (term_tree own term only) whole in
       tests_at place (out-BoundConj term).tests taken.0
 
@@ -173,19 +176,19 @@ module _ (columns : TableKinds) (parameters : List Kind) (values : List Value) (
   all_names : (key : List ℕ) (ts : List BoundTest) → list_all (names_one_of key) (map (test_of []) ts) ≡ true → AllByRecursion (λ x. names_one_of key (test_of [] x) ≡ true) ts
   all_names key ts h = all_passed (λ x. names_one_of key (test_of [] x)) ts (sym (list_all-map (names_one_of key) (test_of []) ts) ∙ h)
 
-  firsts_valued : (t : Target) (own : BoundCond) (term : BoundConj) (key : List ℕ) (count : ℕ) → IsTarget columns parameters t → t.condition ≡ Some own → (out-BoundCond own).terms ≡ term ∷ []
+  firsts_valued : (place : ℕ) (own : BoundCond) (term : BoundConj) (key : List ℕ) (count : ℕ) → StandsOn columns parameters place own → (out-BoundCond own).terms ≡ term ∷ []
       → list_all (names_one_of key) (map (test_of []) (take count (out-BoundConj term).tests)) ≡ true → HaveValues (take count (out-BoundConj term).tests) values caller
-  firsts_valued t own term key count well is only names tables test n e among is_test =
+  firsts_valued place own term key count stands only names tables test n e among is_test =
       let firsts : List BoundTest = take count (out-BoundConj term).tests in
-      named_value t.leaf.table.place key tables test n e is_test
+      named_value place key tables test n e is_test
       (all_contained (λ x. names_one_of key (test_of [] x) ≡ true) firsts among.0 test (all_names key firsts names) among.1 among.2)
-      (all_contained (λ x. IsTestAt columns parameters t.leaf.table.place (test_of [] x)) firsts among.0 test (all_first _ count (out-BoundConj term).tests (tests_well columns parameters t own term well is only)) among.1 among.2)
+      (all_contained (λ x. IsTestAt columns parameters place (test_of [] x)) firsts among.0 test (all_first _ count (out-BoundConj term).tests (tests_stand columns parameters place own term only (stands no_tables))) among.1 among.2)
 
-  pub key_tests_valued : (t : Target) (key : ℕ) (key_columns : List ℕ) (tests : List BoundTest) → IsTarget columns parameters t → t.key ≡ Some key → key_columns ≡ slice_index_or t.leaf.table.keys key key_columns
-      → AreKeyTests key_columns t tests → HaveValues tests values caller
-  key_tests_valued t key key_columns tests well is among r =
+  pub first_tests_valued : (place : ℕ) (own : BoundCond) (key : List ℕ) (tests : List BoundTest) → StandsOn columns parameters place own → names_key key (out-BoundCond own).terms ≡ true → AreFirstTests key own tests
+      → HaveValues tests values caller
+  first_tests_valued place own key tests stands named r =
       subst (λ (firsts : List BoundTest). HaveValues firsts values caller) (sym r.firsts)
-      (firsts_valued t r.own r.term key_columns (length key_columns) well r.is_own r.only_term (firsts_name key_columns (out-BoundConj r.term).tests (key_tests_start t key key_columns tests is among r)))
+      (firsts_valued place own r.term key (length key) stands r.only_term (firsts_name key (out-BoundConj r.term).tests (first_tests_start own key tests named r)))
 
 -- ---- a fault
 

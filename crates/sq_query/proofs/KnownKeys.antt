@@ -1,9 +1,8 @@
 -- A key whose values are known in a call is found, and one row at most is read then.
-use Rattle.std.proofs.Common.{◌≡◌, ◌+◌, ◌-◌, ◌^◌, ◌≤◌, ◌∙◌, ℕ, Bool, true, false, List, [], Option, Some, None, ap, arith, if◌then◌else◌, slice_index_or, subst, sym, Ok}
-use Rattle.std.specs.Prelude.{IsSome, is_some, not}
+use Rattle.std.proofs.Common.{◌≡◌, ◌+◌, ◌-◌, ◌^◌, ◌≤◌, ◌∙◌, ℕ, Bool, true, false, List, [], Option, Some, None, Result, ap, arith, if◌then◌else◌, slice_index_or, subst, sym, Ok, Err}
+use Rattle.std.specs.Prelude.{IfOk, IsSome, is_some, not}
 use Rattle.std.specs.List.{Contains}
 use Rattle.std.proofs.Math.Nat.{min-le_left}
-use Rattle.std.proofs.lemmas.List.{get_or_read}
 use Rattle.sq_lex.specs.declared.name.Name.{Name}
 use Rattle.sq_value.specs.SetFunctions.{is_null}
 use Rattle.sq_value.specs.declared.value.Value.{Value}
@@ -13,15 +12,15 @@ use Rattle.sq_meaning.specs.Expression.{value}
 use Rattle.sq_meaning.specs.Placed.{by_place}
 use Rattle.sq_meaning.specs.Status.{Outcome}
 use Rattle.sq_bound.specs.Expression.{expr_of}
+use Rattle.sq_bound.specs.declared.condition.BoundCond.{BoundCond}
 use Rattle.sq_bound.specs.declared.condition.BoundTest.{BoundTest}
 use Rattle.sq_bound.specs.declared.condition.TablePlace.{TablePlace}
 use Rattle.sq_bound.specs.declared.expression.BoundExpr.{BoundExpr}
 use Rattle.sq_bound.specs.declared.query.Target.{Target}
 use Rattle.sq_bound.proofs.QuietRows.{no_tables}
-use Rattle.sq_query.specs.Key.{AreKeyTests, IsEquality}
+use Rattle.sq_query.specs.Key.{AreFirstTests, AreKeyTests, IsEquality}
 use Rattle.sq_query.specs.Keyed.{AreKnownEqual, IsKeyed, IsKnownValue}
 use Rattle.sq_query.specs.Row.{outside}
-use Rattle.sq_query.proofs.KeyNames.{key_there}
 
 -- ---- what is found
 
@@ -44,12 +43,18 @@ pub key_noted : (t : Target) (parameters : List Value) (caller : Name) → t.key
 key_noted t parameters caller none keyed = let some : t.key ≡ Some keyed.key = keyed.is_noted in cc
 
 -- what the tests that name the columns of the key that is noted compare them with is known
-pub tests_known : (t : Target) (key : ℕ) (columns : List ℕ) (tests : List BoundTest) (parameters : List Value) (caller : Name) → t.key ≡ Some key → columns ≡ slice_index_or t.leaf.table.keys key columns
-    → AreKeyTests columns t tests → IsKeyed t parameters caller → AreKnownEqual tests parameters caller
-tests_known t key columns tests parameters caller is among named keyed =
+pub tests_known : (t : Target) (own : BoundCond) (key : ℕ) (columns : List ℕ) (tests : List BoundTest) (parameters : List Value) (caller : Name) → t.key ≡ Some key → t.condition ≡ Some own
+    → columns ≡ slice_index_or t.leaf.table.keys key [] → AreFirstTests columns own tests → IsKeyed t parameters caller → AreKnownEqual tests parameters caller
+tests_known t own key columns tests parameters caller is is_own columns_are r keyed =
     let same : key ≡ keyed.key = same_some key keyed.key t.key is keyed.is_noted in
-    let columns_are = get_or_read t.leaf.table.keys key columns (key_there t key is) among [] in
-    keyed.known tests (subst (λ (c : List ℕ). AreKeyTests c t tests) (columns_are ∙ ap (λ (k : ℕ). slice_index_or t.leaf.table.keys k []) same) named)
+    keyed.known tests
+    (subst (λ (c : List ℕ). AreKeyTests c t tests) (columns_are ∙ ap (λ (k : ℕ). slice_index_or t.leaf.table.keys k []) same)
+    (record { own = own; is_own = is_own; term = r.term; only_term = r.only_term; firsts = r.firsts }))
+
+-- what is found where one thing is known is found where that follows from another
+pub known_if : {A E : Type 0} (r : Result (Option A) E) (P Q : Type 0) → (Q → P) → IfOk r (λ found. P → IsSome found) → IfOk r (λ found. Q → IsSome found)
+known_if (Ok found) P Q f h = λ q. h (f q)
+known_if (Err e) P Q f h = tt
 
 -- ---- the meter
 

@@ -6,6 +6,7 @@ pub mod BroughtRows
 pub mod Chosen
 pub mod Finds
 pub mod Fitting
+pub mod InsideTables
 pub mod JoinedTerms
 pub mod KeyLacked
 pub mod KeyNames
@@ -29,6 +30,7 @@ pub mod ReadRows
 pub mod ReadTables
 pub mod Rows
 pub mod SameTables
+pub mod Searched
 pub mod ShortestKnown
 pub mod Sorting
 pub mod StableSort

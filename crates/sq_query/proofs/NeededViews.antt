@@ -16,7 +16,7 @@ use Rattle.sq_bound.specs.WellFormed.{IsSelect, Levels, TableKinds, before_view}
 use Rattle.sq_bound.specs.declared.condition.BoundSpecification.{BoundSpecification}
 use Rattle.sq_bound.specs.declared.condition.TablePlace.{TablePlace}
 use Rattle.sq_bound.specs.declared.condition.TablePlace.TheVariants.{Base, View}
-use Rattle.sq_query.specs.Needed.{Adds, AddsBefore, AreKnown, IsClosedAt, IsNeeded, NeedsMore, ReadsClause, ReadsCond, ReadsConds, ReadsSelect, cond_tables, select_tables, specification_tables}
+use Rattle.sq_query.specs.Needed.{Adds, AddsBefore, AreKnown, IsClosedAt, IsNeeded, NeedsMore, ReadsClause, ReadsCond, ReadsConds, ReadsInside, ReadsSelect, cond_tables, select_tables, specification_tables}
 use Rattle.sq_query.specs.declared.needed.Needed.{Needed}
 use Rattle.sq_query.proofs.Added.{cond_listed, cond_read, is, old_or_added, select_known, select_listed, select_needed, select_read}
 
@@ -64,6 +64,13 @@ reads_weaker P Q f q h = select_read Q q (all_weaker P Q f (select_tables q) (se
 
 pub cond_reads_weaker : (P Q : TablePlace → Type 0) → ((t : TablePlace) → P t → Q t) → (c : PlacedCond) → ReadsCond P c → ReadsCond Q c
 cond_reads_weaker P Q f c h = cond_read Q c (all_weaker P Q f (cond_tables c) (cond_listed P c h))
+
+pub inside_weaker : (P Q : TablePlace → Type 0) → ((t : TablePlace) → P t → Q t) → (q : PlacedSelect) → ReadsInside P q → ReadsInside Q q
+inside_weaker P Q f (select distinct list from filter by having) h = (of_clause filter h.0, of_clause having h.1)
+  where
+    of_clause : (c : PlacedClause) → ReadsClause P c → ReadsClause Q c
+    of_clause absent r = tt
+    of_clause (present c) r = cond_reads_weaker P Q f c r
 
 -- ---- what stands before a view
 

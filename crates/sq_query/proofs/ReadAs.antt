@@ -44,6 +44,11 @@ table_same context (Base p) = by (find (λ (t : BaseRows). nat_eq t.place p) con
     by (Some t) = refl
 table_same context (View p) = refl
 
+pub read_in : (context : Context) (read : Tables) → context.bases.now ≡ read.bases.items → context.views.now ≡ read.views.items → (rows_of : TablePlace → Outcome (List Row)) (s : BoundSpecification)
+    → ReadsSelect (λ t. rows_read read t ≡ rows_of t) (select_of s) → IsReadAs rows_of context s
+read_in context read bases_are views_are rows_of s reads =
+    reads_weaker (λ t. rows_read read t ≡ rows_of t) (λ t. table_rows context t ≡ rows_of t) (λ t h. table_same context t ∙ (λ i. rows_among (bases_are i) (views_are i) t) ∙ h) (select_of s) reads
+
 -- ---- there is no answer where nothing was known to be needed
 
 abbrev Seen : Type 0
@@ -67,9 +72,6 @@ module _ {E : Type 0} (r : Result Needed E) (content : Content) (read : Tables) 
 
     select_read_as : (n : Needed) → ReadsAsMeant n (rows_read read) tables → (s : BoundSpecification) → ReadsSelect (IsNeeded n) (select_of s) → IsReadAs tables context s
     select_read_as n as_meant s reads = reads_weaker (IsNeeded n) (λ t. table_rows context t ≡ tables t) (table_read n as_meant) (select_of s) reads
-
-    pub read_as : (s : BoundSpecification) → IfOk r (λ n. ReadsSelect (IsNeeded n) (select_of s)) → IsReadAs tables context s
-    read_as s reads = of_needed (λ n. ReadsAsMeant n (rows_read read) tables) (λ n. ReadsSelect (IsNeeded n) (select_of s)) meant reads (λ n as_meant needs. select_read_as n as_meant s needs)
 
     pub cond_read_as : (c : BoundCond) → IfOk r (λ n. (functions : List PlacedExpr) → ReadsCond (IsNeeded n) (cond_of functions c)) → ReadsCond (λ t. table_rows context t ≡ tables t) (cond_of [] c)
     cond_read_as c reads =

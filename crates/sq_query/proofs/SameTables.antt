@@ -1,5 +1,5 @@
 -- A tree whose tables, subqueries included, mean the same in two readings means the same in both.
-use Rattle.std.proofs.Common.{◌≡◌, List, [], ◌∷◌, refl, Ok}
+use Rattle.std.proofs.Common.{◌≡◌, ◌∙◌, Bool, List, [], ◌∷◌, refl, sym, ap, Ok}
 use Rattle.std.specs.Prelude.{if◌then◌else◌}
 use Rattle.std.specs.List.{AllByRecursion}
 use Rattle.sq_value.specs.SetFunctions.{is_null as is_null_value}
@@ -7,10 +7,10 @@ use Rattle.sq_value.specs.Truth.{negation, known}
 use Rattle.sq_tree.specs.declared.cond.Comparison.TheVariants.{Equal, LessOrEqual, GreaterOrEqual}
 use Rattle.sq_tree.specs.declared.cond.Quantifier.TheVariants as quantifier
 use Rattle.sq_meaning.specs.Status.{Outcome, and_then, each, kept}
-use Rattle.sq_meaning.specs.Syntax.{Conds, absent, present, select, compare, compare_subquery, compare_quantified, between, in_subquery, in_list, like, is_null, exists, negated, conjunction, disjunction, no_cond, a_cond}
-use Rattle.sq_meaning.specs.Environment.{Row, Env, alone, within}
+use Rattle.sq_meaning.specs.Syntax.{Conds, SelectList, absent, present, select, compare, compare_subquery, compare_quantified, between, in_subquery, in_list, like, is_null, exists, negated, conjunction, disjunction, no_cond, a_cond}
+use Rattle.sq_meaning.specs.Environment.{Row, Line, Env, Place, alone, within}
 use Rattle.sq_meaning.specs.Placed.{Placed, by_place}
-use Rattle.sq_meaning.specs.Query.{comparison, compared_with_rows, only_value, has_rows, and_also, or_else, any_in_turn, truth, all_truth, any_truth, clause_truth, is_true, rows}
+use Rattle.sq_meaning.specs.Query.{comparison, compared_with_rows, only_value, has_rows, and_also, or_else, any_in_turn, truth, all_truth, any_truth, clause_truth, is_true, scopes_of, listed_values, rows}
 use Rattle.sq_meaning.specs.Rows.{product, firsts, same_row}
 use Rattle.sq_bound.specs.Condition.{PlacedCond, PlacedClause, PlacedSelect}
 use Rattle.sq_bound.specs.declared.condition.TablePlace.{TablePlace}
@@ -59,3 +59,32 @@ module _ (f g : TablePlace → Outcome (List Row)) where
         (λ scopes. and_then (kept (λ scope. is_true (same_clause having same.2 (within scope env) i)) scopes)
         (λ left. and_then (each (λ scope. listed_over f g list (within scope env) i) left)
         (λ shown. Ok (if distinct then firsts same_row shown else shown)))))))
+
+  -- ---- over one table, where WHERE keeps the same of its rows
+
+  module _ (distinct : Bool) (list : SelectList (Placed TablePlace)) (table : TablePlace) (filter : PlacedClause) (by : List Place) (having : PlacedClause) (env : Env (Unit {0})) where
+    abbrev pub wanted_of : (TablePlace → Outcome (List Row)) → Line → Outcome Bool
+    wanted_of tables line = is_true (clause_truth (by_place tables) filter (within (alone (tt ∷ []) line) env))
+
+    abbrev shown_of : (TablePlace → Outcome (List Row)) → List Line → Outcome (List Row)
+    shown_of tables lines =
+        and_then (scopes_of (by_place tables) list by having (tt ∷ []) lines env)
+        (λ scopes. and_then (kept (λ scope. is_true (clause_truth (by_place tables) having (within scope env))) scopes)
+        (λ left. and_then (each (λ scope. listed_values (by_place tables) list (within scope env)) left)
+        (λ shown. Ok (if distinct then firsts same_row shown else shown))))
+
+    over_rows : (tables : TablePlace → Outcome (List Row)) (found : List Row) → tables table ≡ Ok found
+        → rows (by_place tables) (select distinct list (table ∷ []) filter by having) env ≡ and_then (kept (wanted_of tables) (product (found ∷ []))) (shown_of tables)
+    over_rows tables found is = ap (λ (o : Outcome (List Row)). and_then (and_then o (λ y. Ok (y ∷ []))) (λ ts. and_then (kept (wanted_of tables) (product ts)) (shown_of tables))) is
+
+    pub same_over : (whole few : List Row) → f table ≡ Ok whole → g table ≡ Ok few → ReadsClause (λ t. f t ≡ g t) filter → ReadsClause (λ t. f t ≡ g t) having
+        → kept (wanted_of f) (product (whole ∷ [])) ≡ kept (wanted_of f) (product (few ∷ []))
+        → rows (by_place f) (select distinct list (table ∷ []) filter by having) env ≡ rows (by_place g) (select distinct list (table ∷ []) filter by having) env
+    same_over whole few all some same_filter same_having left =
+        over_rows f whole all ∙ ap (λ (o : Outcome (List Line)). and_then o (shown_of f)) left
+        ∙ (λ i. and_then (kept (λ line. is_true (same_clause filter same_filter (within (alone (tt ∷ []) line) env) i)) (product (few ∷ [])))
+        (λ lines. and_then (scopes_over f g list by having (tt ∷ []) lines env i)
+        (λ scopes. and_then (kept (λ scope. is_true (same_clause having same_having (within scope env) i)) scopes)
+        (λ left. and_then (each (λ scope. listed_over f g list (within scope env) i) left)
+        (λ shown. Ok (if distinct then firsts same_row shown else shown))))))
+        ∙ sym (over_rows g few some)

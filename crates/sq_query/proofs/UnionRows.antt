@@ -9,7 +9,7 @@ use Rattle.sq_value.specs.declared.domain.Kind.{Kind}
 use Rattle.sq_value.specs.declared.value.Value.{Value}
 use Rattle.sq_meaning.specs.Status.{Outcome, and_then}
 use Rattle.sq_meaning.specs.declared.status.Status.{Status}
-use Rattle.sq_meaning.specs.Syntax.{union}
+use Rattle.sq_meaning.specs.Syntax.{specification, union}
 use Rattle.sq_meaning.specs.Environment.{Row, Env}
 use Rattle.sq_meaning.specs.Expression.{Reading}
 use Rattle.sq_meaning.specs.Kind.{Kinds as KindsBefore, common_kinds, query_kinds}
@@ -24,6 +24,7 @@ use Rattle.sq_bound.specs.Query.{PlacedQuery, query_of, term_of, union_of}
 use Rattle.sq_bound.specs.WellFormed.{TableKinds, IsSelect, IsQuery, kinds_of_results, kinds_of_select, kinds_of_query}
 use Rattle.sq_bound.specs.declared.condition.BoundSpecification.{BoundSpecification}
 use Rattle.sq_bound.specs.declared.condition.TablePlace.{TablePlace}
+use Rattle.sq_bound.specs.declared.names.BaseTable.{BaseTable}
 use Rattle.sq_bound.specs.declared.query.BoundQuery.{BoundQuery, out-BoundQuery}
 use Rattle.sq_bound.specs.declared.query.BoundTerm.{BoundTerm}
 use Rattle.sq_bound.specs.declared.query.BoundTerm.TheVariants.{Specification, Bracketed}
@@ -36,7 +37,8 @@ use Rattle.sq_expression.specs.Lines.{env_around}
 use Rattle.sq_condition.specs.Memo.{Meant}
 use Rattle.sq_condition.specs.Specification.{rows_meant}
 use Rattle.sq_condition.specs.Subquery.{KnowsQuery}
-use Rattle.sq_query.specs.Union.{AreBringable, AreFitting, HasUnionRows, HasTermRows, IsReadAs, MayReadAs, WereJoined, joined_rows}
+use Rattle.sq_query.specs.Needed.{FindsQuery, FindsSelect, ReadsSelect}
+use Rattle.sq_query.specs.Union.{AreBringable, AreFitting, HasUnionRows, HasTermRows, IsOnly, IsReadAs, MayReadAs, WereJoined, joined_rows}
 use Rattle.sq_expression.specs.declared.context.Context.{Context}
 use Rattle.sq_expression.specs.declared.fault.Fault.{Fault}
 use Rattle.sq_expression.specs.declared.fault.Fault.TheVariants as fault
@@ -56,6 +58,20 @@ with_union left u = union_of u left
 
 abbrev with_kinds : Kinds → BoundUnion → Kinds
 with_kinds left u = union_kinds u left
+
+-- ---- a query expression without UNION
+
+module _ (q : BoundQuery) (s : BoundSpecification) (only : IsOnly q s) where
+  pub only_meant : query_of q ≡ specification (select_of s)
+  only_meant = query_of-out q ∙ (λ i. fold with_union (term_of (only.0 i)) (only.1 i)) ∙ term_of-Specification s
+
+  pub only_specifications : specifications_of q ≡ s ∷ []
+  only_specifications =
+      specifications_of-out q ∙ (λ i. term_specifications (only.0 i) ++ flat_map union_specifications (only.1 i))
+      ∙ ap (λ (ss : List BoundSpecification). ss ++ []) (term_specifications-Specification s)
+
+pub only_finds : (bases : List BaseTable) (columns : TableKinds) (q : BoundQuery) (s : BoundSpecification) → IsOnly q s → FindsQuery bases columns q → FindsSelect bases columns s
+only_finds bases columns q s only finds = (finds.0, (subst (AllByRecursion (λ t. ReadsSelect (λ p. HasValue (columns p)) (select_of t))) (only_specifications q s only) finds.1).0)
 
 -- ---- columns are known beforehand
 

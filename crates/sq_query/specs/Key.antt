@@ -1,7 +1,8 @@
--- The key by which a target names one row of its base table (ISO/IEC 9075:1992, 13.7 and 13.10; own rule).
+-- The key by which a condition names one row of a base table (ISO/IEC 9075:1992, 7.6, 13.7 and 13.10; own rule).
 use Rattle.std.specs.Prelude.{◌≡◌, ◌<◌, ℕ, length, take, true, false, List, [], ◌∷◌, Some, Ok}
 use Rattle.std.specs.List.{AllZip, Contains}
 use Rattle.sq_lex.specs.declared.name.Name.{Name}
+use Rattle.sq_value.specs.declared.domain.Kind.{Kind}
 use Rattle.sq_value.specs.declared.value.Value.{Value}
 use Rattle.sq_value.specs.SetFunctions.{is_null}
 use Rattle.sq_store.specs.Content.{Content}
@@ -12,10 +13,11 @@ use Rattle.sq_meaning.specs.Syntax.{column, compare}
 use Rattle.sq_meaning.specs.Environment.{Row}
 use Rattle.sq_meaning.specs.Expression as meaning
 use Rattle.sq_meaning.specs.Placed.{by_place}
-use Rattle.sq_meaning.specs.WellFormed.{HasValue}
-use Rattle.sq_bound.specs.Condition.{test_of}
+use Rattle.sq_meaning.specs.WellFormed.{HasValue, IsDeclaredAt, WellFormedCond, kinds_by_place}
+use Rattle.sq_bound.specs.Condition.{cond_of, test_of}
 use Rattle.sq_bound.specs.Expression.{expr_of}
 use Rattle.sq_bound.specs.Keyed.{names_key}
+use Rattle.sq_bound.specs.WellFormed.{TableKinds, of_base_at}
 use Rattle.sq_bound.specs.declared.condition.BoundCond.{BoundCond, out-BoundCond}
 use Rattle.sq_bound.specs.declared.condition.BoundConj.{BoundConj, out-BoundConj}
 use Rattle.sq_bound.specs.declared.condition.BoundTest.{BoundTest}
@@ -29,11 +31,13 @@ use Rattle.sq_query.specs.declared.key.KnownKey.{KnownKey}
 abbrev pub IsEquality : ℕ → BoundExpr → BoundTest → Type 0
 IsEquality n e test = (item : ℕ) × (test_of [] test ≡ compare Equal (column (record { depth = 0; item = item; column = n })) (expr_of [] e))
 
--- the condition of a target names a row by a key with these columns
-abbrev pub NamesBy : List ℕ → Target → Type 0
-NamesBy columns t = (own : BoundCond) × (t.condition ≡ Some own) × (names_key columns (out-BoundCond own).terms ≡ true)
+-- the tests by which a condition names a row by a key with these columns: the first ones of its only term, as many as there are columns
+pub record AreFirstTests (columns : List ℕ) (own : BoundCond) (tests : List BoundTest) : Type 0 where
+  pub term : BoundConj
+  pub only_term : (out-BoundCond own).terms ≡ term ∷ []
+  pub firsts : tests ≡ take (length columns) (out-BoundConj term).tests
 
--- the tests by which it does: the first ones of the condition's only term, as many as the key has columns
+-- the tests by which a target does
 pub record AreKeyTests (columns : List ℕ) (t : Target) (tests : List BoundTest) : Type 0 where
   pub own : BoundCond
   pub is_own : t.condition ≡ Some own
@@ -56,15 +60,25 @@ pub record IsComparedWith (tests : List BoundTest) (parameters : List Value) (us
   pub has_value : (tables : TablePlace → Outcome (List Row)) → meaning.value (by_place tables) (expr_of [] expr) (outside [] parameters user) ≡ Ok v
   pub known : is_null v ≡ false
 
--- the key of the base table by which the target names a row, and for each of its columns the value with which one of the first tests of
--- the condition's only term, as many as there are columns, compares it
+-- a key of the base table at a place by which a condition on its rows names one, and for each of its columns the value with which one
+-- of the first tests of the condition's only term, as many as there are columns, compares it
+pub record IsKeyOn (place : ℕ) (own : BoundCond) (content : Content) (keys : List Keys) (parameters : List Value) (user : Name) (known : KnownKey) : Type 0 where
+  pub table : place < length content
+  pub key : known.key < length (keys_at keys place)
+  pub named : names_key (key_at keys place known.key) (out-BoundCond own).terms ≡ true
+  pub term : BoundConj
+  pub only_term : (out-BoundCond own).terms ≡ term ∷ []
+  pub values : AllZip (IsComparedWith (take (length (key_at keys place known.key)) (out-BoundConj term).tests) parameters user)
+      (key_at keys place known.key) known.values
+
+-- a condition that may stand on the rows of the base table at a place, whatever rows the tables have
+abbrev pub StandsOn : TableKinds → List Kind → ℕ → BoundCond → Type 0
+StandsOn columns parameters place own =
+    (rows_of : TablePlace → Outcome (List Row)) → WellFormedCond (by_place rows_of) (kinds_by_place columns parameters) (IsDeclaredAt parameters) (of_base_at place) (cond_of [] own)
+
+-- the key that is noted for a target, on whose condition it is such a one
 pub record IsKeyOf (t : Target) (content : Content) (keys : List Keys) (parameters : List Value) (user : Name) (known : KnownKey) : Type 0 where
   pub own : BoundCond
   pub is_own : t.condition ≡ Some own
   pub is_key : t.key ≡ Some known.key
-  pub term : BoundConj
-  pub only_term : (out-BoundCond own).terms ≡ term ∷ []
-  pub table : t.base < length content
-  pub key : known.key < length (keys_at keys t.base)
-  pub values : AllZip (IsComparedWith (take (length (key_at keys t.base known.key)) (out-BoundConj term).tests) parameters user)
-      (key_at keys t.base known.key) known.values
+  pub on : IsKeyOn t.base own content keys parameters user known

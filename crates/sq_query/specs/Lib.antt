@@ -4,6 +4,7 @@ pub mod MayRead
 pub mod Needed
 pub mod Order
 pub mod Row
+pub mod Search
 pub mod Table
 pub mod Target
 pub mod Union

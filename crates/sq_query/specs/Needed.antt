@@ -65,6 +65,10 @@ module _ (P : TablePlace → Type 0) where
     pub ReadsSelect : PlacedSelect → Type 0
     ReadsSelect (select distinct list from filter by having) = AllByRecursion P from × ReadsClause filter × ReadsClause having
 
+  -- of each that stands in a subquery of a query specification
+  abbrev pub ReadsInside : PlacedSelect → Type 0
+  ReadsInside (select distinct list from filter by having) = ReadsClause filter × ReadsClause having
+
 -- ---- the tables that a statement reads are there
 
 -- the base tables that are known are there, and so is each table in the FROM clauses of a query specification, subqueries included
@@ -136,6 +140,10 @@ abbrev mutual
 
   pub select_tables : PlacedSelect → List TablePlace
   select_tables (select distinct list from filter by having) = from ++ (clause_tables filter ++ clause_tables having)
+
+-- those of the subqueries of a query specification
+abbrev pub inside_tables : PlacedSelect → List TablePlace
+inside_tables (select distinct list from filter by having) = clause_tables filter ++ clause_tables having
 
 abbrev pub specification_tables : BoundSpecification → List TablePlace
 specification_tables s = select_tables (select_of s)

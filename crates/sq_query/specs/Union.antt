@@ -20,8 +20,9 @@ use Rattle.sq_bound.specs.WellFormed.{TableKinds, IsSelect, kinds_of_query, kind
 use Rattle.sq_bound.specs.declared.condition.BoundSpecification.{BoundSpecification}
 use Rattle.sq_bound.specs.declared.condition.ResultColumn.{ResultColumn}
 use Rattle.sq_bound.specs.declared.condition.TablePlace.{TablePlace}
-use Rattle.sq_bound.specs.declared.query.BoundQuery.{BoundQuery}
+use Rattle.sq_bound.specs.declared.query.BoundQuery.{BoundQuery, out-BoundQuery}
 use Rattle.sq_bound.specs.declared.query.BoundTerm.{BoundTerm}
+use Rattle.sq_bound.specs.declared.query.BoundTerm.TheVariants as term
 use Rattle.sq_bound.specs.declared.query.BoundUnion.{BoundUnion}
 use Rattle.sq_expression.specs.Fault.{HasRows}
 use Rattle.sq_expression.specs.Frame.{table_rows}
@@ -62,6 +63,10 @@ HasTermRows result term context =
     (columns : TableKinds) (parameters : List Kind) (tables : TablePlace → Outcome (List Row)) → MayReadAs columns parameters tables context (term_specifications term)
     → (kinds : List Kind) → term_kinds term ≡ Ok kinds
     → HasRows result (query_rows (by_place tables) (kinds_by_place columns parameters) (term_of term) (env_around None context))
+
+-- a query expression is this query specification, without UNION
+abbrev pub IsOnly : BoundQuery → BoundSpecification → Type 0
+IsOnly query s = ((out-BoundQuery query).first ≡ term.Specification s) × ((out-BoundQuery query).rest ≡ [])
 
 -- ---- both sides of UNION
 

@@ -11,6 +11,7 @@ mod key;
 mod needed;
 mod order;
 mod row;
+mod search;
 mod table;
 mod target;
 mod union;

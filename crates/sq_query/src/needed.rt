@@ -8,7 +8,7 @@ ghost use Rattle.sq_bound.specs.Expression.{PlacedExpr};
 ghost use Rattle.sq_bound.specs.Joined.{specifications_of, term_specifications};
 ghost use Rattle.sq_bound.specs.WellFormed.{BasesAreThere, TableKinds};
 ghost use Rattle.sq_meaning.specs.Target.{has_subquery, clause_has_subquery};
-ghost use Rattle.sq_query.specs.Needed.{Adds, AddsBefore, AreKnown, IsClosed, IsClosedAt, IsNeeded, NeedsMore, ReadsCond, ReadsSelect, NeedsNone, clause_tables, cond_tables, places_in, specification_tables, specifications_tables, with_place, with_table};
+ghost use Rattle.sq_query.specs.Needed.{Adds, AddsBefore, AreKnown, IsClosed, IsClosedAt, IsNeeded, NeedsMore, ReadsCond, ReadsInside, ReadsSelect, NeedsNone, clause_tables, cond_tables, inside_tables, places_in, specification_tables, specifications_tables, with_place, with_table};
 ghost use Rattle.sq_query.specs.Table.{IsViewAt};
 ghost use Rattle.sq_bound.specs.declared.condition.TablePlace.TheVariants as at_place;
 
@@ -46,6 +46,20 @@ impl Needed {
     {
         let mut needed = Needed::new(alloc);
         needed.add_of_specification(query)?;
+        Ok(needed)
+    }
+
+    /// The tables in the FROM clauses of a query specification's subqueries.
+    pub(crate) fn of_subqueries(
+        alloc: Global,
+        query: &BoundSpecification,
+    ) -> Result<Needed, AllocError>
+        ensures reads { IfOk result (λ needed. ReadsInside (IsNeeded needed) (select_of query.now)) }
+        ensures known { (columns : TableKinds) → ReadsInside (λ t. HasValue (columns t)) (select_of query.now)
+            → IfOk result (AreKnown columns) }
+    {
+        let mut needed = Needed::new(alloc);
+        needed.add_of_subqueries(query)?;
         Ok(needed)
     }
 
@@ -160,6 +174,13 @@ impl Needed {
         for table in query.from.tables.as_slice() {
             self.add(*table)?;
         }
+        self.add_of_subqueries(query)
+    }
+
+    #[cycle(needed_of_cond)]
+    fn add_of_subqueries(&mut self, query: &BoundSpecification) -> Result<(), AllocError>
+        ensures { OnOk result (Adds self.old (inside_tables (select_of query.now)) self.new) }
+    {
         self.add_of_optional(&query.condition)?;
         match &query.grouping {
             Some(grouping) => self.add_of_optional(&grouping.having),

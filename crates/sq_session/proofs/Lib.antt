@@ -30,3 +30,4 @@ pub mod TableWalk
 pub mod Taken
 pub mod Targets
 pub mod Unread
+pub mod Outputs

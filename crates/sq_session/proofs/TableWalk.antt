@@ -1,5 +1,5 @@
 -- A walk over a table by rising numbers.
-use Rattle.std.proofs.Common.{◌≡◌, ℕ, ◌+◌, ◌<◌, ◌≤◌, Bool, true, false, nat_eq, nat_le, nat_lt, List, [], ◌∷◌, arith, refl, Some, None, find, filter, subst, ap}
+use Rattle.std.proofs.Common.{◌≡◌, ℕ, ◌+◌, ◌<◌, ◌≤◌, Bool, true, false, nat_eq, nat_le, nat_lt, List, [], ◌∷◌, length, arith, refl, Some, None, find, filter, subst, ap}
 use Rattle.std.specs.Option.{option_map}
 use Rattle.std.proofs.lemmas.Grind.{common_steps}
 use Rattle.sq_store.specs.declared.table.Numbered.{Numbered}
@@ -88,6 +88,22 @@ walked_below row_numbers content table number f h e =
     let t = table_at content table in
     let below : f.number < t.next = found_below 1 number t.rows t.next f (rows_rise_at row_numbers content table h) e in
     omega (arith, below, next_at row_numbers content table h)
+
+rising_length : (low : ℕ) (rs : List Numbered) (next : ℕ) → rising_between low rs next ≡ true → low + length rs ≤ next
+rising_length low [] next h = grind (arith, common_steps)
+rising_length low (r ∷ rs) next h = grind (arith, common_steps, rising_length (r.number + 1) rs next)
+
+fewer_from : (number : ℕ) (rs : List Numbered) → length (rows_from number rs) ≤ length rs
+fewer_from number [] = omega arith
+fewer_from number (r ∷ rs) = grind (arith, common_steps, fewer_from number rs)
+
+-- there are at most as many rows as row numbers
+pub rows_counted : (row_numbers : ℕ) (content : Content) (table number : ℕ) → all_rising row_numbers content ≡ true → length (rows_from number (table_at content table).rows) ≤ row_numbers
+rows_counted row_numbers content table number h =
+    let t = table_at content table in
+    let all : 1 + length t.rows ≤ t.next = rising_length 1 t.rows t.next (rows_rise_at row_numbers content table h) in
+    let next = next_at row_numbers content table h in
+    omega (arith, all, next, fewer_from number t.rows)
 
 -- what is found from a number is the row under its number
 pub found_row : (content : Content) (table number : ℕ) (f : Numbered) → first_from (table_at content table) number ≡ Some f → row_on (table_at content table) (Some f.number) ≡ Some f.row

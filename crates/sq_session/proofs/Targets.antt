@@ -1,5 +1,5 @@
 -- Targets that are set one after the other.
-use Rattle.std.proofs.Common.{◌&&◌, nat_lt, true, ◌≡◌, ◌++◌, ◌||◌, ◌+◌, ◌<◌, ◌≤◌, ℕ, zero, suc, Bool, false, List, [], ◌∷◌, length, drop, get_or, nat_eq, eq-eqb, Some, Ok, Err, refl, ap, sym, ◌∙◌, append_assoc, arith}
+use Rattle.std.proofs.Common.{◌&&◌, nat_lt, true, ◌≡◌, ◌++◌, ◌||◌, ◌+◌, ◌<◌, ◌≤◌, ℕ, zero, suc, Bool, false, List, [], ◌∷◌, length, drop, get_or, slice_get, nat_eq, eq-eqb, Some, Ok, Err, refl, ap, sym, ◌∙◌, append_assoc, arith}
 use Rattle.std.proofs.lemmas.List.{drop_more}
 use Rattle.std.proofs.lemmas.Bool.{ltb-true}
 use Rattle.std.proofs.lemmas.Option.{slice_get-get_or}
@@ -33,6 +33,13 @@ target_there n (x ∷ ts) (suc i) t h lt =
 
 pub domain_is : (ps : List ParameterDesc) (n : ℕ) (p : ParameterDesc) → n < length ps → p ≡ get_or ps n p → domain_at ps n ≡ p.domain
 domain_is ps n p lt at = ap (λ o. option_map_or (λ (q : ParameterDesc). q.domain) o domain.Int) (slice_get-get_or ps n p lt ∙ ap Some (sym at))
+
+-- ---- the value at a place
+
+pub value_at : (vs : List Value) (i : ℕ) (v : Value) → slice_get vs i ≡ Some v → v ≡ get_or vs i v
+value_at [] i v e = cc
+value_at (x ∷ vs) zero v e = let same : x ≡ v = cc in sym same
+value_at (x ∷ vs) (suc i) v e = value_at vs i v e
 
 -- ---- one after the other
 

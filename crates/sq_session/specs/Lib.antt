@@ -1,4 +1,5 @@
 pub mod Asked
+pub mod Columns
 pub mod Cursors
 pub mod Fetch
 pub mod Kind
@@ -7,6 +8,7 @@ pub mod Metered
 pub mod Open
 pub mod Parameter
 pub mod Reads
+pub mod Retrieved
 pub mod Schemas
 pub mod Session
 pub mod State

@@ -1,11 +1,15 @@
 -- A session.
 use Rattle.std.specs.Prelude.{◌≡◌, ℕ, Bool, ◌&&◌, List, map, nat_eq, position, Option}
 use Rattle.std.specs.Cmp.Lexicographic.{pointwise}
+use Rattle.std.specs.Option.{option_map}
 use Rattle.std.specs.Result.{result_map_both}
 use Rattle.sq_lex.specs.declared.name.Name.{Name}
+use Rattle.sq_store.specs.Content.{table_at}
+use Rattle.sq_store.specs.declared.table.Numbered.{Numbered}
 use Rattle.sq_tree.specs.declared.module.ModuleText.{ModuleText}
 use Rattle.sq_bound.specs.Known.{KnownTables}
 use Rattle.sq_bound.specs.declared.names.BaseTable.{BaseTable}
+use Rattle.sq_catalog.specs.Catalog.{table_number}
 use Rattle.sq_catalog.specs.declared.catalog.FullName.{FullName}
 use Rattle.sq_module.specs.declared.program.BoundProcedure.{BoundProcedure}
 use Rattle.sq_module.specs.declared.program.DeclaredCursor.{DeclaredCursor}
@@ -33,6 +37,10 @@ is_procedure «module» name p = pointwise nat_eq «module» p.«module» && poi
 -- the number of the procedure of this module and name
 abbrev pub procedure_number : List Procedure → Name → Name → Option ℕ
 procedure_number procedures «module» name = position (is_procedure «module» name) procedures
+
+-- the rows of the base table of this owner and name, with their numbers, if there is one
+abbrev pub rows_named : Session → Name → Name → Option (List Numbered)
+rows_named s user name = option_map (λ n. (table_at s.state.tables n).rows) (table_number s.tables user name)
 
 -- ---- the procedures of a program
 

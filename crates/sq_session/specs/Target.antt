@@ -1,5 +1,5 @@
 -- Targets: the parameters that get the values of a row (ISO/IEC 9075:1992, 9.1, 13.3 and 13.5).
-use Rattle.std.specs.Prelude.{◌≡◌, ⊤, Result, ℕ, suc, ℤ, negsuc, Bool, true, false, not, ◌||◌, ◌++◌, List, [], ◌∷◌, find, is_some, length, nat_eq, slice_get, if◌then◌else◌, Option, None, Some, Ok, Err}
+use Rattle.std.specs.Prelude.{◌≡◌, ◌≤◌, ⊤, Result, ℕ, suc, ℤ, negsuc, Bool, true, false, not, ◌||◌, ◌++◌, List, [], ◌∷◌, find, is_some, length, nat_eq, slice_get, if◌then◌else◌, Option, None, Some, Ok, Err}
 use Rattle.std.specs.List.{AllByRecursion}
 use Rattle.std.specs.Option.{option_map_or}
 use Rattle.sq_value.specs.Domain.{is_of_numbers}
@@ -83,6 +83,16 @@ each_set parameters (t ∷ ts) (v ∷ vs) = and_then (target_set parameters t v)
 
 abbrev pub row_set : List ParameterDesc → List Target → List Value → Outcome Assignments
 row_set parameters targets row = and_then (well_formed_if (nat_eq (length targets) (length row))) (λ as_many. each_set parameters targets row)
+
+-- ---- what parameters are set to
+
+-- the first assignment to the parameter at a place
+abbrev pub set_to : List Assignment → ℕ → Option Assignment
+set_to set place = find (λ a. nat_eq a.parameter place) set
+
+-- parameters from a place on are set alike
+abbrev pub AreSetAlike : ℕ → List Assignment → List Assignment → Type 0
+AreSetAlike from set other = (place : ℕ) → from ≤ place → set_to set place ≡ set_to other place
 
 -- ---- rows that targets take
 

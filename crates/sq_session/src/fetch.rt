@@ -20,15 +20,14 @@ ghost use Rattle.sq_session.specs.Target.{MayTake, MayTakeRows, row_reply};
 use crate::called::Called;
 use crate::cursor::{CursorState, NumbersCursor, RowsCursor, next_there, place_reached, row_at};
 use crate::reply::Done;
+use crate::retrieved::RetrievedRow;
 use crate::target::row_retrieved;
 use crate::walk::{WalkingCursor, next_of_walk};
 use sq_bound::{BoundFetch, CursorBody, UpdatableQuery};
 use sq_expression::{Failure, Fault};
-use sq_items::Items;
 use sq_meaning::Status;
 use sq_store::{Meter, Store};
-use sq_value::{Row, Value};
-use std::alloc::{AllocError, Global};
+use sq_value::Row;
 
 /// FETCH of the cursor with this number. Where retrieving ends with a status, the cursor stays on the row that it
 /// reached.
@@ -117,7 +116,10 @@ fn fetch_row(
     let place = place_reached(fetch.orientation, called.values, rows.len(), cursor.place);
     let done = match row_at(rows, place) {
         None => Done::without_outputs(called.alloc, Status::NoData),
-        Some(row) => row_retrieved(called, fetch.outputs.as_slice(), row.as_slice())?,
+        Some(row) => {
+            let row = RetrievedRow::whole(row.as_slice());
+            row_retrieved(called, fetch.outputs.as_slice(), &row)?
+        }
     };
     cursor.place = place;
     Ok(done)
@@ -228,25 +230,6 @@ fn shown_row_retrieved(
     ensures reply { Meets result (row_reply called.now.procedure.now.parameters fetch.now.outputs (in_columns row.now query.now.columns)) }
     ensures right { IfSome (ending result) EndsRight }
 {
-    match shown(called.alloc, row.as_slice(), query.columns.as_slice()) {
-        Ok(row) => {
-            let done = row_retrieved(called, fetch.outputs.as_slice(), row.as_slice());
-            drop(row);
-            done
-        }
-        Err(_) => Err(Fault::NoMemory),
-    }
-}
-
-/// The values of a row in some columns.
-#[tactic(auto, using(crate::proofs::Shown::column_there))]
-fn shown(alloc: Global, row: &[Value], columns: &[usize]) -> Result<Row, AllocError>
-    requires { are_positions (length row.now) columns.now ≡ true }
-    ensures { IfOk result (λ shown. shown ≡ in_columns row.now columns.now) }
-{
-    let mut values = Items::new(alloc);
-    for column in columns {
-        values.push(row[*column].copy(alloc)?)?;
-    }
-    Ok(values)
+    let row = RetrievedRow::in_columns(row.as_slice(), query.columns.as_slice());
+    row_retrieved(called, fetch.outputs.as_slice(), &row)
 }

@@ -19,12 +19,15 @@ mod open;
 mod parameter;
 mod reads;
 mod reply;
+mod retrieved;
+mod rows;
 mod session;
 mod target;
 mod walk;
 
 pub use cursor::{CursorState, NumbersCursor, RowsCursor};
 pub use reply::{Done, Output, Reply};
+pub use rows::TableRows;
 pub use session::Session;
 pub use sq_bound::BindFault;
 pub use sq_module::{ModuleRefusal, ModuleRefusalName, SessionFault};

@@ -197,7 +197,7 @@ impl<S: Store> Machine<S> {
         requires taken { TakeKinds (kinds_of_parameters called.now.procedure.now.parameters) select.now.outputs
             (kinds_of_select select.now.query) }
         requires given { AreGiven (kinds_of_parameters called.now.procedure.now.parameters) called.now.values.now }
-        requires in_domains { AreInDomains called.now.catalog.now.bases self.now.tables }
+        requires whole { IsWhole (column_kinds called.now.catalog.now) called.now.catalog.now.bases called.now.cursors.now self.now }
         ensures step { IfSome (ending result) (Selects (schemas_of called.now.catalog.now)
             (selecting called.now.procedure.now.user called.now.procedure.now.parameters select.now) called.now.values.now self.now.tables) }
         ensures right { IfSome (ending result) EndsRight }

@@ -106,6 +106,8 @@ fn opened_over_rows<S: Store>(
     requires asked { IsQuery (column_kinds called.now.catalog.now) (kinds_of_parameters called.now.procedure.now.parameters) query.now }
     requires given { AreGiven (kinds_of_parameters called.now.procedure.now.parameters) called.now.values.now }
     requires domains { AreInDomains called.now.catalog.now.bases (S.content_now store.now) }
+    requires keys { S.key_columns store.now ≡ keys_of_bases called.now.catalog.now.bases }
+    requires not_null { not_nulls_hold called.now.catalog.now.bases (S.content_now store.now) ≡ true }
     ensures opened { HasOpened Over.rows (RowsAreMeant (schemas_of called.now.catalog.now) query.now order.now called.now.procedure.now.user
         called.now.procedure.now.parameters called.now.values.now (S.content_now store.now)) called.now.values.now
         (S.content_now store.now) result }

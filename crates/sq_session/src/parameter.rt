@@ -79,7 +79,7 @@ pub(crate) fn started_values(
     ensures started { IfOk result (λ started. started ≡ started_values parameters.now values.now) }
     ensures given { IfOk result (AreGiven (kinds_of_parameters parameters.now)) }
 {
-    let mut started = Items::new(alloc);
+    let mut started = Items::from_vec(Vec::with_capacity(alloc, parameters.len())?);
     for (parameter, value) in parameters.iter().zip(values) {
         started.push(started_value(alloc, *parameter, value)?)?;
     }

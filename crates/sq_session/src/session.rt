@@ -1,11 +1,9 @@
 //! A session: the modules, the tables, and the cursors.
 
 ghost use Rattle.std.specs.Prelude.{◌≡◌, ◌<◌, false, true, length, map, IfErr, IfOk, IsOk, MatchResult, None, OnErr, OnOk};
-ghost use Rattle.sq_store.specs.Content.{table_at};
 ghost use Rattle.sq_rules.specs.ModuleRefusal.{first_module_refusal};
 ghost use Rattle.sq_module.specs.FirstRefusal.{IsFaultFor};
 ghost use Rattle.sq_module.specs.Refusal.{IsOfSomeModule};
-ghost use Rattle.sq_session.specs.Lent.{lent};
 ghost use Rattle.sq_catalog.specs.Catalog.{known, table_number};
 ghost use Rattle.sq_session.specs.Kind.{fault_at, fits_at, kind_at, needs_memory};
 ghost use Rattle.sq_session.specs.Metered.{CallReads};
@@ -16,7 +14,7 @@ ghost use Rattle.sq_catalog.specs.Catalog.{column_kinds};
 ghost use Rattle.sq_module.specs.Program.{FitsProgram, ProgramIsWellFormed, declared_procedures};
 ghost use Rattle.sq_module.specs.Written.{IsOfTexts};
 ghost use Rattle.sq_session.specs.Schemas.{schemas_of};
-ghost use Rattle.sq_session.specs.Session.{AreOfModules, names_of, procedure_number, procedures_of};
+ghost use Rattle.sq_session.specs.Session.{AreOfModules, names_of, procedure_number, procedures_of, rows_named};
 ghost use Rattle.sq_session.specs.State.{AreClosed};
 ghost use Rattle.sq_session.specs.Step.{MayCall, is_success};
 
@@ -24,13 +22,14 @@ use crate::call::{call, reply_of};
 use crate::machine::Machine;
 use crate::parameter::all_fit;
 use crate::reply::Reply;
+use crate::rows::TableRows;
 use sq_bound::BindFault;
 use sq_catalog::Catalog;
 use sq_lex::Name;
 use sq_module::{ProcedureName, Program, SessionFault, admit};
 use sq_store::{Meter, Store};
 use sq_tree::ModuleText;
-use sq_value::{Row, Value};
+use sq_value::Value;
 use std::alloc::{AllocError, Global};
 use std::marker::Model;
 
@@ -222,13 +221,13 @@ impl<S: Store> Session<S> {
         self.catalog.base(user, name)
     }
 
-    /// The rows of the base table at a place, as they are now, with their numbers.
+    /// The rows of the base table of this owner and name as they are now, with their numbers; none where there is no such base table.
     #[tactic(auto, using(crate::proofs::Holding::as_many_tables, crate::proofs::Holding::as_many_names))]
-    pub fn rows(&self, alloc: Global, table: usize) -> Result<Vec<(u64, &Row)>, AllocError>
-        requires { table < length self.now.tables }
-        ensures { IfOk result (λ rows. map lent rows.items ≡ (table_at self.now.state.tables table).rows) }
+    pub fn rows(&self, user: Name, name: Name) -> Option<TableRows<'_, S>>
+        ensures { result ≡ rows_named self.now user name }
     {
-        rows_of(alloc, &self.machine.store, table)
+        let table = self.table(user, name)?;
+        Some(TableRows::of(&self.machine.store, table))
     }
 }
 
@@ -251,19 +250,4 @@ fn program_of(
     let program = Program::bind(alloc, catalog, admitted.as_slice());
     drop(admitted);
     Ok(program?)
-}
-
-/// A table's rows with their numbers.
-fn rows_of<S: Store>(alloc: Global, store: &S, table: usize) -> Result<Vec<(u64, &Row)>, AllocError>
-    requires { table < length (S.content_now store.now) }
-    ensures { IfOk result (λ rows. map lent rows.items ≡ (table_at (S.content_now store.now) table).rows) }
-{
-    let mut meter = Meter::new();
-    let mut rows = Vec::new(alloc);
-    let mut number = 0;
-    while let Some((found, row)) = store.next_from(table, number, &mut meter) {
-        rows.push((found, row))?;
-        number = found + 1;
-    }
-    Ok(rows)
 }

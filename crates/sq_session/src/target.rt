@@ -1,23 +1,27 @@
 //! Targets: the parameters that get the values of a row (ISO/IEC 9075:1992, 9.1).
 
-ghost use Rattle.std.specs.Prelude.{◌≡◌, ◌<◌, ◌^◌, ◌++◌, ◌∷◌, [], true, find, length, nat_eq, option_copied, unsigned_abs, IfOk, IfSome, OnOk};
+ghost use Rattle.std.specs.Prelude.{◌≡◌, ◌<◌, ◌^◌, ◌++◌, ◌∷◌, [], true, ◌+◌, length, nat_eq, position, unsigned_abs, IfOk, IfSome, OnOk};
+ghost use Rattle.std.specs.Option.{option_map};
 ghost use Rattle.sq_value.specs.Domain.{FitsKind};
 ghost use Rattle.sq_bound.specs.Fits.{are_parameters};
 ghost use Rattle.sq_meaning.specs.Status.{and_then};
 ghost use Rattle.sq_model.specs.Machine.{single_row};
 ghost use Rattle.sq_model.specs.Parameter.{whole};
 ghost use Rattle.sq_expression.specs.Fault.{Meets};
+ghost use Rattle.sq_session.specs.Retrieved.{values_of};
 ghost use Rattle.sq_session.specs.Step.{EndsRight, ending};
-ghost use Rattle.sq_session.specs.Target.{IsSet, MayTake, MayTakeRows, domain_at, joined, null_set, outputs_from, row_reply, row_set, set_behind, set_reply, target_set, value_set};
+ghost use Rattle.sq_session.specs.Target.{AreSetAlike, IsSet, MayTake, MayTakeRows, domain_at, joined, null_set, outputs_from, row_reply, row_set, set_behind, set_reply, set_to, target_set, value_set};
 
 use crate::called::Called;
 use crate::reply::{Done, Output};
+use crate::retrieved::RetrievedRow;
 use sq_bound::{BoundSelect, ParameterDesc};
 use sq_expression::{Failure, Fault};
 use sq_items::Items;
 use sq_meaning::Status;
 use sq_value::{Decimal, RetrieveFault, Retrieved, Row, Value, retrieve};
 use std::alloc::{AllocError, Global};
+use std::mem;
 
 /// A parameter's place, and its new value.
 #[derive(Drop)]
@@ -38,15 +42,15 @@ struct Assignments {
 pub(crate) fn row_retrieved(
     called: &Called<'_>,
     targets: &[sq_bound::Output],
-    row: &[Value],
+    row: &RetrievedRow<'_>,
 ) -> Result<Done, Fault>
     requires targets { are_parameters (length called.now.procedure.now.parameters) targets.now ≡ true }
-    requires row { MayTake called.now.procedure.now.parameters targets.now row.now }
-    ensures reply { Meets result (row_reply called.now.procedure.now.parameters targets.now row.now) }
+    requires row { MayTake called.now.procedure.now.parameters targets.now (values_of row.now) }
+    ensures reply { Meets result (row_reply called.now.procedure.now.parameters targets.now (values_of row.now)) }
     ensures right { IfSome (ending result) EndsRight }
 {
     match assignments_of(called, targets, row) {
-        Ok(assignments) => Ok(done(called, &assignments)?),
+        Ok(assignments) => Ok(done(called, assignments)?),
         Err(Fault::Status(failure)) => Ok(Done::without_outputs(called.alloc, failure.status())),
         Err(Fault::NoMemory) => Err(Fault::NoMemory),
     }
@@ -65,19 +69,23 @@ pub(crate) fn only_row_retrieved(
 {
     match rows {
         [] => Err(Fault::Status(Failure::NoData)),
-        [row] => row_retrieved(called, select.outputs.as_slice(), row.as_slice()),
+        [row] => {
+            let row = RetrievedRow::whole(row.as_slice());
+            row_retrieved(called, select.outputs.as_slice(), &row)
+        }
         _ => Err(Fault::Status(Failure::CardinalityViolation)),
     }
 }
 
 /// The targets and their indicators, in the order in which the parameters are declared.
-fn done(called: &Called<'_>, assignments: &Assignments) -> Result<Done, AllocError>
-    ensures { IfOk result (λ d. d ≡ set_reply called.now.procedure.now.parameters assignments.now) }
+fn done(called: &Called<'_>, assignments: Assignments) -> Result<Done, AllocError>
+    ensures { IfOk result (λ d. d ≡ set_reply called.now.procedure.now.parameters assignments) }
 {
+    let Assignments { list, is_cut } = assignments;
     let parameters = called.procedure.parameters.as_slice();
-    let outputs = outputs_of(called.alloc, parameters, assignments.list.as_slice())?;
+    let outputs = outputs_of(called.alloc, parameters, list)?;
     Ok(Done {
-        status: if assignments.is_cut {
+        status: if is_cut {
             Status::TextTruncated
         } else {
             Status::SuccessfulCompletion
@@ -89,29 +97,53 @@ fn done(called: &Called<'_>, assignments: &Assignments) -> Result<Done, AllocErr
 fn outputs_of(
     alloc: Global,
     parameters: &[ParameterDesc],
-    assignments: &[Assignment],
+    assignments: Items<Assignment>,
 ) -> Result<Items<Output>, AllocError>
-    ensures { IfOk result (λ outputs. outputs ≡ outputs_from 0 assignments.now parameters.now) }
+    ensures { IfOk result (λ outputs. outputs ≡ outputs_from 0 assignments parameters.now) }
 {
-    let mut outputs = Items::new(alloc);
+    let mut assignments = assignments.into_vec();
+    let outputs = outputs_taken(alloc, parameters, assignments.as_mut_slice());
+    drop(assignments);
+    outputs
+}
+
+/// The parameters that are set, with the values that are taken from their assignments.
+fn outputs_taken(
+    alloc: Global,
+    parameters: &[ParameterDesc],
+    assignments: &mut [Assignment],
+) -> Result<Items<Output>, AllocError>
+    ensures { IfOk result (λ outputs. outputs ≡ outputs_from 0 assignments.old parameters.now) }
+{
+    let mut outputs = Items::from_vec(Vec::with_capacity(alloc, assignments.len())?);
     for (place, parameter) in parameters.iter().enumerate() {
-        if let Some(assignment) = assigned_to(assignments, place) {
+        if let Some(value) = value_taken(assignments, place) {
             outputs.push(Output {
                 name: parameter.name,
-                value: assignment.value.copy(alloc)?,
+                value,
             })?;
         }
     }
     Ok(outputs)
 }
 
-/// What a parameter is set to, if it is.
-fn assigned_to(assignments: &[Assignment], place: usize) -> Option<&Assignment>
-    ensures { option_copied result ≡ find (λ a. nat_eq a.parameter place) assignments.now }
+/// What a parameter is set to, if it is. Other parameters keep their values.
+fn value_taken(assignments: &mut [Assignment], place: usize) -> Option<Value>
+    ensures value { result ≡ option_map (λ a. a.value) (set_to assignments.old place) }
+    ensures others { AreSetAlike (place + 1) assignments.old assignments.new }
+{
+    let number = first_to(assignments, place)?;
+    Some(mem::replace(&mut assignments[number].value, Value::Null))
+}
+
+/// Where the first assignment to a parameter stands.
+fn first_to(assignments: &[Assignment], place: usize) -> Option<usize>
+    ensures number { result ≡ position (λ a. nat_eq a.parameter place) assignments.now }
+    ensures within { IfSome result (λ number. number < length assignments.now) }
 {
     assignments
         .iter()
-        .find(|assignment| assignment.parameter == place)
+        .position(|assignment| assignment.parameter == place)
 }
 
 /// The targets take the row from left to right.
@@ -119,19 +151,19 @@ fn assigned_to(assignments: &[Assignment], place: usize) -> Option<&Assignment>
 fn assignments_of(
     called: &Called<'_>,
     targets: &[sq_bound::Output],
-    row: &[Value],
+    row: &RetrievedRow<'_>,
 ) -> Result<Assignments, Fault>
     requires targets { are_parameters (length called.now.procedure.now.parameters) targets.now ≡ true }
-    requires row { MayTake called.now.procedure.now.parameters targets.now row.now }
-    ensures { Meets result (row_set called.now.procedure.now.parameters targets.now row.now) }
+    requires row { MayTake called.now.procedure.now.parameters targets.now (values_of row.now) }
+    ensures { Meets result (row_set called.now.procedure.now.parameters targets.now (values_of row.now)) }
 {
     let mut assignments = Assignments {
-        list: Items::new(called.alloc),
+        list: Items::from_vec(Vec::with_capacity(called.alloc, targets.len())?),
         is_cut: false,
     };
     let parameters = called.procedure.parameters.as_slice();
     for (place, target) in targets.iter().enumerate() {
-        match assignments.set(called.alloc, parameters, *target, &row[place]) {
+        match assignments.set(called.alloc, parameters, *target, row.value(place)) {
             Ok(()) => {}
             Err(fault) => {
                 drop(assignments);

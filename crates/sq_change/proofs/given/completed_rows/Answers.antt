@@ -29,7 +29,7 @@ loop-values-preserved g c = record {
 
 pub loop-values-init : goal.loop-values-init
 loop-values-init g c = record {
-  meant = made_none (row_completed c.args.setting.now.user c.args.table.now c.args.columns.now) c.args.given.now (new_rows_in c.new-changes.result) (ap rows_put c.new-changes.ensures.items);
+  meant = made_none (row_completed c.args.setting.now.user c.args.table.now c.args.columns.now) c.args.given.now (new_rows_in c.in_ok-changes.changes) (ap rows_put c.in_ok-changes.ensures.items);
   insertions = search rules;
   wide = search rules;
   in_domains = search rules;
@@ -40,7 +40,7 @@ pub returns-in_err-row-clause-meant : goal.returns-in_err-row-clause-meant
 returns-in_err-row-clause-meant g c =
     let e = c.in_err-row.field-0.0 in
     let f = row_completed c.args.setting.now.user c.args.table.now c.args.columns.now in
-    handed_on_as new_rows_in c.from_residual.result e (each f c.args.given.now) c.from_residual.ensures.1
+    handed_on_as new_rows_in c.from_residual-in_err-row.result e (each f c.args.given.now) c.from_residual-in_err-row.ensures.1
     (made_failed f c.args.given.now (new_rows_in c.loop-values.changes) c.loop-values.values-index c.values-item.result e
     c.loop-values-test.true c.values-item.is c.loop-values.invariant.meant (rw (sym c.as_slice.ensures) c.in_err-row.ensures.meant))
 

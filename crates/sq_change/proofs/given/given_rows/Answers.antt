@@ -25,8 +25,8 @@ given_values-requires g c =
     (g.S.Store.content_now setting.store.now) setting.user setting.parameters.now
     insert.columns insert.source c.in-Values.values c.requires.given c.in-Values.is))
 
-pub rows_found-requires : goal.rows_found-requires
-rows_found-requires g c =
+pub rows_found-requires-clause-finds : goal.rows_found-requires-clause-finds
+rows_found-requires-clause-finds g c =
     let setting = c.args.setting.now in
     let insert = c.args.insert.now in
     let names = setting.names.now in

@@ -1,4 +1,4 @@
-use Rattle.std.proofs.Common.{rules, [], length}
+use Rattle.std.proofs.Common.{rules, [], length, ◌∙◌}
 use Rattle.std.proofs.lemmas.List.{length_push}
 use Rattle.std.proofs.lemmas.Slice.Zip.{zip_end, zip_turn}
 use Rattle.std.specs.List.{zip}
@@ -24,8 +24,8 @@ loop-column-init g c =
     let setting = c.args.setting.now in
     let seen = seen_by (g.N.Names.view_queries setting.names.now) (g.S.Store.content_now setting.store.now) setting.user setting.parameters.now in
     record {
-      fit = rw c.new-row.ensures tt;
-      meant = λ shown. made_none (value_given shown seen) (zip c.args.columns.now c.args.values.now) c.new-row.result c.new-row.ensures;
+      fit = rw (c.from_vec-row.ensures ∙ c.in_ok-with_capacity.ensures.items) tt;
+      meant = λ shown. made_none (value_given shown seen) (zip c.args.columns.now c.args.values.now) c.from_vec-row.result (c.from_vec-row.ensures ∙ c.in_ok-with_capacity.ensures.items);
     }
 
 pub loop-column-preserved : goal.loop-column-preserved
@@ -52,7 +52,7 @@ returns-in_err-stored_value-clause-meant g c = λ shown.
     let setting = c.args.setting.now in
     let seen = seen_by (g.N.Names.view_queries setting.names.now) (g.S.Store.content_now setting.store.now) setting.user setting.parameters.now in
     let e = c.in_err-stored_value.field-0.0 in
-    handed_on c.from_residual.result e (values_given shown seen c.args.columns.now c.args.values.now) c.from_residual.ensures.1
+    handed_on c.from_residual-in_err-stored_value.result e (values_given shown seen c.args.columns.now c.args.values.now) c.from_residual-in_err-stored_value.ensures.1
     (pair_failed (value_given shown seen) c.args.columns.now c.args.values.now c.loop-column.row c.loop-column.yielded (c.in-Some.column, c.in-Some.value) turn
     (c.loop-column.invariant.meant shown) e (c.in_err-stored_value.ensures.meant shown))
 

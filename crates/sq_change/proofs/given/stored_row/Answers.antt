@@ -1,4 +1,4 @@
-use Rattle.std.proofs.Common.{rules, length}
+use Rattle.std.proofs.Common.{rules, length, ◌∙◌}
 use Rattle.std.proofs.lemmas.List.{length_push}
 use Rattle.std.proofs.lemmas.Slice.Zip.{zip_end, zip_turn}
 use Rattle.std.specs.List.{zip}
@@ -20,8 +20,8 @@ assigned-requires-clause-kind c =
 
 pub loop-column-init : goal.loop-column-init
 loop-column-init c = record {
-  fit = rw c.new-stored.ensures tt;
-  meant = made_none stored_in (zip c.args.columns.now c.args.row.now) c.new-stored.result c.new-stored.ensures;
+  fit = rw (c.from_vec-stored.ensures ∙ c.in_ok-with_capacity.ensures.items) tt;
+  meant = made_none stored_in (zip c.args.columns.now c.args.row.now) c.from_vec-stored.result (c.from_vec-stored.ensures ∙ c.in_ok-with_capacity.ensures.items);
 }
 
 pub loop-column-preserved : goal.loop-column-preserved
@@ -43,7 +43,7 @@ returns-in_err-assigned-clause-meant c =
     zip_turn c.args.columns.now c.args.row.now c.loop-column.yielded c.into_iter-column-iterator.result c.loop-column.column-iterator c.next.new.self c.next.result (search rules) (search rules)
     c.loop-column.yielded_by (c.in-Some.column, c.in-Some.value) c.in-Some.is c.next.ensures.steps in
     let e = c.in_err-assigned.field-0.0 in
-    handed_on c.from_residual.result e (row_stored c.args.columns.now c.args.row.now) c.from_residual.ensures.1
+    handed_on c.from_residual-in_err-assigned.result e (row_stored c.args.columns.now c.args.row.now) c.from_residual-in_err-assigned.ensures.1
     (pair_failed stored_in c.args.columns.now c.args.row.now c.loop-column.stored c.loop-column.yielded (c.in-Some.column, c.in-Some.value) turn c.loop-column.invariant.meant
     e c.in_err-assigned.ensures.fit)
 

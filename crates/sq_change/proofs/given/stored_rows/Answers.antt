@@ -19,7 +19,7 @@ loop-row-preserved c = record {
 
 pub loop-row-init : goal.loop-row-init
 loop-row-init c = record {
-  meant = made_none (row_stored c.args.columns.now) c.args.rows.now c.new-stored.result.items c.new-stored.ensures.items;
+  meant = made_none (row_stored c.args.columns.now) c.args.rows.now c.in_ok-stored.stored.items c.in_ok-stored.ensures.items;
   count = search rules;
   stored = search rules;
 }
@@ -27,7 +27,7 @@ loop-row-init c = record {
 pub returns-in_err-stored_row-clause-meant : goal.returns-in_err-stored_row-clause-meant
 returns-in_err-stored_row-clause-meant c =
     let e = c.in_err-stored_row.field-0.0 in
-    handed_on_as rows_in c.from_residual.result e (each (row_stored c.args.columns.now) c.args.rows.now) c.from_residual.ensures.1
+    handed_on_as rows_in c.from_residual-in_err-stored_row.result e (each (row_stored c.args.columns.now) c.args.rows.now) c.from_residual-in_err-stored_row.ensures.1
     (made_failed (row_stored c.args.columns.now) c.args.rows.now c.loop-row.stored.items c.loop-row.row-index c.row-item.result e
     c.loop-row-test.true c.row-item.is c.loop-row.invariant.meant (rw (sym c.as_slice.ensures) c.in_err-stored_row.ensures.meant))
 

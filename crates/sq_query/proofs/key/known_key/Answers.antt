@@ -1,32 +1,60 @@
-use Rattle.std.proofs.Common.{◌≡◌, get_or}
-use Rattle.sq_query.proofs.KeyNames.{key_tests_name}
-use Rattle.sq_query.proofs.KeyValues.{handed_memory, key_tests_valued}
-use Rattle.sq_query.proofs.KnownKeys.{key_noted, not_none, tests_known}
+use Rattle.std.proofs.Common.{◌<◌, ◌∙◌, List, [], ap, length, slice_index_or, subst, sym}
+use Rattle.sq_store.specs.Keys.{Keys, key_at}
+use Rattle.sq_bound.specs.Keyed.{names_key}
+use Rattle.sq_bound.specs.declared.condition.BoundCond.{out-BoundCond}
+use Rattle.sq_bound.specs.declared.condition.BoundTest.{BoundTest}
+use Rattle.sq_query.specs.Key.{AreFirstTests}
+use Rattle.sq_query.specs.Keyed.{AreKnownEqual, IsKeyed}
+use Rattle.sq_query.proofs.KeyNames.{has_condition, key_there, noted_key, own_named}
+use Rattle.sq_query.proofs.KeyValues.{first_tests_valued, own_stands}
+use Rattle.sq_query.proofs.KnownKeys.{key_noted, known_if, not_none, tests_known}
 use Rattle.sq_query.proofs.key.known_key.Goals as goal
 
-pub key_values-requires : goal.key_values-requires
-key_values-requires g c =
-    let t = c.args.target.now in
-    let columns = c.as_slice-columns.result.now in
-    let read : columns ≡ get_or t.leaf.table.keys c.in-Some.key columns = cc (c.as_slice-columns.ensures, c.index-keys-key.is, c.keys.ensures, c.requires.keys) in
-    record { named = key_tests_name t c.in-Some.key columns c.key_tests-tests.result.now c.in-Some.is read c.key_tests-tests.ensures }
+pub unreachable-requires : goal.unreachable-requires
+unreachable-requires g c = not_none c.args.target.now.condition c.in_default-condition.is (has_condition c.args.target.now c.in-Some.key c.in-Some.is)
 
-pub returns-in_err-values-clause-memory : goal.returns-in_err-values-clause-memory
-returns-in_err-values-clause-memory g c = λ kinds parameters well given.
+pub key_with_values-requires-clause-key : goal.key_with_values-requires-clause-key
+key_with_values-requires-clause-key g c = subst (λ (ks : Keys). c.in-Some.key < length ks) (sym c.requires.keys) (key_there c.args.target.now c.in-Some.key c.in-Some.is)
+
+pub key_with_values-requires-clause-named : goal.key_with_values-requires-clause-named
+key_with_values-requires-clause-named g c =
+    let t = c.args.target.now in
+    let own = c.in-Some-condition.condition in
+    let is_own = c.in-Some-condition.is in
+    ap (λ (ks : Keys). names_key (slice_index_or ks c.in-Some.key []) (out-BoundCond own).terms) c.requires.keys ∙ own_named t c.in-Some.key c.in-Some.is own is_own
+
+pub returns-clause-known : goal.returns-clause-known
+returns-clause-known g c =
+    let t = c.args.target.now in
+    let own = c.in-Some-condition.condition in
+    let is_own = c.in-Some-condition.is in
+    noted_key t own (g.S.Store.content_now c.args.store.now) (g.S.Store.key_columns c.args.store.now) c.args.call.now.parameters.now c.args.call.now.user c.in-Some.key c.key_with_values.result is_own c.in-Some.is
+    c.key_with_values.ensures.known
+
+pub returns-clause-found : goal.returns-clause-found
+returns-clause-found g c =
+    let t = c.args.target.now in
+    let own = c.in-Some-condition.condition in
+    let is_own = c.in-Some-condition.is in
+    let key = c.in-Some.key in
+    let columns = key_at (g.S.Store.key_columns c.args.store.now) t.base key in
+    let values = c.args.call.now.parameters.now in
+    let user = c.args.call.now.user in
+    known_if c.key_with_values.result ((tests : List BoundTest) → AreFirstTests columns own tests → AreKnownEqual tests values user) (IsKeyed t values user)
+    (λ keyed tests firsts. tests_known t own key columns tests values user c.in-Some.is is_own (ap (λ (ks : Keys). slice_index_or ks key []) c.requires.keys) firsts keyed)
+    c.key_with_values.ensures.found
+
+pub returns-clause-memory : goal.returns-clause-memory
+returns-clause-memory g c = λ kinds parameters well given.
     let t = c.args.target.now in
     let call = c.args.call.now in
-    let columns = c.as_slice-columns.result.now in
-    let read : columns ≡ get_or t.leaf.table.keys c.in-Some.key columns = cc (c.as_slice-columns.ensures, c.index-keys-key.is, c.keys.ensures, c.requires.keys) in
-    handed_memory c.from_residual.result c.in_err-values.field-0.0 c.from_residual.ensures.1
-    (c.in_err-values.ensures.memory (key_tests_valued kinds parameters call.parameters.now call.user given t c.in-Some.key columns c.key_tests-tests.result.now well c.in-Some.is read c.key_tests-tests.ensures))
+    let own = c.in-Some-condition.condition in
+    let is_own = c.in-Some-condition.is in
+    let key = c.in-Some.key in
+    let columns = key_at (g.S.Store.key_columns c.args.store.now) t.base key in
+    let named = ap (λ (ks : Keys). names_key (slice_index_or ks key []) (out-BoundCond own).terms) c.requires.keys ∙ own_named t key c.in-Some.is own is_own in
+    c.key_with_values.ensures.memory
+    (λ tests firsts. first_tests_valued kinds parameters call.parameters.now call.user given t.leaf.table.place own columns tests (own_stands kinds parameters t own well is_own) named firsts)
 
 pub returns-in_default-clause-found : goal.returns-in_default-clause-found
 returns-in_default-clause-found g c = λ keyed. absurd (key_noted c.args.target.now c.args.call.now.parameters.now c.args.call.now.user c.in_default.is keyed)
-
-pub returns-in-None-clause-found : goal.returns-in-None-clause-found
-returns-in-None-clause-found g c = λ keyed.
-    let t = c.args.target.now in
-    let columns = c.as_slice-columns.result.now in
-    let read : columns ≡ get_or t.leaf.table.keys c.in-Some.key columns = cc (c.as_slice-columns.ensures, c.index-keys-key.is, c.keys.ensures, c.requires.keys) in
-    absurd (not_none c.in_ok-values.field-0 c.in-None.is
-    (c.in_ok-values.ensures.found (tests_known t c.in-Some.key columns c.key_tests-tests.result.now c.args.call.now.parameters.now c.args.call.now.user c.in-Some.is read c.key_tests-tests.ensures keyed)))

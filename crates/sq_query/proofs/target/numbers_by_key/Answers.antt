@@ -27,7 +27,7 @@ returns-in_err-is_chosen-in-Some-clause-meant g c = λ parameters tables may wel
     let bases = g.N.Names.base_tables names in
     let views = g.N.Names.view_queries names in
     let columns = g.N.Names.column_kinds names in
-    let rows_are = rows_fit bases views columns content call.user call.parameters.now (g.met.N.Names.kinds_of_bases names) (g.met.N.Names.kinds_of_views names) parameters tables may t.base c.requires.key.table
+    let rows_are = rows_fit bases views columns content call.user call.parameters.now (g.met.N.Names.kinds_of_bases names) (g.met.N.Names.kinds_of_views names) parameters tables may t.base c.requires.key.on.table
     (base_kinds t.leaf.table) (ap (λ (p : ℕ). columns (Base p)) t.is_under ∙ well.leaf.kinds_are) in
     let r : Numbered = record { number = c.in-Some.number; row = c.in-Some.row.now } in
     let is_row = found_is (λ (s : Numbered). IsRowOf (base_kinds t.leaf.table) s.row) (has_key (key_at keys t.base known.key) known.values) (table_at content t.base).rows r rows_are c.in-Some.ensures.row in
@@ -49,7 +49,7 @@ returns-in_ok-is_chosen-in-Some-clause-meant g c = λ parameters tables may well
     let bases = g.N.Names.base_tables names in
     let views = g.N.Names.view_queries names in
     let columns = g.N.Names.column_kinds names in
-    let rows_are = rows_fit bases views columns content call.user call.parameters.now (g.met.N.Names.kinds_of_bases names) (g.met.N.Names.kinds_of_views names) parameters tables may t.base c.requires.key.table
+    let rows_are = rows_fit bases views columns content call.user call.parameters.now (g.met.N.Names.kinds_of_bases names) (g.met.N.Names.kinds_of_views names) parameters tables may t.base c.requires.key.on.table
     (base_kinds t.leaf.table) (ap (λ (p : ℕ). columns (Base p)) t.is_under ∙ well.leaf.kinds_are) in
     let r : Numbered = record { number = c.in-Some.number; row = c.in-Some.row.now } in
     let is_row = found_is (λ (s : Numbered). IsRowOf (base_kinds t.leaf.table) s.row) (has_key (key_at keys t.base known.key) known.values) (table_at content t.base).rows r rows_are c.in-Some.ensures.row in
@@ -69,7 +69,7 @@ returns-in-None-clause-meant g c = λ parameters tables may well.
     let bases = g.N.Names.base_tables names in
     let views = g.N.Names.view_queries names in
     let columns = g.N.Names.column_kinds names in
-    let rows_are = rows_fit bases views columns content call.user call.parameters.now (g.met.N.Names.kinds_of_bases names) (g.met.N.Names.kinds_of_views names) parameters tables may t.base c.requires.key.table
+    let rows_are = rows_fit bases views columns content call.user call.parameters.now (g.met.N.Names.kinds_of_bases names) (g.met.N.Names.kinds_of_views names) parameters tables may t.base c.requires.key.on.table
     (base_kinds t.leaf.table) (ap (λ (p : ℕ). columns (Base p)) t.is_under ∙ well.leaf.kinds_are) in
     none_found tables columns parameters call.parameters.now call.user may.inputs bases content keys t known c.requires.key well c.requires.base c.requires.keys c.requires.not_null rows_are (g.met.S.Store.keyed store)
     c.new.result c.in-None.ensures.row c.new.ensures.items
@@ -82,7 +82,7 @@ returns-in_err-is_chosen-in-Some-clause-right g c = λ parameters tables may wel
     let e = c.in_err-is_chosen-in-Some.field-0.0 in
     ends_so c.from_residual.result e c.from_residual.ensures.1
     (found_right (g.N.Names.base_tables names) (g.N.Names.view_queries names) (g.N.Names.column_kinds names) (g.S.Store.content_now store) c.args.call.now.user c.args.call.now.parameters.now
-    (g.met.N.Names.kinds_of_bases names) (g.met.N.Names.kinds_of_views names) parameters tables may c.args.target.now well c.requires.key.table
+    (g.met.N.Names.kinds_of_bases names) (g.met.N.Names.kinds_of_views names) parameters tables may c.args.target.now well c.requires.key.on.table
     (key_at (g.S.Store.key_columns store) c.args.target.now.base known.key) known.values (record { number = c.in-Some.number; row = c.in-Some.row.now }) c.in-Some.ensures.row
     e (c.in_err-is_chosen-in-Some.ensures.meant parameters tables may))
 

@@ -10,8 +10,8 @@ use Rattle.sq_session.proofs.Opened.{over_fault_of_rows, over_rows, rows_answere
 use Rattle.sq_session.proofs.Reading.{may_read, some_tables}
 use Rattle.sq_session.proofs.open.opened_over_rows.Goals as goal
 
-pub ordered_rows-found-requires : goal.ordered_rows-found-requires
-ordered_rows-found-requires g c =
+pub ordered_rows-found-requires-clause-finds : goal.ordered_rows-found-requires-clause-finds
+ordered_rows-found-requires-clause-finds g c =
     let called = c.args.called.now in
     query_finds called.catalog.now.bases (column_kinds called.catalog.now) (bases_there called.catalog.now) (kinds_of_parameters called.procedure.now.parameters) c.args.query.now c.requires.asked
 

@@ -1,5 +1,6 @@
+use Rattle.sq_session.specs.Retrieved.{values_of}
 use Rattle.sq_session.proofs.Targets.{IsSoFar}
 use Rattle.sq_session.proofs.target.assignments_of.Given as goal
 
 abbrev pub invariant-loop-place : goal.invariant-loop-place
-invariant-loop-place l = IsSoFar l.parameters l.targets l.row l.place l.assignments
+invariant-loop-place l = IsSoFar l.parameters l.targets (values_of l.row) l.place l.assignments

@@ -1,14 +1,15 @@
 use Rattle.std.proofs.Common.{◌∙◌, List, [], ap, sym, refl, map, fold}
 use Rattle.sq_meaning.specs.Syntax.{conds}
-use Rattle.sq_bound.specs.Condition.{cond_of, conj_of, test_of, clause_of}
+use Rattle.sq_bound.specs.Condition.{cond_of, conj_of, test_of, clause_of, select_of}
 use Rattle.sq_bound.specs.SetFunction.{call_of}
 use Rattle.sq_bound.specs.declared.condition.Grouping.{out-Grouping}
 use Rattle.sq_bound.specs.declared.condition.BoundCond.{BoundCond}
 use Rattle.sq_bound.specs.declared.condition.BoundConj.{BoundConj}
 use Rattle.sq_bound.specs.declared.condition.BoundSpecification.{out-BoundSpecification}
 use Rattle.sq_bound.specs.declared.condition.BoundTest.{BoundTest}
-use Rattle.sq_query.specs.Needed.{places_in, with_table, clause_tables, cond_tables, conds_tables, specification_tables}
-use Rattle.sq_query.proofs.Added.{added_more, added_three, adds_last, adds_same, items_added, tables_of_grouped, tables_of_other, tables_of_ungrouped, tables_of_cond, tables_of_conj, tables_of_test, tables_of_compared, tables_of_in, tables_of_exists, tables_of_bracketed}
+use Rattle.sq_query.specs.Needed.{places_in, with_table, clause_tables, cond_tables, conds_tables, inside_tables, specification_tables}
+use Rattle.sq_query.proofs.Added.{added_both, added_more, adds_last, adds_same, items_added, tables_of_other, tables_of_cond, tables_of_conj, tables_of_test, tables_of_compared, tables_of_in, tables_of_exists, tables_of_bracketed}
+use Rattle.sq_query.proofs.InsideTables.{inside_grouped, inside_ungrouped, items_and_inside}
 use Rattle.sq_bound.specs.declared.condition.Predicate.TheVariants as bound
 use Rattle.sq_condition.proofs.Conditions.{plain_term, plain_test, plain_predicate, plain_bracketed, with_compared, with_in, with_exists}
 use Rattle.sq_query.proofs.needed.Needed.+needed_of_cond.Goals as goal
@@ -87,22 +88,28 @@ add_of_predicate-returns-in_default t c = record {
   adds = λ functions. sym (ap (fold with_table (places_in c.args.self.now)) (tables_of_other functions c.args.predicate.now c.in_default.not-CompareQuery c.in_default.not-InQuery c.in_default.not-Exists c.in_default.not-Bracketed));
 }
 
-pub add_of_specification-returns-in-Some : goal.add_of_specification-returns-in-Some
-add_of_specification-returns-in-Some t c =
-    let o = out-BoundSpecification c.args.query.now in
+pub add_of_subqueries-returns-in-Some : goal.add_of_subqueries-returns-in-Some
+add_of_subqueries-returns-in-Some t c =
+    let q = c.args.query.now in
+    let o = out-BoundSpecification q in
     let functions = map call_of (out-Grouping c.in-Some.grouping).set_functions in
     let having = clause_tables (clause_of functions (out-Grouping c.in-Some.grouping).having) in
-    adds_last c.add_of_optional-in-Some.result c.add_of_optional.new.self c.add_of_optional-in-Some.new.self (fold with_table (places_in c.args.self.now) (specification_tables c.args.query.now)) having
-    (added_three (places_in c.args.self.now) (places_in c.loop-table.self) (places_in c.add_of_optional.new.self) (specification_tables c.args.query.now) o.from.tables (clause_tables (clause_of [] o.condition)) having
-    (tables_of_grouped c.args.query.now c.in-Some.grouping c.in-Some.is)
-    (items_added (places_in c.args.self.now) (places_in c.loop-table.self) c.as_slice-table-items.result.now o.from.tables c.loop-table.table-index c.as_slice-table-items.ensures c.loop-table-test.false c.loop-table.invariant)
-    (c.in_ok-add_of_optional.ensures.adds []))
+    adds_last c.add_of_optional-in-Some.result c.add_of_optional.new.self c.add_of_optional-in-Some.new.self (fold with_table (places_in c.args.self.now) (inside_tables (select_of q))) having
+    (added_both (places_in c.args.self.now) (places_in c.add_of_optional.new.self) (inside_tables (select_of q)) (clause_tables (clause_of [] o.condition)) having
+    (inside_grouped q c.in-Some.grouping c.in-Some.is) (c.in_ok-add_of_optional.ensures.adds []))
     (c.add_of_optional-in-Some.ensures.adds functions)
 
-pub add_of_specification-returns-in-None : goal.add_of_specification-returns-in-None
-add_of_specification-returns-in-None t c =
-    let o = out-BoundSpecification c.args.query.now in
-    added_three (places_in c.args.self.now) (places_in c.loop-table.self) (places_in c.add_of_optional.new.self) (specification_tables c.args.query.now) o.from.tables (clause_tables (clause_of [] o.condition)) []
-    (tables_of_ungrouped c.args.query.now c.in-None.is)
-    (items_added (places_in c.args.self.now) (places_in c.loop-table.self) c.as_slice-table-items.result.now o.from.tables c.loop-table.table-index c.as_slice-table-items.ensures c.loop-table-test.false c.loop-table.invariant)
-    (c.in_ok-add_of_optional.ensures.adds [])
+pub add_of_subqueries-returns-in-None : goal.add_of_subqueries-returns-in-None
+add_of_subqueries-returns-in-None t c =
+    let q = c.args.query.now in
+    added_both (places_in c.args.self.now) (places_in c.add_of_optional.new.self) (inside_tables (select_of q)) (clause_tables (clause_of [] (out-BoundSpecification q).condition)) []
+    (inside_ungrouped q c.in-None.is) (c.in_ok-add_of_optional.ensures.adds [])
+
+pub add_of_specification-returns : goal.add_of_specification-returns
+add_of_specification-returns t c =
+    let q = c.args.query.now in
+    let from = (out-BoundSpecification q).from.tables in
+    adds_last c.add_of_subqueries.result c.loop-table.self c.add_of_subqueries.new.self (fold with_table (places_in c.args.self.now) (specification_tables q)) (inside_tables (select_of q))
+    (added_both (places_in c.args.self.now) (places_in c.loop-table.self) (specification_tables q) from (inside_tables (select_of q)) (items_and_inside q)
+    (items_added (places_in c.args.self.now) (places_in c.loop-table.self) c.as_slice-table-items.result.now from c.loop-table.table-index c.as_slice-table-items.ensures c.loop-table-test.false c.loop-table.invariant))
+    c.add_of_subqueries.ensures

@@ -1,9 +1,10 @@
-use Rattle.std.proofs.Common.{List, Ok, Err, subst, sym}
+use Rattle.std.proofs.Common.{◌≡◌, List, Ok, Err, subst, sym, true}
 use Rattle.sq_value.specs.declared.value.Value.{Value}
 use Rattle.sq_meaning.specs.WellFormed.{AreRowsOf}
-use Rattle.sq_bound.specs.Fits.{AreInDomains}
+use Rattle.sq_bound.specs.Fits.{AreInDomains, keys_of_bases, not_nulls_hold}
 use Rattle.sq_bound.specs.WellFormed.{kinds_of_parameters, kinds_of_select}
 use Rattle.sq_catalog.specs.Catalog.{bases_there, column_kinds}
+use Rattle.sq_change.proofs.Obeyed.{not_nulls_of}
 use Rattle.sq_query.proofs.Finds.{select_finds}
 use Rattle.sq_session.specs.Kind.{selecting}
 use Rattle.sq_session.specs.Parameter.{AreGiven}
@@ -16,10 +17,18 @@ use Rattle.sq_session.proofs.Selected.{IsAnswered, found_meant, selects_from, se
 use Rattle.sq_session.proofs.Taken.{rows_taken}
 use Rattle.sq_session.proofs.machine.Machine.select.Goals as goal
 
-pub specification_rows-found-requires : goal.specification_rows-found-requires
-specification_rows-found-requires g c =
+pub specification_rows-found-requires-clause-finds : goal.specification_rows-found-requires-clause-finds
+specification_rows-found-requires-clause-finds g c =
     let called = c.args.called.now in
     select_finds called.catalog.now.bases (column_kinds called.catalog.now) (bases_there called.catalog.now) (kinds_of_parameters called.procedure.now.parameters) c.args.select.now.query c.requires.query
+
+pub specification_rows-found-requires-clause-keys : goal.specification_rows-found-requires-clause-keys
+specification_rows-found-requires-clause-keys g c = subst (λ (m : State). m.keys ≡ keys_of_bases c.args.called.now.catalog.now.bases) (sym c.self.view_is) c.requires.whole.2
+
+pub specification_rows-found-requires-clause-not_null : goal.specification_rows-found-requires-clause-not_null
+specification_rows-found-requires-clause-not_null g c =
+    let bases = c.args.called.now.catalog.now.bases in
+    subst (λ (m : State). not_nulls_hold bases m.tables ≡ true) (sym c.self.view_is) (not_nulls_of bases c.args.self.now.tables c.requires.whole.7)
 
 pub returns-in-Ok-clause-step : goal.returns-in-Ok-clause-step
 returns-in-Ok-clause-step g c =
@@ -29,7 +38,7 @@ returns-in-Ok-clause-step g c =
     let kinds = kinds_of_parameters called.procedure.now.parameters in
     let inputs = c.inputs.result in
     let given = subst (λ (vs : List Value). AreGiven kinds vs) (sym c.inputs.ensures.parameters) c.requires.given in
-    let in_domains = subst (λ (m : State). AreInDomains called.catalog.now.bases m.tables) (sym c.self.view_is) c.requires.in_domains in
+    let in_domains = subst (λ (m : State). AreInDomains called.catalog.now.bases m.tables) (sym c.self.view_is) c.requires.whole.4 in
     let found = rw c.in-Ok.is at c.specification_rows-found.ensures.rows in
     let answered : IsAnswered schemas s inputs.user inputs.parameters.now _ (Ok c.in-Ok.rows) =
     λ shown are. found kinds shown (may_read called.catalog.now _ inputs.user kinds inputs.parameters.now given in_domains shown are) c.requires.query in
@@ -46,7 +55,7 @@ returns-in-Err-clause-step g c =
     let kinds = kinds_of_parameters called.procedure.now.parameters in
     let inputs = c.inputs.result in
     let given = subst (λ (vs : List Value). AreGiven kinds vs) (sym c.inputs.ensures.parameters) c.requires.given in
-    let in_domains = subst (λ (m : State). AreInDomains called.catalog.now.bases m.tables) (sym c.self.view_is) c.requires.in_domains in
+    let in_domains = subst (λ (m : State). AreInDomains called.catalog.now.bases m.tables) (sym c.self.view_is) c.requires.whole.4 in
     let found = rw c.in-Err.is at c.specification_rows-found.ensures.rows in
     let answered : IsAnswered schemas s inputs.user inputs.parameters.now _ (Err c.in-Err.fault) =
     λ shown are. found kinds shown (may_read called.catalog.now _ inputs.user kinds inputs.parameters.now given in_domains shown are) c.requires.query in
@@ -59,7 +68,7 @@ returns-in-Err-clause-right g c =
     let kinds = kinds_of_parameters called.procedure.now.parameters in
     let inputs = c.inputs.result in
     let given = subst (λ (vs : List Value). AreGiven kinds vs) (sym c.inputs.ensures.parameters) c.requires.given in
-    let in_domains = subst (λ (m : State). AreInDomains called.catalog.now.bases m.tables) (sym c.self.view_is) c.requires.in_domains in
+    let in_domains = subst (λ (m : State). AreInDomains called.catalog.now.bases m.tables) (sym c.self.view_is) c.requires.whole.4 in
     let some = some_tables called.catalog.now _ inputs.user kinds inputs.parameters.now given in_domains in
     let right = rw c.in-Err.is at c.specification_rows-found.ensures.right kinds some.0 some.1 c.requires.query in
     fault_right c.in-Err.fault right
@@ -71,7 +80,7 @@ only_row_retrieved-done-requires-clause-rows g c =
     let kinds = kinds_of_parameters called.procedure.now.parameters in
     let inputs = c.inputs.result in
     let given = subst (λ (vs : List Value). AreGiven kinds vs) (sym c.inputs.ensures.parameters) c.requires.given in
-    let in_domains = subst (λ (m : State). AreInDomains called.catalog.now.bases m.tables) (sym c.self.view_is) c.requires.in_domains in
+    let in_domains = subst (λ (m : State). AreInDomains called.catalog.now.bases m.tables) (sym c.self.view_is) c.requires.whole.4 in
     let some = some_tables called.catalog.now _ inputs.user kinds inputs.parameters.now given in_domains in
     let listed = rw c.in-Ok.is at c.specification_rows-found.ensures.kinds kinds some.0 some.1 c.requires.query in
     let same = subst (λ (rows : List (List Value)). AreRowsOf (kinds_of_select select.query) rows) (sym c.as_slice.ensures.value) listed in

@@ -1,0 +1,252 @@
+-- A query specification whose WHERE clause names a row of its only base table by a key has the rows that it has over that row alone.
+use Rattle.std.proofs.Common.{◌≡◌, ◌∙◌, ℕ, Bool, true, false, true≢false, List, [], ◌∷◌, Option, Some, None, Result, cond, find, map, slice_get, refl, sym, ap, subst, Ok, Err}
+use Rattle.std.specs.Prelude.{IfOk, if◌then◌else◌, nat_eq, option_to_list}
+use Rattle.std.specs.List.{AllByRecursion, list_any}
+use Rattle.std.specs.Option.{option_map}
+use Rattle.std.proofs.lemmas.Bool.{eq-eqb, eqb-true}
+use Rattle.std.proofs.lemmas.List.Concat.{flat_map_single}
+use Rattle.std.proofs.lemmas.Simd.{map-map}
+use Rattle.sq_lex.specs.declared.name.Name.{Name}
+use Rattle.sq_value.specs.declared.domain.Kind.{Kind}
+use Rattle.sq_value.specs.declared.value.Value.{Value}
+use Rattle.sq_store.specs.Content.{Content, table_at}
+use Rattle.sq_store.specs.Keys.{Keys, are_keyed, has_key, key_at, with_key}
+use Rattle.sq_store.specs.declared.table.Numbered.{Numbered}
+use Rattle.sq_store.specs.declared.table.Table.{Table}
+use Rattle.sq_meaning.specs.Environment.{Env, Line, Row, outermost}
+use Rattle.sq_meaning.specs.Placed.{by_place}
+use Rattle.sq_meaning.specs.Query.{is_true, rows, truth}
+use Rattle.sq_meaning.specs.Rows.{product}
+use Rattle.sq_meaning.specs.Status.{Outcome, and_then, kept, well_formed}
+use Rattle.sq_meaning.specs.Syntax.{expressions, present, select}
+use Rattle.sq_meaning.specs.Tables.{rows_in}
+use Rattle.sq_meaning.specs.WellFormed.{AreRowsOf, Fits, IsDeclaredAt, IsRowOf, WellFormedSelect, kinds_by_place}
+use Rattle.sq_meaning.proofs.OutcomeLaws.{kept_map}
+use Rattle.sq_bound.specs.Condition.{Groups, PlacedSelect, clause_of, cond_of, groups_if, groups_of, select_by, select_of}
+use Rattle.sq_bound.specs.Expression.{expr_of}
+use Rattle.sq_bound.specs.Fits.{keys_of_bases, not_nulls_hold}
+use Rattle.sq_bound.specs.WellFormed.{IsSelect, TableKinds, base_kinds}
+use Rattle.sq_bound.specs.declared.condition.BoundCond.{BoundCond}
+use Rattle.sq_bound.specs.declared.condition.BoundSpecification.{BoundSpecification, out-BoundSpecification}
+use Rattle.sq_bound.specs.declared.condition.TablePlace.{TablePlace}
+use Rattle.sq_bound.specs.declared.condition.TablePlace.TheVariants.{Base, View}
+use Rattle.sq_bound.specs.declared.names.BaseTable.{BaseTable}
+use Rattle.sq_bound.proofs.ConditionLaws.{select_of-out}
+use Rattle.sq_condition.specs.Specification.{as_line}
+use Rattle.sq_condition.proofs.Lone.{clause_alone}
+use Rattle.sq_expression.specs.Fault.{IsAnswered}
+use Rattle.sq_expression.specs.Frame.{inputs_of, lent}
+use Rattle.sq_expression.specs.declared.fault.Fault.{Fault}
+use Rattle.sq_expression.specs.declared.fault.Fault.TheVariants as fault
+use Rattle.sq_expression.specs.declared.table.BaseRows.{BaseRows}
+use Rattle.sq_expression.specs.declared.table.ViewRows.{ViewRows}
+use Rattle.sq_query.specs.Key.{IsKeyOn, StandsOn}
+use Rattle.sq_query.specs.Needed.{IsNeeded, ReadsInside, ReadsSelect}
+use Rattle.sq_query.specs.Row.{outside}
+use Rattle.sq_query.specs.Search.{IsOver, IsOverBase, IsReadByKey, IsReadFor, IsSearch, IsWhere, rows_by_key, with_rows}
+use Rattle.sq_query.specs.Table.{AreOfStore, ReadsAsMeant, rows_among, rows_read}
+use Rattle.sq_query.specs.Target.{is_true_of}
+use Rattle.sq_query.specs.Union.{AreFitting}
+use Rattle.sq_query.specs.declared.key.KnownKey.{KnownKey}
+use Rattle.sq_query.specs.declared.needed.Needed.{Needed}
+use Rattle.sq_query.specs.declared.search.Search.{Search}
+use Rattle.sq_query.specs.declared.view.Tables.{Tables}
+use Rattle.sq_query.proofs.KeySearch.{decided, rows_kept}
+use Rattle.sq_query.proofs.NeededViews.{inside_weaker, reads_weaker}
+use Rattle.sq_query.proofs.OnlyOne.{found_is}
+use Rattle.sq_query.proofs.SameTables.{same_over, wanted_of}
+use Rattle.sq_query.proofs.Walk.{there_within}
+
+-- ---- the tree of such a query specification
+
+abbrev groups_in : BoundSpecification → Groups
+groups_in q = groups_if (option_map groups_of (out-BoundSpecification q).grouping)
+
+-- over one table, with this WHERE clause
+abbrev over_where : BoundSpecification → TablePlace → BoundCond → PlacedSelect
+over_where q t own = select_by (out-BoundSpecification q).distinct (out-BoundSpecification q).list (t ∷ []) (present (cond_of [] own)) (groups_in q)
+
+tree_of : (q : BoundSpecification) (t : TablePlace) (own : BoundCond) → IsOver q t → IsWhere q own → select_of q ≡ over_where q t own
+tree_of q t own over is_where =
+    select_of-out q ∙ (λ i. select_by (out-BoundSpecification q).distinct (out-BoundSpecification q).list (over i) (clause_of [] (is_where i)) (groups_in q))
+
+-- its table is read
+pub only_read : (P : TablePlace → Type 0) (q : BoundSpecification) (t : TablePlace) → IsOver q t → ReadsSelect P (select_of q) → P t
+only_read P q t over reads =
+    let from : AllByRecursion P (out-BoundSpecification q).from.tables = (subst (ReadsSelect P) (select_of-out q) reads).0 in
+    (subst (AllByRecursion P) over from).0
+
+-- and so are those of its subqueries
+pub inside_read : (P : TablePlace → Type 0) (q : PlacedSelect) → ReadsSelect P q → ReadsInside P q
+inside_read P (select distinct list from filter by having) reads = (reads.1, reads.2)
+
+both_read : (P : TablePlace → Type 0) (q : BoundSpecification) (t : TablePlace) (own : BoundCond) → IsOver q t → IsWhere q own → P t → ReadsInside P (select_of q) → ReadsSelect P (select_of q)
+both_read P q t own over is_where first inside =
+    let tree = tree_of q t own over is_where in
+    let others = subst (ReadsInside P) tree inside in
+    subst (ReadsSelect P) (sym tree) ((first, tt), others.0, others.1)
+
+-- its WHERE clause may stand on the rows of its base table
+pub where_stands : (columns : TableKinds) (parameters : List Kind) (q : BoundSpecification) (place : ℕ) (own : BoundCond) → IsOverBase q place → IsWhere q own → IsSelect columns parameters [] q → StandsOn columns parameters place own
+where_stands columns parameters q place own over is_where well rows_of =
+    (subst (WellFormedSelect (by_place rows_of) (kinds_by_place columns parameters) (IsDeclaredAt parameters) []) (tree_of q (Base place) own over is_where) (well.stands rows_of)).2
+
+-- ---- one row instead of all
+
+only_kept : {A : Type 0} (test : A → Outcome Bool) (has : A → Bool) (o : Option A) → kept test (option_to_list o) ≡ decided test has o
+only_kept test has None = refl
+only_kept test has (Some x) = refl
+
+abbrev line_on : Numbered → Line
+line_on r = r.row ∷ []
+
+lines_on : (found : List Numbered) → product (map (λ (r : Numbered). r.row) found ∷ []) ≡ map line_on found
+lines_on found = flat_map_single as_line (map (λ (r : Numbered). r.row) found) ∙ map-map as_line (λ (r : Numbered). r.row) found
+
+module _ (tables : TablePlace → Outcome (List Row)) (columns : TableKinds) (parameters : List Kind) (values : List Value) (caller : Name) (given : IsRowOf parameters values)
+    (bases : List BaseTable) (content : Content) (keys : List Keys) (place : ℕ) (b : BaseTable) (own : BoundCond) (known : KnownKey) (k : IsKeyOn place own content keys values caller known)
+    (at : slice_get bases place ≡ Some b) (kinds_are : columns (Base place) ≡ Ok (base_kinds b)) (stands : StandsOn columns parameters place own) (keys_are : keys ≡ keys_of_bases bases) (nulls : not_nulls_hold bases content ≡ true)
+    (rows_are : AllByRecursion (λ (r : Numbered). IsRowOf (base_kinds b) r.row) (table_at content place).rows) (keyed : are_keyed keys content ≡ true) where
+  abbrev all_rows : List Numbered
+  all_rows = (table_at content place).rows
+
+  abbrev found_row : Option Numbered
+  found_row = with_key (table_at content place) (key_at keys place known.key) known.values
+
+  abbrev row_test : Numbered → Outcome Bool
+  row_test = is_true_of tables values caller own
+
+  abbrev has_it : Numbered → Bool
+  has_it = has_key (key_at keys place known.key) known.values
+
+  -- WHERE on a line
+  abbrev line_test : Line → Outcome Bool
+  line_test line = is_true (truth (by_place tables) (cond_of [] own) (outside line values caller))
+
+  lines_kept : kept line_test (map line_on all_rows) ≡ kept line_test (map line_on (option_to_list found_row))
+  lines_kept =
+      kept_map line_on line_test all_rows
+      ∙ ap (λ (o : Outcome (List Numbered)). and_then o (λ found. Ok (map line_on found)))
+      (rows_kept tables columns parameters values caller given bases content keys place b own known k at kinds_are stands keys_are nulls rows_are keyed ∙ sym (only_kept row_test has_it found_row))
+      ∙ sym (kept_map line_on line_test (option_to_list found_row))
+
+  -- the found row is of the kinds of the table's columns
+  pub found_fits : AreRowsOf (base_kinds b) (rows_by_key content keys place known)
+  found_fits = by found_row refl
+    where
+      by : (o : Option Numbered) → found_row ≡ o → AreRowsOf (base_kinds b) (map (λ (r : Numbered). r.row) (option_to_list o))
+      by None e = tt
+      by (Some r) e = (found_is (λ (s : Numbered). IsRowOf (base_kinds b) s.row) has_it all_rows r rows_are e, tt)
+
+  module _ (q : BoundSpecification) (over : IsOverBase q place) (is_where : IsWhere q own) (few : TablePlace → Outcome (List Row)) (stored : AreOfStore content tables) (some : few (Base place) ≡ Ok (rows_by_key content keys place known))
+      (others : ReadsInside (λ t. tables t ≡ few t) (select_of q)) where
+    abbrev env : Env (Unit {0})
+    env = outermost (inputs_of values) caller
+
+    abbrev wanted : Line → Outcome Bool
+    wanted = wanted_of tables few (out-BoundSpecification q).distinct (expressions (map (expr_of (groups_in q).functions) (out-BoundSpecification q).list)) (Base place) (present (cond_of [] own)) (groups_in q).columns (groups_in q).having env tables
+
+    wanted_on : (found : List Numbered) → kept wanted (product (map (λ (r : Numbered). r.row) found ∷ [])) ≡ kept line_test (map line_on found)
+    wanted_on found =
+        (λ i. kept (λ line. is_true (clause_alone tables (tt ∷ []) line env (Some own) i)) (product (map (λ (r : Numbered). r.row) found ∷ []))) ∙ ap (kept line_test) (lines_on found)
+
+    all_stored : tables (Base place) ≡ Ok (rows_in (table_at content place))
+    all_stored = stored place ∙ ap (λ (o : Outcome Table). and_then o (λ t. Ok (rows_in t))) (there_within content place k.table)
+
+    pub same_by_key : rows (by_place tables) (select_of q) env ≡ rows (by_place few) (select_of q) env
+    same_by_key =
+        let tree = tree_of q (Base place) own over is_where in
+        let inside = subst (ReadsInside (λ t. tables t ≡ few t)) tree others in
+        subst (λ (s : PlacedSelect). rows (by_place tables) s env ≡ rows (by_place few) s env) (sym tree)
+        (same_over tables few (out-BoundSpecification q).distinct (expressions (map (expr_of (groups_in q).functions) (out-BoundSpecification q).list)) (Base place) (present (cond_of [] own)) (groups_in q).columns (groups_in q).having env
+        (rows_in (table_at content place)) (rows_by_key content keys place known) all_stored some inside.0 inside.1
+        (wanted_on all_rows ∙ lines_kept ∙ sym (wanted_on (option_to_list found_row))))
+
+-- ---- tables of which one has other rows
+
+module _ (place : ℕ) (found : List Row) (tables : TablePlace → Outcome (List Row)) where
+  pub with_own : with_rows place found tables (Base place) ≡ Ok found
+  with_own = ap (λ (b : Bool). if b then Ok found else tables (Base place)) (eq-eqb place place refl)
+
+  pub with_others : (needed : Needed) → list_any (λ other. nat_eq other place) needed.bases.items ≡ false → (t : TablePlace) → IsNeeded needed t → tables t ≡ with_rows place found tables t
+  with_others needed apart (View n) here = refl
+  with_others needed apart (Base n) here = by (nat_eq place n) refl
+    where
+      by : (b : Bool) → nat_eq place n ≡ b → tables (Base n) ≡ (if b then Ok found else tables (Base n))
+      by false e = refl
+      by true e =
+          let same : place ≡ n = eqb-true place n e in
+          let none : list_any (λ other. nat_eq other n) needed.bases.items ≡ false = subst (λ (p : ℕ). list_any (λ other. nat_eq other p) needed.bases.items ≡ false) same apart in
+          let yes : list_any (λ other. nat_eq other n) needed.bases.items ≡ true = here in
+          absurd (true≢false (sym yes ∙ none))
+
+  pub with_fitting : (columns : TableKinds) (kinds : List Kind) → columns (Base place) ≡ Ok kinds → AreRowsOf kinds found → AreFitting columns tables → AreFitting columns (with_rows place found tables)
+  with_fitting columns kinds is of_kinds fits (View n) = fits (View n)
+  with_fitting columns kinds is of_kinds fits (Base n) = by (nat_eq place n) refl
+    where
+      by : (b : Bool) → nat_eq place n ≡ b → Fits AreRowsOf (columns (Base n)) (if b then Ok found else tables (Base n))
+      by false e = fits (Base n)
+      by true e =
+          let at : columns (Base n) ≡ Ok kinds = ap (λ (p : ℕ). columns (Base p)) (sym (eqb-true place n e)) ∙ is in
+          subst (λ (o : Outcome (List Kind)). Fits AreRowsOf o (Ok found)) (sym at) of_kinds
+
+-- ---- what was read
+
+-- a base table that stands before the others is found first
+module _ (own : BaseRows) (bases : List BaseRows) (views : List ViewRows) (place : ℕ) (found : List Row) (at : own.place ≡ place) (are : lent own.rows.items ≡ found) where
+  own_first : rows_among (own ∷ bases) views (Base place) ≡ Ok found
+  own_first =
+      ap (λ (b : Bool). and_then (well_formed (cond b (Some own) (find (λ t. nat_eq t.place place) bases))) (λ t. Ok (lent t.rows.items))) (eq-eqb own.place place at)
+      ∙ ap (λ (rs : List Row). let is : Outcome (List Row) = Ok rs in is) are
+
+  others_behind : (tables : TablePlace → Outcome (List Row)) (t : TablePlace) → rows_among bases views t ≡ tables t → rows_among (own ∷ bases) views t ≡ with_rows place found tables t
+  others_behind tables (View n) h = h
+  others_behind tables (Base n) h =
+      ap (λ (p : ℕ). and_then (well_formed (cond (nat_eq p n) (Some own) (find (λ t. nat_eq t.place n) bases))) (λ t. Ok (lent t.rows.items))) at ∙ by (nat_eq place n)
+    where
+      by : (b : Bool) → and_then (well_formed (cond b (Some own) (find (λ t. nat_eq t.place n) bases))) (λ t. Ok (lent t.rows.items)) ≡ (if b then Ok found else tables (Base n))
+      by true = ap (λ (rs : List Row). let is : Outcome (List Row) = Ok rs in is) are
+      by false = h
+
+pub read_by_key : (content : Content) (keys : List Keys) (search : Search) (tables : TablePlace → Outcome (List Row)) (own : BaseRows) (read : Tables) (r : Result Tables Fault) → own.place ≡ search.base
+    → lent own.rows.items ≡ rows_by_key content keys search.base search.key → ReadsAsMeant search.others (rows_read read) tables → IfOk r (λ all. all.bases.items ≡ own ∷ read.bases.items) → IfOk r (λ all. all.views.items ≡ read.views.items)
+    → IfOk r (IsReadByKey content keys search tables)
+read_by_key content keys search tables own read (Err e) at are as_meant bases views = tt
+read_by_key content keys search tables own read (Ok all) at are as_meant bases views =
+    let found = rows_by_key content keys search.base search.key in record {
+      own = (λ i. rows_among (bases i) (views i) (Base search.base)) ∙ own_first own read.bases.items read.views.items search.base found at are;
+      others = λ t here. (λ i. rows_among (bases i) (views i) t) ∙ others_behind own read.bases.items read.views.items search.base found at are tables t (as_meant t here);
+    }
+
+-- want of memory is an answer
+pub answered_memory : (e : Fault) → e ≡ fault.NoMemory → IsAnswered {A = Tables} (Err e)
+answered_memory e is = subst (λ (f : Fault). IsAnswered {A = Tables} (Err f)) (sym is) tt
+
+-- over all rows of its tables
+pub read_whole : (columns : TableKinds) (tables : TablePlace → Outcome (List Row)) (q : BoundSpecification) (values : List Value) (caller : Name) (needed : Needed) (r : Result Tables Fault) → AreFitting columns tables
+    → ReadsSelect (IsNeeded needed) (select_of q) → IfOk r (λ found. ReadsAsMeant needed (rows_read found) tables) → IfOk r (IsReadFor columns tables q values caller)
+read_whole columns tables q values caller needed (Err e) fitting reads as_meant = tt
+read_whole columns tables q values caller needed (Ok found) fitting reads as_meant = record {
+  rows_of = tables;
+  fitting = fitting;
+  read = reads_weaker (IsNeeded needed) (λ t. rows_read found t ≡ tables t) as_meant (select_of q) reads;
+  same = refl;
+}
+
+-- over the row that its WHERE clause names
+pub read_of_search : (columns : TableKinds) (tables : TablePlace → Outcome (List Row)) (q : BoundSpecification) (content : Content) (keys : List Keys) (values : List Value) (caller : Name) (search : Search) (kinds : List Kind) (r : Result Tables Fault)
+    → (s : IsSearch q content keys values caller search) → AreFitting columns tables → columns (Base search.base) ≡ Ok kinds → AreRowsOf kinds (rows_by_key content keys search.base search.key)
+    → (ReadsInside (λ t. tables t ≡ with_rows search.base (rows_by_key content keys search.base search.key) tables t) (select_of q) → rows (by_place tables) (select_of q) (outermost (inputs_of values) caller)
+    ≡ rows (by_place (with_rows search.base (rows_by_key content keys search.base search.key) tables)) (select_of q) (outermost (inputs_of values) caller))
+    → IfOk r (IsReadByKey content keys search tables) → IfOk r (IsReadFor columns tables q values caller)
+read_of_search columns tables q content keys values caller search kinds (Err e) s fitting kinds_are fits same read = tt
+read_of_search columns tables q content keys values caller search kinds (Ok all) s fitting kinds_are fits same read =
+    let found = rows_by_key content keys search.base search.key in
+    let few = with_rows search.base found tables in
+    let beside = s.beside in record {
+      rows_of = few;
+      fitting = with_fitting search.base found tables columns kinds kinds_are fits fitting;
+      read = both_read (λ t. rows_read all t ≡ few t) q (Base search.base) s.own s.over s.is_where (read.own ∙ sym (with_own search.base found tables))
+          (inside_weaker (IsNeeded search.others) (λ t. rows_read all t ≡ few t) read.others (select_of q) beside.reads);
+      same = sym (same (inside_weaker (IsNeeded search.others) (λ t. tables t ≡ few t) (with_others search.base found tables search.others beside.apart) (select_of q) beside.reads));
+    }
