@@ -1,5 +1,8 @@
+pub mod Noted
+pub mod Moved
 pub mod Opened
 pub mod Prepared
+pub mod Located
 pub mod Refused
 pub mod Spelled
 pub mod Steps

@@ -1,9 +1,5 @@
 -- What a script asks for can be done in its session, from the first item to the last.
-use Rattle.std.proofs.Common.{◌≡◌, ℕ, ◌<◌, List, [], ◌∷◌, length, get_or, Some, All, sym, subst}
-use Rattle.std.proofs.lemmas.List.Quantifiers.{position-Some}
-use Rattle.sq_lex.specs.declared.name.Name.{Name}
-use Rattle.sq_catalog.specs.Catalog.{is_table, table_number}
-use Rattle.sq_catalog.specs.declared.catalog.FullName.{FullName}
+use Rattle.std.proofs.Common.{◌≡◌, ℕ, ◌<◌, List, length, get_or, All, sym, subst}
 use Rattle.sq_session.specs.Session.{Session}
 use Rattle.sq_run.specs.Steps.{IsPrepared}
 use Rattle.sq_run.specs.declared.action.Action.{Action}
@@ -17,8 +13,3 @@ prepared_later (Show x) s t procedures tables is = rw tables is
 pub prepared_at : (items : List Action) (i : ℕ) (a : Action) (s t : Session) → i < length items → a ≡ get_or items i a
     → t.procedures ≡ s.procedures → t.tables ≡ s.tables → All (IsPrepared s) items → IsPrepared t a
 prepared_at items i a s t lt e procedures tables all = prepared_later a s t procedures tables (subst (IsPrepared s) (sym e) (all i a lt))
-
--- a table that is found is there
-pub table_there : (tables : List FullName) (user name : Name) (place : ℕ) → table_number tables user name ≡ Some place → place < length tables
-table_there [] user name place e = cc
-table_there (t ∷ tables) user name place e = (position-Some (is_table user name) (t ∷ tables) place t e).0

@@ -14,16 +14,11 @@ use Rattle.sq_tree.specs.Module.{module_tokens, module_depth}
 use Rattle.sq_tree.specs.Script.{script_tokens, script_depth}
 use Rattle.sq_model.specs.Report.{Bytes}
 use Rattle.sq_session.specs.Session.{Session}
-use Rattle.sq_rules.specs.ModuleRefusal.{first_module_refusal}
-use Rattle.sq_module.specs.FirstRefusal.{refusal_of}
-use Rattle.sq_module.specs.declared.refusal.ModuleRefusal.{ModuleRefusal}
-use Rattle.sq_tree.specs.declared.module.ModuleText.{ModuleText}
 use Rattle.sq_run.specs.Fault.{IsMisspelled, IsModuleFault, IsOfMeaning, IsOfSpelling, IsOpeningFault, IsParseFault, IsRefusalIfAny, IsRefusedText, IsScriptFault, IsScriptRefusal, IsUnread, SomeRefused, run_fault}
-use Rattle.sq_run.specs.Refused.{Matter, Tokens, Grammar, Depth, Meaning, IsOfModules, IsRefused, IsRefusedScript, OneRefused, matter, module_fault}
+use Rattle.sq_run.specs.Refused.{Matter, Tokens, Grammar, Depth, Meaning, IsOfModules, IsRefused, IsRefusedScript, OneRefused, matter}
 use Rattle.sq_run.specs.Run.{AllSpell, SomeTrees, Spells, texts}
 use Rattle.sq_run.specs.declared.refusal.Refusal.{Refusal}
 use Rattle.sq_run.specs.declared.refusal.RefusalName.{RefusalName}
-use Rattle.sq_run.specs.declared.refusal.RefusalName.TheVariants as what
 use Rattle.sq_run.specs.declared.refusal.RunFault.TheVariants as run
 use Rattle.sq_run.specs.declared.texts.TextFault.{TextFault}
 use Rattle.sq_run.specs.declared.texts.TextFault.TheVariants.{NoMemory, Refused}
@@ -91,7 +86,7 @@ refused_by tokens_of depth_of all text refusal Depth trees there before e is = r
 }
 refused_by tokens_of depth_of all text refusal Meaning trees there before e is = absurd is
 
-text_at : (all : List (Vec ℕ Global)) (number : ℕ) (text : Vec ℕ Global) → number < length all → text ≡ get_or all number text → slice_get (texts all) number ≡ Some text.items
+pub text_at : (all : List (Vec ℕ Global)) (number : ℕ) (text : Vec ℕ Global) → number < length all → text ≡ get_or all number text → slice_get (texts all) number ≡ Some text.items
 text_at [] number text lt e = absurd (omega arith)
 text_at (v ∷ vs) zero text lt e = ap (λ w. Some w.items) (sym e)
 text_at (v ∷ vs) (suc n) text lt e = text_at vs n text (omega arith) e
@@ -140,14 +135,6 @@ by_matter modules refusal Meaning h = absurd (h refl)
 pub spelling_only : (modules : List Bytes) (fault : TextFault) → IsOfSpelling fault → IsModuleFault modules fault
 spelling_only modules NoMemory h = tt
 spelling_only modules (Refused refusal) h = by_matter modules refusal (matter refusal.what) h
-
--- a module that the definitions refuse first
-pub first_of_modules : (modules : List Bytes) (trees : List ModuleText) (r : ModuleRefusal) (fault : TextFault) → AllSpell module_tokens modules trees → first_module_refusal trees ≡ Some (refusal_of r)
-    → IsRefusalIfAny r.text (what.Module r.name) fault → IsModuleFault modules fault
-first_of_modules modules trees r NoMemory spelled first is = tt
-first_of_modules modules trees r (Refused refusal) spelled first is =
-    subst (IsOfModules modules refusal) (sym (ap matter is.1))
-    (record { trees = trees; spelled = spelled; found = refusal_of r; first = first; text = is.0; what = ap module_fault is.1 })
 
 -- ---- the script
 

@@ -1,6 +1,7 @@
 pub mod Opened
 pub mod Action
 pub mod Asked
+pub mod Checked
 pub mod Fault
 pub mod Items
 pub mod Performed

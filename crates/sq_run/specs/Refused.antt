@@ -10,7 +10,7 @@ use Rattle.sq_lex.specs.declared.token.Token.{Token}
 use Rattle.sq_tree.specs.Schema.{schema_tokens, schema_depth}
 use Rattle.sq_tree.specs.Module.{module_tokens, module_depth}
 use Rattle.sq_tree.specs.Script.{script_tokens, script_depth}
-use Rattle.sq_tree.specs.Starts.{script_item_start}
+use Rattle.sq_tree.specs.Starts.{module_item_start, script_item_start}
 use Rattle.sq_tree.specs.declared.module.ModuleText.{ModuleText}
 use Rattle.sq_tree.specs.declared.script.ScriptItem.{ScriptItem}
 use Rattle.sq_tree.specs.declared.script.ScriptText.{ScriptText}
@@ -72,28 +72,7 @@ pub record OneRefused {T : Type 0} (tokens_of : T → List Lexeme) (depth_of : T
   pub refused : IsRefused tokens_of depth_of text refusal (matter refusal.what)
   pub before : SomeTrees tokens_of (read_before (matter refusal.what) refusal.text all)
 
--- ---- modules
-
--- the fault of a module that a refusal is named for
-abbrev pub module_fault : RefusalName → Option ModuleFault
-module_fault (Module name) = Some (fault_of name)
-module_fault _ = None
-
--- the first refusal of the modules that these texts spell, by the definitions: its text and its fault
-pub record IsFirstModule (modules : List Bytes) (refusal : Refusal) : Type 0 where
-  pub trees : List ModuleText
-  pub spelled : AllSpell module_tokens modules trees
-  pub found : Found
-  pub first : first_module_refusal trees ≡ Some found
-  pub text : refusal.text ≡ found.text
-  pub what : module_fault refusal.what ≡ Some found.fault
-
--- what a refusal says of what the modules mean, if it is one for that
-abbrev pub IsOfModules : List Bytes → Refusal → Matter → Type 0
-IsOfModules modules refusal Meaning = IsFirstModule modules refusal
-IsOfModules modules refusal _ = ⊤
-
--- ---- the script
+-- ---- tokens
 
 -- the line and the column of the first byte of a token
 pub record StandsAt (text : Bytes) (token : Token) (refusal : Refusal) : Type 0 where
@@ -105,6 +84,45 @@ pub record IsTokenOf (text : Bytes) (number : ℕ) (token : Token) : Type 0 wher
   pub tokens : List Token
   pub read : reading text ≡ Ok tokens
   pub there : slice_get tokens number ≡ Some token
+
+-- ---- modules
+
+-- the first token of what is refused: of the cursor or procedure of this number, or of the module
+abbrev pub refused_start : ModuleText → Option ℕ → ℕ
+refused_start m None = 0
+refused_start m (Some item) = module_item_start m item
+
+-- the refusal stands at that token of the module's text
+pub record StandsInModule (modules : List Bytes) (trees : List ModuleText) (found : Found) (refusal : Refusal) : Type 0 where
+  pub text : Bytes
+  pub there : slice_get modules found.text ≡ Some text
+  pub tree : ModuleText
+  pub tree_there : slice_get trees found.text ≡ Some tree
+  pub token : Token
+  pub first : IsTokenOf text (refused_start tree found.item) token
+  pub stands : StandsAt text token refusal
+
+-- the fault of a module that a refusal is named for
+abbrev pub module_fault : RefusalName → Option ModuleFault
+module_fault (Module name) = Some (fault_of name)
+module_fault _ = None
+
+-- the first refusal of the modules that these texts spell, by the definitions: its text and its fault, at its first token
+pub record IsFirstModule (modules : List Bytes) (refusal : Refusal) : Type 0 where
+  pub trees : List ModuleText
+  pub spelled : AllSpell module_tokens modules trees
+  pub found : Found
+  pub first : first_module_refusal trees ≡ Some found
+  pub text : refusal.text ≡ found.text
+  pub what : module_fault refusal.what ≡ Some found.fault
+  pub stands : StandsInModule modules trees found refusal
+
+-- what a refusal says of what the modules mean, if it is one for that
+abbrev pub IsOfModules : List Bytes → Refusal → Matter → Type 0
+IsOfModules modules refusal Meaning = IsFirstModule modules refusal
+IsOfModules modules refusal _ = ⊤
+
+-- ---- the script
 
 -- the script's first item that the session does not take, with its fault, at its first token
 pub record IsFirstItem (start : Session) (script : Bytes) (refusal : Refusal) : Type 0 where
@@ -135,7 +153,7 @@ pub record ScriptIsRefused (row_numbers : ℕ) (schemas modules : List Bytes) (s
 
 -- A text is refused for its tokens only with the first fault of its reading, for its grammar only where no tree spells it, and for its depth only where
 -- each tree that spells it is deeper than MAX_DEPTH brackets. Those of its kind before it spell trees. For what it means a module is refused only where the
--- definitions refuse it first, for the fault that they find, and the script only at its first item that has a fault, and for that.
+-- definitions refuse it first, for the fault that they find, at its first token, and the script only at its first item that has a fault, and for that.
 abbrev pub RefusedText : ℕ → List Bytes → List Bytes → Bytes → RunFault → Type 0
 RefusedText row_numbers schemas modules script (SchemaRefused refusal) = OneRefused schema_tokens schema_depth schemas refusal
 RefusedText row_numbers schemas modules script (ModuleRefused refusal) =

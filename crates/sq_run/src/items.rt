@@ -112,9 +112,10 @@ fn values_of(alloc: Global, arguments: &Arguments) -> Result<Items<Value>, Alloc
 fn listed_values(alloc: Global, arguments: &CommaList<Argument>) -> Result<Items<Value>, AllocError>
     ensures { IfOk result (λ values. values ≡ map model.argument_value (listed arguments.now)) }
 {
-    let mut values = Items::new(alloc);
-    values.push(value_of(alloc, &arguments.first)?)?;
     let rest = arguments.rest.as_slice();
+    let count = rest.len().saturating_add(1);
+    let mut values = Items::from_vec(Vec::with_capacity(alloc, count)?);
+    values.push(value_of(alloc, &arguments.first)?)?;
     for argument in rest {
         values.push(value_of(alloc, argument)?)?;
     }

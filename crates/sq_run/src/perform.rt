@@ -105,7 +105,6 @@ fn perform_all<S: Store, W: Out>(
 }
 
 /// Performs an item, and gives its lines.
-#[tactic(auto, using(crate::proofs::Prepared::table_there))]
 fn perform<S: Store>(
     alloc: Global,
     session: &mut Session<S>,

@@ -1,5 +1,5 @@
 //! From texts to a session and what its script asks for.
-ghost use Rattle.std.specs.Prelude.{◌≡◌, ◌≤◌, ◌<◌, length, All, IfErr, IfOk, MatchResult, None, Some};
+ghost use Rattle.std.specs.Prelude.{◌≡◌, ◌≤◌, ◌<◌, length, min, All, IfErr, IfOk, MatchResult, None, Some};
 ghost use Rattle.sq_tree.specs.Schema.{schema_tokens, schema_depth};
 ghost use Rattle.sq_tree.specs.Module.{module_tokens, module_depth};
 ghost use Rattle.sq_tree.specs.Script.{script_tokens};
@@ -15,6 +15,7 @@ ghost use Rattle.sq_session.specs.Schemas.{schemas_of};
 ghost use Rattle.sq_session.specs.Session.{AreOfModules, names_of};
 ghost use Rattle.sq_store.specs.Content.{no_rows};
 ghost use Rattle.sq_run.specs.Opened.{Defined, Holds, Opened};
+ghost use Rattle.sq_run.specs.Refused.{refused_start};
 ghost use Rattle.sq_run.specs.Items.{IsTaken};
 ghost use Rattle.sq_run.specs.Run.{AllSpell, IsStart, SomeTrees, Spells, texts};
 ghost use Rattle.sq_run.specs.Asked.{AreActions, AreAsked};
@@ -34,7 +35,7 @@ use std::alloc::{AllocError, Global};
 
 /// The session that the schema and module texts open. All schemas are read and defined before the first module is read.
 #[tactic(auto, using(crate::proofs::Opened::opened_by))]
-pub(crate) fn open_session<S: Store>(
+pub fn open_session<S: Store>(
     alloc: Global,
     schemas: &[Vec<u8>],
     modules: &[Vec<u8>],
@@ -86,7 +87,11 @@ fn catalog_of(alloc: Global, schemas: &[Vec<u8>]) -> Result<Catalog, TextFault>
 }
 
 /// What the trees of the schema texts define.
-fn built(alloc: Global, schemas: &[Vec<u8>], trees: &[SchemaText]) -> Result<Catalog, TextFault>
+pub(crate) fn built(
+    alloc: Global,
+    schemas: &[Vec<u8>],
+    trees: &[SchemaText],
+) -> Result<Catalog, TextFault>
     requires spelled { AllSpell schema_tokens (texts schemas.now) trees.now }
     ensures tables { IfOk result (λ c. c.tables ≡ declared_tables trees.now) }
     ensures declares { IfOk result (λ c. Declares trees.now (known c) c.bases c.views) }
@@ -217,7 +222,7 @@ fn store_of<S: Store>(alloc: Global, catalog: &Catalog, limits: Limits) -> Resul
 }
 
 /// A refusal of a module at its first token, or of one of its cursors or procedures at that one's.
-fn refused_module(
+pub(crate) fn refused_module(
     alloc: Global,
     modules: &[Vec<u8>],
     trees: &[ModuleText],
@@ -230,12 +235,19 @@ fn refused_module(
     ensures first { IsModuleFault (texts modules.now) result }
 {
     let ModuleRefusal { name, text, item } = refusal;
-    let token = match item {
-        Some(item) => module_item_start(&trees[text], item),
-        None => 0,
-    };
+    let token = refused_start(&trees[text], item);
     let what = RefusalName::Module(name);
     refused_again(alloc, modules[text].as_slice(), text, token, what)
+}
+
+/// The first token of what is refused in a module.
+fn refused_start(tree: &ModuleText, item: Option<usize>) -> usize
+    ensures { result ≡ min (refused_start tree.now item) usize.MAX }
+{
+    match item {
+        Some(item) => module_item_start(tree, item),
+        None => 0,
+    }
 }
 
 /// What the items of a script ask a session for.
@@ -303,7 +315,7 @@ fn refused_item(
     }
 }
 
-fn schema_fault(fault: TextFault) -> RunFault
+pub(crate) fn schema_fault(fault: TextFault) -> RunFault
     ensures { result ≡ run_fault RunFault.SchemaRefused fault }
 {
     match fault {
@@ -312,7 +324,7 @@ fn schema_fault(fault: TextFault) -> RunFault
     }
 }
 
-fn module_fault(fault: TextFault) -> RunFault
+pub(crate) fn module_fault(fault: TextFault) -> RunFault
     ensures { result ≡ run_fault RunFault.ModuleRefused fault }
 {
     match fault {

@@ -1,18 +1,18 @@
 //! The lines of the report.
-ghost use Rattle.std.specs.Prelude.{◌≡◌, ◌<◌, ◌++◌, codes, decimal, length, map, OnOk, IfOk};
+ghost use Rattle.std.specs.Prelude.{◌≡◌, ◌++◌, codes, decimal, map, OnOk, IfOk, Some};
 ghost use Rattle.std.specs.List.{flat_map};
 ghost use Rattle.sq_store.specs.Content.{table_at};
+ghost use Rattle.sq_catalog.specs.Catalog.{table_number};
 ghost use Rattle.sq_model.specs.Report as report;
-ghost use Rattle.sq_session.specs.Lent.{lent};
 ghost use Rattle.sq_run.specs.Action.{call_of, table_of};
 ghost use Rattle.sq_run.specs.Steps.{told, told_output};
 
 use crate::action::{CallAction, ShowAction};
 use sq_lex::Name;
 use sq_meaning::Status;
-use sq_session::{Output, Reply, Session};
+use sq_session::{Output, Reply, Session, TableRows};
 use sq_store::Store;
-use sq_value::{Decimal, Row, Value};
+use sq_value::{Decimal, Value};
 use std::alloc::{AllocError, Global};
 
 /// Adds SQLSTATE and SQLCODE.
@@ -96,14 +96,25 @@ pub(crate) fn table_lines<S: Store>(
     session: &Session<S>,
     shown: &ShowAction,
 ) -> Result<Vec<u8>, AllocError>
-    requires { shown.now.table < length session.now.tables }
+    requires { table_number session.now.tables shown.now.user shown.now.name ≡ Some shown.now.table }
     ensures { IfOk result (λ lines. lines.items ≡ report.table_lines (table_of shown.now)
         (table_at session.now.state.tables shown.now.table)) }
 {
-    let rows = session.rows(alloc, shown.table)?;
+    let rows = rows_shown(session, shown);
     let mut lines = table_line(alloc, shown.user, shown.name, rows.len())?;
-    write_rows(alloc, rows.as_slice(), &mut lines)?;
+    write_rows(alloc, rows, &mut lines)?;
     Ok(lines)
+}
+
+/// The rows of the base table that is shown.
+fn rows_shown<'s, S: Store>(session: &'s Session<S>, shown: &ShowAction) -> TableRows<'s, S>
+    requires { table_number session.now.tables shown.now.user shown.now.name ≡ Some shown.now.table }
+    ensures { result ≡ (table_at session.now.state.tables shown.now.table).rows }
+{
+    match session.rows(shown.user, shown.name) {
+        Some(rows) => rows,
+        None => unreachable!(),
+    }
 }
 
 /// The line before a table's rows.
@@ -117,12 +128,16 @@ fn table_line(alloc: Global, user: Name, table: Name, rows: usize) -> Result<Vec
     Ok(line)
 }
 
-fn write_rows(alloc: Global, rows: &[(u64, &Row)], lines: &mut Vec<u8>) -> Result<(), AllocError>
-    ensures { OnOk result (lines.new.items ≡ lines.old.items ++ flat_map report.row_line (map lent rows.now)) }
+fn write_rows<S: Store>(
+    alloc: Global,
+    mut rows: TableRows<'_, S>,
+    lines: &mut Vec<u8>,
+) -> Result<(), AllocError>
+    ensures { OnOk result (lines.new.items ≡ lines.old.items ++ flat_map report.row_line rows.entry) }
 {
-    for row in rows {
+    while let Some((_, row)) = rows.next() {
         lines.push(b' ')?;
-        write_row(alloc, row.1.as_slice(), lines)?;
+        write_row(alloc, row.as_slice(), lines)?;
         lines.push(b'\n')?;
     }
     Ok(())

@@ -73,7 +73,19 @@ other_option : fault_of sqmod (call (codes "--file" ∷ [])) ≡ UnknownArgument
 unfolding clap_on_literals
 other_option = refl
 
--- ---- the other subcommand
+-- ---- the other subcommands
+
+checked : List Text → Option (Text × List Text × List Text)
+checked words = option_map (λ s. (s.0, files_of (codes "schema") s.1, files_of (codes "module") s.1)) (subcommand_of sqmod words)
+
+checks : checked (codes "sqmod" ∷ codes "check" ∷ codes "--schema" ∷ codes "a" ∷ codes "--module=m" ∷ codes "--schema=b" ∷ [])
+    ≡ Some (codes "check", codes "a" ∷ codes "b" ∷ [], codes "m" ∷ [])
+unfolding clap_on_literals checked
+checks = refl
+
+no_script : fault_of sqmod (codes "sqmod" ∷ codes "check" ∷ codes "--script" ∷ codes "c" ∷ []) ≡ UnknownArgument ∷ []
+unfolding clap_on_literals
+no_script = refl
 
 explained : List Text → Option (Text × Option Text)
 explained words = option_map (λ s. (s.0, first_of (codes "name") s.1)) (subcommand_of sqmod words)

@@ -11,10 +11,11 @@ use Rattle.clap.specs.declared.builder.action.ArgAction.TheVariants.{Append, Set
 use Rattle.clap.specs.declared.builder.value_parser.ValueParser.TheVariants.{Unsigned}
 use Rattle.sq_store.specs.declared.store.TheConstants.{MOST_ROW_NUMBERS}
 use Rattle.sqmod.specs.declared.command_line.TheConstants.{USUAL_ROW_NUMBERS}
+use Rattle.sqmod.specs.declared.command_line.CheckRequest.{CheckRequest}
 use Rattle.sqmod.specs.declared.command_line.ExplainRequest.{ExplainRequest}
 use Rattle.sqmod.specs.declared.command_line.Request.{Request}
 use Rattle.sqmod.specs.declared.command_line.Task.{Task}
-use Rattle.sqmod.specs.declared.command_line.Task.TheVariants.{Run, Explain}
+use Rattle.sqmod.specs.declared.command_line.Task.TheVariants.{Run, Check, Explain}
 use Rattle.sqmod.specs.declared.fault.Source.{Source}
 use Rattle.sqmod.specs.declared.fault.Source.TheVariants.{Schema, Module, Script}
 
@@ -37,6 +38,15 @@ abbrev pub file_of : Request → Source → Option (List ℕ)
 file_of request (Schema index) = name_at request.schemas.items index
 file_of request (Module index) = name_at request.modules.items index
 file_of request Script = Some request.script.now
+
+-- the same where there is no script
+abbrev pub HasCheckedFile : CheckRequest → Source → Type 0
+HasCheckedFile request source = IsAmong (length request.schemas.items) (length request.modules.items) source
+
+abbrev pub checked_file_of : CheckRequest → Source → Text
+checked_file_of request (Schema index) = unwrap_or (name_at request.schemas.items index) []
+checked_file_of request (Module index) = unwrap_or (name_at request.modules.items index) []
+checked_file_of request Script = []
 
 -- ---- the command
 
@@ -61,6 +71,10 @@ run =
     let with_modules = with_rule with_schemas (files_rule (codes "module")) in
     with_rule (with_rule with_modules script_rule) rows_rule
 
+-- `check [--schema F]... [--module F]...`
+abbrev pub check : App
+check = with_rule (with_rule (new_app (codes "check")) (files_rule (codes "schema"))) (files_rule (codes "module"))
+
 -- a word without a name of its own
 abbrev pub name_rule : Rule
 name_rule = record (new_rule (codes "name")) { value_names = 1; action = Some Set }
@@ -69,11 +83,15 @@ name_rule = record (new_rule (codes "name")) { value_names = 1; action = Some Se
 abbrev pub explain : App
 explain = with_rule (new_app (codes "explain")) name_rule
 
--- `sqmod`, of which one of these subcommands must be given
-abbrev pub sqmod : App
-sqmod =
+-- `sqmod` with the subcommands that read files, of which one must be given
+abbrev pub of_files : App
+of_files =
     let without = on_top (λ shape. record shape { subcommand_required = true }) (new_app (codes "sqmod")) in
-    with_subcommand (with_subcommand without run.top) explain.top
+    with_subcommand (with_subcommand without run.top) check.top
+
+-- and with `explain`
+abbrev pub sqmod : App
+sqmod = with_subcommand of_files explain.top
 
 -- ---- what `run` was given
 
@@ -100,6 +118,13 @@ pub record Makes (rows : List Row) (request : Request) : Type 0 where
   pub script : Some request.script.now ≡ first_of (codes "script") rows
   pub row_numbers : request.row_numbers ≡ row_numbers_of rows
 
+-- ---- what `check` was given
+
+-- the request that `check` makes of it
+pub record MakesCheck (rows : List Row) (request : CheckRequest) : Type 0 where
+  pub schemas : map (λ file. file.now) request.schemas.items ≡ files_of (codes "schema") rows
+  pub modules : map (λ file. file.now) request.modules.items ≡ files_of (codes "module") rows
+
 -- ---- what `explain` was given
 
 -- the request that `explain` makes of it
@@ -109,7 +134,7 @@ MakesExplain rows request = option_map (λ name. name.now) request.name ≡ firs
 -- ---- what the words ask for
 
 abbrev pub is_subcommand : Text → Bool
-is_subcommand name = bytes_eq name (codes "run") || bytes_eq name (codes "explain")
+is_subcommand name = bytes_eq name (codes "run") || bytes_eq name (codes "check") || bytes_eq name (codes "explain")
 
 -- a subcommand that the program has, with what it may be given
 abbrev pub IsGiven : Text → List Row → Type 0
@@ -119,6 +144,7 @@ IsGiven name rows =
 -- the task that the subcommand of this name makes of what it was given
 abbrev pub MakesTask : Text → List Row → Task → Type 0
 MakesTask name rows (Run request) = (name ≡ codes "run") × Makes rows request
+MakesTask name rows (Check request) = (name ≡ codes "check") × MakesCheck rows request
 MakesTask name rows (Explain request) = (name ≡ codes "explain") × MakesExplain rows request
 
 -- the words name a subcommand, and ask for this
@@ -129,4 +155,5 @@ AskFor words task =
 -- the row numbers that a run is to have are not too many
 abbrev pub IsLimited : Task → Type 0
 IsLimited (Run request) = request.row_numbers ≤ MOST_ROW_NUMBERS
+IsLimited (Check request) = ⊤
 IsLimited (Explain request) = ⊤

@@ -37,6 +37,27 @@ impl<'a> Request<'a> {
     }
 }
 
+/// What is to be checked: the names of the files.
+#[derive(Drop)]
+pub(crate) struct CheckRequest<'a> {
+    pub(crate) schemas: Vec<&'a str>,
+    pub(crate) modules: Vec<&'a str>,
+}
+
+impl<'a> CheckRequest<'a> {
+    /// The name of the file of one of its texts. There is no script.
+    pub(crate) fn file(&self, source: Source) -> &'a str
+        requires { spec.HasCheckedFile self.now source }
+        ensures { spec.checked_file_of self.now source ≡ result.now }
+    {
+        match source {
+            Source::Schema(index) => self.schemas[index],
+            Source::Module(index) => self.modules[index],
+            Source::Script => "",
+        }
+    }
+}
+
 /// What is to be explained: a status, a refusal or a fault. Without a name, the names are asked for.
 #[derive(Clone, Copy)]
 pub(crate) struct ExplainRequest<'a> {
@@ -47,10 +68,12 @@ pub(crate) struct ExplainRequest<'a> {
 #[derive(Drop)]
 pub(crate) enum Task<'a> {
     Run(Request<'a>),
+    Check(CheckRequest<'a>),
     Explain(ExplainRequest<'a>),
 }
 
-/// Reads `sqmod run [--schema F]... [--module F]... --script F [--rows N]` or `sqmod explain [NAME]`.
+/// Reads `sqmod run [--schema F]... [--module F]... --script F [--rows N]`, `sqmod check [--schema F]... [--module F]...` or
+/// `sqmod explain [NAME]`.
 pub(crate) fn read_task<'a>(alloc: Global, words: &'a [String]) -> Result<Task<'a>, Error>
     ensures refused { FailsBy (fault_of spec.sqmod (map string_bytes words.now)) result }
     ensures asked { IfOk result (spec.AskFor (map string_bytes words.now)) }
@@ -70,6 +93,7 @@ fn task_of<'a>(alloc: Global, name: &str, given: &ArgMatches<'a>) -> Result<Task
 {
     match name {
         "run" => Ok(Task::Run(request_of(alloc, given)?)),
+        "check" => Ok(Task::Check(check_request_of(alloc, given)?)),
         _ => Ok(Task::Explain(explain_request_of(given))),
     }
 }
@@ -85,6 +109,19 @@ fn request_of<'a>(alloc: Global, run: &ArgMatches<'a>) -> Result<Request<'a>, Al
         modules: files(alloc, run, "module")?,
         script: run.get_str("script").unwrap(),
         row_numbers: row_numbers(run),
+    })
+}
+
+/// The request that `check` makes of what it was given.
+fn check_request_of<'a>(
+    alloc: Global,
+    check: &ArgMatches<'a>,
+) -> Result<CheckRequest<'a>, AllocError>
+    ensures { IfOk result (spec.MakesCheck (rows_of (found_of check.now))) }
+{
+    Ok(CheckRequest {
+        schemas: files(alloc, check, "schema")?,
+        modules: files(alloc, check, "module")?,
     })
 }
 
@@ -120,13 +157,21 @@ fn row_numbers(run: &ArgMatches<'_>) -> u64
 fn sqmod_command<'a>(alloc: Global) -> Result<Command<'a>, AllocError>
     ensures app { IfOk result (λ command. app_of command ≡ spec.sqmod) }
 {
-    let run = run_command(alloc)?;
     let explain = explain_command(alloc)?;
+    files_command(alloc)?.subcommand(explain)
+}
+
+/// The command with the subcommands that read files.
+fn files_command<'a>(alloc: Global) -> Result<Command<'a>, AllocError>
+    ensures app { IfOk result (λ command. app_of command ≡ spec.of_files) }
+{
+    let run = run_command(alloc)?;
+    let check = check_command(alloc)?;
     Command::new(alloc, "sqmod")
         .about("Processes SQL-92 schemas and modules, and runs a script of procedure calls")
         .subcommand_required(true)
         .subcommand(run)?
-        .subcommand(explain)
+        .subcommand(check)
 }
 
 fn run_command<'a>(alloc: Global) -> Result<Command<'a>, AllocError>
@@ -139,6 +184,16 @@ fn run_command<'a>(alloc: Global) -> Result<Command<'a>, AllocError>
         .arg(files_option(alloc, "module", "A file with a module"))?
         .arg(script_option(alloc))?
         .arg(rows_option(alloc))
+}
+
+fn check_command<'a>(alloc: Global) -> Result<Command<'a>, AllocError>
+    ensures app { IfOk result (λ command. app_of command ≡ spec.check) }
+    ensures local { IfOk result (λ command. (fields_of command).has_globals ≡ false) }
+{
+    Command::new(alloc, "check")
+        .about("Says which calls answer 42000 and why, and which cursors and views are updatable")
+        .arg(files_option(alloc, "schema", "A file with schemas"))?
+        .arg(files_option(alloc, "module", "A file with a module"))
 }
 
 fn explain_command<'a>(alloc: Global) -> Result<Command<'a>, AllocError>

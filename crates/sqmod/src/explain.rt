@@ -1,6 +1,7 @@
 //! What a status, a refusal or a fault means, on standard output.
 use crate::command_line::ExplainRequest;
-use crate::fault::{FAILED, NO_MEMORY, REFUSED};
+use crate::fault::{FAILED, REFUSED};
+use crate::refuse_for_memory;
 use sq_explain::{Entry, all_entries, named, names_of, nearest, text_of};
 use std::alloc::{AllocError, Global};
 use std::io;
@@ -56,10 +57,7 @@ fn refuse_name<R: Eprint + AllocGlobal>(rt: &R, entries: &[Entry], name: &str) -
             }
             REFUSED
         }
-        Err(_) => {
-            let _ = eprintln!(rt; "sqmod: want of memory after 0 items");
-            NO_MEMORY
-        }
+        Err(_) => refuse_for_memory(rt),
     }
 }
 

@@ -13,6 +13,9 @@ pub(crate) const REFUSED: u8 = 2;
 /// The status where memory runs out.
 pub(crate) const NO_MEMORY: u8 = 3;
 
+/// The status where a procedure or a cursor has a fault.
+pub(crate) const FAULTY: u8 = 4;
+
 /// One of a request's texts, by its index among those of its kind.
 #[derive(Clone, Copy, Debug, PartialEq, Eq)]
 pub(crate) enum Source {

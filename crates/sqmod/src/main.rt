@@ -1,19 +1,21 @@
-//! The program `sqmod`: it reads a command line and the files that it names, runs the script, and ends with a status
-//! and, unless all went well, a text on standard error.
+//! The program `sqmod`: it reads a command line and the files that it names, runs the script or says what is wrong with the
+//! modules, and ends with a status and, where a file, a text or a word is refused, a text on standard error.
 #![tactic(auto)]
 
 ghost use Rattle.std.specs.Prelude.{◌≡◌, ◌≤◌};
 ghost use Rattle.sqmod.specs.Fault.{status_of};
-ghost use Rattle.sqmod.specs.Request.{NamesFile};
+ghost use Rattle.sqmod.specs.Request.{NamesCheckedFile, NamesFile};
 
+mod check;
 mod command_line;
 mod explain;
 mod fault;
 mod request;
 mod texts;
 
+use check::status_of_check;
 use clap::error::ErrorKind;
-use command_line::{Request, Task, read_task};
+use command_line::{CheckRequest, Request, Task, read_task};
 use explain::status_of_explain;
 use fault::{Fault, NO_MEMORY, REFUSED};
 use sq_store::MOST_ROW_NUMBERS;
@@ -42,6 +44,7 @@ fn words<R: Env + AllocGlobal>(rt: &R) -> io::Result<Vec<String>> {
 fn status_of_words<R: Files + Print + Eprint + AllocGlobal>(rt: &R, words: &[String]) -> u8 {
     match read_task(rt.alloc(), words) {
         Ok(Task::Run(request)) => status_of_request(rt, &request),
+        Ok(Task::Check(request)) => status_of_check(rt, &request),
         Ok(Task::Explain(request)) => status_of_explain(rt, request),
         Err(error) => refuse_words(rt, &error),
     }
@@ -79,18 +82,37 @@ fn refuse_for_memory<R: Eprint>(rt: &R) -> u8 {
     NO_MEMORY
 }
 
-/// Says what went wrong and gives the status for it.
+/// Says what went wrong with a run and gives the status for it.
 fn report<R: Eprint>(rt: &R, request: &Request<'_>, fault: Fault) -> u8
     requires { NamesFile request.now fault }
     ensures { result ≡ status_of fault }
 {
+    let file = match fault {
+        Fault::Unread(source) | Fault::Refused(source, _) => request.file(source),
+        Fault::Output | Fault::NoMemory(_) => "",
+    };
+    report_of_file(rt, file, fault)
+}
+
+/// The same of a check.
+fn report_checked<R: Eprint>(rt: &R, request: &CheckRequest<'_>, fault: Fault) -> u8
+    requires { NamesCheckedFile request.now fault }
+    ensures { result ≡ status_of fault }
+{
+    let file = match fault {
+        Fault::Unread(source) | Fault::Refused(source, _) => request.file(source),
+        Fault::Output | Fault::NoMemory(_) => "",
+    };
+    report_of_file(rt, file, fault)
+}
+
+/// Says what went wrong, where it is with this file if it is with one.
+fn report_of_file<R: Eprint>(rt: &R, file: &str, fault: Fault) -> u8
+    ensures { result ≡ status_of fault }
+{
     let _ = match fault {
-        Fault::Unread(source) => {
-            let file = request.file(source);
-            eprintln!(rt; "sqmod: {file}: cannot be read")
-        }
-        Fault::Refused(source, refusal) => {
-            let file = request.file(source);
+        Fault::Unread(_) => eprintln!(rt; "sqmod: {file}: cannot be read"),
+        Fault::Refused(_, refusal) => {
             let line = refusal.line;
             let column = refusal.column;
             let what = refusal.what;

@@ -92,7 +92,7 @@ fn run_texts<W: Write>(
 }
 
 /// What a fault of a run means for the program.
-fn fault_of(fault: RunFault) -> Fault
+pub(crate) fn fault_of(fault: RunFault) -> Fault
     ensures { result ≡ spec.fault_of fault }
 {
     match fault {

@@ -69,6 +69,25 @@ fn reads_what_is_asked(rt: HostRuntime) -> Result<(), Fail> {
     Ok(())
 }
 
+/// Whether a line asks to check the schemas `a` and `b` and the module `m`.
+fn asks_to_check(alloc: Global, line: &str) -> Result<bool, Fail> {
+    let words = words_of(alloc, line)?;
+    match read_task(alloc, words.as_slice())? {
+        Task::Check(request) => Ok(
+            request.schemas.as_slice() == ["a", "b"].as_slice()
+                && request.modules.as_slice() == ["m"].as_slice(),
+        ),
+        _ => Ok(false),
+    }
+}
+
+#[test]
+fn reads_what_is_checked(rt: HostRuntime) -> Result<(), Fail> {
+    let line = "sqmod check --schema a --module m --schema=b";
+    assert!(rt; asks_to_check(rt.alloc(), line)?);
+    Ok(())
+}
+
 /// Whether a line asks what this name means, or for the names.
 fn asks_to_explain(alloc: Global, line: &str, name: Option<&str>) -> Result<bool, Fail> {
     let words = words_of(alloc, line)?;
@@ -86,7 +105,7 @@ fn reads_what_is_explained(rt: HostRuntime) -> Result<(), Fail> {
 }
 
 /// Lines that are refused, with what is printed.
-const REFUSED: [(&str, &str); 11] = [
+const REFUSED: [(&str, &str); 12] = [
     (
         "sqmod run",
         "error: the following required arguments were not provided:
@@ -146,7 +165,7 @@ For more information, try '--help'.
     (
         "sqmod",
         "error: 'sqmod' requires a subcommand but one was not provided
-  [subcommands: run, explain, help]
+  [subcommands: run, check, explain, help]
 
 Usage: sqmod <COMMAND>
 
@@ -161,6 +180,7 @@ Usage: sqmod <COMMAND>
 
 Commands:
   run      Runs a script
+  check    Says which calls answer 42000 and why, and which cursors and views are updatable
   explain  Explains a status, a refusal or a fault, or lists their names
   help     Print this message or the help of the given subcommand(s)
 
@@ -179,6 +199,18 @@ Options:
       --module <F>  A file with a module
       --script <F>  The file with the script
       --rows <N>    The row numbers of each table, 1000000 when omitted
+  -h, --help        Print help
+",
+    ),
+    (
+        "sqmod check --help",
+        "Says which calls answer 42000 and why, and which cursors and views are updatable
+
+Usage: sqmod check [OPTIONS]
+
+Options:
+      --schema <F>  A file with schemas
+      --module <F>  A file with a module
   -h, --help        Print help
 ",
     ),

@@ -1,6 +1,6 @@
 //! The files of a request.
 ghost use Rattle.std.specs.Prelude.{◌≡◌, ◌<◌, ◌+◌, length, IfErr, IfOk, OnOk};
-ghost use Rattle.sqmod.specs.Request.{AreTexts, NamesFile};
+ghost use Rattle.sqmod.specs.Request.{AreTexts, NamesFile, NamesOneOf};
 
 use crate::command_line::Request;
 use crate::fault::{Fault, Source};
@@ -15,6 +15,13 @@ pub(crate) struct Texts {
     pub(crate) script: Vec<u8>,
 }
 
+/// The texts of schemas and modules, in the order of their files.
+#[derive(Drop)]
+pub(crate) struct Sources {
+    pub(crate) schemas: Vec<Vec<u8>>,
+    pub(crate) modules: Vec<Vec<u8>>,
+}
+
 /// Reads all files: schemas, modules, then the script.
 pub(crate) fn read_texts<R: Files + AllocGlobal>(
     rt: &R,
@@ -23,27 +30,39 @@ pub(crate) fn read_texts<R: Files + AllocGlobal>(
     ensures texts { IfOk result (AreTexts request.now) }
     ensures names { IfErr result (NamesFile request.now) }
 {
-    let schemas = match read_all(rt, request.schemas.as_slice()) {
-        Ok(schemas) => schemas,
-        Err(index) => return Err(Fault::Unread(Source::Schema(index))),
-    };
-    let modules = match read_all(rt, request.modules.as_slice()) {
-        Ok(modules) => modules,
-        Err(index) => {
-            drop(schemas);
-            return Err(Fault::Unread(Source::Module(index)));
-        }
-    };
+    let sources = read_sources(rt, request.schemas.as_slice(), request.modules.as_slice())?;
     match fs::read(rt, request.script) {
         Ok(script) => Ok(Texts {
-            schemas,
-            modules,
+            schemas: sources.schemas,
+            modules: sources.modules,
             script,
         }),
         Err(_) => {
-            drop(schemas);
-            drop(modules);
+            drop(sources);
             Err(Fault::Unread(Source::Script))
+        }
+    }
+}
+
+/// Reads files of schemas, then of modules.
+pub(crate) fn read_sources<R: Files + AllocGlobal>(
+    rt: &R,
+    schemas: &[&str],
+    modules: &[&str],
+) -> Result<Sources, Fault>
+    ensures schemas { IfOk result (λ s. length s.schemas.items ≡ length schemas.now) }
+    ensures modules { IfOk result (λ s. length s.modules.items ≡ length modules.now) }
+    ensures names { IfErr result (NamesOneOf (length schemas.now) (length modules.now)) }
+{
+    let schemas = match read_all(rt, schemas) {
+        Ok(schemas) => schemas,
+        Err(index) => return Err(Fault::Unread(Source::Schema(index))),
+    };
+    match read_all(rt, modules) {
+        Ok(modules) => Ok(Sources { schemas, modules }),
+        Err(index) => {
+            drop(schemas);
+            Err(Fault::Unread(Source::Module(index)))
         }
     }
 }

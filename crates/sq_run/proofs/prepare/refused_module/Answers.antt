@@ -1,8 +1,8 @@
 use Rattle.std.proofs.Common.{arith, refl}
 use Rattle.sq_tree.specs.Module.{module_tokens, module_depth}
 use Rattle.sq_run.specs.declared.refusal.RefusalName.TheVariants as name
-use Rattle.sq_run.specs.Run.{texts}
-use Rattle.sq_run.proofs.Refused.{first_of_modules, named, one_of_meaning}
+use Rattle.sq_run.proofs.Located.{of_module}
+use Rattle.sq_run.proofs.Refused.{named, one_of_meaning}
 use Rattle.sq_run.proofs.Spelled.{spelled_count, spelled_read}
 use Rattle.sq_run.proofs.prepare.refused_module.Goals as goal
 
@@ -19,7 +19,9 @@ refused_again-requires c =
 
 pub returns-clause-first : goal.returns-clause-first
 returns-clause-first c =
-    first_of_modules (texts c.args.modules.now) c.args.trees.now c.args.refusal c.refused_again.result c.requires.spelled c.requires.first c.refused_again.ensures.what
+    let count = spelled_count module_tokens c.args.modules.now c.args.trees.now c.requires.spelled in
+    of_module c.args.modules.now c.args.trees.now c.args.refusal c.index-trees-text.result c.index-modules-text.result c.refused_start-token.result c.refused_again.result c.requires.spelled c.requires.first
+    c.requires.there (omega (arith, count, c.requires.there)) c.index-trees-text.is c.index-modules-text.is c.refused_start-token.ensures c.refused_again.ensures.what (rw c.as_slice.ensures.value at c.refused_again.ensures.placed)
 
 pub returns-clause-refused : goal.returns-clause-refused
 returns-clause-refused c =

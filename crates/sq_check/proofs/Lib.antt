@@ -1,0 +1,6 @@
+pub mod Columns
+pub mod Complete
+pub mod Cursors
+pub mod Modules
+pub mod Places
+pub mod Sole

@@ -1,0 +1,4 @@
+pub mod Modules
+pub mod Remark
+pub mod Rule
+pub mod Schemas

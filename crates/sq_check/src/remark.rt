@@ -1,0 +1,14 @@
+//! What is to be said of a part of a text.
+use crate::rule::Rule;
+use sq_bound::BindFault;
+
+/// What is to be said of a procedure, a cursor or a view.
+#[derive(Clone, Copy, Debug, PartialEq, Eq)]
+pub enum Remark {
+    /// The statement or the cursor's query has this fault, so each call answers 42000.
+    Fault(BindFault),
+    /// The cursor or the view is updatable.
+    Updatable,
+    /// It isn't, by this rule first.
+    NotUpdatable(Rule),
+}

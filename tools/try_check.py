@@ -1,0 +1,114 @@
+#!/usr/bin/env python3
+"""Tries `check` on texts with their wanted lines, and on the texts of every run of crates/sq_cases/data.
+
+try_check.py PROGRAM: the status is 0 if each of tools/checks.txt comes to its lines, each example to its check.txt if it has one, and
+of each run: the schemas and modules are
+refused as the run says; or each procedure that a call of the run answers with 42000 has a fault, by the name that the run
+gives it, no procedure that answers otherwise has one, and the exit status says whether there is a fault.
+"""
+
+import re
+import subprocess
+import sys
+import tempfile
+from pathlib import Path
+
+from print_runs import runs_of
+from run_program import written
+
+ROOT = Path(__file__).resolve().parent.parent
+DATA = ROOT / "crates/sq_cases/data"
+CALL = re.compile(r"(\w+\.\w+) (\w{5}) -?\d+")
+LINE = re.compile(r"\w+:\d+:\d+: (\w+\.\w+): (?:(\w+)|updatable|not updatable: .*)")
+
+
+def checked(program, words, room):
+    done = subprocess.run([program, "check", *words], cwd=room, capture_output=True, timeout=120)
+    return done.stdout.decode("latin-1"), done.stderr.decode("latin-1"), done.returncode
+
+
+def words_of(run, room):
+    """The words of `check` for the schemas and modules of a run."""
+    words = written(run, room)[1:]
+    return words[: words.index("--script")]
+
+
+def own_cases():
+    """The cases of tools/checks.txt: a run of each, and the wanted lines."""
+    text = (ROOT / "tools/checks.txt").read_text()
+    wanted = [re.findall(r"^\|(.*)$", case.split("\nreport\n")[1], re.M) for case in text.split("\nrun ")[1:]]
+    return zip(runs_of(ROOT / "tools/checks.txt"), wanted)
+
+
+def is_listed(program, run, lines):
+    """Whether a case comes to its lines."""
+    with tempfile.TemporaryDirectory() as room:
+        found = checked(program, words_of(run, room), room)
+    faults = any(re.fullmatch(r"\S+ \S+ \w+", line) and not line.endswith(" updatable") for line in lines)
+    return found == ("".join(line + "\n" for line in lines), "", 4 if faults else 0)
+
+
+def is_as_shown(program, example):
+    """Whether `check` prints what the page of an example shows."""
+    out, err, _ = checked(program, ["--schema", "schema.sql", "--module", "module.sql"], example)
+    return (out, err) == ((example / "check.txt").read_text(), "")
+
+
+def faults_by_call(path):
+    """For each run of a file by its place, the name of the fault of its calls that the data gives, by the call's number."""
+    named, place = {}, -1
+    for line in path.read_text(encoding="latin-1").split("\n"):
+        if line.startswith("run "):
+            place += 1
+        found = re.fullmatch(r"call (\d+) fault (\w+)", line)
+        if found:
+            named.setdefault(place, {})[int(found[1])] = found[2]
+    return named
+
+
+def calls_of(report):
+    """The procedure and the status of each call of a report."""
+    return [found.groups() for line in report.split("\n") if (found := CALL.match(line))]
+
+
+def answers_as_run(found, run, named):
+    """Whether what `check` answered is right by the run."""
+    out, err, status = found
+    if run.refused and run.refused[0] != "script":
+        kind, number, place, fault = run.refused
+        return found == ("", f"sqmod: {kind}{number}:{place}: {fault}\n", 2)
+    lines = [LINE.fullmatch(line) for line in out.splitlines()]
+    if err or not all(lines):
+        return False
+    faults = {line[1]: line[2] for line in lines if line[2] and line[2] != "updatable"}
+    if status != (4 if faults else 0):
+        return False
+    calls = [] if run.refused else calls_of(run.report)
+    names = {calls[number - 1][0]: name for number, name in named.items()}
+    return all((name in faults) == (state == "42000") for name, state in calls) and all(faults.get(name) == fault for name, fault in names.items())
+
+
+def tried(program):
+    """The name of each run and each case, with whether it comes out."""
+    for run, lines in own_cases():
+        yield run.name, is_listed(program, run, lines)
+    for path in sorted((ROOT / "examples").rglob("check.txt")):
+        yield path.parent.name, is_as_shown(program, path.parent)
+    for path in sorted(DATA.glob("runs-*.txt")):
+        named = faults_by_call(path)
+        for place, run in enumerate(runs_of(path)):
+            with tempfile.TemporaryDirectory() as room:
+                found = checked(program, words_of(run, room), room)
+            yield run.name, answers_as_run(found, run, named.get(place, {}))
+
+
+def main():
+    program = str(Path(sys.argv[1]).resolve())
+    answers = list(tried(program))
+    wrong = [name for name, is_right in answers if not is_right]
+    print(f"{len(answers)} checks of texts, {len(wrong)} differ")
+    sys.exit("these differ: " + " ".join(wrong) if wrong else 0)
+
+
+if __name__ == "__main__":
+    main()
