@@ -1,0 +1,2 @@
+pub mod Datum
+pub mod Kept
