@@ -1,3 +1,26 @@
 pub mod Cases
 pub mod Placed
 pub mod Noted
+pub mod Parts
+pub mod Steps
+pub mod PlacedParts
+pub mod PlacedQuery
+pub mod Lists
+pub mod Sites
+pub mod Known
+pub mod FoundKinds
+pub mod Faults
+pub mod Judged
+pub mod PredicateFaults
+pub mod FromFaults
+pub mod SelectFaults
+pub mod QueryFaults
+pub mod CondFaults
+pub mod Clean
+pub mod CleanExprs
+pub mod CleanConds
+pub mod CleanSelect
+pub mod CleanQuery
+pub mod CleanBound
+pub mod Accepted
+mod Examples

@@ -75,7 +75,7 @@ found_at : (r : ColumnReference) (scopes : List Scope) (found : FoundColumn) →
 found_at r [] found is = cc
 found_at r (s ∷ outer) found is = nearest_at r s outer (is_last outer) (fits r s) refl (column_meant r outer) (found_at r outer) found is
 
-column_placed : (r : ColumnReference) (scopes : List Scope) (found : FoundColumn) → column_meant r scopes ≡ Ok found → placed_column scopes r ≡ Ok (place_of_found found)
+pub column_placed : (r : ColumnReference) (scopes : List Scope) (found : FoundColumn) → column_meant r scopes ≡ Ok found → placed_column scopes r ≡ Ok (place_of_found found)
 column_placed r scopes found is =
     let at = found_at r scopes found is in
     ap (λ (o : status.Outcome Place). status.and_then o (λ p. status.well_formed (option_map (λ c. record p { column = c.position }) (column_at scopes p)))) at.means
@@ -130,7 +130,7 @@ at_end (x ∷ before) later call = at_end before later call
 called_tree : (n : ℕ) (call : PlacedExpr) (before later : List PlacedExpr) → length before ≡ n → slice_index_or (before ++ (call ∷ later)) n missing ≡ call
 called_tree n call before later is = ap (λ m. slice_index_or (before ++ (call ∷ later)) m missing) (sym is) ∙ at_end before later call
 
-signed_number : (k : Kind) → is_text k ≡ false → signed_kind k ≡ Ok k
+pub signed_number : (k : Kind) → is_text k ≡ false → signed_kind k ≡ Ok k
 signed_number (Num s) e = refl
 signed_number (Chars n) e = cc
 signed_number (Vary n) e = cc
@@ -139,7 +139,7 @@ sum_tree : (sign : Sign) (x y : PlacedExpr) → operated (sum_operator sign) x y
 sum_tree Plus x y = refl
 sum_tree Minus x y = refl
 
-sum_kind_is : (sign : Sign) (x y : Kind) → sum_kind x y ≡ operated_kind (sum_operator sign) x y
+pub sum_kind_is : (sign : Sign) (x y : Kind) → sum_kind x y ≡ operated_kind (sum_operator sign) x y
 sum_kind_is Plus x y = refl
 sum_kind_is Minus x y = refl
 
@@ -147,7 +147,7 @@ product_tree : (sign : TimesSign) (x y : PlacedExpr) → operated (product_opera
 product_tree Times x y = refl
 product_tree Over x y = refl
 
-product_kind_is : (sign : TimesSign) (x y : Kind) → product_kind sign x y ≡ operated_kind (product_operator sign) x y
+pub product_kind_is : (sign : TimesSign) (x y : Kind) → product_kind sign x y ≡ operated_kind (product_operator sign) x y
 product_kind_is Times x y = refl
 product_kind_is Over x y = refl
 

@@ -1,6 +1,13 @@
+pub mod Condition
 pub mod Expression
 pub mod Findings
+pub mod Found
+pub mod From
 pub mod Numbered
+pub mod NumberedCondition
 pub mod Outcome
 pub mod Placed
+pub mod PlacedQuery
+pub mod QueryFindings
 pub mod Scope
+pub mod Select

@@ -1,0 +1,9 @@
+pub mod Images
+pub mod KindLaws
+pub mod Literals
+pub mod Operations
+pub mod Positions
+pub mod Scopes
+pub mod Steps
+pub mod Sums
+pub mod Trees

@@ -1,0 +1,4 @@
+pub mod Binds
+pub mod Bound
+pub mod Expression
+pub mod Scope

@@ -1,0 +1,53 @@
+//! Literals (ISO/IEC 9075:1992, 5.3).
+
+ghost use Rattle.std.specs.Prelude.{◌≡◌, IfOk, Ok};
+ghost use Rattle.sq_meaning.specs.Spelled.{number_of};
+ghost use Rattle.sq_value.specs.Spelling.{read};
+ghost use Rattle.sq_value.specs.declared.value.Value.TheVariants as value;
+ghost use Rattle.sq_binding.specs.Expression as spec;
+ghost use Rattle.sq_binder.specs.Binds.{Binds};
+ghost use Rattle.sq_binder.specs.Bound.{bound_of};
+
+use crate::bound::{Bound, ExprResult};
+use crate::findings::Findings;
+use sq_bound::BoundExpr;
+use sq_lex::{Characters, Number};
+use sq_value::{Decimal, Kind, Text, Value};
+use std::alloc::{AllocError, Global};
+
+/// The number of an unsigned numeric literal. Each spelling is that of a number.
+#[tactic(auto, using(crate::proofs::Literals::number_is_read))]
+fn number_value(number: Number) -> Decimal
+    ensures { read number ≡ Ok result }
+{
+    Decimal::read(number.codes()).unwrap()
+}
+
+/// The value of a text literal.
+fn text_value(alloc: Global, characters: &Characters) -> Result<Value, AllocError>
+    ensures { IfOk result (λ v. v ≡ value.Chars characters.now) }
+{
+    Ok(Value::Chars(Text::new(alloc, characters.codes())?))
+}
+
+#[tactic(auto, using(crate::proofs::Images::images))]
+pub fn number_literal(alloc: Global, number: Number) -> Bound
+    ensures { spec.literal_bound (value.Num (number_of number)) ≡ Ok (bound_of result) }
+{
+    let value = number_value(number);
+    Bound::plain(
+        alloc,
+        BoundExpr::Literal(Value::Num(value)),
+        Kind::Num(value.scale()),
+        Findings::NONE,
+    )
+}
+
+#[tactic(auto, using(crate::proofs::Images::images))]
+pub fn text_literal(alloc: Global, characters: &Characters) -> ExprResult
+    ensures { Binds bound_of (spec.literal_bound (value.Chars characters.now)) result }
+{
+    let value = text_value(alloc, characters)?;
+    let kind = Kind::Chars(characters.codes().len() as u16);
+    Ok(Bound::plain(alloc, BoundExpr::Literal(value), kind, Findings::NONE))
+}
