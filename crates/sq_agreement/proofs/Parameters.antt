@@ -1,9 +1,9 @@
 -- A parameter means by its position what it means by its name, where the inputs are those of the parameters (ISO/IEC
 -- 9075:1992, 6.2).
-use Rattle.std.proofs.Common.{◌≡◌, ℕ, zero, suc, ◌+◌, Bool, true, false, not, cond, List, [], ◌∷◌, length, map, Option, Some, None, refl, sym, ap, ◌∙◌, Ok, Err}
+use Rattle.std.proofs.Common.{◌≡◌, ℕ, zero, suc, ◌+◌, Bool, true, false, not, cond, List, [], ◌∷◌, length, map, Option, Some, None, refl, sym, ap, ◌∙◌, Ok}
 use Rattle.std.proofs.lemmas.List.Folds.{find_at}
-use Rattle.std.specs.Prelude.{⊤, nat_lt, find, slice_get, IfOk}
-use Rattle.std.specs.List.{position, position_or_len}
+use Rattle.std.specs.Prelude.{⊤, nat_lt, slice_get, IfOk}
+use Rattle.std.specs.List.{position_or_len}
 use Rattle.std.specs.Option.{option_map, option_and_then}
 use Rattle.sq_lex.specs.declared.name.Name.{Name}
 use Rattle.sq_tree.specs.declared.names.Indicator.{Indicator}
@@ -34,16 +34,20 @@ get_map f (x ∷ xs) zero = refl
 get_map f (x ∷ xs) (suc n) = get_map f xs n
 
 -- by position the names have no bearing
-by_position : (inputs others : List Input) (n : ℕ) → map (λ i. i.value) inputs ≡ map (λ i. i.value) others → input_at inputs n ≡ input_at others n
+by_position : (inputs others : List Input) (n : ℕ) → map (λ i. i.value) inputs ≡ map (λ i. i.value) others
+    → input_at inputs n ≡ input_at others n
 by_position inputs others n e =
-    ap well_formed (get_map (λ (i : Input). i.value) inputs n ∙ ap (λ vs. slice_get vs n) e ∙ sym (get_map (λ (i : Input). i.value) others n))
+    ap well_formed
+    (get_map (λ (i : Input). i.value) inputs n ∙ ap (λ vs. slice_get vs n) e ∙ sym (get_map (λ (i : Input). i.value) others n))
 
 -- the first of a name stands where the names have it first
-first_named : {A : Type 0} (of : A → Name) (name : Name) (xs : List A) → position_or_len (λ x. same_name (of x) name) xs ≡ position_or_len (λ n. same_name n name) (map of xs)
+first_named : {A : Type 0} (of : A → Name) (name : Name) (xs : List A)
+    → position_or_len (λ x. same_name (of x) name) xs ≡ position_or_len (λ n. same_name n name) (map of xs)
 first_named of name [] = refl
 first_named of name (x ∷ xs) = ap (λ n. cond (not (same_name (of x) name)) (1 + n) 0) (first_named of name xs)
 
-same_first : (parameters : List ParameterDesc) (inputs : List Input) (name : Name) → map (λ p. p.name) parameters ≡ map (λ i. i.name) inputs
+same_first : (parameters : List ParameterDesc) (inputs : List Input) (name : Name)
+    → map (λ p. p.name) parameters ≡ map (λ i. i.name) inputs
     → position_or_len (λ p. same_name p.name name) parameters ≡ position_or_len (λ i. same_name i.name name) inputs
 same_first parameters inputs name e =
     first_named (λ (p : ParameterDesc). p.name) name parameters
@@ -52,7 +56,8 @@ same_first parameters inputs name e =
 
 -- the parameter of a name
 abbrev pub SameNamed : List ParameterDesc → Name → ℕ × Domain → Type 0
-SameNamed parameters name at = (inputs others : List Input) → SameInputs parameters inputs others → input_named inputs name ≡ input_at others at.0
+SameNamed parameters name at =
+    (inputs others : List Input) → SameInputs parameters inputs others → input_named inputs name ≡ input_at others at.0
 
 named_same : (parameters : List ParameterDesc) (name : Name) → IfOk (parameter_named parameters name) (SameNamed parameters name)
 named_same [] name = tt
@@ -61,7 +66,8 @@ named_same (q ∷ parameters) name = where_there (nat_lt first (length (q ∷ pa
     first : ℕ
     first = position_or_len (λ p. same_name p.name name) (q ∷ parameters)
 
-    there : (found : Option ParameterDesc) → IfOk (well_formed (option_map (λ p. (first, p.domain)) found)) (SameNamed (q ∷ parameters) name)
+    there : (found : Option ParameterDesc)
+        → IfOk (well_formed (option_map (λ p. (first, p.domain)) found)) (SameNamed (q ∷ parameters) name)
     there None = tt
     there (Some p) = λ inputs others same.
         ap (λ o. well_formed (option_map (λ i. i.value) o)) (find_at (λ (i : Input). same_name i.name name) inputs)
@@ -78,18 +84,24 @@ abbrev SameIndicator : List ParameterDesc → Option Indicator → Option ℕ �
 SameIndicator parameters indicator at = (inputs others : List Input) → SameInputs parameters inputs others → (v : Value)
     → with_indicator (λ i. input_named inputs i.name) indicator v ≡ with_indicator (input_at others) at v
 
-indicator_same : (parameters : List ParameterDesc) (indicator : Option Indicator) → IfOk (indicator_named parameters indicator) (SameIndicator parameters indicator)
+indicator_same : (parameters : List ParameterDesc) (indicator : Option Indicator)
+    → IfOk (indicator_named parameters indicator) (SameIndicator parameters indicator)
 indicator_same parameters None = λ inputs others e v. refl
 indicator_same parameters (Some i) =
-    if_then (parameter_named parameters i.name) (λ at. Ok (Some at.0)) (SameNamed parameters i.name) (SameIndicator parameters (Some i)) (named_same parameters i.name)
+    if_then (parameter_named parameters i.name) (λ at. Ok (Some at.0)) (SameNamed parameters i.name)
+    (SameIndicator parameters (Some i)) (named_same parameters i.name)
     (λ at same inputs others e v. ap (λ (o : Outcome Value). with_indicator (λ (k : ℕ). o) (Some at.0) v) (same inputs others e))
 
 abbrev pub SameParameter : List ParameterDesc → Parameter → PlacedParameter → Type 0
-SameParameter parameters p q = (inputs others : List Input) → SameInputs parameters inputs others → input_value p inputs ≡ placed_value q others
+SameParameter parameters p q =
+    (inputs others : List Input) → SameInputs parameters inputs others → input_value p inputs ≡ placed_value q others
 
-pub parameter_same : (parameters : List ParameterDesc) (p : Parameter) → IfOk (placed_parameter parameters p) (SameParameter parameters p)
+pub parameter_same : (parameters : List ParameterDesc) (p : Parameter)
+    → IfOk (placed_parameter parameters p) (SameParameter parameters p)
 parameter_same parameters p =
-    if_then (parameter_named parameters p.name) (λ at. and_then (indicator_named parameters p.indicator) (λ i. Ok (record { position = at.0; indicator = i }))) (SameNamed parameters p.name) (SameParameter parameters p)
+    if_then (parameter_named parameters p.name)
+    (λ at. and_then (indicator_named parameters p.indicator) (λ i. Ok (record { position = at.0; indicator = i })))
+    (SameNamed parameters p.name) (SameParameter parameters p)
     (named_same parameters p.name)
     (λ at named. if_then (indicator_named parameters p.indicator) (λ i. Ok (record { position = at.0; indicator = i })) (SameIndicator parameters p.indicator) (SameParameter parameters p)
     (indicator_same parameters p.indicator)

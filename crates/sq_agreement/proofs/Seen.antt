@@ -1,7 +1,7 @@
 -- One row seen in two ways: by the names of an item's columns, and by the positions at which a text has them once it is
 -- placed (ISO/IEC 9075:1992, 6.3 and 6.4). A query sees the rows of its tables alike both ways. A statement on an updatable
 -- view sees the view's columns by name, and by place the whole row of the base table under it.
-use Rattle.std.proofs.Common.{◌≡◌, ℕ, zero, suc, List, [], ◌∷◌, map, Option, Some, None, refl, sym, ap, ◌∙◌, Ok, Err}
+use Rattle.std.proofs.Common.{◌≡◌, ℕ, zero, suc, List, [], ◌∷◌, map, Option, Some, None, refl, ap, ◌∙◌, Ok, Err}
 use Rattle.std.specs.Prelude.{⊤, slice_get, IfOk}
 use Rattle.std.specs.List.{AllZip}
 use Rattle.std.specs.Option.{option_map, option_and_then}
@@ -26,7 +26,9 @@ column_of items item column = option_and_then (λ i. slice_get i.columns column)
 
 -- each column of each item has in the line of names the value that is at its position in the line of places
 abbrev pub SeenLine : List FromItem → (named placed : Line) → Type 0
-SeenLine items named placed = (item column : ℕ) (c : ItemColumn) → column_of items item column ≡ Some c → cell named item column ≡ cell placed item c.position
+SeenLine items named placed =
+    (item column : ℕ)
+    (c : ItemColumn) → column_of items item column ≡ Some c → cell named item column ≡ cell placed item c.position
 
 -- the scope of names has these items, and its line and its group are seen
 pub record SeenScope (items : List FromItem) (named : Scope Item) (placed : Scope (Unit {0})) : Type 0 where
@@ -40,14 +42,16 @@ SeenScopes (items ∷ outer) (s ∷ ss) (t ∷ ts) = SeenScope items s t × Seen
 SeenScopes _ _ _ = ⊥
 
 -- an environment of names and one of places
-pub record SeenEnv (parameters : List ParameterDesc) (scopes : List (List FromItem)) (env : Env Item) (other : Env (Unit {0})) : Type 0 where
+pub record SeenEnv (parameters : List ParameterDesc) (scopes : List (List FromItem)) (env : Env Item)
+    (other : Env (Unit {0})) : Type 0 where
   pub scopes_are : SeenScopes scopes env.scopes other.scopes
   pub inputs_are : SameInputs parameters env.inputs other.inputs
   pub user_is : env.user ≡ other.user
 
 -- ---- columns
 
-pub heads_seen : (scopes : List (List FromItem)) (ss : List (Scope Item)) (ts : List (Scope (Unit {0}))) → SeenScopes scopes ss ts → map (λ s. s.items) ss ≡ heads_of scopes
+pub heads_seen : (scopes : List (List FromItem)) (ss : List (Scope Item)) (ts : List (Scope (Unit {0}))) → SeenScopes scopes ss ts
+    → map (λ s. s.items) ss ≡ heads_of scopes
 heads_seen [] [] [] h = refl
 heads_seen (items ∷ outer) (s ∷ ss) (t ∷ ts) h = (λ i. h.0.items_are i ∷ heads_seen outer ss ts h.1 i)
 heads_seen _ _ _ h = absurd h
@@ -66,7 +70,9 @@ at_seen _ _ _ h depth item column c e = absurd h
 
 -- a column reference means by name the value at the place where it is placed
 abbrev pub SameColumn : List (List FromItem) → ColumnReference → Place → Type 0
-SameColumn scopes r p = (env : Env Item) (other : Env (Unit {0})) → SeenScopes scopes env.scopes other.scopes → and_then (place_of r (items_in env)) (value_at env) ≡ value_at other p
+SameColumn scopes r p =
+    (env : Env Item) (other : Env (Unit {0})) → SeenScopes scopes env.scopes other.scopes → and_then (place_of r (items_in env))
+    (value_at env) ≡ value_at other p
 
 pub column_same : (scopes : List (List FromItem)) (r : ColumnReference) → IfOk (placed_column scopes r) (SameColumn scopes r)
 column_same scopes r = by_place (place_of r (heads_of scopes)) refl

@@ -1,5 +1,5 @@
 -- What is well formed has `*` in no query specification that is grouped (ISO/IEC 9075:1992, 7.9).
-use Rattle.std.specs.Prelude.{◌≡◌, ⊤, Bool, true, false, IsFalse, List, [], ◌∷◌}
+use Rattle.std.specs.Prelude.{List, [], ◌∷◌}
 use Rattle.sq_meaning.specs.Expression.{Reading}
 use Rattle.sq_meaning.specs.Kind.{Kinds}
 use Rattle.sq_meaning.specs.Query.{is_grouped}
@@ -8,7 +8,8 @@ use Rattle.sq_meaning.specs.WellFormed.{Level, WellFormedClause, WellFormedCond,
 use Rattle.sq_agreement.proofs.Stars.{ClauseStars, CondStars, CondsStars, ListStars, QueryStars, SelectStars}
 
 module _ {N : Naming} (m : Reading N) (k : Kinds N) (IsDeclared : N.Parameter → Type 0) where
-  list_stars : (levels : List (Level N)) (list : SelectList N) (by : List N.Column) (having : Clause N) → WellFormedList m k IsDeclared levels (is_grouped list by having) list → ListStars list by having
+  list_stars : (levels : List (Level N)) (list : SelectList N) (by : List N.Column) (having : Clause N)
+      → WellFormedList m k IsDeclared levels (is_grouped list by having) list → ListStars list by having
   list_stars levels all_columns by having h = h
   list_stars levels (expressions es) by having h = tt
 
