@@ -1,8 +1,8 @@
 #!/usr/bin/env python3
 """Refuses each allocation of a program, one in each run of it.
 
-refuse_allocations.py [TRIALS [SQMOD]]: two built programs, by default those that the gate leaves in crates/*/out. A small C
-library between a program and `malloc` refuses the allocation of one number; `cc` compiles it.
+refuse_allocations.py [TRIALS [SQMOD [CALLS]]]: three built programs, by default those that the gate leaves in crates/*/out. A
+small C library between a program and `malloc` refuses the allocation of one number; `cc` compiles it.
 
 The trials of the stores (crates/sq_store_trials): where an `apply` is refused memory, the trial looks whether the store shows
 what it showed before, and makes the `apply` once more, so what the program prints is as ever. Where something else is refused,
@@ -12,6 +12,11 @@ the program ends with an error, and what it printed is the beginning of that.
 status 3, says after how many items memory ran out, and has written the lines of exactly those items; or memory ran out
 while a file was read, which then can't be read, and nothing is written.
 
+The trials of calls (crates/sq_call_trials), on the same seven runs, with their tables shown after the last call: where a call is
+refused memory it is made again, and what is printed is as ever: the report that `sqmod` writes, and what was read and handed out for
+each call. Where something else is refused, the program ends with an error, and has printed the lines of the first items. The
+allocations of reading the texts, which `sqmod` makes as well, are passed over.
+
 Anything else is a fault.
 """
 
@@ -20,6 +25,7 @@ import re
 import subprocess
 import sys
 import tempfile
+from collections import Counter
 from concurrent.futures import ThreadPoolExecutor
 from pathlib import Path
 
@@ -31,6 +37,9 @@ ROOT = Path(__file__).resolve().parent.parent
 RUNS = ("keys_move_together", "no_row_of_a_refused_copy", "changes_below_open_cursors",
         "cut_text_and_null_without_indicator", "rollback_closes_cursors", "references", "walking_cursor_under_changes")
 EXAMPLES = ("first", "constraints", "cursors", "grants")
+TABLES = "TABLE U1.T; TABLE U1.N; TABLE U1.F;"
+COUNTS = re.compile(r" \(\d+ read, \d+ handed out\)$", re.MULTILINE)
+AS_EVER, ENDED, MADE_AGAIN = "as ever", "ended", "made again"
 LIBRARY = """
 #include <stdio.h>
 #include <stdlib.h>
@@ -60,24 +69,27 @@ def run(words, made, number, folder=None):
     return done.stdout, done.returncode, done.stderr
 
 
-def endings(words, made, wanted, is_ending, folder=None):
-    """How many allocations a program makes, and at how many it ends otherwise than as ever; a fault ends this program."""
+def allocations(words, made, wanted, folder=None):
+    """How many allocations a program makes where none is refused."""
     printed, status, errors = run(words, made, 0, folder)
     if status or printed != wanted:
         sys.exit(f"{words} doesn't print what is wanted")
-    count = int(errors.split()[-1])
+    return int(errors.split()[-1])
+
+
+def endings(words, made, numbers, ending, folder=None):
+    """How often a program ends in each way where one of these allocations is refused; one way that is none ends this program."""
 
     def ends(number):
         printed, status, errors = run(words, made, number, folder)
-        if status == 0 and printed == wanted:
-            return False
-        if is_ending(printed, status, errors):
-            return True
-        raise RuntimeError(f"{words}, allocation {number} refused: status {status}, {errors!r}, and it prints\n{printed}")
+        way = ending(printed, status, errors)
+        if way is None:
+            raise RuntimeError(f"{words}, allocation {number} refused: status {status}, {errors!r}, and it prints\n{printed}")
+        return way
 
     try:
         with ThreadPoolExecutor(os.cpu_count()) as pool:
-            return count, sum(pool.map(ends, range(1, count + 1)))
+            return Counter(pool.map(ends, numbers))
     except RuntimeError as fault:
         sys.exit(str(fault))
 
@@ -87,24 +99,50 @@ def items_of(report):
     return re.findall(r"^\S.*\n(?:  .*\n)*", report, re.MULTILINE)
 
 
-def stops_in_time(report):
-    """Whether `sqmod` ended for want of memory, and has written exactly the items that it says."""
+def after_items(report):
+    """How `sqmod` may end: with this report; or for want of memory, with exactly the items that it says."""
     items = items_of(report)
 
-    def is_ending(printed, status, errors):
+    def ending(printed, status, errors):
         line = errors.split("\n")[0]
         unread = re.fullmatch(r"sqmod: \S+: cannot be read", line)
-        if status == 1 and unread:
-            return printed == ""
         after = re.fullmatch(r"sqmod: want of memory after (\d+) items", line)
-        return status == 3 and after is not None and int(after[1]) < max(len(items), 1) and printed == "".join(items[:int(after[1])])
+        if status == 0 and printed == report:
+            return AS_EVER
+        if status == 1 and unread and printed == "":
+            return ENDED
+        is_in_time = status == 3 and after and int(after[1]) < max(len(items), 1) and printed == "".join(items[:int(after[1])])
+        return ENDED if is_in_time else None
 
-    return is_ending
+    return ending
+
+
+def after_calls(report):
+    """How the trials of calls may end: with this report; or with an error behind its first items."""
+    items = items_of(report)
+    fronts = {"".join(items[:count]) for count in range(len(items))}
+
+    def ending(printed, status, errors):
+        if status == 0 and printed == report:
+            return MADE_AGAIN if errors.startswith("a call is made again\n") else AS_EVER
+        return ENDED if status == 1 and printed in fronts else None
+
+    return ending
+
+
+def after_actions(report):
+    def ending(printed, status, _):
+        if status == 0 and printed == report:
+            return AS_EVER
+        return ENDED if status == 1 and report.startswith(printed) else None
+
+    return ending
 
 
 def trials(program, made):
     wanted = (ROOT / "crates/sq_store_trials/stdout").read_text()
-    count, ended = endings([program], made, wanted, lambda printed, status, _: status == 1 and wanted.startswith(printed))
+    count = allocations([program], made, wanted)
+    ended = endings([program], made, range(1, count + 1), after_actions(wanted))[ENDED]
     print(f"The trials of the stores: {count} allocations: {count - ended} refused within an `apply` or where nothing is lost, "
           f"and the report is as ever; at {ended} the program ends")
 
@@ -122,18 +160,61 @@ def runs_of_sqmod(room):
 
 
 def whole_program(program, made, room):
-    counts = [endings([program, *words], made, report, stops_in_time(report), folder) for words, report, folder in runs_of_sqmod(room)]
-    print(f"sqmod: {len(counts)} runs, {sum(count for count, _ in counts)} allocations, each refused once: at "
-          f"{sum(ended for _, ended in counts)} it ends after exactly the items that it says, else the report is as ever")
+    total, ended, runs = 0, 0, list(runs_of_sqmod(room))
+    for words, report, folder in runs:
+        words = [program, *words]
+        count = allocations(words, made, report, folder)
+        total += count
+        ended += endings(words, made, range(1, count + 1), after_items(report), folder)[ENDED]
+    print(f"sqmod: {len(runs)} runs, {total} allocations, each refused once: at {ended} it ends after exactly the items that it says, "
+          f"else the report is as ever")
+
+
+def runs_of_calls(sqmod, room):
+    """The runs of the trials of calls: words, report, folder. Of the tables behind the last call `sqmod` says what they hold."""
+    for words, report, folder in list(runs_of_sqmod(room))[:len(RUNS)]:
+        script = folder / "script1"
+        script.write_text(script.read_text() + TABLES)
+        shown = subprocess.run([sqmod, *words], cwd=folder, capture_output=True, text=True, check=True).stdout
+        if not shown.startswith(report):
+            sys.exit(f"{folder} has another report where its tables are shown")
+        yield words, shown, folder
+
+
+def allocations_before(words, made, folder):
+    """How many allocations are made where the script is empty."""
+    script = folder / "script1"
+    text = script.read_text()
+    script.write_text("")
+    count = allocations(words, made, "", folder)
+    script.write_text(text)
+    return count
+
+
+def calls(program, sqmod, made, room):
+    ways, total = Counter(), 0
+    for words, report, folder in runs_of_calls(sqmod, room):
+        words = [program, *words]
+        printed, _, _ = run(words, made, 0, folder)
+        if COUNTS.sub("", printed) != report:
+            sys.exit(f"{words} doesn't print the report that is wanted")
+        count, before = allocations(words, made, printed, folder), allocations_before(words, made, folder)
+        total += count - before
+        ways += endings(words, made, range(before + 1, count + 1), after_calls(printed), folder)
+    if not ways[MADE_AGAIN]:
+        sys.exit("no call was made again")
+    print(f"Calls: {len(RUNS)} runs, {total} allocations, each refused once: at {ways[MADE_AGAIN]} a call is made again, and all replies "
+          f"are as ever; at {ways[ENDED]} the program ends while it reads or prints; else the report is as ever")
 
 
 def main():
     built = [str(Path(word).resolve()) for word in sys.argv[1:]]
-    built += [str(ROOT / "crates" / name / "out" / name) for name in ("sq_store_trials", "sqmod")[len(built):]]
-    with tempfile.TemporaryDirectory() as room:
+    built += [str(ROOT / "crates" / name / "out" / name) for name in ("sq_store_trials", "sqmod", "sq_call_trials")[len(built):]]
+    with tempfile.TemporaryDirectory() as room, tempfile.TemporaryDirectory() as other:
         made = library(room)
         trials(built[0], made)
         whole_program(built[1], made, room)
+        calls(built[2], built[1], made, other)
 
 
 if __name__ == "__main__":
