@@ -1,25 +1,31 @@
 #!/usr/bin/env python3
 """Times the built program on large texts, beside sqlite3 in memory on the same rows.
 
-    bench/language.py [--program crates/sqmod/out/sqmod] [NAME..]
+    bench/language.py [--program crates/sqmod/out/sqmod] [--times 1] [NAME..]
+    bench/language.py --growth [--rows 1000] [--chain 100] [--limit 60] [--program crates/sqmod/out/sqmod] [NAME..]
 
-For each workload it prints processor seconds, the program's greatest memory, and sqlite3's processor seconds where the work
-can be said in it. The program's time includes reading the texts and writing the report; sqlite3 runs in this process over
-prepared statements, with the tables made before the clock starts. What can't be said in it: modules and grants, and a text as
-long as the longest here.
+The first is for the workloads below, or those with one of the names in theirs; the second for the rows of bench/growth.py, each at
+two sizes, of which the second is four times the first, so that it shows how the time grows.
+
+For each workload it prints the user seconds of the processor, the least of so many runs, beside them the program's seconds in the
+system and its greatest memory, and sqlite3's user seconds where the work can be said in it. The program's time includes reading the
+texts and writing the report; sqlite3 runs in this process over prepared statements, with the tables made before the clock starts.
+What can't be said in it: modules and grants, and a text as long as the longest here.
 
 A second time of sqlite3 is that of the same statements written out as one text, with their values in it, which it parses one
 after the other in one transaction, as the program reads its script. That is given for inserts and changes; rows can't be
 fetched by such a text.
 """
 import argparse
+import resource
 import sqlite3
 import subprocess
 import sys
 import tempfile
-import time
 from pathlib import Path
 from typing import Callable, NamedTuple, Optional
+
+from growth import print_growth, user_seconds
 
 ROOT = Path(__file__).resolve().parent.parent
 SCHEMA = "CREATE SCHEMA AUTHORIZATION U\n"
@@ -227,39 +233,54 @@ WORKLOADS = {
 }
 
 
-# Runs a command and prints its processor seconds, kilobytes and exit status. It is a process of its own, since the greatest
-# memory of a command counts that of the process that started it.
+# Runs a command, its output in a file, and prints its user seconds, its seconds in the system, its kilobytes and its exit
+# status. It is a process of its own, since the greatest memory of a command counts that of the process that started it.
 MEASURE = """
 import os, subprocess, sys
-process = subprocess.Popen(sys.argv[1:], stdout=subprocess.DEVNULL)
+process = subprocess.Popen(sys.argv[2:], stdout=open(sys.argv[1], "w"))
 _, status, usage = os.wait4(process.pid, 0)
-print(usage.ru_utime + usage.ru_stime, usage.ru_maxrss, os.waitstatus_to_exitcode(status))
+print(usage.ru_utime, usage.ru_stime, usage.ru_maxrss, os.waitstatus_to_exitcode(status))
 """
 
 
+def check_report(report):
+    """Ends the benchmark where a call has another status than done or no row."""
+    with open(report) as lines:
+        found = {line.split(maxsplit=2)[1] for line in lines}
+    if not found <= {"00000", "02000"}:
+        sys.exit(f"calls have the statuses {found}")
+
+
 def timed(program, schema, modules, script):
-    """Processor seconds and megabytes of a run."""
+    """User seconds, seconds in the system and megabytes of a run."""
     with tempfile.TemporaryDirectory() as folder:
         words = []
         for number, (kind, text) in enumerate([("schema", schema), *(("module", m) for m in modules), ("script", script)]):
             file = Path(folder, f"{kind}{number}")
             file.write_text(text)
             words += [f"--{kind}", str(file)]
-        run = [program, "run", *words, "--rows", "1000000000"]
+        report = Path(folder, "report")
+        run = [report, program, "run", *words, "--rows", "1000000000"]
         measured = subprocess.run([sys.executable, "-S", "-c", MEASURE, *run], capture_output=True, text=True, check=True)
-        seconds, kilobytes, status = measured.stdout.split()
-        return float(seconds), int(kilobytes) / 1024, int(status)
+        seconds, system, kilobytes, status = measured.stdout.split()
+        if int(status):
+            sys.exit(f"the program ends with {status}")
+        check_report(report)
+        return float(seconds), float(system), int(kilobytes) / 1024
 
 
 def timed_lite(schema, work):
-    """Processor seconds of the same work in sqlite3, to print; none where it can't be said there."""
-    if work is None:
-        return ""
+    """User seconds of the same work in sqlite3."""
     db = sqlite3.connect(":memory:")
     db.executescript(schema.replace(SCHEMA, "").replace(")\n", ");\n"))
-    start = time.process_time()
+    start = user_seconds(resource.RUSAGE_SELF)
     work(db)
-    return f"{time.process_time() - start:.2f}"
+    return user_seconds(resource.RUSAGE_SELF) - start
+
+
+def least_lite(schema, work, times):
+    """The least of so many times, to print; none where the work can't be said there."""
+    return f"{min(timed_lite(schema, work) for _ in range(times)):.2f}" if work else ""
 
 
 def as_one_transaction(text):
@@ -267,21 +288,34 @@ def as_one_transaction(text):
     return None if text is None else lambda db: db.executescript("BEGIN;\n" + text)
 
 
-def main():
-    parser = argparse.ArgumentParser()
-    parser.add_argument("--program", default=str(ROOT / "crates/sqmod/out/sqmod"))
-    parser.add_argument("names", nargs="*")
-    options = parser.parse_args()
-    print("| Workload | sqmod, s | sqmod, MB | sqlite3, s | sqlite3 from a text, s |\n|---|---|---|---|---|")
+def print_workloads(program, names, times):
+    print("| Workload | sqmod, s | in the system, s | MB | sqlite3, s | from a text, s |\n|---|---|---|---|---|---|")
     for name, workload in WORKLOADS.items():
-        if options.names and not any(word in name for word in options.names):
+        if names and not any(word in name for word in names):
             continue
         schema, modules, script, lite, lite_text = workload()
-        seconds, megabytes, status = timed(options.program, schema, modules, script)
-        beside = timed_lite(schema, lite)
-        from_text = timed_lite(schema, as_one_transaction(lite_text))
-        note = "" if status == 0 else f" (exit {status})"
-        print(f"| {name}{note} | {seconds:.2f} | {megabytes:.0f} | {beside} | {from_text} |", flush=True)
+        runs = [timed(program, schema, modules, script) for _ in range(times)]
+        seconds, system, megabytes = (min(figures) for figures in zip(*runs))
+        beside = least_lite(schema, lite, times)
+        from_text = least_lite(schema, as_one_transaction(lite_text), times)
+        print(f"| {name} | {seconds:.2f} | {system:.2f} | {megabytes:.0f} | {beside} | {from_text} |", flush=True)
+
+
+def main():
+    parser = argparse.ArgumentParser(description="Times the built program beside sqlite3.")
+    parser.add_argument("--program", default=str(ROOT / "crates/sqmod/out/sqmod"))
+    parser.add_argument("--times", type=int, default=1, help="the least of so many runs is printed")
+    parser.add_argument("--growth", action="store_true", help="the rows of bench/growth.py, at two sizes")
+    parser.add_argument("--rows", type=int, default=1000, help="the first size")
+    parser.add_argument("--chain", type=int, default=100, help="the first length of the chain of UNION ALL, at most 125")
+    parser.add_argument("--limit", type=float, default=60, help="seconds by the clock after which a run is given up")
+    parser.add_argument("names", nargs="*")
+    options = parser.parse_args()
+    program = str(Path(options.program).resolve())
+    if options.growth:
+        print_growth(program, options.names, options.rows, options.chain, options.limit)
+    else:
+        print_workloads(program, options.names, options.times)
 
 
 if __name__ == "__main__":

@@ -6,7 +6,7 @@
 The program is crates/sq_store_bench, which is proved and built first unless another is named. Each of its changes is an
 `apply` of its own. SQLite does the same work twice: in one statement, and by a prepared statement for each row, which
 includes what Python's sqlite3 takes for a call. Milliseconds, the least of so many times; and the bytes of memory for each
-row. docs/BENCHMARKS.md has some. Run it while nothing else runs.
+row. Run it while nothing else runs.
 """
 import argparse
 import os
