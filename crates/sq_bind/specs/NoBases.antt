@@ -8,6 +8,6 @@ use Rattle.sq_bound.specs.declared.names.BaseTable.{BaseTable}
 pub no_base : (columns : TableKinds) (place : ℕ) (b : BaseTable) → slice_get [] place ≡ Some b → columns (Base place) ≡ Ok (base_kinds b)
 no_base columns place b there = cc
 
--- nor is a view
+-- where the only columns that are known are of a base table, no view has a query
 pub no_view : (own : ℕ) (columns : List Kind) (place : ℕ) (kinds : List Kind) → only own columns (View place) ≡ Ok kinds → IsViewQuery (only own columns) [] place kinds
 no_view own columns place kinds there = absurd cc

@@ -23,7 +23,7 @@ JoinedIs text j = QueryIs text j.query
 abbrev pub TermNamed : Outcome (List (Option Name)) → Term → Type 0
 TermNamed text t = text ≡ Ok (names_of t.columns)
 
--- and those of a query expression
+-- the columns of a query expression have these names
 abbrev pub JoinedNamed : Outcome (List (Option Name)) → Joined → Type 0
 JoinedNamed text j = text ≡ Ok (names_of (out-BoundQuery j.query).columns)
 

@@ -19,7 +19,7 @@ use Rattle.sq_value.specs.declared.domain.Kind.{Kind}
 abbrev pub IsColumn : BoundExpr → Type 0
 IsColumn e = (p : Place) × (e ≡ expr.Column p)
 
--- so is each of these expressions
+-- each of these expressions is a column
 abbrev pub AreColumns : List BoundExpr → Type 0
 AreColumns = AllByRecursion IsColumn
 
@@ -31,7 +31,7 @@ IsAmong columns e = (p : Place) → e ≡ expr.Column p → p.column < length co
 abbrev pub IsLeafOf : List Column → BoundExpr → ℕ → Type 0
 IsLeafOf columns e position = (p : Place) × (e ≡ expr.Column p) × (slice_get (map (λ c. c.leaf_column) columns) p.column ≡ Some position)
 
--- so is each of these expressions
+-- each of these expressions is a column, the base table's at the position beside it
 abbrev pub AreLeaves : List Column → List BoundExpr → List ℕ → Type 0
 AreLeaves columns = AllZip (IsLeafOf columns)
 

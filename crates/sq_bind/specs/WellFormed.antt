@@ -31,7 +31,7 @@ IsOutermost environment = (scopes_in environment ≡ []) × (groupings_in enviro
 abbrev pub objects_of : List Receiver → List ObjectColumn
 objects_of receivers = map (λ r. r.object) receivers
 
--- they are columns of the base table
+-- the object columns of an INSERT or UPDATE are columns of the base table
 abbrev pub AreReceivers : BaseTable → List Receiver → Type 0
 AreReceivers b = AllByRecursion (λ r. IsColumnOf b r.object)
 
@@ -41,7 +41,7 @@ IsNewValueIn environment c e =
     (columns : TableKinds) (levels : Levels) → ((has_ungrouped : Bool) → MayStandAt columns levels environment false has_ungrouped)
     → IsNewValue columns (kinds_of_parameters environment.parameters.now) levels c e
 
--- it is the value of a typed expression that may be stored in the column
+-- what is found is the value of a typed expression that may be stored in the column
 abbrev pub IsStoredIn : ObjectColumn → Result (Found Typed) BindFault → Found BoundExpr → Type 0
 IsStoredIn c value found = (typed : Found Typed) × (value ≡ Ok typed) × (found.part ≡ typed.part.expr) × MayStore c typed.part.kind
 

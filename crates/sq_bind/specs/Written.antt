@@ -87,7 +87,7 @@ IsParameter parameters name at = (domain : Domain) × (parameter_named parameter
 abbrev pub IsOutputOf : List ParameterDesc → Output → Parameter → Type 0
 IsOutputOf parameters o p = placed_parameter parameters p ≡ Ok (record { position = o.parameter; indicator = o.indicator })
 
--- so is each of the targets, in the order in which they are written
+-- the targets are the parameters that are written, in their order
 abbrev pub AreOutputsOf : List ParameterDesc → List Output → List Parameter → Type 0
 AreOutputsOf parameters = AllZip (IsOutputOf parameters)
 
@@ -188,7 +188,7 @@ abbrev pub IsSortedBy : Outcome (List (Option Name)) → List SortSpecification 
 IsSortedBy names by (body.Rows q sorts) = (names >>= λ ns. sort_columns ns by) ≡ Ok (map sort_meant sorts)
 IsSortedBy names by (body.Updatable u) = by ≡ []
 
--- and it has the rows of the query that is written, in the order of its ORDER BY (13.1)
+-- a cursor has the words of its declaration, and the rows of the query that is written, in the order of its ORDER BY (13.1)
 pub record IsCursorOf (known : KnownTables) (user : Name) (parameters : List ParameterDesc) (c : Cursor) (cursor : BoundCursor) : Type 0 where
   pub words : HasWordsOf c cursor
   pub rows : HasRowsOf (outside known parameters) (query_of user c.query) cursor.body
@@ -254,7 +254,7 @@ pub record IsSetTo (a : Around) (columns : List Column) (w : Assignment) (b : Bo
   pub column : leaf_named columns w.column ≡ Some b.column.position
   pub value : ExprIs [] (value_placed a w.value) b.value
 
--- so does each, in their order (13.9, 13.10)
+-- each SET clause gives its column its value, in the order in which they are written (13.9, 13.10)
 abbrev pub AreSetTo : Around → List Column → List Assignment → List BoundAssignment → Type 0
 AreSetTo a columns = AllZip (IsSetTo a columns)
 

@@ -1,6 +1,6 @@
 //! INSERT, UPDATE and DELETE (ISO/IEC 9075:1992, 13.6 to 13.10).
 
-ghost use Rattle.std.specs.Prelude.{◌≡◌, ◌∷◌, ◌++◌, ◌<◌, [], length, map, slice_get, true, IfOk, List, None, Ok, OnOk, Some};
+ghost use Rattle.std.specs.Prelude.{◌≡◌, ◌∷◌, ◌++◌, ◌<◌, [], length, map, slice_get, true, IfOk, IfSome, List, None, Ok, OnOk, Some};
 ghost use Rattle.std.specs.List.{AllByRecursion, AllZip};
 ghost use Rattle.sq_bound.specs.declared.condition.TablePlace.TheVariants.{Base};
 ghost use Rattle.sq_bound.specs.declared.expression.BoundExpr.{BoundExpr as BoundTree};
@@ -27,13 +27,13 @@ use crate::cursors::Cursors;
 use crate::updatable::{Under, bind_target, under_table};
 use sq_bound::{
     Action, BindFault, BoundAssignment, BoundExpr, BoundInsert, BoundUpdate, ChangeTarget,
-    InsertedRows, Names, ObjectColumn, PositionedTarget, ResultColumn, Target,
+    InsertedRows, Names, ObjectColumn, PositionedTarget, ResultColumn, Target, pair_of, value_if,
 };
 use sq_items::Items;
 use sq_lex::Name;
 use sq_scope::{
-    Environment, ExprResult, Findings, Found, FromItem, SetFunctions, bind_expr, both, item_over,
-    kept, must_agree,
+    Environment, ExprResult, Findings, Found, FromItem, SetFunctions, bind_expr, item_over,
+    must_agree,
 };
 use sq_select::{SubqueryNumbers, SubqueryResult, bind_select, named_table};
 use sq_tree::{
@@ -43,24 +43,29 @@ use sq_value::Value;
 use std::alloc::Global;
 use std::slice::from_ref;
 
-/// The table that is to be changed, and what is under it.
-fn changed_table<N: Names>(
-    names: &N,
-    user: Name,
-    written: TableName,
-) -> Result<Under<'_>, BindFault>
-    ensures base { IfOk result (λ under. IsBase (N.base_tables names.now) under.leaf.now.table) }
-    ensures leaf { IfOk result (λ under. IsLeaf (N.column_kinds names.now) under.leaf.now) }
-    ensures named { IfOk result (λ under. IsUnder (N.known names.now) user written under.leaf.now) }
-    ensures known { IfOk result (λ under. let name = table_of user written in
+/// The table that is to be changed and what is under it, if there is such a table and it may be changed.
+fn changed_table<N: Names>(names: &N, user: Name, written: TableName) -> Option<Under<'_>>
+    ensures base { IfSome result (λ under. IsBase (N.base_tables names.now) under.leaf.now.table) }
+    ensures leaf { IfSome result (λ under. IsLeaf (N.column_kinds names.now) under.leaf.now) }
+    ensures named { IfSome result (λ under. IsUnder (N.known names.now) user written under.leaf.now) }
+    ensures known { IfSome result (λ under. let name = table_of user written in
         N.known names.now name.user name.name ≡ Some (known_by under.table.now)) }
-    ensures owner { IfOk result (λ under. table_of user written
+    ensures owner { IfSome result (λ under. table_of user written
         ≡ record { user = under.table.now.user; name = under.table.now.name }) }
 {
-    let table = named_table(names, user, written)?;
-    match under_table(table) {
-        Some(under) => Ok(under),
-        None => Err(BindFault::NotUpdatable),
+    let Ok(table) = named_table(names, user, written) else {
+        return None;
+    };
+    let under = under_table(table)?;
+    Some(under)
+}
+
+/// Why a table of this name is not changed.
+fn change_fault<N: Names>(names: &N, user: Name, written: TableName) -> BindFault {
+    let name = written.table;
+    match named_table(names, user, written) {
+        Ok(_) => BindFault::NotUpdatable(name),
+        Err(fault) => fault,
     }
 }
 
@@ -81,7 +86,7 @@ fn receiver_of(under: Under<'_>, name: Name) -> Result<Receiver, BindFault>
 {
     match under.table.column(name) {
         Some(position) => Ok(receiver_at(under, position)),
-        None => Err(BindFault::UnknownColumn),
+        None => Err(BindFault::UnknownColumn(name)),
     }
 }
 
@@ -101,8 +106,12 @@ fn receiver_at(under: Under<'_>, position: usize) -> Receiver
     }
 }
 
-/// Adds a column that is not among those before it.
-fn push_receiver(receivers: &mut Items<Receiver>, receiver: Receiver) -> Result<(), BindFault>
+/// Adds a column, by this name in the text, that is not among those before it.
+fn push_receiver(
+    receivers: &mut Items<Receiver>,
+    receiver: Receiver,
+    name: Name,
+) -> Result<(), BindFault>
     ensures { OnOk result (receivers.new ≡ receivers.old ++ receiver ∷ []) }
 {
     if receivers
@@ -110,7 +119,7 @@ fn push_receiver(receivers: &mut Items<Receiver>, receiver: Receiver) -> Result<
         .iter()
         .any(|other| other.position == receiver.position)
     {
-        return Err(BindFault::ColumnTwice);
+        return Err(BindFault::ColumnTwice(name));
     }
     receivers.push(receiver)?;
     Ok(())
@@ -142,9 +151,9 @@ fn listed_receivers(
         (objects_of receivers)) }
 {
     let mut receivers = Items::new(alloc);
-    push_receiver(&mut receivers, receiver_of(under, list.first)?)?;
+    push_receiver(&mut receivers, receiver_of(under, list.first)?, list.first)?;
     for name in list.rest.as_slice() {
-        push_receiver(&mut receivers, receiver_of(under, *name)?)?;
+        push_receiver(&mut receivers, receiver_of(under, *name)?, *name)?;
     }
     Ok(receivers)
 }
@@ -202,7 +211,7 @@ fn stored_in(column: ObjectColumn, value: ExprResult) -> Result<Found<BoundExpr>
 {
     let value = value?;
     let test = must_agree(value.part.kind, column.domain.kind());
-    let Found { part, findings } = kept(value, test)?;
+    let Found { part, findings } = value_if(value, test)?;
     Ok(Found {
         part: part.expr,
         findings,
@@ -232,7 +241,9 @@ pub(crate) fn bind_insert<N: Names>(
     ensures written { IfOk result (λ found. IsSourceOf (around (N.known names.now) environment.now)
         environment.now.user insert.now.source found.part.source) }
 {
-    let under = changed_table(names, environment.user, insert.table)?;
+    let Some(under) = changed_table(names, environment.user, insert.table) else {
+        return Err(change_fault(names, environment.user, insert.table));
+    };
     let parts = insert_parts(insert, names, environment, under, numbers)?;
     let may = names.may(
         environment.user,
@@ -252,7 +263,7 @@ fn bound_insert(
     ensures columns { IfOk result (λ found. found.part.columns ≡ parts.0) }
     ensures source { IfOk result (λ found. found.part.source ≡ parts.1.part) }
 {
-    let ((columns, source), leaf) = both(Ok(parts), under.leaf.share())?;
+    let ((columns, source), leaf) = pair_of(Ok(parts), under.leaf.share())?;
     Ok(Found {
         part: BoundInsert {
             base: under.base(),
@@ -291,7 +302,7 @@ fn insert_parts<N: Names>(
         numbers,
     );
     drop(receivers);
-    both(columns, source)
+    pair_of(columns, source)
 }
 
 /// What is found where a privilege is missing.
@@ -340,7 +351,7 @@ fn inserted_query(
 {
     let query = query?;
     let test = check_columns(query.part.columns.as_slice(), receivers);
-    let Found { part, findings } = kept(query, test)?;
+    let Found { part, findings } = value_if(query, test)?;
     Ok(Found {
         part: InsertedRows::Query(part),
         findings,
@@ -465,13 +476,13 @@ fn positioned<C: Cursors>(
         (Some (CurrentOf name)) found.part) }
 {
     let Some(known) = cursors.cursor(name) else {
-        return Err(BindFault::UnknownCursor);
+        return Err(BindFault::UnknownCursor(name));
     };
-    let Some((user, name)) = known.cursor.table else {
-        return Err(BindFault::NotUpdatable);
+    let Some((user, table)) = known.cursor.table else {
+        return Err(BindFault::NotUpdatable(name));
     };
-    if !under.table.is(user, name) {
-        return Err(BindFault::NotUpdatable);
+    if !under.table.is(user, table) {
+        return Err(BindFault::NotUpdatable(name));
     }
     Ok(Found {
         part: ChangeTarget::Positioned(PositionedTarget {
@@ -510,7 +521,9 @@ pub(crate) fn bind_delete<N: Names, C: Cursors>(
         (filter_placed (around (N.known names.now) environment.now) environment.now.user
         (table_of environment.now.user delete.now.table)) delete.now.target found.part) }
 {
-    let under = changed_table(names, environment.user, delete.table)?;
+    let Some(under) = changed_table(names, environment.user, delete.table) else {
+        return Err(change_fault(names, environment.user, delete.table));
+    };
     let item = item_over(environment.alloc, under.table, None, true)?;
     let target = change_target(
         &delete.target,
@@ -574,7 +587,9 @@ pub(crate) fn bind_update<N: Names, C: Cursors>(
         (λ a. IsColumnOf (leaf_of found.part.target).table a.column)
         found.part.assignments) }
 {
-    let under = changed_table(names, environment.user, update.table)?;
+    let Some(under) = changed_table(names, environment.user, update.table) else {
+        return Err(change_fault(names, environment.user, update.table));
+    };
     let item = item_over(environment.alloc, under.table, None, true)?;
     let assignments = assignments_of(&update.assignments, names, &item, &*environment, under);
     let target = change_target(
@@ -587,7 +602,7 @@ pub(crate) fn bind_update<N: Names, C: Cursors>(
         numbers,
     );
     drop(item);
-    let (assignments, target) = both(assignments, target)?;
+    let (assignments, target) = pair_of(assignments, target)?;
     let findings = assignments.findings.and(target.findings);
     Ok(Found {
         part: BoundUpdate {
@@ -670,7 +685,7 @@ impl Assignments {
             (before ++ assignment.now ∷ []) self.new.bound) }
     {
         let receiver = receiver_of(under, assignment.column)?;
-        push_receiver(&mut self.receivers, receiver)?;
+        push_receiver(&mut self.receivers, receiver, assignment.column)?;
         let position = Some(receiver.position);
         let may = names.may(
             environment.user,

@@ -1,6 +1,6 @@
 //! Targets: the parameters that get the values of a row (ISO/IEC 9075:1992, 13.3, 13.5).
 
-ghost use Rattle.std.specs.Prelude.{◌≡◌, length, true, IfOk};
+ghost use Rattle.std.specs.Prelude.{◌≡◌, [], ◌∷◌, ◌++◌, length, true, IfOk, OnOk};
 ghost use Rattle.sq_bind.specs.Output.{is_output};
 ghost use Rattle.sq_bind.specs.Written.{AreOutputsOf, IsOutputOf};
 ghost use Rattle.sq_bound.specs.Fits.{are_parameters};
@@ -25,22 +25,6 @@ pub(crate) fn bind_outputs(
         (kinds_of_results columns.now)) }
     ensures written { IfOk result (λ outputs. AreOutputsOf parameters.now outputs (listed targets.now)) }
 {
-    let outputs = listed_outputs(alloc, parameters, targets, columns)?;
-    check_distinct(outputs.as_slice())?;
-    Ok(outputs)
-}
-
-fn listed_outputs(
-    alloc: Global,
-    parameters: &[ParameterDesc],
-    targets: &CommaList<Parameter>,
-    columns: &[ResultColumn],
-) -> Result<Items<Output>, BindFault>
-    ensures parameters { IfOk result (λ outputs. are_parameters (length parameters.now) outputs ≡ true) }
-    ensures kinds { IfOk result (λ outputs. TakeKinds (kinds_of_parameters parameters.now) outputs
-        (kinds_of_results columns.now)) }
-    ensures written { IfOk result (λ outputs. AreOutputsOf parameters.now outputs (listed targets.now)) }
-{
     let Some((first, others)) = columns.split_first() else {
         return Err(BindFault::CountMismatch);
     };
@@ -48,9 +32,13 @@ fn listed_outputs(
         return Err(BindFault::CountMismatch);
     }
     let mut outputs = Items::new(alloc);
-    outputs.push(output_of(parameters, &targets.first, first)?)?;
+    push_output(
+        &mut outputs,
+        output_of(parameters, &targets.first, first)?,
+        &targets.first,
+    )?;
     for (target, column) in targets.rest.as_slice().iter().zip(others) {
-        outputs.push(output_of(parameters, target, column)?)?;
+        push_output(&mut outputs, output_of(parameters, target, column)?, target)?;
     }
     Ok(outputs)
 }
@@ -74,25 +62,28 @@ fn output_of(
     })
 }
 
-fn check_distinct(outputs: &[Output]) -> Result<(), BindFault> {
-    for (number, output) in outputs.iter().enumerate() {
-        let earlier = &outputs[..number];
-        if sets_itself(output) || earlier.iter().any(|other| set_alike(other, output)) {
-            return Err(BindFault::TargetTwice);
+/// Adds a target. Neither its parameter nor its indicator is one of a target before it, nor are they the same.
+fn push_output(
+    outputs: &mut Items<Output>,
+    output: Output,
+    target: &Parameter,
+) -> Result<(), BindFault>
+    ensures { OnOk result (outputs.new ≡ outputs.old ++ output ∷ []) }
+{
+    if is_set(outputs.as_slice(), output.parameter) {
+        return Err(BindFault::TargetTwice(target.name));
+    }
+    if let (Some(position), Some(indicator)) = (output.indicator, target.indicator) {
+        if position == output.parameter || is_set(outputs.as_slice(), position) {
+            return Err(BindFault::TargetTwice(indicator.name));
         }
     }
+    outputs.push(output)?;
     Ok(())
 }
 
-/// Whether a target is its own indicator.
-fn sets_itself(output: &Output) -> bool {
-    output.indicator == Some(output.parameter)
-}
-
-/// Whether two targets set one parameter.
-fn set_alike(left: &Output, right: &Output) -> bool {
-    left.parameter == right.parameter
-        || left.indicator == Some(right.parameter)
-        || right.indicator == Some(left.parameter)
-        || (left.indicator.is_some() && left.indicator == right.indicator)
+/// Whether a parameter is among targets or their indicators.
+fn is_set(outputs: &[Output], parameter: usize) -> bool {
+    outputs.iter().any(|output| output.parameter == parameter
+        || output.indicator == Some(parameter))
 }

@@ -32,11 +32,12 @@ ghost use Rattle.sq_bound.specs.declared.query.CursorBody.TheVariants.{Updatable
 use crate::updatable::bind_updatable;
 use sq_bound::{
     BindFault, BoundCursor, BoundQuery, BoundSpecification, BoundTerm, BoundUnion, CursorBody,
-    Names, ResultColumn, SortColumn, UpdatableQuery,
+    Names, ResultColumn, SortColumn, UpdatableQuery, pair_of, value_if,
 };
 use sq_items::{Boxed, Items};
 use sq_lex::{Name, Number};
-use sq_scope::{Environment, Found, both, is_whole, kept, number_value, union_kind};
+use sq_literal::{is_whole, number_value};
+use sq_scope::{Environment, Found, union_kind};
 use sq_select::{SubqueryNumbers, SubqueryResult, bind_select};
 use sq_tree::{
     CommaList, Cursor, Query, QuerySpecification, QueryTerm, SortDirection, SortKey,
@@ -143,7 +144,7 @@ fn specification_term(alloc: Global, query: SubqueryResult) -> TermResult
     let found = query?;
     let lacks_privilege = found.findings.lacks_privilege;
     let columns = copied(alloc, &found.part.columns);
-    let (query, columns) = both(Ok(found.part), columns)?;
+    let (query, columns) = pair_of(Ok(found.part), columns)?;
     Ok(Term {
         term: BoundTerm::Specification(query),
         columns,
@@ -165,7 +166,7 @@ fn bracketed_term(alloc: Global, query: JoinedResult) -> TermResult
         lacks_privilege,
     } = query?;
     let columns = copied(alloc, &query.columns);
-    let (query, columns) = both(boxed_query(alloc, query), columns)?;
+    let (query, columns) = pair_of(boxed_query(alloc, query), columns)?;
     Ok(Term {
         term: BoundTerm::Bracketed(query),
         columns,
@@ -217,15 +218,18 @@ fn with_union(alloc: Global, joined: JoinedResult, all: bool, term: TermResult) 
         → IfOk term (TermNamed right)
         → IfOk result (JoinedNamed (and_then left (λ ls. and_then right (λ rs. Ok (common_names ls rs))))) }
 {
-    let (joined, term) = both(joined, term)?;
+    let (joined, term) = pair_of(joined, term)?;
     let columns = common_columns(
         alloc,
         joined.query.columns.as_slice(),
         term.columns.as_slice(),
     );
-    let ((joined, term), columns) = both(Ok((joined, term)), columns)?;
+    let ((joined, term), columns) = pair_of(Ok((joined, term)), columns)?;
     let copy = copied(alloc, &columns);
-    let ((joined, term), (columns, copy)) = both(Ok((joined, term)), both(Ok(columns), copy))?;
+    let ((joined, term), (columns, copy)) = pair_of(
+        Ok((joined, term)),
+        pair_of(Ok(columns), copy),
+    )?;
     push_union(joined, term, all, columns, copy)
 }
 
@@ -267,7 +271,7 @@ fn push_union(
         Ok(()) => Ok(()),
         Err(_) => Err(BindFault::NoMemory),
     };
-    kept(
+    value_if(
         Joined {
             query,
             lacks_privilege,
@@ -490,7 +494,7 @@ fn specification_cursor<N: Names>(
         return Err(BindFault::PrivilegeMissing);
     }
     let updatable = bind_updatable(query, &found.part, names, environment, numbers);
-    let (found, updatable) = both(Ok(found), updatable)?;
+    let (found, updatable) = pair_of(Ok(found), updatable)?;
     match updatable {
         Some(over) => updatable_cursor(environment.alloc, cursor, found, over),
         None => read_cursor(environment.alloc, cursor, found),
@@ -520,7 +524,7 @@ fn query_cursor(
         lacks_privilege,
     } = query?;
     let sorts = sort_columns(alloc, query.columns.as_slice(), &cursor.order_by);
-    let (query, sorts) = both(Ok(query), sorts)?;
+    let (query, sorts) = pair_of(Ok(query), sorts)?;
     if lacks_privilege {
         drop(query);
         return Err(BindFault::PrivilegeMissing);
@@ -570,7 +574,7 @@ fn rows_cursor(
         → IfOk result (λ cursor. CursorHasNumbers cursor.body) }
 {
     let columns = copied(alloc, &query.columns);
-    let ((query, sorts), columns) = both(Ok((query, sorts)), columns)?;
+    let ((query, sorts), columns) = pair_of(Ok((query, sorts)), columns)?;
     Ok(BoundCursor {
         insensitive: cursor.insensitive,
         scroll: cursor.scroll,
@@ -597,7 +601,7 @@ fn updatable_cursor(
 {
     let columns = copied(alloc, &query.part.columns);
     drop(query);
-    let ((table, updatable), columns) = both(Ok(over), columns)?;
+    let ((table, updatable), columns) = pair_of(Ok(over), columns)?;
     Ok(BoundCursor {
         insensitive: cursor.insensitive,
         scroll: cursor.scroll,

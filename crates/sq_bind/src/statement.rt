@@ -30,13 +30,11 @@ use sq_bound::{
     Action, BaseTable, BindFault, BoundCond, BoundCursor, BoundFetch, BoundInsert, BoundSelect,
     BoundSpecification, BoundStatement, BoundUpdate, ChangeTarget, Column, Distance,
     FetchOrientation, KnownCursor, Names, ParameterDesc, Shared, TableDesc, TablePlace,
-    UpdatableQuery,
+    UpdatableQuery, pair_of, value_if,
 };
 use sq_lex::Name;
-use sq_scope::{
-    Environment, Found, FromItem, SetFunctions, both, is_whole, item_of, kept, parameter_of,
-    signed_value,
-};
+use sq_literal::{is_whole, signed_value};
+use sq_scope::{Environment, Found, FromItem, SetFunctions, item_of, parameter_of};
 use sq_select::{SubqueryNumbers, bind_cond, bind_select};
 use sq_tree::{
     Cond, Cursor, Fetch, FetchFrom, Orientation, Position, QuerySpecification, Select,
@@ -113,7 +111,7 @@ pub fn bind_view<N: Names>(
         &mut numbers,
     )?;
     let updatable = bind_updatable(query, &bound.part, names, &environment, &mut numbers);
-    let (Found { part, findings }, updatable) = both(Ok(bound), updatable)?;
+    let (Found { part, findings }, updatable) = pair_of(Ok(bound), updatable)?;
     Ok(BoundView {
         query: part,
         updatable,
@@ -322,7 +320,7 @@ fn permitted<T: Drop>(found: Found<T>) -> Result<T, BindFault>
     ensures { IfOk result (λ part. part ≡ found.part) }
 {
     let Found { part, findings } = found;
-    kept(part, granted(findings.lacks_privilege))
+    value_if(part, granted(findings.lacks_privilege))
 }
 
 fn inserting(insert: Found<BoundInsert>) -> Result<BoundStatement, BindFault>
@@ -352,7 +350,7 @@ fn known<C: Cursors>(cursors: &C, name: Name) -> Result<KnownCursor<'_>, BindFau
 {
     match cursors.cursor(name) {
         Some(known) => Ok(known),
-        None => Err(BindFault::UnknownCursor),
+        None => Err(BindFault::UnknownCursor(name)),
     }
 }
 
@@ -389,8 +387,8 @@ fn bind_row<N: Names>(
         &select.targets,
         query.part.columns.as_slice(),
     );
-    let (query, outputs) = both(Ok(query), outputs)?;
-    let (query, outputs) = both(permitted(query), Ok(outputs))?;
+    let (query, outputs) = pair_of(Ok(query), outputs)?;
+    let (query, outputs) = pair_of(permitted(query), Ok(outputs))?;
     Ok(BoundSelect { query, outputs })
 }
 

@@ -20,11 +20,11 @@ ghost use Rattle.sq_select.specs.Written.{ClauseIs, SelectIs};
 
 use sq_bound::{
     BindFault, BoundCond, BoundExpr, BoundSpecification, Column, Leaf, Names, Shared, TableBody,
-    TableDesc, Target, UpdatableQuery, is_sure, shortest_key,
+    TableDesc, Target, UpdatableQuery, is_sure, pair_of, shortest_key,
 };
 use sq_items::Items;
 use sq_lex::Name;
-use sq_scope::{Environment, Findings, Found, FromItem, SetFunctions, both, item_over};
+use sq_scope::{Environment, Findings, Found, FromItem, SetFunctions, item_over};
 use sq_select::{SubqueryNumbers, bind_cond, correlation_of, named_table, reference_of};
 use sq_tree::{Cond, QuerySpecification, SelectList};
 use std::alloc::Global;
@@ -37,22 +37,23 @@ fn only_table<'a, N: Names>(
     bound: &BoundSpecification,
     names: &'a N,
     user: Name,
-) -> Result<Option<Under<'a>>, BindFault>
-    ensures base { IfOk result (λ found. IfSome found
-        (λ under. IsBase (N.base_tables names.now) under.leaf.now.table)) }
-    ensures leaf { IfOk result (λ found. IfSome found
-        (λ under. IsLeaf (N.column_kinds names.now) under.leaf.now)) }
-    ensures own { IfOk result (λ found. IfSome found (λ under. under.table.now.leaf ≡ Some under.leaf.now)) }
-    ensures only { IfOk result (λ found. IfSome found
+) -> Option<Under<'a>>
+    ensures base { IfSome result (λ under. IsBase (N.base_tables names.now) under.leaf.now.table) }
+    ensures leaf { IfSome result (λ under. IsLeaf (N.column_kinds names.now) under.leaf.now) }
+    ensures own { IfSome result (λ under. under.table.now.leaf ≡ Some under.leaf.now) }
+    ensures only { IfSome result
         (λ under. IsOnlyTable (N.known names.now) (N.column_kinds names.now) user query.now
-        bound.now under.table.now)) }
+        bound.now under.table.now) }
 {
     let from = &query.table.from;
     if bound.distinct || bound.grouping.is_some() || !from.rest.is_empty() {
-        return Ok(None);
+        return None;
     }
-    let table = named_table(names, user, from.first.table)?;
-    Ok(under_table(table))
+    let Ok(table) = named_table(names, user, from.first.table) else {
+        return None;
+    };
+    let under = under_table(table)?;
+    Some(under)
 }
 
 /// What an updatable query is over, its table's owner and name, and the columns that it selects, if the query is updatable
@@ -79,7 +80,7 @@ pub(crate) fn bind_updatable<N: Names>(
         (λ over. IsUpdatableOf (around (N.known names.now) environment.now)
         (select_of environment.now.user query.now) over.1)) }
 {
-    match only_table(query, bound, names, environment.user)? {
+    match only_table(query, bound, names, environment.user) {
         Some(under) => updatable_over(under, query, bound, names, environment, numbers),
         None => Ok(None),
     }
@@ -120,7 +121,7 @@ fn updatable_over<N: Names>(
     let cond = query.table.where_clause.as_ref();
     let target = bind_target(cond, names, &item, &*environment, under, numbers);
     drop(item);
-    let (columns, target) = both(columns, target)?;
+    let (columns, target) = pair_of(columns, target)?;
     Ok(updatable(under, columns, target))
 }
 
@@ -129,8 +130,10 @@ fn updatable_over<N: Names>(
 pub(crate) struct Under<'a> {
     pub table: &'a TableDesc,
     pub leaf: &'a Shared<Leaf>,
-    ghost placed: { list_all (λ c. nat_lt c.leaf_column (length leaf.now.table.columns)) table.now.columns ≡ true },
-    ghost kinds: { list_all (λ c. is_kind_at (base_kinds leaf.now.table) c.leaf_column c.kind) table.now.columns ≡ true },
+    ghost placed: { list_all (λ c. nat_lt c.leaf_column (length leaf.now.table.columns)) table.now.columns
+        ≡ true },
+    ghost kinds: { list_all
+        (λ c. is_kind_at (base_kinds leaf.now.table) c.leaf_column c.kind) table.now.columns ≡ true },
     ghost plain: { is_plain_base table.now.body (Some leaf.now) ≡ true },
 }
 
@@ -320,7 +323,7 @@ fn whole_target(
     ensures condition { IfOk result (λ found. found.part.condition ≡ condition) }
     ensures key { IfOk result (λ found. (found.part.key ≡ key) × (found.findings ≡ findings)) }
 {
-    let (condition, leaf) = both(Ok(condition), under.leaf.share())?;
+    let (condition, leaf) = pair_of(Ok(condition), under.leaf.share())?;
     let is_quiet = is_sure_where(&condition) && leaf.get().is_quiet;
     Ok(Found {
         part: Target {

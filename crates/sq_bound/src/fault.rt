@@ -3,6 +3,7 @@
 
 ghost use Rattle.std.specs.Prelude.{◌≡◌};
 
+use sq_lex::Name;
 use std::alloc::AllocError;
 use std::error::Error;
 use std::fmt;
@@ -11,11 +12,11 @@ use std::fmt;
 #[derive(Clone, Copy, Debug, PartialEq, Eq)]
 pub enum BindFault {
     /// There is no such table or view (ISO/IEC 9075:1992, 6.3).
-    UnknownTable,
+    UnknownTable(Name),
     /// No FROM item fits the column reference, or the table has no such column (6.4, 13.8, 13.10).
-    UnknownColumn,
+    UnknownColumn(Name),
     /// Two FROM items of one scope fit the column reference, or one FROM clause exposes a name twice (6.3, 6.4).
-    AmbiguousName,
+    AmbiguousName(Name),
     /// A number stands where a text must stand, or the reverse (6.5, 6.12, 8.2, 9.2).
     KindMismatch,
     /// A scale passes 18, or there are more than 64 columns or 16 FROM items (own rules).
@@ -29,17 +30,17 @@ pub enum BindFault {
     /// A sort key is neither a result column's position nor the name of exactly one (13.1).
     BadSortKey,
     /// There is no such parameter (6.2).
-    UnknownParameter,
+    UnknownParameter(Name),
     /// The indicator parameter is neither SMALLINT nor INTEGER nor NUMERIC(p, 0) with p at least 3 (6.2; own rule).
-    BadIndicator,
+    BadIndicator(Name),
     /// A parameter stands twice among targets and their indicators (own rule).
-    TargetTwice,
+    TargetTwice(Name),
     /// The table or cursor can't be changed, or the cursor is over another table (13.6 to 13.10).
-    NotUpdatable,
+    NotUpdatable(Name),
     /// A column stands twice in an insert column list or a SET clause list (13.8, 13.10).
-    ColumnTwice,
+    ColumnTwice(Name),
     /// The module has no such cursor, or the cursor's query has a fault (13.2).
-    UnknownCursor,
+    UnknownCursor(Name),
     /// A fetch orientation needs a cursor with SCROLL, and its number is a whole one (13.3).
     BadOrientation,
     /// A subquery or USER stands in a CHECK condition (own rule).
@@ -50,35 +51,51 @@ pub enum BindFault {
 }
 
 impl BindFault {
-    /// What is wrong, in words.
-    fn text(self) -> &'static str {
+    /// Its name, as docs/STATUSES.md lists it.
+    pub fn name(self) -> &'static str {
         match self {
-            BindFault::UnknownTable => "no such table or view",
-            BindFault::UnknownColumn => "no such column",
-            BindFault::AmbiguousName => "a name fits two FROM items",
-            BindFault::KindMismatch => "a number where a text must stand, or the reverse",
-            BindFault::LimitExceeded => "too many digits, columns or FROM items",
-            BindFault::MisplacedSetFunction => "a set function may not stand here",
-            BindFault::UngroupedColumn => "the column is no grouping column",
-            BindFault::CountMismatch => "the numbers of columns differ",
-            BindFault::BadSortKey => "the sort key names no result column",
-            BindFault::UnknownParameter => "no such parameter",
-            BindFault::BadIndicator => "the parameter can be no indicator",
-            BindFault::TargetTwice => "a parameter is set twice",
-            BindFault::NotUpdatable => "the table or cursor is not updatable",
-            BindFault::ColumnTwice => "a column stands twice",
-            BindFault::UnknownCursor => "no such cursor, or one with a fault",
-            BindFault::BadOrientation => "the fetch orientation does not fit",
-            BindFault::NotInCheck => "a CHECK condition may not hold this",
-            BindFault::PrivilegeMissing => "a privilege is missing",
-            BindFault::NoMemory => "out of memory",
+            BindFault::UnknownTable(_) => "UnknownTable",
+            BindFault::UnknownColumn(_) => "UnknownColumn",
+            BindFault::AmbiguousName(_) => "AmbiguousName",
+            BindFault::KindMismatch => "KindMismatch",
+            BindFault::LimitExceeded => "LimitExceeded",
+            BindFault::MisplacedSetFunction => "MisplacedSetFunction",
+            BindFault::UngroupedColumn => "UngroupedColumn",
+            BindFault::CountMismatch => "CountMismatch",
+            BindFault::BadSortKey => "BadSortKey",
+            BindFault::UnknownParameter(_) => "UnknownParameter",
+            BindFault::BadIndicator(_) => "BadIndicator",
+            BindFault::TargetTwice(_) => "TargetTwice",
+            BindFault::NotUpdatable(_) => "NotUpdatable",
+            BindFault::ColumnTwice(_) => "ColumnTwice",
+            BindFault::UnknownCursor(_) => "UnknownCursor",
+            BindFault::BadOrientation => "BadOrientation",
+            BindFault::NotInCheck => "NotInCheck",
+            BindFault::PrivilegeMissing => "PrivilegeMissing",
+            BindFault::NoMemory => "NoMemory",
+        }
+    }
+
+    /// The table, column, parameter or cursor that it is about, by its name in the text.
+    pub fn about(self) -> Option<Name> {
+        match self {
+            BindFault::UnknownTable(name)
+            | BindFault::UnknownColumn(name)
+            | BindFault::AmbiguousName(name)
+            | BindFault::UnknownParameter(name)
+            | BindFault::BadIndicator(name)
+            | BindFault::TargetTwice(name)
+            | BindFault::NotUpdatable(name)
+            | BindFault::ColumnTwice(name)
+            | BindFault::UnknownCursor(name) => Some(name),
+            _ => None,
         }
     }
 }
 
 impl fmt::Display for BindFault {
     fn fmt<W: fmt::Write>(&self, f: &mut fmt::Formatter<W>) -> fmt::Result {
-        f.write_str(self.text())
+        f.write_str(self.name())
     }
 }
 

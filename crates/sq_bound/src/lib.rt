@@ -7,6 +7,7 @@ mod expression;
 mod fault;
 mod keyed;
 mod names;
+mod parts;
 mod query;
 mod quiet;
 mod shared;
@@ -23,6 +24,7 @@ pub use names::{
     Action, BaseColumn, BaseTable, Column, ColumnDefault, KnownCursor, Leaf, Names, ObjectColumn,
     ParameterDesc, Reference, TableBody, TableDesc, View,
 };
+pub use parts::{pair_of, value_if};
 pub use query::{
     BoundCursor, BoundQuery, BoundTerm, BoundUnion, CursorBody, SortColumn, Target, UpdatableQuery,
 };

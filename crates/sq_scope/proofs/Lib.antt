@@ -2,7 +2,6 @@ pub mod Bindings
 pub mod InOrder
 pub mod ItemsRead
 pub mod Levels
-pub mod Literals
 pub mod Meanings
 pub mod Operations
 pub mod Quiet

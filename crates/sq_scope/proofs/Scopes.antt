@@ -120,7 +120,7 @@ fits_one r items i item column lt at before some =
     )
 
 pub fits_two : (r : ColumnReference) (items : List FromItem) (i : ℕ) (item : FromItem) (column : ItemColumn) (earlier : ℕ × ItemColumn) → i < length items → get_or items i item ≡ item
-    → FitsOnly items (fits r (take i items)) (Some earlier) → FitsColumn r item (Some column) → FitsMore (fits r items) AmbiguousName
+    → FitsOnly items (fits r (take i items)) (Some earlier) → FitsColumn r item (Some column) → FitsMore r.column (fits r items) (AmbiguousName r.column)
 fits_two r items i item column earlier lt at before some =
     let two : fits r (take (i + 1) items) ≡ before.0 ∷ (i, some.0) ∷ [] =
     fits_next r items i item lt at ∙ ap (λ more. fits r (take i items) ++ more) (one_some r i item some.0 some.1) ∙ ap (λ fitting. fitting ++ (i, some.0) ∷ []) before.1 in
@@ -135,7 +135,7 @@ fits_two r items i item column earlier lt at before some =
 
 pub fit_kept : (r : ColumnReference) (items : List FromItem) (i : ℕ) (item : FromItem) → i < length items → get_or items i item ≡ item
     → (found : Option (ℕ × ItemColumn)) (column : Option ItemColumn) (next : Option (ℕ × ItemColumn)) → FitsOnly items (fits r (take i items)) found → FitsColumn r item column
-    → with_fit found i column ≡ Ok next → FitsOnly items (fits r (take (i + 1) items)) next
+    → with_fit r.column found i column ≡ Ok next → FitsOnly items (fits r (take (i + 1) items)) next
 fit_kept r items i item lt at found None next before fit e =
     let same : found ≡ next = cc in subst (λ (f : Option (ℕ × ItemColumn)). FitsOnly items (fits r (take (i + 1) items)) f) same (fits_none r items i item lt at found before fit)
 fit_kept r items i item lt at None (Some column) next before fit e =
@@ -144,11 +144,11 @@ fit_kept r items i item lt at (Some earlier) (Some column) next before fit e = c
 
 pub fit_refused : (r : ColumnReference) (items : List FromItem) (i : ℕ) (item : FromItem) → i < length items → get_or items i item ≡ item
     → (found : Option (ℕ × ItemColumn)) (column : Option ItemColumn) (fault : BindFault) → FitsOnly items (fits r (take i items)) found → FitsColumn r item column
-    → with_fit found i column ≡ Err fault → FitsMore (fits r items) fault
+    → with_fit r.column found i column ≡ Err fault → FitsMore r.column (fits r items) fault
 fit_refused r items i item lt at found None fault before fit e = cc
 fit_refused r items i item lt at None (Some column) fault before fit e = cc
 fit_refused r items i item lt at (Some earlier) (Some column) fault before fit e =
-    let same : AmbiguousName ≡ fault = cc in subst (FitsMore (fits r items)) same (fits_two r items i item column earlier lt at before fit)
+    let same : AmbiguousName r.column ≡ fault = cc in subst (FitsMore r.column (fits r items)) same (fits_two r items i item column earlier lt at before fit)
 
 -- ---- a table
 

@@ -89,7 +89,7 @@ kind_named parameters (Some n) at e = of_parameter (slice_get parameters n) refl
         subst (λ (at : ℕ × Domain). slice_get (kinds_of_parameters parameters) at.0 ≡ Some (kind_of at.1)) same
         (slice_get-map (λ (p : ParameterDesc). kind_of p.domain) parameters n ∙ ap (option_map (λ (p : ParameterDesc). kind_of p.domain)) is)
 
-parameter_there : (parameters : List ParameterDesc) (name : Name) (at : ℕ × Domain) → parameter_named parameters name ≡ Ok at → slice_get (kinds_of_parameters parameters) at.0 ≡ Some (kind_of at.1)
+pub parameter_there : (parameters : List ParameterDesc) (name : Name) (at : ℕ × Domain) → parameter_named parameters name ≡ Ok at → slice_get (kinds_of_parameters parameters) at.0 ≡ Some (kind_of at.1)
 parameter_there parameters name at e = kind_named parameters (position (λ p. same_name p.name name) parameters) at e
 
 has_value : {A : Type 0} (o : Option A) (x : A) → o ≡ Some x → HasValue (well_formed o)

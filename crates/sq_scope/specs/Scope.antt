@@ -2,6 +2,7 @@
 use Rattle.std.specs.Prelude.{◌≡◌, ℕ, ◌+◌, Bool, List, [], ◌∷◌, map, slice_get, Option, Some, None, Result, Ok, Err, if◌then◌else◌}
 use Rattle.std.specs.List.{enumerate_from}
 use Rattle.std.specs.Option.{option_map, option_and_then}
+use Rattle.sq_lex.specs.declared.name.Name.{Name}
 use Rattle.sq_tree.specs.declared.names.ColumnReference.{ColumnReference}
 use Rattle.sq_meaning.specs.Environment.{Item, Place, column_in, fitting, place_of}
 use Rattle.sq_bound.specs.declared.fault.BindFault.{BindFault}
@@ -57,15 +58,15 @@ abbrev pub FitsOnly : List FromItem → List (ℕ × ℕ) → Option (ℕ × Ite
 FitsOnly items fits None = fits ≡ []
 FitsOnly items fits (Some c) = (at : ℕ × ℕ) × (fits ≡ at ∷ []) × (column_numbered items at ≡ Some c)
 
--- what fits so far, with what fits in the item of a number
-abbrev pub with_fit : Option (ℕ × ItemColumn) → ℕ → Option ItemColumn → Result (Option (ℕ × ItemColumn)) BindFault
-with_fit found n None = Ok found
-with_fit None n (Some column) = Ok (Some (n, column))
-with_fit (Some earlier) n (Some column) = Err AmbiguousName
+-- what a name fits so far, with what it fits in the item of a number
+abbrev pub with_fit : Name → Option (ℕ × ItemColumn) → ℕ → Option ItemColumn → Result (Option (ℕ × ItemColumn)) BindFault
+with_fit name found n None = Ok found
+with_fit name None n (Some column) = Ok (Some (n, column))
+with_fit name (Some earlier) n (Some column) = Err (AmbiguousName name)
 
--- more than one, which is a fault
-abbrev pub FitsMore : List (ℕ × ℕ) → BindFault → Type 0
-FitsMore fits fault = (fault ≡ AmbiguousName) × (a : ℕ × ℕ) × (b : ℕ × ℕ) × (others : List (ℕ × ℕ)) × (fits ≡ a ∷ b ∷ others)
+-- more than one, which is a fault of this name
+abbrev pub FitsMore : Name → List (ℕ × ℕ) → BindFault → Type 0
+FitsMore name fits fault = (fault ≡ AmbiguousName name) × (a : ℕ × ℕ) × (b : ℕ × ℕ) × (others : List (ℕ × ℕ)) × (fits ≡ a ∷ b ∷ others)
 
 -- ---- what a reference means
 

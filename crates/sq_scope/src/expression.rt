@@ -26,16 +26,15 @@ ghost use Rattle.sq_value.specs.Number.{Number as Read};
 use crate::column::FoundColumn;
 use crate::findings::{Findings, Found};
 use crate::kinds::{is_number, operation_kind, set_function_kind};
-use crate::literal::{number_value, text_value};
-use crate::parts::both;
 use crate::scope::Environment;
 use crate::typed::Typed;
 use sq_bound::{
     Aggregate, BindFault, BoundExpr, Input, Operation, Operator, ParameterDesc, Place,
-    SetFunctionCall,
+    SetFunctionCall, pair_of,
 };
 use sq_items::{Boxed, Items};
 use sq_lex::{Characters, Name, Number};
+use sq_literal::{number_value, text_value};
 use sq_tree::{
     ColumnReference, Expr, Factor, Indicator, Parameter, Primary, SetFunction, SetQuantifier, Sign,
     Term, TimesSign,
@@ -312,7 +311,7 @@ pub fn parameter_of(parameters: &[ParameterDesc], name: Name) -> Result<(usize, 
 {
     match position_of(parameters, name) {
         Some(position) => Ok((position, parameters[position].domain)),
-        None => Err(BindFault::UnknownParameter),
+        None => Err(BindFault::UnknownParameter(name)),
     }
 }
 
@@ -332,7 +331,7 @@ pub fn indicator_of(
     match domain {
         Domain::Small | Domain::Int => Ok(Some(position)),
         Domain::Numeric(precision, 0) if precision >= 3 => Ok(Some(position)),
-        _ => Err(BindFault::BadIndicator),
+        _ => Err(BindFault::BadIndicator(indicator.name)),
     }
 }
 
@@ -425,7 +424,7 @@ fn operation(
 ) -> TypedResult
     ensures { IfOk result (λ typed. (l : TypedExpr) × (r : TypedExpr) × (left ≡ Ok l) × (right ≡ Ok r) × IsTypedOperation l operator r typed) }
 {
-    let (left, right) = both(left, right)?;
+    let (left, right) = pair_of(left, right)?;
     operated(alloc, left, operator, right)
 }
 

@@ -3,23 +3,17 @@
 #![tactic(auto)]
 
 mod column;
-mod domain;
 mod expression;
 mod findings;
 mod kinds;
-mod literal;
-mod parts;
 mod scope;
 mod typed;
 
 pub use column::{FoundColumn, ItemColumn};
-pub use domain::domain_of;
 pub use expression::{
     ExprResult, SetFunctions, bind_expr, column_findings, indicator_of, parameter_of,
 };
 pub use findings::{Findings, Found};
 pub use kinds::{must_agree, must_be_text, union_kind};
-pub use literal::{is_whole, number_value, signed_value, text_value};
-pub use parts::{both, kept};
 pub use scope::{Environment, FromItem, Scope, is_exposed, item_of, item_over};
 pub use typed::Typed;

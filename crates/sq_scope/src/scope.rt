@@ -154,11 +154,11 @@ pub fn is_exposed(items: &[FromItem], item: &FromItem) -> bool {
 impl Scope<'_> {
     /// The items and columns of this scope that a reference fits: none, one, or a fault for more.
     fn fitting(&self, reference: &ColumnReference) -> Result<Option<(usize, ItemColumn)>, BindFault>
-        ensures { let items = items_in self.now in MatchResult result (FitsOnly items (fits reference.now items)) (FitsMore (fits reference.now items)) }
+        ensures { let items = items_in self.now in MatchResult result (FitsOnly items (fits reference.now items)) (FitsMore reference.now.column (fits reference.now items)) }
     {
         let mut found = None;
         for (number, item) in self.items.iter().enumerate() {
-            match with_fit(found, number, item.column(reference)) {
+            match with_fit(reference.column, found, number, item.column(reference)) {
                 Ok(next) => found = next,
                 Err(fault) => return Err(fault),
             }
@@ -188,7 +188,7 @@ impl Scope<'_> {
                 Ok(self.found(depth, item, column))
             }
             (None, Some(outer)) => outer.column(further_out(depth)?, reference),
-            (None, None) => Err(BindFault::UnknownColumn),
+            (None, None) => Err(BindFault::UnknownColumn(reference.column)),
         }
     }
 
@@ -219,18 +219,19 @@ impl Scope<'_> {
     }
 }
 
-/// What fits so far, with what fits in a further item.
+/// What a column's name fits so far, with what it fits in a further item.
 fn with_fit(
+    name: Name,
     found: Option<(usize, ItemColumn)>,
     number: usize,
     column: Option<ItemColumn>,
 ) -> Result<Option<(usize, ItemColumn)>, BindFault>
-    ensures { result ≡ with_fit found number column }
+    ensures { result ≡ with_fit name found number column }
 {
     match (found, column) {
         (found, None) => Ok(found),
         (None, Some(column)) => Ok(Some((number, column))),
-        (Some(_), Some(_)) => Err(BindFault::AmbiguousName),
+        (Some(_), Some(_)) => Err(BindFault::AmbiguousName(name)),
     }
 }
 
@@ -310,7 +311,7 @@ impl<'a> Environment<'a> {
     {
         match &self.scope {
             Some(scope) => scope.column(0, reference),
-            None => Err(BindFault::UnknownColumn),
+            None => Err(BindFault::UnknownColumn(reference.column)),
         }
     }
 }

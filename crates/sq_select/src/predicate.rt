@@ -24,11 +24,11 @@ ghost use Rattle.sq_select.specs.Reach.{BesideReaches, EachReaches, PredicateRea
 ghost use Rattle.sq_select.specs.WellFormed.{AgreesAt, AreBesideAt, Context, Each, Everywhere, IsPredicateAt, IsSpecificationIn, IsTypedAt, here};
 
 use crate::gathered::{Gathered, gathered, none};
-use sq_bound::{BindFault, BoundExpr, BoundSpecification, Compared, Predicate};
+use sq_bound::{BindFault, BoundExpr, BoundSpecification, Compared, Predicate, pair_of, value_if};
 use sq_items::Boxed;
 use sq_scope::{
-    Environment, ExprResult, Findings, Found, SetFunctions, Typed, bind_expr, both, kept,
-    must_agree, must_be_text,
+    Environment, ExprResult, Findings, Found, SetFunctions, Typed, bind_expr, must_agree,
+    must_be_text,
 };
 use sq_tree::{CommaList, Comparison, Expr, Quantifier};
 use sq_value::Kind;
@@ -45,9 +45,9 @@ fn agreeing(left: ExprResult, right: ExprResult) -> Result<(Found<Typed>, Found<
     ensures parts { IfOk result (λ parts. (left ≡ Ok parts.0) × (right ≡ Ok parts.1)) }
     ensures agree { IfOk result (λ parts. IsTrue (is_comparable parts.0.part.kind parts.1.part.kind)) }
 {
-    let (left, right) = both(left, right)?;
+    let (left, right) = pair_of(left, right)?;
     let test = must_agree(left.part.kind, right.part.kind);
-    kept((left, right), test)
+    value_if((left, right), test)
 }
 
 /// `left op right`.
@@ -94,12 +94,12 @@ fn with_subquery(
     ensures written { (calls : List SetFunctionCall) (l : Outcome PlacedExpr) (q : Outcome PlacedSelect) → IfOk left (Being (TypedIs calls l))
         → IfOk query (Being (SelectIs q)) → IfOk result (Being (BesideIs calls l q)) }
 {
-    let (left, query) = both(left, query)?;
+    let (left, query) = pair_of(left, query)?;
     let test = match column_of(&query.part) {
         Ok(kind) => must_agree(left.part.kind, kind),
         Err(fault) => Err(fault),
     };
-    let (left, query) = kept((left, query), test)?;
+    let (left, query) = value_if((left, query), test)?;
     let findings = left.findings.and(query.findings.of_subquery());
     boxed_beside(alloc, left.part.expr, query.part, findings)
 }
@@ -252,9 +252,9 @@ fn between_bounds(
         → IfOk low (Being (TypedIs calls m)) → IfOk high (Being (TypedIs calls n))
         → IfOk result (Being (PredicateIs calls (and_then l (λ p. and_then m (λ q. and_then n (λ r. Ok (not_if negated (between_tree p q r)))))))) }
 {
-    let ((left, low), high) = both(agreeing(left, low), high)?;
+    let ((left, low), high) = pair_of(agreeing(left, low), high)?;
     let test = must_agree(left.part.kind, high.part.kind);
-    let ((left, low), high) = kept(((left, low), high), test)?;
+    let ((left, low), high) = value_if(((left, low), high), test)?;
     let findings = left.findings.and(low.findings).and(high.findings);
     Ok(Found {
         part: Predicate::Between(negated, left.part.expr, low.part.expr, high.part.expr),
@@ -274,7 +274,7 @@ fn agreed(kind: Kind, item: ExprResult) -> Result<Found<BoundExpr>, BindFault>
 {
     let item = item?;
     let test = must_agree(kind, item.part.kind);
-    let Found { part, findings } = kept(item, test)?;
+    let Found { part, findings } = value_if(item, test)?;
     Ok(Found {
         part: part.expr,
         findings,
@@ -344,7 +344,7 @@ fn listed(negated: bool, left: Found<Typed>, list: Gathered<BoundExpr>) -> Predi
         → IfOk list (Being (ExprsAre calls ls))
         → IfOk result (Being (PredicateIs calls (and_then l (λ p. and_then ls (λ ps. Ok (not_if negated (in_list_tree p ps))))))) }
 {
-    let (left, list) = both(Ok(left), list)?;
+    let (left, list) = pair_of(Ok(left), list)?;
     Ok(Found {
         findings: left.findings.and(list.findings),
         part: Predicate::InList(negated, left.part.expr, list.part),
@@ -357,7 +357,7 @@ fn text(operand: ExprResult) -> ExprResult
 {
     let operand = operand?;
     let test = must_be_text(operand.part.kind);
-    kept(operand, test)
+    value_if(operand, test)
 }
 
 /// `left [ NOT ] LIKE pattern [ ESCAPE escape ]`.
@@ -403,7 +403,7 @@ fn like_plain(negated: bool, left: ExprResult, pattern: ExprResult) -> Predicate
         → IfOk pattern (Being (TypedIs calls m))
         → IfOk result (Being (PredicateIs calls (and_then l (λ p. and_then m (λ q. Ok (not_if negated (like_tree p q None))))))) }
 {
-    let (left, pattern) = both(text(left), text(pattern))?;
+    let (left, pattern) = pair_of(text(left), text(pattern))?;
     Ok(Found {
         findings: left.findings.and(pattern.findings),
         part: Predicate::Like(negated, left.part.expr, pattern.part.expr, None),
@@ -427,7 +427,7 @@ fn like_escape(
         → IfOk pattern (Being (TypedIs calls m)) → IfOk escape (Being (TypedIs calls n))
         → IfOk result (Being (PredicateIs calls (and_then l (λ p. and_then m (λ q. and_then n (λ r. Ok (not_if negated (like_tree p q (Some r))))))))) }
 {
-    let ((left, pattern), escape) = both(both(text(left), text(pattern)), text(escape))?;
+    let ((left, pattern), escape) = pair_of(pair_of(text(left), text(pattern)), text(escape))?;
     let findings = left.findings.and(pattern.findings).and(escape.findings);
     Ok(Found {
         part: Predicate::Like(

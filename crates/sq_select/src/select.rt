@@ -39,13 +39,13 @@ ghost use Rattle.sq_value.specs.declared.domain.Kind.{Kind as AnyKind};
 use crate::predicate::SubqueryResult;
 use sq_bound::{
     Action, BindFault, BoundCond, BoundExpr, BoundFrom, BoundSpecification, Grouping, Names, Place,
-    ResultColumn, TableDesc, TablePlace,
+    ResultColumn, TableDesc, TablePlace, pair_of, value_if,
 };
 use sq_items::Items;
 use sq_lex::Name;
 use sq_scope::{
-    Environment, ExprResult, Findings, Found, FromItem, SetFunctions, Typed, bind_expr, both,
-    column_findings, is_exposed, item_over, kept,
+    Environment, ExprResult, Findings, Found, FromItem, SetFunctions, Typed, bind_expr,
+    column_findings, is_exposed, item_over,
 };
 use sq_tree::{
     ColumnReference, CommaList, Expr, Factor, Primary, SelectList, TableName, TableReference, Term,
@@ -82,7 +82,7 @@ pub fn named_table<N: Names>(
     let owner = written.schema.unwrap_or(user);
     match names.table(owner, written.table) {
         Some(table) => Ok(table),
-        None => Err(BindFault::UnknownTable),
+        None => Err(BindFault::UnknownTable(written.table)),
     }
 }
 
@@ -170,8 +170,9 @@ impl FromClause {
         self.findings = self.findings.and(found);
         let item = item_over(environment.alloc, table, correlation_of(reference), false)?;
         if is_exposed(self.items.as_slice(), &item) {
+            let name = item.correlation.unwrap_or(item.name);
             drop(item);
-            return Err(BindFault::AmbiguousName);
+            return Err(BindFault::AmbiguousName(name));
         }
         self.items.push(item)?;
         Ok(())
@@ -382,10 +383,10 @@ fn with_column(
     ensures names { (before : List (Option AnyName)) → IfOk selected (λ s. names_of s.columns ≡ before)
         → IfOk result (λ s. names_of s.columns ≡ before ++ name ∷ []) }
 {
-    let (mut selected, item) = both(selected, item)?;
+    let (mut selected, item) = pair_of(selected, item)?;
     let Found { part, findings } = item;
     let pushed = push_column(&mut selected, part, name, findings);
-    kept(selected, pushed)
+    value_if(selected, pushed)
 }
 
 fn push_column(
@@ -423,7 +424,7 @@ fn all_columns(alloc: Global, items: &[FromItem]) -> Result<SelectedList, BindFa
 {
     let mut selected = no_columns(alloc, true);
     let pushed = push_items(&mut selected, items);
-    kept(selected, pushed)
+    value_if(selected, pushed)
 }
 
 fn push_items(selected: &mut SelectedList, items: &[FromItem]) -> Result<(), BindFault>
@@ -516,8 +517,8 @@ pub fn make_specification(parts: Selected) -> SubqueryResult
         having,
         functions,
     } = parts;
-    let clauses = both(both(condition, having), both(groups, selected));
-    let (((condition, having), (groups, selected)), functions) = both(clauses, Ok(functions))?;
+    let clauses = pair_of(pair_of(condition, having), pair_of(groups, selected));
+    let (((condition, having), (groups, selected)), functions) = pair_of(clauses, Ok(functions))?;
     let findings = condition
         .findings
         .and(having.findings)

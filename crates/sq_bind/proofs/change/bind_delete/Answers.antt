@@ -15,9 +15,9 @@ use Rattle.sq_bind.proofs.change.bind_delete.Goals as goal
 
 pub change_target-target-requires-clause-item : goal.change_target-target-requires-clause-item
 change_target-target-requires-clause-item g c =
-    let under = c.in_ok-under.under in
+    let under = c.in-Some.under in
     let table = under.leaf.now.table in
-    item_at_leaf (g.N.Names.column_kinds c.args.names.now) (Base table.place) (base_kinds table) under.table.now.columns c.in_ok-item.item c.in_ok-under.ensures.leaf.kinds_are under.kinds c.in_ok-item.ensures.columns
+    item_at_leaf (g.N.Names.column_kinds c.args.names.now) (Base table.place) (base_kinds table) under.table.now.columns c.in_ok-item.item c.in-Some.ensures.leaf.kinds_are under.kinds c.in_ok-item.ensures.columns
 
 pub returns-clause-written : goal.returns-clause-written
 returns-clause-written g c =
@@ -26,7 +26,7 @@ returns-clause-written g c =
     let a = around known environment in
     let t = table_of environment.user c.args.delete.now.table in
     let item = c.in_ok-item.item in
-    let is : changed_item known t ≡ Ok item = spelled.changed_item_is known t c.in_ok-under.under.table.now item c.in_ok-under.ensures.known c.in_ok-under.ensures.owner c.in_ok-item.ensures.named c.in_ok-item.ensures.columns in
+    let is : changed_item known t ≡ Ok item = spelled.changed_item_is known t c.in-Some.under.table.now item c.in-Some.ensures.known c.in-Some.ensures.owner c.in_ok-item.ensures.named c.in_ok-item.ensures.columns in
     let IsNumberOf = λ (name : Name) (number : ℕ). g.C.Cursors.number_of c.args.cursors.now name ≡ Some number in
     spelled.target_placed IsNumberOf a environment.user t item c.args.delete.now.target c.in_ok-part.field-0.part is
     (IfOk-at_ok (λ (found : Found ChangeTarget). IsTargetOf IsNumberOf (filter_on a environment.user item) c.args.delete.now.target found.part) c.in_ok-part.was c.change_target-target.ensures.written)

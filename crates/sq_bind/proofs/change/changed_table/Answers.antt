@@ -3,6 +3,6 @@ use Rattle.std.specs.Option.{option_and_then, option_map}
 use Rattle.sq_bound.specs.Known.{KnownTable, under_of}
 use Rattle.sq_bind.proofs.change.changed_table.Goals as goal
 
-pub returns-in-Some-clause-named : goal.returns-in-Some-clause-named
-returns-in-Some-clause-named g c =
-    ap (λ known. option_and_then (λ (k : KnownTable). k.under) known) c.in_ok-table.ensures.known ∙ ap (option_map under_of) c.in-Some.ensures.leaf
+pub returns-clause-named : goal.returns-clause-named
+returns-clause-named g c =
+    ap (λ known. option_and_then (λ (k : KnownTable). k.under) known) c.in-Ok.ensures.known ∙ ap (option_map under_of) c.in_ok-under.ensures.leaf

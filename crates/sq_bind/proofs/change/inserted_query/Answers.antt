@@ -13,6 +13,6 @@ pub returns : goal.returns
 returns c = (
   c.in_ok-query.query,
   search rules,
-  ap (λ (found : Found BoundSpecification). Query found.part) c.in_ok-part.ensures.part,
-  subst (λ (columns : List ResultColumn). AllZip MayStore (objects_of c.args.receivers.now) (kinds_of_results columns)) c.as_slice.ensures (on_ok _ _ c.check_columns-test.ensures c.in_ok-part.ensures.test),
+  ap (λ (found : Found BoundSpecification). Query found.part) c.in_ok-part.ensures.value,
+  subst (λ (columns : List ResultColumn). AllZip MayStore (objects_of c.args.receivers.now) (kinds_of_results columns)) c.as_slice.ensures (on_ok _ _ c.check_columns-test.ensures c.in_ok-part.ensures.check),
 )

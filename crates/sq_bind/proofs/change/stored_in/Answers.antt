@@ -8,6 +8,6 @@ pub returns : goal.returns
 returns c = (
   c.in_ok-value.value,
   search rules,
-  ap (λ (found : Found Typed). found.part.expr) c.in_ok-part.ensures.part,
-  may_store c.args.column c.in_ok-value.value.part.kind c.kind.result _ c.must_agree-test.ensures.ok c.in_ok-part.ensures.test c.kind.ensures,
+  ap (λ (found : Found Typed). found.part.expr) c.in_ok-part.ensures.value,
+  may_store c.args.column c.in_ok-value.value.part.kind c.kind.result _ c.must_agree-test.ensures.ok c.in_ok-part.ensures.check c.kind.ensures,
 )

@@ -31,7 +31,7 @@ returns-clause-well_formed c = λ x calls h k j levels m.
     let two = agreeing_are c.args.left c.args.low c.agreeing.result before.left before.low before.ensures.0 c.agreeing.ensures.parts c.agreeing.ensures.agree in
     let there : (c.args.left ≡ Ok a) × (c.args.low ≡ Ok low) × (c.args.high ≡ Ok high) × IsTrue (is_comparable a.part.kind low.part.kind) × IsTrue (is_comparable a.part.kind high.part.kind) =
     subst (λ (t : (Found Typed × Found Typed) × Found Typed). (c.args.left ≡ Ok t.0.0) × (c.args.low ≡ Ok t.0.1) × (c.args.high ≡ Ok t.1) × IsTrue (is_comparable t.0.0.part.kind t.0.1.part.kind) × IsTrue (is_comparable t.0.0.part.kind t.1.part.kind))
-    (sym c.in_ok-left-2.ensures.part) (two.0, two.1, before.ensures.1, two.2, sym c.must_agree-test.ensures.ok ∙ c.in_ok-left-2.ensures.test) in
+    (sym c.in_ok-left-2.ensures.value) (two.0, two.1, before.ensures.1, two.2, sym c.must_agree-test.ensures.ok ∙ c.in_ok-left-2.ensures.check) in
     let m1 = may_first x levels all first high.findings.has_ungrouped c.and-findings.ensures.ungrouped m in
     between_is x.columns (parameters_in x) levels calls c.args.negated a.part.kind low.part.kind high.part.kind a.part.expr low.part.expr high.part.expr
     (operand x calls c.args.left a levels there.0 h (may_first x levels first a.findings.has_ungrouped low.findings.has_ungrouped c.and.ensures.ungrouped m1))
@@ -48,7 +48,7 @@ returns-clause-in_order c = λ a b d e h k j.
     let high = c.in_ok-left-2.high in
     let two = agreeing_are c.args.left c.args.low c.agreeing.result before.left before.low before.ensures.0 c.agreeing.ensures.parts c.agreeing.ensures.agree in
     let there : (c.args.left ≡ Ok l) × (c.args.low ≡ Ok low) × (c.args.high ≡ Ok high) =
-    subst (λ (t : (Found Typed × Found Typed) × Found Typed). (c.args.left ≡ Ok t.0.0) × (c.args.low ≡ Ok t.0.1) × (c.args.high ≡ Ok t.1)) (sym c.in_ok-left-2.ensures.part) (two.0, two.1, before.ensures.1) in
+    subst (λ (t : (Found Typed × Found Typed) × Found Typed). (c.args.left ≡ Ok t.0.0) × (c.args.low ≡ Ok t.0.1) × (c.args.high ≡ Ok t.1)) (sym c.in_ok-left-2.ensures.value) (two.0, two.1, before.ensures.1) in
     adds_between c.args.negated l.part.expr low.part.expr high.part.expr a b d e
     (IfOk-at_ok (Adding typed_functions a b) there.0 h) (IfOk-at_ok (Adding typed_functions b d) there.1 k) (IfOk-at_ok (Adding typed_functions d e) there.2 j)
 
@@ -61,7 +61,7 @@ returns-clause-quiet c = λ h k j. (
       let high = c.in_ok-left-2.high in
       let two = agreeing_are c.args.left c.args.low c.agreeing.result before.left before.low before.ensures.0 c.agreeing.ensures.parts c.agreeing.ensures.agree in
       let there : (c.args.left ≡ Ok l) × (c.args.low ≡ Ok low) × (c.args.high ≡ Ok high) =
-      subst (λ (t : (Found Typed × Found Typed) × Found Typed). (c.args.left ≡ Ok t.0.0) × (c.args.low ≡ Ok t.0.1) × (c.args.high ≡ Ok t.1)) (sym c.in_ok-left-2.ensures.part) (two.0, two.1, before.ensures.1) in
+      subst (λ (t : (Found Typed × Found Typed) × Found Typed). (c.args.left ≡ Ok t.0.0) × (c.args.low ≡ Ok t.0.1) × (c.args.high ≡ Ok t.1)) (sym c.in_ok-left-2.ensures.value) (two.0, two.1, before.ensures.1) in
       let all = c.and-findings.result.can_fail in
       let first = c.and.result.can_fail in
       let none_before = or_first all first high.findings.can_fail c.and-findings.ensures.can_fail none in
@@ -80,7 +80,7 @@ returns-clause-reads c = λ h k j.
     let high = c.in_ok-left-2.high in
     let two = agreeing_are c.args.left c.args.low c.agreeing.result before.left before.low before.ensures.0 c.agreeing.ensures.parts c.agreeing.ensures.agree in
     let there : (c.args.left ≡ Ok l) × (c.args.low ≡ Ok low) × (c.args.high ≡ Ok high) =
-    subst (λ (t : (Found Typed × Found Typed) × Found Typed). (c.args.left ≡ Ok t.0.0) × (c.args.low ≡ Ok t.0.1) × (c.args.high ≡ Ok t.1)) (sym c.in_ok-left-2.ensures.part) (two.0, two.1, before.ensures.1) in
+    subst (λ (t : (Found Typed × Found Typed) × Found Typed). (c.args.left ≡ Ok t.0.0) × (c.args.low ≡ Ok t.0.1) × (c.args.high ≡ Ok t.1)) (sym c.in_ok-left-2.ensures.value) (two.0, two.1, before.ensures.1) in
     let all = c.and-findings.result.items in
     let first = c.and.result.items in
     let firsts = items_first all first high.findings.items c.and-findings.ensures.items in
@@ -99,7 +99,7 @@ returns-clause-reach c = λ h k j.
     let high = c.in_ok-left-2.high in
     let two = agreeing_are c.args.left c.args.low c.agreeing.result before.left before.low before.ensures.0 c.agreeing.ensures.parts c.agreeing.ensures.agree in
     let there : (c.args.left ≡ Ok l) × (c.args.low ≡ Ok low) × (c.args.high ≡ Ok high) =
-    subst (λ (t : (Found Typed × Found Typed) × Found Typed). (c.args.left ≡ Ok t.0.0) × (c.args.low ≡ Ok t.0.1) × (c.args.high ≡ Ok t.1)) (sym c.in_ok-left-2.ensures.part) (two.0, two.1, before.ensures.1) in
+    subst (λ (t : (Found Typed × Found Typed) × Found Typed). (c.args.left ≡ Ok t.0.0) × (c.args.low ≡ Ok t.0.1) × (c.args.high ≡ Ok t.1)) (sym c.in_ok-left-2.ensures.value) (two.0, two.1, before.ensures.1) in
     let reach = outward c.and-findings.result in
     reaches.between_reaches reach c.args.negated l.part.expr low.part.expr high.part.expr
     (reaches.operand c.args.left l reach there.0 (then_further c.and.ensures.reach.0 c.and-findings.ensures.reach.0) h)
@@ -117,6 +117,6 @@ returns-clause-written c = λ calls l m n h k j.
     let high = c.in_ok-left-2.high in
     let two = agreeing_are c.args.left c.args.low c.agreeing.result before.left before.low before.ensures.0 c.agreeing.ensures.parts c.agreeing.ensures.agree in
     let there : (c.args.left ≡ Ok a) × (c.args.low ≡ Ok low) × (c.args.high ≡ Ok high) =
-    subst (λ (t : (Found Typed × Found Typed) × Found Typed). (c.args.left ≡ Ok t.0.0) × (c.args.low ≡ Ok t.0.1) × (c.args.high ≡ Ok t.1)) (sym c.in_ok-left-2.ensures.part) (two.0, two.1, before.ensures.1) in
+    subst (λ (t : (Found Typed × Found Typed) × Found Typed). (c.args.left ≡ Ok t.0.0) × (c.args.low ≡ Ok t.0.1) × (c.args.high ≡ Ok t.1)) (sym c.in_ok-left-2.ensures.value) (two.0, two.1, before.ensures.1) in
     written.between_is calls c.args.negated a.part.expr low.part.expr high.part.expr l m n
     (written.operand_is calls l c.args.left a there.0 h) (written.operand_is calls m c.args.low low there.1 k) (written.operand_is calls n c.args.high high there.2 j)

@@ -26,9 +26,9 @@ pub returns-clause-well_formed : goal.returns-clause-well_formed
 returns-clause-well_formed c = λ kinds parameters levels h.
     let s = c.args.parts in
     let d = c.in_ok-condition in
-    let all = IfOk-at_ok (λ clauses. (c.both.result ≡ Ok clauses.0) × (c.both-2.result ≡ Ok clauses.1)) d.ensures.0 c.both-clauses.ensures in
-    let conditions = IfOk-at_ok (λ parts. (s.condition ≡ Ok parts.0) × (s.having ≡ Ok parts.1)) all.0 c.both.ensures in
-    let lists = IfOk-at_ok (λ parts. (s.groups ≡ Ok parts.0) × (s.selected ≡ Ok parts.1)) all.1 c.both-2.ensures in
+    let all = IfOk-at_ok (λ clauses. (c.pair_of.result ≡ Ok clauses.0) × (c.pair_of-2.result ≡ Ok clauses.1)) d.ensures.0 c.pair_of-clauses.ensures in
+    let conditions = IfOk-at_ok (λ parts. (s.condition ≡ Ok parts.0) × (s.having ≡ Ok parts.1)) all.0 c.pair_of.ensures in
+    let lists = IfOk-at_ok (λ parts. (s.groups ≡ Ok parts.0) × (s.selected ≡ Ok parts.1)) all.1 c.pair_of-2.ensures in
     let same : s.functions ≡ d.functions = ok_is s.functions d.functions d.ensures.1 in
     let none = is_no_column d.groups.part in
     let calls = s.functions.calls in
@@ -46,9 +46,9 @@ pub returns-clause-reach : goal.returns-clause-reach
 returns-clause-reach c = λ h.
     let s = c.args.parts in
     let d = c.in_ok-condition in
-    let all = IfOk-at_ok (λ clauses. (c.both.result ≡ Ok clauses.0) × (c.both-2.result ≡ Ok clauses.1)) d.ensures.0 c.both-clauses.ensures in
-    let conditions = IfOk-at_ok (λ parts. (s.condition ≡ Ok parts.0) × (s.having ≡ Ok parts.1)) all.0 c.both.ensures in
-    let lists = IfOk-at_ok (λ parts. (s.groups ≡ Ok parts.0) × (s.selected ≡ Ok parts.1)) all.1 c.both-2.ensures in
+    let all = IfOk-at_ok (λ clauses. (c.pair_of.result ≡ Ok clauses.0) × (c.pair_of-2.result ≡ Ok clauses.1)) d.ensures.0 c.pair_of-clauses.ensures in
+    let conditions = IfOk-at_ok (λ parts. (s.condition ≡ Ok parts.0) × (s.having ≡ Ok parts.1)) all.0 c.pair_of.ensures in
+    let lists = IfOk-at_ok (λ parts. (s.groups ≡ Ok parts.0) × (s.selected ≡ Ok parts.1)) all.1 c.pair_of-2.ensures in
     let same : s.functions ≡ d.functions = ok_is s.functions d.functions d.ensures.1 in
     let reach = outward c.and-findings.result in
     let last = c.and-findings.ensures.reach.0 in
@@ -64,9 +64,9 @@ pub returns-clause-noted : goal.returns-clause-noted
 returns-clause-noted c = λ h.
     let s = c.args.parts in
     let d = c.in_ok-condition in
-    let all = IfOk-at_ok (λ clauses. (c.both.result ≡ Ok clauses.0) × (c.both-2.result ≡ Ok clauses.1)) d.ensures.0 c.both-clauses.ensures in
-    let conditions = IfOk-at_ok (λ parts. (s.condition ≡ Ok parts.0) × (s.having ≡ Ok parts.1)) all.0 c.both.ensures in
-    let lists = IfOk-at_ok (λ parts. (s.groups ≡ Ok parts.0) × (s.selected ≡ Ok parts.1)) all.1 c.both-2.ensures in
+    let all = IfOk-at_ok (λ clauses. (c.pair_of.result ≡ Ok clauses.0) × (c.pair_of-2.result ≡ Ok clauses.1)) d.ensures.0 c.pair_of-clauses.ensures in
+    let conditions = IfOk-at_ok (λ parts. (s.condition ≡ Ok parts.0) × (s.having ≡ Ok parts.1)) all.0 c.pair_of.ensures in
+    let lists = IfOk-at_ok (λ parts. (s.groups ≡ Ok parts.0) × (s.selected ≡ Ok parts.1)) all.1 c.pair_of-2.ensures in
     let same : s.functions ≡ d.functions = ok_is s.functions d.functions d.ensures.1 in
     let where_is = IfOk-at_ok ClauseNoted conditions.0 h.condition in
     let having_is = IfOk-at_ok ClauseNoted conditions.1 h.having in
@@ -95,17 +95,17 @@ pub returns-clause-numbering : goal.returns-clause-numbering
 returns-clause-numbering c = λ x y z h k.
     let s = c.args.parts in
     let d = c.in_ok-condition in
-    let all = IfOk-at_ok (λ clauses. (c.both.result ≡ Ok clauses.0) × (c.both-2.result ≡ Ok clauses.1)) d.ensures.0 c.both-clauses.ensures in
-    let conditions = IfOk-at_ok (λ parts. (s.condition ≡ Ok parts.0) × (s.having ≡ Ok parts.1)) all.0 c.both.ensures in
+    let all = IfOk-at_ok (λ clauses. (c.pair_of.result ≡ Ok clauses.0) × (c.pair_of-2.result ≡ Ok clauses.1)) d.ensures.0 c.pair_of-clauses.ensures in
+    let conditions = IfOk-at_ok (λ parts. (s.condition ≡ Ok parts.0) × (s.having ≡ Ok parts.1)) all.0 c.pair_of.ensures in
     c.whole_specification.ensures.numbering x y z (IfOk-at_ok (Numbering ClauseWith x y) conditions.0 h) (IfOk-at_ok (Numbering ClauseWith y z) conditions.1 k)
 
 pub returns-clause-written : goal.returns-clause-written
 returns-clause-written c = λ a items text h.
     let s = c.args.parts in
     let d = c.in_ok-condition in
-    let all = IfOk-at_ok (λ clauses. (c.both.result ≡ Ok clauses.0) × (c.both-2.result ≡ Ok clauses.1)) d.ensures.0 c.both-clauses.ensures in
-    let conditions = IfOk-at_ok (λ parts. (s.condition ≡ Ok parts.0) × (s.having ≡ Ok parts.1)) all.0 c.both.ensures in
-    let lists = IfOk-at_ok (λ parts. (s.groups ≡ Ok parts.0) × (s.selected ≡ Ok parts.1)) all.1 c.both-2.ensures in
+    let all = IfOk-at_ok (λ clauses. (c.pair_of.result ≡ Ok clauses.0) × (c.pair_of-2.result ≡ Ok clauses.1)) d.ensures.0 c.pair_of-clauses.ensures in
+    let conditions = IfOk-at_ok (λ parts. (s.condition ≡ Ok parts.0) × (s.having ≡ Ok parts.1)) all.0 c.pair_of.ensures in
+    let lists = IfOk-at_ok (λ parts. (s.groups ≡ Ok parts.0) × (s.selected ≡ Ok parts.1)) all.1 c.pair_of-2.ensures in
     let same : s.functions ≡ d.functions = ok_is s.functions d.functions d.ensures.1 in
     let calls = s.functions.calls in
     c.whole_specification.ensures.written a items text (record {
@@ -124,6 +124,6 @@ pub returns-clause-names : goal.returns-clause-names
 returns-clause-names c = λ shown h.
     let s = c.args.parts in
     let d = c.in_ok-condition in
-    let all = IfOk-at_ok (λ clauses. (c.both.result ≡ Ok clauses.0) × (c.both-2.result ≡ Ok clauses.1)) d.ensures.0 c.both-clauses.ensures in
-    let lists = IfOk-at_ok (λ parts. (s.groups ≡ Ok parts.0) × (s.selected ≡ Ok parts.1)) all.1 c.both-2.ensures in
+    let all = IfOk-at_ok (λ clauses. (c.pair_of.result ≡ Ok clauses.0) × (c.pair_of-2.result ≡ Ok clauses.1)) d.ensures.0 c.pair_of-clauses.ensures in
+    let lists = IfOk-at_ok (λ parts. (s.groups ≡ Ok parts.0) × (s.selected ≡ Ok parts.1)) all.1 c.pair_of-2.ensures in
     names.list_kept c.whole_specification.result d.selected shown (IfOk-at_ok (λ (l : SelectedList). names_of l.columns ≡ shown) lists.1 h) c.whole_specification.ensures.columns

@@ -24,7 +24,7 @@ returns-clause-well_formed c = λ x calls h k.
     let before = c.in_ok-selected.selected in
     let found = c.in_ok-selected.item in
     let after = c.push_column-pushed.new.selected in
-    kept_with P after c.push_column-pushed.result c.kept.result c.kept.ensures.part c.kept.ensures.test
+    kept_with P after c.push_column-pushed.result c.value_if.result c.value_if.ensures.value c.value_if.ensures.check
     (list_next x calls before after found c.args.name c.push_column-pushed.result c.push_column-pushed.ensures.exprs c.push_column-pushed.ensures.columns c.push_column-pushed.ensures.ungrouped
     (IfOk-at_ok P c.in_ok-selected.ensures.0 h) (IfOk-at_ok (Everywhere x (IsTypedAt x calls)) c.in_ok-selected.ensures.1 k))
 
@@ -33,7 +33,7 @@ returns-clause-in_order c = λ a b d h k.
     let before = c.in_ok-selected.selected in
     let found = c.in_ok-selected.item in
     let after = c.push_column-pushed.new.selected in
-    kept_with (AddsList a d) after c.push_column-pushed.result c.kept.result c.kept.ensures.part c.kept.ensures.test
+    kept_with (AddsList a d) after c.push_column-pushed.result c.value_if.result c.value_if.ensures.value c.value_if.ensures.check
     (list_further a b d before after found.part.expr c.push_column-pushed.result c.push_column-pushed.ensures.exprs
     (IfOk-at_ok (AddsList a b) c.in_ok-selected.ensures.0 h) (IfOk-at_ok (Adding typed_functions b d) c.in_ok-selected.ensures.1 k))
 
@@ -42,7 +42,7 @@ returns-clause-reach c = λ h k.
     let before = c.in_ok-selected.selected in
     let found = c.in_ok-selected.item in
     let after = c.push_column-pushed.new.selected in
-    kept_with ListReaching after c.push_column-pushed.result c.kept.result c.kept.ensures.part c.kept.ensures.test
+    kept_with ListReaching after c.push_column-pushed.result c.value_if.result c.value_if.ensures.value c.value_if.ensures.check
     (reaches.list_pushed before after found.part.expr (outward found.findings) c.push_column-pushed.result c.push_column-pushed.ensures.exprs c.push_column-pushed.ensures.reach
     (IfOk-at_ok ListReaching c.in_ok-selected.ensures.0 h) (IfOk-at_ok (Reaching TypedReaches) c.in_ok-selected.ensures.1 k))
 
@@ -51,7 +51,7 @@ returns-clause-sure c = λ h k.
     let before = c.in_ok-selected.selected in
     let found = c.in_ok-selected.item in
     let after = c.push_column-pushed.new.selected in
-    kept_with ListSure after c.push_column-pushed.result c.kept.result c.kept.ensures.part c.kept.ensures.test
+    kept_with ListSure after c.push_column-pushed.result c.value_if.result c.value_if.ensures.value c.value_if.ensures.check
     (list_next_sure before after found.part.expr found.findings.can_fail c.push_column-pushed.result c.push_column-pushed.ensures.exprs c.push_column-pushed.ensures.can_fail
     (IfOk-at_ok ListSure c.in_ok-selected.ensures.0 h) (IfOk-at_ok (Sure typed_sure) c.in_ok-selected.ensures.1 k))
 
@@ -61,7 +61,7 @@ returns-clause-written c = λ calls texts text h k.
     let found = c.in_ok-selected.item in
     let after = c.push_column-pushed.new.selected in
     let P : SelectedList → Type 0 = λ s. ExprsAre calls (and_then texts (λ ps. and_then text (λ p. Ok (ps ++ p ∷ [])))) s.exprs in
-    kept_with P after c.push_column-pushed.result c.kept.result c.kept.ensures.part c.kept.ensures.test
+    kept_with P after c.push_column-pushed.result c.value_if.result c.value_if.ensures.value c.value_if.ensures.check
     (IfOk-weaker c.push_column-pushed.result (λ u. after.exprs ≡ before.exprs ++ found.part.expr ∷ []) (λ u. P after)
     (λ u same. written.exprs_next calls before.exprs found.part.expr after.exprs texts text same (IfOk-at_ok (λ (s : SelectedList). ExprsAre calls texts s.exprs) c.in_ok-selected.ensures.0 h)
     (IfOk-at_ok (Being (TypedIs calls text)) c.in_ok-selected.ensures.1 k)) c.push_column-pushed.ensures.exprs)
@@ -72,7 +72,7 @@ returns-clause-names c = λ shown h.
     let typed = c.in_ok-selected.item.part in
     let after = c.push_column-pushed.new.selected in
     let P : SelectedList → Type 0 = λ s. names_of s.columns ≡ shown ++ c.args.name ∷ [] in
-    kept_with P after c.push_column-pushed.result c.kept.result c.kept.ensures.part c.kept.ensures.test
+    kept_with P after c.push_column-pushed.result c.value_if.result c.value_if.ensures.value c.value_if.ensures.check
     (IfOk-weaker c.push_column-pushed.result (λ u. after.columns ≡ before.columns ++ record { name = c.args.name; kind = typed.kind; bounded = typed.bounded } ∷ []) (λ u. P after)
     (λ u more. names.names_next before.columns (record { name = c.args.name; kind = typed.kind; bounded = typed.bounded }) after.columns shown more (IfOk-at_ok (λ (s : SelectedList). names_of s.columns ≡ shown) c.in_ok-selected.ensures.0 h))
     c.push_column-pushed.ensures.columns)

@@ -5,7 +5,7 @@ use Rattle.sq_bound.specs.declared.condition.ResultColumn.{ResultColumn}
 use Rattle.sq_meaning.specs.Spelled.{listed}
 use Rattle.sq_bind.specs.Written.{IsOutputOf}
 use Rattle.sq_bind.proofs.Zipped.{begun_all, begun_more, zipped_all, zipped_map, zipped_more}
-use Rattle.sq_bind.proofs.output.listed_outputs.Goals as goal
+use Rattle.sq_bind.proofs.output.bind_outputs.Goals as goal
 
 pub loop-target-preserved : goal.loop-target-preserved
 loop-target-preserved c =
@@ -15,8 +15,8 @@ loop-target-preserved c =
       can_next = search rules;
       is_finite = search rules;
       parameters = grind (arith, common_steps);
-      kinds = rw c.in_ok-push-2.ensures.ok (begun_more (λ o column. TakesKind (kinds_of_parameters c.args.parameters.now) o column.kind) c.args.columns.now c.in-Some.first.now others (length c.loop-target.yielded) (length (c.loop-target.yielded ++ (c.in-Some-2.target, c.in-Some-2.column) ∷ [])) c.loop-target.outputs c.in_ok-output_of-2.field-0 c.in-Some-2.column.now c.in-Some.ensures.cases.0 more.1 c.loop-target.invariant.kinds c.in_ok-output_of-2.ensures.kind);
-      written = rw c.in_ok-push-2.ensures.ok (begun_more (IsOutputOf c.args.parameters.now) (listed c.args.targets.now) c.args.targets.now.first c.args.targets.now.rest (length c.loop-target.yielded) (length (c.loop-target.yielded ++ (c.in-Some-2.target, c.in-Some-2.column) ∷ [])) c.loop-target.outputs c.in_ok-output_of-2.field-0 c.in-Some-2.target.now refl more.0 c.loop-target.invariant.written c.in_ok-output_of-2.ensures.written);
+      kinds = rw c.in_ok-push_output-2.ensures (begun_more (λ o column. TakesKind (kinds_of_parameters c.args.parameters.now) o column.kind) c.args.columns.now c.in-Some.first.now others (length c.loop-target.yielded) (length (c.loop-target.yielded ++ (c.in-Some-2.target, c.in-Some-2.column) ∷ [])) c.loop-target.outputs c.in_ok-output_of-2.field-0 c.in-Some-2.column.now c.in-Some.ensures.cases.0 more.1 c.loop-target.invariant.kinds c.in_ok-output_of-2.ensures.kind);
+      written = rw c.in_ok-push_output-2.ensures (begun_more (IsOutputOf c.args.parameters.now) (listed c.args.targets.now) c.args.targets.now.first c.args.targets.now.rest (length c.loop-target.yielded) (length (c.loop-target.yielded ++ (c.in-Some-2.target, c.in-Some-2.column) ∷ [])) c.loop-target.outputs c.in_ok-output_of-2.field-0 c.in-Some-2.target.now refl more.0 c.loop-target.invariant.written c.in_ok-output_of-2.ensures.written);
     }
 
 pub returns-clause-kinds : goal.returns-clause-kinds

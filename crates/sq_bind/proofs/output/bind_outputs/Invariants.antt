@@ -4,7 +4,7 @@ use Rattle.sq_bound.specs.Fits.{are_parameters}
 use Rattle.sq_bound.specs.WellFormed.{TakesKind, kinds_of_parameters}
 use Rattle.sq_meaning.specs.Spelled.{listed}
 use Rattle.sq_bind.specs.Written.{AreOutputsOf}
-use Rattle.sq_bind.proofs.output.listed_outputs.Given as goal
+use Rattle.sq_bind.proofs.output.bind_outputs.Given as goal
 
 abbrev pub invariant-loop-target : goal.invariant-loop-target
 invariant-loop-target l = record {
