@@ -14,7 +14,7 @@ pub record IsBaseOf (name : FullName) (t : TableDefinition) (b : BaseTable) : Ty
   pub primary_key : b.primary_key ≡ primary_among (keys_written t)
   pub checks : HasChecksOf name t b.checks
 
--- so is each of these, of its name and definition
+-- each base table is of the name and the definition at the same place of the lists
 abbrev pub AreBasesOf : List FullName → List TableDefinition → List BaseTable → Type 0
 AreBasesOf [] [] [] = ⊤
 AreBasesOf (name ∷ names) (t ∷ definitions) (b ∷ bases) = IsBaseOf name t b × AreBasesOf names definitions bases

@@ -43,7 +43,7 @@ checks_written t = flat_map checks_in (listed t.elements)
 abbrev pub IsCheckOf : FullName → List Column → Cond → BoundCond → Type 0
 IsCheckOf name columns written cond = CondIs [] (check_placed (record { user = name.user; name = name.name }) columns written) cond
 
--- so is each
+-- each condition is the one that is written at its place
 abbrev pub AreChecksOf : FullName → List Column → List Cond → List BoundCond → Type 0
 AreChecksOf name columns = AllZip (IsCheckOf name columns)
 

@@ -44,7 +44,7 @@ names_written t = map (λ w. w.name) (columns_written t)
 abbrev pub StandAt : List Name → List Name → List ℕ → Type 0
 StandAt columns = AllZip (λ name place. position (is_name name) columns ≡ Some place)
 
--- so do the columns of each key
+-- the columns of each key stand at its positions
 abbrev pub KeysStandAt : List Name → List WrittenKey → List (List ℕ) → Type 0
 KeysStandAt columns = AllZip (λ key places. StandAt columns key.columns places)
 

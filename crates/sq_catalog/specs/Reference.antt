@@ -65,7 +65,7 @@ abbrev pub IsTargetBody : TableBody → ℕ → Keys → Option ℕ → Type 0
 IsTargetBody (body.Base b) place keys primary = (place ≡ b.place) × (keys ≡ b.keys) × (primary ≡ b.primary_key)
 IsTargetBody (body.View v) place keys primary = ⊥
 
--- so is an earlier table, or the one that is being defined behind others, with its own keys
+-- what a reference refers to has this place, these keys and this primary key: an earlier table, or the one that is being defined behind others
 abbrev pub IsTarget : List BaseTable → Keys → Option ℕ → Option (Bor TableDesc) → ℕ → Keys → Option ℕ → Type 0
 IsTarget before own own_primary None place keys primary = (place ≡ length before) × (keys ≡ own) × (primary ≡ own_primary)
 IsTarget before own own_primary (Some t) place keys primary = IsTargetBody t.now.body place keys primary
@@ -95,7 +95,7 @@ pub record IsBound (before : List BaseTable) (keys : Keys) (primary : Option ℕ
   pub columns : r.columns ≡ f.columns
   pub to : IsTo before keys primary f.earlier f.listed r
 
--- it is added
+-- a reference that is bound so is added behind the others
 abbrev pub AddsBound : List BaseTable → Keys → Option ℕ → FoundReference → List Reference → List Reference → Type 0
 AddsBound before keys primary f old new = (r : Reference) × (new ≡ old ++ r ∷ []) × IsBound before keys primary f r
 

@@ -42,11 +42,11 @@ pub record IsStored (bases : List BaseTable) (t : TableDesc) : Type 0 where
   pub body : IsBody bases (length t.columns) t.body
   pub itself : IsUnderItself t.body t.leaf
 
--- all that stand under a name are
+-- each table that stands under a name is over base tables that are stored
 abbrev pub AreStored : List BaseTable → List (FullName × TableDesc) → Type 0
 AreStored bases entries = All (λ e. IsStored bases e.1) entries
 
--- and well formed, where tables and views have columns of these kinds
+-- each is well formed, where tables and views have columns of these kinds
 abbrev pub AreTables : TableKinds → List (FullName × TableDesc) → Type 0
 AreTables columns entries = All (λ e. IsTable columns e.1) entries
 
@@ -68,7 +68,7 @@ AreNamed entries = All (λ e. IsNamed e.0 e.1) entries
 abbrev pub AreDescribed : List BaseTable → List (FullName × TableDesc) → Type 0
 AreDescribed = AllZip (λ b e. base_kinds b ≡ kinds_of_columns e.1.columns)
 
--- they stand at the places from one on
+-- tables stand at the places from this one on
 abbrev pub StandFrom : (ℕ → TablePlace) → ℕ → List (FullName × TableDesc) → Type 0
 StandFrom at place [] = ⊤
 StandFrom at place (e ∷ entries) = (place_of e.1.body ≡ at place) × StandFrom at (suc place) entries
@@ -118,7 +118,7 @@ abbrev pub IsTableOf : BaseTable → TableBody → Type 0
 IsTableOf b (body.Base own) = own ≡ b
 IsTableOf b (body.View v) = ⊥
 
--- and under this name
+-- a table described so stands under this name
 pub record IsDescribed (name : FullName) (b : BaseTable) (described : List Column) (t : TableDesc) : Type 0 where
   pub named : IsNamed name t
   pub columns : t.columns ≡ described

@@ -68,11 +68,17 @@ impl Model for Catalog {
 
     ghost Value = { Catalog };
 
-    ghost coded = { Prim.hlevel (codes, base.the_row.coded, column.the_row.coded, condition.the_row.coded, predicate.the_row.coded, specification.the_row.coded, expression.the_row.coded, seen.the_row.coded, AreViewQueries-prop) };
+    ghost coded = { Prim.hlevel
+        (codes, base.the_row.coded, column.the_row.coded, condition.the_row.coded, predicate.the_row.coded, specification.the_row.coded, expression.the_row.coded, seen.the_row.coded, AreViewQueries-prop) };
 
     ghost view = { λ c. record { tables = keys_of c.bases.entries; columns = columns_of c.bases.entries; bases = c.base_tables.items; view_names = keys_of c.views.entries; seen_views = seen_of c.views.entries; views = queries_of c.views.entries; described = all_described c.bases.entries; counted = c.counted; refer = c.refer; stand = c.stand } };
 
-    ghost invariant = { λ c. AreStored c.base_tables.items c.bases.entries × AreStored c.base_tables.items c.views.entries × AreTables (kinds_at c.base_tables.items (queries_of c.views.entries)) c.bases.entries × AreTables (kinds_at c.base_tables.items (queries_of c.views.entries)) c.views.entries × AreDescribed c.base_tables.items c.bases.entries × StandFrom Base 0 c.bases.entries × StandFrom View 0 c.views.entries × AreNamed c.bases.entries × AreNamed c.views.entries };
+    ghost invariant = { λ c. AreStored c.base_tables.items c.bases.entries
+        × AreStored c.base_tables.items c.views.entries
+        × AreTables (kinds_at c.base_tables.items (queries_of c.views.entries)) c.bases.entries
+        × AreTables (kinds_at c.base_tables.items (queries_of c.views.entries)) c.views.entries
+        × AreDescribed c.base_tables.items c.bases.entries × StandFrom Base 0 c.bases.entries
+        × StandFrom View 0 c.views.entries × AreNamed c.bases.entries × AreNamed c.views.entries };
 }
 
 impl Catalog {
@@ -113,7 +119,8 @@ impl Catalog {
     }
 
     fn add_texts(&mut self, texts: &[SchemaText]) -> Result<(), CatalogFault>
-        ensures tables { OnOk result (Gains self.old self.new (declared_tables texts.now) (declared_definitions texts.now)) }
+        ensures tables { OnOk result
+            (Gains self.old self.new (declared_tables texts.now) (declared_definitions texts.now)) }
         ensures views { OnOk result (GainsViews self.old self.new (declared_views texts.now)) }
         ensures refused { IfErr result (IsOfSomeText (length texts.now)) }
     {
@@ -124,7 +131,8 @@ impl Catalog {
     }
 
     fn add_text(&mut self, text: usize, tree: &SchemaText) -> Result<(), CatalogFault>
-        ensures tables { OnOk result (Gains self.old self.new (text_tables tree.now) (text_definitions tree.now)) }
+        ensures tables { OnOk result
+            (Gains self.old self.new (text_tables tree.now) (text_definitions tree.now)) }
         ensures views { OnOk result (GainsViews self.old self.new (text_views tree.now)) }
         ensures refused { IfErr result (IsOfText text) }
     {
@@ -141,7 +149,8 @@ impl Catalog {
         schema: usize,
         definition: &SchemaDefinition,
     ) -> Result<(), CatalogFault>
-        ensures tables { OnOk result (Gains self.old self.new (schema_tables definition.now) (schema_definitions definition.now)) }
+        ensures tables { OnOk result
+            (Gains self.old self.new (schema_tables definition.now) (schema_definitions definition.now)) }
         ensures views { OnOk result (GainsViews self.old self.new (schema_views definition.now)) }
         ensures refused { IfErr result (IsOfText text) }
     {
@@ -158,7 +167,8 @@ impl Catalog {
     }
 
     fn add_element(&mut self, user: Name, element: &SchemaElement) -> Result<(), ElementFault>
-        ensures tables { OnOk result (Gains self.old self.new (table_in user element.now) (definition_in element.now)) }
+        ensures tables { OnOk result
+            (Gains self.old self.new (table_in user element.now) (definition_in element.now)) }
         ensures views { OnOk result (GainsViews self.old self.new (view_in user element.now)) }
     {
         match element {
@@ -225,7 +235,8 @@ impl Catalog {
         requires next { IsNextView self.old name table }
         ensures tables { Gains self.old self.new [] [] }
         ensures kept { (self.new.tables ≡ self.old.tables) × (self.new.columns ≡ self.old.columns) }
-        ensures views { OnOk result (AddsViews self.old self.new (name ∷ []) (seen table ∷ []) (query_in table.body)) }
+        ensures views { OnOk result
+            (AddsViews self.old self.new (name ∷ []) (seen table ∷ []) (query_in table.body)) }
     {
         insert_table(&mut self.views, name, table)
     }
@@ -244,7 +255,8 @@ impl Catalog {
         ensures view { IfSome result (λ entry. IsViewAmong self.now.views entry.1.now.body) }
         ensures well_formed { IfSome result (λ entry. IsTable (column_kinds self.now) entry.1.now) }
         ensures named { IfSome result (λ entry. IsNamed full_name.now entry.1.now) }
-        ensures known { option_map (λ entry. known_by entry.1.now) result ≡ known self.now full_name.now.user full_name.now.name }
+        ensures known { option_map (λ entry. known_by entry.1.now) result
+            ≡ known self.now full_name.now.user full_name.now.name }
         ensures number { IfSome result (λ entry. IsNumbered self.now.tables self.now.columns full_name.now
             entry.1.now.columns entry.1.now.body) }
     {
@@ -310,7 +322,8 @@ fn insert_with_keys(
     ensures names { OnOk result (keys_of tables.new.entries ≡ keys_of tables.old.entries ++ name ∷ []) }
     ensures added { OnOk result (tables.new.entries ≡ tables.old.entries ++ (name, table) ∷ []) }
     ensures bases { OnOk result (bases.new.items ≡ bases.old.items ++ base ∷ []) }
-    ensures unchanged { OnErr result ((tables.new.entries ≡ tables.old.entries) × (bases.new.items ≡ bases.old.items)) }
+    ensures unchanged { OnErr result
+        ((tables.new.entries ≡ tables.old.entries) × (bases.new.items ≡ bases.old.items)) }
     ensures keyed { keys_given keys.new.items ≡ keys_of_bases bases.new.items }
 {
     match columns_of_keys(alloc, base.get()) {
@@ -345,7 +358,8 @@ fn insert_with(
     ensures added { OnOk result (tables.new.entries ≡ tables.old.entries ++ (name, table) ∷ []) }
     ensures bases { OnOk result (bases.new.items ≡ bases.old.items ++ base ∷ []) }
     ensures keys { OnOk result (keys.new.items ≡ keys.old.items ++ columns ∷ []) }
-    ensures unchanged { OnErr result ((tables.new.entries ≡ tables.old.entries) × (bases.new.items ≡ bases.old.items)) }
+    ensures unchanged { OnErr result
+        ((tables.new.entries ≡ tables.old.entries) × (bases.new.items ≡ bases.old.items)) }
     ensures unkeyed { OnErr result (keys.new.items ≡ keys.old.items) }
 {
     if keys.push(columns).is_err() {
@@ -372,7 +386,8 @@ fn insert_base(
     ensures names { OnOk result (keys_of tables.new.entries ≡ keys_of tables.old.entries ++ name ∷ []) }
     ensures added { OnOk result (tables.new.entries ≡ tables.old.entries ++ (name, table) ∷ []) }
     ensures bases { OnOk result (bases.new.items ≡ bases.old.items ++ base ∷ []) }
-    ensures unchanged { OnErr result ((tables.new.entries ≡ tables.old.entries) × (bases.new.items ≡ bases.old.items)) }
+    ensures unchanged { OnErr result
+        ((tables.new.entries ≡ tables.old.entries) × (bases.new.items ≡ bases.old.items)) }
 {
     if bases.push(base).is_err() {
         drop(table);
@@ -410,8 +425,10 @@ fn insert_table(
 
 /// The table or view at a place among those of its kind.
 fn value_at(tables: &IndexMap<FullName, TableDesc>, place: usize) -> Option<&TableDesc>
-    ensures stored { IfSome result (λ table. (bases : List Base) → AreStored bases tables.now.entries → IsStored bases table.now) }
-    ensures well_formed { IfSome result (λ table. (columns : TableKinds) → AreTables columns tables.now.entries → IsTable columns table.now) }
+    ensures stored { IfSome result
+        (λ table. (bases : List Base) → AreStored bases tables.now.entries → IsStored bases table.now) }
+    ensures well_formed { IfSome result
+        (λ table. (columns : TableKinds) → AreTables columns tables.now.entries → IsTable columns table.now) }
     ensures there { IfSome result (λ table. StandsAt tables.now.entries place table.now) }
     ensures found { place < length tables.now.entries → IsSome result }
 {

@@ -31,9 +31,11 @@ pub(crate) fn keys_of(
     named: &NamedColumns,
     written: &[WrittenKey],
 ) -> Result<Keys, ElementFault>
-    ensures within { IfOk result (λ keys. list_all (are_positions (column_count named.now)) keys.columns ≡ true) }
+    ensures within { IfOk result
+        (λ keys. list_all (are_positions (column_count named.now)) keys.columns ≡ true) }
     ensures named { IfOk result (λ keys. KeysStandAt (names_at named.now) written.now keys.columns) }
-    ensures primary { IfOk result (λ keys. keys.has_two_primary ≡ false → keys.primary ≡ primary_among written.now) }
+    ensures primary { IfOk result
+        (λ keys. keys.has_two_primary ≡ false → keys.primary ≡ primary_among written.now) }
 {
     let mut keys = Keys {
         columns: Items::new(alloc),
@@ -58,9 +60,11 @@ impl Keys {
     ) -> Result<(), ElementFault>
         requires none { self.old.columns ≡ [] }
         requires no_primary { self.old.primary ≡ None }
-        ensures within { OnOk result (list_all (are_positions (column_count named.now)) self.new.columns ≡ true) }
+        ensures within { OnOk result
+            (list_all (are_positions (column_count named.now)) self.new.columns ≡ true) }
         ensures named { OnOk result (KeysStandAt (names_at named.now) written.now self.new.columns) }
-        ensures primary { OnOk result (self.new.has_two_primary ≡ false → self.new.primary ≡ primary_among written.now) }
+        ensures primary { OnOk result
+            (self.new.has_two_primary ≡ false → self.new.primary ≡ primary_among written.now) }
     {
         for key in written {
             let columns = named.positions(alloc, key.columns.as_slice())?;
@@ -72,8 +76,11 @@ impl Keys {
     /// Adds a key behind the others.
     fn add(&mut self, is_primary: bool, columns: Items<usize>) -> Result<(), ElementFault>
         ensures columns { OnOk result (self.new.columns ≡ self.old.columns ++ columns ∷ []) }
-        ensures primary { OnOk result (self.new.primary ≡ (if is_primary then Some (length self.old.columns) else self.old.primary)) }
-        ensures two { OnOk result (self.new.has_two_primary ≡ (self.old.has_two_primary || (is_primary && is_some self.old.primary))) }
+        ensures primary { OnOk result
+            (self.new.primary ≡ (if is_primary then Some (length self.old.columns) else self.old.primary)) }
+        ensures two { OnOk result
+            (self.new.has_two_primary
+            ≡ (self.old.has_two_primary || (is_primary && is_some self.old.primary))) }
     {
         let place = self.columns.len();
         self.columns.push(columns)?;

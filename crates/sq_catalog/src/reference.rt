@@ -15,10 +15,11 @@ use crate::fault::{ElementFault, RefusalName, refused_if};
 use crate::grants::columns_of;
 use crate::key::{Keys, is_bad_list};
 use crate::written::{NamedColumns, WrittenReference, names_of, pushed};
-use sq_bound::{Action, BaseTable, Column, Names, Reference, Shared, TableBody, TableDesc};
+use sq_bound::{
+    Action, BaseTable, Column, Names, Reference, Shared, TableBody, TableDesc, pair_of,
+};
 use sq_items::Items;
 use sq_lex::Name;
-use sq_scope::both;
 use sq_tree::References;
 use std::alloc::Global;
 
@@ -48,8 +49,10 @@ pub(crate) fn references_of<'t>(
     own: &OwnTable<'_>,
     written: &[WrittenReference<'_>],
 ) -> Result<Vec<FoundReference<'t>>, ElementFault>
-    ensures found { IfOk result (λ found. All (IsFound catalog.now.bases (column_count own.now.columns.now)) found.items) }
-    ensures named { IfOk result (λ found. AllZip (IsFoundAs catalog.now own.now.user own.now.full_name (names_at own.now.columns.now))
+    ensures found { IfOk result
+        (λ found. All (IsFound catalog.now.bases (column_count own.now.columns.now)) found.items) }
+    ensures named { IfOk result
+        (λ found. AllZip (IsFoundAs catalog.now own.now.user own.now.full_name (names_at own.now.columns.now))
         (constraints_lent written.now) found.items) }
 {
     let mut references = Vec::new(catalog.alloc());
@@ -69,8 +72,10 @@ fn add_found<'t>(
     references: &mut Vec<FoundReference<'t>>,
 ) -> Result<(), ElementFault>
     requires none { references.old.items ≡ [] }
-    ensures found { OnOk result (All (IsFound catalog.now.bases (column_count own.now.columns.now)) references.new.items) }
-    ensures named { OnOk result (AllZip (λ w. IsFoundAs catalog.now own.now.user own.now.full_name (names_at own.now.columns.now)
+    ensures found { OnOk result
+        (All (IsFound catalog.now.bases (column_count own.now.columns.now)) references.new.items) }
+    ensures named { OnOk result
+        (AllZip (λ w. IsFoundAs catalog.now own.now.user own.now.full_name (names_at own.now.columns.now)
         (constraint_lent w)) written.now references.new.items) }
 {
     for reference in written {
@@ -86,7 +91,8 @@ fn found_reference<'t>(
     reference: &WrittenReference<'_>,
 ) -> Result<FoundReference<'t>, ElementFault>
     ensures found { IfOk result (IsFound catalog.now.bases (column_count own.now.columns.now)) }
-    ensures named { IfOk result (IsFoundAs catalog.now own.now.user own.now.full_name (names_at own.now.columns.now)
+    ensures named { IfOk result
+        (IsFoundAs catalog.now own.now.user own.now.full_name (names_at own.now.columns.now)
         (constraint_lent reference.now)) }
 {
     let earlier = earlier_table(catalog, own, full_name(own.user, reference.to.table))?;
@@ -94,7 +100,7 @@ fn found_reference<'t>(
         .columns
         .positions(catalog.alloc(), reference.columns.as_slice());
     let listed = listed_columns(catalog.alloc(), own, earlier, reference.to);
-    let (columns, listed) = both(columns, listed)?;
+    let (columns, listed) = pair_of(columns, listed)?;
     Ok(FoundReference {
         columns,
         earlier,
@@ -127,9 +133,11 @@ fn listed_columns(
     earlier: Option<&TableDesc>,
     to: &References,
 ) -> Result<Option<Items<usize>>, ElementFault>
-    ensures within { IfOk result (λ listed. option_all (are_positions (target_width (column_count own.now.columns.now) earlier.entry))
+    ensures within { IfOk result
+        (λ listed. option_all (are_positions (target_width (column_count own.now.columns.now) earlier.entry))
         listed ≡ true) }
-    ensures named { IfOk result (AreListed (names_in (names_at own.now.columns.now) earlier.entry) to.now.columns) }
+    ensures named { IfOk result
+        (AreListed (names_in (names_at own.now.columns.now) earlier.entry) to.now.columns) }
 {
     match &to.columns {
         Some(list) => {
@@ -147,7 +155,8 @@ fn positions_in(
     earlier: Option<&TableDesc>,
     names: &[Name],
 ) -> Result<Items<usize>, ElementFault>
-    ensures within { IfOk result (λ positions. are_positions (target_width (column_count own.now.columns.now) earlier.entry)
+    ensures within { IfOk result
+        (λ positions. are_positions (target_width (column_count own.now.columns.now) earlier.entry)
         positions ≡ true) }
     ensures named { IfOk result (StandAt (names_in (names_at own.now.columns.now) earlier.entry) names.now) }
 {
@@ -201,8 +210,10 @@ fn target_of<'a>(
     requires { IfSome earlier (λ table. IsStored own.before.now table.now) }
     ensures keys { IfOk result (λ target. keys_at (keys_with own.entry.before.now own.entry.keys.now.columns)
         target.place ≡ target.keys.now) }
-    ensures columns { IfOk result (λ target. length target.columns.now ≡ target_width (length own.entry.columns.now) earlier.entry) }
-    ensures found { IfOk result (λ target. IsTarget own.entry.before.now own.entry.keys.now.columns own.entry.keys.now.primary earlier.entry
+    ensures columns { IfOk result
+        (λ target. length target.columns.now ≡ target_width (length own.entry.columns.now) earlier.entry) }
+    ensures found { IfOk result
+        (λ target. IsTarget own.entry.before.now own.entry.keys.now.columns own.entry.keys.now.primary earlier.entry
         target.place target.keys.now target.primary) }
 {
     match earlier {
@@ -221,7 +232,8 @@ fn base_target<'a>(own: OwnKeys<'a>, table: &'a TableDesc) -> Result<Target<'a>,
     ensures keys { IfOk result (λ target. keys_at (keys_with own.entry.before.now own.entry.keys.now.columns)
         target.place ≡ target.keys.now) }
     ensures columns { IfOk result (λ target. length target.columns.now ≡ length table.now.columns) }
-    ensures found { IfOk result (λ target. IsTargetBody table.now.body target.place target.keys.now target.primary) }
+    ensures found { IfOk result
+        (λ target. IsTargetBody table.now.body target.place target.keys.now target.primary) }
 {
     match &table.body {
         TableBody::Base(base) => {
@@ -253,9 +265,11 @@ pub(crate) fn bound_references<'a>(
     found: &'a [FoundReference<'a>],
 ) -> Result<BoundReferences, ElementFault>
     requires { All (IsFound own.before.now (length own.columns.now)) found.now }
-    ensures refer { IfOk result (λ bound. list_all (is_to (keys_with own.entry.before.now own.entry.keys.now.columns)
+    ensures refer { IfOk result
+        (λ bound. list_all (is_to (keys_with own.entry.before.now own.entry.keys.now.columns)
         (length own.entry.columns.now)) bound.references ≡ true) }
-    ensures found { IfOk result (λ bound. AllZip (IsBound own.entry.before.now own.entry.keys.now.columns own.entry.keys.now.primary)
+    ensures found { IfOk result
+        (λ bound. AllZip (IsBound own.entry.before.now own.entry.keys.now.columns own.entry.keys.now.primary)
         found.now bound.references) }
 {
     let mut bound = BoundReferences {
@@ -280,12 +294,15 @@ impl BoundReferences {
         found: &'a [FoundReference<'a>],
     ) -> Result<(), ElementFault>
         requires found { All (IsFound own.before.now (length own.columns.now)) found.now }
-        requires bound { list_all (is_to (keys_with own.before.now own.keys.now.columns) (length own.columns.now))
+        requires bound { list_all
+            (is_to (keys_with own.before.now own.keys.now.columns) (length own.columns.now))
             self.old.references ≡ true }
         requires none { self.old.references ≡ [] }
-        ensures refer { OnOk result (list_all (is_to (keys_with own.entry.before.now own.entry.keys.now.columns)
+        ensures refer { OnOk result
+            (list_all (is_to (keys_with own.entry.before.now own.entry.keys.now.columns)
             (length own.entry.columns.now)) self.new.references ≡ true) }
-        ensures found { OnOk result (AllZip (IsBound own.entry.before.now own.entry.keys.now.columns own.entry.keys.now.primary)
+        ensures found { OnOk result
+            (AllZip (IsBound own.entry.before.now own.entry.keys.now.columns own.entry.keys.now.primary)
             found.now self.new.references) }
     {
         for reference in found {
@@ -302,11 +319,14 @@ impl BoundReferences {
         reference: &'a FoundReference<'a>,
     ) -> Result<(), ElementFault>
         requires found { IsFound own.before.now (length own.columns.now) reference.now }
-        requires bound { list_all (is_to (keys_with own.before.now own.keys.now.columns) (length own.columns.now))
+        requires bound { list_all
+            (is_to (keys_with own.before.now own.keys.now.columns) (length own.columns.now))
             self.old.references ≡ true }
-        ensures refer { OnOk result (list_all (is_to (keys_with own.entry.before.now own.entry.keys.now.columns)
+        ensures refer { OnOk result
+            (list_all (is_to (keys_with own.entry.before.now own.entry.keys.now.columns)
             (length own.entry.columns.now)) self.new.references ≡ true) }
-        ensures found { OnOk result (AddsBound own.entry.before.now own.entry.keys.now.columns own.entry.keys.now.primary
+        ensures found { OnOk result
+            (AddsBound own.entry.before.now own.entry.keys.now.columns own.entry.keys.now.primary
             reference.now self.old.references self.new.references) }
     {
         let target = target_of(own, reference.earlier)?;
@@ -354,7 +374,8 @@ fn bound_reference<'a>(
     requires listed { are_positions (length target.columns.now) key.listed.now ≡ true }
     requires same { are_listed key.listed.now key.columns.now ≡ true }
     requires key { IsKeyReferenced target.keys.now target.primary reference.now.listed key }
-    ensures place { IfOk result (λ bound. (bound.table ≡ target.entry.place) × (bound.key ≡ key.entry.place)) }
+    ensures place { IfOk result
+        (λ bound. (bound.table ≡ target.entry.place) × (bound.key ≡ key.entry.place)) }
     ensures by_key { IfOk result (λ bound. are_positions (length own.entry.columns.now) bound.by_key ≡ true) }
     ensures paired { IfOk result (λ bound. length bound.by_key ≡ length key.entry.columns.now) }
     ensures columns { IfOk result (λ bound. bound.columns ≡ reference.now.columns) }
@@ -389,7 +410,8 @@ fn referenced_key<'a>(
 ) -> Result<ReferencedKey<'a>, ElementFault>
     requires { option_all (are_positions (length target.columns.now)) listed.now ≡ true }
     ensures place { IfOk result (λ key. key.place < length target.entry.keys.now) }
-    ensures listed { IfOk result (λ key. are_positions (length target.entry.columns.now) key.listed.now ≡ true) }
+    ensures listed { IfOk result
+        (λ key. are_positions (length target.entry.columns.now) key.listed.now ≡ true) }
     ensures same { IfOk result (λ key. are_listed key.listed.now key.columns.now ≡ true) }
     ensures key { IfOk result (IsKeyReferenced target.entry.keys.now target.entry.primary listed.now) }
 {
@@ -426,7 +448,8 @@ fn listed_key<'a>(
 #[tactic(auto, using(crate::proofs::Listed::all_among))]
 fn primary_key(target: Target<'_>) -> Result<ReferencedKey<'_>, ElementFault>
     ensures place { IfOk result (λ key. key.place < length target.entry.keys.now) }
-    ensures listed { IfOk result (λ key. are_positions (length target.entry.columns.now) key.listed.now ≡ true) }
+    ensures listed { IfOk result
+        (λ key. are_positions (length target.entry.columns.now) key.listed.now ≡ true) }
     ensures same { IfOk result (λ key. are_listed key.listed.now key.columns.now ≡ true) }
     ensures key { IfOk result (IsKeyReferenced target.entry.keys.now target.entry.primary None) }
 {
@@ -491,8 +514,11 @@ fn in_key_order(
     requires pairs { length listed.now ≡ length columns.now }
     requires same { are_listed listed.now key.now ≡ true }
     ensures paired { IfOk result (λ ordered. length ordered ≡ length key.now) }
-    ensures positions { IfOk result (λ ordered. (width : ℕ) → are_positions width columns.now ≡ true → are_positions width ordered ≡ true) }
-    ensures by_key { IfOk result (λ ordered. map (paired_with listed.now columns.now) key.now ≡ map (λ own. Some own) ordered) }
+    ensures positions { IfOk result
+        (λ ordered. (width : ℕ) → are_positions width columns.now ≡ true → are_positions width ordered
+        ≡ true) }
+    ensures by_key { IfOk result
+        (λ ordered. map (paired_with listed.now columns.now) key.now ≡ map (λ own. Some own) ordered) }
 {
     let mut ordered = Items::new(alloc);
     for key_column in key {
@@ -511,9 +537,11 @@ fn push_paired(
     requires pairs { length listed.now ≡ length columns.now }
     requires listed { list_any (λ other. nat_eq other key_column) listed.now ≡ true }
     ensures paired { OnOk result (length ordered.new ≡ length ordered.old + 1) }
-    ensures positions { OnOk result ((width : ℕ) → are_positions width columns.now ≡ true → are_positions width
+    ensures positions { OnOk result
+        ((width : ℕ) → are_positions width columns.now ≡ true → are_positions width
         ordered.old ≡ true → are_positions width ordered.new ≡ true) }
-    ensures pair { OnOk result (IsPairAdded (paired_with listed.now columns.now key_column) ordered.old ordered.new) }
+    ensures pair { OnOk result
+        (IsPairAdded (paired_with listed.now columns.now key_column) ordered.old ordered.new) }
 {
     for (pair, other) in listed.iter().enumerate() {
         if *other == key_column {

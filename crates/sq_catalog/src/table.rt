@@ -1,8 +1,8 @@
 //! CREATE TABLE (ISO/IEC 9075:1992, 11.3 to 11.9).
 
-ghost use Rattle.std.specs.Prelude.{◌≡◌, ◌∷◌, ◌++◌, [], is_err, map, nat_lt, false, true, length, vec_len, IfOk, IsTrue, OnOk};
+ghost use Rattle.std.specs.Prelude.{◌≡◌, ◌≤◌, ◌∷◌, ◌++◌, [], is_err, map, nat_lt, false, true, length, vec_len, IfOk, IsTrue, OnOk};
 ghost use Rattle.std.specs.List.{All, AllZip, list_all};
-ghost use Rattle.sq_value.specs.Domain.{IsDomain, FitsKind, kind_of};
+ghost use Rattle.sq_value.specs.Domain.{IsDomain, FitsKind, domain_length, kind_of};
 ghost use Rattle.sq_bound.specs.Default.{DefaultIsIn};
 ghost use Rattle.sq_bound.specs.declared.condition.BoundCond.{BoundCond as Condition};
 ghost use Rattle.sq_bound.specs.declared.names.ColumnDefault.TheVariants.{User as user};
@@ -34,11 +34,11 @@ use crate::written::{
 use sq_bind::bind_check;
 use sq_bound::{
     BaseColumn, BaseTable, BoundCond, Column, ColumnDefault, Leaf, Names, Shared, TableBody,
-    TableDesc,
+    TableDesc, pair_of,
 };
 use sq_items::Items;
 use sq_lex::Name;
-use sq_scope::{both, signed_value, text_value};
+use sq_literal::{signed_value, text_value};
 use sq_tree::{ColumnDefinition, Cond, DefaultValue, TableDefinition};
 use sq_value::{Domain, StoreFault, Value, store};
 use std::alloc::{AllocError, Global};
@@ -67,7 +67,8 @@ impl Catalog {
         user: Name,
         definition: &TableDefinition,
     ) -> Result<(), ElementFault>
-        ensures tables { OnOk result (Gains self.old self.new (named_by user definition.now.name ∷ []) (definition.now ∷ [])) }
+        ensures tables { OnOk result
+            (Gains self.old self.new (named_by user definition.now.name ∷ []) (definition.now ∷ [])) }
         ensures views { OnOk result (GainsViews self.old self.new []) }
     {
         let name = full_name(user, definition.name);
@@ -103,13 +104,19 @@ impl Catalog {
         name: &FullName,
         definition: &'t TableDefinition,
     ) -> Result<Draft<'t>, ElementFault>
-        ensures found { IfOk result (λ draft. All (IsFound self.now.bases (vec_len draft.written.columns)) draft.references.items) }
-        ensures columns { IfOk result (λ draft. typed_definitions draft.columns.items ≡ columns_written definition.now) }
-        ensures keys { IfOk result (λ draft. KeysStandAt (names_written definition.now) (keys_written definition.now) draft.keys.columns) }
+        ensures found { IfOk result
+            (λ draft. All (IsFound self.now.bases (vec_len draft.written.columns)) draft.references.items) }
+        ensures columns { IfOk result
+            (λ draft. typed_definitions draft.columns.items ≡ columns_written definition.now) }
+        ensures keys { IfOk result
+            (λ draft. KeysStandAt (names_written definition.now)
+            (keys_written definition.now) draft.keys.columns) }
         ensures primary { IfOk result (λ draft. draft.keys.has_two_primary ≡ false
             → draft.keys.primary ≡ primary_among (keys_written definition.now)) }
-        ensures checks { IfOk result (λ draft. conditions_lent draft.written.checks.items ≡ checks_written definition.now) }
-        ensures references { IfOk result (λ draft. AllZip (IsFoundAs self.now user name.now (names_written definition.now))
+        ensures checks { IfOk result
+            (λ draft. conditions_lent draft.written.checks.items ≡ checks_written definition.now) }
+        ensures references { IfOk result
+            (λ draft. AllZip (IsFoundAs self.now user name.now (names_written definition.now))
             (references_written definition.now) draft.references.items) }
     {
         let written = parts_of(self.alloc(), definition)?;
@@ -120,7 +127,7 @@ impl Catalog {
         };
         drop(named);
         let columns = typed_columns(self.alloc(), written.columns.as_slice());
-        let (written, (found, columns)) = both(Ok(written), both(found, columns))?;
+        let (written, (found, columns)) = pair_of(Ok(written), pair_of(found, columns))?;
         let (keys, references) = found;
         Ok(Draft {
             written,
@@ -138,11 +145,17 @@ impl Catalog {
         columns: &NamedColumns,
         written: &Written<'_>,
     ) -> Result<(Keys, Vec<FoundReference<'t>>), ElementFault>
-        ensures keys { IfOk result (λ found. list_all (are_positions (column_count columns.now)) found.0.columns ≡ true) }
-        ensures named { IfOk result (λ found. KeysStandAt (names_at columns.now) written.now.keys.items found.0.columns) }
-        ensures primary { IfOk result (λ found. found.0.has_two_primary ≡ false → found.0.primary ≡ primary_among written.now.keys.items) }
-        ensures references { IfOk result (λ found. All (IsFound self.now.bases (column_count columns.now)) found.1.items) }
-        ensures constraints { IfOk result (λ found. AllZip (IsFoundAs self.now user full_name.now (names_at columns.now))
+        ensures keys { IfOk result
+            (λ found. list_all (are_positions (column_count columns.now)) found.0.columns ≡ true) }
+        ensures named { IfOk result
+            (λ found. KeysStandAt (names_at columns.now) written.now.keys.items found.0.columns) }
+        ensures primary { IfOk result
+            (λ found. found.0.has_two_primary ≡ false → found.0.primary
+            ≡ primary_among written.now.keys.items) }
+        ensures references { IfOk result
+            (λ found. All (IsFound self.now.bases (column_count columns.now)) found.1.items) }
+        ensures constraints { IfOk result
+            (λ found. AllZip (IsFoundAs self.now user full_name.now (names_at columns.now))
             (constraints_lent written.now.references.items) found.1.items) }
     {
         let own = OwnTable {
@@ -152,7 +165,7 @@ impl Catalog {
         };
         let keys = keys_of(self.alloc(), columns, written.keys.as_slice());
         let references = references_of(self, &own, written.references.as_slice());
-        both(keys, references)
+        pair_of(keys, references)
     }
 
     /// The table of a draft.
@@ -162,17 +175,22 @@ impl Catalog {
         name: &FullName,
         draft: &Draft<'_>,
     ) -> Result<(TableDesc, Shared<BaseTable>), ElementFault>
-        requires { All (IsFound self.now.bases (vec_len draft.now.written.columns)) draft.now.references.items }
+        requires { All (IsFound self.now.bases
+            (vec_len draft.now.written.columns)) draft.now.references.items }
         ensures own { OnOk result (name.now.user ≡ user) }
         ensures next { IfOk result (λ new. IsNext self.now.bases name.now new.0 new.1) }
-        ensures columns { IfOk result (λ new. AreColumnsOf (typed_definitions draft.now.columns.items) new.0.columns) }
-        ensures base_columns { IfOk result (λ new. AreBaseColumnsOf (typed_definitions draft.now.columns.items) new.1.columns) }
+        ensures columns { IfOk result
+            (λ new. AreColumnsOf (typed_definitions draft.now.columns.items) new.0.columns) }
+        ensures base_columns { IfOk result
+            (λ new. AreBaseColumnsOf (typed_definitions draft.now.columns.items) new.1.columns) }
         ensures keys { IfOk result (λ new. new.1.keys ≡ draft.now.keys.columns) }
         ensures primary { IfOk result (λ new. new.1.primary_key ≡ draft.now.keys.primary) }
         ensures one_primary { OnOk result (draft.now.keys.has_two_primary ≡ false) }
-        ensures checks { IfOk result (λ new. AreChecksOf name.now new.0.columns (conditions_lent draft.now.written.checks.items)
+        ensures checks { IfOk result
+            (λ new. AreChecksOf name.now new.0.columns (conditions_lent draft.now.written.checks.items)
             new.1.checks) }
-        ensures references { IfOk result (λ new. AllZip (IsBound self.now.bases draft.now.keys.columns draft.now.keys.primary)
+        ensures references { IfOk result
+            (λ new. AllZip (IsBound self.now.bases draft.now.keys.columns draft.now.keys.primary)
             draft.now.references.items new.1.references) }
     {
         let columns = columns_of(self.alloc(), draft.columns.as_slice())?;
@@ -195,20 +213,26 @@ impl Catalog {
     ) -> Result<BaseTable, ElementFault>
         requires width { length columns.now ≡ vec_len draft.now.written.columns }
         requires kinds { kinds_of_columns columns.now ≡ typed_kinds draft.now.columns.items }
-        requires found { All (IsFound self.now.bases (vec_len draft.now.written.columns)) draft.now.references.items }
+        requires found { All
+            (IsFound self.now.bases (vec_len draft.now.written.columns)) draft.now.references.items }
         ensures own { OnOk result (name.now.user ≡ user) }
-        ensures columns { IfOk result (λ base. AreBaseColumnsOf (typed_definitions draft.now.columns.items) base.columns) }
+        ensures columns { IfOk result
+            (λ base. AreBaseColumnsOf (typed_definitions draft.now.columns.items) base.columns) }
         ensures kinds { IfOk result (λ base. base_kinds base ≡ kinds_of_columns columns.now) }
         ensures place { IfOk result (λ base. base.place ≡ length self.now.bases) }
         ensures keys { IfOk result (λ base. base.keys ≡ draft.now.keys.columns) }
         ensures primary { IfOk result (λ base. base.primary_key ≡ draft.now.keys.primary) }
         ensures one_primary { OnOk result (draft.now.keys.has_two_primary ≡ false) }
-        ensures references { IfOk result (λ base. AllZip (IsBound self.now.bases draft.now.keys.columns draft.now.keys.primary)
+        ensures references { IfOk result
+            (λ base. AllZip (IsBound self.now.bases draft.now.keys.columns draft.now.keys.primary)
             draft.now.references.items base.references) }
-        ensures checks { IfOk result (λ base. AreChecksAt (length self.now.bases) (kinds_of_columns columns.now) base.checks) }
-        ensures checks_are { IfOk result (λ base. AreChecksOf name.now columns.now (conditions_lent draft.now.written.checks.items)
+        ensures checks { IfOk result
+            (λ base. AreChecksAt (length self.now.bases) (kinds_of_columns columns.now) base.checks) }
+        ensures checks_are { IfOk result
+            (λ base. AreChecksOf name.now columns.now (conditions_lent draft.now.written.checks.items)
             base.checks) }
-        ensures refer { IfOk result (λ base. list_all (is_to (keys_with self.now.bases base.keys) (length columns.now))
+        ensures refer { IfOk result
+            (λ base. list_all (is_to (keys_with self.now.bases base.keys) (length columns.now))
             base.references ≡ true) }
     {
         draft.check_keys()?;
@@ -232,19 +256,26 @@ impl Catalog {
     ) -> Result<(BaseTable, bool), ElementFault>
         requires width { length columns.now ≡ vec_len draft.now.written.columns }
         requires kinds { kinds_of_columns columns.now ≡ typed_kinds draft.now.columns.items }
-        requires known_keys { list_all (are_not_null (written_not_null draft.now.columns.items)) draft.now.keys.columns ≡ true }
-        requires found { All (IsFound self.now.bases (vec_len draft.now.written.columns)) draft.now.references.items }
-        ensures columns { IfOk result (λ made. AreBaseColumnsOf (typed_definitions draft.now.columns.items) made.0.columns) }
+        requires known_keys { list_all
+            (are_not_null (written_not_null draft.now.columns.items)) draft.now.keys.columns ≡ true }
+        requires found { All
+            (IsFound self.now.bases (vec_len draft.now.written.columns)) draft.now.references.items }
+        ensures columns { IfOk result
+            (λ made. AreBaseColumnsOf (typed_definitions draft.now.columns.items) made.0.columns) }
         ensures kinds { IfOk result (λ made. base_kinds made.0 ≡ kinds_of_columns columns.now) }
         ensures place { IfOk result (λ made. made.0.place ≡ length self.now.bases) }
         ensures keys { IfOk result (λ made. made.0.keys ≡ draft.now.keys.columns) }
         ensures primary { IfOk result (λ made. made.0.primary_key ≡ draft.now.keys.primary) }
-        ensures references { IfOk result (λ made. AllZip (IsBound self.now.bases draft.now.keys.columns draft.now.keys.primary)
+        ensures references { IfOk result
+            (λ made. AllZip (IsBound self.now.bases draft.now.keys.columns draft.now.keys.primary)
             draft.now.references.items made.0.references) }
-        ensures checks { IfOk result (λ made. AreChecksAt (length self.now.bases) (kinds_of_columns columns.now) made.0.checks) }
-        ensures checks_are { IfOk result (λ made. AreChecksOf name.now columns.now (conditions_lent draft.now.written.checks.items)
+        ensures checks { IfOk result
+            (λ made. AreChecksAt (length self.now.bases) (kinds_of_columns columns.now) made.0.checks) }
+        ensures checks_are { IfOk result
+            (λ made. AreChecksOf name.now columns.now (conditions_lent draft.now.written.checks.items)
             made.0.checks) }
-        ensures refer { IfOk result (λ made. list_all (is_to (keys_with self.now.bases made.0.keys) (length columns.now))
+        ensures refer { IfOk result
+            (λ made. list_all (is_to (keys_with self.now.bases made.0.keys) (length columns.now))
             made.0.references ≡ true) }
     {
         let own = OwnKeys {
@@ -254,7 +285,7 @@ impl Catalog {
         };
         let bound = bound_references(self, user, own, draft.references.as_slice());
         let parts = base_parts(self.alloc(), name, own.before.len(), columns, draft);
-        let (bound, parts) = both(bound, parts)?;
+        let (bound, parts) = pair_of(bound, parts)?;
         Ok(assembled(own.before.len(), draft.keys.primary, bound, parts))
     }
 
@@ -292,19 +323,23 @@ fn base_parts(
     draft: &Draft<'_>,
 ) -> Result<BaseParts, ElementFault>
     ensures count { IfOk result (λ parts. length parts.columns ≡ vec_len draft.now.written.columns) }
-    ensures columns { IfOk result (λ parts. AreBaseColumnsOf (typed_definitions draft.now.columns.items) parts.columns) }
-    ensures kinds { IfOk result (λ parts. map (λ c. kind_of c.domain) parts.columns ≡ typed_kinds draft.now.columns.items) }
-    ensures not_null { IfOk result (λ parts. map (λ c. c.not_null) parts.columns ≡ written_not_null draft.now.columns.items) }
+    ensures columns { IfOk result
+        (λ parts. AreBaseColumnsOf (typed_definitions draft.now.columns.items) parts.columns) }
+    ensures kinds { IfOk result
+        (λ parts. map (λ c. kind_of c.domain) parts.columns ≡ typed_kinds draft.now.columns.items) }
+    ensures not_null { IfOk result
+        (λ parts. map (λ c. c.not_null) parts.columns ≡ written_not_null draft.now.columns.items) }
     ensures keys { IfOk result (λ parts. parts.keys ≡ draft.now.keys.columns) }
     ensures checks { IfOk result (λ parts. AreChecksAt place (kinds_of_columns columns.now) parts.checks) }
-    ensures checks_are { IfOk result (λ parts. AreChecksOf name.now columns.now (conditions_lent draft.now.written.checks.items)
+    ensures checks_are { IfOk result
+        (λ parts. AreChecksOf name.now columns.now (conditions_lent draft.now.written.checks.items)
         parts.checks) }
 {
     let checks = bound_checks(alloc, name, place, columns, draft.written.checks.as_slice());
     let held = base_columns(alloc, draft.columns.as_slice());
-    let (checks, columns) = both(checks, held)?;
+    let (checks, columns) = pair_of(checks, held)?;
     let keys = copied_keys(alloc, draft.keys.columns.as_slice());
-    let ((checks, columns), keys) = both(Ok((checks, columns)), keys)?;
+    let ((checks, columns), keys) = pair_of(Ok((checks, columns)), keys)?;
     Ok(BaseParts {
         columns,
         keys,
@@ -322,7 +357,8 @@ fn assembled(
     requires keys { list_all (are_positions (length parts.columns)) parts.keys ≡ true }
     requires known_keys { list_all (are_not_null (map (λ c. c.not_null) parts.columns)) parts.keys ≡ true }
     requires primary { option_all (λ key. nat_lt key (length parts.keys)) primary_key ≡ true }
-    requires references { list_all (λ r. are_positions (length parts.columns) r.by_key) bound.references ≡ true }
+    requires references { list_all (λ r. are_positions (length parts.columns) r.by_key) bound.references
+        ≡ true }
     ensures place { result.0.place ≡ place }
     ensures columns { result.0.columns ≡ parts.columns }
     ensures keys { result.0.keys ≡ parts.keys }
@@ -353,7 +389,8 @@ fn assembled(
 impl Draft<'_> {
     /// The keys are in order (that each of their columns is NOT NULL is an own rule), and the lists of the references.
     fn check_keys(&self) -> Result<(), ElementFault>
-        ensures known { OnOk result (list_all (are_not_null (written_not_null self.now.columns.items)) self.now.keys.columns ≡ true) }
+        ensures known { OnOk result
+            (list_all (are_not_null (written_not_null self.now.columns.items)) self.now.keys.columns ≡ true) }
         ensures one_primary { OnOk result (self.now.keys.has_two_primary ≡ false) }
     {
         let are_known = have_not_null(self.columns.as_slice(), self.keys.columns.as_slice());
@@ -420,8 +457,10 @@ fn base_columns(alloc: Global, typed: &[TypedColumn<'_>]) -> Result<Items<BaseCo
 
 fn base_column(alloc: Global, typed: &TypedColumn<'_>) -> Result<BaseColumn, ElementFault>
     ensures domain { IfOk result (λ column. column.domain ≡ typed.now.domain) }
-    ensures not_null { IfOk result (λ column. column.not_null ≡ is_written_not_null typed.now.definition.now) }
-    ensures default { IfOk result (λ column. IsDefaultOf typed.now.domain typed.now.definition.now.default column.default) }
+    ensures not_null { IfOk result
+        (λ column. column.not_null ≡ is_written_not_null typed.now.definition.now) }
+    ensures default { IfOk result
+        (λ column. IsDefaultOf typed.now.domain typed.now.definition.now.default column.default) }
 {
     Ok(BaseColumn {
         domain: typed.domain,
@@ -460,7 +499,7 @@ fn default_of(
 
 fn user_default(domain: Domain) -> Result<ColumnDefault, ElementFault>
     ensures in_domain { IfOk result (DefaultIsIn domain) }
-    ensures written { IfOk result (λ default. default ≡ user) }
+    ensures written { IfOk result (λ default. (default ≡ user) × (18 ≤ domain_length domain)) }
 {
     match domain {
         Domain::Char(length) | Domain::VarChar(length) if length >= USER_LENGTH => {
@@ -564,9 +603,9 @@ fn described(
     ensures base { IfOk result (λ new. new.1 ≡ base) }
     ensures table { IfOk result (λ new. IsDescribed name.now base columns new.0) }
 {
-    let (columns, base) = both(Ok(columns), Shared::new(alloc, base))?;
+    let (columns, base) = pair_of(Ok(columns), Shared::new(alloc, base))?;
     let table = table_over(alloc, name, columns, &base);
-    let (base, table) = both(Ok(base), table)?;
+    let (base, table) = pair_of(Ok(base), table)?;
     Ok((table, base))
 }
 
@@ -621,7 +660,7 @@ fn owners(
     ensures conditions { IfOk result (λ owners. owners.1.conditions ≡ []) }
     ensures demanded { IfOk result (λ owners. owners.1.demanded ≡ 0) }
 {
-    both(base.share(), base_leaf(alloc, base))
+    pair_of(base.share(), base_leaf(alloc, base))
 }
 
 /// What is under a base table: itself.

@@ -27,11 +27,10 @@ use indexmap::IndexSet;
 use sq_bind::{BoundView, bind_view};
 use sq_bound::{
     Action, BindFault, BoundCond, BoundExpr, BoundSpecification, Column, Leaf, Names, ResultColumn,
-    Shared, TableBody, TableDesc, TablePlace, Target, UpdatableQuery, View,
+    Shared, TableBody, TableDesc, TablePlace, Target, UpdatableQuery, View, pair_of, value_if,
 };
 use sq_items::Items;
 use sq_lex::Name;
-use sq_scope::{both, kept};
 use sq_tree::ViewDefinition;
 use std::alloc::{AllocError, Global};
 
@@ -57,14 +56,15 @@ impl Catalog {
         definition: &ViewDefinition,
     ) -> Result<(), ElementFault>
         ensures tables { OnOk result (Gains self.old self.new [] []) }
-        ensures views { OnOk result (GainsViews self.old self.new (record { user = user; view = definition.now } ∷ [])) }
+        ensures views { OnOk result
+            (GainsViews self.old self.new (record { user = user; view = definition.now } ∷ [])) }
     {
         let name = full_name(user, definition.name);
         self.check_new_name(user, &name)?;
         let NewView { table, grants } = self.defined_view(user, &name, definition)?;
         let place = TablePlace::View(self.next_view());
         let added = self.add_view(name, table);
-        let grants = kept(grants, added)?;
+        let grants = value_if(grants, added)?;
         self.held.add_owned(name.user, place, grants.as_slice())
     }
 
@@ -77,7 +77,8 @@ impl Catalog {
     ) -> Result<NewView, ElementFault>
         ensures own { OnOk result (name.now.user ≡ user) }
         ensures next { IfOk result (λ view. IsNextView self.now name.now view.table) }
-        ensures written { IfOk result (λ view. IsViewOf (known self.now) (record { user = user; view = definition.now }) view.table) }
+        ensures written { IfOk result
+            (λ view. IsViewOf (known self.now) (record { user = user; view = definition.now }) view.table) }
     {
         let listed = listed_names(self.alloc(), definition)?;
         let bound = bind_view(self.alloc(), self, user, &definition.query);
@@ -95,14 +96,17 @@ impl Catalog {
     ) -> Result<NewView, ElementFault>
         requires listed { listed ≡ option_map meaning.listed definition.now.columns }
         requires bound { IfOk bound (λ view. IsBoundOver self.now view.query view.updatable) }
-        requires query { IfOk bound (λ view. HasQueryOf (known self.now) (record { user = user; view = definition.now }) view.query) }
+        requires query { IfOk bound
+            (λ view. HasQueryOf (known self.now) (record { user = user; view = definition.now }) view.query) }
         requires names { IfOk bound (λ view. NamesAre
             (names_placed (known self.now) (meaning.select_of user definition.now.query)) view.query) }
-        requires over { IfOk bound (λ view. IfSome view.updatable (λ over. IsUpdatableOf (around_view (known self.now))
+        requires over { IfOk bound
+            (λ view. IfSome view.updatable (λ over. IsUpdatableOf (around_view (known self.now))
             (meaning.select_of user definition.now.query) over.1)) }
         ensures own { OnOk result (name.now.user ≡ user) }
         ensures next { IfOk result (λ view. IsNextView self.now name.now view.table) }
-        ensures written { IfOk result (λ view. IsViewOf (known self.now) (record { user = user; view = definition.now }) view.table) }
+        ensures written { IfOk result
+            (λ view. IsViewOf (known self.now) (record { user = user; view = definition.now }) view.table) }
     {
         let bound = match bound {
             Ok(bound) => bound,
@@ -112,11 +116,11 @@ impl Catalog {
             }
         };
         let names = column_names(self.alloc(), listed, bound.query.columns.as_slice());
-        let (bound, names) = both(Ok(bound), names)?;
+        let (bound, names) = pair_of(Ok(bound), names)?;
         let grants = self.checked_grants(user, name, definition, &bound);
-        let ((bound, names), grants) = both(Ok((bound, names)), grants)?;
+        let ((bound, names), grants) = pair_of(Ok((bound, names)), grants)?;
         let table = self.described_view(name, definition.check_option, names, bound);
-        let (grants, table) = both(Ok(grants), table)?;
+        let (grants, table) = pair_of(Ok(grants), table)?;
         Ok(NewView { table, grants })
     }
 
@@ -253,7 +257,7 @@ impl Catalog {
         ensures leaf { IfOk result (λ view. view.leaf ≡ None) }
     {
         let columns = view_columns(self.alloc(), names, query.columns.as_slice());
-        let (query, columns) = both(Ok(query), columns)?;
+        let (query, columns) = pair_of(Ok(query), columns)?;
         Ok(TableDesc {
             user: name.user,
             name: name.name,
@@ -305,12 +309,14 @@ impl Catalog {
     ) -> Result<TableDesc, ElementFault>
         requires query { IsSelect (column_kinds self.now) [] [] query }
         requires base { IfOk parts (λ parts. IsBase self.now.bases parts.1.table) }
-        requires columns { IfOk parts (λ parts. AreColumnsOver (base_kinds parts.1.table) (kinds_of_select query) parts.0) }
+        requires columns { IfOk parts
+            (λ parts. AreColumnsOver (base_kinds parts.1.table) (kinds_of_select query) parts.0) }
         requires leaf { IfOk parts (λ parts. IsLeaf (column_kinds self.now) parts.1) }
         ensures next { IfOk result (IsNextView self.now name.now) }
         ensures made { (names : List AnyName) → IfOk parts (λ parts. map (λ c. c.name) parts.0 ≡ names)
             → IfOk result (IsViewWith names query) }
-        ensures over { (check_option : Bool) (over : AnyUpdatable) → IfOk parts (λ parts. IsAbove check_option over parts.0 parts.1)
+        ensures over { (check_option : Bool) (over : AnyUpdatable)
+            → IfOk parts (λ parts. IsAbove check_option over parts.0 parts.1)
             → IfOk result (λ view. IfSome view.leaf (IsAbove check_option over view.columns)) }
     {
         match parts {
@@ -368,11 +374,14 @@ fn view_parts(
     columns: &[Column],
     over: UpdatableQuery,
 ) -> Result<(Items<Column>, Shared<Leaf>), ElementFault>
-    requires { AllZip (λ p k. slice_get (base_kinds over.target.leaf.table) p ≡ Some k) over.columns (kinds_of_columns columns.now) }
+    requires { AllZip (λ p k. slice_get (base_kinds over.target.leaf.table) p ≡ Some k) over.columns
+        (kinds_of_columns columns.now) }
     ensures base { IfOk result (λ parts. parts.1.table ≡ over.target.leaf.table) }
-    ensures columns { IfOk result (λ parts. AreColumnsOver (base_kinds over.target.leaf.table) (kinds_of_columns columns.now) parts.0) }
+    ensures columns { IfOk result
+        (λ parts. AreColumnsOver (base_kinds over.target.leaf.table) (kinds_of_columns columns.now) parts.0) }
     ensures names { IfOk result (λ parts. map (λ c. c.name) parts.0 ≡ map (λ c. c.name) columns.now) }
-    ensures leaf { IfOk result (λ parts. (known : TableKinds) → IsTarget known [] over.target → IsLeaf known parts.1) }
+    ensures leaf { IfOk result
+        (λ parts. (known : TableKinds) → IsTarget known [] over.target → IsLeaf known parts.1) }
     ensures over { IfOk result (λ parts. IsAbove check_option over parts.0 parts.1) }
 {
     let UpdatableQuery {
@@ -381,7 +390,7 @@ fn view_parts(
     } = over;
     let columns = placed_columns(alloc, columns, below.as_slice());
     drop(below);
-    both(columns, view_leaf(alloc, check_option, target))
+    pair_of(columns, view_leaf(alloc, check_option, target))
 }
 
 impl Held {
@@ -410,8 +419,10 @@ fn view_leaf(
 ) -> Result<Shared<Leaf>, ElementFault>
     ensures base { IfOk result (λ leaf. leaf.table ≡ target.leaf.table) }
     ensures leaf { IfOk result (λ leaf. (known : TableKinds) → IsTarget known [] target → IsLeaf known leaf) }
-    ensures conditions { IfOk result (λ leaf. leaf.conditions ≡ conditions_with target.leaf.conditions target.condition) }
-    ensures demanded { IfOk result (λ leaf. leaf.demanded ≡ (if check_option then length leaf.conditions else target.leaf.demanded)) }
+    ensures conditions { IfOk result
+        (λ leaf. leaf.conditions ≡ conditions_with target.leaf.conditions target.condition) }
+    ensures demanded { IfOk result
+        (λ leaf. leaf.demanded ≡ (if check_option then length leaf.conditions else target.leaf.demanded)) }
 {
     let Target {
         leaf,
@@ -435,11 +446,13 @@ fn leaf_above(
 ) -> Result<Leaf, ElementFault>
     requires { is_quiet ≡ (are_sure below.now.conditions && option_all is_sure condition) }
     ensures base { IfOk result (λ leaf. leaf.table ≡ below.now.table) }
-    ensures conditions { IfOk result (λ leaf. leaf.conditions ≡ conditions_with below.now.conditions condition) }
-    ensures demanded { IfOk result (λ leaf. leaf.demanded ≡ (if check_option then length leaf.conditions else below.now.demanded)) }
+    ensures conditions { IfOk result
+        (λ leaf. leaf.conditions ≡ conditions_with below.now.conditions condition) }
+    ensures demanded { IfOk result
+        (λ leaf. leaf.demanded ≡ (if check_option then length leaf.conditions else below.now.demanded)) }
 {
     let conditions = conditions_above(alloc, below.conditions.as_slice(), condition);
-    let (conditions, table) = both(conditions, below.table.share())?;
+    let (conditions, table) = pair_of(conditions, below.table.share())?;
     Ok(Leaf {
         table,
         demanded: if check_option {
@@ -464,7 +477,7 @@ fn conditions_above(
     let Some(condition) = condition else {
         return shared_conditions(alloc, below);
     };
-    let (mut conditions, condition) = both(
+    let (mut conditions, condition) = pair_of(
         shared_conditions(alloc, below),
         Shared::new(alloc, condition),
     )?;
@@ -586,7 +599,8 @@ fn placed_columns(
     below: &[usize],
 ) -> Result<Items<Column>, ElementFault>
     requires { length below.now ≡ length columns.now }
-    ensures columns { IfOk result (λ placed. (base : List Kind) → AllZip (λ p k. slice_get base p ≡ Some k) below.now
+    ensures columns { IfOk result
+        (λ placed. (base : List Kind) → AllZip (λ p k. slice_get base p ≡ Some k) below.now
         (kinds_of_columns columns.now) → AreColumnsOver base (kinds_of_columns columns.now) placed) }
     ensures names { IfOk result (λ placed. map (λ c. c.name) placed ≡ map (λ c. c.name) columns.now) }
     ensures places { IfOk result (λ placed. map (λ c. c.leaf_column) placed ≡ below.now) }

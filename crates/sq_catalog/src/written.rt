@@ -16,7 +16,7 @@ use crate::fault::{ElementFault, RefusalName, refused_if};
 use indexmap::IndexSet;
 use sq_items::Items;
 use sq_lex::Name;
-use sq_scope::domain_of;
+use sq_literal::domain_of;
 use sq_tree::{
     ColumnConstraint, ColumnDefinition, CommaList, Cond, ForeignKey, References, TableDefinition,
     TableElement,
@@ -81,10 +81,13 @@ pub(crate) fn parts_of<'t>(
     alloc: Global,
     definition: &'t TableDefinition,
 ) -> Result<Written<'t>, ElementFault>
-    ensures columns { IfOk result (λ written. definitions_lent written.columns.items ≡ columns_written definition.now) }
+    ensures columns { IfOk result
+        (λ written. definitions_lent written.columns.items ≡ columns_written definition.now) }
     ensures keys { IfOk result (λ written. written.keys.items ≡ keys_written definition.now) }
-    ensures checks { IfOk result (λ written. conditions_lent written.checks.items ≡ checks_written definition.now) }
-    ensures references { IfOk result (λ written. constraints_lent written.references.items ≡ references_written definition.now) }
+    ensures checks { IfOk result
+        (λ written. conditions_lent written.checks.items ≡ checks_written definition.now) }
+    ensures references { IfOk result
+        (λ written. constraints_lent written.references.items ≡ references_written definition.now) }
 {
     let mut written = Written {
         columns: Vec::new(alloc),
@@ -101,10 +104,12 @@ pub(crate) fn parts_of<'t>(
 
 impl<'t> Written<'t> {
     fn add(&mut self, alloc: Global, element: &'t TableElement) -> Result<(), ElementFault>
-        ensures columns { OnOk result (definitions_lent self.new.columns.items ≡ definitions_lent self.old.columns.items
+        ensures columns { OnOk result
+            (definitions_lent self.new.columns.items ≡ definitions_lent self.old.columns.items
             ++ column_in element.now) }
         ensures keys { OnOk result (self.new.keys.items ≡ self.old.keys.items ++ keys_in element.now) }
-        ensures checks { OnOk result (conditions_lent self.new.checks.items ≡ conditions_lent self.old.checks.items
+        ensures checks { OnOk result
+            (conditions_lent self.new.checks.items ≡ conditions_lent self.old.checks.items
             ++ checks_in element.now) }
         ensures references { OnOk result (constraints_lent self.new.references.items
             ≡ constraints_lent self.old.references.items ++ references_in element.now) }
@@ -128,14 +133,17 @@ impl<'t> Written<'t> {
         alloc: Global,
         column: &'t ColumnDefinition,
     ) -> Result<(), ElementFault>
-        ensures columns { OnOk result (definitions_lent self.new.columns.items ≡ definitions_lent self.old.columns.items
+        ensures columns { OnOk result
+            (definitions_lent self.new.columns.items ≡ definitions_lent self.old.columns.items
             ++ column.now ∷ []) }
         ensures keys { OnOk result (self.new.keys.items ≡ self.old.keys.items
             ++ flat_map (key_of_column column.now.name) column.now.constraints) }
-        ensures checks { OnOk result (conditions_lent self.new.checks.items ≡ conditions_lent self.old.checks.items
+        ensures checks { OnOk result
+            (conditions_lent self.new.checks.items ≡ conditions_lent self.old.checks.items
             ++ flat_map check_of_column column.now.constraints) }
         ensures references { OnOk result (constraints_lent self.new.references.items
-            ≡ constraints_lent self.old.references.items ++ flat_map (reference_on column.now.name) column.now.constraints) }
+            ≡ constraints_lent self.old.references.items
+            ++ flat_map (reference_on column.now.name) column.now.constraints) }
     {
         pushed(self.columns.push(column).is_ok())?;
         for constraint in column.constraints.as_slice() {
@@ -151,8 +159,10 @@ impl<'t> Written<'t> {
         constraint: &'t ColumnConstraint,
     ) -> Result<(), ElementFault>
         ensures columns { self.new.columns ≡ self.old.columns }
-        ensures keys { OnOk result (self.new.keys.items ≡ self.old.keys.items ++ key_of_column name constraint.now) }
-        ensures checks { OnOk result (conditions_lent self.new.checks.items ≡ conditions_lent self.old.checks.items
+        ensures keys { OnOk result
+            (self.new.keys.items ≡ self.old.keys.items ++ key_of_column name constraint.now) }
+        ensures checks { OnOk result
+            (conditions_lent self.new.checks.items ≡ conditions_lent self.old.checks.items
             ++ check_of_column constraint.now) }
         ensures references { OnOk result (constraints_lent self.new.references.items
             ≡ constraints_lent self.old.references.items ++ reference_on name constraint.now) }
@@ -212,7 +222,8 @@ impl<'t> Written<'t> {
     fn add_check(&mut self, cond: &'t Cond) -> Result<(), ElementFault>
         ensures columns { self.new.columns ≡ self.old.columns }
         ensures keys { self.new.keys ≡ self.old.keys }
-        ensures checks { OnOk result (conditions_lent self.new.checks.items ≡ conditions_lent self.old.checks.items ++ cond.now ∷ []) }
+        ensures checks { OnOk result
+            (conditions_lent self.new.checks.items ≡ conditions_lent self.old.checks.items ++ cond.now ∷ []) }
         ensures references { self.new.references ≡ self.old.references }
     {
         pushed(self.checks.push(cond).is_ok())
@@ -260,7 +271,8 @@ pub(crate) fn named_columns(
 impl NamedColumns {
     fn add_all(&mut self, columns: &[&ColumnDefinition]) -> Result<(), ElementFault>
         ensures count { OnOk result (column_count self.new ≡ column_count self.old + length columns.now) }
-        ensures names { OnOk result (names_at self.new ≡ names_at self.old ++ map (λ w. w.name) (definitions_lent columns.now)) }
+        ensures names { OnOk result
+            (names_at self.new ≡ names_at self.old ++ map (λ w. w.name) (definitions_lent columns.now)) }
     {
         for column in columns {
             self.add(column)?;
@@ -312,7 +324,8 @@ pub(crate) fn typed_columns<'t>(
     definitions: &[&'t ColumnDefinition],
 ) -> Result<Vec<TypedColumn<'t>>, ElementFault>
     ensures count { IfOk result (λ typed. vec_len typed ≡ length definitions.now) }
-    ensures definitions { IfOk result (λ typed. map (λ t. t.definition.now) typed.items ≡ definitions_lent definitions.now) }
+    ensures definitions { IfOk result
+        (λ typed. map (λ t. t.definition.now) typed.items ≡ definitions_lent definitions.now) }
 {
     let mut typed = Vec::new(alloc);
     for definition in definitions {

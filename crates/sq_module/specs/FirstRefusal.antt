@@ -26,12 +26,12 @@ fault_of name.BadParameter = fault.BadParameter
 abbrev pub refusal_of : ModuleRefusal → Refusal
 refusal_of r = record { text = r.text; item = r.item; fault = fault_of r.name }
 
--- it is for the refusal that was found; running out of memory is for none
+-- a fault is the refusal that was found; running out of memory is none
 abbrev pub IsFaultFor : Option Refusal → SessionFault → Type 0
 IsFaultFor found NoMemory = ⊤
 IsFaultFor found (Refused r) = found ≡ Some (refusal_of r)
 
--- it is for this fault of the item at a place in a text, since something is so
+-- a fault is this one, of the item at a place in a text, for a reason that holds
 abbrev pub IsFaultAt : ℕ → ℕ → ModuleFault → Type 0 → SessionFault → Type 0
 IsFaultAt text place why So NoMemory = ⊤
 IsFaultAt text place why So (Refused r) = (refusal_of r ≡ record { text = text; item = Some place; fault = why }) × So

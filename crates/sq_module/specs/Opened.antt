@@ -47,6 +47,6 @@ OpenedBy «module» procedures cursors = AllByRecursion (λ c. is_in «module» 
 abbrev pub IsNew : Name → List DeclaredCursor → Name → Type 0
 IsNew «module» cursors name = list_any (is_cursor «module» name) cursors ≡ false
 
--- nor is the one that a procedure opens, if the module has one of that name
+-- the cursor that a procedure opens is not there, if the module has one of that name
 abbrev pub OpensNew : AdmittedModule → List DeclaredCursor → AdmittedProcedure → Type 0
 OpensNew a cursors p = IfSome (opened_of p) (λ name. IfSome (lookup (same_name name) a.cursors.entries) (λ c. IsNew a.name cursors name))

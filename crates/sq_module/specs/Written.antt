@@ -64,7 +64,7 @@ pub record IsOfText (m : ModuleText) (a : AdmittedModule) : Type 0 where
   pub cursors : AllByRecursion (IsCursorIn m.items) a.cursors.entries
   pub procedures : AllByRecursion (IsProcedureOf m.items) a.procedures.items
 
--- so is each of the modules
+-- each of the modules is of one of the texts
 abbrev pub AreOfTexts : List ModuleText → List AdmittedModule → Type 0
 AreOfTexts texts admitted = AllByRecursion (λ a. (m : ModuleText) × IsAmong texts m × IsOfText m a) admitted
 
@@ -127,11 +127,11 @@ pub record IsFromTexts (names : KnownTables) (texts : List ModuleText) (cursors 
 abbrev pub AreFromTexts : KnownTables → List ModuleText → List DeclaredCursor → List (ProcedureName × BoundProcedure) → Type 0
 AreFromTexts names texts cursors procedures = AllByRecursion (IsFromTexts names texts cursors) procedures
 
--- so is each procedure of a program
+-- each procedure of a program is of one of the texts
 abbrev pub AreFrom : KnownTables → List ModuleText → Program → Type 0
 AreFrom names texts p = AreFromTexts names texts p.cursors.items p.procedures.entries
 
--- and no two of its cursors have the same module and name
+-- a program is of the texts: each procedure is of one of them, and no two cursors have the same module and name
 pub record IsOfTexts (names : KnownTables) (texts : List ModuleText) (p : Program) : Type 0 where
   pub procedures : AreFrom names texts p
   pub cursors : AreApart [] p.cursors.items

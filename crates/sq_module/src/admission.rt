@@ -51,7 +51,8 @@ pub fn admit<'a>(
     modules: &'a [ModuleText],
 ) -> Result<Vec<AdmittedModule<'a>>, SessionFault>
     ensures names { IfOk result (λ _. HaveNames [] modules.now) }
-    ensures declared { IfOk result (λ admitted. admitted_procedures admitted.items ≡ declared_procedures modules.now) }
+    ensures declared { IfOk result
+        (λ admitted. admitted_procedures admitted.items ≡ declared_procedures modules.now) }
     ensures written { IfOk result (λ admitted. AreOfTexts modules.now admitted.items) }
     ensures admitted { IfOk result (λ admitted. AreAdmitted [] admitted.items) }
     ensures admissible { IfOk result (λ _. AreAdmissible modules.now) }
@@ -73,7 +74,8 @@ fn admit_all<'a>(
 ) -> Result<Vec<AdmittedModule<'a>>, SessionFault>
     requires { names.old.keys ≡ [] }
     ensures names { IfOk result (λ _. HaveNames [] modules.now) }
-    ensures declared { IfOk result (λ admitted. admitted_procedures admitted.items ≡ declared_procedures modules.now) }
+    ensures declared { IfOk result
+        (λ admitted. admitted_procedures admitted.items ≡ declared_procedures modules.now) }
     ensures written { IfOk result (λ admitted. AreOfTexts modules.now admitted.items) }
     ensures admitted { IfOk result (λ admitted. AreAdmitted [] admitted.items) }
     ensures admissible { IfOk result (λ _. AreAdmissible modules.now) }
@@ -103,9 +105,11 @@ fn admit_next<'a>(
     ensures new { OnOk result (list_any (same_name «module».now.name) names.old.keys ≡ false) }
     ensures last { OnOk result (names.new.keys ≡ names.old.keys ++ «module».now.name ∷ []) }
     ensures names { OnOk result (AreNew [] (names_in «module».now.items)) }
-    ensures declared { OnOk result (admitted_procedures admitted.new.items ≡ admitted_procedures admitted.old.items ++ module_procedures
+    ensures declared { OnOk result
+        (admitted_procedures admitted.new.items ≡ admitted_procedures admitted.old.items ++ module_procedures
         «module».now) }
-    ensures written { OnOk result ((one : Admitted) × (admitted.new.items ≡ admitted.old.items ++ one ∷ []) × IsOfText «module».now
+    ensures written { OnOk result
+        ((one : Admitted) × (admitted.new.items ≡ admitted.old.items ++ one ∷ []) × IsOfText «module».now
         one × OpensEachOnce one) }
     ensures admissible { OnOk result (IsAdmissible «module».now.items) }
     ensures refused { IfErr result (IsOfModule text) }
@@ -222,9 +226,12 @@ fn second_procedure(alloc: Global, items: &[ModuleItem]) -> Result<Option<usize>
 
 /// Adds the name of an item that is a procedure and returns whether it was new.
 fn is_new_procedure(names: &mut IndexSet<Name>, item: &ModuleItem) -> Result<bool, AllocError>
-    ensures new { IfOk result (λ is. is ≡ true → AllByRecursion (λ n. list_any (same_name n) names.old.keys ≡ false) (name_in item.now)) }
+    ensures new { IfOk result
+        (λ is. is ≡ true
+        → AllByRecursion (λ n. list_any (same_name n) names.old.keys ≡ false) (name_in item.now)) }
     ensures last { IfOk result (λ is. is ≡ true → names.new.keys ≡ names.old.keys ++ name_in item.now) }
-    ensures repeated { IfOk result (λ is. not is ≡ is_some_and (is_among names.old.keys) (procedure_name item.now)) }
+    ensures repeated { IfOk result
+        (λ is. not is ≡ is_some_and (is_among names.old.keys) (procedure_name item.now)) }
 {
     match item {
         ModuleItem::Procedure(procedure) => is_new(names, procedure.name),
@@ -241,7 +248,8 @@ fn cursors_of<'a>(
     ensures refused { IfErr result (IsOfModule text) }
     ensures written { IfOk result (λ cursors. AllByRecursion (IsCursorIn items.now) cursors.entries) }
     ensures taken { IfOk result (λ _. first_repeated (map cursor_name items.now) ≡ None) }
-    ensures first { IfErr result (IsFaultFor (at_item text fault.TwoCursors (first_repeated (map cursor_name items.now)))) }
+    ensures first { IfErr result
+        (IsFaultFor (at_item text fault.TwoCursors (first_repeated (map cursor_name items.now)))) }
 {
     let mut cursors = IndexMap::new(alloc);
     for (place, item) in items.iter().enumerate() {
@@ -261,10 +269,13 @@ fn add_item<'a>(
     item: &'a ModuleItem,
 ) -> Result<(), SessionFault>
     ensures refused { IfErr result (IsOfModule text) }
-    ensures written { (items : List AnyItem) → IsAmong items item.now → AllByRecursion (IsCursorIn items) cursors.old.entries
+    ensures written { (items : List AnyItem) → IsAmong items item.now
+        → AllByRecursion (IsCursorIn items) cursors.old.entries
         → OnOk result (AllByRecursion (IsCursorIn items) cursors.new.entries) }
-    ensures keys { OnOk result (keys_of cursors.new.entries ≡ keys_of cursors.old.entries ++ option_to_list (cursor_name item.now)) }
-    ensures new { OnOk result (is_some_and (is_among (keys_of cursors.old.entries)) (cursor_name item.now) ≡ false) }
+    ensures keys { OnOk result
+        (keys_of cursors.new.entries ≡ keys_of cursors.old.entries ++ option_to_list (cursor_name item.now)) }
+    ensures new { OnOk result
+        (is_some_and (is_among (keys_of cursors.old.entries)) (cursor_name item.now) ≡ false) }
     ensures repeated { IfErr result (IsFaultAt text place fault.TwoCursors
         (is_some_and (is_among (keys_of cursors.old.entries)) (cursor_name item.now) ≡ true)) }
 {
@@ -281,9 +292,11 @@ fn add_cursor<'a>(
     cursor: &'a Cursor,
 ) -> Result<(), SessionFault>
     ensures refused { IfErr result (IsOfModule text) }
-    ensures written { (items : List AnyItem) → IsAmong items (CursorItem cursor.now) → AllByRecursion (IsCursorIn items) cursors.old.entries
+    ensures written { (items : List AnyItem) → IsAmong items (CursorItem cursor.now)
+        → AllByRecursion (IsCursorIn items) cursors.old.entries
         → OnOk result (AllByRecursion (IsCursorIn items) cursors.new.entries) }
-    ensures keys { OnOk result (keys_of cursors.new.entries ≡ keys_of cursors.old.entries ++ cursor.now.name ∷ []) }
+    ensures keys { OnOk result
+        (keys_of cursors.new.entries ≡ keys_of cursors.old.entries ++ cursor.now.name ∷ []) }
     ensures new { OnOk result (is_among (keys_of cursors.old.entries) cursor.now.name ≡ false) }
     ensures repeated { IfErr result (IsFaultAt text place fault.TwoCursors
         (is_among (keys_of cursors.old.entries) cursor.now.name ≡ true)) }
@@ -342,7 +355,8 @@ fn procedures_of<'a>(
     ensures openings { IfOk result (λ admitted. openings admitted.items ≡ flat_map opening_in items.now) }
     ensures refused { IfErr result (IsOfModule text) }
     ensures taken { IfOk result (λ _. position has_bad_parameter items.now ≡ None) }
-    ensures first { IfErr result (IsFaultFor (at_item text fault.BadParameter (position has_bad_parameter items.now))) }
+    ensures first { IfErr result
+        (IsFaultFor (at_item text fault.BadParameter (position has_bad_parameter items.now))) }
 {
     let mut procedures = Vec::new(alloc);
     for (place, item) in items.iter().enumerate() {
@@ -362,9 +376,12 @@ fn add_procedure<'a>(
     place: usize,
     item: &'a ModuleItem,
 ) -> Result<(), SessionFault>
-    ensures names { OnOk result (procedure_names procedures.new.items ≡ procedure_names procedures.old.items ++ name_in item.now) }
-    ensures openings { OnOk result (openings procedures.new.items ≡ openings procedures.old.items ++ opening_in item.now) }
-    ensures written { (items : List AnyItem) → IsAmong items item.now → AllByRecursion (IsProcedureOf items) procedures.old.items
+    ensures names { OnOk result
+        (procedure_names procedures.new.items ≡ procedure_names procedures.old.items ++ name_in item.now) }
+    ensures openings { OnOk result
+        (openings procedures.new.items ≡ openings procedures.old.items ++ opening_in item.now) }
+    ensures written { (items : List AnyItem) → IsAmong items item.now
+        → AllByRecursion (IsProcedureOf items) procedures.old.items
         → OnOk result (AllByRecursion (IsProcedureOf items) procedures.new.items) }
     ensures refused { IfErr result (IsOfModule text) }
     ensures good { OnOk result (has_bad_parameter item.now ≡ false) }
@@ -387,7 +404,8 @@ fn admitted<'a>(
     procedure: &'a Procedure,
 ) -> Result<AdmittedProcedure<'a>, SessionFault>
     ensures same { IfOk result (λ admitted. admitted.procedure.now ≡ procedure.now) }
-    ensures parameters { IfOk result (λ admitted. Declare (declarations_of procedure.now.declarations) admitted.parameters) }
+    ensures parameters { IfOk result
+        (λ admitted. Declare (declarations_of procedure.now.declarations) admitted.parameters) }
     ensures refused { IfErr result (IsOfModule text) }
     ensures good { IfOk result (λ _. has_bad_declared (parameter_declarations procedure.now) ≡ false) }
     ensures bad { IfErr result (IsFaultAt text place fault.BadParameter

@@ -42,7 +42,8 @@ impl<'a> Cursors for ModuleCursors<'a> {
 fn known(cursors: &[DeclaredCursor], number: usize) -> KnownCursor<'_>
     requires { number < length cursors.now }
     ensures number { result.number ≡ number }
-    ensures columns { slice_get (kinds_of_cursors cursors.now) number ≡ Some (kinds_of_results result.cursor.now.columns) }
+    ensures columns { slice_get (kinds_of_cursors cursors.now) number
+        ≡ Some (kinds_of_results result.cursor.now.columns) }
 {
     KnownCursor {
         number,

@@ -15,7 +15,7 @@ use indexmap::IndexSet;
 use sq_bound::ParameterDesc;
 use sq_items::Items;
 use sq_lex::Name;
-use sq_scope::domain_of;
+use sq_literal::domain_of;
 use sq_tree::{BareDeclaration, DataType, Declaration, Declarations};
 use std::alloc::{AllocError, Global};
 
@@ -127,7 +127,8 @@ pub(crate) fn parameters_of(
     declarations: &[Declaration],
 ) -> Result<Option<Items<ParameterDesc>>, AllocError>
     ensures declares { IfOk result (λ found. IfSome found (Declare declarations.now)) }
-    ensures bad { IfOk result (λ found. is_none found ≡ has_bad_declared (filter_map declared_in declarations.now)) }
+    ensures bad { IfOk result
+        (λ found. is_none found ≡ has_bad_declared (filter_map declared_in declarations.now)) }
 {
     let mut names = IndexSet::new(alloc);
     let mut parameters = Items::new(alloc);
@@ -155,10 +156,12 @@ fn are_added(
     declarations: &[Declaration],
 ) -> Result<bool, AllocError>
     requires { names.old.keys ≡ [] }
-    ensures added { IfOk result (λ is. is ≡ true → map named_as parameters.new ≡ map named_as parameters.old ++ flat_map
+    ensures added { IfOk result
+        (λ is. is ≡ true → map named_as parameters.new ≡ map named_as parameters.old ++ flat_map
         named_in declarations.now) }
     ensures bad { IfOk result (λ is. let declared = filter_map declared_in declarations.now in
-        not is ≡ (has_name_twice (map (λ d. d.name) declared) || list_any (λ d. is_bad_type d.data_type) declared)) }
+        not is ≡ (has_name_twice (map (λ d. d.name) declared) || list_any
+        (λ d. is_bad_type d.data_type) declared)) }
 {
     for declaration in declarations {
         if !is_taken(names, parameters, declaration)? {
@@ -174,10 +177,13 @@ fn is_taken(
     parameters: &mut Items<ParameterDesc>,
     declaration: &Declaration,
 ) -> Result<bool, AllocError>
-    ensures added { IfOk result (λ is. is ≡ true → map named_as parameters.new ≡ map named_as parameters.old ++ named_in declaration.now) }
+    ensures added { IfOk result
+        (λ is. is ≡ true → map named_as parameters.new ≡ map named_as parameters.old
+        ++ named_in declaration.now) }
     ensures names { IfOk result (λ is. is ≡ true → names.new.keys ≡ names.old.keys
         ++ map (λ d. d.name) (option_to_list (declared_in declaration.now))) }
-    ensures bad { IfOk result (λ is. not is ≡ is_some_and (λ d. is_among names.old.keys d.name || is_bad_type d.data_type)
+    ensures bad { IfOk result
+        (λ is. not is ≡ is_some_and (λ d. is_among names.old.keys d.name || is_bad_type d.data_type)
         (declared_in declaration.now)) }
 {
     match declaration {

@@ -51,7 +51,8 @@ impl Openers {
 
     /// Adds the cursor that an item opens, if it opens one.
     fn add_item(&mut self, item: &ModuleItem) -> Result<(), AllocError>
-        ensures { (items : List AnyItem) → AreOpeners items self.old → OnOk result (AreOpeners (items ++ item.now ∷ []) self.new) }
+        ensures { (items : List AnyItem) → AreOpeners items self.old
+            → OnOk result (AreOpeners (items ++ item.now ∷ []) self.new) }
     {
         match cursor_opened(item) {
             Some(cursor) => self.add(cursor),
@@ -60,8 +61,11 @@ impl Openers {
     }
 
     fn add(&mut self, cursor: Name) -> Result<(), AllocError>
-        ensures opened { OnOk result (self.new.opened.keys ≡ insert_key same_name self.old.opened.keys cursor) }
-        ensures shared { OnOk result (self.new.shared.keys ≡ if list_any (same_name cursor) self.old.opened.keys then insert_key same_name
+        ensures opened { OnOk result
+            (self.new.opened.keys ≡ insert_key same_name self.old.opened.keys cursor) }
+        ensures shared { OnOk result
+            (self.new.shared.keys
+            ≡ if list_any (same_name cursor) self.old.opened.keys then insert_key same_name
             self.old.shared.keys cursor else self.old.shared.keys) }
     {
         if !is_new(&mut self.opened, cursor)? {
@@ -85,7 +89,8 @@ impl Openers {
 
     /// Whether the item is a cursor that not exactly one procedure opens.
     fn is_without_one(&self, item: &ModuleItem) -> bool
-        ensures { (items : List AnyItem) → AreOpeners items self.now → result ≡ has_open_count items item.now }
+        ensures { (items : List AnyItem) → AreOpeners items self.now → result
+            ≡ has_open_count items item.now }
     {
         match item {
             ModuleItem::Cursor(cursor) => !self.has_one(cursor.name),
@@ -95,7 +100,8 @@ impl Openers {
 
     /// Whether exactly one procedure opens the cursor.
     fn has_one(&self, cursor: Name) -> bool
-        ensures { (items : List AnyItem) → AreOpeners items self.now → result ≡ (opener_count items cursor == 1) }
+        ensures { (items : List AnyItem) → AreOpeners items self.now → result
+            ≡ (opener_count items cursor == 1) }
     {
         self.opened.contains(&cursor) && !self.shared.contains(&cursor)
     }

@@ -107,7 +107,8 @@ impl Program {
         requires modules { AreAdmitted [] modules.now }
         requires others { (name : AnyName) → AreOfOthers name self.old.cursors.items }
         requires apart { AreApart [] self.old.cursors.items }
-        ensures procedures { OnOk result (keys_of self.new.procedures.entries ≡ with_procedures (keys_of self.old.procedures.entries)
+        ensures procedures { OnOk result
+            (keys_of self.new.procedures.entries ≡ with_procedures (keys_of self.old.procedures.entries)
             (admitted_procedures modules.now)) }
         ensures fits { OnOk result (FitsProgram catalog.now.bases self.new) }
         ensures well_formed { OnOk result (ProgramIsWellFormed (column_kinds catalog.now) self.new) }
@@ -133,15 +134,18 @@ impl Program {
         requires others { AreOfOthers «module».now.name self.old.cursors.items }
         requires once { OpensEachOnce «module».now }
         requires apart { AreApart [] self.old.cursors.items }
-        ensures procedures { OnOk result (keys_of self.new.procedures.entries ≡ with_procedures (keys_of self.old.procedures.entries)
+        ensures procedures { OnOk result
+            (keys_of self.new.procedures.entries ≡ with_procedures (keys_of self.old.procedures.entries)
             (module_keys «module».now)) }
         ensures fits { OnOk result (FitsProgram catalog.now.bases self.new) }
         ensures well_formed { OnOk result (ProgramIsWellFormed (column_kinds catalog.now) self.new) }
-        ensures written { (texts : List ModuleText) (m : ModuleText) → IsAmong texts m → IsOfText m «module».now
+        ensures written { (texts : List ModuleText) (m : ModuleText) → IsAmong texts m
+            → IsOfText m «module».now
             → AreFrom (known catalog.now) texts self.old
             → OnOk result (AreFrom (known catalog.now) texts self.new) }
         ensures apart { OnOk result (AreApart [] self.new.cursors.items) }
-        ensures others { (name : AnyName) → same_name name «module».now.name ≡ false → AreOfOthers name self.old.cursors.items
+        ensures others { (name : AnyName) → same_name name «module».now.name ≡ false
+            → AreOfOthers name self.old.cursors.items
             → OnOk result (AreOfOthers name self.new.cursors.items) }
     {
         let mut numbers = IndexMap::new(alloc);
@@ -164,15 +168,19 @@ impl Program {
         requires others { AreOfOthers «module».now.name self.old.cursors.items }
         requires once { OpensEachOnce «module».now }
         requires apart { AreApart [] self.old.cursors.items }
-        ensures procedures { OnOk result (keys_of self.new.procedures.entries ≡ with_procedures (keys_of self.old.procedures.entries)
+        ensures procedures { OnOk result
+            (keys_of self.new.procedures.entries ≡ with_procedures (keys_of self.old.procedures.entries)
             (module_keys «module».now)) }
         ensures fits { OnOk result (FitsProgram catalog.now.bases self.new) }
         ensures well_formed { OnOk result (ProgramIsWellFormed (column_kinds catalog.now) self.new) }
-        ensures written { (texts : List ModuleText) (m : ModuleText) → IsAmong texts m → IsOfText m «module».now
-            → AreNumbers (known catalog.now) m self.old.cursors.items numbers.old.entries → AreFrom (known catalog.now) texts self.old
+        ensures written { (texts : List ModuleText) (m : ModuleText) → IsAmong texts m
+            → IsOfText m «module».now
+            → AreNumbers (known catalog.now) m self.old.cursors.items numbers.old.entries
+            → AreFrom (known catalog.now) texts self.old
             → OnOk result (AreFrom (known catalog.now) texts self.new) }
         ensures apart { OnOk result (AreApart [] self.new.cursors.items) }
-        ensures others { (name : AnyName) → same_name name «module».now.name ≡ false → AreOfOthers name self.old.cursors.items
+        ensures others { (name : AnyName) → same_name name «module».now.name ≡ false
+            → AreOfOthers name self.old.cursors.items
             → OnOk result (AreOfOthers name self.new.cursors.items) }
     {
         let opened = self.add_cursors(alloc, catalog, module, numbers)?;
@@ -200,13 +208,18 @@ impl Program {
         ensures fits { OnOk result (FitsProgram catalog.now.bases self.new) }
         ensures well_formed { OnOk result (ProgramIsWellFormed (column_kinds catalog.now) self.new) }
         ensures grows { OnOk result (Grow self.old.cursors.items self.new.cursors.items) }
-        ensures written { (m : ModuleText) → IsOfText m «module».now → AreNumbers (known catalog.now) m self.old.cursors.items numbers.old.entries
-            → IfOk result (λ opened. AreNumbers (known catalog.now) m self.new.cursors.items numbers.new.entries × OpenNamed (known catalog.now) m
+        ensures written { (m : ModuleText) → IsOfText m «module».now
+            → AreNumbers (known catalog.now) m self.old.cursors.items numbers.old.entries
+            → IfOk result (λ opened. AreNumbers
+            (known catalog.now) m self.new.cursors.items numbers.new.entries × OpenNamed (known catalog.now) m
             self.new.cursors.items «module».now.procedures.items opened.items) }
-        ensures opened { IfOk result (λ opened. AreOpened (column_kinds catalog.now) self.new.cursors.items «module».now.procedures.items
+        ensures opened { IfOk result
+            (λ opened. AreOpened
+            (column_kinds catalog.now) self.new.cursors.items «module».now.procedures.items
             opened.items) }
         ensures apart { OnOk result (AreApart [] self.new.cursors.items) }
-        ensures others { (name : AnyName) → same_name name «module».now.name ≡ false → AreOfOthers name self.old.cursors.items
+        ensures others { (name : AnyName) → same_name name «module».now.name ≡ false
+            → AreOfOthers name self.old.cursors.items
             → OnOk result (AreOfOthers name self.new.cursors.items) }
     {
         let mut opened = Vec::new(alloc);
@@ -238,14 +251,17 @@ impl Program {
         ensures well_formed { OnOk result (ProgramIsWellFormed (column_kinds catalog.now) self.new) }
         ensures written { (m : ModuleText) → IsOfText m «module».now → IsProcedureOf m.items opener.now
             → AreNumbers (known catalog.now) m self.old.cursors.items numbers.old.entries
-            → IfOk result (λ opened. AreNumbers (known catalog.now) m self.new.cursors.items numbers.new.entries × OpensNamed (known catalog.now)
+            → IfOk result (λ opened. AreNumbers
+            (known catalog.now) m self.new.cursors.items numbers.new.entries × OpensNamed (known catalog.now)
             m self.new.cursors.items opener.now opened) }
         ensures grows { OnOk result (Grow self.old.cursors.items self.new.cursors.items) }
         ensures opened { IfOk result (IsOpened (column_kinds catalog.now) self.new.cursors.items opener.now) }
         ensures apart { OnOk result (AreApart [] self.new.cursors.items) }
-        ensures others { (name : AnyName) → same_name name «module».now.name ≡ false → AreOfOthers name self.old.cursors.items
+        ensures others { (name : AnyName) → same_name name «module».now.name ≡ false
+            → AreOfOthers name self.old.cursors.items
             → OnOk result (AreOfOthers name self.new.cursors.items) }
-        ensures opened_by { (before : List AnyProcedure) → OpenedBy «module».now.name before self.old.cursors.items
+        ensures opened_by { (before : List AnyProcedure)
+            → OpenedBy «module».now.name before self.old.cursors.items
             → OnOk result (OpenedBy «module».now.name (before ++ opener.now ∷ []) self.new.cursors.items) }
     {
         let Statement::Open(name) = &opener.procedure.statement else {
@@ -276,19 +292,26 @@ impl Program {
         ensures procedures { self.new.procedures ≡ self.old.procedures }
         ensures fits { (bases : List BaseTable) → FitsProgram bases self.old → IfOk bound (FitsCursor bases)
             → OnOk result (FitsProgram bases self.new) }
-        ensures well_formed { (columns : TableKinds) (parameters : List Kind) → ProgramIsWellFormed columns self.old
+        ensures well_formed { (columns : TableKinds) (parameters : List Kind)
+            → ProgramIsWellFormed columns self.old
             → IfOk bound (IsCursor columns parameters) → OnOk result (ProgramIsWellFormed columns self.new) }
-        ensures written { (names : KnownTables) (m : ModuleText) → IsOfText m «module».now → IsCursorNamed names m name bound
+        ensures written { (names : KnownTables) (m : ModuleText) → IsOfText m «module».now
+            → IsCursorNamed names m name bound
             → AreNumbers names m self.old.cursors.items numbers.old.entries
-            → IfOk result (λ opened. AreNumbers names m self.new.cursors.items numbers.new.entries × IfSome opened
+            → IfOk result (λ opened. AreNumbers names m self.new.cursors.items numbers.new.entries
+            × IfSome opened
             (IsNumberOf names m self.new.cursors.items name)) }
         ensures grows { OnOk result (Grow self.old.cursors.items self.new.cursors.items) }
-        ensures opened { (columns : TableKinds) (parameters : List Kind) → IfOk bound (IsCursor columns parameters)
-            → IfOk result (λ opened. IfSome opened (λ number. OpensWellFormed columns self.new.cursors.items parameters (Open number))) }
+        ensures opened { (columns : TableKinds) (parameters : List Kind)
+            → IfOk bound (IsCursor columns parameters)
+            → IfOk result (λ opened. IfSome opened
+            (λ number. OpensWellFormed columns self.new.cursors.items parameters (Open number))) }
         ensures apart { OnOk result (AreApart [] self.new.cursors.items) }
-        ensures others { (name : AnyName) → same_name name «module».now.name ≡ false → AreOfOthers name self.old.cursors.items
+        ensures others { (name : AnyName) → same_name name «module».now.name ≡ false
+            → AreOfOthers name self.old.cursors.items
             → OnOk result (AreOfOthers name self.new.cursors.items) }
-        ensures opened_by { (procedures : List AnyProcedure) → list_any (is_name name) (openings procedures) ≡ true
+        ensures opened_by { (procedures : List AnyProcedure) → list_any (is_name name) (openings procedures)
+            ≡ true
             → OpenedBy «module».now.name procedures self.old.cursors.items
             → OnOk result (OpenedBy «module».now.name procedures self.new.cursors.items) }
     {
@@ -317,15 +340,18 @@ impl Program {
         numbers: &IndexMap<Name, usize>,
         opened: &[Option<usize>],
     ) -> Result<(), AllocError>
-        requires opened { AreOpened (column_kinds catalog.now) self.old.cursors.items «module».now.procedures.items opened.now }
+        requires opened { AreOpened
+            (column_kinds catalog.now) self.old.cursors.items «module».now.procedures.items opened.now }
         requires there { AreThere (length self.old.cursors.items) numbers.now.entries }
         requires fits { FitsProgram catalog.now.bases self.old }
         requires well_formed { ProgramIsWellFormed (column_kinds catalog.now) self.old }
-        ensures procedures { OnOk result (keys_of self.new.procedures.entries ≡ with_procedures (keys_of self.old.procedures.entries)
+        ensures procedures { OnOk result
+            (keys_of self.new.procedures.entries ≡ with_procedures (keys_of self.old.procedures.entries)
             (module_keys «module».now)) }
         ensures fits { OnOk result (FitsProgram catalog.now.bases self.new) }
         ensures well_formed { OnOk result (ProgramIsWellFormed (column_kinds catalog.now) self.new) }
-        ensures written { (texts : List ModuleText) (m : ModuleText) → IsAmong texts m → IsOfText m «module».now
+        ensures written { (texts : List ModuleText) (m : ModuleText) → IsAmong texts m
+            → IsOfText m «module».now
             → AreNumbers (known catalog.now) m self.old.cursors.items numbers.now.entries
             → OpenNamed (known catalog.now) m self.old.cursors.items «module».now.procedures.items opened.now
             → AreFrom (known catalog.now) texts self.old
@@ -356,8 +382,10 @@ impl Program {
             (keys_of self.old.procedures.entries) (name_of «module».now.name admitted.now)) }
         ensures fits { OnOk result (FitsProgram catalog.now.bases self.new) }
         ensures well_formed { OnOk result (ProgramIsWellFormed (column_kinds catalog.now) self.new) }
-        ensures written { (texts : List ModuleText) (m : ModuleText) → IsAmong texts m → IsOfText m «module».now
-            → IsProcedureOf m.items admitted.now → AreNumbers (known catalog.now) m self.old.cursors.items numbers.now.entries
+        ensures written { (texts : List ModuleText) (m : ModuleText) → IsAmong texts m
+            → IsOfText m «module».now
+            → IsProcedureOf m.items admitted.now
+            → AreNumbers (known catalog.now) m self.old.cursors.items numbers.now.entries
             → OpensNamed (known catalog.now) m self.old.cursors.items admitted.now opened
             → AreFrom (known catalog.now) texts self.old
             → OnOk result (AreFrom (known catalog.now) texts self.new) }
@@ -386,7 +414,8 @@ fn bound_procedure(
 ) -> Result<BoundProcedure, AllocError>
     requires { IsOpened (column_kinds catalog.now) cursors.now.cursors.now admitted.now opened }
     ensures fits { IfOk result (FitsProcedure catalog.now.bases (length cursors.now.cursors.now)) }
-    ensures well_formed { IfOk result (ProcedureIsWellFormed (column_kinds catalog.now) (kinds_of_cursors cursors.now.cursors.now)) }
+    ensures well_formed { IfOk result
+        (ProcedureIsWellFormed (column_kinds catalog.now) (kinds_of_cursors cursors.now.cursors.now)) }
     ensures opens { IfOk result (ProcedureOpens (column_kinds catalog.now) cursors.now.cursors.now) }
     ensures written { (m : ModuleText) → user ≡ m.authorization → IsProcedureOf m.items admitted.now
         → AreNumbers (known catalog.now) m cursors.now.cursors.now cursors.now.numbers.now.entries
@@ -418,30 +447,33 @@ fn bound_statement(
     opened: Option<usize>,
 ) -> Result<BoundStatement, BindFault>
     requires { IsOpened (column_kinds catalog.now) cursors.now.cursors.now admitted.now opened }
-    ensures fits { IfOk result (FitsStatement catalog.now.bases (length cursors.now.cursors.now) (length admitted.now.parameters)) }
-    ensures well_formed { IfOk result (IsStatement (column_kinds catalog.now) (kinds_of_cursors cursors.now.cursors.now)
+    ensures fits { IfOk result
+        (FitsStatement catalog.now.bases (length cursors.now.cursors.now) (length admitted.now.parameters)) }
+    ensures well_formed { IfOk result
+        (IsStatement (column_kinds catalog.now) (kinds_of_cursors cursors.now.cursors.now)
         (kinds_of_parameters admitted.now.parameters)) }
     ensures opens { IfOk result (OpensWellFormed (column_kinds catalog.now) cursors.now.cursors.now
         (kinds_of_parameters admitted.now.parameters)) }
-    ensures written { (m : ModuleText) → user ≡ m.authorization → AreNumbers (known catalog.now) m cursors.now.cursors.now cursors.now.numbers.now.entries
+    ensures written { (m : ModuleText) → user ≡ m.authorization
+        → AreNumbers (known catalog.now) m cursors.now.cursors.now cursors.now.numbers.now.entries
         → OpensNamed (known catalog.now) m cursors.now.cursors.now admitted.now opened
         → IfOk result (IsStatementIn (known catalog.now) m cursors.now.cursors.now admitted.now.parameters
         admitted.now.procedure.now.statement) }
 {
     let parameters = admitted.parameters.as_slice();
     match &admitted.procedure.statement {
-        Statement::Open(_) => open_of(opened),
+        Statement::Open(name) => open_of(*name, opened),
         written => bind_statement(alloc, catalog, user, parameters, cursors, written),
     }
 }
 
 /// OPEN of a cursor. Without one, the module declares none of the written name, or its query has a fault.
-fn open_of(opened: Option<usize>) -> Result<BoundStatement, BindFault>
+fn open_of(name: Name, opened: Option<usize>) -> Result<BoundStatement, BindFault>
     ensures { IfOk result (λ statement. option_map Open opened ≡ Some statement) }
 {
     match opened {
         Some(number) => Ok(BoundStatement::Open(number)),
-        None => Err(BindFault::UnknownCursor),
+        None => Err(BindFault::UnknownCursor(name)),
     }
 }
 
@@ -451,8 +483,10 @@ fn inserted<T: Drop>(
     name: ProcedureName,
     value: T,
 ) -> Result<(), AllocError>
-    ensures keys { OnOk result (keys_of named.new.entries ≡ insert_key same_procedure (keys_of named.old.entries) name) }
-    ensures entries { OnOk result (named.new.entries ≡ insert_entry same_procedure named.old.entries name value) }
+    ensures keys { OnOk result
+        (keys_of named.new.entries ≡ insert_key same_procedure (keys_of named.old.entries) name) }
+    ensures entries { OnOk result
+        (named.new.entries ≡ insert_entry same_procedure named.old.entries name value) }
 {
     match named.insert(name, value) {
         Ok(before) => {
