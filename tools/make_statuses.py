@@ -16,7 +16,7 @@ PARTS = {
     "Schema": "## Refusals of schemas\n\nOf several in one element, the first of this list is answered.",
     "Module": "## Refusals of modules\n\nIf a module has several, `TwoModules` is reported first, then the others in the order below.",
     "Script": "## Refusals of scripts",
-    "Fault": "## Statements that are not well formed\n\nEach call of the procedure answers 42000. `./sqmod check` prints the name of the fault.",
+    "Fault": "## Statements that are not well formed\n\nEach call of the procedure answers 42000. `./sqmod check` prints the name of the fault, and behind it that of the table,\ncolumn, parameter or cursor that it is about, if it is about one.",
 }
 # What a text is of: a name may be both a refusal and a fault of a statement.
 OF = {"Schema": " of a schema", "Module": " of a module", "Script": " of a script", "Fault": " of a statement"}

@@ -1,10 +1,10 @@
 #!/usr/bin/env python3
 """Tries `check` on texts with their wanted lines, and on the texts of every run of crates/sq_cases/data.
 
-try_check.py PROGRAM: the status is 0 if each of tools/checks.txt comes to its lines, each example to its check.txt if it has one, and
-of each run: the schemas and modules are
-refused as the run says; or each procedure that a call of the run answers with 42000 has a fault, by the name that the run
-gives it, no procedure that answers otherwise has one, and the exit status says whether there is a fault.
+try_check.py PROGRAM: the status is 0 if each of tools/checks.txt comes to its lines, which show each fault of a name with one; each
+example to its check.txt if it has one; and of each run: the schemas and modules are refused as the run says; or each procedure that
+a call of the run answers with 42000 has a fault, by the name that the run gives it, no procedure that answers otherwise has one,
+behind the faults of a name stands one that the texts have, and the exit status says whether there is a fault.
 """
 
 import re
@@ -19,7 +19,12 @@ from run_program import written
 ROOT = Path(__file__).resolve().parent.parent
 DATA = ROOT / "crates/sq_cases/data"
 CALL = re.compile(r"(\w+\.\w+) (\w{5}) -?\d+")
-LINE = re.compile(r"\w+:\d+:\d+: (\w+\.\w+): (?:(\w+)|updatable|not updatable: .*)")
+LINE = re.compile(r"\w+:\d+:\d+: (\w+\.\w+): (?:updatable|not updatable: .*|([A-Z]\w*)(?: (\w+))?)")
+# The faults of a table, a column, a parameter or a cursor, whose name `check` prints behind them.
+OF_A_NAME = {
+    "UnknownTable", "UnknownColumn", "AmbiguousName", "UnknownParameter", "BadIndicator", "TargetTwice", "NotUpdatable", "ColumnTwice",
+    "UnknownCursor",
+}
 
 
 def checked(program, words, room):
@@ -37,15 +42,30 @@ def own_cases():
     """The cases of tools/checks.txt: a run of each, and the wanted lines."""
     text = (ROOT / "tools/checks.txt").read_text()
     wanted = [re.findall(r"^\|(.*)$", case.split("\nreport\n")[1], re.M) for case in text.split("\nrun ")[1:]]
-    return zip(runs_of(ROOT / "tools/checks.txt"), wanted)
+    return list(zip(runs_of(ROOT / "tools/checks.txt"), wanted))
+
+
+def faults_in(lines):
+    """The procedure or cursor, the fault and the name behind it, or None, of each line that has a fault."""
+    return [found.groups() for line in lines if (found := LINE.fullmatch(line)) and found[2]]
+
+
+def names_behind(cases):
+    """The faults that the wanted lines show with a name behind them."""
+    return {fault for _, lines in cases for _, fault, name in faults_in(lines) if name}
+
+
+def are_named(faults, run):
+    """Whether a name that the texts have stands behind the faults of a name, and nothing behind the others."""
+    words = {word.upper() for text in run.schemas + run.modules for word in re.findall(r"\w+", text)}
+    return all(name in words if fault in OF_A_NAME else name is None for _, fault, name in faults)
 
 
 def is_listed(program, run, lines):
     """Whether a case comes to its lines."""
     with tempfile.TemporaryDirectory() as room:
         found = checked(program, words_of(run, room), room)
-    faults = any(re.fullmatch(r"\S+ \S+ \w+", line) and not line.endswith(" updatable") for line in lines)
-    return found == ("".join(line + "\n" for line in lines), "", 4 if faults else 0)
+    return found == ("".join(line + "\n" for line in lines), "", 4 if faults_in(lines) else 0)
 
 
 def is_as_shown(program, example):
@@ -77,12 +97,11 @@ def answers_as_run(found, run, named):
     if run.refused and run.refused[0] != "script":
         kind, number, place, fault = run.refused
         return found == ("", f"sqmod: {kind}{number}:{place}: {fault}\n", 2)
-    lines = [LINE.fullmatch(line) for line in out.splitlines()]
-    if err or not all(lines):
+    lines = out.splitlines()
+    found = faults_in(lines)
+    if err or not all(map(LINE.fullmatch, lines)) or status != (4 if found else 0) or not are_named(found, run):
         return False
-    faults = {line[1]: line[2] for line in lines if line[2] and line[2] != "updatable"}
-    if status != (4 if faults else 0):
-        return False
+    faults = {part: fault for part, fault, _ in found}
     calls = [] if run.refused else calls_of(run.report)
     names = {calls[number - 1][0]: name for number, name in named.items()}
     return all((name in faults) == (state == "42000") for name, state in calls) and all(faults.get(name) == fault for name, fault in names.items())
@@ -90,7 +109,9 @@ def answers_as_run(found, run, named):
 
 def tried(program):
     """The name of each run and each case, with whether it comes out."""
-    for run, lines in own_cases():
+    cases = own_cases()
+    yield "names_behind", names_behind(cases) == OF_A_NAME
+    for run, lines in cases:
         yield run.name, is_listed(program, run, lines)
     for path in sorted((ROOT / "examples").rglob("check.txt")):
         yield path.parent.name, is_as_shown(program, path.parent)

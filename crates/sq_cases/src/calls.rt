@@ -4,13 +4,11 @@ ghost use Rattle.std.specs.Prelude.{◌≤◌};
 use crate::opened::{OpenRun, open_run};
 use crate::run::Run;
 use sq_bound::BindFault;
-use sq_items::Items;
 use sq_lex::Name;
-use sq_scope::{signed_value, text_value};
+use sq_opened::values_of;
 use sq_session::Session;
 use sq_store::Store;
-use sq_tree::{Argument, Arguments, ScriptItem};
-use sq_value::Value;
+use sq_tree::{Arguments, ScriptItem};
 use std::alloc::{AllocError, Global};
 
 /// What a session says of a call, which its line of the report does not.
@@ -81,26 +79,6 @@ fn called<S: Store>(
     }))
 }
 
-fn values_of(alloc: Global, arguments: &Arguments) -> Result<Items<Value>, AllocError> {
-    let mut values = Items::new(alloc);
-    if let Arguments::Listed(arguments) = arguments {
-        values.push(value_of(alloc, &arguments.first)?)?;
-        for argument in arguments.rest.as_slice() {
-            values.push(value_of(alloc, argument)?)?;
-        }
-    }
-    Ok(values)
-}
-
-/// The value of an argument.
-fn value_of(alloc: Global, argument: &Argument) -> Result<Value, AllocError> {
-    match argument {
-        Argument::Number(number) => Ok(Value::Num(signed_value(*number))),
-        Argument::Text(characters) => text_value(alloc, characters),
-        Argument::Null => Ok(Value::Null),
-    }
-}
-
 /// What is so of a call, where `3 reads 1` or `7 fault UnknownTable` is wanted. Calls count from 1.
 pub fn answer(alloc: Global, calls: &[Facts], wanted: &str) -> Result<String, AllocError> {
     let (number, rest) = wanted.split_once(' ').unwrap_or((wanted, ""));
@@ -120,7 +98,7 @@ fn shown_fault(
     fault: Option<BindFault>,
 ) -> Result<String, AllocError> {
     match fault {
-        Some(fault) => format!(in alloc; "{number} fault {fault:?}"),
+        Some(fault) => format!(in alloc; "{number} fault {fault}"),
         None => format!(in alloc; "{number} has no fault"),
     }
 }

@@ -4,3 +4,4 @@ pub mod Cursors
 pub mod Modules
 pub mod Places
 pub mod Sole
+pub mod Walk

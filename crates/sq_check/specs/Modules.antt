@@ -1,5 +1,5 @@
 -- What is to be said of the items of modules, each at its first token (ISO/IEC 9075:1992, 12.1 and 13.1).
-use Rattle.std.specs.Prelude.{◌≡◌, ℕ, suc, ◌-◌, ◌^◌, min, ⊤, List, [], ◌∷◌}
+use Rattle.std.specs.Prelude.{◌≡◌, ℕ, suc, ◌-◌, ◌^◌, min, ⊤, List, [], ◌∷◌, ◌++◌}
 use Rattle.std.specs.List.{AllByRecursion, AllZip}
 use Rattle.std.specs.Map.{keys_of}
 use Rattle.std.specs.Borrow.{Bor}
@@ -24,12 +24,16 @@ abbrev pub item_name : ModuleItem → Name
 item_name (item.Cursor c) = c.name
 item_name (item.Procedure p) = p.name
 
--- the item at a place, at its first token, by its names, with what is to be said of it
-pub record IsMark (catalog : Catalog) (p : Program) (m : ModuleText) (place : ℕ) (i : ModuleItem) (mark : Mark) : Type 0 where
-  pub token : mark.token ≡ counted (module_item_start m place)
+-- an item at this token, by its names, with what is to be said of it
+pub record IsMarkAt (catalog : Catalog) (p : Program) (m : ModuleText) (here : ℕ) (i : ModuleItem) (mark : Mark) : Type 0 where
+  pub token : mark.token ≡ here
   pub owner : mark.owner ≡ m.name
   pub name : mark.name ≡ item_name i
   pub remark : IsItemRemark catalog p m i mark.remark
+
+-- the item at a place, at its first token
+abbrev pub IsMark : Catalog → Program → ModuleText → ℕ → ModuleItem → Mark → Type 0
+IsMark catalog p m place i mark = IsMarkAt catalog p m (counted (module_item_start m place)) i mark
 
 -- a relation holds of each element, its place from this one on, and what is at the same place
 abbrev pub AllAt : {A B : Type 0} → (ℕ → A → B → Type 0) → ℕ → List A → List B → Type 0
@@ -55,3 +59,7 @@ pub record AreChecked (catalog : Catalog) (modules : List ModuleText) (marks : L
 -- procedures that open the cursors under which they stand
 abbrev pub AreOpeners : Program → ModuleText → List (Name × Bor BoundProcedure) → Type 0
 AreOpeners p m openers = AllByRecursion (λ e. IsOpener p m e.0 e.1.now) openers
+
+-- the mark of an item at this token stands behind those before
+abbrev pub IsMarkAdded : Catalog → Program → ModuleText → ℕ → ModuleItem → List Mark → List Mark → Type 0
+IsMarkAdded catalog p m token i before after = (mark : Mark) × (after ≡ before ++ mark ∷ []) × IsMarkAt catalog p m token i mark

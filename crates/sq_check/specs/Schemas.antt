@@ -1,7 +1,7 @@
 -- What is to be said of the views of schemas, each at its first token (ISO/IEC 9075:1992, 11.19).
-use Rattle.std.specs.Prelude.{ℕ, suc, List, [], ◌∷◌, ◌++◌, Some}
+use Rattle.std.specs.Prelude.{ℕ, suc, ◌+◌, List, [], ◌∷◌, ◌++◌, Some}
 use Rattle.sq_lex.specs.declared.name.Name.{Name}
-use Rattle.sq_tree.specs.Starts.{schema_element_start, schemas}
+use Rattle.sq_tree.specs.Starts.{before_element, schema_start, schemas}
 use Rattle.sq_tree.specs.declared.schema.SchemaDefinition.{SchemaDefinition}
 use Rattle.sq_tree.specs.declared.schema.SchemaElement.{SchemaElement}
 use Rattle.sq_tree.specs.declared.schema.SchemaElement.TheVariants as element
@@ -27,13 +27,13 @@ marks_at names user token (element.View v) =
     } ∷ []
 marks_at names user token _ = []
 
--- the element at a place of a schema of a text
-abbrev pub element_marks : KnownTables → SchemaText → ℕ → Name → ℕ → SchemaElement → List Mark
-element_marks names t schema user place e = marks_at names user (counted (schema_element_start t schema place)) e
+-- the element at a place of a schema that begins at this token
+abbrev pub element_marks : KnownTables → ℕ → SchemaDefinition → ℕ → SchemaElement → List Mark
+element_marks names start s place e = marks_at names s.authorization (counted (start + before_element s place)) e
 
-abbrev pub schema_marks : KnownTables → SchemaText → ℕ → SchemaDefinition → List Mark
-schema_marks names t schema s = all_at (element_marks names t schema s.authorization) 0 s.elements
+abbrev pub schema_marks : KnownTables → ℕ → SchemaDefinition → List Mark
+schema_marks names start s = all_at (element_marks names start s) 0 s.elements
 
 -- the views of a text, in its order
 abbrev pub text_marks : KnownTables → SchemaText → List Mark
-text_marks names t = all_at (schema_marks names t) 0 (schemas t)
+text_marks names t = all_at (λ n s. schema_marks names (schema_start t n) s) 0 (schemas t)

@@ -1,6 +1,6 @@
 //! What is to be said of modules (ISO/IEC 9075:1992, 12.1).
 
-ghost use Rattle.std.specs.Prelude.{◌≡◌, IfErr, IfOk, MatchResult, None, length};
+ghost use Rattle.std.specs.Prelude.{◌≡◌, IfErr, IfOk, MatchResult, None, OnOk, length};
 ghost use Rattle.std.specs.List.{AllZip};
 ghost use Rattle.std.specs.Map.{keys_of};
 ghost use Rattle.sq_catalog.specs.Catalog.{column_kinds, known};
@@ -9,8 +9,8 @@ ghost use Rattle.sq_module.specs.Program.{ProgramIsWellFormed, declared_procedur
 ghost use Rattle.sq_module.specs.Refusal.{IsOfSomeModule};
 ghost use Rattle.sq_module.specs.Written.{IsOfTexts};
 ghost use Rattle.sq_rules.specs.ModuleRefusal.{first_module_refusal};
-ghost use Rattle.sq_check.specs.Modules.{AreChecked, AreMarks, AreOpeners, item_name};
-ghost use Rattle.sq_check.specs.Remark.{IsCursorRemark, IsItemRemark, procedure_remark};
+ghost use Rattle.sq_check.specs.Modules.{AreChecked, AreMarks, AreOpeners, IsMarkAdded};
+ghost use Rattle.sq_check.specs.Remark.{IsCursorRemark, procedure_remark};
 
 use crate::cursor::cursor_remark;
 use crate::mark::Mark;
@@ -52,7 +52,8 @@ fn program_of(
     catalog: &Catalog,
     modules: &[ModuleText],
 ) -> Result<Program, SessionFault>
-    ensures procedures { IfOk result (λ program. keys_of program.procedures.entries ≡ declared_procedures modules.now) }
+    ensures procedures { IfOk result
+        (λ program. keys_of program.procedures.entries ≡ declared_procedures modules.now) }
     ensures written { IfOk result (IsOfTexts (known catalog.now) modules.now) }
     ensures well_formed { IfOk result (ProgramIsWellFormed (column_kinds catalog.now)) }
     ensures refused { IfErr result (IsOfSomeModule (length modules.now)) }
@@ -108,49 +109,42 @@ fn item_marks(
     let mut marks = Items::new(alloc);
     let mut token = module_item_start(module, 0);
     for item in module.items.as_slice() {
-        let remark = item_remark(alloc, catalog, program, module, openers, item)?;
-        marks.push(Mark {
-            token,
-            owner: module.name,
-            name: item_name(item),
-            remark,
-        })?;
+        add_mark(
+            alloc, catalog, program, module, openers, token, item, &mut marks,
+        )?;
         token = token.saturating_add(token_count(item));
     }
     Ok(marks)
 }
 
-fn item_name(item: &ModuleItem) -> Name
-    ensures { result ≡ item_name item.now }
-{
-    match item {
-        ModuleItem::Cursor(cursor) => cursor.name,
-        ModuleItem::Procedure(procedure) => procedure.name,
-    }
-}
-
-/// What is to be said of an item of a module.
-fn item_remark(
+/// Adds the mark of an item of a module that begins at this token.
+fn add_mark(
     alloc: Global,
     catalog: &Catalog,
     program: &Program,
     module: &ModuleText,
     openers: &Openers<'_>,
+    token: usize,
     item: &ModuleItem,
-) -> Result<Option<Remark>, AllocError>
+    marks: &mut Items<Mark>,
+) -> Result<(), AllocError>
     requires { AreOpeners program.now «module».now openers.now.entries }
-    ensures { IfOk result (IsItemRemark catalog.now program.now «module».now item.now) }
+    ensures { OnOk result
+        (IsMarkAdded catalog.now program.now «module».now token item.now marks.old marks.new) }
 {
     match item {
-        ModuleItem::Procedure(procedure) => {
-            Ok(procedure_remark(program, module.name, procedure.name))
-        }
-        ModuleItem::Cursor(cursor) => {
-            match opened_remark(alloc, catalog, program, module, openers, cursor) {
-                Ok(remark) => Ok(Some(remark)),
-                Err(error) => Err(error),
-            }
-        }
+        ModuleItem::Procedure(procedure) => marks.push(Mark {
+            token,
+            owner: module.name,
+            name: procedure.name,
+            remark: procedure_remark(program, module.name, procedure.name),
+        }),
+        ModuleItem::Cursor(cursor) => marks.push(Mark {
+            token,
+            owner: module.name,
+            name: cursor.name,
+            remark: Some(opened_remark(alloc, catalog, program, module, openers, cursor)?),
+        }),
     }
 }
 

@@ -40,7 +40,8 @@ fn add_opener<'p>(
     module: Name,
     item: &ModuleItem,
 ) -> Result<(), AllocError>
-    ensures { (m : AnyModule) → m.name ≡ «module» → IsAmong m.items item.now → AreOpeners program.now m openers.old.entries
+    ensures { (m : AnyModule) → m.name ≡ «module» → IsAmong m.items item.now
+        → AreOpeners program.now m openers.old.entries
         → OnOk result (AreOpeners program.now m openers.new.entries) }
 {
     let ModuleItem::Procedure(procedure) = item else {
@@ -64,7 +65,8 @@ fn insert<'p>(
     cursor: Name,
     bound: &'p BoundProcedure,
 ) -> Result<(), AllocError>
-    ensures { OnOk result (openers.new.entries ≡ insert_entry same_name openers.old.entries cursor bound.entry) }
+    ensures { OnOk result
+        (openers.new.entries ≡ insert_entry same_name openers.old.entries cursor bound.entry) }
 {
     match openers.insert(cursor, bound) {
         Ok(_) => Ok(()),
@@ -74,7 +76,8 @@ fn insert<'p>(
 
 /// The parameters of the procedure that opens a cursor.
 pub(crate) fn parameters_for<'p>(openers: &Openers<'p>, cursor: Name) -> &'p [ParameterDesc]
-    ensures { (p : AnyProgram) (m : AnyModule) → AreOpeners p m openers.now.entries → AreParametersFor p m cursor result.now }
+    ensures { (p : AnyProgram) (m : AnyModule) → AreOpeners p m openers.now.entries
+        → AreParametersFor p m cursor result.now }
 {
     match openers.get(&cursor) {
         Some(procedure) => procedure.parameters.as_slice(),

@@ -206,7 +206,8 @@ fn shows_columns(alloc: Global, list: &SelectList) -> Result<bool, AllocError>
 }
 
 fn are_columns(names: &mut IndexSet<Name>, list: &CommaList<Expr>) -> Result<bool, AllocError>
-    ensures { IfOk result (λ are. are ≡ spec.are_new_columns names.old.keys (map spec.column_of (listed list.now))) }
+    ensures { IfOk result
+        (λ are. are ≡ spec.are_new_columns names.old.keys (map spec.column_of (listed list.now))) }
 {
     if is_new_column(names, &list.first)? {
         are_new_columns(names, list.rest.as_slice())
@@ -229,8 +230,11 @@ fn are_new_columns(names: &mut IndexSet<Name>, items: &[Expr]) -> Result<bool, A
 
 /// Whether a select item is a column of another name than these; the name is added.
 fn is_new_column(names: &mut IndexSet<Name>, item: &Expr) -> Result<bool, AllocError>
-    ensures answer { IfOk result (λ is. is ≡ is_some_and (λ name. not (list_any (same_name name) names.old.keys)) (spec.column_of item.now)) }
-    ensures keys { IfOk result (λ is. is ≡ true → names.new.keys ≡ names.old.keys ++ option_to_list (spec.column_of item.now)) }
+    ensures answer { IfOk result
+        (λ is. is ≡ is_some_and (λ name. not (list_any (same_name name) names.old.keys))
+        (spec.column_of item.now)) }
+    ensures keys { IfOk result
+        (λ is. is ≡ true → names.new.keys ≡ names.old.keys ++ option_to_list (spec.column_of item.now)) }
 {
     match reference_of(item) {
         Some(reference) => is_new(names, reference.column),

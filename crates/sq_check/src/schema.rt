@@ -12,11 +12,14 @@ use sq_bound::Names;
 use sq_catalog::Catalog;
 use sq_items::Items;
 use sq_lex::Name;
-use sq_spell::schema_element_start;
+use sq_spell::token_count;
 use sq_tree::{SchemaDefinition, SchemaElement, SchemaText, ViewDefinition};
 use std::alloc::{AllocError, Global};
 
-/// What is to be said of the views of each text. There are at most 1000, each of which is looked for from the start of its text.
+/// `CREATE SCHEMA AUTHORIZATION name`.
+const HEAD_TOKENS: usize = 4;
+
+/// What is to be said of the views of each text.
 pub fn check_schemas(
     alloc: Global,
     catalog: &Catalog,
@@ -31,31 +34,34 @@ pub fn check_schemas(
     Ok(marks)
 }
 
+/// The views of a text, which is walked through once: each schema begins behind the tokens of the one before it.
 fn views_of(alloc: Global, catalog: &Catalog, text: &SchemaText) -> Result<Items<Mark>, AllocError>
     ensures { IfOk result (λ marks. marks ≡ text_marks (known catalog.now) text.now) }
 {
     let mut marks = Items::new(alloc);
-    add_views(alloc, catalog, text, 0, &text.first, &mut marks)?;
-    for (number, schema) in text.rest.as_slice().iter().enumerate() {
-        add_views(alloc, catalog, text, number + 1, schema, &mut marks)?;
+    add_views(alloc, catalog, 0, &text.first, &mut marks)?;
+    let mut start = token_count(&text.first);
+    for schema in text.rest.as_slice() {
+        add_views(alloc, catalog, start, schema, &mut marks)?;
+        start = start.saturating_add(token_count(schema));
     }
     Ok(marks)
 }
 
-/// Adds the views of the schema of this number of a text.
+/// Adds the views of a schema that begins at this token.
 fn add_views(
     alloc: Global,
     catalog: &Catalog,
-    text: &SchemaText,
-    number: usize,
+    start: usize,
     schema: &SchemaDefinition,
     marks: &mut Items<Mark>,
 ) -> Result<(), AllocError>
-    ensures { OnOk result (marks.new ≡ marks.old ++ schema_marks (known catalog.now) text.now number schema.now) }
+    ensures { OnOk result (marks.new ≡ marks.old ++ schema_marks (known catalog.now) start schema.now) }
 {
-    for (place, element) in schema.elements.as_slice().iter().enumerate() {
-        let token = schema_element_start(text, number, place);
+    let mut token = start.saturating_add(HEAD_TOKENS);
+    for element in schema.elements.as_slice() {
         add_view(alloc, catalog, schema.authorization, token, element, marks)?;
+        token = token.saturating_add(token_count(element));
     }
     Ok(())
 }
@@ -88,7 +94,8 @@ fn view_remark(
     user: Name,
     view: &ViewDefinition,
 ) -> Result<Remark, AllocError>
-    ensures { IfOk result (λ remark. remark ≡ spec.view_remark (known catalog.now user view.now.name.table) view.now.query) }
+    ensures { IfOk result
+        (λ remark. remark ≡ spec.view_remark (known catalog.now user view.now.name.table) view.now.query) }
 {
     if is_updatable(catalog, user, view.name.table) {
         return Ok(Remark::Updatable);

@@ -41,7 +41,7 @@ pub record AreNotes (text : Bytes) (marks : List Mark) (notes : List Note) : Typ
   pub read : reading text ≡ Ok tokens
   pub are : notes ≡ map (note_at text tokens) marks
 
--- so of each text
+-- the notes of each text are of its marks
 abbrev pub AreAllNotes : List Bytes → List (List Mark) → List (List Note) → Type 0
 AreAllNotes [] [] [] = ⊤
 AreAllNotes (text ∷ all) (marks ∷ others) (notes ∷ rest) = AreNotes text marks notes × AreAllNotes all others rest

@@ -102,7 +102,7 @@ abbrev pub SomeRefused : {T : Type 0} → (T → List Lexeme) → (T → ℕ) �
 SomeRefused tokens_of depth_of all NoMemory = ⊤
 SomeRefused tokens_of depth_of all (Refused refusal) = OneRefused tokens_of depth_of all refusal
 
--- it is not for what a text means
+-- a fault is for how a text is spelled, not for what it means
 abbrev pub IsOfSpelling : TextFault → Type 0
 IsOfSpelling NoMemory = ⊤
 IsOfSpelling (Refused refusal) = matter refusal.what ≡ Meaning → ⊥

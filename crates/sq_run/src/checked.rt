@@ -107,7 +107,8 @@ fn check_over(
 ) -> Result<Checked, RunFault>
     ensures checked { (all : List Bytes) → spec.SchemasAreChecked all described.catalog described.notes.items
         → IfOk result (spec.AreCheckedTexts all (texts modules.now)) }
-    ensures refused { (all : List Bytes) → SomeTrees schema_tokens all → IfErr result (IsOpeningFault all (texts modules.now)) }
+    ensures refused { (all : List Bytes) → SomeTrees schema_tokens all
+        → IfErr result (IsOpeningFault all (texts modules.now)) }
 {
     let Definitions { catalog, notes } = described;
     let answer = checked_modules(alloc, &catalog, modules);
@@ -164,7 +165,9 @@ fn schema_notes(
     trees: &[SchemaText],
 ) -> Result<Notes, AllocError>
     requires spelled { AllSpell schema_tokens (texts schemas.now) trees.now }
-    ensures { IfOk result (λ notes. spec.AreAllNotes (texts schemas.now) (map (text_marks (known catalog.now)) trees.now) notes.items) }
+    ensures { IfOk result
+        (λ notes. spec.AreAllNotes (texts schemas.now)
+        (map (text_marks (known catalog.now)) trees.now) notes.items) }
 {
     let marks = check_schemas(alloc, catalog, trees)?;
     let notes = all_notes(alloc, schemas, marks.as_slice());
@@ -178,7 +181,8 @@ fn checked_modules(
     catalog: &Catalog,
     modules: &[Vec<u8>],
 ) -> Result<Notes, TextFault>
-    ensures checked { IfOk result (λ notes. spec.ModulesAreChecked catalog.now (texts modules.now) notes.items) }
+    ensures checked { IfOk result
+        (λ notes. spec.ModulesAreChecked catalog.now (texts modules.now) notes.items) }
     ensures refused { IfErr result (SomeRefused module_tokens module_depth (texts modules.now)) }
     ensures first { IfErr result (IsModuleFault (texts modules.now)) }
 {
@@ -195,7 +199,8 @@ fn module_notes(
     trees: &[ModuleText],
 ) -> Result<Notes, TextFault>
     requires spelled { AllSpell module_tokens (texts modules.now) trees.now }
-    ensures checked { IfOk result (λ notes. spec.ModulesAreChecked catalog.now (texts modules.now) notes.items) }
+    ensures checked { IfOk result
+        (λ notes. spec.ModulesAreChecked catalog.now (texts modules.now) notes.items) }
     ensures refused { IfErr result (SomeRefused module_tokens module_depth (texts modules.now)) }
     ensures first { IfErr result (IsModuleFault (texts modules.now)) }
 {

@@ -13,7 +13,7 @@ use crate::action::{Action, CallAction, ShowAction};
 use crate::refusal::RefusalName;
 use sq_items::Items;
 use sq_lex::Name;
-use sq_scope::{signed_value, text_value};
+use sq_literal::{signed_value, text_value};
 use sq_session::Session;
 use sq_store::Store;
 use sq_tree::{Argument, Arguments, CommaList, ScriptItem};
@@ -67,10 +67,12 @@ fn called<S: Store>(
     name: Name,
     arguments: &Arguments,
 ) -> Result<Action, ItemFault>
-    ensures action { IfOk result (λ action. item_of action ≡ item_of_script (script.Call «module» name arguments.now)) }
+    ensures action { IfOk result
+        (λ action. item_of action ≡ item_of_script (script.Call «module» name arguments.now)) }
     ensures prepared { IfOk result (IsPrepared session.now) }
     ensures taken { IfOk result (λ _. IsTaken session.now (script.Call «module» name arguments.now)) }
-    ensures refused { IfErr result (IsItemFault (item_fault session.now (script.Call «module» name arguments.now))) }
+    ensures refused { IfErr result
+        (IsItemFault (item_fault session.now (script.Call «module» name arguments.now))) }
 {
     let Some(procedure) = session.procedure(module, name) else {
         return Err(ItemFault::Refused(RefusalName::UnknownProcedure));

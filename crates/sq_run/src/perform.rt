@@ -32,13 +32,15 @@ pub fn run<S: Store, W: Out>(
     requires open_out { W.failed out.old ≡ false }
 
     // All is written: the report of a run of the trees that the texts spell.
-    ensures report { OnOk result ((r : Run limits.row_numbers (texts schemas.now) (texts modules.now) script.now)
+    ensures report { OnOk result
+        ((r : Run limits.row_numbers (texts schemas.now) (texts modules.now) script.now)
         × Reported r.actions r.start
         (W.taken out.old) (W.taken out.new)) }
 
     // After a refusal nothing was written; after running out of memory, only complete items; after an output fault, a
     // prefix of the report. The output has failed exactly where there is an output fault.
-    ensures stopped { IfErr result (Wrote limits.row_numbers (texts schemas.now) (texts modules.now) script.now (W.taken out.old)
+    ensures stopped { IfErr result
+        (Wrote limits.row_numbers (texts schemas.now) (texts modules.now) script.now (W.taken out.old)
         (W.taken out.new)) }
     ensures still { OnOk result (W.failed out.new ≡ false) }
     ensures failed { IfErr result (λ fault. W.failed out.new ≡ is_write fault) }
@@ -48,7 +50,8 @@ pub fn run<S: Store, W: Out>(
     // it spell trees. For its meaning a module is refused where the definitions refuse it first, for the fault that they find, and
     // the script at its first item that the session does not take. A module is refused only where all schemas spell trees, the
     // script only where all modules do, too.
-    ensures refused { IfErr result (RefusedText limits.row_numbers (texts schemas.now) (texts modules.now) script.now) }
+    ensures refused { IfErr result
+        (RefusedText limits.row_numbers (texts schemas.now) (texts modules.now) script.now) }
     ensures order { IfErr result (InOrder (texts schemas.now) (texts modules.now)) }
 {
     match open_session::<S>(alloc, schemas, modules, limits) {

@@ -79,7 +79,8 @@ pub(crate) fn call_line(
 }
 
 fn write_outputs(alloc: Global, outputs: &[Output], line: &mut Vec<u8>) -> Result<(), AllocError>
-    ensures { OnOk result (line.new.items ≡ line.old.items ++ flat_map report.output_codes (map told_output outputs.now)) }
+    ensures { OnOk result
+        (line.new.items ≡ line.old.items ++ flat_map report.output_codes (map told_output outputs.now)) }
 {
     for output in outputs {
         line.push(b' ')?;

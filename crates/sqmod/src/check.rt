@@ -47,7 +47,8 @@ fn checked<R: Files + AllocGlobal>(rt: &R, request: &CheckRequest<'_>) -> Result
 }
 
 fn check_sources(alloc: Global, sources: &Sources) -> Result<Checked, Fault>
-    ensures { IfErr result (NamesOneOf (length sources.now.schemas.items) (length sources.now.modules.items)) }
+    ensures { IfErr result
+        (NamesOneOf (length sources.now.schemas.items) (length sources.now.modules.items)) }
 {
     match check(
         alloc,
@@ -92,7 +93,13 @@ fn print_note<R: Print>(rt: &R, file: &str, note: &Note, remark: Remark) -> io::
     let owner = text_of(&note.owner);
     let name = text_of(&note.name);
     match remark {
-        Remark::Fault(fault) => println!(rt; "{file}:{line}:{column}: {owner}.{name}: {fault:?}"),
+        Remark::Fault(fault) => match fault.about() {
+            Some(about) => {
+                let about = text_of(&about);
+                println!(rt; "{file}:{line}:{column}: {owner}.{name}: {fault} {about}")
+            }
+            None => println!(rt; "{file}:{line}:{column}: {owner}.{name}: {fault}"),
+        },
         Remark::Updatable => println!(rt; "{file}:{line}:{column}: {owner}.{name}: updatable"),
         Remark::NotUpdatable(rule) => {
             println!(rt; "{file}:{line}:{column}: {owner}.{name}: not updatable: {rule}")

@@ -37,7 +37,8 @@ fn report_of_texts<R: Print + AllocGlobal>(
     limits: Limits,
 ) -> Result<(), Fault>
     requires { limits.row_numbers ≤ MOST_ROW_NUMBERS }
-    ensures { IfErr result (spec.NamesOneOf (length texts.now.schemas.items) (length texts.now.modules.items)) }
+    ensures { IfErr result
+        (spec.NamesOneOf (length texts.now.schemas.items) (length texts.now.modules.items)) }
 {
     let Ok(mut writer) = BufWriter::new(rt.alloc(), io::writer(rt)) else {
         return Err(Fault::NoMemory(0));
@@ -74,7 +75,8 @@ fn run_texts<W: Write>(
     writer: &mut W,
 ) -> Result<(), Fault>
     requires { limits.row_numbers ≤ MOST_ROW_NUMBERS }
-    ensures { IfErr result (spec.NamesOneOf (length texts.now.schemas.items) (length texts.now.modules.items)) }
+    ensures { IfErr result
+        (spec.NamesOneOf (length texts.now.schemas.items) (length texts.now.modules.items)) }
 {
     let mut out = OutOf::new(writer);
     let ran = run::<HeapStore, OutOf<&mut W>>(

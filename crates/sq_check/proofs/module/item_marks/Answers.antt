@@ -1,7 +1,9 @@
-use Rattle.std.proofs.Common.{refl}
+use Rattle.std.proofs.Common.{◌∙◌}
+use Rattle.sq_tree.specs.Module.{module_item_tokens}
+use Rattle.sq_tree.specs.Starts.{module_head}
 use Rattle.sq_check.specs.Modules.{IsMark}
-use Rattle.sq_check.proofs.Modules.{start_next}
 use Rattle.sq_check.proofs.Places.{all_next}
+use Rattle.sq_check.proofs.Walk.{next_part}
 use Rattle.sq_check.proofs.module.item_marks.Goals as goal
 
 pub loop-item-preserved : goal.loop-item-preserved
@@ -10,9 +12,10 @@ loop-item-preserved c =
     let items = c.as_slice-item-items.ensures in
     let lt = rw items at c.loop-item-test.true in
     let is = rw items at c.item-item.is in
+    let added = c.in_ok-add_mark.ensures in
     record {
-      token = start_next m c.loop-item.item-index c.item-item.result c.loop-item.token c.token_count.result c.saturating_add-token.result lt is c.loop-item.invariant.token c.token_count.ensures c.saturating_add-token.ensures;
-      marks = rw c.in_ok-push.ensures.ok
-          (all_next (IsMark c.args.catalog.now c.args.program.now m) m.items c.loop-item.item-index c.item-item.result c.loop-item.marks _ lt is c.loop-item.invariant.marks
-          (record { token = c.loop-item.invariant.token; owner = refl; name = c.item_name.ensures; remark = c.in_ok-remark.ensures }));
+      token = next_part module_item_tokens (module_head m) m.items c.loop-item.item-index c.item-item.result c.loop-item.token c.token_count.result c.saturating_add-token.result lt is c.loop-item.invariant.token c.token_count.ensures c.saturating_add-token.ensures;
+      marks = rw added.1
+          (all_next (IsMark c.args.catalog.now c.args.program.now m) m.items c.loop-item.item-index c.item-item.result c.loop-item.marks added.0 lt is c.loop-item.invariant.marks
+          (record { token = added.2.token ∙ c.loop-item.invariant.token; owner = added.2.owner; name = added.2.name; remark = added.2.remark }));
     }
