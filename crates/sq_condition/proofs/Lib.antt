@@ -13,6 +13,8 @@ pub mod Lone
 pub mod Membership
 pub mod NoFunctions
 pub mod NotTrue
+pub mod OneItem
+pub mod OwnTests
 pub mod Phases
 pub mod Predicates
 pub mod QueryRows
@@ -21,6 +23,7 @@ pub mod RightLines
 pub mod SamePlaces
 pub mod Subqueries
 pub mod TableIndexes
+pub mod Thins
 pub mod Turns
 pub mod Unwanted
 pub mod Wanted

@@ -5,6 +5,7 @@ pub mod Item
 pub mod Members
 pub mod Memo
 pub mod Nests
+pub mod OwnTest
 pub mod Predicate
 pub mod Product
 pub mod Specification

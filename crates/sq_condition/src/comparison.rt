@@ -45,7 +45,8 @@ pub(crate) fn compared_with_query(
     left: &Value,
     rows: Result<Vec<Row>, Fault>,
 ) -> Result<Truth, Fault>
-    ensures { (o : Outcome (List Row)) → MeansRows rows o → Means result (and_then o (compared_with_found comparison quantifier left.now)) }
+    ensures { (o : Outcome (List Row)) → MeansRows rows o
+        → Means result (and_then o (compared_with_found comparison quantifier left.now)) }
 {
     let rows = rows?;
     compared_with_rows(comparison, quantifier, left, rows.as_slice())
@@ -53,7 +54,8 @@ pub(crate) fn compared_with_query(
 
 /// Whether a subquery has a row.
 pub(crate) fn exists(rows: Result<Vec<Row>, Fault>) -> Result<Truth, Fault>
-    ensures { (o : Outcome (List Row)) → MeansRows rows o → Means result (and_then o (λ rs. Ok (known (meaning.has_rows rs)))) }
+    ensures { (o : Outcome (List Row)) → MeansRows rows o
+        → Means result (and_then o (λ rs. Ok (known (meaning.has_rows rs)))) }
 {
     let rows = rows?;
     Ok(Truth::from(!rows.is_empty()))

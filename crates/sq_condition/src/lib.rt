@@ -7,9 +7,11 @@ mod condition;
 mod item;
 mod members;
 mod memo;
+mod own_test;
 mod predicate;
 mod product;
 mod specification;
+mod thinned;
 
 pub use condition::{outermost_rows, truth};
 pub use memo::Memo;

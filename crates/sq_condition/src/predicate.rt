@@ -12,7 +12,7 @@ ghost use Rattle.sq_condition.specs.Predicate.{with_not};
 
 use crate::comparison::compared;
 use sq_bound::BoundExpr;
-use sq_expression::{Context, Fault, Frame, value};
+use sq_expression::{Context, Fault, Frame, standing_value, value};
 use sq_tree::Comparison;
 use sq_value::{Truth, Value, like};
 
@@ -41,11 +41,37 @@ pub(crate) fn comparison_truth(
     frame: &Frame<'_>,
     context: &Context<'_>,
 ) -> Result<Truth, Fault>
-    ensures { Meets result (truth_in frame.now context.now (compare comparison (on_line frame.now left.now) (on_line frame.now right.now))) }
+    ensures { Meets result
+        (truth_in frame.now context.now
+        (compare comparison (on_line frame.now left.now) (on_line frame.now right.now))) }
 {
-    let left = value(left, frame, context)?;
-    let right = value(right, frame, context)?;
-    Ok(compared(comparison, left.get(), right.get()))
+    match standing_value(left, frame, context) {
+        Some(left) => comparison_with(comparison, left, right, frame, context),
+        None => {
+            let left = value(left, frame, context)?;
+            comparison_with(comparison, left.get(), right, frame, context)
+        }
+    }
+}
+
+fn comparison_with(
+    comparison: Comparison,
+    left: &Value,
+    right: &BoundExpr,
+    frame: &Frame<'_>,
+    context: &Context<'_>,
+) -> Result<Truth, Fault>
+    ensures { Meets result
+        (truth_in frame.now context.now
+        (compare comparison (literal left.now) (on_line frame.now right.now))) }
+{
+    match standing_value(right, frame, context) {
+        Some(right) => Ok(compared(comparison, left, right)),
+        None => {
+            let right = value(right, frame, context)?;
+            Ok(compared(comparison, left, right.get()))
+        }
+    }
 }
 
 /// `operand BETWEEN low AND high`. The upper end isn't evaluated where the lower one already makes it false.
@@ -56,7 +82,8 @@ pub(crate) fn between_truth(
     frame: &Frame<'_>,
     context: &Context<'_>,
 ) -> Result<Truth, Fault>
-    ensures { Meets result (truth_in frame.now context.now (between (on_line frame.now operand.now) (on_line frame.now low.now)
+    ensures { Meets result
+        (truth_in frame.now context.now (between (on_line frame.now operand.now) (on_line frame.now low.now)
         (on_line frame.now high.now))) }
 {
     let above = comparison_truth(Comparison::GreaterOrEqual, operand, low, frame, context)?;
@@ -74,7 +101,9 @@ pub(crate) fn in_list_truth(
     frame: &Frame<'_>,
     context: &Context<'_>,
 ) -> Result<Truth, Fault>
-    ensures { Meets result (truth_in frame.now context.now (in_list (on_line frame.now operand.now) (map (on_line frame.now) list.now))) }
+    ensures { Meets result
+        (truth_in frame.now context.now
+        (in_list (on_line frame.now operand.now) (map (on_line frame.now) list.now))) }
 {
     let mut so_far = Truth::False;
     for expr in list {
@@ -95,7 +124,8 @@ pub(crate) fn like_truth(
     frame: &Frame<'_>,
     context: &Context<'_>,
 ) -> Result<Truth, Fault>
-    ensures { Meets result (truth_in frame.now context.now (like (on_line frame.now text.now) (on_line frame.now pattern.now)
+    ensures { Meets result
+        (truth_in frame.now context.now (like (on_line frame.now text.now) (on_line frame.now pattern.now)
         (option_map (on_line frame.now) escape.now))) }
 {
     let text = value(text, frame, context)?;
@@ -109,7 +139,8 @@ fn like_pattern(
     frame: &Frame<'_>,
     context: &Context<'_>,
 ) -> Result<Truth, Fault>
-    ensures { Meets result (truth_in frame.now context.now (like (literal text.now) (on_line frame.now pattern.now)
+    ensures { Meets result
+        (truth_in frame.now context.now (like (literal text.now) (on_line frame.now pattern.now)
         (option_map (on_line frame.now) escape.now))) }
 {
     let pattern = value(pattern, frame, context)?;
@@ -134,7 +165,8 @@ fn like_escape(
 }
 
 fn like_or_status(text: &Value, pattern: &Value, escape: Option<&Value>) -> Result<Truth, Fault>
-    ensures { Meets result (with_status like_status (liked text.now pattern.now (option_copied escape.entry))) }
+    ensures { Meets result
+        (with_status like_status (liked text.now pattern.now (option_copied escape.entry))) }
 {
     Ok(like(text, pattern, escape)?)
 }

@@ -9,6 +9,7 @@ pub mod Indexed
 pub mod Kept
 pub mod LeftOut
 pub mod OnAnswers
+pub mod Standing
 pub mod Tables
 pub mod UserText
 pub mod Views

@@ -40,7 +40,8 @@ fn number(operator: Operator, left: Decimal, right: Decimal) -> Result<Value, Fa
 }
 
 fn product(left: Decimal, right: Decimal) -> Result<Value, Fault>
-    ensures { Meets result (with_places (left.scale + right.scale) (number_outcome (number.multiplied left right))) }
+    ensures { Meets result
+        (with_places (left.scale + right.scale) (number_outcome (number.multiplied left right))) }
 {
     if left.scale() + right.scale() > GREATEST_SCALE {
         return Err(Fault::NOT_WELL_FORMED);

@@ -1,7 +1,7 @@
 //! The values of value expressions (ISO/IEC 9075:1992, 6.2, 6.5 and 6.11 to 6.13). Operands are evaluated from left to
 //! right, and the first status met is the outcome.
 
-ghost use Rattle.std.specs.Prelude.{◌≡◌, [], if◌then◌else◌, map, slice_get, IfOk, Ok};
+ghost use Rattle.std.specs.Prelude.{◌≡◌, [], if◌then◌else◌, map, slice_get, IfOk, IfSome, Ok};
 ghost use Rattle.sq_value.specs.declared.value.Value.TheVariants.{Null};
 ghost use Rattle.sq_meaning.specs.Status.{Outcome, and_then, each, well_formed};
 ghost use Rattle.sq_meaning.specs.Environment.{with_indicator, is_below_zero};
@@ -12,15 +12,15 @@ ghost use Rattle.sq_value.specs.declared.value.Value.{Value as AnyValue};
 ghost use Rattle.sq_bound.specs.Expression.{parameter_meant};
 ghost use Rattle.sq_expression.specs.Arithmetic.{operation};
 ghost use Rattle.sq_expression.specs.Fault.{Meets};
-ghost use Rattle.sq_expression.specs.Frame.{env_of, group_values, inputs_of, on_line, reading};
+ghost use Rattle.sq_expression.specs.Frame.{column_meant, env_of, group_values, inputs_of, on_line, reading};
 
 use crate::arithmetic::{calculated, signed};
 use crate::context::Context;
 use crate::fault::Fault;
 use crate::found::Found;
-use crate::frame::{Frame, column_value};
+use crate::frame::{Frame, column_value, value_at};
 use crate::whole_expression::whole_value;
-use sq_bound::{BoundExpr, Input, Operator};
+use sq_bound::{BoundExpr, Input, Operator, Place};
 use sq_items::Items;
 use sq_lex::Name;
 use sq_tree::Sign;
@@ -33,11 +33,49 @@ pub fn value<'a>(
     frame: &Frame<'a>,
     context: &Context<'a>,
 ) -> Result<Found<'a>, Fault>
-    ensures { Meets result (meaning.value (reading context.now) (on_line frame.now expr.now) (env_of frame.now context.now)) }
+    ensures { Meets result
+        (meaning.value (reading context.now) (on_line frame.now expr.now) (env_of frame.now context.now)) }
 {
     match whole_value(expr, frame, context) {
         Some(number) => Ok(Found::made(number.value())),
         None => any_value(expr, frame, context),
+    }
+}
+
+/// The value of a literal, a column, or a parameter without an indicator, which stands somewhere. None says nothing.
+pub fn standing_value<'a>(
+    expr: &'a BoundExpr,
+    frame: &Frame<'a>,
+    context: &Context<'a>,
+) -> Option<&'a Value>
+    ensures { IfSome result
+        (λ v. meaning.value (reading context.now) (on_line frame.now expr.now)
+        (env_of frame.now context.now) ≡ Ok
+        v.now) }
+{
+    match expr {
+        BoundExpr::Literal(value) => Some(value),
+        BoundExpr::Column(place) => standing_column(*place, frame),
+        BoundExpr::Parameter(input) => standing_input(*input, context.parameters),
+        _ => None,
+    }
+}
+
+/// The value of a column where it stands.
+fn standing_column<'a>(place: Place, frame: &Frame<'a>) -> Option<&'a Value>
+    ensures { IfSome result (λ v. column_meant frame.now place ≡ Ok v.now) }
+{
+    value_at(place.depth, place, frame)
+}
+
+/// The value of a parameter without an indicator where it stands.
+fn standing_input<'a>(input: Input, parameters: &'a [Value]) -> Option<&'a Value>
+    ensures { IfSome result
+        (λ v. placed_value (parameter_meant input) (inputs_of parameters.now) ≡ Ok v.now) }
+{
+    match input.indicator {
+        None => parameters.get(input.parameter),
+        Some(_) => None,
     }
 }
 
@@ -47,7 +85,8 @@ fn any_value<'a>(
     frame: &Frame<'a>,
     context: &Context<'a>,
 ) -> Result<Found<'a>, Fault>
-    ensures { Meets result (meaning.value (reading context.now) (on_line frame.now expr.now) (env_of frame.now context.now)) }
+    ensures { Meets result
+        (meaning.value (reading context.now) (on_line frame.now expr.now) (env_of frame.now context.now)) }
 {
     match expr {
         BoundExpr::Literal(value) => Ok(Found::lent(value)),
@@ -71,7 +110,8 @@ fn any_value<'a>(
 
 /// The operand's value with the sign before it, or its fault.
 fn signed_or_fault<'a>(sign: Sign, operand: Result<Found<'a>, Fault>) -> Result<Found<'a>, Fault>
-    ensures { (outcome : Outcome AnyValue) → Meets operand.entry outcome → Meets result (and_then outcome (meaning.with_sign sign)) }
+    ensures { (outcome : Outcome AnyValue) → Meets operand.entry outcome
+        → Meets result (and_then outcome (meaning.with_sign sign)) }
 {
     let operand = operand?;
     Ok(Found::made(signed(sign, operand.get())?))
@@ -83,7 +123,8 @@ fn calculated_or_fault<'a>(
     left: Found<'a>,
     right: Result<Found<'a>, Fault>,
 ) -> Result<Found<'a>, Fault>
-    ensures { (outcome : Outcome AnyValue) → Meets right.entry outcome → Meets result (and_then outcome (operation operator left.entry)) }
+    ensures { (outcome : Outcome AnyValue) → Meets right.entry outcome
+        → Meets result (and_then outcome (operation operator left.entry)) }
 {
     match right {
         Ok(right) => Ok(Found::made(calculated(operator, left.get(), right.get())?)),
@@ -173,7 +214,8 @@ pub fn owned_value(
     frame: &Frame<'_>,
     context: &Context<'_>,
 ) -> Result<Value, Fault>
-    ensures { Meets result (meaning.value (reading context.now) (on_line frame.now expr.now) (env_of frame.now context.now)) }
+    ensures { Meets result
+        (meaning.value (reading context.now) (on_line frame.now expr.now) (env_of frame.now context.now)) }
 {
     Ok(value(expr, frame, context)?.into_value(context.alloc)?)
 }

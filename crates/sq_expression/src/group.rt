@@ -28,7 +28,8 @@ pub fn grouped<'a>(
     outer: Option<&'a Frame<'a>>,
     context: &Context<'_>,
 ) -> Result<Vec<Group<'a>>, Fault>
-    ensures { MeetsAs groups_in result (seen_of_groups columns.now (map call_of calls.now) outer.entry context.now (lines_in lines.now)) }
+    ensures { MeetsAs groups_in result
+        (seen_of_groups columns.now (map call_of calls.now) outer.entry context.now (lines_in lines.now)) }
 {
     let lent = lines.lend(context.alloc)?;
     groups_by(columns, calls, lent.as_slice(), outer, context)
@@ -41,7 +42,8 @@ fn groups_by<'a>(
     outer: Option<&Frame<'_>>,
     context: &Context<'_>,
 ) -> Result<Vec<Group<'a>>, Fault>
-    ensures { MeetsAs groups_in result (seen_of_groups columns.now (map call_of calls.now) outer.entry context.now (lines_lent lines.now)) }
+    ensures { MeetsAs groups_in result
+        (seen_of_groups columns.now (map call_of calls.now) outer.entry context.now (lines_lent lines.now)) }
 {
     if columns.is_empty() {
         return only_group(calls, lines, outer, context);
@@ -56,7 +58,8 @@ fn only_group<'a>(
     outer: Option<&Frame<'_>>,
     context: &Context<'_>,
 ) -> Result<Vec<Group<'a>>, Fault>
-    ensures { MeetsAs groups_in result (each (seen_of_group (map call_of calls.now) outer.entry context.now) (lines_lent lines.now ∷ [])) }
+    ensures { MeetsAs groups_in result
+        (each (seen_of_group (map call_of calls.now) outer.entry context.now) (lines_lent lines.now ∷ [])) }
 {
     let group = group_of(calls, lines, outer, context)?;
     let mut groups = Vec::new(context.alloc);
@@ -72,7 +75,8 @@ fn column_groups<'a>(
     outer: Option<&Frame<'_>>,
     context: &Context<'_>,
 ) -> Result<Vec<Group<'a>>, Fault>
-    ensures { MeetsAs groups_in result (and_then (classes_of columns.now outer.entry context.now (lines_lent lines.now))
+    ensures { MeetsAs groups_in result
+        (and_then (classes_of columns.now outer.entry context.now (lines_lent lines.now))
         (each (seen_of_group (map call_of calls.now) outer.entry context.now))) }
 {
     let classes = classes_of(columns, lines, outer, context)?;
@@ -87,7 +91,8 @@ fn groups_of<'a>(
     outer: Option<&Frame<'_>>,
     context: &Context<'_>,
 ) -> Result<Vec<Group<'a>>, Fault>
-    ensures { MeetsAs groups_in result (each (seen_of_group (map call_of calls.now) outer.entry context.now) (map lines_of_list lists.now)) }
+    ensures { MeetsAs groups_in result
+        (each (seen_of_group (map call_of calls.now) outer.entry context.now) (map lines_of_list lists.now)) }
 {
     let mut groups = Vec::new(context.alloc);
     for list in lists {
@@ -104,7 +109,8 @@ fn group_of<'a>(
     outer: Option<&Frame<'_>>,
     context: &Context<'_>,
 ) -> Result<Group<'a>, Fault>
-    ensures { MeetsAs group_seen result (seen_of_group (map call_of calls.now) outer.entry context.now (lines_lent lines.now)) }
+    ensures { MeetsAs group_seen result
+        (seen_of_group (map call_of calls.now) outer.entry context.now (lines_lent lines.now)) }
 {
     let functions = function_values(calls, lines, outer, context)?;
     let line = first_line(context.alloc, lines)?;
@@ -128,7 +134,8 @@ fn classes_of<'a>(
     outer: Option<&Frame<'_>>,
     context: &Context<'_>,
 ) -> Result<ByKey<&'a [&'a Row]>, Fault>
-    ensures { MeetsAs line_lists result (classes_of columns.now outer.entry context.now (lines_lent lines.now)) }
+    ensures { MeetsAs line_lists result
+        (classes_of columns.now outer.entry context.now (lines_lent lines.now)) }
 {
     let mut classes = ByKey::new(context.alloc);
     for line in lines {
@@ -182,7 +189,8 @@ pub fn add_group_if<'a>(
     groups: &mut Vec<Group<'a>>,
 ) -> Result<(), Fault>
     ensures { (o : Outcome Bool) → Meets is_kept o → MeetsAs (λ done. map group_seen groups.new.items) result
-        (and_then o (λ kept. Ok (map group_seen groups.old.items ++ (if kept then group_seen group.entry ∷ [] else [])))) }
+        (and_then o (λ kept. Ok
+        (map group_seen groups.old.items ++ (if kept then group_seen group.entry ∷ [] else [])))) }
 {
     match is_kept {
         Ok(true) => {

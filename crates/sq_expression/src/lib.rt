@@ -22,7 +22,7 @@ mod whole_expression;
 
 pub use arithmetic::{GREATEST_SCALE, number_value};
 pub use context::Context;
-pub use expression::{owned_value, value};
+pub use expression::{owned_value, standing_value, value};
 pub use fault::{Failure, Fault};
 pub use found::Found;
 pub use frame::{Frame, Group, Lines, line_frame, value_at, value_in_line};

@@ -29,7 +29,8 @@ pub fn shown_lines<'a>(
     outer: Option<&'a Frame<'a>>,
     context: &Context<'_>,
 ) -> Result<Vec<Row>, Fault>
-    ensures { HasRows result (and_then (each (λ line. row_shown [] list.now (line_env line outer.entry context.now) context.now)
+    ensures { HasRows result
+        (and_then (each (λ line. row_shown [] list.now (line_env line outer.entry context.now) context.now)
         (lines_in lines.now)) (λ rows. Ok (rows_left is_distinct rows))) }
 {
     let lent = lines.lend(context.alloc)?;
@@ -44,7 +45,8 @@ fn rows_of_lines(
     outer: Option<&Frame<'_>>,
     context: &Context<'_>,
 ) -> Result<Vec<Row>, Fault>
-    ensures { HasRows result (each (λ line. row_shown [] list.now (line_env line outer.entry context.now) context.now)
+    ensures { HasRows result
+        (each (λ line. row_shown [] list.now (line_env line outer.entry context.now) context.now)
         (lines_lent lines.now)) }
 {
     let mut rows = Vec::new(context.alloc);
@@ -61,7 +63,8 @@ fn row_of_line(
     outer: Option<&Frame<'_>>,
     context: &Context<'_>,
 ) -> Result<Row, Fault>
-    ensures { Meets result (row_shown [] list.now (line_env (lent line.now) outer.entry context.now) context.now) }
+    ensures { Meets result
+        (row_shown [] list.now (line_env (lent line.now) outer.entry context.now) context.now) }
 {
     row_of(list, &line_frame(line, outer), context)
 }
@@ -74,7 +77,8 @@ pub fn shown_groups(
     outer: Option<&Frame<'_>>,
     context: &Context<'_>,
 ) -> Result<Vec<Row>, Fault>
-    ensures { HasRows result (and_then (each (row_seen list.now outer.entry context.now) (map group_seen groups.now))
+    ensures { HasRows result
+        (and_then (each (row_seen list.now outer.entry context.now) (map group_seen groups.now))
         (λ rows. Ok (rows_left is_distinct rows))) }
 {
     let rows = rows_of_groups(list, groups, outer, context);

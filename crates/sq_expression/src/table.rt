@@ -40,14 +40,16 @@ pub fn rows_at<'a>(place: TablePlace, context: &Context<'a>) -> Result<Vec<&'a R
 }
 
 fn base_rows_at<'a>(place: usize, context: &Context<'a>) -> Result<Vec<&'a Row>, Fault>
-    ensures { MeetsAs rows_of_line result (and_then (base_there context.now place) (λ base. Ok (lent base.rows.items))) }
+    ensures { MeetsAs rows_of_line result
+        (and_then (base_there context.now place) (λ base. Ok (lent base.rows.items))) }
 {
     let base = base_at(place, context)?;
     Ok(Vec::from_slice(context.alloc, base.rows.as_slice())?)
 }
 
 fn view_rows_at<'a>(place: usize, context: &Context<'a>) -> Result<Vec<&'a Row>, Fault>
-    ensures { MeetsAs rows_of_line result (and_then (view_there context.now place) (λ view. Ok view.rows.items)) }
+    ensures { MeetsAs rows_of_line result
+        (and_then (view_there context.now place) (λ view. Ok view.rows.items)) }
 {
     view_at(place, context)?.lend(context.alloc)
 }
@@ -63,14 +65,16 @@ pub fn no_rows_at<'a>(place: TablePlace, context: &Context<'a>) -> Result<Vec<&'
 }
 
 fn no_base_rows<'a>(place: usize, context: &Context<'a>) -> Result<Vec<&'a Row>, Fault>
-    ensures { HasRowsBut (λ row. ⊤) result (and_then (base_there context.now place) (λ base. Ok (lent base.rows.items))) }
+    ensures { HasRowsBut (λ row. ⊤) result
+        (and_then (base_there context.now place) (λ base. Ok (lent base.rows.items))) }
 {
     base_at(place, context)?;
     Ok(Vec::new(context.alloc))
 }
 
 fn no_view_rows<'a>(place: usize, context: &Context<'a>) -> Result<Vec<&'a Row>, Fault>
-    ensures { HasRowsBut (λ row. ⊤) result (and_then (view_there context.now place) (λ view. Ok view.rows.items)) }
+    ensures { HasRowsBut (λ row. ⊤) result
+        (and_then (view_there context.now place) (λ view. Ok view.rows.items)) }
 {
     view_at(place, context)?;
     Ok(Vec::new(context.alloc))
@@ -102,7 +106,7 @@ impl ViewRows {
     fn lend(&self, alloc: Global) -> Result<Vec<&Row>, Fault>
         ensures { MeetsAs rows_of_line result (Ok self.now.rows.items) }
     {
-        let mut rows = Vec::new(alloc);
+        let mut rows = Vec::with_capacity(alloc, self.rows.len())?;
         for row in self.rows.as_slice() {
             rows.push(row)?;
         }

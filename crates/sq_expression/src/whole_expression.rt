@@ -16,7 +16,9 @@ pub(crate) fn whole_value(
     frame: &Frame<'_>,
     context: &Context<'_>,
 ) -> Option<Whole>
-    ensures { IfSome result (λ n. meaning.value (reading context.now) (on_line frame.now expr.now) (env_of frame.now context.now) ≡ Ok
+    ensures { IfSome result
+        (λ n. meaning.value (reading context.now) (on_line frame.now expr.now)
+        (env_of frame.now context.now) ≡ Ok
         (whole n)) }
 {
     match expr {
