@@ -53,7 +53,7 @@ is_met_in keys content r row =
 abbrev pub reference_met_in : List Keys → Content → ℕ → Reference → Bool
 reference_met_in keys content place r = list_all (λ n. is_met_in keys content r n.row) (table_at content place).rows
 
--- so it is for each reference of each table
+-- every row meets each reference of its table
 abbrev pub references_met : List BaseTable → Content → Bool
 references_met bases content = list_all (λ p. list_all (reference_met_in (keys_of_bases bases) content p.0) p.1.references) (enumerate_from 0 bases)
 

@@ -59,8 +59,10 @@ pub(crate) fn complete<N: Names, S: Store>(
     requires domains { AreRowsPut leaf.now.table.columns changed.changes.items }
     requires numbers { insert_count changed.changes.items ≤ S.row_numbers store.old + 1 -
         (table_at (S.content_now store.old) leaf.now.table.place).next }
-    requires keeps { KeepsRest leaf.now.table (table_at (S.content_now store.old) leaf.now.table.place) changed }
-    ensures meant { let seen = seen_by (N.view_queries names.now) (S.content_now store.old) user parameters.now in
+    requires keeps { KeepsRest leaf.now.table
+        (table_at (S.content_now store.old) leaf.now.table.place) changed }
+    ensures meant { let seen = seen_by (N.view_queries names.now)
+        (S.content_now store.old) user parameters.now in
         (kinds : List Kind) (shown : Shown)
         → MayRead (N.base_tables names.now) (N.view_queries names.now) (N.column_kinds names.now)
         (S.content_now store.old) user parameters.now kinds shown
@@ -115,23 +117,31 @@ fn rows_admitted<N: Names, S: Store>(
     leaf: &Leaf,
     changed: &Changed,
 ) -> Result<Vec<Referenced>, Fault>
-    requires keys { S.key_columns setting.now.store.now ≡ keys_of_bases (N.base_tables setting.now.names.now) }
-    requires there { BasesAreThere (N.base_tables setting.now.names.now) (N.column_kinds setting.now.names.now) }
+    requires keys { S.key_columns setting.now.store.now
+        ≡ keys_of_bases (N.base_tables setting.now.names.now) }
+    requires there { BasesAreThere (N.base_tables setting.now.names.now)
+        (N.column_kinds setting.now.names.now) }
     requires leaf { IsLeaf (N.column_kinds setting.now.names.now) leaf.now }
     requires base { IsBase (N.base_tables setting.now.names.now) leaf.now.table }
     requires wide { are_wide (length leaf.now.table.columns) (rows_put changed.now.changes.items) ≡ true }
-    ensures known { IfOk result (λ referenced. are_of_keys (S.key_columns setting.now.store.now) referenced.items ≡ true) }
-    ensures values { IfOk result (λ referenced. list_all (has_its_values leaf.now.table) (rows_put changed.now.changes.items) ≡ true) }
+    ensures known { IfOk result
+        (λ referenced. are_of_keys (S.key_columns setting.now.store.now) referenced.items ≡ true) }
+    ensures values { IfOk result
+        (λ referenced. list_all (has_its_values leaf.now.table) (rows_put changed.now.changes.items) ≡ true) }
     ensures list { IfOk result (λ referenced. referenced.items ≡ referred_by leaf.now.table.references
         (rows_put changed.now.changes.items)) }
-    ensures met { let seen = seen_by (N.view_queries setting.now.names.now) (S.content_now setting.now.store.now) setting.now.user
+    ensures met { let seen = seen_by (N.view_queries setting.now.names.now)
+        (S.content_now setting.now.store.now) setting.now.user
         setting.now.parameters.now in (parameters : List Kind) (shown : Shown)
-        → MayRead (N.base_tables setting.now.names.now) (N.view_queries setting.now.names.now) (N.column_kinds setting.now.names.now)
+        → MayRead (N.base_tables setting.now.names.now) (N.view_queries setting.now.names.now)
+        (N.column_kinds setting.now.names.now)
         (S.content_now setting.now.store.now) setting.now.user setting.now.parameters.now parameters shown
         → AreRowsPut leaf.now.table.columns changed.now.changes.items
-        → MeetsAs (λ referenced. tt) result (rows_met shown seen leaf.now (rows_put changed.now.changes.items)) }
+        → MeetsAs (λ referenced. tt) result
+        (rows_met shown seen leaf.now (rows_put changed.now.changes.items)) }
     ensures right { (parameters : List Kind) (tables : TablePlace → Outcome (List (List AnyValue)))
-        → MayRead (N.base_tables setting.now.names.now) (N.view_queries setting.now.names.now) (N.column_kinds setting.now.names.now)
+        → MayRead (N.base_tables setting.now.names.now) (N.view_queries setting.now.names.now)
+        (N.column_kinds setting.now.names.now)
         (S.content_now setting.now.store.now) setting.now.user setting.now.parameters.now parameters tables
         → AreRowsPut leaf.now.table.columns changed.now.changes.items → IfErr result MayEnd }
 {
@@ -150,10 +160,13 @@ fn apply<S: Store>(
     changes: Vec<Change>,
 ) -> Result<(), Fault>
     requires known { place < length (S.content_now store.old) }
-    requires columns { list_all (has_keys (keys_at (S.key_columns store.old) place)) (rows_put changes.items) ≡ true }
-    requires fits { insert_count changes.items ≤ S.row_numbers store.old + 1 - (table_at (S.content_now store.old) place).next }
+    requires columns { list_all (has_keys (keys_at (S.key_columns store.old) place))
+        (rows_put changes.items) ≡ true }
+    requires fits { insert_count changes.items ≤ S.row_numbers store.old + 1 -
+        (table_at (S.content_now store.old) place).next }
     ensures ok { OnOk result (S.content_now store.new
-        ≡ with_table (S.content_now store.old) place (changed_by (table_at (S.content_now store.old) place) changes.items)) }
+        ≡ with_table (S.content_now store.old) place
+        (changed_by (table_at (S.content_now store.old) place) changes.items)) }
     ensures before { OnOk result (S.before store.new ≡ Some (S.content_now store.old)) }
     ensures distinct { Meets result (demanded (has_distinct_keys (keys_at (S.key_columns store.old) place)
         (changed_by (table_at (S.content_now store.old) place) changes.items)) IntegrityConstraintViolation) }

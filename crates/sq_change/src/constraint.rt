@@ -32,17 +32,22 @@ pub(crate) fn check_options_met<N: Names, S: Store>(
     leaf: &Leaf,
     changes: &[Change],
 ) -> Result<(), Fault>
-    requires { FindsConds (N.base_tables setting.now.names.now) (N.column_kinds setting.now.names.now) leaf.now.conditions }
-    ensures met { let seen = seen_by (N.view_queries setting.now.names.now) (S.content_now setting.now.store.now) setting.now.user
+    requires { FindsConds (N.base_tables setting.now.names.now)
+        (N.column_kinds setting.now.names.now) leaf.now.conditions }
+    ensures met { let seen = seen_by (N.view_queries setting.now.names.now)
+        (S.content_now setting.now.store.now) setting.now.user
         setting.now.parameters.now in (parameters : List Kind) (shown : Shown)
-        → MayRead (N.base_tables setting.now.names.now) (N.view_queries setting.now.names.now) (N.column_kinds setting.now.names.now)
+        → MayRead (N.base_tables setting.now.names.now) (N.view_queries setting.now.names.now)
+        (N.column_kinds setting.now.names.now)
         (S.content_now setting.now.store.now) setting.now.user setting.now.parameters.now parameters shown
         → AreOnRowsPut (N.column_kinds setting.now.names.now) parameters leaf.now.conditions changes.now
         → Meets result (all_satisfied (check_option_met shown seen leaf.now) (rows_put changes.now)) }
     ensures right { (parameters : List Kind) (tables : TablePlace → Outcome (List (List AnyValue)))
-        → MayRead (N.base_tables setting.now.names.now) (N.view_queries setting.now.names.now) (N.column_kinds setting.now.names.now)
+        → MayRead (N.base_tables setting.now.names.now) (N.view_queries setting.now.names.now)
+        (N.column_kinds setting.now.names.now)
         (S.content_now setting.now.store.now) setting.now.user setting.now.parameters.now parameters tables
-        → AreOnRowsPut (N.column_kinds setting.now.names.now) parameters leaf.now.conditions changes.now → IfErr result MayEnd }
+        → AreOnRowsPut (N.column_kinds setting.now.names.now) parameters leaf.now.conditions changes.now
+        → IfErr result MayEnd }
 {
     let conditions = demanded(leaf);
     for change in changes {
@@ -66,17 +71,22 @@ fn meets_check_option<N: Names, S: Store>(
     conditions: &[Shared<BoundCond>],
     row: &Row,
 ) -> Result<(), Fault>
-    requires { FindsConds (N.base_tables setting.now.names.now) (N.column_kinds setting.now.names.now) conditions.now }
-    ensures met { let seen = seen_by (N.view_queries setting.now.names.now) (S.content_now setting.now.store.now) setting.now.user
+    requires { FindsConds (N.base_tables setting.now.names.now)
+        (N.column_kinds setting.now.names.now) conditions.now }
+    ensures met { let seen = seen_by (N.view_queries setting.now.names.now)
+        (S.content_now setting.now.store.now) setting.now.user
         setting.now.parameters.now in (parameters : List Kind) (shown : Shown)
-        → MayRead (N.base_tables setting.now.names.now) (N.view_queries setting.now.names.now) (N.column_kinds setting.now.names.now)
+        → MayRead (N.base_tables setting.now.names.now) (N.view_queries setting.now.names.now)
+        (N.column_kinds setting.now.names.now)
         (S.content_now setting.now.store.now) setting.now.user setting.now.parameters.now parameters shown
         → AllByRecursion (IsOnRow (N.column_kinds setting.now.names.now) parameters row.now) conditions.now
         → Meets result (all_satisfied (condition_met shown seen row.now) conditions.now) }
     ensures right { (parameters : List Kind) (tables : TablePlace → Outcome (List (List AnyValue)))
-        → MayRead (N.base_tables setting.now.names.now) (N.view_queries setting.now.names.now) (N.column_kinds setting.now.names.now)
+        → MayRead (N.base_tables setting.now.names.now) (N.view_queries setting.now.names.now)
+        (N.column_kinds setting.now.names.now)
         (S.content_now setting.now.store.now) setting.now.user setting.now.parameters.now parameters tables
-        → AllByRecursion (IsOnRow (N.column_kinds setting.now.names.now) parameters row.now) conditions.now → IfErr result MayEnd }
+        → AllByRecursion (IsOnRow (N.column_kinds setting.now.names.now) parameters row.now) conditions.now
+        → IfErr result MayEnd }
 {
     for condition in conditions {
         is_or_violates(setting.truth(condition.get(), row)?)?;
@@ -101,18 +111,23 @@ pub(crate) fn rows_satisfied<N: Names, S: Store>(
     changes: &[Change],
 ) -> Result<(), Fault>
     requires wide { are_wide (length table.now.columns) (rows_put changes.now) ≡ true }
-    requires finds { FindsConds (N.base_tables setting.now.names.now) (N.column_kinds setting.now.names.now) table.now.checks }
+    requires finds { FindsConds (N.base_tables setting.now.names.now)
+        (N.column_kinds setting.now.names.now) table.now.checks }
     ensures values { IfOk result (λ done. list_all (has_its_values table.now) (rows_put changes.now) ≡ true) }
-    ensures met { let seen = seen_by (N.view_queries setting.now.names.now) (S.content_now setting.now.store.now) setting.now.user
+    ensures met { let seen = seen_by (N.view_queries setting.now.names.now)
+        (S.content_now setting.now.store.now) setting.now.user
         setting.now.parameters.now in (parameters : List Kind) (shown : Shown)
-        → MayRead (N.base_tables setting.now.names.now) (N.view_queries setting.now.names.now) (N.column_kinds setting.now.names.now)
+        → MayRead (N.base_tables setting.now.names.now) (N.view_queries setting.now.names.now)
+        (N.column_kinds setting.now.names.now)
         (S.content_now setting.now.store.now) setting.now.user setting.now.parameters.now parameters shown
         → AreOnRowsPut (N.column_kinds setting.now.names.now) parameters table.now.checks changes.now
         → Meets result (all_satisfied (row_met shown seen table.now) (rows_put changes.now)) }
     ensures right { (parameters : List Kind) (tables : TablePlace → Outcome (List (List AnyValue)))
-        → MayRead (N.base_tables setting.now.names.now) (N.view_queries setting.now.names.now) (N.column_kinds setting.now.names.now)
+        → MayRead (N.base_tables setting.now.names.now) (N.view_queries setting.now.names.now)
+        (N.column_kinds setting.now.names.now)
         (S.content_now setting.now.store.now) setting.now.user setting.now.parameters.now parameters tables
-        → AreOnRowsPut (N.column_kinds setting.now.names.now) parameters table.now.checks changes.now → IfErr result MayEnd }
+        → AreOnRowsPut (N.column_kinds setting.now.names.now) parameters table.now.checks changes.now
+        → IfErr result MayEnd }
 {
     for change in changes {
         if let Some(row) = row_put(change) {
@@ -129,18 +144,24 @@ fn row_satisfied<N: Names, S: Store>(
     row: &Row,
 ) -> Result<(), Fault>
     requires wide { length row.now ≡ length table.now.columns }
-    requires finds { FindsConds (N.base_tables setting.now.names.now) (N.column_kinds setting.now.names.now) table.now.checks }
+    requires finds { FindsConds (N.base_tables setting.now.names.now)
+        (N.column_kinds setting.now.names.now) table.now.checks }
     ensures values { IfOk result (λ done. has_its_values table.now row.now ≡ true) }
-    ensures met { let seen = seen_by (N.view_queries setting.now.names.now) (S.content_now setting.now.store.now) setting.now.user
+    ensures met { let seen = seen_by (N.view_queries setting.now.names.now)
+        (S.content_now setting.now.store.now) setting.now.user
         setting.now.parameters.now in (parameters : List Kind) (shown : Shown)
-        → MayRead (N.base_tables setting.now.names.now) (N.view_queries setting.now.names.now) (N.column_kinds setting.now.names.now)
+        → MayRead (N.base_tables setting.now.names.now) (N.view_queries setting.now.names.now)
+        (N.column_kinds setting.now.names.now)
         (S.content_now setting.now.store.now) setting.now.user setting.now.parameters.now parameters shown
         → AllByRecursion (IsOnRow (N.column_kinds setting.now.names.now) parameters row.now) table.now.checks
         → Meets result (row_met shown seen table.now row.now) }
     ensures right { (parameters : List Kind) (tables : TablePlace → Outcome (List (List AnyValue)))
-        → MayRead (N.base_tables setting.now.names.now) (N.view_queries setting.now.names.now) (N.column_kinds setting.now.names.now)
+        → MayRead (N.base_tables setting.now.names.now) (N.view_queries setting.now.names.now)
+        (N.column_kinds setting.now.names.now)
         (S.content_now setting.now.store.now) setting.now.user setting.now.parameters.now parameters tables
-        → AllByRecursion (IsOnRow (N.column_kinds setting.now.names.now) parameters row.now) table.now.checks → IfErr result MayEnd }
+        → AllByRecursion
+        (IsOnRow (N.column_kinds setting.now.names.now) parameters row.now) table.now.checks
+        → IfErr result MayEnd }
 {
     if lacks_value(table, row.as_slice()) {
         return Err(Fault::Status(Failure::IntegrityConstraintViolation));
@@ -170,15 +191,19 @@ fn check_satisfied<N: Names, S: Store>(
     check: &BoundCond,
     row: &Row,
 ) -> Result<(), Fault>
-    requires { FindsCond (N.base_tables setting.now.names.now) (N.column_kinds setting.now.names.now) check.now }
-    ensures met { let seen = seen_by (N.view_queries setting.now.names.now) (S.content_now setting.now.store.now) setting.now.user
+    requires { FindsCond (N.base_tables setting.now.names.now)
+        (N.column_kinds setting.now.names.now) check.now }
+    ensures met { let seen = seen_by (N.view_queries setting.now.names.now)
+        (S.content_now setting.now.store.now) setting.now.user
         setting.now.parameters.now in (parameters : List Kind) (shown : Shown)
-        → MayRead (N.base_tables setting.now.names.now) (N.view_queries setting.now.names.now) (N.column_kinds setting.now.names.now)
+        → MayRead (N.base_tables setting.now.names.now) (N.view_queries setting.now.names.now)
+        (N.column_kinds setting.now.names.now)
         (S.content_now setting.now.store.now) setting.now.user setting.now.parameters.now parameters shown
         → IsOnRow (N.column_kinds setting.now.names.now) parameters row.now check.now
         → Meets result (check_met shown seen row.now check.now) }
     ensures right { (parameters : List Kind) (tables : TablePlace → Outcome (List (List AnyValue)))
-        → MayRead (N.base_tables setting.now.names.now) (N.view_queries setting.now.names.now) (N.column_kinds setting.now.names.now)
+        → MayRead (N.base_tables setting.now.names.now) (N.view_queries setting.now.names.now)
+        (N.column_kinds setting.now.names.now)
         (S.content_now setting.now.store.now) setting.now.user setting.now.parameters.now parameters tables
         → IsOnRow (N.column_kinds setting.now.names.now) parameters row.now check.now → IfErr result MayEnd }
 {

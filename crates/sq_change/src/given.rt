@@ -45,13 +45,17 @@ pub(crate) fn new_rows<N: Names, S: Store>(
     requires given { MayGive (N.base_tables setting.now.names.now) (N.view_queries setting.now.names.now)
         (N.column_kinds setting.now.names.now)
         (S.content_now setting.now.store.now) setting.now.user setting.now.parameters.now insert.now.columns insert.now.source }
-    requires keys { S.key_columns setting.now.store.now ≡ keys_of_bases (N.base_tables setting.now.names.now) }
-    requires not_null { not_nulls_hold (N.base_tables setting.now.names.now) (S.content_now setting.now.store.now) ≡ true }
-    ensures made { let seen = seen_by (N.view_queries setting.now.names.now) (S.content_now setting.now.store.now) setting.now.user
+    requires keys { S.key_columns setting.now.store.now
+        ≡ keys_of_bases (N.base_tables setting.now.names.now) }
+    requires not_null { not_nulls_hold (N.base_tables setting.now.names.now)
+        (S.content_now setting.now.store.now) ≡ true }
+    ensures made { let seen = seen_by (N.view_queries setting.now.names.now)
+        (S.content_now setting.now.store.now) setting.now.user
         setting.now.parameters.now in (shown : Shown) → IsShown seen shown
         → MeetsAs new_rows_in result (rows_made shown seen table.now insert.now.columns insert.now.source) }
     ensures insertions { IfOk result (λ changes. are_insertions changes.items ≡ true) }
-    ensures wide { IfOk result (λ changes. are_wide (length table.now.columns) (rows_put changes.items) ≡ true) }
+    ensures wide { IfOk result
+        (λ changes. are_wide (length table.now.columns) (rows_put changes.items) ≡ true) }
     ensures in_domains { IfOk result (λ changes. AreRowsPut table.now.columns changes.items) }
     ensures some { IfOk result (λ changes. 0 < vec_len changes) }
     ensures right { IfErr result MayEnd }
@@ -69,9 +73,12 @@ fn given_rows<N: Names, S: Store>(
     requires given { MayGive (N.base_tables setting.now.names.now) (N.view_queries setting.now.names.now)
         (N.column_kinds setting.now.names.now)
         (S.content_now setting.now.store.now) setting.now.user setting.now.parameters.now insert.now.columns insert.now.source }
-    requires keys { S.key_columns setting.now.store.now ≡ keys_of_bases (N.base_tables setting.now.names.now) }
-    requires not_null { not_nulls_hold (N.base_tables setting.now.names.now) (S.content_now setting.now.store.now) ≡ true }
-    ensures made { let seen = seen_by (N.view_queries setting.now.names.now) (S.content_now setting.now.store.now) setting.now.user
+    requires keys { S.key_columns setting.now.store.now
+        ≡ keys_of_bases (N.base_tables setting.now.names.now) }
+    requires not_null { not_nulls_hold (N.base_tables setting.now.names.now)
+        (S.content_now setting.now.store.now) ≡ true }
+    ensures made { let seen = seen_by (N.view_queries setting.now.names.now)
+        (S.content_now setting.now.store.now) setting.now.user
         setting.now.parameters.now in (shown : Shown) → IsShown seen shown
         → MeetsAs rows_in result (rows_given shown seen insert.now.columns insert.now.source) }
     ensures some { IfOk result (λ rows. 0 < vec_len rows) }
@@ -100,7 +107,8 @@ fn given_values<N: Names, S: Store>(
     values: &[BoundExpr],
 ) -> Result<Row, Fault>
     requires { AreStorable columns.now values.now setting.now.parameters.now setting.now.user }
-    ensures meant { (shown : Shown) → Meets result (values_given shown (seen_by (N.view_queries setting.now.names.now)
+    ensures meant { (shown : Shown)
+        → Meets result (values_given shown (seen_by (N.view_queries setting.now.names.now)
         (S.content_now setting.now.store.now) setting.now.user setting.now.parameters.now) columns.now values.now) }
     ensures stored { IfOk result (AreStored columns.now) }
     ensures right { IfErr result MayEnd }
@@ -118,23 +126,30 @@ fn rows_found<N: Names, S: Store>(
     query: &BoundSpecification,
     meter: &mut Meter,
 ) -> Result<Vec<Row>, Fault>
-    requires finds { FindsSelect (N.base_tables setting.now.names.now) (N.column_kinds setting.now.names.now) query.now }
-    requires keys { S.key_columns setting.now.store.now ≡ keys_of_bases (N.base_tables setting.now.names.now) }
-    requires not_null { not_nulls_hold (N.base_tables setting.now.names.now) (S.content_now setting.now.store.now) ≡ true }
-    ensures found { let seen = seen_by (N.view_queries setting.now.names.now) (S.content_now setting.now.store.now) setting.now.user
+    requires finds { FindsSelect (N.base_tables setting.now.names.now)
+        (N.column_kinds setting.now.names.now) query.now }
+    requires keys { S.key_columns setting.now.store.now
+        ≡ keys_of_bases (N.base_tables setting.now.names.now) }
+    requires not_null { not_nulls_hold (N.base_tables setting.now.names.now)
+        (S.content_now setting.now.store.now) ≡ true }
+    ensures found { let seen = seen_by (N.view_queries setting.now.names.now)
+        (S.content_now setting.now.store.now) setting.now.user
         setting.now.parameters.now in (parameters : List Kind) (shown : Shown)
-        → MayRead (N.base_tables setting.now.names.now) (N.view_queries setting.now.names.now) (N.column_kinds setting.now.names.now)
+        → MayRead (N.base_tables setting.now.names.now) (N.view_queries setting.now.names.now)
+        (N.column_kinds setting.now.names.now)
         (S.content_now setting.now.store.now) setting.now.user setting.now.parameters.now parameters shown
         → IsSelect (N.column_kinds setting.now.names.now) parameters [] query.now
         → MeetsAs rows_in result (rows_found shown seen query.now) }
     ensures some { IfOk result (λ rows. 0 < vec_len rows) }
     ensures kinds { (parameters : List Kind) (tables : TablePlace → Outcome (List (List AnyValue)))
-        → MayRead (N.base_tables setting.now.names.now) (N.view_queries setting.now.names.now) (N.column_kinds setting.now.names.now)
+        → MayRead (N.base_tables setting.now.names.now) (N.view_queries setting.now.names.now)
+        (N.column_kinds setting.now.names.now)
         (S.content_now setting.now.store.now) setting.now.user setting.now.parameters.now parameters tables
         → IsSelect (N.column_kinds setting.now.names.now) parameters [] query.now
         → IfOk result (λ rows. AreRowsOf (kinds_of_select query.now) rows.items) }
     ensures right { (parameters : List Kind) (tables : TablePlace → Outcome (List (List AnyValue)))
-        → MayRead (N.base_tables setting.now.names.now) (N.view_queries setting.now.names.now) (N.column_kinds setting.now.names.now)
+        → MayRead (N.base_tables setting.now.names.now) (N.view_queries setting.now.names.now)
+        (N.column_kinds setting.now.names.now)
         (S.content_now setting.now.store.now) setting.now.user setting.now.parameters.now parameters tables
         → IsSelect (N.column_kinds setting.now.names.now) parameters [] query.now → IfErr result MayEnd }
 {
@@ -190,9 +205,11 @@ fn completed_rows<N: Names, S: Store>(
 ) -> Result<Vec<Change>, Fault>
     requires columns { AllByRecursion (IsColumnOf table.now) columns.now }
     requires stored { AllByRecursion (AreStored columns.now) given.now }
-    ensures meant { MeetsAs new_rows_in result (each (row_completed setting.now.user table.now columns.now) given.now) }
+    ensures meant { MeetsAs new_rows_in result
+        (each (row_completed setting.now.user table.now columns.now) given.now) }
     ensures insertions { IfOk result (λ changes. are_insertions changes.items ≡ true) }
-    ensures wide { IfOk result (λ changes. are_wide (length table.now.columns) (rows_put changes.items) ≡ true) }
+    ensures wide { IfOk result
+        (λ changes. are_wide (length table.now.columns) (rows_put changes.items) ≡ true) }
     ensures in_domains { IfOk result (λ changes. AreRowsPut table.now.columns changes.items) }
     ensures length { IfOk result (λ changes. vec_len changes ≡ length given.now) }
     ensures right { IfErr result MayEnd }

@@ -38,8 +38,10 @@ pub(crate) fn referenced_by<N: Names, S: Store>(
 ) -> Result<Vec<Referenced>, Fault>
     requires keys { refer_to_keys (S.key_columns setting.now.store.now) table.now.references ≡ true }
     requires wide { are_wide (length table.now.columns) (rows_put changes.now) ≡ true }
-    ensures known { IfOk result (λ referenced. are_of_keys (S.key_columns setting.now.store.now) referenced.items ≡ true) }
-    ensures list { IfOk result (λ referenced. referenced.items ≡ referred_by table.now.references (rows_put changes.now)) }
+    ensures known { IfOk result
+        (λ referenced. are_of_keys (S.key_columns setting.now.store.now) referenced.items ≡ true) }
+    ensures list { IfOk result
+        (λ referenced. referenced.items ≡ referred_by table.now.references (rows_put changes.now)) }
     ensures memory { IfErr result (λ fault. fault ≡ Fault.NoMemory) }
     ensures right { IfErr result MayEnd }
 {
@@ -62,8 +64,10 @@ fn push_referenced<N: Names, S: Store>(
     requires keys { refer_to_keys (S.key_columns setting.now.store.now) table.now.references ≡ true }
     requires wide { length row.now ≡ length table.now.columns }
     requires known { are_of_keys (S.key_columns setting.now.store.now) referenced.old.items ≡ true }
-    ensures known { OnOk result (are_of_keys (S.key_columns setting.now.store.now) referenced.new.items ≡ true) }
-    ensures list { OnOk result (referenced.new.items ≡ referenced.old.items ++ flat_map (referred row.now) table.now.references) }
+    ensures known { OnOk result
+        (are_of_keys (S.key_columns setting.now.store.now) referenced.new.items ≡ true) }
+    ensures list { OnOk result
+        (referenced.new.items ≡ referenced.old.items ++ flat_map (referred row.now) table.now.references) }
     ensures memory { IfErr result (λ fault. fault ≡ Fault.NoMemory) }
     ensures right { IfErr result MayEnd }
 {
@@ -109,8 +113,10 @@ pub(crate) fn references_satisfied<N: Names, S: Store>(
     requires tables { holds (N.base_tables names.now) (S.content_now store.now) ≡ true }
     requires keys { S.key_columns store.now ≡ keys_of_bases (N.base_tables names.now) }
     requires known { are_of_keys (S.key_columns store.now) referenced.now ≡ true }
-    ensures meant { Meets result (demanded (are_rows_there (S.key_columns store.now) (S.content_now store.now) referenced.now
-        && lost_are_met (N.base_tables names.now) (S.content_now store.now) table lost_keys.now) IntegrityConstraintViolation) }
+    ensures meant { Meets result
+        (demanded (are_rows_there (S.key_columns store.now) (S.content_now store.now) referenced.now
+        && lost_are_met (N.base_tables names.now)
+        (S.content_now store.now) table lost_keys.now) IntegrityConstraintViolation) }
     ensures right { IfErr result MayEnd }
 {
     all_there(store, referenced)?;
@@ -160,7 +166,8 @@ fn references_to<S: Store>(
     keys: &[usize],
 ) -> Result<(), Fault>
     requires kept { place < length (S.content_now store.now) }
-    requires wide { have_width (length base.now.columns) (table_at (S.content_now store.now) place).rows ≡ true }
+    requires wide { have_width (length base.now.columns) (table_at (S.content_now store.now) place).rows
+        ≡ true }
     requires keys { refer_to_keys (S.key_columns store.now) base.now.references ≡ true }
     ensures meant { Meets result (demanded (list_all (lost_met_in (S.key_columns store.now)
         (S.content_now store.now) table keys.now place) base.now.references)
@@ -190,7 +197,8 @@ fn reference_satisfied<S: Store>(
     reference: &Reference,
 ) -> Result<(), Fault>
     requires kept { place < length (S.content_now store.now) }
-    requires columns { list_all (λ r. has_columns reference.now.by_key r.row) (table_at (S.content_now store.now) place).rows ≡ true }
+    requires columns { list_all (λ r. has_columns reference.now.by_key r.row)
+        (table_at (S.content_now store.now) place).rows ≡ true }
     requires key { refers_to_key (S.key_columns store.now) reference.now ≡ true }
     ensures meant { Meets result (demanded (reference_met_in (S.key_columns store.now)
         (S.content_now store.now) place reference.now) IntegrityConstraintViolation) }

@@ -13,7 +13,8 @@ use sq_value::{Row, Value};
 
 /// The row that a change puts in its table.
 pub(crate) fn row_put(change: &Change) -> Option<&Row>
-    ensures { MatchOption result (rows_put (change.now ∷ []) ≡ []) (λ row. rows_put (change.now ∷ []) ≡ row.now ∷ []) }
+    ensures { MatchOption result (rows_put (change.now ∷ []) ≡ [])
+        (λ row. rows_put (change.now ∷ []) ≡ row.now ∷ []) }
 {
     match change {
         Change::Insert(row) => Some(row),

@@ -64,23 +64,28 @@ impl<'a, N: Names, S: Store> Setting<'a, N, S> {
 
     /// The value of an expression, which may read a row of a base table.
     pub(crate) fn value(&self, expr: &BoundExpr, row: Option<&Row>) -> Result<Value, Fault>
-        ensures { HasValueOn result expr.now (line_of (option_copied row.entry)) self.now.parameters.now self.now.user }
+        ensures { HasValueOn result expr.now
+            (line_of (option_copied row.entry)) self.now.parameters.now self.now.user }
     {
         value_of(self.alloc, self.names, expr, row, self.store, self.inputs())
     }
 
     /// Whether a condition holds of a row of a base table.
     pub(crate) fn truth(&self, condition: &BoundCond, row: &Row) -> Result<Truth, Fault>
-        requires { FindsCond (N.base_tables self.now.names.now) (N.column_kinds self.now.names.now) condition.now }
+        requires { FindsCond (N.base_tables self.now.names.now)
+            (N.column_kinds self.now.names.now) condition.now }
         ensures truth { (parameters : List Kind) (tables : TablePlace → Outcome (List (List AnyValue)))
-            → MayRead (N.base_tables self.now.names.now) (N.view_queries self.now.names.now) (N.column_kinds self.now.names.now)
+            → MayRead (N.base_tables self.now.names.now) (N.view_queries self.now.names.now)
+            (N.column_kinds self.now.names.now)
             (S.content_now self.now.store.now) self.now.user self.now.parameters.now parameters tables
             → IsOnRow (N.column_kinds self.now.names.now) parameters row.now condition.now
             → Meets result (truth_on_row tables self.now.parameters.now self.now.user row.now condition.now) }
         ensures right { (parameters : List Kind) (tables : TablePlace → Outcome (List (List AnyValue)))
-            → MayRead (N.base_tables self.now.names.now) (N.view_queries self.now.names.now) (N.column_kinds self.now.names.now)
+            → MayRead (N.base_tables self.now.names.now) (N.view_queries self.now.names.now)
+            (N.column_kinds self.now.names.now)
             (S.content_now self.now.store.now) self.now.user self.now.parameters.now parameters tables
-            → IsOnRow (N.column_kinds self.now.names.now) parameters row.now condition.now → IfErr result MayEnd }
+            → IsOnRow (N.column_kinds self.now.names.now) parameters row.now condition.now
+            → IfErr result MayEnd }
     {
         truth_of(
             self.alloc,

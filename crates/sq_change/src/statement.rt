@@ -47,7 +47,8 @@ pub fn insert<N: Names, S: Store>(
     requires columns { AllByRecursion (IsColumnOf insert.now.leaf.table) insert.now.columns }
     requires given { MayGive (N.base_tables names.now) (N.view_queries names.now) (N.column_kinds names.now)
         (S.content_now store.old) inputs.user inputs.parameters.now insert.now.columns insert.now.source }
-    ensures meant { let seen = seen_by (N.view_queries names.now) (S.content_now store.old) inputs.entry.user inputs.entry.parameters.now in
+    ensures meant { let seen = seen_by (N.view_queries names.now)
+        (S.content_now store.old) inputs.entry.user inputs.entry.parameters.now in
         (shown : Shown) → IsShown seen shown → MeetsAs (λ done. S.content_now store.new) result
         (insert_outcome shown seen (N.base_tables names.now) (S.row_numbers store.old) insert.now) }
     ensures constraints { constraints_hold (N.base_tables names.now) (S.content_now store.new) ≡ true }
@@ -78,19 +79,26 @@ fn inserted<N: Names, S: Store>(
     requires given { MayGive (N.base_tables setting.now.names.now) (N.view_queries setting.now.names.now)
         (N.column_kinds setting.now.names.now)
         (S.content_now setting.now.store.now) setting.now.user setting.now.parameters.now insert.now.columns insert.now.source }
-    requires keys { S.key_columns setting.now.store.now ≡ keys_of_bases (N.base_tables setting.now.names.now) }
-    requires not_null { not_nulls_hold (N.base_tables setting.now.names.now) (S.content_now setting.now.store.now) ≡ true }
-    ensures made { let seen = seen_by (N.view_queries setting.now.names.now) (S.content_now setting.now.store.now) setting.now.user
-        setting.now.parameters.now in (shown : Shown) → IsShown seen shown → MeetsAs (λ changed. rows_put changed.changes.items) result
+    requires keys { S.key_columns setting.now.store.now
+        ≡ keys_of_bases (N.base_tables setting.now.names.now) }
+    requires not_null { not_nulls_hold (N.base_tables setting.now.names.now)
+        (S.content_now setting.now.store.now) ≡ true }
+    ensures made { let seen = seen_by (N.view_queries setting.now.names.now)
+        (S.content_now setting.now.store.now) setting.now.user
+        setting.now.parameters.now in (shown : Shown) → IsShown seen shown
+        → MeetsAs (λ changed. rows_put changed.changes.items) result
         (rows_inserted shown seen (S.row_numbers setting.now.store.now) insert.now) }
     ensures keeps { IfOk result (KeepsRest insert.now.leaf.table (table_at
         (S.content_now setting.now.store.now) insert.now.leaf.table.place)) }
     ensures insertions { IfOk result (λ changed. are_insertions changed.changes.items ≡ true) }
     ensures some { IfOk result (λ changed. 0 < vec_len changed.changes) }
-    ensures wide { IfOk result (λ changed. are_wide (length insert.now.leaf.table.columns) (rows_put changed.changes.items) ≡ true) }
-    ensures in_domains { IfOk result (λ changed. AreRowsPut insert.now.leaf.table.columns changed.changes.items) }
+    ensures wide { IfOk result
+        (λ changed. are_wide (length insert.now.leaf.table.columns) (rows_put changed.changes.items) ≡ true) }
+    ensures in_domains { IfOk result
+        (λ changed. AreRowsPut insert.now.leaf.table.columns changed.changes.items) }
     ensures numbers { IfOk result (λ changed. insert_count changed.changes.items
-        ≤ S.row_numbers setting.now.store.now + 1 - (table_at (S.content_now setting.now.store.now) insert.now.leaf.table.place).next) }
+        ≤ S.row_numbers setting.now.store.now + 1 -
+        (table_at (S.content_now setting.now.store.now) insert.now.leaf.table.place).next) }
     ensures right { IfErr result MayEnd }
 {
     let table = insert.leaf.get().table.get();
@@ -122,18 +130,24 @@ pub fn update<N: Names, S: Store>(
     requires given { IsGiven update.now.target on }
     requires may { MayChoose (N.base_tables names.now) (N.view_queries names.now) (N.column_kinds names.now)
         (S.content_now store.old) inputs.user inputs.parameters.now update.now.target }
-    requires there { IfSome on (λ n. IsSome (row_at (table_at (S.content_now store.old) (under update.now.target).table.place) n)) }
+    requires there { IfSome on
+        (λ n. IsSome (row_at (table_at (S.content_now store.old) (under update.now.target).table.place) n)) }
     requires tables { holds (N.base_tables names.now) (S.content_now store.old) ≡ true }
     requires in_domains { AreInDomains (N.base_tables names.now) (S.content_now store.old) }
     requires keys { S.key_columns store.old ≡ keys_of_bases (N.base_tables names.now) }
     requires constraints { constraints_hold (N.base_tables names.now) (S.content_now store.old) ≡ true }
     requires base { IsBase (N.base_tables names.now) (under update.now.target).table }
-    requires columns { are_columns (length (under update.now.target).table.columns) update.now.assignments ≡ true }
-    requires domains { AllByRecursion (λ a. IsColumnOf (under update.now.target).table a.column) update.now.assignments }
-    requires assigned { MayAssign (N.column_kinds names.now) inputs.parameters.now (under update.now.target).table update.now.assignments }
-    ensures meant { let seen = seen_by (N.view_queries names.now) (S.content_now store.old) inputs.entry.user inputs.entry.parameters.now in
+    requires columns { are_columns (length (under update.now.target).table.columns) update.now.assignments
+        ≡ true }
+    requires domains { AllByRecursion
+        (λ a. IsColumnOf (under update.now.target).table a.column) update.now.assignments }
+    requires assigned { MayAssign (N.column_kinds names.now) inputs.parameters.now
+        (under update.now.target).table update.now.assignments }
+    ensures meant { let seen = seen_by (N.view_queries names.now)
+        (S.content_now store.old) inputs.entry.user inputs.entry.parameters.now in
         (shown : Shown) → IsShown seen shown
-        → MeetsAs (λ done. S.content_now store.new) result (update_outcome shown seen (N.base_tables names.now) update.now on) }
+        → MeetsAs (λ done. S.content_now store.new) result
+        (update_outcome shown seen (N.base_tables names.now) update.now on) }
     ensures constraints { constraints_hold (N.base_tables names.now) (S.content_now store.new) ≡ true }
     ensures err { OnErr result (S.content_now store.new ≡ S.content_now store.old) }
     ensures tables { holds (N.base_tables names.now) (S.content_now store.new) ≡ true }
@@ -142,7 +156,8 @@ pub fn update<N: Names, S: Store>(
     ensures keys { S.key_columns store.new ≡ S.key_columns store.old }
     ensures numbers { S.row_numbers store.new ≡ S.row_numbers store.old }
     ensures right { IfErr result MayEnd }
-    ensures read { IsKeyedChange update.now.target inputs.entry.parameters.now inputs.entry.user → meter.new ≤ meter.old + 1 }
+    ensures read { IsKeyedChange update.now.target inputs.entry.parameters.now inputs.entry.user
+        → meter.new ≤ meter.old + 1 }
 {
     let Inputs { user, parameters } = inputs;
     let setting = Setting::new(alloc, names, &*store, user, parameters);
@@ -162,29 +177,44 @@ fn updated<N: Names, S: Store>(
     requires may { MayChoose (N.base_tables setting.now.names.now) (N.view_queries setting.now.names.now)
         (N.column_kinds setting.now.names.now)
         (S.content_now setting.now.store.now) setting.now.user setting.now.parameters.now update.now.target }
-    requires there { IfSome on (λ n. IsSome (row_at (table_at (S.content_now setting.now.store.now) (under update.now.target).table.place)
+    requires there { IfSome on
+        (λ n. IsSome (row_at
+        (table_at (S.content_now setting.now.store.now) (under update.now.target).table.place)
         n)) }
-    requires tables { holds (N.base_tables setting.now.names.now) (S.content_now setting.now.store.now) ≡ true }
-    requires keys { S.key_columns setting.now.store.now ≡ keys_of_bases (N.base_tables setting.now.names.now) }
-    requires not_null { not_nulls_hold (N.base_tables setting.now.names.now) (S.content_now setting.now.store.now) ≡ true }
+    requires tables { holds (N.base_tables setting.now.names.now) (S.content_now setting.now.store.now)
+        ≡ true }
+    requires keys { S.key_columns setting.now.store.now
+        ≡ keys_of_bases (N.base_tables setting.now.names.now) }
+    requires not_null { not_nulls_hold (N.base_tables setting.now.names.now)
+        (S.content_now setting.now.store.now) ≡ true }
     requires base { IsBase (N.base_tables setting.now.names.now) (under update.now.target).table }
-    requires columns { are_columns (length (under update.now.target).table.columns) update.now.assignments ≡ true }
-    requires in_domains { AreInDomains (N.base_tables setting.now.names.now) (S.content_now setting.now.store.now) }
-    requires domains { AllByRecursion (λ a. IsColumnOf (under update.now.target).table a.column) update.now.assignments }
-    requires assigned { MayAssign (N.column_kinds setting.now.names.now) setting.now.parameters.now (under update.now.target).table
+    requires columns { are_columns (length (under update.now.target).table.columns) update.now.assignments
+        ≡ true }
+    requires in_domains { AreInDomains (N.base_tables setting.now.names.now)
+        (S.content_now setting.now.store.now) }
+    requires domains { AllByRecursion
+        (λ a. IsColumnOf (under update.now.target).table a.column) update.now.assignments }
+    requires assigned { MayAssign (N.column_kinds setting.now.names.now) setting.now.parameters.now
+        (under update.now.target).table
         update.now.assignments }
-    ensures keeps { IfOk result (KeepsRest (under update.now.target).table (table_at (S.content_now setting.now.store.now)
+    ensures keeps { IfOk result
+        (KeepsRest (under update.now.target).table (table_at (S.content_now setting.now.store.now)
         (under update.now.target).table.place)) }
-    ensures replacements { let seen = seen_by (N.view_queries setting.now.names.now) (S.content_now setting.now.store.now) setting.now.user
-        setting.now.parameters.now in IfOk result (λ changed. Replacements seen update.now on changed.changes.items) }
-    ensures meant { let seen = seen_by (N.view_queries setting.now.names.now) (S.content_now setting.now.store.now) setting.now.user
+    ensures replacements { let seen = seen_by (N.view_queries setting.now.names.now)
+        (S.content_now setting.now.store.now) setting.now.user
+        setting.now.parameters.now in IfOk result
+        (λ changed. Replacements seen update.now on changed.changes.items) }
+    ensures meant { let seen = seen_by (N.view_queries setting.now.names.now)
+        (S.content_now setting.now.store.now) setting.now.user
         setting.now.parameters.now in (shown : Shown) → IsShown seen shown
         → MeetsAs changed_in result (update_made shown seen update.now on) }
     ensures wide { IfOk result (λ changed. are_wide (length (under update.now.target).table.columns)
         (rows_put changed.changes.items) ≡ true) }
-    ensures in_domains { IfOk result (λ changed. AreRowsPut (under update.now.target).table.columns changed.changes.items) }
+    ensures in_domains { IfOk result
+        (λ changed. AreRowsPut (under update.now.target).table.columns changed.changes.items) }
     ensures right { IfErr result MayEnd }
-    ensures read { IsKeyedChange update.now.target setting.now.parameters.now setting.now.user → meter.new ≤ meter.old + 1 }
+    ensures read { IsKeyedChange update.now.target setting.now.parameters.now setting.now.user
+        → meter.new ≤ meter.old + 1 }
 {
     let table = leaf_under(&update.target).table.get();
     let assignments = update.assignments.as_slice();
@@ -238,9 +268,11 @@ pub fn delete<N: Names, S: Store>(
     requires keys { S.key_columns store.old ≡ keys_of_bases (N.base_tables names.now) }
     requires constraints { constraints_hold (N.base_tables names.now) (S.content_now store.old) ≡ true }
     requires base { IsBase (N.base_tables names.now) (under target.now).table }
-    ensures meant { let seen = seen_by (N.view_queries names.now) (S.content_now store.old) inputs.entry.user inputs.entry.parameters.now in
+    ensures meant { let seen = seen_by (N.view_queries names.now)
+        (S.content_now store.old) inputs.entry.user inputs.entry.parameters.now in
         (shown : Shown) → IsShown seen shown
-        → MeetsAs (λ done. S.content_now store.new) result (delete_outcome shown seen (N.base_tables names.now) target.now on) }
+        → MeetsAs (λ done. S.content_now store.new) result
+        (delete_outcome shown seen (N.base_tables names.now) target.now on) }
     ensures constraints { constraints_hold (N.base_tables names.now) (S.content_now store.new) ≡ true }
     ensures err { OnErr result (S.content_now store.new ≡ S.content_now store.old) }
     ensures tables { holds (N.base_tables names.now) (S.content_now store.new) ≡ true }
@@ -249,7 +281,8 @@ pub fn delete<N: Names, S: Store>(
     ensures keys { S.key_columns store.new ≡ S.key_columns store.old }
     ensures numbers { S.row_numbers store.new ≡ S.row_numbers store.old }
     ensures right { IfErr result MayEnd }
-    ensures read { IsKeyedChange target.now inputs.entry.parameters.now inputs.entry.user → meter.new ≤ meter.old + 1 }
+    ensures read { IsKeyedChange target.now inputs.entry.parameters.now inputs.entry.user
+        → meter.new ≤ meter.old + 1 }
 {
     let Inputs { user, parameters } = inputs;
     let setting = Setting::new(alloc, names, &*store, user, parameters);
@@ -269,19 +302,27 @@ fn deleted<N: Names, S: Store>(
     requires may { MayChoose (N.base_tables setting.now.names.now) (N.view_queries setting.now.names.now)
         (N.column_kinds setting.now.names.now)
         (S.content_now setting.now.store.now) setting.now.user setting.now.parameters.now target.now }
-    requires tables { holds (N.base_tables setting.now.names.now) (S.content_now setting.now.store.now) ≡ true }
-    requires keys { S.key_columns setting.now.store.now ≡ keys_of_bases (N.base_tables setting.now.names.now) }
-    requires not_null { not_nulls_hold (N.base_tables setting.now.names.now) (S.content_now setting.now.store.now) ≡ true }
+    requires tables { holds (N.base_tables setting.now.names.now) (S.content_now setting.now.store.now)
+        ≡ true }
+    requires keys { S.key_columns setting.now.store.now
+        ≡ keys_of_bases (N.base_tables setting.now.names.now) }
+    requires not_null { not_nulls_hold (N.base_tables setting.now.names.now)
+        (S.content_now setting.now.store.now) ≡ true }
     requires base { IsBase (N.base_tables setting.now.names.now) (under target.now).table }
-    ensures keeps { IfOk result (KeepsRest (under target.now).table (table_at (S.content_now setting.now.store.now)
+    ensures keeps { IfOk result
+        (KeepsRest (under target.now).table (table_at (S.content_now setting.now.store.now)
         (under target.now).table.place)) }
-    ensures removals { let seen = seen_by (N.view_queries setting.now.names.now) (S.content_now setting.now.store.now) setting.now.user
-        setting.now.parameters.now in IfOk result (λ changed. Removals seen target.now on changed.changes.items) }
-    ensures meant { let seen = seen_by (N.view_queries setting.now.names.now) (S.content_now setting.now.store.now) setting.now.user
+    ensures removals { let seen = seen_by (N.view_queries setting.now.names.now)
+        (S.content_now setting.now.store.now) setting.now.user
+        setting.now.parameters.now in IfOk result
+        (λ changed. Removals seen target.now on changed.changes.items) }
+    ensures meant { let seen = seen_by (N.view_queries setting.now.names.now)
+        (S.content_now setting.now.store.now) setting.now.user
         setting.now.parameters.now in (shown : Shown) → IsShown seen shown
         → IfErr result (λ f. Fails f (numbers_changed shown seen target.now on)) }
     ensures right { IfErr result MayEnd }
-    ensures read { IsKeyedChange target.now setting.now.parameters.now setting.now.user → meter.new ≤ meter.old + 1 }
+    ensures read { IsKeyedChange target.now setting.now.parameters.now setting.now.user
+        → meter.new ≤ meter.old + 1 }
 {
     let numbers = numbers_changed(setting, target, on, meter)?;
     let changes = removed(setting.alloc, numbers.as_slice());

@@ -26,9 +26,12 @@ pub(crate) fn stored_value<N: Names, S: Store>(
     expr: &BoundExpr,
     row: Option<&Row>,
 ) -> Result<Value, Fault>
-    requires { IsStorable column.domain expr.now (line_of (option_copied row)) setting.now.parameters.now setting.now.user }
-    ensures meant { (shown : Shown) → Meets result (value_stored shown (seen_by (N.view_queries setting.now.names.now)
-        (S.content_now setting.now.store.now) setting.now.user setting.now.parameters.now) (line_of (option_copied row.entry))
+    requires { IsStorable column.domain expr.now
+        (line_of (option_copied row)) setting.now.parameters.now setting.now.user }
+    ensures meant { (shown : Shown)
+        → Meets result (value_stored shown (seen_by (N.view_queries setting.now.names.now)
+        (S.content_now setting.now.store.now) setting.now.user setting.now.parameters.now)
+        (line_of (option_copied row.entry))
         column.domain expr.now) }
     ensures in_domain { IfOk result (IsInDomain column.domain) }
     ensures right { IfErr result MayEnd }

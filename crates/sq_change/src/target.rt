@@ -45,21 +45,28 @@ pub(crate) fn numbers_changed<N: Names, S: Store>(
     meter: &mut Meter,
 ) -> Result<Vec<u64>, Fault>
     requires given { IsGiven target.now on }
-    requires tables { holds (N.base_tables setting.now.names.now) (S.content_now setting.now.store.now) ≡ true }
-    requires keys { S.key_columns setting.now.store.now ≡ keys_of_bases (N.base_tables setting.now.names.now) }
-    requires not_null { not_nulls_hold (N.base_tables setting.now.names.now) (S.content_now setting.now.store.now) ≡ true }
+    requires tables { holds (N.base_tables setting.now.names.now) (S.content_now setting.now.store.now)
+        ≡ true }
+    requires keys { S.key_columns setting.now.store.now
+        ≡ keys_of_bases (N.base_tables setting.now.names.now) }
+    requires not_null { not_nulls_hold (N.base_tables setting.now.names.now)
+        (S.content_now setting.now.store.now) ≡ true }
     requires base { IsBase (N.base_tables setting.now.names.now) (under target.now).table }
     requires may { MayChoose (N.base_tables setting.now.names.now) (N.view_queries setting.now.names.now)
         (N.column_kinds setting.now.names.now)
         (S.content_now setting.now.store.now) setting.now.user setting.now.parameters.now target.now }
-    ensures meant { let seen = seen_by (N.view_queries setting.now.names.now) (S.content_now setting.now.store.now) setting.now.user
+    ensures meant { let seen = seen_by (N.view_queries setting.now.names.now)
+        (S.content_now setting.now.store.now) setting.now.user
         setting.now.parameters.now in (shown : Shown) → IsShown seen shown
         → MeetsAs numbers_in result (numbers_changed shown seen target.now on) }
-    ensures there { IfSome on (λ n. IsSome (row_at (table_at (S.content_now setting.now.store.now) (under target.now).table.place) n))
+    ensures there { IfSome on
+        (λ n. IsSome (row_at
+        (table_at (S.content_now setting.now.store.now) (under target.now).table.place) n))
         → IfOk result (λ numbers. AreNumbersOf (table_at (S.content_now setting.now.store.now)
         (under target.now).table.place) numbers.items) }
     ensures right { IfErr result MayEnd }
-    ensures read { IsKeyedChange target.now setting.now.parameters.now setting.now.user → meter.new ≤ meter.old + 1 }
+    ensures read { IsKeyedChange target.now setting.now.parameters.now setting.now.user
+        → meter.new ≤ meter.old + 1 }
 {
     match target {
         ChangeTarget::Searched(target) => {
@@ -101,18 +108,25 @@ pub(crate) fn replaced<N: Names, S: Store>(
     assignments: &[BoundAssignment],
     numbers: &[u64],
 ) -> Result<Vec<Change>, Fault>
-    requires there { AreNumbersOf (table_at (S.content_now setting.now.store.now) table.now.place) numbers.now }
-    requires tables { holds (N.base_tables setting.now.names.now) (S.content_now setting.now.store.now) ≡ true }
+    requires there { AreNumbersOf
+        (table_at (S.content_now setting.now.store.now) table.now.place) numbers.now }
+    requires tables { holds (N.base_tables setting.now.names.now) (S.content_now setting.now.store.now)
+        ≡ true }
     requires base { IsBase (N.base_tables setting.now.names.now) table.now }
     requires columns { are_columns (length table.now.columns) assignments.now ≡ true }
-    requires in_domains { AreInDomains (N.base_tables setting.now.names.now) (S.content_now setting.now.store.now) }
+    requires in_domains { AreInDomains (N.base_tables setting.now.names.now)
+        (S.content_now setting.now.store.now) }
     requires domains { AllByRecursion (λ a. IsColumnOf table.now a.column) assignments.now }
-    requires assigned { MayAssign (N.column_kinds setting.now.names.now) setting.now.parameters.now table.now assignments.now }
+    requires assigned { MayAssign
+        (N.column_kinds setting.now.names.now) setting.now.parameters.now table.now assignments.now }
     ensures replacements { IfOk result (λ changes. AreReplacements numbers.now changes.items) }
-    ensures meant { let seen = seen_by (N.view_queries setting.now.names.now) (S.content_now setting.now.store.now) setting.now.user
+    ensures meant { let seen = seen_by (N.view_queries setting.now.names.now)
+        (S.content_now setting.now.store.now) setting.now.user
         setting.now.parameters.now in (shown : Shown)
-        → MeetsAs rows_replaced_in result (rows_updated shown seen assignments.now table.now.place numbers.now) }
-    ensures wide { IfOk result (λ changes. are_wide (length table.now.columns) (rows_put changes.items) ≡ true) }
+        → MeetsAs rows_replaced_in result
+        (rows_updated shown seen assignments.now table.now.place numbers.now) }
+    ensures wide { IfOk result
+        (λ changes. are_wide (length table.now.columns) (rows_put changes.items) ≡ true) }
     ensures in_domains { IfOk result (λ changes. AreRowsPut table.now.columns changes.items) }
     ensures right { IfErr result MayEnd }
 {
@@ -149,11 +163,13 @@ fn updated_row<N: Names, S: Store>(
 ) -> Result<Row, Fault>
     requires columns { are_columns (length row.now) assignments.now ≡ true }
     requires assignable { AreAssignable assignments.now row.now setting.now.parameters.now setting.now.user }
-    ensures meant { let seen = seen_by (N.view_queries setting.now.names.now) (S.content_now setting.now.store.now) setting.now.user
+    ensures meant { let seen = seen_by (N.view_queries setting.now.names.now)
+        (S.content_now setting.now.store.now) setting.now.user
         setting.now.parameters.now in (shown : Shown)
         → Meets result (row_updated shown seen assignments.now row.now) }
     ensures wide { IfOk result (λ updated. length updated ≡ length row.now) }
-    ensures in_domains { IfOk result (λ updated. (t : AnyTable) → AllByRecursion (λ a. IsColumnOf t a.column) assignments.now
+    ensures in_domains { IfOk result
+        (λ updated. (t : AnyTable) → AllByRecursion (λ a. IsColumnOf t a.column) assignments.now
         → IsRowIn t.columns row.now
         → IsRowIn t.columns updated) }
     ensures right { IfErr result MayEnd }

@@ -106,6 +106,12 @@ one_old P places (View q) (View p) old new h = any_old places.1 p q (list_any (i
 
 -- ---- several tables
 
+-- where there are none, nothing is
+pub none_added : (before after : Needed) (ts : List TablePlace) → NeedsNone before → ts ≡ [] → Adds before ts after → NeedsNone after
+none_added before after ts none is adds =
+    let same : places_in after ≡ places_in before = adds ∙ ap (fold with_table (places_in before)) is in
+    (ap (λ (p : Places). p.0) same ∙ none.0, ap (λ (p : Places). p.1) same ∙ none.1)
+
 all_kept : (places : Places) (ts : List TablePlace) (t : TablePlace) → IsAmong places t → IsAmong (fold with_table places ts) t
 all_kept places [] t h = h
 all_kept places (u ∷ ts) t h = all_kept (with_table places u) ts t (one_kept places u t h)

@@ -23,6 +23,7 @@ use Rattle.sq_meaning.specs.Placed.{by_place}
 use Rattle.sq_meaning.specs.Query.{all_truth, and_also, is_true, or_else, truth}
 use Rattle.sq_meaning.specs.Quiet.{is_quiet, is_quiet_expr}
 use Rattle.sq_meaning.specs.WellFormed.{Has, HasValue, IsRowOf}
+use Rattle.sq_meaning.proofs.AnswerLaws.{all_weaker}
 use Rattle.sq_meaning.proofs.SureLaws.{all_passed}
 use Rattle.sq_bound.specs.Condition.{PlacedCond, cond_of, test_of}
 use Rattle.sq_bound.specs.Expression.{PlacedExpr, expr_of}
@@ -320,6 +321,22 @@ module _ (tables : TablePlace → Outcome (List Row)) (columns : TableKinds) (pa
     abbrev has_its_key : Numbered → Bool
     has_its_key = has_key (key_at keys t.base known.key) known.values
 
+    -- what the conditions say of one row
+    one_condition : (o : Outcome Bool) → and_then o (λ holds. if holds then (let is : Outcome Bool = Ok true in is) else Ok false) ≡ o
+    one_condition (Ok true) = refl
+    one_condition (Ok false) = refl
+    one_condition (Err s) = refl
+
+    -- they are false of a row without the key, which one row has at most
+    pub none_without : AllByRecursion (λ (r : Numbered). has_its_key r ≡ false → are_true (truth_on_row tables values caller r.row) (conditions_of t) ≡ Ok false) (table_at content t.base).rows
+    none_without =
+        all_weaker (λ (r : Numbered). has_its_key r ≡ false → target_test r ≡ Ok false) (λ (r : Numbered). has_its_key r ≡ false → are_true (truth_on_row tables values caller r.row) (conditions_of t) ≡ Ok false)
+        (λ r out lacks. ap (are_true (truth_on_row tables values caller r.row)) conditions_are ∙ one_condition (target_test r) ∙ out lacks) (table_at content t.base).rows
+        (all_out tables columns parameters values caller given bases content keys t.base t.leaf.table k.own known k.on (base_under bases keys t base keys_are) under_kinds under_stands keys_are nulls rows_are keyed)
+
+    pub one_with : AtMostOne has_its_key (table_at content t.base).rows
+    one_with = at_most_one (key_at keys t.base known.key) known.values (table_at content t.base).rows (distinct_at keys content t.base known.key keyed k.on.table k.on.key)
+
     abbrev pub found_row : Option Numbered
     found_row = with_key (table_at content t.base) (key_at keys t.base known.key) known.values
 
@@ -342,12 +359,6 @@ module _ (tables : TablePlace → Outcome (List Row)) (columns : TableKinds) (pa
     none_found numbers none empty =
         search_is ∙ ap (λ (o : Option Numbered). and_then (decided target_test has_its_key o) numbers_of_rows) none
         ∙ ap (λ (ns : List ℕ). let is : Outcome (List ℕ) = Ok ns in is) (sym empty)
-
-    -- what the conditions say of one row
-    one_condition : (o : Outcome Bool) → and_then o (λ holds. if holds then (let is : Outcome Bool = Ok true in is) else Ok false) ≡ o
-    one_condition (Ok true) = refl
-    one_condition (Ok false) = refl
-    one_condition (Err s) = refl
 
     module _ (r : Numbered) (is : found_row ≡ Some r) where
       said : are_true (truth_on_row tables values caller r.row) (conditions_of t) ≡ target_test r

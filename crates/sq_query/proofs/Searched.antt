@@ -10,7 +10,7 @@ use Rattle.sq_lex.specs.declared.name.Name.{Name}
 use Rattle.sq_value.specs.declared.domain.Kind.{Kind}
 use Rattle.sq_value.specs.declared.value.Value.{Value}
 use Rattle.sq_store.specs.Content.{Content, table_at}
-use Rattle.sq_store.specs.Keys.{Keys, are_keyed, has_key, key_at, with_key}
+use Rattle.sq_store.specs.Keys.{Keys, are_keyed, has_key, key_at, keys_at, with_key}
 use Rattle.sq_store.specs.declared.table.Numbered.{Numbered}
 use Rattle.sq_store.specs.declared.table.Table.{Table}
 use Rattle.sq_meaning.specs.Environment.{Env, Line, Row, outermost}
@@ -41,6 +41,7 @@ use Rattle.sq_expression.specs.declared.fault.Fault.TheVariants as fault
 use Rattle.sq_expression.specs.declared.table.BaseRows.{BaseRows}
 use Rattle.sq_expression.specs.declared.table.ViewRows.{ViewRows}
 use Rattle.sq_query.specs.Key.{IsKeyOn, StandsOn}
+use Rattle.sq_query.specs.Keyed.{IsKeyedBy, IsKeyedSelect}
 use Rattle.sq_query.specs.Needed.{IsNeeded, ReadsInside, ReadsSelect}
 use Rattle.sq_query.specs.Row.{outside}
 use Rattle.sq_query.specs.Search.{IsOver, IsOverBase, IsReadByKey, IsReadFor, IsSearch, IsWhere, rows_by_key, with_rows}
@@ -250,3 +251,17 @@ read_of_search columns tables q content keys values caller search kinds (Ok all)
           (inside_weaker (IsNeeded search.others) (λ t. rows_read all t ≡ few t) read.others (select_of q) beside.reads);
       same = sym (same (inside_weaker (IsNeeded search.others) (λ t. tables t ≡ few t) (with_others search.base found tables search.others beside.apart) (select_of q) beside.reads));
     }
+
+-- ---- one that names a row by a key whose values are known
+
+same_base : (q : BoundSpecification) (m n : ℕ) → IsOverBase q m → IsOverBase q n → m ≡ n
+same_base q m n first second = let same : Base m ∷ [] ≡ Base n ∷ [] = sym first ∙ second in cc
+
+same_where : (q : BoundSpecification) (a b : BoundCond) → IsWhere q a → IsWhere q b → a ≡ b
+same_where q a b first second = let same : Some a ≡ Some b = sym first ∙ second in cc
+
+pub keyed_where : (q : BoundSpecification) (keys : List Keys) (parameters : List Value) (user : Name) (place : ℕ) (own : BoundCond) → IsKeyedSelect q keys parameters user → IsOverBase q place → IsWhere q own
+    → IsKeyedBy (keys_at keys place) own parameters user
+keyed_where q keys parameters user place own keyed over is_where =
+    subst (λ (c : BoundCond). IsKeyedBy (keys_at keys place) c parameters user) (same_where q keyed.own own keyed.is_where is_where)
+    (subst (λ (p : ℕ). IsKeyedBy (keys_at keys p) keyed.own parameters user) (same_base q keyed.place place keyed.over over) keyed.by_key)

@@ -13,8 +13,9 @@ use Rattle.sq_bound.specs.declared.condition.BoundConj.{out-BoundConj}
 use Rattle.sq_bound.specs.declared.condition.BoundTest.{BoundTest}
 use Rattle.sq_bound.specs.declared.query.Target.{Target}
 use Rattle.sq_bound.proofs.QuietTruths.{both_left, both_right}
-use Rattle.sq_query.specs.Key.{AreKeyTests}
-use Rattle.sq_query.specs.Keyed.{AreKnownEqual, IsKeyed}
+use Rattle.sq_store.specs.Keys.{Keys}
+use Rattle.sq_query.specs.Key.{AreFirstTests, AreKeyTests}
+use Rattle.sq_query.specs.Keyed.{AreKnownEqual, IsKeyed, IsKeyedBy}
 
 abbrev Columns : Type 0
 Columns = List ℕ
@@ -80,3 +81,20 @@ module _ (t : Target) (own : BoundCond) (parameters : List Value) (user : Name) 
   pub keyed_by_any : (n : ℕ) (key : Columns) → t.condition ≡ Some own → IsShortestKey t.leaf.table.keys own t.key → slice_get t.leaf.table.keys n ≡ Some key → names_key key (out-BoundCond own).terms ≡ true
       → ((tests : List BoundTest) → AreKeyTests key t tests → AreKnownEqual tests parameters user) → IsKeyed t parameters user
   keyed_by_any n key is shortest at fit known = by_shortest t.key n key refl is shortest at fit known
+
+-- ---- any condition on the rows of a base table
+
+pub known_by_shortest : (keys : Keys) (own : BoundCond) (parameters : List Value) (user : Name) (k : ℕ) → IsShortestKey keys own (Some k) → IsKeyedBy keys own parameters user
+    → (tests : List BoundTest) → AreFirstTests (slice_index_or keys k []) own tests → AreKnownEqual tests parameters user
+known_by_shortest keys own parameters user k (short, found, fit_short, least) keyed tests first =
+    let fits : Columns → Bool = λ key. names_key key (out-BoundCond own).terms in
+    let less : length short ≤ length keyed.columns = no_fewer fits short keyed.columns keyed.named (passes_at (has_no_fewer fits short) keys keyed.number keyed.columns least keyed.is_key) in
+    let read : slice_index_or keys k [] ≡ short = get_or_from_slice_get keys k short [] found in
+    let firsts = subst (λ (c : Columns). AreFirstTests c own tests) read first in
+    subst (λ (ts : List BoundTest). AreKnownEqual ts parameters user) (sym firsts.firsts)
+    (fewer_known (length short) (length keyed.columns) (out-BoundConj firsts.term).tests parameters user less
+    (keyed.known (take (length keyed.columns) (out-BoundConj firsts.term).tests) (record { term = firsts.term; only_term = firsts.only_term; firsts = refl })))
+
+pub named_by_none : (keys : Keys) (own : BoundCond) (parameters : List Value) (user : Name) → IsShortestKey keys own None → IsKeyedBy keys own parameters user → ⊥
+named_by_none keys own parameters user none keyed =
+    true≢false (sym keyed.named ∙ fails_at (λ (key : Columns). names_key key (out-BoundCond own).terms) keys keyed.number keyed.columns none keyed.is_key)

@@ -1,23 +1,30 @@
--- A target that names a row by a key whose values are known in a call (own rule: then one row at most is read to find it; ISO/IEC
--- 9075:1992 asks nothing of how rows are found).
-use Rattle.std.specs.Prelude.{◌≡◌, ℕ, false, get_or, List, [], Some, Ok, Err}
+-- Targets and query specifications that name a row by a key whose values are known in a call (own rule: then one row at most is read to
+-- find it; ISO/IEC 9075:1992 asks nothing of how rows are found).
+use Rattle.std.specs.Prelude.{◌≡◌, ℕ, true, false, get_or, slice_get, List, [], Some, Ok, Err}
 use Rattle.std.specs.List.{Contains}
 use Rattle.sq_lex.specs.declared.name.Name.{Name}
 use Rattle.sq_value.specs.SetFunctions.{is_null}
 use Rattle.sq_value.specs.declared.value.Value.{Value}
+use Rattle.sq_store.specs.Keys.{Keys, keys_at}
 use Rattle.sq_meaning.specs.Environment.{Row}
 use Rattle.sq_meaning.specs.Expression as meaning
 use Rattle.sq_meaning.specs.Placed.{by_place}
 use Rattle.sq_meaning.specs.Status.{Outcome}
+use Rattle.sq_bound.specs.Condition.{select_of}
 use Rattle.sq_bound.specs.Expression.{expr_of}
+use Rattle.sq_bound.specs.Keyed.{names_key}
+use Rattle.sq_bound.specs.declared.condition.BoundCond.{BoundCond, out-BoundCond}
+use Rattle.sq_bound.specs.declared.condition.BoundSpecification.{BoundSpecification}
 use Rattle.sq_bound.specs.declared.condition.BoundTest.{BoundTest}
 use Rattle.sq_bound.specs.declared.condition.TablePlace.{TablePlace}
 use Rattle.sq_bound.specs.declared.expression.BoundExpr.{BoundExpr}
 use Rattle.sq_bound.specs.declared.query.Target.{Target}
 use Rattle.sq_bound.specs.declared.statement.ChangeTarget.{ChangeTarget}
 use Rattle.sq_bound.specs.declared.statement.ChangeTarget.TheVariants as target
-use Rattle.sq_query.specs.Key.{AreKeyTests, IsEquality}
+use Rattle.sq_query.specs.Key.{AreFirstTests, AreKeyTests, IsEquality}
+use Rattle.sq_query.specs.Needed.{inside_tables}
 use Rattle.sq_query.specs.Row.{outside}
+use Rattle.sq_query.specs.Search.{IsOverBase, IsWhere}
 
 -- there is a value, and it is not null
 abbrev pub IsKnownValue : Outcome Value → Type 0
@@ -40,3 +47,20 @@ pub record IsKeyed (t : Target) (parameters : List Value) (user : Name) : Type 0
 abbrev pub IsKeyedChange : ChangeTarget → List Value → Name → Type 0
 IsKeyedChange (target.Searched t) parameters user = IsKeyed t parameters user
 IsKeyedChange (target.Positioned p) parameters user = ⊥
+
+-- a condition on the rows of a base table with these keys names a row by one of them, and compares its columns with such values
+pub record IsKeyedBy (keys : Keys) (own : BoundCond) (parameters : List Value) (user : Name) : Type 0 where
+  pub number : ℕ
+  pub columns : List ℕ
+  pub is_key : slice_get keys number ≡ Some columns
+  pub named : names_key columns (out-BoundCond own).terms ≡ true
+  pub known : (tests : List BoundTest) → AreFirstTests columns own tests → AreKnownEqual tests parameters user
+
+-- so does the WHERE clause of a query specification over one base table alone, no subquery of which reads a table
+pub record IsKeyedSelect (q : BoundSpecification) (keys : List Keys) (parameters : List Value) (user : Name) : Type 0 where
+  pub place : ℕ
+  pub own : BoundCond
+  pub over : IsOverBase q place
+  pub is_where : IsWhere q own
+  pub by_key : IsKeyedBy (keys_at keys place) own parameters user
+  pub alone : inside_tables (select_of q) ≡ []

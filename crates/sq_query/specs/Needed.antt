@@ -105,7 +105,7 @@ NeedsMore before after = (t : TablePlace) → IsNeeded before t → IsNeeded aft
 abbrev pub IsClosedAt : List BoundSpecification → Needed → ℕ → Type 0
 IsClosedAt queries needed place = IfSome (slice_get queries place) (λ q. ReadsSelect (IsNeeded needed) (select_of q))
 
--- so it is for each view among them
+-- the tables that the query of each view among them reads are among them
 abbrev pub IsClosed : List BoundSpecification → Needed → Type 0
 IsClosed queries needed = (place : ℕ) → IsNeeded needed (View place) → IsClosedAt queries needed place
 

@@ -48,7 +48,7 @@ stored_numbered content place = table_there content place >>= λ found. Ok found
 abbrev pub stored_rows : Content → ℕ → Outcome (List Row)
 stored_rows content place = table_there content place >>= λ found. Ok (rows_in found)
 
--- and its place
+-- the rows of a base table, and its place
 abbrev pub stored_base : Content → ℕ → Outcome (ℕ × List Row)
 stored_base content place = table_there content place >>= λ found. Ok (place, rows_in found)
 

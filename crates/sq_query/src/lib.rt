@@ -18,6 +18,7 @@ mod union;
 mod view;
 
 pub use inputs::Inputs;
+pub use key::{KnownKey, key_of};
 pub use order::{ordered_rows, specification_rows};
 pub use row::{truth_of, value_of};
 pub use sq_expression::{Failure, Fault};

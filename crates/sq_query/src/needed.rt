@@ -54,6 +54,7 @@ impl Needed {
         alloc: Global,
         query: &BoundSpecification,
     ) -> Result<Needed, AllocError>
+        ensures none { inside_tables (select_of query.now) ≡ [] → IfOk result NeedsNone }
         ensures reads { IfOk result (λ needed. ReadsInside (IsNeeded needed) (select_of query.now)) }
         ensures known { (columns : TableKinds) → ReadsInside (λ t. HasValue (columns t)) (select_of query.now)
             → IfOk result (AreKnown columns) }
@@ -65,10 +66,12 @@ impl Needed {
 
     /// The tables in the FROM clauses of a query expression.
     pub(crate) fn of_query(alloc: Global, query: &BoundQuery) -> Result<Needed, AllocError>
-        ensures reads { IfOk result (λ needed. AllByRecursion (λ s. ReadsSelect (IsNeeded needed) (select_of s))
+        ensures reads { IfOk result
+            (λ needed. AllByRecursion (λ s. ReadsSelect (IsNeeded needed) (select_of s))
             (specifications_of query.now)) }
         ensures known { (columns : TableKinds)
-            → AllByRecursion (λ s. ReadsSelect (λ t. HasValue (columns t)) (select_of s)) (specifications_of query.now)
+            → AllByRecursion (λ s. ReadsSelect (λ t. HasValue (columns t)) (select_of s))
+            (specifications_of query.now)
             → IfOk result (AreKnown columns) }
     {
         let mut needed = Needed::new(alloc);
@@ -82,7 +85,8 @@ impl Needed {
         ensures reads { IfOk result (λ needed. (functions : List PlacedExpr) → ReadsCond (IsNeeded needed)
             (cond_of functions condition.now)) }
         ensures known { (columns : TableKinds) (functions : List PlacedExpr)
-            → ReadsCond (λ t. HasValue (columns t)) (cond_of functions condition.now) → IfOk result (AreKnown columns) }
+            → ReadsCond (λ t. HasValue (columns t)) (cond_of functions condition.now)
+            → IfOk result (AreKnown columns) }
     {
         let mut needed = Needed::new(alloc);
         needed.add_of_condition(condition)?;
@@ -127,7 +131,8 @@ impl Needed {
         requires there { BasesAreThere (N.base_tables names.now) (N.column_kinds names.now) }
         requires known { HasValue (N.column_kinds names.now (at_place.View place)) }
         ensures more { OnOk result (NeedsMore self.old self.new) }
-        ensures known { AreKnown (N.column_kinds names.now) self.old → OnOk result (AreKnown (N.column_kinds names.now) self.new) }
+        ensures known { AreKnown (N.column_kinds names.now) self.old
+            → OnOk result (AreKnown (N.column_kinds names.now) self.new) }
         ensures earlier { OnOk result (AddsBefore place self.old self.new) }
         ensures closed { OnOk result (IsClosedAt (N.view_queries names.now) self.new place) }
     {
@@ -156,7 +161,8 @@ impl Needed {
 
     #[cycle(needed_of_query)]
     fn add_of_term(&mut self, term: &BoundTerm) -> Result<(), AllocError>
-        ensures { OnOk result (Adds self.old (specifications_tables (term_specifications term.now)) self.new) }
+        ensures { OnOk result
+            (Adds self.old (specifications_tables (term_specifications term.now)) self.new) }
     {
         match term {
             BoundTerm::Specification(specification) => self.add_of_specification(specification),
@@ -193,7 +199,8 @@ impl Needed {
         &mut self,
         condition: &Option<BoundCond>,
     ) -> Result<(), AllocError>
-        ensures plain { clause_has_subquery (clause_of [] condition.now) ≡ false → OnOk result (self.new ≡ self.old) }
+        ensures plain { clause_has_subquery (clause_of [] condition.now) ≡ false
+            → OnOk result (self.new ≡ self.old) }
         ensures adds { (functions : List PlacedExpr)
             → OnOk result (Adds self.old (clause_tables (clause_of functions condition.now)) self.new) }
     {
@@ -206,7 +213,8 @@ impl Needed {
     #[cycle(needed_of_cond)]
     pub(crate) fn add_of_condition(&mut self, condition: &BoundCond) -> Result<(), AllocError>
         ensures plain { has_subquery (cond_of [] condition.now) ≡ false → OnOk result (self.new ≡ self.old) }
-        ensures adds { (functions : List PlacedExpr) → OnOk result (Adds self.old (cond_tables (cond_of functions condition.now)) self.new) }
+        ensures adds { (functions : List PlacedExpr)
+            → OnOk result (Adds self.old (cond_tables (cond_of functions condition.now)) self.new) }
     {
         for term in condition.terms.as_slice() {
             self.add_of_tests(term)?;
@@ -217,7 +225,8 @@ impl Needed {
     #[cycle(needed_of_cond)]
     fn add_of_tests(&mut self, term: &BoundConj) -> Result<(), AllocError>
         ensures plain { has_subquery (conj_of [] term.now) ≡ false → OnOk result (self.new ≡ self.old) }
-        ensures adds { (functions : List PlacedExpr) → OnOk result (Adds self.old (cond_tables (conj_of functions term.now)) self.new) }
+        ensures adds { (functions : List PlacedExpr)
+            → OnOk result (Adds self.old (cond_tables (conj_of functions term.now)) self.new) }
     {
         for test in term.tests.as_slice() {
             self.add_of_predicate(&test.predicate)?;
@@ -227,7 +236,8 @@ impl Needed {
 
     #[cycle(needed_of_cond)]
     fn add_of_predicate(&mut self, predicate: &Predicate) -> Result<(), AllocError>
-        ensures plain { has_subquery (predicate_of [] predicate.now) ≡ false → OnOk result (self.new ≡ self.old) }
+        ensures plain { has_subquery (predicate_of [] predicate.now) ≡ false
+            → OnOk result (self.new ≡ self.old) }
         ensures adds { (functions : List PlacedExpr)
             → OnOk result (Adds self.old (cond_tables (predicate_of functions predicate.now)) self.new) }
     {

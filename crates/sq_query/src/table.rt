@@ -1,6 +1,6 @@
 //! The rows of base tables in the store.
 
-ghost use Rattle.std.specs.Prelude.{Ok};
+ghost use Rattle.std.specs.Prelude.{◌≡◌, [], Ok};
 ghost use Rattle.sq_meaning.specs.Status.{each};
 ghost use Rattle.sq_expression.specs.Fault.{MeetsAs};
 ghost use Rattle.sq_expression.specs.Group.{rows_of_line};
@@ -18,7 +18,8 @@ pub(crate) fn base_tables<'a, S: Store>(
     places: &[usize],
     meter: &mut Meter,
 ) -> Result<Vec<BaseRows<'a>>, Fault>
-    ensures { MeetsAs bases_in result (each (stored_base (S.content_now store.now)) places.now) }
+    ensures rows { MeetsAs bases_in result (each (stored_base (S.content_now store.now)) places.now) }
+    ensures none { places.now ≡ [] → meter.new ≡ meter.old }
 {
     let mut tables = Vec::new(alloc);
     for place in places {

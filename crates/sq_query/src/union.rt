@@ -57,7 +57,8 @@ fn joined(
 ) -> Result<Vec<Row>, Fault>
     ensures { WereJoined (option_copied before.entry) left.items
         → AreBringable (kinds_of_results union.now.columns) (left.items ++ right.items)
-        → HasRows result (joined_rows union.now.all (kinds_of_results union.now.columns) (left.items ++ right.items)) }
+        → HasRows result
+        (joined_rows union.now.all (kinds_of_results union.now.columns) (left.items ++ right.items)) }
 {
     let columns = union.columns.as_slice();
     let brought = both_brought_to(columns, before, left, right, alloc);
@@ -78,7 +79,8 @@ fn both_brought_to(
 ) -> Result<Vec<Row>, Fault>
     ensures { WereJoined (option_copied before.entry) left.items
         → AreBringable (kinds_of_results columns.now) (left.items ++ right.items)
-        → HasRows result (each (meaning.row_brought_to (kinds_of_results columns.now)) (left.items ++ right.items)) }
+        → HasRows result
+        (each (meaning.row_brought_to (kinds_of_results columns.now)) (left.items ++ right.items)) }
 {
     match left_brought_to(columns, before, left, alloc) {
         Ok(rows) => with_brought(rows, columns, right, alloc),
@@ -96,7 +98,8 @@ fn left_brought_to(
     rows: Vec<Row>,
     alloc: Global,
 ) -> Result<Vec<Row>, Fault>
-    ensures { WereJoined (option_copied before.entry) rows.items → AreBringable (kinds_of_results columns.now) rows.items
+    ensures { WereJoined (option_copied before.entry) rows.items
+        → AreBringable (kinds_of_results columns.now) rows.items
         → HasRows result (each (meaning.row_brought_to (kinds_of_results columns.now)) rows.items) }
 {
     if stay_under(before, columns) {
@@ -108,7 +111,8 @@ fn left_brought_to(
 
 /// Whether rows that a UNION has brought to its columns are the same where they are brought to these.
 fn stay_under(before: Option<&BoundUnion>, columns: &[ResultColumn]) -> bool
-    ensures { IsTrue result → IsSomeAnd (option_copied before.entry) (λ u. all_stay u.columns columns.now ≡ true) }
+    ensures { IsTrue result
+        → IsSomeAnd (option_copied before.entry) (λ u. all_stay u.columns columns.now ≡ true) }
 {
     match before {
         Some(before) => all_stay(before.columns.as_slice(), columns),
@@ -183,7 +187,8 @@ fn brought_to(column: ResultColumn, value: Value, alloc: Global) -> Result<Value
 
 #[tactic(auto, using(crate::proofs::Bringable::bounded_scale))]
 fn number_brought_to(column: ResultColumn, number: Decimal) -> Result<Value, Fault>
-    ensures { MayBeBrought column.kind (Value.Num number) → Meets result (meaning.brought_to column.kind (Value.Num number)) }
+    ensures { MayBeBrought column.kind (Value.Num number)
+        → Meets result (meaning.brought_to column.kind (Value.Num number)) }
 {
     match column.kind {
         Kind::Num(scale) => at_scale(scale, number),
@@ -205,7 +210,8 @@ fn text_brought_to(column: ResultColumn, text: Text, alloc: Global) -> Result<Va
 /// The number at a scale that is no smaller than its own.
 fn at_scale(scale: u8, number: Decimal) -> Result<Value, Fault>
     requires { scale ≤ 18 }
-    ensures { MayBeBrought (Num scale) (Value.Num number) → Meets result (meaning.brought_to (Num scale) (Value.Num number)) }
+    ensures { MayBeBrought (Num scale) (Value.Num number)
+        → Meets result (meaning.brought_to (Num scale) (Value.Num number)) }
 {
     number_value(number.add(Decimal::new(0, scale)))
 }

@@ -12,7 +12,7 @@ ghost use Rattle.sq_bound.specs.declared.condition.TablePlace.{TablePlace};
 ghost use Rattle.sq_bound.specs.declared.condition.TablePlace.TheVariants.{Base};
 ghost use Rattle.sq_expression.specs.Fault.{HasRows, IsAnswered, IsRight, MeetsAs};
 ghost use Rattle.sq_expression.specs.Frame.{view_outcome};
-ghost use Rattle.sq_query.specs.Needed.{AreKnown, IsClosed, IsNeeded, NeedsBases, ReadsSelect};
+ghost use Rattle.sq_query.specs.Needed.{AreKnown, IsClosed, IsNeeded, NeedsBases, NeedsNone, ReadsSelect};
 ghost use Rattle.sq_query.specs.Table.{AreMeant, CanBeRead, ReadsAsMeant, bases_of, rows_among, rows_of_view, rows_read, stored_base};
 
 use crate::needed::{Needed, is_among, view_at};
@@ -42,11 +42,14 @@ pub(crate) fn tables_of<'a, N: Names, S: Store>(
 ) -> Result<Tables<'a>, Fault>
     requires there { BasesAreThere (N.base_tables names.now) (N.column_kinds names.now) }
     requires known { IfOk needed (AreKnown (N.column_kinds names.now)) }
-    ensures meant { AreInDomains (N.base_tables names.now) (S.content_now store.now) → (tables : TablePlace → Outcome (List Row))
-        → AreMeant (N.view_queries names.now) (S.content_now store.now) call.now.user tables → IsAnswered result
+    ensures meant { AreInDomains (N.base_tables names.now) (S.content_now store.now)
+        → (tables : TablePlace → Outcome (List Row))
+        → AreMeant (N.view_queries names.now) (S.content_now store.now) call.now.user tables
+        → IsAnswered result
         × IfOk result (λ read. IfOk needed (λ n. ReadsAsMeant n (rows_read read) tables)) }
     ensures bases { (places : List ℕ) → IfOk needed (NeedsBases places)
         → MeetsAs bases_of result (each (stored_base (S.content_now store.now)) places) }
+    ensures none { IfOk needed NeedsNone → meter.new ≡ meter.old }
 {
     let mut needed = needed?;
     needed.add_of_views(names)?;
@@ -62,12 +65,14 @@ fn tables_at<'a, N: Names, S: Store>(
 ) -> Result<Tables<'a>, Fault>
     requires there { BasesAreThere (N.base_tables names.now) (N.column_kinds names.now) }
     requires known { AreKnown (N.column_kinds names.now) needed.now }
-    ensures meant { AreInDomains (N.base_tables names.now) (S.content_now store.now) → (tables : TablePlace → Outcome (List Row))
+    ensures meant { AreInDomains (N.base_tables names.now) (S.content_now store.now)
+        → (tables : TablePlace → Outcome (List Row))
         → AreMeant (N.view_queries names.now) (S.content_now store.now) call.now.user tables
         → IsClosed (N.view_queries names.now) needed.now → IsAnswered result
         × IfOk result (λ read. ReadsAsMeant needed.now (rows_read read) tables) }
     ensures bases { (places : List ℕ) → NeedsBases places needed.now
         → MeetsAs bases_of result (each (stored_base (S.content_now store.now)) places) }
+    ensures none { NeedsNone needed.now → meter.new ≡ meter.old }
 {
     let bases = base_tables(call.alloc, store, needed.bases.as_slice(), meter)?;
     match view_tables(call.alloc, names, needed, bases.as_slice(), call.user) {
@@ -93,7 +98,8 @@ fn view_tables<N: Names>(
     ensures answered { IsAnswered result }
     ensures meant { (tables : TablePlace → Outcome (List Row))
         → CanBeRead (N.column_kinds names.now) (N.view_queries names.now) user needed.now tables
-        → ((place : ℕ) → IsNeeded needed.now (Base place) → rows_among bases.now [] (Base place) ≡ tables (Base place))
+        → ((place : ℕ) → IsNeeded needed.now (Base place) → rows_among bases.now [] (Base place)
+        ≡ tables (Base place))
         → IfOk result (λ views. ReadsAsMeant needed.now (rows_among bases.now views.items) tables) }
 {
     let mut views = Vec::new(alloc);
@@ -117,10 +123,12 @@ fn view_rows<'a>(
 ) -> Result<ViewRows, Fault>
     ensures answered { IsAnswered result }
     ensures place { IfOk result (λ view. view.place ≡ place) }
-    ensures meant { (tables : TablePlace → Outcome (List Row)) → SelectIsNoted view.now.query → HaveNumbers SelectWith view.now.query
+    ensures meant { (tables : TablePlace → Outcome (List Row)) → SelectIsNoted view.now.query
+        → HaveNumbers SelectWith view.now.query
         → ReadsSelect (λ t. rows_among bases.now views.now t ≡ tables t) (select_of view.now.query)
         → IsRight (rows_of_view tables user view.now.query)
-        → IfOk result (λ read. view_outcome read.rows.items read.failure ≡ rows_of_view tables user view.now.query) }
+        → IfOk result (λ read. view_outcome read.rows.items read.failure
+        ≡ rows_of_view tables user view.now.query) }
 {
     let context = Context {
         alloc,

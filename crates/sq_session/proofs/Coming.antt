@@ -24,6 +24,7 @@ use Rattle.sq_bound.specs.declared.names.BaseTable.{BaseTable}
 use Rattle.sq_bound.specs.declared.names.ParameterDesc.{ParameterDesc}
 use Rattle.sq_bound.specs.declared.query.CursorBody.{CursorBody}
 use Rattle.sq_bound.specs.declared.query.CursorBody.TheVariants as body
+use Rattle.sq_bound.specs.declared.query.Target.{Target as Changed}
 use Rattle.sq_bound.specs.declared.query.UpdatableQuery.{UpdatableQuery}
 use Rattle.sq_bound.specs.declared.statement.BoundFetch.{BoundFetch}
 use Rattle.sq_bound.specs.declared.statement.Distance.{Distance}
@@ -35,7 +36,7 @@ use Rattle.sq_module.specs.Program.{CursorsAreWellFormed, CursorsFit, kinds_of_c
 use Rattle.sq_module.specs.declared.program.DeclaredCursor.{DeclaredCursor}
 use Rattle.sq_session.specs.Cursors.{HasKept, HaveKept, are_over, is_over, is_over_numbers}
 use Rattle.sq_session.specs.Fetch.{HasNumber, IsFetch, MayTakeFrom, MayTakeShown, MeansPlace, row_on, whole_number}
-use Rattle.sq_session.specs.Kind.{Fetching, columns_at, columns_of, conditions_at, fetching, over_of}
+use Rattle.sq_session.specs.Kind.{Fetching, columns_at, columns_of, conditions_at, fetching, over_of, target_at}
 use Rattle.sq_session.specs.Parameter.{AreGiven, IsGiven}
 use Rattle.sq_session.specs.Target.{MayTake, MayTakeRows}
 use Rattle.sq_session.specs.declared.cursor.CursorState.{CursorState}
@@ -122,34 +123,34 @@ body_taken columns bases tables parameters kinds (body.Updatable u) table ps ts 
     query_taken columns bases tables parameters kinds u table ps ts in_domains fits is takes (over_quiet u.target.is_quiet u.target.base table over)
 
 -- those of a cursor
-cursor_taken : (columns : TableKinds) (bases : List BaseTable) (tables : Content) (parameters : List Kind) (d : DeclaredCursor) (c : CursorState) (n : ℕ) (o : FetchOrientation) (conditions : List BoundCond) (user : Name)
+cursor_taken : (columns : TableKinds) (bases : List BaseTable) (tables : Content) (parameters : List Kind) (d : DeclaredCursor) (c : CursorState) (n : ℕ) (o : FetchOrientation) (conditions : List BoundCond) (target : Option Changed) (user : Name)
     (ps : List ParameterDesc) (ts : List Target) → AreInDomains bases tables → FitsBody bases d.cursor.body → IsCursor columns parameters d.cursor → TakeKinds (kinds_of_parameters ps) ts (kinds_of_results d.cursor.columns)
     → is_over (over_of d.cursor.body) c ≡ true → HasKept columns d.cursor c
-    → MayTakeFrom (record { cursor = n; orientation = o; columns = columns_of d.cursor.body; conditions = conditions; user = user; parameters = ps; targets = ts }) tables c
-cursor_taken columns bases tables parameters d cursor.Closed n o conditions user ps ts in_domains fits is takes over has = tt
-cursor_taken columns bases tables parameters d (cursor.Rows c) n o conditions user ps ts in_domains fits is takes over has = rows_taken ps ts (kinds_of_results d.cursor.columns) c.rows takes has
-cursor_taken columns bases tables parameters d (cursor.Numbers c) n o conditions user ps ts in_domains fits is takes over has =
+    → MayTakeFrom (record { cursor = n; orientation = o; columns = columns_of d.cursor.body; conditions = conditions; target = target; user = user; parameters = ps; targets = ts }) tables c
+cursor_taken columns bases tables parameters d cursor.Closed n o conditions target user ps ts in_domains fits is takes over has = tt
+cursor_taken columns bases tables parameters d (cursor.Rows c) n o conditions target user ps ts in_domains fits is takes over has = rows_taken ps ts (kinds_of_results d.cursor.columns) c.rows takes has
+cursor_taken columns bases tables parameters d (cursor.Numbers c) n o conditions target user ps ts in_domains fits is takes over has =
     body_taken columns bases tables parameters (kinds_of_results d.cursor.columns) d.cursor.body c.table ps ts in_domains fits is takes over
-cursor_taken columns bases tables parameters d (cursor.Walking c) n o conditions user ps ts in_domains fits is takes over has =
+cursor_taken columns bases tables parameters d (cursor.Walking c) n o conditions target user ps ts in_domains fits is takes over has =
     body_taken columns bases tables parameters (kinds_of_results d.cursor.columns) d.cursor.body c.table ps ts in_domains fits is takes (as_numbers (over_of d.cursor.body) c.table over)
 
-at_taken : (columns : TableKinds) (bases : List BaseTable) (tables : Content) (ds : List DeclaredCursor) (cs : List CursorState) (i n : ℕ) (o : FetchOrientation) (conditions : List BoundCond) (user : Name)
+at_taken : (columns : TableKinds) (bases : List BaseTable) (tables : Content) (ds : List DeclaredCursor) (cs : List CursorState) (i n : ℕ) (o : FetchOrientation) (conditions : List BoundCond) (target : Option Changed) (user : Name)
     (ps : List ParameterDesc) (ts : List Target) (c : CursorState) → AreInDomains bases tables → CursorsFit bases ds → CursorsAreWellFormed columns ds → are_over ds cs ≡ true → HaveKept columns ds cs
     → Has (TakeKinds (kinds_of_parameters ps) ts) (well_formed (slice_get (kinds_of_cursors ds) i)) → i < length cs
-    → MayTakeFrom (record { cursor = n; orientation = o; columns = columns_at ds i; conditions = conditions; user = user; parameters = ps; targets = ts }) tables (get_or cs i c)
-at_taken columns bases tables [] cs i n o conditions user ps ts c in_domains fit are over have takes lt = absurd takes
-at_taken columns bases tables (d ∷ ds) [] i n o conditions user ps ts c in_domains fit are over have takes lt = absurd have
-at_taken columns bases tables (d ∷ ds) (x ∷ cs) zero n o conditions user ps ts c in_domains fit are over have takes lt =
-    cursor_taken columns bases tables are.0.0 d x n o conditions user ps ts in_domains fit.0 are.0.1 takes (both (is_over (over_of d.cursor.body) x) (are_over ds cs) over).0 have.0
-at_taken columns bases tables (d ∷ ds) (x ∷ cs) (suc i) n o conditions user ps ts c in_domains fit are over have takes lt =
-    at_taken columns bases tables ds cs i n o conditions user ps ts c in_domains fit.1 are.1 (both (is_over (over_of d.cursor.body) x) (are_over ds cs) over).1 have.1 takes (omega (arith, lt))
+    → MayTakeFrom (record { cursor = n; orientation = o; columns = columns_at ds i; conditions = conditions; target = target; user = user; parameters = ps; targets = ts }) tables (get_or cs i c)
+at_taken columns bases tables [] cs i n o conditions target user ps ts c in_domains fit are over have takes lt = absurd takes
+at_taken columns bases tables (d ∷ ds) [] i n o conditions target user ps ts c in_domains fit are over have takes lt = absurd have
+at_taken columns bases tables (d ∷ ds) (x ∷ cs) zero n o conditions target user ps ts c in_domains fit are over have takes lt =
+    cursor_taken columns bases tables are.0.0 d x n o conditions target user ps ts in_domains fit.0 are.0.1 takes (both (is_over (over_of d.cursor.body) x) (are_over ds cs) over).0 have.0
+at_taken columns bases tables (d ∷ ds) (x ∷ cs) (suc i) n o conditions target user ps ts c in_domains fit are over have takes lt =
+    at_taken columns bases tables ds cs i n o conditions target user ps ts c in_domains fit.1 are.1 (both (is_over (over_of d.cursor.body) x) (are_over ds cs) over).1 have.1 takes (omega (arith, lt))
 
 -- those of the cursor that a FETCH names
 pub fetched_taken : (columns : TableKinds) (bases : List BaseTable) (tables : Content) (ds : List DeclaredCursor) (cs : List CursorState) (user : Name) (ps : List ParameterDesc) (f : BoundFetch) (c : CursorState)
     → AreInDomains bases tables → CursorsFit bases ds → CursorsAreWellFormed columns ds → are_over ds cs ≡ true → HaveKept columns ds cs
     → IsFetch (kinds_of_cursors ds) (kinds_of_parameters ps) f → f.cursor < length cs → MayTakeFrom (fetching ds user ps f) tables (get_or cs f.cursor c)
 fetched_taken columns bases tables ds cs user ps f c in_domains fit are over have asked lt =
-    at_taken columns bases tables ds cs f.cursor f.cursor f.orientation (conditions_at ds f.cursor) user ps f.outputs c in_domains fit are over have asked.1 lt
+    at_taken columns bases tables ds cs f.cursor f.cursor f.orientation (conditions_at ds f.cursor) (target_at ds f.cursor) user ps f.outputs c in_domains fit are over have asked.1 lt
 
 -- ---- a row that it comes to
 

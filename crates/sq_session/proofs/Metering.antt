@@ -20,10 +20,10 @@ use Rattle.sq_bound.specs.declared.statement.ChangeTarget.{ChangeTarget}
 use Rattle.sq_bound.specs.declared.statement.ChangeTarget.TheVariants as target
 use Rattle.sq_module.specs.declared.program.DeclaredCursor.{DeclaredCursor}
 use Rattle.sq_expression.specs.declared.fault.Fault.{Fault}
-use Rattle.sq_query.specs.Keyed.{IsKeyedChange}
+use Rattle.sq_query.specs.Keyed.{IsKeyed, IsKeyedChange, IsKeyedSelect}
 use Rattle.sq_query.proofs.KnownKeys.{counted_at_most}
 use Rattle.sq_session.specs.Fetch.{next_walked}
-use Rattle.sq_session.specs.Kind.{Caller, Fetching, Kind, Over, Updating, caller_of, delete_kind, kind_of, over_at, over_of, over_target, read_parameters, update_kind, updating}
+use Rattle.sq_session.specs.Kind.{Caller, Fetching, Kind, Over, Selecting, Updating, caller_of, delete_kind, kind_of, over_at, over_of, over_target, read_parameters, update_kind, updating}
 use Rattle.sq_session.specs.Metered.{CallReads, FetchReads, FetchReadsFrom, OpenReads, StepReads}
 use Rattle.sq_session.specs.Parameter.{started_values}
 use Rattle.sq_session.specs.State.{State, cursor_at}
@@ -62,6 +62,10 @@ pub meter_comes : (start old new from number found : ℕ) → old + (from - 1) �
 meter_comes start old new from number found so_far first behind positive is =
     (counted_some old new is, comes_by start old new from number found so_far first behind positive (counted_at_most old new is))
 
+-- a row that is looked up counts once
+pub counted_once : (old new : ℕ) → new ≡ counted old → new ≤ old + 1
+counted_once old new is = counted_at_most old new is
+
 -- ---- OPEN
 
 pub walk_opened : (t : Target) (count : ℕ) → t.is_quiet ≡ true → count ≡ 0 → OpenReads (over_target t) count
@@ -83,15 +87,25 @@ opened_at cursors number declared count there h =
 
 -- ---- FETCH
 
+-- a walk whose target names a row by a key
+by_key : (f : Fetching) (c : WalkingCursor) (t : Target) (start count : ℕ) → f.target ≡ Some t → start ≡ 0 → (IsKeyed t c.values f.user → count ≤ start + 1)
+    → IfSome f.target (λ t. IsKeyed t c.values f.user → count ≤ 1)
+by_key f c t start count is none once =
+    subst (λ (o : Option Target). IfSome o (λ t. IsKeyed t c.values f.user → count ≤ 1)) (sym is) (λ keyed. let most = once keyed in omega (arith, none, most))
+
 -- where a walk comes to a row
-pub row_come_to : (f : Fetching) (tables : Content) (c : WalkingCursor) (row : Numbered) (start count : ℕ) → next_walked f (table_at tables c.table) c ≡ Some row → start ≡ 0
-    → (1 ≤ count) × (count ≤ start + (row.number - (c.next - 1))) → FetchReadsFrom (cursor.Walking c) f tables count
-row_come_to f tables c row start count next none h =
-    subst (λ (o : Option Numbered). IfSome o (λ r. (1 ≤ count) × (count ≤ r.number - (c.next - 1)))) (sym next) (h.0, omega (arith, none, h.1))
+pub row_come_to : (f : Fetching) (tables : Content) (c : WalkingCursor) (t : Target) (row : Numbered) (start count : ℕ) → f.target ≡ Some t → next_walked f (table_at tables c.table) c ≡ Some row → start ≡ 0
+    → (1 ≤ count) × (count ≤ start + (row.number - (c.next - 1))) → (IsKeyed t c.values f.user → count ≤ start + 1) → FetchReadsFrom (cursor.Walking c) f tables count
+row_come_to f tables c t row start count is next none h once = (
+  subst (λ (o : Option Numbered). IfSome o (λ r. (1 ≤ count) × (count ≤ r.number - (c.next - 1)))) (sym next) (h.0, omega (arith, none, h.1)),
+  by_key f c t start count is none once,
+)
 
 -- and where it comes to its end
-pub end_come_to : (f : Fetching) (tables : Content) (c : WalkingCursor) (count : ℕ) → next_walked f (table_at tables c.table) c ≡ None → FetchReadsFrom (cursor.Walking c) f tables count
-end_come_to f tables c count next = subst (λ (o : Option Numbered). IfSome o (λ r. (1 ≤ count) × (count ≤ r.number - (c.next - 1)))) (sym next) tt
+pub end_come_to : (f : Fetching) (tables : Content) (c : WalkingCursor) (t : Target) (start count : ℕ) → f.target ≡ Some t → next_walked f (table_at tables c.table) c ≡ None → start ≡ 0
+    → (IsKeyed t c.values f.user → count ≤ start + 1) → FetchReadsFrom (cursor.Walking c) f tables count
+end_come_to f tables c t start count is next none once =
+    (subst (λ (o : Option Numbered). IfSome o (λ r. (1 ≤ count) × (count ≤ r.number - (c.next - 1)))) (sym next) tt, by_key f c t start count is none once)
 
 -- the cursor is that of the state
 pub fetched_at : (f : Fetching) (tables committed : Content) (keys : List Keys) (row_numbers : ℕ) (cs : List CursorState) (old : CursorState) (r : Result Done Fault) (count : ℕ) → f.cursor < length cs → old ≡ get_or cs f.cursor old
@@ -102,7 +116,11 @@ fetched_at f tables committed keys row_numbers cs old r count lt at h =
     let there : old ≡ cursor_at b f.cursor = at ∙ get_or_default cs f.cursor old cursor.Closed lt in
     subst (λ (c : CursorState). IfSome (ending r) (λ d. FetchReadsFrom c f tables count)) there h
 
--- ---- UPDATE and DELETE
+-- ---- SELECT, UPDATE and DELETE
+
+pub select_read : (s : Selecting) (values : List Value) (before : State) (r : Result Done Fault) (start count : ℕ) → start ≡ 0 → (IsKeyedSelect s.query before.keys values s.user → count ≤ start + 1)
+    → IfSome (ending r) (λ d. StepReads (Kind.selects s) values before count)
+select_read s values before r start count none read = however (ending r) (λ keyed. let most = read keyed in omega (arith, none, most))
 
 pub update_read : (u : Updating) (t : ChangeTarget) (values : List Value) (before : State) (r : Result Done Fault) (start count : ℕ) → start ≡ 0 → (IsKeyedChange u.statement.target values u.caller.user → count ≤ start + 1)
     → IfSome (ending r) (λ d. StepReads (update_kind u t) values before count)
@@ -122,7 +140,7 @@ step_read : (cs : List DeclaredCursor) (user : Name) (ps : List ParameterDesc) (
 step_read cs user ps (statement.Open n) vs b count h = h
 step_read cs user ps (statement.Fetch f) vs b count h = h
 step_read cs user ps (statement.Close n) vs b count h = tt
-step_read cs user ps (statement.Select s) vs b count h = tt
+step_read cs user ps (statement.Select s) vs b count h = h
 step_read cs user ps (statement.Insert i) vs b count h = tt
 step_read cs user ps (statement.Update u) vs b count h = by u.target h
   where

@@ -16,7 +16,7 @@ use Rattle.sq_meaning.specs.Query.{truth}
 use Rattle.sq_meaning.specs.Status.{Outcome}
 use Rattle.sq_meaning.specs.WellFormed.{AreInputsOf, HasValue, IsRowOf}
 use Rattle.sq_bound.specs.Condition.{cond_of}
-use Rattle.sq_bound.specs.Fits.{AreInDomains, AreRowsIn, FitsBody}
+use Rattle.sq_bound.specs.Fits.{AreInDomains, AreRowsIn, FitsBody, IsBase}
 use Rattle.sq_bound.specs.WellFormed.{TableKinds, base_kinds}
 use Rattle.sq_bound.specs.declared.condition.BoundCond.{BoundCond}
 use Rattle.sq_bound.specs.declared.names.BaseColumn.{BaseColumn}
@@ -37,7 +37,7 @@ use Rattle.sq_query.proofs.QuietTargets.{are_plain}
 use Rattle.sq_expression.specs.declared.fault.Failure.{Failure}
 use Rattle.sq_expression.specs.declared.fault.Fault.TheVariants as fault
 use Rattle.sq_session.specs.Cursors.{HasKept, HasKeptAt, HaveKept, MayKeep, is_over, is_over_table}
-use Rattle.sq_session.specs.Kind.{IsDeclaredAt, Over, columns_at, conditions_at, over_at, over_of, over_target}
+use Rattle.sq_session.specs.Kind.{IsDeclaredAt, Over, columns_at, conditions_at, over_at, over_of, over_target, target_at}
 use Rattle.sq_session.specs.Walk.{AreRowsUnder, IsQuietWith, is_meant, no_tables}
 use Rattle.sq_session.specs.declared.cursor.CursorState.{CursorState}
 use Rattle.sq_session.specs.declared.cursor.CursorState.TheVariants as cursor
@@ -145,6 +145,9 @@ columns_are ds n u is = rw (is.at, is.body_is) refl
 pub conditions_are : (ds : List DeclaredCursor) (n : ℕ) (u : UpdatableQuery) → IsDeclaredAt ds n u → conditions_at ds n ≡ conditions_of u.target
 conditions_are ds n u is = rw (is.at, is.body_is) refl
 
+pub target_is : (ds : List DeclaredCursor) (n : ℕ) (u : UpdatableQuery) → IsDeclaredAt ds n u → target_at ds n ≡ Some u.target
+target_is ds n u is = rw (is.at, is.body_is) refl
+
 -- what a cursor keeps, by its number
 pub kept_there : (columns : TableKinds) (ds : List DeclaredCursor) (cs : List CursorState) (n : ℕ) (c : CursorState) → HaveKept columns ds cs → n < length cs → HasKeptAt columns ds n (get_or cs n c)
 kept_there columns [] [] n c h lt = absurd (omega (arith, lt))
@@ -185,3 +188,9 @@ pub under_at : (bases : List BaseTable) (tables : Content) (ds : List DeclaredCu
 under_at bases tables ds n u w in_domains fit is over =
     are_under bases tables u w.table in_domains (subst (λ (b : CursorBody). FitsBody bases b) is.body_is (body_fits bases ds n is.declared fit is.at))
     (over_that is.declared.cursor u w.table is.body_is (over_declared ds n is.declared w is.at over))
+
+pub base_at : (ds : List DeclaredCursor) (n : ℕ) (u : UpdatableQuery) (w : WalkingCursor) → IsDeclaredAt ds n u → is_over (over_at ds n) (cursor.Walking w) ≡ true → u.target.base ≡ w.table
+base_at ds n u w is over = over_that is.declared.cursor u w.table is.body_is (over_declared ds n is.declared w is.at over)
+
+pub stands_at : (bases : List BaseTable) (ds : List DeclaredCursor) (n : ℕ) (u : UpdatableQuery) → CursorsFit bases ds → IsDeclaredAt ds n u → IsBase bases u.target.leaf.table
+stands_at bases ds n u fit is = (subst (λ (b : CursorBody). FitsBody bases b) is.body_is (body_fits bases ds n is.declared fit is.at)).0

@@ -123,7 +123,7 @@ listed d tables c = record { table = c.table; numbers = numbers_left d tables c;
 abbrev pub reads : BoundUpdate → DeclaredCursor → WalkingCursor → Bool
 reads u d c = nat_eq c.table (base_of u.target) && one_reads u.assignments (conditions_in d.cursor.body)
 
--- then it goes on over the numbers; any other cursor stays as it is
+-- a walking cursor that reads what an UPDATE changes goes on over the numbers of its rows; any other cursor stays as it is
 abbrev pub goes_on : BoundUpdate → Content → DeclaredCursor → CursorState → CursorState
 goes_on u tables d cursor.Closed = cursor.Closed
 goes_on u tables d (cursor.Rows c) = cursor.Rows c

@@ -41,6 +41,14 @@ abbrev pub conditions_in : CursorBody → List BoundCond
 conditions_in (body.Rows query order) = []
 conditions_in (body.Updatable u) = conditions_of u.target
 
+-- the rows of the base table that it may change
+abbrev pub target_in : CursorBody → Option Target
+target_in (body.Rows query order) = None
+target_in (body.Updatable u) = Some u.target
+
+abbrev pub target_at : List DeclaredCursor → ℕ → Option Target
+target_at cursors number = option_and_then (λ c. target_in c.cursor.body) (slice_get cursors number)
+
 abbrev pub conditions_at : List DeclaredCursor → ℕ → List BoundCond
 conditions_at cursors number = option_map_or (λ c. conditions_in c.cursor.body) (slice_get cursors number) []
 
@@ -96,12 +104,13 @@ opening cursors user parameters number = record {
   parameters = parameters;
 }
 
--- FETCH (13.3); the columns and the conditions are those of an updatable cursor
+-- FETCH (13.3); the columns, the conditions and the target are those of an updatable cursor
 pub record Fetching : Type 0 where
   pub cursor : ℕ
   pub orientation : FetchOrientation
   pub columns : List ℕ
   pub conditions : List BoundCond
+  pub target : Option Target
   pub user : Name
   pub parameters : List ParameterDesc
   pub targets : List Output
@@ -112,6 +121,7 @@ fetching cursors user parameters f = record {
   orientation = f.orientation;
   columns = columns_at cursors f.cursor;
   conditions = conditions_at cursors f.cursor;
+  target = target_at cursors f.cursor;
   user = user;
   parameters = parameters;
   targets = f.outputs;

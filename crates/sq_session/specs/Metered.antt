@@ -6,9 +6,9 @@ use Rattle.sq_value.specs.declared.value.Value.{Value}
 use Rattle.sq_store.specs.Content.{Content, table_at}
 use Rattle.sq_bound.specs.declared.statement.ChangeTarget.{ChangeTarget}
 use Rattle.sq_bound.specs.declared.statement.ChangeTarget.TheVariants as target
-use Rattle.sq_query.specs.Keyed.{IsKeyedChange}
+use Rattle.sq_query.specs.Keyed.{IsKeyed, IsKeyedChange, IsKeyedSelect}
 use Rattle.sq_session.specs.Fetch.{next_walked}
-use Rattle.sq_session.specs.Kind.{Fetching, Kind, Over, read_parameters}
+use Rattle.sq_session.specs.Kind.{Fetching, Kind, Over, Selecting, read_parameters}
 use Rattle.sq_session.specs.Parameter.{started_values}
 use Rattle.sq_session.specs.State.{State, cursor_at}
 use Rattle.sq_session.specs.declared.cursor.CursorState.{CursorState}
@@ -24,10 +24,12 @@ OpenReads _ count = ⊤
 abbrev pub last_number : WalkingCursor → ℕ
 last_number c = c.next - 1
 
--- A FETCH by which a walk comes to a row reads that row, and at most those between it and the one to which it came last.
+-- A FETCH by which a walk comes to a row reads that row, and at most those between it and the one to which it came last. Where the walk
+-- means a row that is named by a key, none of whose values is null, each FETCH reads one row at most.
 abbrev pub FetchReadsFrom : CursorState → Fetching → Content → ℕ → Type 0
 FetchReadsFrom (cursor.Walking c) f tables count =
     IfSome (next_walked f (table_at tables c.table) c) (λ r. (1 ≤ count) × (count ≤ r.number - last_number c))
+    × IfSome f.target (λ t. IsKeyed t c.values f.user → count ≤ 1)
 FetchReadsFrom _ f tables count = ⊤
 
 abbrev pub FetchReads : Fetching → State → ℕ → Type 0
@@ -37,9 +39,14 @@ FetchReads f before count = FetchReadsFrom (cursor_at before f.cursor) f before.
 abbrev pub SearchReads : ChangeTarget → List Value → Name → ℕ → Type 0
 SearchReads t values user count = IsKeyedChange t values user → count ≤ 1
 
+-- So does a SELECT that names its row by a key, and reads no table in subqueries.
+abbrev pub SelectReads : Selecting → List Value → State → ℕ → Type 0
+SelectReads s values before count = IsKeyedSelect s.query before.keys values s.user → count ≤ 1
+
 abbrev pub StepReads : Kind → List Value → State → ℕ → Type 0
 StepReads (Kind.opens o) values before count = OpenReads o.over count
 StepReads (Kind.fetches f) values before count = FetchReads f before count
+StepReads (Kind.selects s) values before count = SelectReads s values before count
 StepReads (Kind.updates u) values before count = SearchReads u.statement.target values u.caller.user count
 StepReads (Kind.deletes caller t) values before count = SearchReads (target.Searched t) values caller.user count
 StepReads _ values before count = ⊤

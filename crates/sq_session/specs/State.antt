@@ -37,7 +37,7 @@ closed c = cursor.Closed
 abbrev pub all_closed : List CursorState → List CursorState
 all_closed cursors = map closed cursors
 
--- at first
+-- all cursors are closed, as they are before the first call
 abbrev pub AreClosed : List CursorState → Type 0
 AreClosed cursors = cursors ≡ all_closed cursors
 

@@ -54,7 +54,7 @@ abbrev pub is_success : Status → Bool
 is_success status.SuccessfulCompletion = true
 is_success _ = false
 
--- it ends with this status, and nothing changes
+-- a call ends with this status, and nothing changes
 abbrev pub Refuses : Status → State → Done → State → Type 0
 Refuses st before d after = (d ≡ ended st) × (after ≡ before)
 
@@ -211,7 +211,7 @@ MayStep s (Kind.deletes_at caller p) values before d after = MayDeleteAt (is_on_
 MayStep s Kind.commits values before d after = Ends (committed_state before) d after
 MayStep s Kind.rolls_back values before d after = Ends (rolled_back before) d after
 
--- it does not end with 42000
+-- a call does not end with 42000
 abbrev pub EndsRight : Done → Type 0
 EndsRight d = IsNoSyntaxError d.status
 

@@ -25,7 +25,7 @@ use Rattle.sq_query.specs.Target.{are_true}
 abbrev pub rows_from : ℕ → List Numbered → List Numbered
 rows_from number rows = filter (λ r. nat_le number r.number) rows
 
--- and before a mark
+-- rows from a number on and before a mark
 abbrev pub rows_between : (from mark : ℕ) → List Numbered → List Numbered
 rows_between from mark rows = filter (λ r. nat_lt r.number mark) (rows_from from rows)
 

@@ -41,17 +41,22 @@ pub(crate) fn call<S: Store>(
 ) -> Result<Done, Fault>
     requires fits { FitsProgram catalog.now.bases program.now }
     requires well_formed { ProgramIsWellFormed (column_kinds catalog.now) program.now }
-    requires values_fit { fits_at (procedures_of program.now.cursors.items program.now.procedures.entries) procedure values.now ≡ true }
-    requires whole { IsWhole (column_kinds catalog.now) catalog.now.bases program.now.cursors.items machine.old }
+    requires values_fit { fits_at
+        (procedures_of program.now.cursors.items program.now.procedures.entries) procedure values.now ≡ true }
+    requires whole { IsWhole
+        (column_kinds catalog.now) catalog.now.bases program.now.cursors.items machine.old }
     requires meter { meter.old ≡ 0 }
     ensures step { IfSome (ending result) (λ d.
         MayCall (schemas_of catalog.now)
         (kind_at (procedures_of program.now.cursors.items program.now.procedures.entries) procedure) values.now machine.old d machine.new) }
-    ensures whole { IsWhole (column_kinds catalog.now) catalog.now.bases program.now.cursors.items machine.new }
+    ensures whole { IsWhole
+        (column_kinds catalog.now) catalog.now.bases program.now.cursors.items machine.new }
     ensures err { OnErr result (machine.new ≡ machine.old) }
-    ensures read { IfSome (ending result) (λ d. CallReads (kind_at (procedures_of program.now.cursors.items program.now.procedures.entries)
+    ensures read { IfSome (ending result)
+        (λ d. CallReads (kind_at (procedures_of program.now.cursors.items program.now.procedures.entries)
         procedure) values.now machine.old meter.new) }
-    ensures memory { needs_memory (kind_at (procedures_of program.now.cursors.items program.now.procedures.entries) procedure) ≡ false
+    ensures memory { needs_memory
+        (kind_at (procedures_of program.now.cursors.items program.now.procedures.entries) procedure) ≡ false
         → IsSome (ending result) }
 {
     let procedure = &program.procedures[procedure];
@@ -75,18 +80,22 @@ fn performed<S: Store>(
     machine: &mut Machine<S>,
     meter: &mut Meter,
 ) -> Result<Done, Fault>
-    requires fits { FitsStatement catalog.now.bases (length program.now.cursors.items) (length procedure.now.parameters) statement.now }
-    requires asked { IsAsked (column_kinds catalog.now) program.now.cursors.items (kinds_of_parameters procedure.now.parameters)
+    requires fits { FitsStatement catalog.now.bases (length program.now.cursors.items)
+        (length procedure.now.parameters) statement.now }
+    requires asked { IsAsked (column_kinds catalog.now) program.now.cursors.items
+        (kinds_of_parameters procedure.now.parameters)
         statement.now }
     requires fit { CursorsFit catalog.now.bases program.now.cursors.items }
     requires well_formed { CursorsAreWellFormed (column_kinds catalog.now) program.now.cursors.items }
     requires values_fit { fit (map declared procedure.now.parameters) values.now ≡ true }
-    requires whole { IsWhole (column_kinds catalog.now) catalog.now.bases program.now.cursors.items machine.old }
+    requires whole { IsWhole
+        (column_kinds catalog.now) catalog.now.bases program.now.cursors.items machine.old }
     requires meter { meter.old ≡ 0 }
     ensures rows { holds catalog.now.bases machine.new.tables ≡ true }
     ensures in_domains { AreInDomains catalog.now.bases machine.new.tables }
     ensures constraints { constraints_hold catalog.now.bases machine.new.tables ≡ true }
-    ensures opened { OpenHaveKept (column_kinds catalog.now) program.now.cursors.items statement.now machine.new.cursors }
+    ensures opened { OpenHaveKept
+        (column_kinds catalog.now) program.now.cursors.items statement.now machine.new.cursors }
     ensures step { IfSome (ending result) (λ d. MayStep (schemas_of catalog.now)
         (kind_of program.now.cursors.items procedure.now.user procedure.now.parameters statement.now)
         (started_values procedure.now.parameters values.now) machine.old d machine.new) }
@@ -94,7 +103,8 @@ fn performed<S: Store>(
     ensures read { IfSome (ending result) (λ d. StepReads
         (kind_of program.now.cursors.items procedure.now.user procedure.now.parameters statement.now)
         (started_values procedure.now.parameters values.now) machine.old meter.new) }
-    ensures memory { takes_memory (kind_of program.now.cursors.items procedure.now.user procedure.now.parameters statement.now) ≡ false
+    ensures memory { takes_memory
+        (kind_of program.now.cursors.items procedure.now.user procedure.now.parameters statement.now) ≡ false
         → IsSome (ending result) }
     ensures right { IfSome (ending result) EndsRight }
 {
@@ -120,19 +130,24 @@ fn with_values<S: Store>(
     machine: &mut Machine<S>,
     meter: &mut Meter,
 ) -> Result<Done, Fault>
-    requires fits { FitsStatement catalog.now.bases (length program.now.cursors.items) (length procedure.now.parameters) statement.now }
-    requires asked { IsAsked (column_kinds catalog.now) program.now.cursors.items (kinds_of_parameters procedure.now.parameters)
+    requires fits { FitsStatement catalog.now.bases (length program.now.cursors.items)
+        (length procedure.now.parameters) statement.now }
+    requires asked { IsAsked (column_kinds catalog.now) program.now.cursors.items
+        (kinds_of_parameters procedure.now.parameters)
         statement.now }
     requires fit { CursorsFit catalog.now.bases program.now.cursors.items }
     requires well_formed { CursorsAreWellFormed (column_kinds catalog.now) program.now.cursors.items }
     requires values_fit { fit (map declared procedure.now.parameters) values.now ≡ true }
-    requires whole { IsWhole (column_kinds catalog.now) catalog.now.bases program.now.cursors.items machine.old }
+    requires whole { IsWhole
+        (column_kinds catalog.now) catalog.now.bases program.now.cursors.items machine.old }
     requires meter { meter.old ≡ 0 }
-    requires memory { takes_memory (kind_of program.now.cursors.items procedure.now.user procedure.now.parameters statement.now) ≡ true }
+    requires memory { takes_memory
+        (kind_of program.now.cursors.items procedure.now.user procedure.now.parameters statement.now) ≡ true }
     ensures rows { holds catalog.now.bases machine.new.tables ≡ true }
     ensures in_domains { AreInDomains catalog.now.bases machine.new.tables }
     ensures constraints { constraints_hold catalog.now.bases machine.new.tables ≡ true }
-    ensures opened { OpenHaveKept (column_kinds catalog.now) program.now.cursors.items statement.now machine.new.cursors }
+    ensures opened { OpenHaveKept
+        (column_kinds catalog.now) program.now.cursors.items statement.now machine.new.cursors }
     ensures step { IfSome (ending result) (λ d. MayStep (schemas_of catalog.now)
         (kind_of program.now.cursors.items procedure.now.user procedure.now.parameters statement.now)
         (started_values procedure.now.parameters values.now) machine.old d machine.new) }
@@ -162,21 +177,26 @@ fn performed_with<S: Store>(
     machine: &mut Machine<S>,
     meter: &mut Meter,
 ) -> Result<Done, Fault>
-    requires fits { FitsStatement called.now.catalog.now.bases (length called.now.cursors.now) (length called.now.procedure.now.parameters)
+    requires fits { FitsStatement called.now.catalog.now.bases (length called.now.cursors.now)
+        (length called.now.procedure.now.parameters)
         statement.now }
     requires asked { IsAsked (column_kinds called.now.catalog.now) called.now.cursors.now
         (kinds_of_parameters called.now.procedure.now.parameters) statement.now }
-    requires given { AreGiven (kinds_of_parameters called.now.procedure.now.parameters) called.now.values.now }
+    requires given { AreGiven
+        (kinds_of_parameters called.now.procedure.now.parameters) called.now.values.now }
     requires fit { CursorsFit called.now.catalog.now.bases called.now.cursors.now }
     requires well_formed { CursorsAreWellFormed (column_kinds called.now.catalog.now) called.now.cursors.now }
-    requires whole { IsWhole (column_kinds called.now.catalog.now) called.now.catalog.now.bases called.now.cursors.now machine.old }
+    requires whole { IsWhole
+        (column_kinds called.now.catalog.now) called.now.catalog.now.bases called.now.cursors.now machine.old }
     requires meter { meter.old ≡ 0 }
-    requires memory { takes_memory (kind_of called.now.cursors.now called.now.procedure.now.user called.now.procedure.now.parameters
+    requires memory { takes_memory
+        (kind_of called.now.cursors.now called.now.procedure.now.user called.now.procedure.now.parameters
         statement.now) ≡ true }
     ensures rows { holds called.now.catalog.now.bases machine.new.tables ≡ true }
     ensures in_domains { AreInDomains called.now.catalog.now.bases machine.new.tables }
     ensures constraints { constraints_hold called.now.catalog.now.bases machine.new.tables ≡ true }
-    ensures opened { OpenHaveKept (column_kinds called.now.catalog.now) called.now.cursors.now statement.now machine.new.cursors }
+    ensures opened { OpenHaveKept
+        (column_kinds called.now.catalog.now) called.now.cursors.now statement.now machine.new.cursors }
     ensures step { IfSome (ending result) (λ d. MayStep (schemas_of called.now.catalog.now)
         (kind_of called.now.cursors.now called.now.procedure.now.user called.now.procedure.now.parameters statement.now)
         called.now.values.now machine.old d machine.new) }
@@ -204,7 +224,8 @@ pub(crate) fn reply_of(
     ended: Result<Done, Fault>,
     reads: u64,
 ) -> Result<Reply, AllocError>
-    ensures ends { IfOk result (λ r. ending ended ≡ Some (record { status = r.status; outputs = r.outputs })) }
+    ensures ends { IfOk result
+        (λ r. ending ended ≡ Some (record { status = r.status; outputs = r.outputs })) }
     ensures err { OnErr result (ending ended ≡ None) }
     ensures reads { IfOk result (λ r. r.reads ≡ reads) }
 {

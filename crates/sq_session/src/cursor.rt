@@ -145,9 +145,11 @@ pub(crate) fn next_there<'a, S: Store>(
 ) -> Option<Reached<'a>>
     requires there { cursor.now.table < length (S.content_now store.now) }
     requires passed { cursor.now.passed ≤ length cursor.now.numbers }
-    ensures row { IfSome result (λ r. row_on (table_at (S.content_now store.now) cursor.now.table) (Some r.number) ≡ Some r.row.now) }
+    ensures row { IfSome result
+        (λ r. row_on (table_at (S.content_now store.now) cursor.now.table) (Some r.number) ≡ Some r.row.now) }
     ensures next { let next = next_number (table_at (S.content_now store.now) cursor.now.table) cursor.now in
-        MatchOption result ((next.on ≡ None) × (next.passed ≡ length cursor.now.numbers)) (λ r. (next.on ≡ Some r.number)
+        MatchOption result ((next.on ≡ None) × (next.passed ≡ length cursor.now.numbers))
+        (λ r. (next.on ≡ Some r.number)
         × (next.passed ≡ r.passed)) }
 {
     let left = &cursor.numbers.as_slice()[cursor.passed..];

@@ -32,7 +32,8 @@ pub(crate) fn close_all(cursors: &mut [CursorState])
 /// Takes a cursor off its row.
 pub(crate) fn leave_row(cursors: &mut [CursorState], number: usize)
     requires { number < length cursors.old }
-    ensures { cursors.new ≡ slice_set cursors.old number (off_row (slice_index_or cursors.old number CursorState.Closed)) }
+    ensures { cursors.new
+        ≡ slice_set cursors.old number (off_row (slice_index_or cursors.old number CursorState.Closed)) }
 {
     off_row(&mut cursors[number]);
 }

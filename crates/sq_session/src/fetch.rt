@@ -2,7 +2,7 @@
 
 ghost use Rattle.std.specs.Prelude.{◌≡◌, ◌≤◌, ◌<◌, length, true, IfOk, IfSome, OnErr};
 ghost use Rattle.sq_value.specs.Key.{in_columns};
-ghost use Rattle.sq_bound.specs.Fits.{AreInDomains, are_parameters, holds};
+ghost use Rattle.sq_bound.specs.Fits.{AreInDomains, are_parameters, holds, keys_of_bases, not_nulls_hold};
 ghost use Rattle.sq_bound.specs.Names.{are_positions};
 ghost use Rattle.sq_bound.specs.WellFormed.{kinds_of_parameters};
 ghost use Rattle.sq_catalog.specs.Catalog.{column_kinds};
@@ -43,9 +43,13 @@ pub(crate) fn fetch_at<S: Store>(
     requires targets { are_parameters (length called.now.procedure.now.parameters) fetch.now.outputs ≡ true }
     requires fit { CursorsFit called.now.catalog.now.bases called.now.cursors.now }
     requires cursors { are_over called.now.cursors.now cursors.old ≡ true }
+    requires keys { S.key_columns store.now ≡ keys_of_bases called.now.catalog.now.bases }
+    requires not_null { not_nulls_hold called.now.catalog.now.bases (S.content_now store.now) ≡ true }
     requires rows { holds called.now.catalog.now.bases (S.content_now store.now) ≡ true }
-    requires asked { IsFetch (kinds_of_cursors called.now.cursors.now) (kinds_of_parameters called.now.procedure.now.parameters) fetch.now }
-    requires given { AreGiven (kinds_of_parameters called.now.procedure.now.parameters) called.now.values.now }
+    requires asked { IsFetch (kinds_of_cursors called.now.cursors.now)
+        (kinds_of_parameters called.now.procedure.now.parameters) fetch.now }
+    requires given { AreGiven
+        (kinds_of_parameters called.now.procedure.now.parameters) called.now.values.now }
     requires well_formed { CursorsAreWellFormed (column_kinds called.now.catalog.now) called.now.cursors.now }
     requires in_domains { AreInDomains called.now.catalog.now.bases (S.content_now store.now) }
     requires kept { HaveKept (column_kinds called.now.catalog.now) called.now.cursors.now cursors.old }
@@ -75,18 +79,24 @@ fn fetch_cursor<S: Store>(
     requires over { is_over (over_at called.now.cursors.now fetch.now.cursor) cursor.old ≡ true }
     requires targets { are_parameters (length called.now.procedure.now.parameters) fetch.now.outputs ≡ true }
     requires fit { CursorsFit called.now.catalog.now.bases called.now.cursors.now }
+    requires keys { S.key_columns store.now ≡ keys_of_bases called.now.catalog.now.bases }
+    requires not_null { not_nulls_hold called.now.catalog.now.bases (S.content_now store.now) ≡ true }
     requires rows { holds called.now.catalog.now.bases (S.content_now store.now) ≡ true }
     requires place { MeansPlace called.now.values.now fetch.now.orientation }
-    requires taken { MayTakeFrom (fetching called.now.cursors.now called.now.procedure.now.user called.now.procedure.now.parameters
+    requires taken { MayTakeFrom
+        (fetching called.now.cursors.now called.now.procedure.now.user called.now.procedure.now.parameters
         fetch.now) (S.content_now store.now) cursor.old }
-    requires kept { HasKeptAt (column_kinds called.now.catalog.now) called.now.cursors.now fetch.now.cursor cursor.old }
+    requires kept { HasKeptAt
+        (column_kinds called.now.catalog.now) called.now.cursors.now fetch.now.cursor cursor.old }
     requires domains { AreInDomains called.now.catalog.now.bases (S.content_now store.now) }
     requires meter { meter.old ≡ 0 }
-    ensures fetched { HasFetched (fetching called.now.cursors.now called.now.procedure.now.user called.now.procedure.now.parameters fetch.now) called.now.values.now (S.content_now store.now)
+    ensures fetched { HasFetched
+        (fetching called.now.cursors.now called.now.procedure.now.user called.now.procedure.now.parameters fetch.now) called.now.values.now (S.content_now store.now)
         cursor.old result cursor.new }
     ensures err { OnErr result (cursor.new ≡ cursor.old) }
     ensures right { IfSome (ending result) EndsRight }
-    ensures read { IfSome (ending result) (λ d. FetchReadsFrom cursor.old (fetching called.now.cursors.now called.now.procedure.now.user
+    ensures read { IfSome (ending result)
+        (λ d. FetchReadsFrom cursor.old (fetching called.now.cursors.now called.now.procedure.now.user
         called.now.procedure.now.parameters fetch.now) (S.content_now store.now) meter.new) }
 {
     match cursor {
@@ -107,7 +117,8 @@ fn fetch_row(
     requires targets { are_parameters (length called.now.procedure.now.parameters) fetch.now.outputs ≡ true }
     requires place { MeansPlace called.now.values.now fetch.now.orientation }
     requires taken { MayTakeRows called.now.procedure.now.parameters fetch.now.outputs cursor.old.rows }
-    ensures comes { HasCome result cursor.new (come_to_row (fetching called.now.cursors.now called.now.procedure.now.user
+    ensures comes { HasCome result cursor.new
+        (come_to_row (fetching called.now.cursors.now called.now.procedure.now.user
         called.now.procedure.now.parameters fetch.now) called.now.values.now cursor.old) }
     ensures err { OnErr result (cursor.new ≡ cursor.old) }
     ensures right { IfSome (ending result) EndsRight }
@@ -134,14 +145,17 @@ fn fetch_number<S: Store>(
     store: &S,
     meter: &mut Meter,
 ) -> Result<Done, Fault>
-    requires over { is_over (over_at called.now.cursors.now fetch.now.cursor) (CursorState.Numbers cursor.old) ≡ true }
+    requires over { is_over (over_at called.now.cursors.now fetch.now.cursor)
+        (CursorState.Numbers cursor.old) ≡ true }
     requires targets { are_parameters (length called.now.procedure.now.parameters) fetch.now.outputs ≡ true }
     requires fit { CursorsFit called.now.catalog.now.bases called.now.cursors.now }
     requires rows { holds called.now.catalog.now.bases (S.content_now store.now) ≡ true }
-    requires taken { MayTakeShown (fetching called.now.cursors.now called.now.procedure.now.user called.now.procedure.now.parameters
+    requires taken { MayTakeShown
+        (fetching called.now.cursors.now called.now.procedure.now.user called.now.procedure.now.parameters
         fetch.now) (table_at (S.content_now store.now) cursor.old.table) }
     requires passed { cursor.old.passed ≤ length cursor.old.numbers }
-    ensures comes { HasCome result cursor.new (come_to_number (fetching called.now.cursors.now called.now.procedure.now.user
+    ensures comes { HasCome result cursor.new
+        (come_to_number (fetching called.now.cursors.now called.now.procedure.now.user
         called.now.procedure.now.parameters fetch.now) (S.content_now store.now) cursor.old) }
     ensures err { OnErr result (cursor.new ≡ cursor.old) }
     ensures right { IfSome (ending result) EndsRight }
@@ -171,21 +185,29 @@ fn fetch_walk<S: Store>(
     store: &S,
     meter: &mut Meter,
 ) -> Result<Done, Fault>
-    requires over { is_over (over_at called.now.cursors.now fetch.now.cursor) (CursorState.Walking walk.old) ≡ true }
+    requires over { is_over (over_at called.now.cursors.now fetch.now.cursor) (CursorState.Walking walk.old)
+        ≡ true }
     requires targets { are_parameters (length called.now.procedure.now.parameters) fetch.now.outputs ≡ true }
     requires fit { CursorsFit called.now.catalog.now.bases called.now.cursors.now }
+    requires keys { S.key_columns store.now ≡ keys_of_bases called.now.catalog.now.bases }
+    requires not_null { not_nulls_hold called.now.catalog.now.bases (S.content_now store.now) ≡ true }
     requires rows { holds called.now.catalog.now.bases (S.content_now store.now) ≡ true }
-    requires taken { MayTakeShown (fetching called.now.cursors.now called.now.procedure.now.user called.now.procedure.now.parameters
+    requires taken { MayTakeShown
+        (fetching called.now.cursors.now called.now.procedure.now.user called.now.procedure.now.parameters
         fetch.now) (table_at (S.content_now store.now) walk.old.table) }
-    requires kept { HasKeptAt (column_kinds called.now.catalog.now) called.now.cursors.now fetch.now.cursor (CursorState.Walking walk.old) }
+    requires kept { HasKeptAt (column_kinds called.now.catalog.now) called.now.cursors.now fetch.now.cursor
+        (CursorState.Walking walk.old) }
     requires domains { AreInDomains called.now.catalog.now.bases (S.content_now store.now) }
     requires meter { meter.old ≡ 0 }
-    ensures comes { HasCome result walk.new (come_to_walk (fetching called.now.cursors.now called.now.procedure.now.user
+    ensures comes { HasCome result walk.new
+        (come_to_walk (fetching called.now.cursors.now called.now.procedure.now.user
         called.now.procedure.now.parameters fetch.now) (S.content_now store.now) walk.old) }
     ensures err { OnErr result (walk.new ≡ walk.old) }
     ensures right { IfSome (ending result) EndsRight }
-    ensures read { IfSome (ending result) (λ d. FetchReadsFrom (CursorState.Walking walk.old) (fetching called.now.cursors.now
-        called.now.procedure.now.user called.now.procedure.now.parameters fetch.now) (S.content_now store.now) meter.new) }
+    ensures read { IfSome (ending result)
+        (λ d. FetchReadsFrom (CursorState.Walking walk.old) (fetching called.now.cursors.now
+        called.now.procedure.now.user called.now.procedure.now.parameters fetch.now)
+        (S.content_now store.now) meter.new) }
 {
     let query = updatable_query(called, fetch.cursor);
     let Some((number, row)) = next_of_walk(called, &query.target, store, walk, meter)? else {
@@ -226,8 +248,11 @@ fn shown_row_retrieved(
 ) -> Result<Done, Fault>
     requires targets { are_parameters (length called.now.procedure.now.parameters) fetch.now.outputs ≡ true }
     requires columns { are_positions (length row.now) query.now.columns ≡ true }
-    requires taken { MayTake called.now.procedure.now.parameters fetch.now.outputs (in_columns row.now query.now.columns) }
-    ensures reply { Meets result (row_reply called.now.procedure.now.parameters fetch.now.outputs (in_columns row.now query.now.columns)) }
+    requires taken { MayTake called.now.procedure.now.parameters fetch.now.outputs
+        (in_columns row.now query.now.columns) }
+    ensures reply { Meets result
+        (row_reply called.now.procedure.now.parameters fetch.now.outputs
+        (in_columns row.now query.now.columns)) }
     ensures right { IfSome (ending result) EndsRight }
 {
     let row = RetrievedRow::in_columns(row.as_slice(), query.columns.as_slice());

@@ -16,7 +16,7 @@ ghost use Rattle.sq_expression.specs.declared.fault.Fault.TheVariants as fault;
 ghost use Rattle.sq_session.specs.Cursors.{HaveKept, IsWhole};
 ghost use Rattle.sq_session.specs.Fetch.{IsFetch};
 ghost use Rattle.sq_session.specs.Kind.{fetching, kind_of, opening, over_at, selecting};
-ghost use Rattle.sq_session.specs.Metered.{FetchReads, OpenReads, StepReads};
+ghost use Rattle.sq_session.specs.Metered.{FetchReads, OpenReads, SelectReads, StepReads};
 ghost use Rattle.sq_session.specs.Parameter.{AreGiven};
 ghost use Rattle.sq_session.specs.Schemas.{schemas_of};
 ghost use Rattle.sq_session.specs.State.{committed_state, rolled_back};
@@ -79,19 +79,23 @@ impl<S: Store> Machine<S> {
     ) -> Result<Done, Fault>
         requires there { number < length called.now.cursors.now }
         requires fit { CursorsFit called.now.catalog.now.bases called.now.cursors.now }
-        requires whole { IsWhole (column_kinds called.now.catalog.now) called.now.catalog.now.bases called.now.cursors.now self.old }
+        requires whole { IsWhole
+            (column_kinds called.now.catalog.now) called.now.catalog.now.bases called.now.cursors.now self.old }
         requires asked { OpensWellFormed (column_kinds called.now.catalog.now) called.now.cursors.now
             (kinds_of_parameters called.now.procedure.now.parameters) (Open number) }
-        requires given { AreGiven (kinds_of_parameters called.now.procedure.now.parameters) called.now.values.now }
+        requires given { AreGiven
+            (kinds_of_parameters called.now.procedure.now.parameters) called.now.values.now }
         requires meter { meter.old ≡ 0 }
-        ensures kept { HaveKept (column_kinds called.now.catalog.now) called.now.cursors.now self.new.cursors }
+        ensures kept { HaveKept
+            (column_kinds called.now.catalog.now) called.now.cursors.now self.new.cursors }
         ensures step { IfSome (ending result) (λ d. MayOpen (schemas_of called.now.catalog.now)
             (opening called.now.cursors.now called.now.procedure.now.user called.now.procedure.now.parameters number)
             called.now.values.now self.old d self.new) }
         ensures right { IfSome (ending result) EndsRight }
         ensures tables { self.new.tables ≡ self.old.tables }
         ensures err { OnErr result (self.new ≡ self.old) }
-        ensures read { IfSome (ending result) (λ d. OpenReads (over_at called.now.cursors.now number) meter.new) }
+        ensures read { IfSome (ending result)
+            (λ d. OpenReads (over_at called.now.cursors.now number) meter.new) }
     {
         match &self.cursors[number] {
             CursorState::Closed => self.open_closed(called, number, meter),
@@ -108,12 +112,15 @@ impl<S: Store> Machine<S> {
     ) -> Result<Done, Fault>
         requires there { number < length called.now.cursors.now }
         requires fit { CursorsFit called.now.catalog.now.bases called.now.cursors.now }
-        requires whole { IsWhole (column_kinds called.now.catalog.now) called.now.catalog.now.bases called.now.cursors.now self.old }
+        requires whole { IsWhole
+            (column_kinds called.now.catalog.now) called.now.catalog.now.bases called.now.cursors.now self.old }
         requires asked { OpensWellFormed (column_kinds called.now.catalog.now) called.now.cursors.now
             (kinds_of_parameters called.now.procedure.now.parameters) (Open number) }
-        requires given { AreGiven (kinds_of_parameters called.now.procedure.now.parameters) called.now.values.now }
+        requires given { AreGiven
+            (kinds_of_parameters called.now.procedure.now.parameters) called.now.values.now }
         requires meter { meter.old ≡ 0 }
-        ensures kept { HaveKept (column_kinds called.now.catalog.now) called.now.cursors.now self.new.cursors }
+        ensures kept { HaveKept
+            (column_kinds called.now.catalog.now) called.now.cursors.now self.new.cursors }
         ensures step { IfSome (ending result) (λ d. MayOpenClosed (schemas_of called.now.catalog.now)
             (opening called.now.cursors.now called.now.procedure.now.user called.now.procedure.now.parameters number)
             called.now.values.now self.old d self.new) }
@@ -139,13 +146,18 @@ impl<S: Store> Machine<S> {
         meter: &mut Meter,
     ) -> Result<Done, Fault>
         requires there { fetch.now.cursor < length called.now.cursors.now }
-        requires targets { are_parameters (length called.now.procedure.now.parameters) fetch.now.outputs ≡ true }
+        requires targets { are_parameters (length called.now.procedure.now.parameters) fetch.now.outputs
+            ≡ true }
         requires fit { CursorsFit called.now.catalog.now.bases called.now.cursors.now }
-        requires whole { IsWhole (column_kinds called.now.catalog.now) called.now.catalog.now.bases called.now.cursors.now self.old }
-        requires asked { IsFetch (kinds_of_cursors called.now.cursors.now) (kinds_of_parameters called.now.procedure.now.parameters)
+        requires whole { IsWhole
+            (column_kinds called.now.catalog.now) called.now.catalog.now.bases called.now.cursors.now self.old }
+        requires asked { IsFetch (kinds_of_cursors called.now.cursors.now)
+            (kinds_of_parameters called.now.procedure.now.parameters)
             fetch.now }
-        requires given { AreGiven (kinds_of_parameters called.now.procedure.now.parameters) called.now.values.now }
-        requires well_formed { CursorsAreWellFormed (column_kinds called.now.catalog.now) called.now.cursors.now }
+        requires given { AreGiven
+            (kinds_of_parameters called.now.procedure.now.parameters) called.now.values.now }
+        requires well_formed { CursorsAreWellFormed
+            (column_kinds called.now.catalog.now) called.now.cursors.now }
         requires meter { meter.old ≡ 0 }
         ensures step { IfSome (ending result) (λ d. MayFetch
             (fetching called.now.cursors.now called.now.procedure.now.user called.now.procedure.now.parameters fetch.now)
@@ -191,16 +203,24 @@ impl<S: Store> Machine<S> {
         select: &BoundSelect,
         meter: &mut Meter,
     ) -> Result<Done, Fault>
-        requires targets { are_parameters (length called.now.procedure.now.parameters) select.now.outputs ≡ true }
-        requires query { IsSelect (column_kinds called.now.catalog.now) (kinds_of_parameters called.now.procedure.now.parameters) []
+        requires targets { are_parameters (length called.now.procedure.now.parameters) select.now.outputs
+            ≡ true }
+        requires query { IsSelect (column_kinds called.now.catalog.now)
+            (kinds_of_parameters called.now.procedure.now.parameters) []
             select.now.query }
-        requires taken { TakeKinds (kinds_of_parameters called.now.procedure.now.parameters) select.now.outputs
+        requires taken { TakeKinds
+            (kinds_of_parameters called.now.procedure.now.parameters) select.now.outputs
             (kinds_of_select select.now.query) }
-        requires given { AreGiven (kinds_of_parameters called.now.procedure.now.parameters) called.now.values.now }
-        requires whole { IsWhole (column_kinds called.now.catalog.now) called.now.catalog.now.bases called.now.cursors.now self.now }
+        requires given { AreGiven
+            (kinds_of_parameters called.now.procedure.now.parameters) called.now.values.now }
+        requires whole { IsWhole
+            (column_kinds called.now.catalog.now) called.now.catalog.now.bases called.now.cursors.now self.now }
+        requires meter { meter.old ≡ 0 }
         ensures step { IfSome (ending result) (Selects (schemas_of called.now.catalog.now)
             (selecting called.now.procedure.now.user called.now.procedure.now.parameters select.now) called.now.values.now self.now.tables) }
         ensures right { IfSome (ending result) EndsRight }
+        ensures read { IfSome (ending result) (λ d. SelectReads
+            (selecting called.now.procedure.now.user called.now.procedure.now.parameters select.now) called.now.values.now self.now meter.new) }
     {
         let found = specification_rows(
             called.alloc,
@@ -229,10 +249,13 @@ impl<S: Store> Machine<S> {
         meter: &mut Meter,
     ) -> Result<Done, Fault>
         requires fits { IsBase called.now.catalog.now.bases statement.now.leaf.table }
-        requires asked { IsStatement (column_kinds called.now.catalog.now) (kinds_of_cursors called.now.cursors.now)
+        requires asked { IsStatement (column_kinds called.now.catalog.now)
+            (kinds_of_cursors called.now.cursors.now)
             (kinds_of_parameters called.now.procedure.now.parameters) (Insert statement.now) }
-        requires given { AreGiven (kinds_of_parameters called.now.procedure.now.parameters) called.now.values.now }
-        requires whole { IsWhole (column_kinds called.now.catalog.now) called.now.catalog.now.bases called.now.cursors.now self.old }
+        requires given { AreGiven
+            (kinds_of_parameters called.now.procedure.now.parameters) called.now.values.now }
+        requires whole { IsWhole
+            (column_kinds called.now.catalog.now) called.now.catalog.now.bases called.now.cursors.now self.old }
         ensures step { IfSome (ending result) (λ d. MayStep (schemas_of called.now.catalog.now)
             (kind_of called.now.cursors.now called.now.procedure.now.user called.now.procedure.now.parameters (Insert statement.now))
             called.now.values.now self.old d self.new) }
@@ -264,14 +287,20 @@ impl<S: Store> Machine<S> {
         statement: &BoundUpdate,
         meter: &mut Meter,
     ) -> Result<Done, Fault>
-        requires target { FitsTarget called.now.catalog.now.bases (length called.now.cursors.now) statement.now.target }
-        requires columns { are_columns (length (under statement.now.target).table.columns) statement.now.assignments ≡ true }
-        requires domains { AllByRecursion (λ a. IsColumnOf (under statement.now.target).table a.column) statement.now.assignments }
-        requires asked { IsStatement (column_kinds called.now.catalog.now) (kinds_of_cursors called.now.cursors.now)
+        requires target { FitsTarget called.now.catalog.now.bases
+            (length called.now.cursors.now) statement.now.target }
+        requires columns { are_columns
+            (length (under statement.now.target).table.columns) statement.now.assignments ≡ true }
+        requires domains { AllByRecursion
+            (λ a. IsColumnOf (under statement.now.target).table a.column) statement.now.assignments }
+        requires asked { IsStatement (column_kinds called.now.catalog.now)
+            (kinds_of_cursors called.now.cursors.now)
             (kinds_of_parameters called.now.procedure.now.parameters) (Update statement.now) }
-        requires given { AreGiven (kinds_of_parameters called.now.procedure.now.parameters) called.now.values.now }
+        requires given { AreGiven
+            (kinds_of_parameters called.now.procedure.now.parameters) called.now.values.now }
         requires fit { CursorsFit called.now.catalog.now.bases called.now.cursors.now }
-        requires whole { IsWhole (column_kinds called.now.catalog.now) called.now.catalog.now.bases called.now.cursors.now self.old }
+        requires whole { IsWhole
+            (column_kinds called.now.catalog.now) called.now.catalog.now.bases called.now.cursors.now self.old }
         requires meter { meter.old ≡ 0 }
         ensures rows { holds called.now.catalog.now.bases self.new.tables ≡ true }
         ensures in_domains { AreInDomains called.now.catalog.now.bases self.new.tables }
@@ -317,10 +346,13 @@ impl<S: Store> Machine<S> {
         meter: &mut Meter,
     ) -> Result<Done, Fault>
         requires target { FitsTarget called.now.catalog.now.bases (length called.now.cursors.now) target.now }
-        requires asked { IsStatement (column_kinds called.now.catalog.now) (kinds_of_cursors called.now.cursors.now)
+        requires asked { IsStatement (column_kinds called.now.catalog.now)
+            (kinds_of_cursors called.now.cursors.now)
             (kinds_of_parameters called.now.procedure.now.parameters) (Delete target.now) }
-        requires given { AreGiven (kinds_of_parameters called.now.procedure.now.parameters) called.now.values.now }
-        requires whole { IsWhole (column_kinds called.now.catalog.now) called.now.catalog.now.bases called.now.cursors.now self.old }
+        requires given { AreGiven
+            (kinds_of_parameters called.now.procedure.now.parameters) called.now.values.now }
+        requires whole { IsWhole
+            (column_kinds called.now.catalog.now) called.now.catalog.now.bases called.now.cursors.now self.old }
         requires meter { meter.old ≡ 0 }
         ensures rows { holds called.now.catalog.now.bases self.new.tables ≡ true }
         ensures in_domains { AreInDomains called.now.catalog.now.bases self.new.tables }
@@ -376,11 +408,14 @@ impl<S: Store> Machine<S> {
     /// The number of the row that a positioned statement changes; none for a searched one.
     fn current(&self, called: &Called<'_>, target: &ChangeTarget) -> Result<Option<u64>, Fault>
         requires target { FitsTarget called.now.catalog.now.bases (length called.now.cursors.now) target.now }
-        requires whole { IsWhole (column_kinds called.now.catalog.now) called.now.catalog.now.bases called.now.cursors.now self.now }
+        requires whole { IsWhole
+            (column_kinds called.now.catalog.now) called.now.catalog.now.bases called.now.cursors.now self.now }
         ensures ready { is_ok result ≡ is_ready self.now target.now }
         ensures given { IfOk result (IsGiven target.now) }
         ensures on { IfOk result (λ on. on ≡ number_meant self.now target.now) }
-        ensures there { IfOk result (λ on. IfSome on (λ n. IsSome (row_at (table_at self.now.tables (under target.now).table.place) n))) }
+        ensures there { IfOk result
+            (λ on. IfSome on
+            (λ n. IsSome (row_at (table_at self.now.tables (under target.now).table.place) n))) }
         ensures refused { IfErr result (λ f. f ≡ fault.Status failure.InvalidCursorState) }
     {
         match target {
@@ -398,7 +433,8 @@ impl<S: Store> Machine<S> {
         requires table { positioned.now.base < length self.now.tables }
         ensures there { is_some result ≡ is_on_row self.now positioned.now }
         ensures on { IfSome result (λ number. on_row self.now positioned.now ≡ Some number) }
-        ensures row { IfSome result (λ number. IsSome (row_at (table_at self.now.tables positioned.now.base) number)) }
+        ensures row { IfSome result
+            (λ number. IsSome (row_at (table_at self.now.tables positioned.now.base) number)) }
     {
         let number = number_on(&self.cursors[positioned.cursor])?;
         match self.store.row(positioned.base, number, &mut Meter::new()) {

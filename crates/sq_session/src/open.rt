@@ -43,7 +43,8 @@ pub(crate) fn open_closed<S: Store>(
     requires kept { HaveKept (column_kinds called.now.catalog.now) called.now.cursors.now cursors.old }
     requires asked { OpensWellFormed (column_kinds called.now.catalog.now) called.now.cursors.now
         (kinds_of_parameters called.now.procedure.now.parameters) (Open number) }
-    requires given { AreGiven (kinds_of_parameters called.now.procedure.now.parameters) called.now.values.now }
+    requires given { AreGiven
+        (kinds_of_parameters called.now.procedure.now.parameters) called.now.values.now }
     requires domains { AreInDomains called.now.catalog.now.bases (S.content_now store.now) }
     requires meter { meter.old ≡ 0 }
     ensures kept { HaveKept (column_kinds called.now.catalog.now) called.now.cursors.now cursors.new }
@@ -76,12 +77,16 @@ fn opened<S: Store>(
     requires rows { holds called.now.catalog.now.bases (S.content_now store.now) ≡ true }
     requires keys { S.key_columns store.now ≡ keys_of_bases called.now.catalog.now.bases }
     requires not_null { not_nulls_hold called.now.catalog.now.bases (S.content_now store.now) ≡ true }
-    requires asked { IsCursor (column_kinds called.now.catalog.now) (kinds_of_parameters called.now.procedure.now.parameters) cursor.now }
-    requires given { AreGiven (kinds_of_parameters called.now.procedure.now.parameters) called.now.values.now }
+    requires asked { IsCursor (column_kinds called.now.catalog.now)
+        (kinds_of_parameters called.now.procedure.now.parameters) cursor.now }
+    requires given { AreGiven
+        (kinds_of_parameters called.now.procedure.now.parameters) called.now.values.now }
     requires domains { AreInDomains called.now.catalog.now.bases (S.content_now store.now) }
     requires meter { meter.old ≡ 0 }
-    ensures opened { HasOpened (over_of cursor.now.body) (IsMeant (schemas_of called.now.catalog.now) cursor.now.body
-        called.now.procedure.now.user called.now.procedure.now.parameters called.now.values.now (S.content_now store.now))
+    ensures opened { HasOpened (over_of cursor.now.body)
+        (IsMeant (schemas_of called.now.catalog.now) cursor.now.body
+        called.now.procedure.now.user called.now.procedure.now.parameters called.now.values.now
+        (S.content_now store.now))
         called.now.values.now (S.content_now store.now) result }
     ensures kept { IfOk result (HasKept (column_kinds called.now.catalog.now) cursor.now) }
     ensures right { IfErr result MayEnd }
@@ -103,13 +108,17 @@ fn opened_over_rows<S: Store>(
     store: &S,
     meter: &mut Meter,
 ) -> Result<CursorState, Fault>
-    requires asked { IsQuery (column_kinds called.now.catalog.now) (kinds_of_parameters called.now.procedure.now.parameters) query.now }
-    requires given { AreGiven (kinds_of_parameters called.now.procedure.now.parameters) called.now.values.now }
+    requires asked { IsQuery (column_kinds called.now.catalog.now)
+        (kinds_of_parameters called.now.procedure.now.parameters) query.now }
+    requires given { AreGiven
+        (kinds_of_parameters called.now.procedure.now.parameters) called.now.values.now }
     requires domains { AreInDomains called.now.catalog.now.bases (S.content_now store.now) }
     requires keys { S.key_columns store.now ≡ keys_of_bases called.now.catalog.now.bases }
     requires not_null { not_nulls_hold called.now.catalog.now.bases (S.content_now store.now) ≡ true }
-    ensures opened { HasOpened Over.rows (RowsAreMeant (schemas_of called.now.catalog.now) query.now order.now called.now.procedure.now.user
-        called.now.procedure.now.parameters called.now.values.now (S.content_now store.now)) called.now.values.now
+    ensures opened { HasOpened Over.rows
+        (RowsAreMeant (schemas_of called.now.catalog.now) query.now order.now called.now.procedure.now.user
+        called.now.procedure.now.parameters called.now.values.now
+        (S.content_now store.now)) called.now.values.now
         (S.content_now store.now) result }
     ensures rows { IfOk result (HasListed (kinds_of_query query.now)) }
     ensures right { IfErr result MayEnd }
@@ -145,11 +154,14 @@ fn opened_over<S: Store>(
     requires keys { S.key_columns store.now ≡ keys_of_bases called.now.catalog.now.bases }
     requires not_null { not_nulls_hold called.now.catalog.now.bases (S.content_now store.now) ≡ true }
     requires base { IsBase called.now.catalog.now.bases target.now.leaf.table }
-    requires asked { IsTarget (column_kinds called.now.catalog.now) (kinds_of_parameters called.now.procedure.now.parameters) target.now }
-    requires given { AreGiven (kinds_of_parameters called.now.procedure.now.parameters) called.now.values.now }
+    requires asked { IsTarget (column_kinds called.now.catalog.now)
+        (kinds_of_parameters called.now.procedure.now.parameters) target.now }
+    requires given { AreGiven
+        (kinds_of_parameters called.now.procedure.now.parameters) called.now.values.now }
     requires domains { AreInDomains called.now.catalog.now.bases (S.content_now store.now) }
     requires meter { meter.old ≡ 0 }
-    ensures opened { HasOpened (over_target target.now) (TargetIsMeant (schemas_of called.now.catalog.now) target.now
+    ensures opened { HasOpened (over_target target.now)
+        (TargetIsMeant (schemas_of called.now.catalog.now) target.now
         called.now.procedure.now.user called.now.values.now (S.content_now store.now)) called.now.values.now
         (S.content_now store.now) result }
     ensures right { IfErr result MayEnd }
@@ -166,7 +178,8 @@ fn opened_over<S: Store>(
 #[tactic(auto, using(crate::proofs::Opened::over_walk))]
 fn opened_walk<S: Store>(called: &Called<'_>, table: usize, store: &S) -> Result<CursorState, Fault>
     requires there { table < length (S.content_now store.now) }
-    ensures opened { HasOpened (Over.walk table) (λ opened. ⊤) called.now.values.now (S.content_now store.now) result }
+    ensures opened { HasOpened (Over.walk table) (λ opened. ⊤) called.now.values.now
+        (S.content_now store.now) result }
     ensures right { IfErr result MayEnd }
 {
     match started_walk(called, table, store) {
@@ -186,10 +199,13 @@ fn opened_over_numbers<S: Store>(
     requires keys { S.key_columns store.now ≡ keys_of_bases called.now.catalog.now.bases }
     requires not_null { not_nulls_hold called.now.catalog.now.bases (S.content_now store.now) ≡ true }
     requires base { IsBase called.now.catalog.now.bases target.now.leaf.table }
-    requires asked { IsTarget (column_kinds called.now.catalog.now) (kinds_of_parameters called.now.procedure.now.parameters) target.now }
-    requires given { AreGiven (kinds_of_parameters called.now.procedure.now.parameters) called.now.values.now }
+    requires asked { IsTarget (column_kinds called.now.catalog.now)
+        (kinds_of_parameters called.now.procedure.now.parameters) target.now }
+    requires given { AreGiven
+        (kinds_of_parameters called.now.procedure.now.parameters) called.now.values.now }
     requires domains { AreInDomains called.now.catalog.now.bases (S.content_now store.now) }
-    ensures opened { HasOpened (Over.numbers target.now.base) (NumbersAreMeant (schemas_of called.now.catalog.now) target.now
+    ensures opened { HasOpened (Over.numbers target.now.base)
+        (NumbersAreMeant (schemas_of called.now.catalog.now) target.now
         called.now.procedure.now.user called.now.values.now (S.content_now store.now)) called.now.values.now
         (S.content_now store.now) result }
     ensures right { IfErr result MayEnd }

@@ -83,7 +83,9 @@ fn predicate_reads(predicate: &Predicate, assignments: &[BoundAssignment]) -> bo
 }
 
 fn either_reads(left: &BoundExpr, right: &BoundExpr, assignments: &[BoundAssignment]) -> bool
-    ensures { result ≡ (expr_reads assignments.now (expr_of [] left.now) || expr_reads assignments.now (expr_of [] right.now)) }
+    ensures { result
+        ≡ (expr_reads assignments.now (expr_of [] left.now) || expr_reads assignments.now
+        (expr_of [] right.now)) }
 {
     expr_reads(left, assignments) || expr_reads(right, assignments)
 }

@@ -63,7 +63,8 @@ impl<S: Store> Model for Session<S> {
 
     ghost Value = { Session };
 
-    ghost coded = { Prim.hlevel (codes, base.the_row.coded, parameter.the_row.coded, object.the_row.coded, column.the_row.coded, condition.the_row.coded, predicate.the_row.coded, specification.the_row.coded, expression.the_row.coded, query.the_row.coded, term.the_row.coded) };
+    ghost coded = { Prim.hlevel
+        (codes, base.the_row.coded, parameter.the_row.coded, object.the_row.coded, column.the_row.coded, condition.the_row.coded, predicate.the_row.coded, specification.the_row.coded, expression.the_row.coded, query.the_row.coded, term.the_row.coded) };
 
     ghost view = { λ s. record { procedures = procedures_of s.program.cursors.items s.program.procedures.entries; tables = s.catalog.tables; schemas = schemas_of s.catalog; state = s.machine } };
 
@@ -87,11 +88,13 @@ impl<S: Store> Session<S> {
         requires constraints { constraints_hold catalog.bases (S.content_now store) ≡ true }
         requires committed_constraints { constraints_hold catalog.bases (S.committed store) ≡ true }
         requires keys { S.key_columns store ≡ keys_of_bases catalog.bases }
-        ensures start { IfOk result (λ s. (s.state.tables ≡ S.content_now store) × (s.state.committed ≡ S.committed store) × AreClosed
+        ensures start { IfOk result
+            (λ s. (s.state.tables ≡ S.content_now store) × (s.state.committed ≡ S.committed store) × AreClosed
             s.state.cursors) }
         ensures numbers { IfOk result (λ s. s.state.row_numbers ≡ S.row_numbers store) }
         ensures procedures { IfOk result (λ s. names_of s.procedures ≡ declared_procedures modules.now) }
-        ensures written { IfOk result (λ s. AreOfModules catalog.bases (known catalog) modules.now s.procedures) }
+        ensures written { IfOk result
+            (λ s. AreOfModules catalog.bases (known catalog) modules.now s.procedures) }
         ensures tables { IfOk result (λ s. s.tables ≡ catalog.tables) }
         ensures schemas { IfOk result (λ s. s.schemas ≡ schemas_of catalog) }
         ensures refused { IfErr result (IsOfSomeModule (length modules.now)) }
@@ -123,11 +126,13 @@ impl<S: Store> Session<S> {
         requires constraints { constraints_hold catalog.bases (S.content_now store) ≡ true }
         requires committed_constraints { constraints_hold catalog.bases (S.committed store) ≡ true }
         requires keys { S.key_columns store ≡ keys_of_bases catalog.bases }
-        ensures start { IfOk result (λ s. (s.state.tables ≡ S.content_now store) × (s.state.committed ≡ S.committed store) × AreClosed
+        ensures start { IfOk result
+            (λ s. (s.state.tables ≡ S.content_now store) × (s.state.committed ≡ S.committed store) × AreClosed
             s.state.cursors) }
         ensures numbers { IfOk result (λ s. s.state.row_numbers ≡ S.row_numbers store) }
         ensures procedures { IfOk result (λ s. names_of s.procedures ≡ keys_of program.procedures.entries) }
-        ensures program { IfOk result (λ s. s.procedures ≡ procedures_of program.cursors.items program.procedures.entries) }
+        ensures program { IfOk result
+            (λ s. s.procedures ≡ procedures_of program.cursors.items program.procedures.entries) }
         ensures tables { IfOk result (λ s. s.tables ≡ catalog.tables) }
         ensures schemas { IfOk result (λ s. s.schemas ≡ schemas_of catalog) }
     {
@@ -189,15 +194,18 @@ impl<S: Store> Session<S> {
         ensures step { IfOk result (λ r.
             MayCall self.old.schemas (kind_at self.old.procedures procedure) values.now self.old.state
             (record { status = r.status; outputs = r.outputs }) self.new.state) }
-        ensures reads { IfOk result (λ r. CallReads (kind_at self.old.procedures procedure) values.now self.old.state r.reads) }
-        ensures kept { IfOk result (λ r. is_success r.status ≡ false → self.new.state.tables ≡ self.old.state.tables) }
+        ensures reads { IfOk result
+            (λ r. CallReads (kind_at self.old.procedures procedure) values.now self.old.state r.reads) }
+        ensures kept { IfOk result
+            (λ r. is_success r.status ≡ false → self.new.state.tables ≡ self.old.state.tables) }
         ensures procedures { self.new.procedures ≡ self.old.procedures }
         ensures tables { self.new.tables ≡ self.old.tables }
         ensures schemas { self.new.schemas ≡ self.old.schemas }
         ensures in_domains { AreInDomains self.new.schemas.bases self.new.state.tables
             × AreInDomains self.new.schemas.bases self.new.state.committed }
         ensures constraints { constraints_hold self.new.schemas.bases self.new.state.tables ≡ true }
-        ensures committed_constraints { constraints_hold self.new.schemas.bases self.new.state.committed ≡ true }
+        ensures committed_constraints { constraints_hold self.new.schemas.bases self.new.state.committed
+            ≡ true }
         ensures err { OnErr result (self.new ≡ self.old) }
         ensures memory { needs_memory (kind_at self.old.procedures procedure) ≡ false → IsOk result }
     {
@@ -238,7 +246,8 @@ fn program_of(
     catalog: &Catalog,
     modules: &[ModuleText],
 ) -> Result<Program, SessionFault>
-    ensures procedures { IfOk result (λ program. keys_of program.procedures.entries ≡ declared_procedures modules.now) }
+    ensures procedures { IfOk result
+        (λ program. keys_of program.procedures.entries ≡ declared_procedures modules.now) }
     ensures written { IfOk result (IsOfTexts (known catalog.now) modules.now) }
     ensures fits { IfOk result (λ program. FitsProgram catalog.now.bases program) }
     ensures well_formed { IfOk result (ProgramIsWellFormed (column_kinds catalog.now)) }

@@ -46,7 +46,8 @@ pub(crate) fn row_retrieved(
 ) -> Result<Done, Fault>
     requires targets { are_parameters (length called.now.procedure.now.parameters) targets.now ≡ true }
     requires row { MayTake called.now.procedure.now.parameters targets.now (values_of row.now) }
-    ensures reply { Meets result (row_reply called.now.procedure.now.parameters targets.now (values_of row.now)) }
+    ensures reply { Meets result
+        (row_reply called.now.procedure.now.parameters targets.now (values_of row.now)) }
     ensures right { IfSome (ending result) EndsRight }
 {
     match assignments_of(called, targets, row) {
@@ -64,7 +65,8 @@ pub(crate) fn only_row_retrieved(
 ) -> Result<Done, Fault>
     requires targets { are_parameters (length called.now.procedure.now.parameters) select.now.outputs ≡ true }
     requires rows { MayTakeRows called.now.procedure.now.parameters select.now.outputs rows.now }
-    ensures reply { Meets result (and_then (single_row rows.now) (row_reply called.now.procedure.now.parameters select.now.outputs)) }
+    ensures reply { Meets result
+        (and_then (single_row rows.now) (row_reply called.now.procedure.now.parameters select.now.outputs)) }
     ensures right { IfSome (ending result) EndsRight }
 {
     match rows {
@@ -230,7 +232,11 @@ impl Assignments {
     }
 
     fn add(&mut self, parameter: usize, value: Value) -> Result<(), AllocError>
-        ensures { OnOk result (self.new ≡ record self.old { list = self.old.list ++ record { parameter = parameter; value = value } ∷ [] }) }
+        ensures { OnOk result
+            (self.new ≡ record self.old {
+              list = self.old.list
+                  ++ record { parameter = parameter; value = value } ∷ [];
+            }) }
     {
         self.list.push(Assignment { parameter, value })?;
         Ok(())

@@ -3,18 +3,21 @@
 //! Such a cursor means the same rows as a list of their numbers made at OPEN, as long as no UPDATE changes what its
 //! conditions read. So the rows that are left are listed before an UPDATE of a column that they read.
 
-ghost use Rattle.std.specs.Prelude.{◌≡◌, ◌&&◌, ◌≤◌, ◌<◌, ◌+◌, ◌-◌, ℕ, length, nat_eq, true, Some, IfOk, IfSome, option_map};
+ghost use Rattle.std.specs.Prelude.{◌≡◌, ◌&&◌, ◌≤◌, ◌<◌, ◌+◌, ◌-◌, ℕ, length, nat_eq, true, Some, IfOk, IfSome, IsSome, option_map};
 ghost use Rattle.std.specs.Bool.{then_some};
-ghost use Rattle.sq_bound.specs.Fits.{AreInDomains, FitsBody, holds};
+ghost use Rattle.sq_bound.specs.Fits.{AreInDomains, FitsBody, IsBase, holds, keys_of_bases, not_nulls_hold};
 ghost use Rattle.sq_bound.specs.WellFormed.{base_kinds};
 ghost use Rattle.sq_catalog.specs.Catalog.{column_kinds};
 ghost use Rattle.sq_meaning.specs.WellFormed.{IsRowOf};
+ghost use Rattle.sq_query.specs.Key.{IsKeyOf};
+ghost use Rattle.sq_query.specs.Keyed.{IsKeyed};
 ghost use Rattle.sq_query.specs.Table.{numbered_row};
 ghost use Rattle.sq_query.specs.Target.{conditions_of};
 ghost use Rattle.sq_module.specs.Program.{CursorsFit};
 ghost use Rattle.sq_change.specs.Statement.{base_of};
 ghost use Rattle.sq_session.specs.Kind.{over_of};
 ghost use Rattle.sq_store.specs.Content.{table_at};
+ghost use Rattle.sq_store.specs.Keys.{keys_at};
 ghost use Rattle.sq_session.specs.Cursors.{AreThere, HaveKept, MayKeep, are_over, go_on, is_over, listed, put_all, reads};
 ghost use Rattle.sq_session.specs.Fetch.{row_on};
 ghost use Rattle.sq_session.specs.Metered.{last_number};
@@ -31,7 +34,7 @@ use sq_expression::Fault;
 use sq_items::Items;
 use sq_lex::Name;
 use sq_module::DeclaredCursor;
-use sq_query::{Inputs, is_chosen};
+use sq_query::{Inputs, KnownKey, is_chosen, key_of};
 use sq_store::{Meter, Store};
 use sq_value::{Row, Value, copy_row};
 use std::alloc::{AllocError, Global};
@@ -84,9 +87,12 @@ struct Walk<'a> {
 impl<'a> Walk<'a> {
     /// Whether the target means a row. Its conditions answer no status.
     fn is_chosen<S: Store>(&self, row: &Row, store: &S) -> Result<bool, AllocError>
-        requires quiet { IsQuietWith (column_kinds self.now.catalog.now) self.now.target.now self.now.values.now }
+        requires quiet { IsQuietWith
+            (column_kinds self.now.catalog.now) self.now.target.now self.now.values.now }
         requires row { IsRowOf (base_kinds self.now.target.now.leaf.table) row.now }
-        ensures { (number : ℕ) → IfOk result (λ chosen. is_meant (conditions_of self.now.target.now) self.now.values.now self.now.user
+        ensures { (number : ℕ)
+            → IfOk result (λ chosen. is_meant
+            (conditions_of self.now.target.now) self.now.values.now self.now.user
             (record { number = number; row = row.now }) ≡ chosen) }
     {
         let inputs = Inputs {
@@ -98,6 +104,79 @@ impl<'a> Walk<'a> {
             Err(Fault::NoMemory) => Err(AllocError),
             Err(Fault::Status(_)) => unreachable!(),
         }
+    }
+
+    /// The key by which the target names its only row, if it names one so.
+    fn key<S: Store>(&self, store: &S) -> Result<Option<KnownKey>, AllocError>
+        requires there { self.now.target.now.base < length (S.content_now store.now) }
+        requires keys { keys_at (S.key_columns store.now) self.now.target.now.base
+            ≡ self.now.target.now.leaf.table.keys }
+        requires quiet { IsQuietWith
+            (column_kinds self.now.catalog.now) self.now.target.now self.now.values.now }
+        ensures known { IfOk result
+            (λ found. IfSome found
+            (IsKeyOf self.now.target.now (S.content_now store.now) (S.key_columns store.now)
+            self.now.values.now self.now.user)) }
+        ensures found { IfOk result
+            (λ found. IsKeyed self.now.target.now self.now.values.now self.now.user → IsSome found) }
+    {
+        let inputs = Inputs {
+            user: self.user,
+            parameters: self.values,
+        };
+        match key_of(self.alloc, self.target, store, inputs) {
+            Ok(key) => Ok(key),
+            Err(Fault::NoMemory) => Err(AllocError),
+            Err(Fault::Status(_)) => unreachable!(),
+        }
+    }
+}
+
+/// The row with the key that the target names, if it stands from a number on and before a mark, and is meant: no other row is.
+#[tactic(auto, using(crate::proofs::Metering::counted_once))]
+fn chosen_by_key<'s, S: Store>(
+    walk: &Walk<'_>,
+    store: &'s S,
+    known: &KnownKey,
+    from: u64,
+    mark: u64,
+    meter: &mut Meter,
+) -> Result<Option<(u64, &'s Row)>, AllocError>
+    requires key { IsKeyOf walk.now.target.now (S.content_now store.now)
+        (S.key_columns store.now) walk.now.values.now walk.now.user
+        known.now }
+    requires base { IsBase walk.now.catalog.now.bases walk.now.target.now.leaf.table }
+    requires keys { S.key_columns store.now ≡ keys_of_bases walk.now.catalog.now.bases }
+    requires not_null { not_nulls_hold walk.now.catalog.now.bases (S.content_now store.now) ≡ true }
+    requires quiet { IsQuietWith (column_kinds walk.now.catalog.now) walk.now.target.now walk.now.values.now }
+    requires rows { AreRowsUnder walk.now.target.now
+        (table_at (S.content_now store.now) walk.now.target.now.base).rows }
+    ensures meant { IfOk result
+        (λ found. option_map numbered_row found ≡ first_meant (conditions_of walk.now.target.now)
+        walk.now.values.now walk.now.user from mark
+        (table_at (S.content_now store.now) walk.now.target.now.base).rows) }
+    ensures found { IfOk result (λ found. IfSome found (λ r. (from ≤ r.0) × (r.0 < mark))) }
+    ensures there { IfOk result
+        (λ found. IfSome found (λ r. row_on (table_at (S.content_now store.now) walk.now.target.now.base)
+        (Some r.0) ≡ Some r.1.now)) }
+    ensures read { IfOk result
+        (λ found. IfSome found (λ r. (1 ≤ meter.new) × (meter.new ≤ meter.old + (r.0 - (from - 1))))) }
+    ensures once { meter.new ≤ meter.old + 1 }
+{
+    let Some((number, row)) = store.find_key(walk.target.base, known.key, &known.values, meter)
+    else {
+        return Ok(None);
+    };
+    if number < from {
+        return Ok(None);
+    }
+    if number >= mark {
+        return Ok(None);
+    }
+    if walk.is_chosen(row, store)? {
+        Ok(Some((number, row)))
+    } else {
+        Ok(None)
     }
 }
 
@@ -113,13 +192,19 @@ fn next_chosen<'s, S: Store>(
 ) -> Result<Option<(u64, &'s Row)>, AllocError>
     requires there { walk.now.table < length (S.content_now store.now) }
     requires quiet { IsQuietWith (column_kinds walk.now.catalog.now) walk.now.target.now walk.now.values.now }
-    requires rows { AreRowsUnder walk.now.target.now (table_at (S.content_now store.now) walk.now.table).rows }
-    ensures meant { IfOk result (λ found. option_map numbered_row found ≡ first_meant (conditions_of walk.now.target.now)
-        walk.now.values.now walk.now.user from mark (table_at (S.content_now store.now) walk.now.table).rows) }
+    requires rows { AreRowsUnder walk.now.target.now
+        (table_at (S.content_now store.now) walk.now.table).rows }
+    ensures meant { IfOk result
+        (λ found. option_map numbered_row found ≡ first_meant (conditions_of walk.now.target.now)
+        walk.now.values.now walk.now.user from mark
+        (table_at (S.content_now store.now) walk.now.table).rows) }
     ensures found { IfOk result (λ found. IfSome found (λ r. (from ≤ r.0) × (r.0 < mark))) }
-    ensures there { IfOk result (λ found. IfSome found (λ r. row_on (table_at (S.content_now store.now) walk.now.table) (Some r.0) ≡ Some
+    ensures there { IfOk result
+        (λ found. IfSome found
+        (λ r. row_on (table_at (S.content_now store.now) walk.now.table) (Some r.0) ≡ Some
         r.1.now)) }
-    ensures read { IfOk result (λ found. IfSome found (λ r. (1 ≤ meter.new) × (meter.new ≤ meter.old + (r.0 - (from - 1))))) }
+    ensures read { IfOk result
+        (λ found. IfSome found (λ r. (1 ≤ meter.new) × (meter.new ≤ meter.old + (r.0 - (from - 1))))) }
 {
     let mut number = from;
     while let Some((found, row)) = store.next_from(walk.table, number, meter) {
@@ -134,7 +219,7 @@ fn next_chosen<'s, S: Store>(
     Ok(None)
 }
 
-/// The next row of a walk, with the user of the procedure that fetches.
+/// The next row of a walk, with the user of the procedure that fetches. Where the target names a row by a key, no other is read.
 pub(crate) fn next_of_walk<'s, S: Store>(
     called: &Called<'_>,
     target: &Target,
@@ -143,15 +228,26 @@ pub(crate) fn next_of_walk<'s, S: Store>(
     meter: &mut Meter,
 ) -> Result<Option<(u64, &'s Row)>, AllocError>
     requires there { cursor.now.table < length (S.content_now store.now) }
+    requires over { target.now.base ≡ cursor.now.table }
+    requires base { IsBase called.now.catalog.now.bases target.now.leaf.table }
+    requires keys { S.key_columns store.now ≡ keys_of_bases called.now.catalog.now.bases }
+    requires not_null { not_nulls_hold called.now.catalog.now.bases (S.content_now store.now) ≡ true }
     requires quiet { IsQuietWith (column_kinds called.now.catalog.now) target.now cursor.now.values }
     requires rows { AreRowsUnder target.now (table_at (S.content_now store.now) cursor.now.table).rows }
-    ensures meant { IfOk result (λ found. option_map numbered_row found ≡ first_meant (conditions_of target.now) cursor.now.values
-        called.now.procedure.now.user cursor.now.next cursor.now.mark (table_at (S.content_now store.now) cursor.now.table).rows) }
-    ensures found { IfOk result (λ found. IfSome found (λ r. (cursor.now.next ≤ r.0) × (r.0 < cursor.now.mark))) }
-    ensures there { IfOk result (λ found. IfSome found (λ r. row_on (table_at (S.content_now store.now) cursor.now.table) (Some r.0) ≡ Some
+    ensures meant { IfOk result
+        (λ found. option_map numbered_row found ≡ first_meant (conditions_of target.now) cursor.now.values
+        called.now.procedure.now.user cursor.now.next cursor.now.mark
+        (table_at (S.content_now store.now) cursor.now.table).rows) }
+    ensures found { IfOk result
+        (λ found. IfSome found (λ r. (cursor.now.next ≤ r.0) × (r.0 < cursor.now.mark))) }
+    ensures there { IfOk result
+        (λ found. IfSome found
+        (λ r. row_on (table_at (S.content_now store.now) cursor.now.table) (Some r.0) ≡ Some
         r.1.now)) }
     ensures read { IfOk result (λ found. IfSome found (λ r. (1 ≤ meter.new) × (meter.new
         ≤ meter.old + (r.0 - last_number cursor.now)))) }
+    ensures once { IsKeyed target.now cursor.now.values called.now.procedure.now.user
+        → meter.new ≤ meter.old + 1 }
 {
     let walk = Walk {
         alloc: called.alloc,
@@ -161,7 +257,14 @@ pub(crate) fn next_of_walk<'s, S: Store>(
         target,
         values: cursor.values.as_slice(),
     };
-    next_chosen(&walk, store, cursor.next, cursor.mark, meter)
+    match walk.key(store)? {
+        Some(known) => {
+            let found = chosen_by_key(&walk, store, &known, cursor.next, cursor.mark, meter);
+            drop(known);
+            found
+        }
+        None => next_chosen(&walk, store, cursor.next, cursor.mark, meter),
+    }
 }
 
 /// The number of a cursor that walks, and the cursor over a list that takes its place.
@@ -240,7 +343,9 @@ fn listed_walk<S: Store>(
 
 /// Whether an UPDATE changes the base table that is walked, and a column of it that the conditions of the target read.
 fn is_read(statement: &BoundUpdate, table: usize, target: &Target) -> bool
-    ensures { result ≡ (nat_eq table (base_of statement.now.target) && one_reads statement.now.assignments (conditions_of target.now)) }
+    ensures { result
+        ≡ (nat_eq table (base_of statement.now.target)
+        && one_reads statement.now.assignments (conditions_of target.now)) }
 {
     table == base_of(&statement.target) && target_reads(target, statement.assignments.as_slice())
 }
@@ -266,7 +371,8 @@ fn rest_of_walk<S: Store>(
     requires there { cursor.now.table < length (S.content_now store.now) }
     requires quiet { IsQuietWith (column_kinds called.now.catalog.now) target.now cursor.now.values }
     requires rows { AreRowsUnder target.now (table_at (S.content_now store.now) cursor.now.table).rows }
-    ensures { IfOk result (λ numbers. numbers ≡ numbers_meant (conditions_of target.now) cursor.now.values user cursor.now.next
+    ensures { IfOk result
+        (λ numbers. numbers ≡ numbers_meant (conditions_of target.now) cursor.now.values user cursor.now.next
         cursor.now.mark (table_at (S.content_now store.now) cursor.now.table).rows) }
 {
     let walk = Walk {
@@ -289,8 +395,11 @@ fn numbers_from<S: Store>(
 ) -> Result<Items<u64>, AllocError>
     requires there { walk.now.table < length (S.content_now store.now) }
     requires quiet { IsQuietWith (column_kinds walk.now.catalog.now) walk.now.target.now walk.now.values.now }
-    requires rows { AreRowsUnder walk.now.target.now (table_at (S.content_now store.now) walk.now.table).rows }
-    ensures { IfOk result (λ numbers. numbers ≡ numbers_meant (conditions_of walk.now.target.now) walk.now.values.now walk.now.user from
+    requires rows { AreRowsUnder walk.now.target.now
+        (table_at (S.content_now store.now) walk.now.table).rows }
+    ensures { IfOk result
+        (λ numbers. numbers
+        ≡ numbers_meant (conditions_of walk.now.target.now) walk.now.values.now walk.now.user from
         mark (table_at (S.content_now store.now) walk.now.table).rows) }
 {
     let mut numbers = Items::new(walk.alloc);

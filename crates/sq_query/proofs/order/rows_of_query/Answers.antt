@@ -23,4 +23,4 @@ returns-in-Some g c = λ parameters tables may well.
     let call = c.args.call.now in
     subst (λ (q : PlacedQuery). HasRows c.rows_of_specification.result (query_rows (by_place tables) (kinds_by_place columns parameters) q (outermost (inputs_of call.parameters.now) call.user)))
     (sym (only_meant query only c.in-Some.ensures))
-    (c.rows_of_specification.ensures parameters tables may (subst (AllByRecursion (IsSelect columns parameters [])) (only_specifications query only c.in-Some.ensures) well.specifications).0)
+    (c.rows_of_specification.ensures.rows parameters tables may (subst (AllByRecursion (IsSelect columns parameters [])) (only_specifications query only c.in-Some.ensures) well.specifications).0)

@@ -11,7 +11,7 @@ returns-clause-kinds g c = λ parameters tables may well.
     found_so rows_in c.rows_of_specification.result (AreRowsOf (kinds_of_select c.args.query.now)) _
     (select_answers (g.N.Names.base_tables names) (g.N.Names.view_queries names) (g.N.Names.column_kinds names) (g.S.Store.content_now c.args.store.now) c.args.inputs.user c.args.inputs.parameters.now
     (g.met.N.Names.kinds_of_bases names) (g.met.N.Names.kinds_of_views names) parameters tables may c.args.query.now well)
-    (c.rows_of_specification.ensures parameters tables may well)
+    (c.rows_of_specification.ensures.rows parameters tables may well)
 
 pub returns-clause-right : goal.returns-clause-right
 returns-clause-right g c = λ parameters tables may well.
@@ -19,4 +19,4 @@ returns-clause-right g c = λ parameters tables may well.
     never_ends rows_in c.rows_of_specification.result (AreRowsOf (kinds_of_select c.args.query.now)) _
     (select_answers (g.N.Names.base_tables names) (g.N.Names.view_queries names) (g.N.Names.column_kinds names) (g.S.Store.content_now c.args.store.now) c.args.inputs.user c.args.inputs.parameters.now
     (g.met.N.Names.kinds_of_bases names) (g.met.N.Names.kinds_of_views names) parameters tables may c.args.query.now well)
-    (c.rows_of_specification.ensures parameters tables may well)
+    (c.rows_of_specification.ensures.rows parameters tables may well)

@@ -17,7 +17,7 @@ returns-in-Ok-clause-meant g c = λ domains tables meant closed.
     let columns = g.N.Names.column_kinds names in
     let needed = c.args.needed.now in
     let right = known_right (g.N.Names.base_tables names) (g.N.Names.view_queries names) columns content c.args.call.now.user tables (g.met.N.Names.kinds_of_bases names) c.requires.there domains meant (g.met.N.Names.kinds_of_views names) in
-    let are = bases_read content tables meant.bases needed (λ p here. right (Base p) (c.requires.known (Base p) here)) c.in_ok-bases.bases.items (sym (ap (each (stored_base content)) c.as_slice.ensures.value) ∙ c.in_ok-bases.ensures) in (
+    let are = bases_read content tables meant.bases needed (λ p here. right (Base p) (c.requires.known (Base p) here)) c.in_ok-bases.bases.items (sym (ap (each (stored_base content)) c.as_slice.ensures.value) ∙ c.in_ok-bases.ensures.rows) in (
       tt,
       subst (λ (bases : List BaseRows). ReadsAsMeant needed (rows_among bases c.in-Ok.views.items) tables) c.as_slice-2.ensures.value
           (c.in-Ok.ensures.meant tables (record { known = c.requires.known; closed = closed; views = meant.views; right = right })
@@ -32,4 +32,13 @@ returns-in_err-bases-clause-meant g c = λ domains tables meant closed.
     let right = known_right (g.N.Names.base_tables names) (g.N.Names.view_queries names) columns content c.args.call.now.user tables (g.met.N.Names.kinds_of_bases names) c.requires.there domains meant (g.met.N.Names.kinds_of_views names) in
     let read = bases_there content tables meant.bases c.args.needed.now (λ p here. right (Base p) (c.requires.known (Base p) here)) in
     let e = c.in_err-bases.field-0.0 in
-    handed (Vec BaseRows Global) c.from_residual.result e _ c.from_residual.ensures.1 (answered_as bases_in e _ _ (ap (each (stored_base content)) c.as_slice.ensures.value ∙ read) c.in_err-bases.ensures)
+    handed (Vec BaseRows Global) c.from_residual.result e _ c.from_residual.ensures.1 (answered_as bases_in e _ _ (ap (each (stored_base content)) c.as_slice.ensures.value ∙ read) c.in_err-bases.ensures.rows)
+
+pub returns-in-Ok-clause-none : goal.returns-in-Ok-clause-none
+returns-in-Ok-clause-none g c = λ none. c.in_ok-bases.ensures.none (c.as_slice.ensures.value ∙ none.0)
+
+pub returns-in-Err-clause-none : goal.returns-in-Err-clause-none
+returns-in-Err-clause-none g c = λ none. c.in_ok-bases.ensures.none (c.as_slice.ensures.value ∙ none.0)
+
+pub returns-in_err-bases-clause-none : goal.returns-in_err-bases-clause-none
+returns-in_err-bases-clause-none g c = λ none. c.in_err-bases.ensures.none (c.as_slice.ensures.value ∙ none.0)

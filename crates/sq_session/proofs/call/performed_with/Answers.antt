@@ -12,7 +12,7 @@ pub delete-requires-clause-asked : goal.delete-requires-clause-asked
 delete-requires-clause-asked g c = rw c.in-Delete.is at c.requires.asked.0
 
 pub returns-in-Select-clause-read : goal.returns-in-Select-clause-read
-returns-in-Select-clause-read g c = rw c.in-Select.is (however (ending c.select.result) tt)
+returns-in-Select-clause-read g c = rw c.in-Select.is c.select.ensures.read
 
 pub returns-in-Insert-clause-read : goal.returns-in-Insert-clause-read
 returns-in-Insert-clause-read g c = rw c.in-Insert.is (however (ending c.insert.result) tt)

@@ -9,7 +9,7 @@ use Rattle.sq_session.proofs.Coming.{shown_taken_on}
 use Rattle.sq_session.proofs.Holding.{HasColumns}
 use Rattle.sq_session.proofs.Metering.{end_come_to, however, row_come_to}
 use Rattle.sq_session.proofs.Over.{walk_over}
-use Rattle.sq_session.proofs.QuietWalks.{columns_are, conditions_are, quiet_at, under_at}
+use Rattle.sq_session.proofs.QuietWalks.{base_at, columns_are, conditions_are, quiet_at, stands_at, target_is, under_at}
 use Rattle.sq_session.proofs.Reached.{next_is, walks_not, walks_on, walks_to_end}
 use Rattle.sq_session.proofs.Shown.{columns_there}
 use Rattle.sq_session.proofs.fetch.fetch_walk.Goals as goal
@@ -18,6 +18,14 @@ pub next_of_walk-requires-clause-quiet : goal.next_of_walk-requires-clause-quiet
 next_of_walk-requires-clause-quiet g c =
     let called = c.args.called.now in
     quiet_at (column_kinds called.catalog.now) called.cursors.now c.args.fetch.now.cursor c.updatable_query-query.result.now c.args.walk.now c.updatable_query-query.ensures c.requires.kept c.requires.over
+
+pub next_of_walk-requires-clause-over : goal.next_of_walk-requires-clause-over
+next_of_walk-requires-clause-over g c = base_at c.args.called.now.cursors.now c.args.fetch.now.cursor c.updatable_query-query.result.now c.args.walk.now c.updatable_query-query.ensures c.requires.over
+
+pub next_of_walk-requires-clause-base : goal.next_of_walk-requires-clause-base
+next_of_walk-requires-clause-base g c =
+    let called = c.args.called.now in
+    stands_at called.catalog.now.bases called.cursors.now c.args.fetch.now.cursor c.updatable_query-query.result.now c.requires.fit c.updatable_query-query.ensures
 
 pub next_of_walk-requires-clause-rows : goal.next_of_walk-requires-clause-rows
 next_of_walk-requires-clause-rows g c =
@@ -88,7 +96,7 @@ returns-in_default-clause-read g c =
     let meant = rw c.in_default.is at c.in_ok-number.ensures.meant in
     let none = next_is fetch (table_at tables c.args.walk.now.table) c.args.walk.now (conditions_of query.target) None
     (conditions_are called.cursors.now c.args.fetch.now.cursor query c.updatable_query-query.ensures) meant in
-    end_come_to fetch tables c.args.walk.now _ none
+    end_come_to fetch tables c.args.walk.now query.target _ _ (target_is called.cursors.now c.args.fetch.now.cursor query c.updatable_query-query.ensures) none c.requires.meter c.in_ok-number.ensures.once
 
 pub returns-in-Ok-clause-read : goal.returns-in-Ok-clause-read
 returns-in-Ok-clause-read g c =
@@ -101,7 +109,7 @@ returns-in-Ok-clause-read g c =
     let read = rw c.in-Some.is at c.in_ok-number.ensures.read in
     let next = next_is fetch (table_at tables c.args.walk.now.table) c.args.walk.now (conditions_of query.target) (Some row)
     (conditions_are called.cursors.now c.args.fetch.now.cursor query c.updatable_query-query.ensures) meant in
-    row_come_to fetch tables c.args.walk.now row _ _ next c.requires.meter read
+    row_come_to fetch tables c.args.walk.now query.target row _ _ (target_is called.cursors.now c.args.fetch.now.cursor query c.updatable_query-query.ensures) next c.requires.meter read c.in_ok-number.ensures.once
 
 pub returns-in-Err-clause-read : goal.returns-in-Err-clause-read
 returns-in-Err-clause-read g c =
@@ -114,4 +122,4 @@ returns-in-Err-clause-read g c =
     let read = rw c.in-Some.is at c.in_ok-number.ensures.read in
     let next = next_is fetch (table_at tables c.args.walk.now.table) c.args.walk.now (conditions_of query.target) (Some row)
     (conditions_are called.cursors.now c.args.fetch.now.cursor query c.updatable_query-query.ensures) meant in
-    however (ending (Err c.in-Err.fault)) (row_come_to fetch tables c.args.walk.now row _ _ next c.requires.meter read)
+    however (ending (Err c.in-Err.fault)) (row_come_to fetch tables c.args.walk.now query.target row _ _ (target_is called.cursors.now c.args.fetch.now.cursor query c.updatable_query-query.ensures) next c.requires.meter read c.in_ok-number.ensures.once)

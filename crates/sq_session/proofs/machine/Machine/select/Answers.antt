@@ -1,10 +1,11 @@
-use Rattle.std.proofs.Common.{◌≡◌, List, Ok, Err, subst, sym, true}
+use Rattle.std.proofs.Common.{◌≡◌, ◌≤◌, ◌+◌, List, Ok, Err, subst, sym, true}
 use Rattle.sq_value.specs.declared.value.Value.{Value}
 use Rattle.sq_meaning.specs.WellFormed.{AreRowsOf}
 use Rattle.sq_bound.specs.Fits.{AreInDomains, keys_of_bases, not_nulls_hold}
 use Rattle.sq_bound.specs.WellFormed.{kinds_of_parameters, kinds_of_select}
 use Rattle.sq_catalog.specs.Catalog.{bases_there, column_kinds}
 use Rattle.sq_change.proofs.Obeyed.{not_nulls_of}
+use Rattle.sq_query.specs.Keyed.{IsKeyedSelect}
 use Rattle.sq_query.proofs.Finds.{select_finds}
 use Rattle.sq_session.specs.Kind.{selecting}
 use Rattle.sq_session.specs.Parameter.{AreGiven}
@@ -12,6 +13,7 @@ use Rattle.sq_session.specs.Schemas.{schemas_of}
 use Rattle.sq_session.specs.State.{State}
 use Rattle.sq_session.specs.Step.{SelectIsMeant}
 use Rattle.sq_session.proofs.Ending.{fault_right}
+use Rattle.sq_session.proofs.Metering.{select_read}
 use Rattle.sq_session.proofs.Reading.{may_read, some_tables}
 use Rattle.sq_session.proofs.Selected.{IsAnswered, found_meant, selects_from, selects_none}
 use Rattle.sq_session.proofs.Taken.{rows_taken}
@@ -85,3 +87,19 @@ only_row_retrieved-done-requires-clause-rows g c =
     let listed = rw c.in-Ok.is at c.specification_rows-found.ensures.kinds kinds some.0 some.1 c.requires.query in
     let same = subst (λ (rows : List (List Value)). AreRowsOf (kinds_of_select select.query) rows) (sym c.as_slice.ensures.value) listed in
     rows_taken called.procedure.now.parameters select.outputs (kinds_of_select select.query) c.as_slice.result.now c.requires.taken same
+
+pub returns-in-Ok-clause-read : goal.returns-in-Ok-clause-read
+returns-in-Ok-clause-read g c =
+    let called = c.args.called.now in
+    let s = selecting called.procedure.now.user called.procedure.now.parameters c.args.select.now in
+    let read = rw (c.inputs.ensures.user, c.inputs.ensures.parameters) at c.specification_rows-found.ensures.read in
+    select_read s called.values.now c.args.self.now c.only_row_retrieved-done.result c.args.meter.now c.specification_rows-found.new.meter c.requires.meter
+    (subst (λ (m : State). IsKeyedSelect s.query m.keys called.values.now s.user → c.specification_rows-found.new.meter ≤ c.args.meter.now + 1) c.self.view_is read)
+
+pub returns-in-Err-clause-read : goal.returns-in-Err-clause-read
+returns-in-Err-clause-read g c =
+    let called = c.args.called.now in
+    let s = selecting called.procedure.now.user called.procedure.now.parameters c.args.select.now in
+    let read = rw (c.inputs.ensures.user, c.inputs.ensures.parameters) at c.specification_rows-found.ensures.read in
+    select_read s called.values.now c.args.self.now (Err c.in-Err.fault) c.args.meter.now c.specification_rows-found.new.meter c.requires.meter
+    (subst (λ (m : State). IsKeyedSelect s.query m.keys called.values.now s.user → c.specification_rows-found.new.meter ≤ c.args.meter.now + 1) c.self.view_is read)

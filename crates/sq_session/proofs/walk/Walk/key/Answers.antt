@@ -1,0 +1,8 @@
+use Rattle.sq_catalog.specs.Catalog.{column_kinds}
+use Rattle.sq_session.proofs.walk.Walk.key.Goals as goal
+
+pub unreachable-requires : goal.unreachable-requires
+unreachable-requires g c =
+    let walk = c.args.self.now in
+    let memory = rw c.in-Err-Status.field-0-is at (c.in-Err-Status.ensures.memory (column_kinds walk.catalog.now) c.requires.quiet.parameters c.requires.quiet.is_target c.requires.quiet.given) in
+    absurd cc

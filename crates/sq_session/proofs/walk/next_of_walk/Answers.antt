@@ -1,0 +1,38 @@
+use Rattle.std.proofs.Common.{List, arith, subst, sym}
+use Rattle.sq_value.specs.declared.value.Value.{Value}
+use Rattle.sq_query.specs.Key.{IsKeyOf}
+use Rattle.sq_query.specs.Keyed.{IsKeyed}
+use Rattle.sq_query.proofs.KeyNames.{own_keys}
+use Rattle.sq_query.proofs.KeyTests.{if_some}
+use Rattle.sq_query.proofs.KnownKeys.{not_none}
+use Rattle.sq_session.proofs.walk.next_of_walk.Goals as goal
+
+pub key-requires-clause-there : goal.key-requires-clause-there
+key-requires-clause-there g c = rw c.requires.over c.requires.there
+
+pub key-requires-clause-keys : goal.key-requires-clause-keys
+key-requires-clause-keys g c =
+    own_keys c.args.called.now.catalog.now.bases (g.S.Store.key_columns c.args.store.now) c.args.target.now c.requires.base c.requires.keys
+
+pub chosen_by_key-found-requires-clause-key : goal.chosen_by_key-found-requires-clause-key
+chosen_by_key-found-requires-clause-key g c =
+    let store = c.args.store.now in
+    if_some (IsKeyOf c.args.target.now (g.S.Store.content_now store) (g.S.Store.key_columns store) c.as_slice.result.now c.args.called.now.procedure.now.user) c.in_ok-known.field-0 c.in-Some.known c.in_ok-known.ensures.known c.in-Some.is
+
+pub chosen_by_key-found-requires-clause-rows : goal.chosen_by_key-found-requires-clause-rows
+chosen_by_key-found-requires-clause-rows g c = rw c.requires.over c.requires.rows
+
+pub returns-in-Some-clause-meant : goal.returns-in-Some-clause-meant
+returns-in-Some-clause-meant g c = rw (c.requires.over, c.as_slice.ensures) at c.chosen_by_key-found.ensures.meant
+
+pub returns-in-Some-clause-there : goal.returns-in-Some-clause-there
+returns-in-Some-clause-there g c = rw c.requires.over at c.chosen_by_key-found.ensures.there
+
+pub returns-in-None-clause-once : goal.returns-in-None-clause-once
+returns-in-None-clause-once g c = λ keyed.
+    let user = c.args.called.now.procedure.now.user in
+    let with_values = subst (λ (vs : List Value). IsKeyed c.args.target.now vs user) (sym c.as_slice.ensures) keyed in
+    absurd (not_none c.in_ok-known.field-0 c.in-None.is (c.in_ok-known.ensures.found with_values))
+
+pub returns-in_err-known-clause-once : goal.returns-in_err-known-clause-once
+returns-in_err-known-clause-once g c = λ keyed. omega arith
