@@ -34,7 +34,7 @@ module _ (names : NamedTables) (j : Judged) (fit : NamesFit names j) where
       subst (IfJudged j (select_sites j.known outside q) ⊥ (false ≡ true) (IsShown names j [] [] tt (λ depth far. tt) false q)) is (select_faults names j fit q null [] [] tt (λ depth. tt) false counts)
 
 -- where all privileges are held
-abbrev all_held : Judged → Judged
+abbrev pub all_held : Judged → Judged
 all_held j = record j { holds = λ t p. true }
 
 held_here : (j : Judged) (s : Site) → breaks (all_held j) fault.PrivilegeMissing s ≡ false
@@ -42,12 +42,12 @@ held_here j (Site.table_read r) = refl
 held_here j (Site.privilege_used t p) = refl
 held_here j _ = refl
 
-held_everywhere : (j : Judged) (sites : List Site) → has_fault (all_held j) sites fault.PrivilegeMissing ≡ false
+pub held_everywhere : (j : Judged) (sites : List Site) → has_fault (all_held j) sites fault.PrivilegeMissing ≡ false
 held_everywhere j [] = refl
 held_everywhere j (s ∷ sites) = λ i. held_here j s i || held_everywhere j sites i
 
 -- a fault that is there, and none of privileges where all are held
-syntax_fault : (j : Judged) (sites : List Site) (f : BindingFault) → has_fault j sites f ≡ true → has_fault (all_held j) sites f ≡ true → has_syntax_fault j sites ≡ true
+pub syntax_fault : (j : Judged) (sites : List Site) (f : BindingFault) → has_fault j sites f ≡ true → has_fault (all_held j) sites f ≡ true → has_syntax_fault j sites ≡ true
 syntax_fault j sites fault.UnknownTable h g = any_there (has_fault j sites) syntax_faults 0 fault.UnknownTable refl h
 syntax_fault j sites fault.UnknownColumn h g = any_there (has_fault j sites) syntax_faults 1 fault.UnknownColumn refl h
 syntax_fault j sites fault.AmbiguousName h g = any_there (has_fault j sites) syntax_faults 2 fault.AmbiguousName refl h

@@ -196,7 +196,7 @@ module _ (names : NamedTables) (j : Judged) (fit : NamesFit names j) (held : All
         more_clean names j fit scopes queries over all tight allowed c cs (cond_bound (surrounded names j scopes allowed) c) (cond_clean c null.0 scopes queries over all tight allowed)
         (terms_bound (surrounded names j scopes allowed) cs) (terms_clean cs null.1 scopes queries over all tight allowed)
 
-    clause_clean : (c : Clause Named) → ClauseSpellsNoNull c → (scopes : List Scope) (queries : List EnclosingQuery) (over : AllZip (IsOver j.known) scopes queries) (all : is_present c ≡ true → (depth : ℕ) → GroupsAt j.known scopes queries depth)
+    pub clause_clean : (c : Clause Named) → ClauseSpellsNoNull c → (scopes : List Scope) (queries : List EnclosingQuery) (over : AllZip (IsOver j.known) scopes queries) (all : is_present c ≡ true → (depth : ℕ) → GroupsAt j.known scopes queries depth)
         (tight : (depth : ℕ) → TightAt j.known scopes queries depth) (allowed : Bool) → CleanIf j (Loose j.known queries) (clause_sites j.known (standing queries allowed false) c) (clause_bound (surrounded names j scopes allowed) c)
     clause_clean absent null scopes queries over all tight allowed = nothing_asked j (Loose j.known queries) (pure NumberedClause.absent)
     clause_clean (present c) null scopes queries over all tight allowed =

@@ -80,7 +80,7 @@ module _ (j : Judged) (Free : Type 0) where
   pub must_clean : {B : Type 0} (S : List Site) (test : Bool) (f : BindingFault) (rest : Binding B) → (test ≡ true → Clean j S) → CleanIf j Free S (must test f >> rest)
   must_clean S test f rest h counts z is loose = let s = after_of (must test f) (λ _. rest) counts z is in h (must_true test f counts s.first s.is_first)
 
-alike_kept : (k l : Kind) (o r : status.Outcome Kind) → o ≡ Ok k → r ≡ Ok l → is_comparable k l ≡ true → kind_mismatch (Site.alike_wanted o r) ≡ false
+pub alike_kept : (k l : Kind) (o r : status.Outcome Kind) → o ≡ Ok k → r ≡ Ok l → is_comparable k l ≡ true → kind_mismatch (Site.alike_wanted o r) ≡ false
 alike_kept (Num s) (Num t) o r e f so = λ i. kind_mismatch (Site.alike_wanted (e i) (f i))
 alike_kept (Num s) (Chars n) o r e f so = cc
 alike_kept (Num s) (Vary n) o r e f so = cc

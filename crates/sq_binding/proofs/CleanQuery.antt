@@ -32,7 +32,7 @@ use Rattle.sq_binding.proofs.SelectFaults.{PlaceIs, columns_judge, groups_over, 
 
 -- ---- what is known of parts
 
-then_known : {A B : Type 0} (P : A → Type 0) (Q : B → Type 0) (b : Binding A) (f : A → Binding B) → KnownIf P b → ((x : A) → P x → KnownIf Q (f x)) → KnownIf Q (b >>= f)
+pub then_known : {A B : Type 0} (P : A → Type 0) (Q : B → Type 0) (b : Binding A) (f : A → Binding B) → KnownIf P b → ((x : A) → P x → KnownIf Q (f x)) → KnownIf Q (b >>= f)
 then_known {A} {B} P Q b f h g counts z is =
     let s = after_of b f counts z is in subst (λ (z : Found B). Q z.part) s.is_joined (g s.first.part (h counts s.first s.is_first) _ s.second s.is_second)
 
@@ -40,10 +40,10 @@ abbrev OkPart : {A : Type 0} → (A → Type 0) → Outcome (Found A) → Type 0
 OkPart P (Ok z) = P z.part
 OkPart P (Err f) = ⊤
 
-pure_known : {A : Type 0} (P : A → Type 0) (x : A) → P x → KnownIf P (pure x)
+pub pure_known : {A : Type 0} (P : A → Type 0) (x : A) → P x → KnownIf P (pure x)
 pure_known P x h counts z is = subst (OkPart P) is h
 
-anything_known : {A : Type 0} (b : Binding A) → KnownIf (λ x. ⊤) b
+pub anything_known : {A : Type 0} (b : Binding A) → KnownIf (λ x. ⊤) b
 anything_known b counts z is = tt
 
 clause_known : (a : Surroundings) (c : Clause Named) → KnownIf (λ x. is_present c ≡ true → is_bound x ≡ true) (clause_bound a c)

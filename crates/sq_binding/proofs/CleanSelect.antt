@@ -35,7 +35,7 @@ use Rattle.sq_binding.proofs.SelectFaults.{PlaceIs, groups_further, groups_over,
 use Rattle.sq_binding.proofs.Sites.{is_false}
 use Rattle.sq_binding.proofs.Judged.{some_either, some_left, some_right}
 
-at_most_ok : {A : Type 0} (t : Bool) (b : Binding A) (counts : Counts) (z : Found A) → (if t then refused fault.LimitExceeded else b) counts ≡ Ok z → (t ≡ false) × (b counts ≡ Ok z)
+pub at_most_ok : {A : Type 0} (t : Bool) (b : Binding A) (counts : Counts) (z : Found A) → (if t then refused fault.LimitExceeded else b) counts ≡ Ok z → (t ≡ false) × (b counts ≡ Ok z)
 at_most_ok true b counts z e = cc
 at_most_ok false b counts z e = (refl, e)
 
@@ -43,7 +43,7 @@ part_of : {A : Type 0} → A → Outcome (Found A) → A
 part_of x (Ok z) = z.part
 part_of x (Err f) = x
 
-outcome_ok : {A : Type 0} (o : Outcome A) (counts : Counts) (z : Found A) → outcome o counts ≡ Ok z → o ≡ Ok z.part
+pub outcome_ok : {A : Type 0} (o : Outcome A) (counts : Counts) (z : Found A) → outcome o counts ≡ Ok z → o ≡ Ok z.part
 unfolding part_of
 outcome_ok (Ok x) counts z e = ap (λ o. Ok (part_of x o)) e
 outcome_ok (Err f) counts z e = cc

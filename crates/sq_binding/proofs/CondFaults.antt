@@ -233,7 +233,7 @@ module _ (names : NamedTables) (j : Judged) (fit : NamesFit names j) where
         more_conds names j scopes queries over all allowed c cs (cond_bound (surrounded names j scopes allowed) c) (cond_faults c null.0 scopes queries over all allowed)
         (terms_bound (surrounded names j scopes allowed) cs) (terms_faults cs null.1 scopes queries over all allowed)
 
-    clause_faults : (c : Clause Named) → ClauseSpellsNoNull c → (scopes : List Scope) (queries : List EnclosingQuery) (over : AllZip (IsOver j.known) scopes queries)
+    pub clause_faults : (c : Clause Named) → ClauseSpellsNoNull c → (scopes : List Scope) (queries : List EnclosingQuery) (over : AllZip (IsOver j.known) scopes queries)
         (all : is_present c ≡ true → (depth : ℕ) → GroupsAt j.known scopes queries depth) (allowed : Bool)
         → Judges j (clause_sites j.known (standing queries allowed false) c) (GroupsAt j.known scopes queries 0) ((is_present c ≡ true) × (allowed ≡ true)) (λ x. is_bound x ≡ true → is_present c ≡ true) (clause_bound (surrounded names j scopes allowed) c)
     clause_faults absent null scopes queries over all allowed =

@@ -51,7 +51,7 @@ standing queries allowed inside = record { queries = queries; functions_allowed 
 abbrev pub froms_of : List EnclosingQuery → List (List TableReference)
 froms_of queries = map (λ query. query.from) queries
 
-item_is : (r : TableReference) (o : status.Outcome TableDescriptor) → HasValue o
+pub item_is : (r : TableReference) (o : status.Outcome TableDescriptor) → HasValue o
     → status.and_then {B = Item} o (λ d. Ok (record { reference = r; columns = column_names d }))
     ≡ Ok (unwrap_or (result_ok (status.and_then {B = Item} o (λ d. Ok (record { reference = r; columns = column_names d })))) (record { reference = r; columns = [] }))
 item_is r (Ok d) h = refl

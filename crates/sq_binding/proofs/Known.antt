@@ -70,7 +70,7 @@ pub record HasColumn (items : List FromItem) (at : ℕ × ℕ) : Type 0 where
   pub found : ItemColumn
   pub there : option_and_then (λ item. slice_get item.columns at.1) (slice_get items at.0) ≡ Some found
 
-within : {A : Type 0} (xs : List A) (n : ℕ) → n < length xs → (x : A) × (slice_get xs n ≡ Some x)
+pub within : {A : Type 0} (xs : List A) (n : ℕ) → n < length xs → (x : A) × (slice_get xs n ≡ Some x)
 within [] n h = absurd (never n h)
   where
     never : (m : ℕ) → m < 0 → ⊥

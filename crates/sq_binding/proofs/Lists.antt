@@ -7,10 +7,11 @@ use Rattle.sq_meaning.specs.Syntax.{Cond, conds}
 use Rattle.sq_binding.specs.Condition.{cond_bound, terms_bound, test, tests_bound}
 use Rattle.sq_binding.specs.Findings.{Findings, none}
 use Rattle.sq_binding.specs.Findings as findings
-use Rattle.sq_binding.specs.Found.{Binding, Counts, Found, ◌>>=◌, after, each, pure, then_joined}
+use Rattle.sq_binding.specs.Found.{Binding, Counts, Found, ◌>>=◌, after, each, pure, then_joined, with_next}
 use Rattle.sq_binding.specs.NumberedCondition.{NumberedCond, NumberedConds}
 use Rattle.sq_binding.specs.Outcome.{Outcome, and_then}
 use Rattle.sq_binding.specs.QueryFindings.{QueryFindings, both, nothing}
+use Rattle.sq_binding.specs.Seen.{conds_in}
 use Rattle.sq_binding.specs.Select.{Surroundings}
 
 -- ---- what is found in several parts
@@ -21,7 +22,7 @@ max_nothing n = omega arith
 max_turn : (a b c : ℕ) → max (max a b) c ≡ max a (max b c)
 max_turn a b c = omega arith
 
-or_nothing : (a : Bool) → (a || false) ≡ a
+pub or_nothing : (a : Bool) → (a || false) ≡ a
 or_nothing true = refl
 or_nothing false = refl
 
@@ -83,16 +84,6 @@ listed x y = record {
   subqueries = y.subqueries;
 }
 
--- with one more
-abbrev pub with_next : {A : Type 0} → Found (List A) → Found A → Found (List A)
-with_next x y = record {
-  part = x.part ++ (y.part ∷ []);
-  calls = x.calls ++ y.calls;
-  calls_can_fail = x.calls_can_fail || y.calls_can_fail;
-  findings = both x.findings y.findings;
-  subqueries = y.subqueries;
-}
-
 abbrev pub before_rest : {A : Type 0} → Found (List A) → Outcome (Found (List A)) → Outcome (Found (List A))
 before_rest x rest = and_then rest (λ y. Ok (listed x y))
 
@@ -134,10 +125,6 @@ module _ {A B : Type 0} (f : A → Binding B) (counts : Counts) where
   next_bound x e xs = step_bound x xs (f e (after counts x))
 
 -- ---- the tests of a term, and the terms of a condition
-
-abbrev pub conds_in : List NumberedCond → NumberedConds
-conds_in [] = NumberedConds.no_cond
-conds_in (c ∷ cs) = NumberedConds.a_cond c (conds_in cs)
 
 abbrev pub as_conds : Found (List NumberedCond) → Found NumberedConds
 as_conds x = record { part = conds_in x.part; calls = x.calls; calls_can_fail = x.calls_can_fail; findings = x.findings; subqueries = x.subqueries }

@@ -1,14 +1,12 @@
 -- What is found in a value expression is so: it never ends with a status unless that is found, and it reads no columns further to
 -- the right, and further out, than is found (ISO/IEC 9075:1992, 6.4, 6.5 and 6.11).
-use Rattle.std.proofs.Common.{◌≡◌, ℕ, zero, suc, ◌+◌, ◌<◌, ◌≤◌, Bool, true, false, not, ◌&&◌, ◌||◌, List, [], ◌∷◌, ◌++◌, length, max, Option, Ok, arith, refl, sym, ap, subst, ◌∙◌}
+use Rattle.std.proofs.Common.{◌≡◌, ℕ, zero, suc, ◌+◌, ◌<◌, ◌≤◌, Bool, true, false, not, ◌&&◌, ◌||◌, List, [], ◌∷◌, max, Ok, arith, refl, sym, ap, subst}
 use Rattle.std.proofs.Math.Nat.{le-max_left, le-max_right}
 use Rattle.std.proofs.lemmas.Bool.{ltb-false}
 use Rattle.std.proofs.lemmas.Bool.Decides.{nat_tests}
 use Rattle.std.specs.List.{AllByRecursion}
-use Rattle.std.specs.Prelude.{⊤, nat_eq, nat_lt, slice_index_or, if◌then◌else◌}
-use Rattle.sq_value.specs.declared.domain.Domain.{Domain}
+use Rattle.std.specs.Prelude.{nat_eq, nat_lt, slice_index_or, if◌then◌else◌}
 use Rattle.sq_value.specs.declared.domain.Kind.{Kind}
-use Rattle.sq_tree.specs.declared.expr.SetFunction.{SetFunction}
 use Rattle.sq_meaning.proofs.AnswerLaws.{all_appended}
 use Rattle.sq_meaning.specs.Environment.{Place}
 use Rattle.sq_meaning.specs.Spelled.{Named}
@@ -20,9 +18,9 @@ use Rattle.sq_bound.specs.Expression.{PlacedExpr, missing, operated}
 use Rattle.sq_bound.specs.Noted.{AreSure}
 use Rattle.sq_bound.specs.declared.expression.Operator.{Operator}
 use Rattle.sq_bound.specs.declared.expression.Operator.TheVariants.{Plus, Minus, Times, Over}
-use Rattle.sq_binding.specs.Expression.{Bound, bound, column_bound, function_call, if_at, operands, parameter_as, place_of_found, product_operator, signed_by, sum_operator}
-use Rattle.sq_binding.specs.Numbered.{Numbered, tree_of}
-use Rattle.sq_binding.specs.Scope.{FoundColumn, Scope, column_meant}
+use Rattle.sq_binding.specs.Expression.{Bound, bound, if_at, operands, product_operator, sum_operator}
+use Rattle.sq_binding.specs.Numbered.{tree_of}
+use Rattle.sq_binding.specs.Scope.{Scope}
 use Rattle.sq_binding.proofs.Cases.{Cases, it_holds}
 
 -- a set function reads columns of its own query alone
@@ -40,7 +38,7 @@ pub record IsNoted (b : Bound) : Type 0 where
 
 -- ---- columns that are read
 
-reads_more : (P Q : ℕ → Place → Type 0) (n : ℕ) → ((p : Place) → P n p → Q n p) → (e : PlacedExpr) → ExprReads P n e → ExprReads Q n e
+pub reads_more : (P Q : ℕ → Place → Type 0) (n : ℕ) → ((p : Place) → P n p → Q n p) → (e : PlacedExpr) → ExprReads P n e → ExprReads Q n e
 reads_more P Q n f (literal v) h = tt
 reads_more P Q n f (parameter p) h = tt
 reads_more P Q n f user h = tt
@@ -52,14 +50,14 @@ reads_more P Q n f (added sign a b) h = (reads_more P Q n f a h.0, reads_more P 
 reads_more P Q n f (scaled sign a b) h = (reads_more P Q n f a h.0, reads_more P Q n f b h.1)
 reads_more P Q n f (bracketed e) h = reads_more P Q n f e h
 
-reads_both : (P : ℕ → Place → Type 0) (n : ℕ) (operator : Operator) (a b : PlacedExpr) → ExprReads P n a → ExprReads P n b → ExprReads P n (operated operator a b)
+pub reads_both : (P : ℕ → Place → Type 0) (n : ℕ) (operator : Operator) (a b : PlacedExpr) → ExprReads P n a → ExprReads P n b → ExprReads P n (operated operator a b)
 reads_both P n Plus a b h g = (h, g)
 reads_both P n Minus a b h g = (h, g)
 reads_both P n Times a b h g = (h, g)
 reads_both P n Over a b h g = (h, g)
 
 -- a set function by its number
-at_index : (P : PlacedExpr → Type 0) (functions : List PlacedExpr) (n : ℕ) → AllByRecursion P functions → P missing → P (slice_index_or functions n missing)
+pub at_index : (P : PlacedExpr → Type 0) (functions : List PlacedExpr) (n : ℕ) → AllByRecursion P functions → P missing → P (slice_index_or functions n missing)
 at_index P [] zero h m = m
 at_index P [] (suc n) h m = m
 at_index P (f ∷ functions) zero h m = h.0
@@ -78,7 +76,7 @@ among_more : (a b n : ℕ) (e : PlacedExpr) → a ≤ b → ExprReads (IsAmongIt
 among_more a b n e le h = reads_more (IsAmongItems a) (IsAmongItems b) n (λ p near there. let low = near there in omega (arith, le, low)) e h
 
 -- the items that hold a column
-item_there : (d depth item : ℕ) → depth ≡ d → item < if_at d depth (item + 1)
+pub item_there : (d depth item : ℕ) → depth ≡ d → item < if_at d depth (item + 1)
 item_there d depth item is =
     let same : nat_eq depth d ≡ true = grind (arith, nat_tests) in
     let more : item < item + 1 = omega arith in

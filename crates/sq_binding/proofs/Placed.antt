@@ -1,6 +1,6 @@
 -- A value expression is bound to what it becomes where its columns and parameters are placed, of the kind that the definitions
 -- give it, with its set functions in the order of the text (ISO/IEC 9075:1992, 6.2 to 6.5 and 6.11 to 6.13).
-use Rattle.std.proofs.Common.{◌≡◌, ℕ, suc, ◌+◌, Bool, true, false, List, [], ◌∷◌, ◌++◌, length, map, Option, Some, None, Ok, Err, refl, sym, ap, subst, ◌∙◌, append_assoc}
+use Rattle.std.proofs.Common.{◌≡◌, ℕ, ◌+◌, Bool, true, false, List, [], ◌∷◌, ◌++◌, length, Option, Some, None, Ok, Err, refl, sym, ap, subst, ◌∙◌, append_assoc}
 use Rattle.std.proofs.lemmas.List.{length-append}
 use Rattle.std.specs.Prelude.{slice_get, slice_index_or, if◌then◌else◌}
 use Rattle.std.specs.List.{position}
@@ -9,8 +9,6 @@ use Rattle.sq_value.specs.Domain.{kind_of}
 use Rattle.sq_value.specs.declared.domain.Domain.{Domain}
 use Rattle.sq_value.specs.declared.domain.Kind.{Kind}
 use Rattle.sq_value.specs.declared.domain.Kind.TheVariants.{Chars, Num, Vary}
-use Rattle.sq_value.specs.declared.value.Value.{Value}
-use Rattle.sq_tree.specs.declared.expr.SetFunction.{SetFunction}
 use Rattle.sq_tree.specs.declared.expr.Sign.{Sign}
 use Rattle.sq_tree.specs.declared.expr.Sign.TheVariants.{Plus, Minus}
 use Rattle.sq_tree.specs.declared.expr.TimesSign.{TimesSign}
@@ -21,38 +19,41 @@ use Rattle.sq_tree.specs.declared.names.Parameter.{Parameter}
 use Rattle.sq_meaning.specs.Environment as meaning
 use Rattle.sq_meaning.specs.Environment.{Place, place_of, same_name}
 use Rattle.sq_meaning.specs.Expression.{set_functions}
-use Rattle.sq_meaning.specs.Kind.{function_kind, kind, kind_of_value, product_kind, signed_kind, sum_kind}
+use Rattle.sq_meaning.specs.Kind.{function_kind, kind, product_kind, signed_kind, sum_kind}
 use Rattle.sq_meaning.specs.Spelled.{Named}
 use Rattle.sq_meaning.specs.Status as status
-use Rattle.sq_meaning.specs.Syntax.{Expr, literal, parameter, user, column, count_rows, set_function, signed, added, scaled, bracketed}
+use Rattle.sq_meaning.specs.Syntax.{Expr, literal, parameter, user, column, count_rows, set_function, signed, added, scaled}
 use Rattle.sq_meaning.specs.Tables.{Declared}
 use Rattle.sq_meaning.specs.WellFormed.{is_text}
 use Rattle.sq_bound.specs.Expression.{PlacedExpr, missing, operated}
 use Rattle.sq_rules.specs.Binding.{is_indicator_domain}
 use Rattle.sq_rules.specs.declared.fault.BindingFault.{BindingFault}
 use Rattle.sq_rules.specs.declared.fault.BindingFault.TheVariants as fault
-use Rattle.sq_binding.specs.Expression.{Bound, as_indicator, bound, called, column_bound, function_call, indicator_bound, operands, operated_kind, parameter_as, parameter_named, place_of_found, plain, product_operator, signed_by, sum_operator, user_findings}
+use Rattle.sq_binding.specs.Expression.{Bound, as_indicator, bound, column_bound, indicator_bound, operated_kind, parameter_as, parameter_named, place_of_found, plain, product_operator, sum_operator, user_findings}
 use Rattle.sq_binding.specs.Findings.{none}
 use Rattle.sq_binding.specs.Numbered.{Numbered, tree_of}
 use Rattle.sq_binding.specs.Outcome.{Outcome, and_then, or_fault}
-use Rattle.sq_binding.specs.Placed.{column_at, column_kind, heads_of, indicator_named, kinds_in, placed, placed_column, placed_parameter, position_named}
-use Rattle.sq_binding.specs.Scope.{FoundColumn, ItemColumn, Scope, column_meant, column_numbered, fits, found_in, further_out, is_last, nearest}
+use Rattle.sq_binding.specs.Placed.{column_at, column_kind, heads_of, indicator_named, kinds_in, placed, placed_column, position_named}
+use Rattle.sq_binding.specs.Scope.{FoundColumn, ItemColumn, Scope, column_meant, column_numbered, fits, found_in, further_out, is_grouped, is_last, nearest}
 use Rattle.sq_binding.proofs.Cases.{Cases, it_holds}
 
 -- ---- columns
 
--- the column stands at the place that the reference means
-record IsAt (r : ColumnReference) (scopes : List Scope) (found : FoundColumn) : Type 0 where
+-- The column stands at the place that the reference means, in a scope that is there.
+pub record IsAt (r : ColumnReference) (scopes : List Scope) (found : FoundColumn) : Type 0 where
   pub number : ℕ
   pub means : place_of r (heads_of scopes) ≡ Ok (record { depth = found.depth; item = found.item; column = number })
   pub there : column_at scopes (record { depth = found.depth; item = found.item; column = number }) ≡ Some found.column
+  pub scope : Scope
+  pub here : slice_get scopes found.depth ≡ Some scope
+  pub grouped : found.is_grouped ≡ is_grouped scope.grouping found.item found.column.position
 
 module _ (r : ColumnReference) (s : Scope) (outer : List Scope) (last : Bool) where
   only_at : (at : ℕ × ℕ) → fits r s ≡ at ∷ [] → (o : Option ItemColumn) → column_numbered s at ≡ o → (found : FoundColumn) → or_fault fault.UnknownColumn (option_map (found_in s last at) o) ≡ Ok found → IsAt r (s ∷ outer) found
   only_at at e None none found is = cc
   only_at at e (Some c) some found is =
       let same : found_in s last at c ≡ found = cc in
-      subst (IsAt r (s ∷ outer)) same (record { number = at.1; means = ap (λ ats. meaning.nearest ats (place_of r (heads_of outer))) e; there = some })
+      subst (IsAt r (s ∷ outer)) same (record { number = at.1; means = ap (λ ats. meaning.nearest ats (place_of r (heads_of outer))) e; there = some; scope = s; here = refl; grouped = refl })
 
   further_at : fits r s ≡ [] → (o : Outcome FoundColumn) → ((f : FoundColumn) → o ≡ Ok f → IsAt r outer f) → (found : FoundColumn) → and_then o (λ f. Ok (further_out f)) ≡ Ok found → IsAt r (s ∷ outer) found
   further_at none (Err g) h found is = cc
@@ -64,6 +65,9 @@ module _ (r : ColumnReference) (s : Scope) (outer : List Scope) (last : Bool) wh
         number = at.number;
         means = ap (λ ats. meaning.nearest ats (place_of r (heads_of outer))) none ∙ ap (λ o. meaning.nearest [] o) at.means;
         there = at.there;
+        scope = at.scope;
+        here = at.here;
+        grouped = at.grouped;
       })
 
   nearest_at : (ats : List (ℕ × ℕ)) → fits r s ≡ ats → (o : Outcome FoundColumn) → ((f : FoundColumn) → o ≡ Ok f → IsAt r outer f) → (found : FoundColumn) → nearest s last ats o ≡ Ok found → IsAt r (s ∷ outer) found
@@ -71,7 +75,7 @@ module _ (r : ColumnReference) (s : Scope) (outer : List Scope) (last : Bool) wh
   nearest_at (at ∷ []) e o h found is = only_at at e (column_numbered s at) refl found is
   nearest_at (at ∷ next ∷ others) e o h found is = cc
 
-found_at : (r : ColumnReference) (scopes : List Scope) (found : FoundColumn) → column_meant r scopes ≡ Ok found → IsAt r scopes found
+pub found_at : (r : ColumnReference) (scopes : List Scope) (found : FoundColumn) → column_meant r scopes ≡ Ok found → IsAt r scopes found
 found_at r [] found is = cc
 found_at r (s ∷ outer) found is = nearest_at r s outer (is_last outer) (fits r s) refl (column_meant r outer) (found_at r outer) found is
 
@@ -93,7 +97,7 @@ there_is : {A : Type 0} (g : BindingFault) (o : Option A) (x : A) → or_fault g
 there_is g None x e = cc
 there_is g (Some y) x e = let same : y ≡ x = cc in ap Ok same
 
-position_is : (parameters : List Declared) (p : Parameter) (at : ℕ × Domain) → parameter_named parameters p.name ≡ Ok at → position_named parameters p.name ≡ Ok at
+pub position_is : (parameters : List Declared) (p : Parameter) (at : ℕ × Domain) → parameter_named parameters p.name ≡ Ok at → position_named parameters p.name ≡ Ok at
 position_is parameters p at e =
     there_is fault.UnknownParameter (option_and_then (λ at. option_map (λ p. (at, p.domain)) (slice_get parameters at)) (position (λ d. same_name d.name p.name) parameters)) at e
 
@@ -108,9 +112,15 @@ indicator_at parameters i (Ok p) is at e =
     (there_is fault.UnknownParameter (option_and_then (λ at. option_map (λ p. (at, p.domain)) (slice_get parameters at)) (position (λ d. same_name d.name i.name) parameters)) p is)
     ∙ ap Ok (indicator_as (is_indicator_domain p.1) p at e)
 
-indicator_is : (parameters : List Declared) (i : Option Indicator) (at : Option ℕ) → indicator_bound parameters i ≡ Ok at → indicator_named parameters i ≡ Ok at
+pub indicator_is : (parameters : List Declared) (i : Option Indicator) (at : Option ℕ) → indicator_bound parameters i ≡ Ok at → indicator_named parameters i ≡ Ok at
 indicator_is parameters None at e = let same : None ≡ at = cc in ap Ok same
 indicator_is parameters (Some i) at e = indicator_at parameters i (parameter_named parameters i.name) refl at e
+
+pub parameter_placed : (scopes : List Scope) (parameters : List Declared) (p : Parameter) (at : ℕ × Domain) (i : Option ℕ) → parameter_named parameters p.name ≡ Ok at → indicator_bound parameters p.indicator ≡ Ok i
+    → placed scopes parameters (parameter p) ≡ Ok (parameter (record { position = at.0; indicator = i }))
+parameter_placed scopes parameters p at i is so =
+    ap (λ (o : status.Outcome (ℕ × Domain)). status.and_then (status.and_then o (λ at. status.and_then (indicator_named parameters p.indicator) (λ i. Ok (record { position = at.0; indicator = i })))) (λ q. Ok (parameter q))) (position_is parameters p at is)
+    ∙ ap (λ (o : status.Outcome (Option ℕ)). status.and_then (status.and_then o (λ i. Ok (record { position = at.0; indicator = i }))) (λ q. Ok (parameter q))) (indicator_is parameters p.indicator i so)
 
 -- ---- value expressions
 
@@ -180,8 +190,7 @@ module _ (scopes : List Scope) (parameters : List Declared) where
     of_literal = λ allowed n v k is. leaf allowed n (literal v) (Numbered.literal v) k (literal v) refl (λ functions. refl) is refl (plain (Numbered.literal v) k none) refl refl refl;
     of_parameter = λ allowed n p at i is so.
         leaf allowed n (parameter p) (parameter_as at i).tree (kind_of at.1) (parameter (record { position = at.0; indicator = i }))
-        (ap (λ (o : status.Outcome (ℕ × Domain)). status.and_then (status.and_then o (λ at. status.and_then (indicator_named parameters p.indicator) (λ i. Ok (record { position = at.0; indicator = i })))) (λ q. Ok (parameter q))) (position_is parameters p at is)
-        ∙ ap (λ (o : status.Outcome (Option ℕ)). status.and_then (status.and_then o (λ i. Ok (record { position = at.0; indicator = i }))) (λ q. Ok (parameter q))) (indicator_is parameters p.indicator i so))
+        (parameter_placed scopes parameters p at i is so)
         (λ functions. refl)
         (ap (λ (o : status.Outcome (ℕ × Domain)). status.and_then o (λ at. Ok (kind_of at.1))) (position_is parameters p at is))
         refl (parameter_as at i) refl refl refl;

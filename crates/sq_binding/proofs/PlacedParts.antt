@@ -58,12 +58,12 @@ column_alone [] (suc depth) at = refl
 column_alone (scope ∷ scopes) zero at = refl
 column_alone (scope ∷ scopes) (suc depth) at = column_alone scopes depth at
 
-placed_alone : (scopes : List Scope) (c : ColumnReference) → placed_column (map alone scopes) c ≡ placed_column scopes c
+pub placed_alone : (scopes : List Scope) (c : ColumnReference) → placed_column (map alone scopes) c ≡ placed_column scopes c
 placed_alone scopes c =
     ap (λ heads. status.and_then (place_of c heads) (λ p. status.well_formed (option_map (λ k. record p { column = k.position }) (column_at (map alone scopes) p)))) (heads_alone scopes)
     ∙ (λ i. status.and_then (place_of c (heads_of scopes)) (λ p. status.well_formed (option_map (λ k. record p { column = k.position }) (column_alone scopes p.depth (p.item, p.column) i))))
 
-expr_alone : (scopes : List Scope) (parameters : List Declared) (e : Expr Named) → placed (map alone scopes) parameters e ≡ placed scopes parameters e
+pub expr_alone : (scopes : List Scope) (parameters : List Declared) (e : Expr Named) → placed (map alone scopes) parameters e ≡ placed scopes parameters e
 expr_alone scopes parameters (literal v) = refl
 expr_alone scopes parameters (parameter p) = refl
 expr_alone scopes parameters user = refl
@@ -125,7 +125,7 @@ escape_binds a (Some e) =
 abbrev pub SelectIs : status.Outcome PlacedSelect → List PlacedExpr → NumberedSelect → Type 0
 SelectIs placed functions q = placed ≡ Ok (select_of q)
 
-same_select : (number : Option ℕ) (q : NumberedSelect) → select_of (with_number number q) ≡ select_of q
+pub same_select : (number : Option ℕ) (q : NumberedSelect) → select_of (with_number number q) ≡ select_of q
 same_select number (NumberedSelect.select distinct list from filter groups columns can_fail unnumbered) = refl
 
 module _ (allowed : Bool) (counts : Counts) (placed : status.Outcome PlacedSelect) where
@@ -248,14 +248,14 @@ list_binds a items (expressions es) =
 -- ---- the whole
 
 -- a query specification of these parts, where these are its set functions
-abbrev parts_of : List PlacedExpr → Parts → PlacedSelect
+abbrev pub parts_of : List PlacedExpr → Parts → PlacedSelect
 parts_of functions p = select p.distinct (expressions (shown_trees functions p.shown)) p.from (clause_of [] p.filter) p.by (clause_of functions p.having)
 
 abbrev pub PartsAre : status.Outcome PlacedSelect → List PlacedExpr → Parts → Type 0
 PartsAre placed functions p = placed ≡ Ok (parts_of functions p)
 
 -- without groups there are no set functions
-groups_same : (distinct : Bool) (shown : List ShownColumn) (from : List TablePlace) (filter : NumberedClause) (by : List Place) (having : NumberedClause) (functions : List PlacedExpr) (columns : List ResultColumn) (can_fail : Bool)
+pub groups_same : (distinct : Bool) (shown : List ShownColumn) (from : List TablePlace) (filter : NumberedClause) (by : List Place) (having : NumberedClause) (functions : List PlacedExpr) (columns : List ResultColumn) (can_fail : Bool)
     → select_of (NumberedSelect.select distinct (map (λ c. c.tree) shown) from filter (groups_by by having functions) columns can_fail None)
     ≡ select distinct (expressions (shown_trees functions shown)) from (clause_of [] filter) by (clause_of functions having)
 groups_same distinct shown from filter [] NumberedClause.absent [] columns can_fail = refl

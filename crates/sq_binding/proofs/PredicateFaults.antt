@@ -41,7 +41,7 @@ allowed_if : (allowed : Bool) (calls : List PlacedExpr) → (allowed ≡ false �
 allowed_if true calls none some = refl
 allowed_if false calls none some = absurd (no_truth (sym (ap is_some_of (none refl)) ∙ some))
 
-alike_breaks : (k l : Kind) (o r : status.Outcome Kind) → o ≡ Ok k → r ≡ Ok l → is_comparable k l ≡ false → kind_mismatch (Site.alike_wanted o r) ≡ true
+pub alike_breaks : (k l : Kind) (o r : status.Outcome Kind) → o ≡ Ok k → r ≡ Ok l → is_comparable k l ≡ false → kind_mismatch (Site.alike_wanted o r) ≡ true
 alike_breaks (Num s) (Num t) o r e f differ = cc
 alike_breaks (Num s) (Chars n) o r e f differ = λ i. kind_mismatch (Site.alike_wanted (e i) (f i))
 alike_breaks (Num s) (Vary n) o r e f differ = λ i. kind_mismatch (Site.alike_wanted (e i) (f i))

@@ -1,5 +1,5 @@
 -- What a value expression is bound to (ISO/IEC 9075:1992, 6.2 to 6.5 and 6.11 to 6.13).
-use Rattle.std.specs.Prelude.{ℕ, zero, suc, ◌+◌, Bool, true, false, not, ◌&&◌, ◌||◌, nat_lt, nat_eq, if◌then◌else◌, List, [], ◌∷◌, ◌++◌, length, slice_get, Option, Some, None, Ok, Err}
+use Rattle.std.specs.Prelude.{ℕ, ◌+◌, Bool, true, false, not, ◌&&◌, ◌||◌, nat_lt, nat_eq, if◌then◌else◌, List, [], ◌∷◌, ◌++◌, length, slice_get, Option, Some, None, Ok, Err}
 use Rattle.std.specs.List.{position}
 use Rattle.std.specs.Option.{option_map, option_and_then}
 use Rattle.std.specs.Result.{result_ok}
@@ -19,7 +19,6 @@ use Rattle.sq_tree.specs.declared.names.Indicator.{Indicator}
 use Rattle.sq_tree.specs.declared.names.Parameter.{Parameter}
 use Rattle.sq_meaning.specs.Environment.{Place, same_name}
 use Rattle.sq_meaning.specs.Kind.{function_kind, kind_of_value, product_kind, sum_kind}
-use Rattle.sq_meaning.specs.Placed.{PlacedParameter}
 use Rattle.sq_meaning.specs.Spelled.{Named}
 use Rattle.sq_meaning.specs.Status as status
 use Rattle.sq_meaning.specs.Sure.{is_extreme}
@@ -31,7 +30,6 @@ use Rattle.sq_bound.specs.Expression.{PlacedExpr}
 use Rattle.sq_bound.specs.declared.expression.Operator.{Operator}
 use Rattle.sq_bound.specs.declared.expression.Operator.TheVariants as operator
 use Rattle.sq_rules.specs.Binding.{is_indicator_domain}
-use Rattle.sq_rules.specs.declared.fault.BindingFault.{BindingFault}
 use Rattle.sq_rules.specs.declared.fault.BindingFault.TheVariants as fault
 use Rattle.sq_binding.specs.Findings.{Findings, both, failing, none}
 use Rattle.sq_binding.specs.Numbered.{Numbered, tree_of}

@@ -75,6 +75,16 @@ abbrev pub each : {A B : Type 0} → (A → Binding B) → List A → Binding (L
 each f [] = pure []
 each f (x ∷ xs) = f x >>= λ y. each f xs >>= λ ys. pure (y ∷ ys)
 
+-- the parts of a list that are bound so far, and the next one
+abbrev pub with_next : {A : Type 0} → Found (List A) → Found A → Found (List A)
+with_next x y = record {
+  part = x.part ++ (y.part ∷ []);
+  calls = x.calls ++ y.calls;
+  calls_can_fail = x.calls_can_fail || y.calls_can_fail;
+  findings = both x.findings y.findings;
+  subqueries = y.subqueries;
+}
+
 -- with no set function of the query before it
 abbrev pub from_first : {A : Type 0} → Binding A → Binding A
 from_first b = λ counts. b (record counts { functions = 0 })
