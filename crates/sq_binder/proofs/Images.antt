@@ -12,7 +12,7 @@ use Rattle.sq_bound.specs.declared.expression.Operation.{Operation, fold_out-Ope
 use Rattle.sq_bound.specs.Expression.{place_meant, parameter_meant}
 use Rattle.sq_bound.proofs.ExpressionLaws.{fold_mapped}
 use Rattle.sq_binding.specs.Numbered.{Numbered}
-use Rattle.sq_binder.specs.Bound.{numbered_of, operation_of}
+use Rattle.sq_binding.specs.Seen.{numbered_of, operation_of}
 
 pub numbered_of-Literal : (v : Value) → numbered_of (bound.Literal v) ≡ Numbered.literal v
 unfolding numbered_of

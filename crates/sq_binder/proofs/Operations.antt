@@ -6,7 +6,7 @@ use Rattle.sq_bound.specs.declared.expression.BoundExpr.TheVariants as bound
 use Rattle.sq_bound.specs.declared.expression.Operation.{Operation}
 use Rattle.sq_bound.specs.declared.expression.Operator.{Operator}
 use Rattle.sq_binding.specs.Numbered.{Numbered}
-use Rattle.sq_binder.specs.Bound.{numbered_of, operation_of}
+use Rattle.sq_binding.specs.Seen.{numbered_of, operation_of}
 use Rattle.sq_binder.proofs.Images.{numbered_of-Operations, operation_of-out}
 
 fold_behind : {A B : Type 0} (f : A → B → A) (a : A) (bs : List B) (b : B) → fold f a (bs ++ b ∷ []) ≡ f (fold f a bs) b

@@ -11,7 +11,7 @@ use Rattle.sq_bound.specs.declared.expression.Operation.{Operation, Operation-F,
 use Rattle.sq_bound.specs.declared.expression.SetFunctionCall.{SetFunctionCall}
 use Rattle.sq_bound.specs.declared.expression.SetFunctionCall.TheVariants.{CountRows, Over}
 use Rattle.sq_binding.specs.Numbered.{Numbered, tree_of}
-use Rattle.sq_binder.specs.Bound.{call_of, numbered_of, operation_of}
+use Rattle.sq_binding.specs.Seen.{call_of, numbered_of, operation_of}
 
 abbrev IsSeen : BoundExpr → Type 0
 IsSeen e = (functions : List PlacedExpr) → tree_of functions (numbered_of e) ≡ expr_of functions e

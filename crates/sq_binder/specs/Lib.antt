@@ -1,4 +1,10 @@
 pub mod Binds
 pub mod Bound
 pub mod Expression
+pub mod Found
+pub mod From
 pub mod Scope
+pub mod SelectList
+pub mod Specification
+pub mod Subquery
+pub mod Surroundings

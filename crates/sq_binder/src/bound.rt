@@ -28,7 +28,8 @@ pub struct Bound {
 
 impl Bound {
     ghost use Rattle.sq_binding.specs.Expression.{plain};
-    ghost use Rattle.sq_binder.specs.Bound.{bound_of, findings_of, numbered_of};
+    ghost use Rattle.sq_binding.specs.Seen.{numbered_of};
+    ghost use Rattle.sq_binder.specs.Bound.{bound_of, findings_of};
 
     /// A part without set functions.
     pub fn plain(alloc: Global, expr: BoundExpr, kind: Kind, findings: Findings) -> Bound

@@ -44,7 +44,9 @@ pub fn bind_expr(
     allowed: bool,
     before: usize,
 ) -> ExprResult
-    ensures { Binds bound_of (spec.bound (scopes_in environment.now) (parameters_in environment.now) allowed false (expr_of expr.now) before) result }
+    ensures { Binds bound_of
+        (spec.bound (scopes_in environment.now) (parameters_in environment.now) allowed false
+        (expr_of expr.now) before) result }
 {
     let at = Standing {
         environment,
@@ -55,7 +57,7 @@ pub fn bind_expr(
 }
 
 /// How many set functions of the query stand before what follows a part, where so many stand before that.
-fn number_behind(before: usize, part: &Bound) -> Option<usize>
+pub fn number_behind(before: usize, part: &Bound) -> Option<usize>
     ensures { IfSome result (λ number. number ≡ before + length (bound_of part.now).calls) }
 {
     before.checked_add(part.calls.len())
@@ -168,7 +170,8 @@ fn primary_value(primary: &Primary, at: &Standing<'_>, before: usize) -> ExprRes
 impl<'a> Standing<'a> {
     /// In the operand of a set function, where no further one may stand.
     fn inside(&self) -> Standing<'a>
-        ensures { result ≡ record { environment = self.now.environment; allowed = false; in_function = true } }
+        ensures { result
+            ≡ record { environment = self.now.environment; allowed = false; in_function = true } }
     {
         Standing {
             environment: self.environment,
@@ -191,7 +194,8 @@ fn user_value(alloc: Global) -> Bound
 }
 
 fn column_value(at: &Standing<'_>, reference: &ColumnReference) -> ExprResult
-    ensures { Binds bound_of (spec.column_value (scopes_in at.now.environment.now) at.now.in_function reference.now) result }
+    ensures { Binds bound_of
+        (spec.column_value (scopes_in at.now.environment.now) at.now.in_function reference.now) result }
 {
     let found = at.environment.column(reference)?;
     column_allowed(at.environment.alloc, at.in_function, &found)

@@ -3,12 +3,16 @@
 ghost use Rattle.std.specs.Prelude.{◌≡◌, Ok};
 ghost use Rattle.sq_binding.specs.Expression as spec;
 ghost use Rattle.sq_binding.specs.Findings as findings;
+ghost use Rattle.sq_binding.specs.QueryFindings.{values_of_subquery};
 ghost use Rattle.sq_binder.specs.Binds.{Binds};
 ghost use Rattle.sq_binder.specs.Bound.{findings_of};
 ghost use Rattle.sq_binder.specs.Scope.{found_of};
 
 use crate::column::FoundColumn;
 use crate::stop::Stop;
+
+/// No FROM clause has more items (own rule).
+pub const MOST_ITEMS: usize = 16;
 
 /// What is found in a part.
 #[derive(Clone, Copy)]
@@ -62,6 +66,19 @@ impl Findings {
     {
         Findings {
             can_fail: true,
+            ..self
+        }
+    }
+
+    /// What is found in a subquery, seen from the query around it.
+    pub fn of_subquery(self) -> Findings
+        ensures { findings_of result ≡ values_of_subquery (findings_of self) }
+    {
+        Findings {
+            items: self.outer_items,
+            outer_items: if self.reach > 1 { MOST_ITEMS } else { 0 },
+            reach: self.reach.saturating_sub(1),
+            has_ungrouped: false,
             ..self
         }
     }

@@ -3,7 +3,7 @@
 ghost use Rattle.std.specs.Prelude.{◌≡◌};
 ghost use Rattle.std.specs.Result.{result_ok};
 ghost use Rattle.sq_value.specs.declared.domain.Kind.TheVariants.{Num};
-ghost use Rattle.sq_meaning.specs.WellFormed.{is_text};
+ghost use Rattle.sq_meaning.specs.WellFormed.{is_comparable, is_text};
 ghost use Rattle.sq_rules.specs.declared.fault.BindingFault.TheVariants.{LimitExceeded};
 ghost use Rattle.sq_binding.specs.Expression as spec;
 ghost use Rattle.sq_binding.specs.Outcome.{or_fault};
@@ -22,6 +22,13 @@ pub fn is_text(kind: Kind) -> bool
     matches!(kind, Kind::Chars(_) | Kind::Vary(_))
 }
 
+/// Whether values of the kinds can be compared: both are numbers, or both are texts.
+pub fn are_comparable(left: Kind, right: Kind) -> bool
+    ensures { result ≡ is_comparable left right }
+{
+    is_text(left) == is_text(right)
+}
+
 /// The kind of a sum, difference, product or quotient.
 pub fn operation_kind(operator: Operator, left: Kind, right: Kind) -> Result<Kind, Stop>
     ensures { Binds (λ kind. kind) (spec.kind_operated operator left right) result }
@@ -34,7 +41,8 @@ pub fn operation_kind(operator: Operator, left: Kind, right: Kind) -> Result<Kin
 
 /// The kind of an operation between numbers of these scales.
 fn number_kind(operator: Operator, left: u8, right: u8) -> Result<Kind, Stop>
-    ensures { Binds (λ kind. kind) (or_fault LimitExceeded (result_ok (spec.operated_kind operator (Num left) (Num right)))) result }
+    ensures { Binds (λ kind. kind)
+        (or_fault LimitExceeded (result_ok (spec.operated_kind operator (Num left) (Num right)))) result }
 {
     let greater = left.max(right);
     match operator {

@@ -1,26 +1,45 @@
-//! Binding: what the names of a text mean, and what its value expressions become (ISO/IEC 9075:1992, 6.2 to 6.5 and 6.11 to
-//! 6.13). The program does not use it yet.
+//! Binding: what the names of a text mean, and what its value expressions, search conditions and query specifications become
+//! (ISO/IEC 9075:1992, 6.2 to 6.5, 6.11 to 6.13, 7.3 to 7.9, 7.11 and clause 8). The program does not use it yet.
 //!
 //! Each function has one clause: `Binds image definition result` says that what is answered is what the definition of
-//! `sq_binding` computes, the fault included, or that memory ran out. An image is what the definitions see of a value here: a
-//! bound tree without what is known of its kinds.
+//! `sq_binding` computes, the fault included, or that memory ran out. `Finds` says it of a part of a query, behind the set functions
+//! and subqueries that stand before it. An image is what the definitions see of a value here: a bound tree without what is known of
+//! its kinds.
 #![tactic(auto)]
 
 mod bound;
 mod column;
+mod condition;
 mod expression;
 mod findings;
+mod found;
+mod from;
+mod group;
+mod item_name;
 mod kinds;
 mod literal;
 mod operation;
 mod parameter;
+mod predicate;
+mod query_findings;
 mod scope;
+mod select_list;
 mod set_function;
+mod specification;
 mod stop;
+mod subquery;
+mod surroundings;
+mod typed;
 
 pub use bound::{Bound, ExprResult};
 pub use column::{FoundColumn, ItemColumn};
+pub use condition::{ClauseResult, CondResult, bind_cond, bind_select};
 pub use expression::bind_expr;
 pub use findings::Findings;
+pub use found::{Brought, Counts, Found};
+pub use from::{FromClause, from_clause};
+pub use query_findings::QueryFindings;
 pub use scope::{Environment, FromItem, Scope};
 pub use stop::Stop;
+pub use subquery::SelectResult;
+pub use surroundings::{NamedTable, Surroundings, Tables};

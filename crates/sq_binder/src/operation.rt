@@ -5,7 +5,8 @@ ghost use Rattle.sq_bound.specs.Names.{is_bounded};
 ghost use Rattle.sq_binding.specs.Expression as spec;
 ghost use Rattle.sq_binding.specs.Numbered.{Numbered};
 ghost use Rattle.sq_binder.specs.Binds.{Binds};
-ghost use Rattle.sq_binder.specs.Bound.{bound_of, numbered_of};
+ghost use Rattle.sq_binding.specs.Seen.{numbered_of};
+ghost use Rattle.sq_binder.specs.Bound.{bound_of};
 
 use crate::bound::{Bound, ExprResult};
 use crate::kinds::{is_text, operation_kind};
@@ -119,7 +120,8 @@ fn with_operation(
     operator: Operator,
     operand: BoundExpr,
 ) -> Result<BoundExpr, AllocError>
-    ensures { IfOk result (λ expr. numbered_of expr ≡ Numbered.operation operator (numbered_of left) (numbered_of operand)) }
+    ensures { IfOk result
+        (λ expr. numbered_of expr ≡ Numbered.operation operator (numbered_of left) (numbered_of operand)) }
 {
     let operation = Operation { operator, operand };
     match left {
@@ -138,7 +140,9 @@ fn with_operation(
 /// An operand with its first operation behind it.
 #[tactic(auto, using(crate::proofs::Operations::operation_first))]
 fn begun(alloc: Global, first: BoundExpr, operation: Operation) -> Result<BoundExpr, AllocError>
-    ensures { IfOk result (λ expr. numbered_of expr ≡ Numbered.operation operation.operator (numbered_of first) (numbered_of operation.operand)) }
+    ensures { IfOk result
+        (λ expr. numbered_of expr
+        ≡ Numbered.operation operation.operator (numbered_of first) (numbered_of operation.operand)) }
 {
     let first = match Boxed::new(alloc, first) {
         Ok(first) => first,
@@ -159,7 +163,7 @@ fn begun(alloc: Global, first: BoundExpr, operation: Operation) -> Result<BoundE
 }
 
 /// Two lists one behind the other.
-fn joined<T: Drop>(left: Items<T>, right: Items<T>) -> Result<Items<T>, AllocError>
+pub fn joined<T: Drop>(left: Items<T>, right: Items<T>) -> Result<Items<T>, AllocError>
     ensures { IfOk result (λ all. all ≡ left ++ right) }
 {
     let mut all = left.into_vec();

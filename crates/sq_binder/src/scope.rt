@@ -11,16 +11,17 @@ ghost use Rattle.sq_binder.specs.Scope.{column_of, declared_of, found_at, found_
 
 use crate::column::{FoundColumn, ItemColumn};
 use crate::stop::Stop;
-use sq_bound::{ParameterDesc, Place};
+use sq_bound::{ParameterDesc, Place, TablePlace};
 use sq_items::Items;
 use sq_lex::Name;
 use sq_rules::BindingFault;
 use sq_tree::{ColumnReference, TableName};
 use std::alloc::Global;
 
-/// An item of a FROM clause.
+/// An item of a FROM clause, and where its table stands.
 #[derive(Drop)]
 pub struct FromItem {
+    pub place: TablePlace,
     /// The owner and the name of its table.
     pub user: Name,
     pub name: Name,
@@ -121,7 +122,8 @@ impl Scope<'_> {
 
     /// The column of these numbers, as one that a reference means.
     fn found(&self, item: usize, column: usize) -> Result<FoundColumn, Stop>
-        ensures { Binds found_of (found_at (scope_of self.now) (has_none_around self.now) (item, column)) result }
+        ensures { Binds found_of
+            (found_at (scope_of self.now) (has_none_around self.now) (item, column)) result }
     {
         match self.column_numbered(item, column) {
             Some(column) => Ok(FoundColumn {
@@ -223,6 +225,7 @@ impl<'a> Environment<'a> {
     pub fn within<'s>(&'s self, scope: Scope<'s>) -> Environment<'s>
         ensures scopes { scopes_in result ≡ scopes_of scope.entry }
         ensures parameters { parameters_in result ≡ parameters_in self.now }
+        ensures user { result.user ≡ self.now.user }
     {
         Environment {
             alloc: self.alloc,

@@ -6,7 +6,8 @@ ghost use Rattle.sq_meaning.specs.Sure.{is_extreme};
 ghost use Rattle.sq_bound.specs.Names.{is_bounded};
 ghost use Rattle.sq_binding.specs.Expression as spec;
 ghost use Rattle.sq_binder.specs.Binds.{Binds};
-ghost use Rattle.sq_binder.specs.Bound.{bound_of, call_of};
+ghost use Rattle.sq_binding.specs.Seen.{call_of};
+ghost use Rattle.sq_binder.specs.Bound.{bound_of};
 
 use crate::bound::{Bound, ExprResult};
 use crate::findings::Findings;
@@ -46,7 +47,8 @@ pub fn function_over(
     quantifier: Option<SetQuantifier>,
     operand: Bound,
 ) -> ExprResult
-    ensures { Binds bound_of (spec.function_over allowed number function (is_distinct_word quantifier) (bound_of operand)) result }
+    ensures { Binds bound_of
+        (spec.function_over allowed number function (is_distinct_word quantifier) (bound_of operand)) result }
 {
     if is_misplaced(allowed, operand.findings) {
         drop(operand);
@@ -71,7 +73,9 @@ fn function_call(
     kind: Kind,
 ) -> ExprResult
     requires { is_bounded kind ≡ true }
-    ensures { Binds bound_of (Ok (spec.function_call number function (is_distinct_word quantifier) (bound_of operand) kind)) result }
+    ensures { Binds bound_of
+        (Ok (spec.function_call number function (is_distinct_word quantifier)
+        (bound_of operand) kind)) result }
 {
     let can_fail = call_can_fail(function, operand.findings.can_fail);
     let Bound { expr, calls, .. } = operand;
@@ -135,7 +139,7 @@ fn is_extreme(function: SetFunction) -> bool
 }
 
 /// Whether DISTINCT is written.
-fn is_distinct(quantifier: Option<SetQuantifier>) -> bool
+pub fn is_distinct(quantifier: Option<SetQuantifier>) -> bool
     ensures { result ≡ is_distinct_word quantifier }
 {
     matches!(quantifier, Some(SetQuantifier::Distinct))

@@ -1,0 +1,6 @@
+use Rattle.std.proofs.Common.{refl}
+use Rattle.sq_binding.proofs.SeenLevels.{cond_seen-roll}
+use Rattle.sq_binder.proofs.condition.whole_cond.Goals as goal
+
+pub returns : goal.returns
+returns c = (cond_seen-roll c.args.terms.part, refl)

@@ -1,0 +1,6 @@
+use Rattle.std.proofs.Common.{refl}
+use Rattle.sq_binding.proofs.SeenLevels.{conj_seen-roll}
+use Rattle.sq_binder.proofs.condition.whole_conj.Goals as goal
+
+pub returns : goal.returns
+returns c = (conj_seen-roll c.args.tests.part, refl)

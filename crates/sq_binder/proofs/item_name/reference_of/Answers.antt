@@ -1,0 +1,12 @@
+use Rattle.sq_binder.proofs.ItemNames as names
+use Rattle.std.proofs.Common.{◌≡◌, true, false, ap, sym, ◌∙◌}
+use Rattle.sq_meaning.specs.SortKeys.{item_name}
+use Rattle.sq_binder.proofs.item_name.reference_of.Goals as goal
+
+pub returns-then-is_empty : goal.returns-then-is_empty
+returns-then-is_empty c = ap item_name (names.term_alone c.args.expr.now (c.is_empty.ensures.0 c.if-is_empty.true)) ∙ c.term_reference.ensures
+
+pub returns-else-is_empty : goal.returns-else-is_empty
+returns-else-is_empty c =
+    names.sum_unnamed c.args.expr.now
+    (λ none. let no : false ≡ true = sym c.if-is_empty.false ∙ c.is_empty.ensures.1 none in cc)
