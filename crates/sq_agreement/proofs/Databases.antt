@@ -98,7 +98,7 @@ known_if (Err status) found = None
 abbrev pub known_among : Tables → KnownTables → KnownTables
 known_among tables known user name = known_if (descriptor_of tables (record { user = user; name = name })) (known user name)
 
-among_same : (tables : Tables) (known : KnownTables) (r : TableReference) → HasValue (item_of tables r)
+pub among_same : (tables : Tables) (known : KnownTables) (r : TableReference) → HasValue (item_of tables r)
     → MeansSame known (known_among tables known) r
 among_same tables known r h = by_descriptor (descriptor_of tables r.table) h
   where
@@ -200,7 +200,7 @@ module _ (content : Content) (user : Name) (known : KnownTables) (columns : Tabl
       (h.names, h.kinds, h.kinds_there, same, subst (λ n. IfOk (shown t.place) (AllByRecursion (λ row. length row ≡ n))) count (subst (λ o. IfOk o (AllByRecursion (λ row. length row ≡ length (column_kinds d)))) same wide))
 
   -- what each name means is what the laws of texts ask for
-  fits_before : (earlier : Tables)
+  pub fits_before : (earlier : Tables)
       → ((name : TableName) → IfSome (known_among earlier known name.user name.name) (IsSameTable (descriptor_of earlier name) (table_rows earlier content user name) columns shown))
       → IsFit (before earlier)
   fits_before earlier each = λ name.
@@ -208,6 +208,16 @@ module _ (content : Content) (user : Name) (known : KnownTables) (columns : Tabl
       (IsSameTable (descriptor_of earlier name) (table_rows earlier content user name) columns shown)
       (IsKnownAs (before earlier) name)
       (each name) (λ t a. record { columns = a.0; rows = a.3; widths = a.4 })
+
+  -- and the columns have their kinds
+  pub typed_before : (earlier : Tables)
+      → ((name : TableName) → IfSome (known_among earlier known name.user name.name) (IsSameTable (descriptor_of earlier name) (table_rows earlier content user name) columns shown))
+      → AreTyped (before earlier) columns
+  typed_before earlier each = λ name.
+      some_also (known_among earlier known name.user name.name)
+      (IsSameTable (descriptor_of earlier name) (table_rows earlier content user name) columns shown)
+      (HasKinds (before earlier) columns name)
+      (each name) (λ t a. record { by_name = a.1; by_place = a.2 })
 
   -- each name that is known of these tables means the same
   pub each_same : (tables : Tables) → IsDatabaseOf tables content user → AreDeclared known columns queries content tables

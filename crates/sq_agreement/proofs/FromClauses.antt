@@ -18,6 +18,7 @@ use Rattle.sq_bound.specs.declared.condition.Compared.TheVariants.{Scalar}
 use Rattle.sq_bound.specs.declared.names.ParameterDesc.{ParameterDesc}
 use Rattle.sq_scope.specs.declared.scope.FromItem.{FromItem}
 use Rattle.sq_scope.specs.Expression.{placed, placed_column}
+use Rattle.sq_select.specs.Names.{list_names, names_placed}
 use Rattle.sq_select.specs.Placed.{Around, clause_placed, compared_as, cond_placed, conds_placed, escape_placed, item_over, item_placed, items_of, list_placed, select_placed, tables_of}
 use Rattle.sq_agreement.proofs.Outcomes.{each_of}
 
@@ -106,7 +107,7 @@ module _ (known other : KnownTables) (parameters : List ParameterDesc) where
   list_becomes scopes all_columns = refl
   list_becomes scopes (expressions es) = refl
 
-  item_becomes : (r : TableReference) → MeansSame known other r → item_placed known r ≡ item_placed other r
+  pub item_becomes : (r : TableReference) → MeansSame known other r → item_placed known r ≡ item_placed other r
   item_becomes r same = ap (λ o. well_formed (option_map (item_over r) o)) same
 
   mutual
@@ -150,3 +151,9 @@ module _ (known other : KnownTables) (parameters : List ParameterDesc) where
         and_then (list_becomes (items_of tables ∷ scopes) list i)
         (λ shown. and_then (clause_becomes (items_of tables ∷ scopes) having h.2 i) (λ groups.
         Ok (select distinct (expressions shown) (tables_of tables) kept columns groups)))))))
+
+  -- so have its columns the same names
+  pub names_become : (q : Select Named) → SelectReads (MeansSame known other) q → names_placed known q ≡ names_placed other q
+  names_become (select distinct list from filter by having) h =
+      ap (λ o. and_then o (λ tables. Ok (list_names (items_of tables) list)))
+      (each_of (MeansSame known other) (item_placed known) (item_placed other) item_becomes from h.0)

@@ -30,10 +30,10 @@ use Rattle.sq_agreement.proofs.Stars.{QueryStars}
 
 -- ---- the kinds of the columns
 
-abbrev SameKinds : Setting → TableKinds → Select Named → PlacedSelect → Type 0
+abbrev pub SameKinds : Setting → TableKinds → Select Named → PlacedSelect → Type 0
 SameKinds s columns q t = select_kinds (named_kinds s) [] q ≡ select_kinds (kinds_at_places s columns) [] t
 
-select_kinds_same : (s : Setting) (columns : TableKinds) → IsFit s → AreTyped s columns → (q : Select Named)
+pub select_kinds_same : (s : Setting) (columns : TableKinds) → IsFit s → AreTyped s columns → (q : Select Named)
     → IfOk (select_placed (around s []) q) (SameKinds s columns q)
 select_kinds_same s columns fit typed (select distinct list from filter by having) =
     if_then (each (item_placed s.known) from)

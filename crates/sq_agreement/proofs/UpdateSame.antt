@@ -1,0 +1,208 @@
+-- UPDATE keeps what the states of a session and of the machine are to each other, and ends alike (ISO/IEC 9075:1992, 13.9 and 13.10), where it
+-- comes to the same tables or the same status. Rows keep their numbers; a walk whose conditions read what changes goes on over the
+-- numbers that were left to it, and any other has the same rows.
+use Rattle.std.proofs.Common.{◌≡◌, ℕ, zero, suc, Bool, true, false, cond, List, [], ◌∷◌, drop, filter, map, Option, Some, None, refl, sym, ap, subst, ◌∙◌, eqb-true, Ok, Err}
+use Rattle.std.specs.Prelude.{◌==◌, find, if◌then◌else◌, is_some, nat_eq, slice_set, unwrap_or}
+use Rattle.sq_tree.specs.declared.statement.Update.{Update}
+use Rattle.sq_value.specs.declared.value.Value.{Value}
+use Rattle.sq_store.specs.Content.{Content, table_at, with_table}
+use Rattle.sq_store.specs.declared.table.Numbered.{Numbered}
+use Rattle.sq_store.specs.declared.table.Table.{Table}
+use Rattle.sq_meaning.specs.Spelled.{table_of}
+use Rattle.sq_meaning.specs.Status.{Outcome, and_then, each}
+use Rattle.sq_meaning.specs.Tables.{TableDescriptor, descriptor_of}
+use Rattle.sq_meaning.specs.Target.{Target}
+use Rattle.sq_rules.specs.Schema.{BaseTable}
+use Rattle.sq_model.specs.Change.{Setting, Which, base_at, check_options_met, completed, completed_with, is_numbered, numbers_changed, replaced, rows_at, tables_in, update_outcome, updated_row, which_target, with_replaced}
+use Rattle.sq_model.specs.Constraints.{constraints_checked}
+use Rattle.sq_model.specs.Cursor as machine
+use Rattle.sq_model.specs.Machine.{CursorEntry, Running, change_by, setting, update_rows}
+use Rattle.sq_module.specs.declared.program.DeclaredCursor.{DeclaredCursor}
+use Rattle.sq_session.specs.Cursors.{go_on, goes_on, listed, numbers_left, reads}
+use Rattle.sq_session.specs.Kind.{Updating, conditions_in}
+use Rattle.sq_session.specs.Schemas.{Schemas}
+use Rattle.sq_session.specs.State.{State, is_there, left}
+use Rattle.sq_session.specs.Step.{MayUpdate, UpdateComesTo, walks_listed}
+use Rattle.sq_session.specs.declared.cursor.CursorState.{CursorState}
+use Rattle.sq_session.specs.declared.cursor.CursorState.TheVariants as cursor
+use Rattle.sq_session.specs.declared.cursor.NumbersCursor.{NumbersCursor}
+use Rattle.sq_session.specs.declared.reply.Done.{Done}
+use Rattle.sq_session.specs.declared.walk.WalkingCursor.{WalkingCursor}
+use Rattle.sq_bound.specs.declared.statement.BoundUpdate.{BoundUpdate}
+use Rattle.sq_agreement.proofs.CursorsKept.{stricter}
+use Rattle.sq_agreement.proofs.DeleteSame.{change_same}
+use Rattle.sq_agreement.proofs.NumbersLeft.{SameNumbers}
+use Rattle.sq_agreement.proofs.SameCursors.{AreSame}
+use Rattle.sq_agreement.proofs.SameStates.{SameCursor, SameReply, SameStates}
+use Rattle.sq_agreement.proofs.WalkLeft.{SameWalk}
+
+-- ---- rows keep their numbers
+
+number_kept : (changed : List Numbered) (r : Numbered) → (replaced changed r).number ≡ r.number
+number_kept [] r = refl
+number_kept (c ∷ changed) r = by_test (c.number == r.number) refl (number_kept changed r)
+  where
+    by_test : (b : Bool) → (c.number == r.number) ≡ b → (replaced changed r).number ≡ r.number
+        → (unwrap_or (cond b (Some c) (find (λ x. x.number == r.number) changed)) r).number ≡ r.number
+    by_test true is others = eqb-true c.number r.number is
+    by_test false is others = others
+
+there_kept : (changed : List Numbered) (n : ℕ) (rows : List Numbered)
+    → is_some (find (λ r. nat_eq r.number n) (map (replaced changed) rows)) ≡ is_some (find (λ r. nat_eq r.number n) rows)
+there_kept changed n [] = refl
+there_kept changed n (r ∷ rows) =
+    ap (λ k. is_some (cond (nat_eq k n) (Some (replaced changed r)) (find (λ x. nat_eq x.number n) (map (replaced changed) rows)))) (number_kept changed r)
+    ∙ by_test (nat_eq r.number n) (there_kept changed n rows)
+  where
+    by_test : (b : Bool)
+        → is_some (find (λ x. nat_eq x.number n) (map (replaced changed) rows)) ≡ is_some (find (λ x. nat_eq x.number n) rows)
+        → is_some (cond b (Some (replaced changed r)) (find (λ x. nat_eq x.number n) (map (replaced changed) rows)))
+        ≡ is_some (cond b (Some r) (find (λ x. nat_eq x.number n) rows))
+    by_test true e = refl
+    by_test false e = e
+
+-- ---- what UPDATE comes to
+
+pub record IsReplaced (before after : Content) : Type 0 where
+  pub place : ℕ
+  pub changed : List Numbered
+  pub is : after ≡ with_table before place (with_replaced (table_at before place) changed)
+
+updated_is : (m : Setting) (u : Update) (which : Which) (after : Content) → update_outcome m u which ≡ Ok after
+    → IsReplaced m.content after
+updated_is m u which after e = by_descriptor (descriptor_of (tables_in m) (table_of m.user u.table)) e
+  where
+    by_checks : (target : Target) (changed : List Numbered) (checked : Outcome (Unit {0}))
+        → and_then checked (λ _. Ok (with_table m.content target.place (with_replaced (table_at m.content target.place) changed))) ≡ Ok after
+        → IsReplaced m.content after
+    by_checks target changed (Ok done) e =
+        let same : with_table m.content target.place (with_replaced (table_at m.content target.place) changed) ≡ after = cc in
+        record { place = target.place; changed = changed; is = sym same }
+    by_checks target changed (Err st) e = cc
+
+    by_options : (target : Target) (t : BaseTable) (changed : List Numbered) (met : Outcome (Unit {0}))
+        → and_then met (λ _. completed_with m t (with_table m.content target.place (with_replaced (table_at m.content target.place) changed))) ≡ Ok after
+        → IsReplaced m.content after
+    by_options target t changed (Ok done) e =
+        by_checks target changed (constraints_checked m.elements t (with_table m.content target.place (with_replaced (table_at m.content target.place) changed))) e
+    by_options target t changed (Err st) e = cc
+
+    by_rows : (target : Target) (t : BaseTable) (changed : Outcome (List Numbered))
+        → and_then changed (λ rows. completed m target t (map (λ r. r.row) rows) (with_replaced (table_at m.content target.place) rows)) ≡ Ok after
+        → IsReplaced m.content after
+    by_rows target t (Ok rows) e = by_options target t rows (check_options_met m target (map (λ r. r.row) rows)) e
+    by_rows target t (Err st) e = cc
+
+    by_numbers : (d : TableDescriptor) (target : Target) (t : BaseTable) (numbers : Outcome (List ℕ))
+        → and_then numbers (λ ns. and_then (each (updated_row m d target t u) (filter (is_numbered ns) (rows_at m target.place))) (λ rows. completed m target t (map (λ r. r.row) rows) (with_replaced (table_at m.content target.place) rows))) ≡ Ok after
+        → IsReplaced m.content after
+    by_numbers d target t (Ok ns) e = by_rows target t (each (updated_row m d target t u) (filter (is_numbered ns) (rows_at m target.place))) e
+    by_numbers d target t (Err st) e = cc
+
+    by_base : (d : TableDescriptor) (target : Target) (t : Outcome BaseTable)
+        → and_then t (λ b. and_then (numbers_changed m target which) (λ ns. and_then (each (updated_row m d target b u) (filter (is_numbered ns) (rows_at m target.place))) (λ rows. completed m target b (map (λ r. r.row) rows) (with_replaced (table_at m.content target.place) rows)))) ≡ Ok after
+        → IsReplaced m.content after
+    by_base d target (Ok b) e = by_numbers d target b (numbers_changed m target which) e
+    by_base d target (Err st) e = cc
+
+    by_target : (d : TableDescriptor) (target : Outcome Target)
+        → and_then target (λ s. and_then (base_at m s.place) (λ b. and_then (numbers_changed m s which) (λ ns. and_then (each (updated_row m d s b u) (filter (is_numbered ns) (rows_at m s.place))) (λ rows. completed m s b (map (λ r. r.row) rows) (with_replaced (table_at m.content s.place) rows))))) ≡ Ok after
+        → IsReplaced m.content after
+    by_target d (Ok s) e = by_base d s (base_at m s.place) e
+    by_target d (Err st) e = cc
+
+    by_descriptor : (d : Outcome TableDescriptor)
+        → and_then d (λ x. and_then (which_target m (table_of m.user u.table) which) (λ s. and_then (base_at m s.place) (λ b. and_then (numbers_changed m s which) (λ ns. and_then (each (updated_row m x s b u) (filter (is_numbered ns) (rows_at m s.place))) (λ rows. completed m s b (map (λ r. r.row) rows) (with_replaced (table_at m.content s.place) rows)))))) ≡ Ok after
+        → IsReplaced m.content after
+    by_descriptor (Ok d) e = by_target d (which_target m (table_of m.user u.table) which) e
+    by_descriptor (Err st) e = cc
+
+-- the rows that are there under each number are there afterwards
+there_at : (content : Content) (place : ℕ) (changed : List Numbered) (k n : ℕ)
+    → is_there (table_at (slice_set content place (with_replaced (table_at content place) changed)) k) n ≡ is_there (table_at content k) n
+there_at [] place changed k n = refl
+there_at (t ∷ content) zero changed zero n = there_kept changed n t.rows
+there_at (t ∷ content) zero changed (suc k) n = refl
+there_at (t ∷ content) (suc place) changed zero n = refl
+there_at (t ∷ content) (suc place) changed (suc k) n = there_at content place changed k n
+
+-- ---- cursors
+
+filters_alike : (p q : ℕ → Bool) → ((n : ℕ) → q n ≡ p n) → (xs : List ℕ) → filter q xs ≡ filter p xs
+filters_alike p q h [] = refl
+filters_alike p q h (x ∷ xs) = (λ i. cond (h x i) (x ∷ filters_alike p q h xs i) (filters_alike p q h xs i))
+
+all_left : {A : Type 0} (xs : List A) → drop 0 xs ≡ xs
+all_left [] = refl
+all_left (x ∷ xs) = refl
+
+-- where a walk's conditions read nothing that changes, it has the same rows
+abbrev pub SameRows : BoundUpdate → Content → Content → Type 0
+SameRows u before after = (d : DeclaredCursor) (c : WalkingCursor) → reads u d c ≡ false
+    → numbers_left d before c ≡ numbers_left d after c
+
+module _ (before after : Content) (u : BoundUpdate)
+    (there : (k n : ℕ) → is_there (table_at after k) n ≡ is_there (table_at before k) n) (unread : SameRows u before after) where
+  alike : (k : ℕ) (xs : List ℕ) → filter (is_there (table_at after k)) xs ≡ filter (is_there (table_at before k)) xs
+  alike k xs = filters_alike (is_there (table_at before k)) (is_there (table_at after k)) (there k) xs
+
+  numbers_stay : (c : NumbersCursor) (x : machine.CursorState) → SameNumbers (table_at before c.table) c x → SameNumbers (table_at after c.table) c x
+  numbers_stay c x h = record { numbers = h.numbers; is = h.is; same = alike c.table h.numbers ∙ h.same ∙ sym (alike c.table (left c)) }
+
+  walk_stays : (d : DeclaredCursor) (c : WalkingCursor) (x : machine.CursorState)
+      → SameWalk (conditions_in d.cursor.body) d.user (table_at before c.table) c x → (b : Bool) → reads u d c ≡ b
+      → SameCursor after d (if b then cursor.Numbers (listed d before c) else cursor.Walking c) x
+  walk_stays d c x h false is =
+      record { numbers = h.numbers; is = h.is; same = alike c.table h.numbers ∙ h.same ∙ unread d c is }
+  walk_stays d c x h true is = record {
+    numbers = h.numbers;
+    is = h.is;
+    same =
+        alike c.table h.numbers
+        ∙ stricter (is_there (table_at before c.table)) (is_there (table_at before c.table)) (λ n e. e) h.numbers
+        ∙ ap (filter (is_there (table_at before c.table))) (h.same ∙ sym (all_left (numbers_left d before c)))
+        ∙ sym (alike c.table (left (listed d before c)));
+  }
+
+  cursor_stays : (d : DeclaredCursor) (c : CursorState) (x : machine.CursorState) → SameCursor before d c x
+      → SameCursor after d (goes_on u before d c) x
+  cursor_stays d cursor.Closed x h = h
+  cursor_stays d (cursor.Rows c) x h = h
+  cursor_stays d (cursor.Numbers c) x h = numbers_stay c x h
+  cursor_stays d (cursor.Walking c) x h = walk_stays d c x h (reads u d c) refl
+
+  pub cursors_stay : (ds : List DeclaredCursor) (cs : List CursorState) (es : List CursorEntry)
+      → AreSame (SameCursor before) ds cs es → AreSame (SameCursor after) ds (go_on u before ds cs) es
+  cursors_stay [] [] [] h = tt
+  cursors_stay (d ∷ ds) (c ∷ cs) (e ∷ es) h = (cursor_stays d c e.state h.0, cursors_stay ds cs es h.1)
+  cursors_stay _ _ _ h = absurd h
+
+-- ---- the statement
+
+module _ (s : State) (r : Running) (u : Updating) (same : SameStates u.cursors s r.state) where
+  rows_replaced : (x : Update) (which : Which) (content : Content) → SameRows u.statement s.tables content
+      → update_outcome (setting r) x which ≡ Ok content
+      → SameStates u.cursors (record (walks_listed u s) { tables = content }) (record r.state { tables = content })
+  rows_replaced x which content unread e =
+      let replaced_in = updated_is (setting r) x which content e in
+      record {
+        tables = refl;
+        committed = same.committed;
+        cursors =
+            cursors_stay s.tables content u.statement
+            (λ k n. ap (λ (c : Content). is_there (table_at c k) n) (replaced_in.is ∙ (λ i. with_table (same.tables i) replaced_in.place (with_replaced (table_at (same.tables i) replaced_in.place) replaced_in.changed)))
+            ∙ there_at s.tables replaced_in.place replaced_in.changed k n)
+            unread u.cursors s.cursors r.state.cursors same.cursors;
+      }
+
+  -- UPDATE keeps what the states are to each other, and ends alike, where walks that read nothing of it have the same rows.
+  pub update_same : (x : Update) (which : Which) → update_rows r x ≡ update_outcome (setting r) x which → (schemas : Schemas)
+      (values : List Value) (on : Option ℕ)
+      → ((done : Outcome Content) → UpdateComesTo schemas u values on s.tables done → done ≡ update_outcome (setting r) x which)
+      → ((content : Content) → update_outcome (setting r) x which ≡ Ok content → SameRows u.statement s.tables content)
+      → (d : Done) (after : State) → MayUpdate schemas u values on s d after
+      → SameStates u.cursors after (change_by r r.state (update_rows r x)).0 × SameReply d (change_by r r.state (update_rows r x)).1
+  update_same x which rows_are schemas values on alike_done unread d after h =
+      subst (λ o. SameStates u.cursors after (change_by r r.state o).0 × SameReply d (change_by r r.state o).1) (sym rows_are)
+      (change_same u.cursors s r same (walks_listed u s) r.state h.0 (update_outcome (setting r) x which) (alike_done h.0 h.1)
+      (λ content is. rows_replaced x which content (unread content is) is) d after h.2)
