@@ -46,10 +46,11 @@ impl<S: Store> Store for Counted<S> {
     fn new(
         alloc: Global,
         keys: &[Vec<Vec<usize>>],
+        lookups: &[Vec<Vec<usize>>],
         greatest: u64,
     ) -> Result<Counted<S>, AllocError> {
         let count = Rc::new(alloc, Cell::new(0))?;
-        match S::new(alloc, keys, greatest) {
+        match S::new(alloc, keys, lookups, greatest) {
             Ok(store) => Ok(Counted { store, count }),
             Err(error) => {
                 drop(count);
@@ -88,6 +89,10 @@ impl<S: Store> Store for Counted<S> {
         let found = self.store.find_key(table, key, values, meter);
         self.hand_out(found.is_some());
         found
+    }
+
+    fn has_row(&self, table: usize, columns: &[usize], values: &Key) -> bool {
+        self.store.has_row(table, columns, values)
     }
 
     fn next_number(&self, table: usize) -> u64 {

@@ -90,7 +90,7 @@ pub rows_refer_by : (b : BaseTable) (i : ℕ) (r : Reference) (rows : List Numbe
     → list_all (λ q. has_columns r.by_key q.row) rows ≡ true
 rows_refer_by b i r rows w lt e = rows_have (length b.columns) r.by_key rows (referencing_of b i r lt e) w
 
-row_has_keys : (n : ℕ) (keys : Keys) (row : List Value) → list_all (are_positions n) keys ≡ true → nat_eq (length row) n ≡ true → has_keys keys row ≡ true
+pub row_has_keys : (n : ℕ) (keys : Keys) (row : List Value) → list_all (are_positions n) keys ≡ true → nat_eq (length row) n ≡ true → has_keys keys row ≡ true
 row_has_keys n keys row h k = let e : length row ≡ n = grind (arith, common_steps) in subst (λ (m : ℕ). list_all (λ columns. list_all (λ c. nat_lt c m) columns) keys ≡ true) (sym e) h
 
 rows_have_keys : (n : ℕ) (keys : Keys) (rows : List (List Value)) → list_all (are_positions n) keys ≡ true → are_wide n rows ≡ true → list_all (has_keys keys) rows ≡ true

@@ -31,7 +31,7 @@ use Rattle.sq_change.proofs.Among.{found_there, first_or_later, first_there, is_
 put_is : (number : ℕ) (row : List Value) (r : Numbered) → nat_eq r.number number ≡ true → put number row r ≡ record { number = number; row = row }
 put_is number row r e = rw e refl
 
-put_not : (number : ℕ) (row : List Value) (r : Numbered) → nat_eq r.number number ≡ false → put number row r ≡ r
+pub put_not : (number : ℕ) (row : List Value) (r : Numbered) → nat_eq r.number number ≡ false → put number row r ≡ r
 put_not number row r e = rw e refl
 
 pub old_or_put : (changes : List Change) (t : Table) (r : Numbered) → Contains (changed_by t changes).rows r → Contains t.rows r ⊎ Contains (rows_put changes) r.row

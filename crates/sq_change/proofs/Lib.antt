@@ -7,14 +7,16 @@ pub mod Defaults
 pub mod Domains
 pub mod Endings
 pub mod Fitting
+pub mod Gathered
 pub mod GivenRows
 pub mod Held
 pub mod InTurn
-pub mod KeyedChange
 pub mod KeptKeys
 pub mod KeptRest
 pub mod KeptValues
+pub mod KeyedChange
 pub mod LostKeys
+pub mod LostValues
 pub mod Made
 pub mod Obeyed
 pub mod OnRows
@@ -22,8 +24,8 @@ pub mod Outcomes
 pub mod Performed
 pub mod ReferencesKept
 pub mod Referred
+pub mod RowsChanged
 pub mod RowTests
 pub mod Storable
 pub mod Stored
 pub mod Updated
-pub mod WalkMet

@@ -1,9 +1,8 @@
 -- The rows that rows refer to, and the references that they meet (ISO/IEC 9075:1992, 11.8).
-use Rattle.std.proofs.Common.{◌≡◌, ℕ, ◌+◌, ◌<◌, ◌≤◌, Bool, true, false, ◌||◌, not, nat_eq, if◌then◌else◌, List, [], ◌∷◌, ◌++◌, length, drop, get_or, Option, None, Some, refl, sym, ap, ◌∙◌, append_assoc, append-nil}
+use Rattle.std.proofs.Common.{◌≡◌, ℕ, ◌+◌, ◌<◌, ◌≤◌, Bool, true, false, ◌||◌, if◌then◌else◌, List, [], ◌∷◌, ◌++◌, length, drop, get_or, Option, None, Some, refl, sym, ap, ◌∙◌, append_assoc, append-nil}
 use Rattle.std.specs.Prelude.{Vec}
 use Rattle.std.specs.declared.alloc.Global.{Global}
-use Rattle.std.specs.List.{enumerate_from, flat_map, list_all}
-use Rattle.std.proofs.Math.Bool.{and-false}
+use Rattle.std.specs.List.{flat_map}
 use Rattle.std.proofs.Math.ListN.{drop_of_length-le}
 use Rattle.sq_value.specs.Key.{in_columns}
 use Rattle.sq_value.specs.declared.value.Value.{Value}
@@ -13,13 +12,10 @@ use Rattle.sq_store.specs.Content.{Content}
 use Rattle.sq_store.specs.Keys.{Keys}
 use Rattle.sq_meaning.specs.Environment.{Row}
 use Rattle.sq_model.specs.Constraints.{has_null}
-use Rattle.sq_bound.specs.Fits.{keys_of_bases}
-use Rattle.sq_bound.specs.declared.names.BaseTable.{BaseTable}
 use Rattle.sq_bound.specs.declared.names.Reference.{Reference}
-use Rattle.sq_change.specs.Constraints.{is_met_in, reference_met_in}
-use Rattle.sq_change.specs.Reference.{is_row_there, lost_are_met, lost_met_in, referred, referred_by, refers_to_lost, values_referred}
+use Rattle.sq_change.specs.Constraints.{is_met_in}
+use Rattle.sq_change.specs.Reference.{is_row_there, referred, referred_by, values_in}
 use Rattle.sq_change.specs.declared.reference.Referenced.{Referenced}
-use Rattle.sq_change.proofs.AllMet.{each_meets}
 use Rattle.sq_change.proofs.AllSatisfied.{left_at}
 use Rattle.sq_change.proofs.Applied.{put_apart}
 
@@ -39,7 +35,7 @@ asks_none_if : (b : Bool) (key : Row) → (if b then None else Some key) ≡ Non
 asks_none_if true key h = refl
 asks_none_if false key h = absurd cc
 
-module _ (row : Row) (r : Reference) (found : Option Row) (is : found ≡ values_referred row r) where
+module _ (row : Row) (r : Reference) (found : Option Row) (is : found ≡ values_in row r.by_key) where
   asks : (values : Row) → found ≡ Some values → (has_null (in_columns row r.by_key) ≡ false) × (in_columns row r.by_key ≡ values)
   asks values h = asks_if (has_null (in_columns row r.by_key)) (in_columns row r.by_key) values (sym is ∙ h)
 
@@ -78,7 +74,7 @@ module _ (row : Row) (references : List Reference) (before : List Referenced) wh
   ReferredTo i done = done ++ flat_map (referred row) (drop i references) ≡ before ++ flat_map (referred row) references
 
   module _ (done : Vec Referenced Global) (i : ℕ) (r : Reference) (within : i < length references) (at : r ≡ get_or references i r) (so_far : ReferredTo i done.items)
-      (found : Option Row) (is : found ≡ values_referred row r) (next : Vec Referenced Global) where
+      (found : Option Row) (is : found ≡ values_in row r.by_key) (next : Vec Referenced Global) where
     grown : next.items ≡ done.items ++ referred row r → ReferredTo (i + 1) next.items
     grown more =
         joined done.items next.items (referred row r) (flat_map (referred row) (drop (i + 1) references)) (flat_map (referred row) (drop i references))
@@ -122,33 +118,3 @@ module _ (references : List Reference) (changes : List Change) where
   pub all_put_referred : (done : List Referenced) (i : ℕ) → length changes ≤ i → PutTo i done → done ≡ referred_by references (rows_put changes)
   all_put_referred done i past so_far =
       sym (append-nil done) ∙ ap (λ (cs : List Change). done ++ referred_by references (rows_put cs)) (sym (drop_of_length-le changes past)) ∙ so_far
-
--- ---- references to keys in which values are lost
-
-module _ (keys : List Keys) (content : Content) (table : ℕ) (lost : List ℕ) (place : ℕ) (r : Reference) where
-  by_test : (b : Bool) → refers_to_lost table lost r ≡ b → lost_met_in keys content table lost place r ≡ (not b || reference_met_in keys content place r)
-  by_test b h = ap (λ (t : Bool). not t || reference_met_in keys content place r) h
-
-  module _ (answer : Bool) (is : answer ≡ refers_to_lost table lost r) where
-    -- a reference to something else
-    pub not_to_lost : answer ≡ false → lost_met_in keys content table lost place r ≡ true
-    not_to_lost h = by_test false (sym is ∙ h)
-
-    pub to_lost : answer ≡ true → lost_met_in keys content table lost place r ≡ reference_met_in keys content place r
-    to_lost h = by_test true (sym is ∙ h)
-
--- those of the table at a place
-abbrev pub table_met_in : List Keys → Content → ℕ → List ℕ → ℕ × BaseTable → Bool
-table_met_in keys content table lost p = list_all (lost_met_in keys content table lost p.0) p.1.references
-
-module _ (bases : List BaseTable) (keys : List Keys) (content : Content) (table : ℕ) (lost : List ℕ) (same : keys ≡ keys_of_bases bases) where
-  pub of_all_tables : list_all (table_met_in keys content table lost) (enumerate_from 0 bases) ≡ lost_are_met bases content table lost
-  of_all_tables = ap (λ (ks : List Keys). list_all (table_met_in ks content table lost) (enumerate_from 0 bases)) same
-
--- no key has lost any
-pub none_lost : (bases : List BaseTable) (content : Content) (table : ℕ) (lost : List ℕ) → lost ≡ [] → lost_are_met bases content table lost ≡ true
-none_lost bases content table lost none =
-    ap (λ (ks : List ℕ). lost_are_met bases content table ks) none
-    ∙ each_meets (table_met_in (keys_of_bases bases) content table [])
-    (λ p. each_meets (lost_met_in (keys_of_bases bases) content table [] p.0) (λ r. by_test (keys_of_bases bases) content table [] p.0 r false (and-false (nat_eq r.table table))) p.1.references)
-    (enumerate_from 0 bases)

@@ -1,5 +1,6 @@
 -- What a statement is going to change, by its kind.
 use Rattle.std.specs.Prelude.{◌≡◌, ℕ, Bool, true, false, List, [], ◌∷◌, length, map, nat_eq, Option, Ok, Vec}
+use Rattle.std.specs.Borrow.{Bor}
 use Rattle.std.specs.List.{AllByRecursion, AllZip, Any, list_all}
 use Rattle.std.specs.declared.alloc.Global.{Global}
 use Rattle.sq_value.specs.declared.domain.Kind.{Kind}
@@ -22,6 +23,10 @@ use Rattle.sq_change.specs.Made.{Seen, Shown, rows_updated}
 use Rattle.sq_change.specs.Reference.{KeepsKeys}
 use Rattle.sq_change.specs.Statement.{Chosen, base_of}
 use Rattle.sq_change.specs.declared.complete.Changed.{Changed}
+
+-- the numbers of rows that a statement is going to change
+abbrev pub numbers_with : Vec (ℕ × Bor (List Value)) Global → List ℕ
+numbers_with rows = map (λ found. found.0) rows.items
 
 -- the rows that changes put in a table
 abbrev pub new_rows_in : Vec Change Global → List (List Value)

@@ -1,6 +1,6 @@
 -- Keys to which references are, and the rows that are referred to (ISO/IEC 9075:1992, 11.8).
-use Rattle.std.specs.Prelude.{◌≡◌, ℕ, Bool, true, false, ◌&&◌, ◌||◌, not, nat_eq, nat_lt, if◌then◌else◌, is_some, slice_get, Option, None, Some, flat_map, List, [], ◌∷◌, length, ◌<◌}
-use Rattle.std.specs.List.{enumerate_from, list_all, list_any}
+use Rattle.std.specs.Prelude.{◌≡◌, ℕ, Bool, true, false, nat_eq, nat_lt, if◌then◌else◌, is_some, slice_get, Option, None, Some, flat_map, List, [], ◌∷◌, length, ◌<◌}
+use Rattle.std.specs.List.{list_all, list_any}
 use Rattle.sq_value.specs.Key.{in_columns}
 use Rattle.sq_value.specs.declared.value.Value.{Value}
 use Rattle.sq_store.specs.Content.{Content, table_at}
@@ -8,11 +8,8 @@ use Rattle.sq_store.specs.Keys.{Keys, key_at, keys_at, with_key}
 use Rattle.sq_store.specs.declared.table.Table.{Table}
 use Rattle.sq_meaning.specs.Environment.{Row}
 use Rattle.sq_model.specs.Constraints.{has_null}
-use Rattle.sq_bound.specs.Fits.{keys_of_bases}
-use Rattle.sq_bound.specs.declared.names.BaseTable.{BaseTable}
 use Rattle.sq_bound.specs.declared.names.Reference.{Reference}
 use Rattle.sq_bound.specs.declared.statement.BoundAssignment.{BoundAssignment}
-use Rattle.sq_change.specs.Constraints.{reference_met_in}
 use Rattle.sq_change.specs.declared.reference.Referenced.{Referenced}
 
 -- a table has a key of this number
@@ -41,31 +38,15 @@ referred row r = if has_null (in_columns row r.by_key) then [] else record { tab
 abbrev pub referred_by : List Reference → List Row → List Referenced
 referred_by references rows = flat_map (λ row. flat_map (referred row) references) rows
 
--- the values by which a row asks for another one: none where a referencing column is null
-abbrev pub values_referred : Row → Reference → Option Row
-values_referred row r = if has_null (in_columns row r.by_key) then None else Some (in_columns row r.by_key)
+-- the values of a row in some columns: none where one is null
+abbrev pub values_in : Row → List ℕ → Option Row
+values_in row columns = if has_null (in_columns row columns) then None else Some (in_columns row columns)
 
 abbrev pub is_row_there : List Keys → Content → Referenced → Bool
 is_row_there keys content r = is_some (with_key (table_at content r.table) (key_at keys r.table r.key) r.values)
 
 abbrev pub are_rows_there : List Keys → Content → List Referenced → Bool
 are_rows_there keys content rows = list_all (is_row_there keys content) rows
-
--- ---- keys in which rows may have lost their values
-
-abbrev pub refers_to_lost : ℕ → List ℕ → Reference → Bool
-refers_to_lost table lost r = nat_eq r.table table && list_any (nat_eq r.key) lost
-
--- every reference to one of these keys of a table is met
-abbrev pub lost_are_met : List BaseTable → Content → ℕ → List ℕ → Bool
-lost_are_met bases content table lost =
-    list_all (λ p. list_all (λ r. not (refers_to_lost table lost r) || reference_met_in (keys_of_bases bases) content p.0 r) p.1.references) (enumerate_from 0 bases)
-
--- ---- the same over the keys of a store
-
--- every row of the table at a place meets its reference, or that is to none of these keys of a table
-abbrev pub lost_met_in : List Keys → Content → ℕ → List ℕ → ℕ → Reference → Bool
-lost_met_in keys content table lost place r = not (refers_to_lost table lost r) || reference_met_in keys content place r
 
 -- ---- keys that lose nothing
 

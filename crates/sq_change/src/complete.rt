@@ -18,10 +18,11 @@ ghost use Rattle.sq_query.specs.MayRead.{MayEnd, MayRead};
 ghost use Rattle.sq_change.specs.Changed.{AreRowsPut, KeepsRest, are_wide};
 ghost use Rattle.sq_change.specs.Constraints.{completed, constraints_hold, rows_met};
 ghost use Rattle.sq_change.specs.Made.{Shown, seen_by};
+ghost use Rattle.sq_change.specs.Lost.{lost_by, referred_keys};
 ghost use Rattle.sq_change.specs.Reference.{are_of_keys, referred_by};
 
 use crate::constraint::{check_options_met, rows_satisfied};
-use crate::reference::{Referenced, referenced_by, references_satisfied};
+use crate::reference::{Asked, asked_by, references_satisfied};
 use crate::setting::Setting;
 use sq_bound::{Leaf, Names};
 use sq_expression::{Failure, Fault};
@@ -88,8 +89,8 @@ pub(crate) fn complete<N: Names, S: Store>(
 {
     let table = leaf.table.get();
     let setting = Setting::new(alloc, names, &*store, user, parameters);
-    let referenced = match rows_admitted(&setting, leaf, &changed) {
-        Ok(referenced) => referenced,
+    let asked = match rows_admitted(&setting, leaf, &changed) {
+        Ok(asked) => asked,
         Err(fault) => {
             drop(changed);
             return Err(fault);
@@ -100,23 +101,24 @@ pub(crate) fn complete<N: Names, S: Store>(
         lost_keys,
         ..
     } = changed;
+    drop(lost_keys);
     apply(alloc, store, table.place, changes)?;
-    let referenced = referenced.as_slice();
-    let lost_keys = lost_keys.as_slice();
-    let satisfied = references_satisfied(alloc, names, store, referenced, table.place, lost_keys);
+    let satisfied = references_satisfied(names, store, table.place, &asked);
     if satisfied.is_err() {
         store.take_back();
     }
     satisfied
 }
 
-/// Tests the rows that are put in a table against check options and constraints on one row, and gives the rows to
-/// which they refer.
+/// Tests the rows that are put in a table against check options and constraints on one row, and gives what has to be asked
+/// of references afterwards.
 fn rows_admitted<N: Names, S: Store>(
     setting: &Setting<'_, N, S>,
     leaf: &Leaf,
     changed: &Changed,
-) -> Result<Vec<Referenced>, Fault>
+) -> Result<Asked, Fault>
+    requires tables { holds (N.base_tables setting.now.names.now) (S.content_now setting.now.store.now)
+        ≡ true }
     requires keys { S.key_columns setting.now.store.now
         ≡ keys_of_bases (N.base_tables setting.now.names.now) }
     requires there { BasesAreThere (N.base_tables setting.now.names.now)
@@ -125,11 +127,15 @@ fn rows_admitted<N: Names, S: Store>(
     requires base { IsBase (N.base_tables setting.now.names.now) leaf.now.table }
     requires wide { are_wide (length leaf.now.table.columns) (rows_put changed.now.changes.items) ≡ true }
     ensures known { IfOk result
-        (λ referenced. are_of_keys (S.key_columns setting.now.store.now) referenced.items ≡ true) }
+        (λ asked. are_of_keys (S.key_columns setting.now.store.now) asked.referenced.items ≡ true) }
     ensures values { IfOk result
-        (λ referenced. list_all (has_its_values leaf.now.table) (rows_put changed.now.changes.items) ≡ true) }
-    ensures list { IfOk result (λ referenced. referenced.items ≡ referred_by leaf.now.table.references
+        (λ asked. list_all (has_its_values leaf.now.table) (rows_put changed.now.changes.items) ≡ true) }
+    ensures list { IfOk result (λ asked. asked.referenced.items ≡ referred_by leaf.now.table.references
         (rows_put changed.now.changes.items)) }
+    ensures lost { IfOk result (λ asked. asked.lost.items
+        ≡ lost_by (table_at (S.content_now setting.now.store.now) leaf.now.table.place) leaf.now.table.keys
+        (referred_keys (N.base_tables setting.now.names.now) leaf.now.table.place
+        changed.now.lost_keys.items) changed.now.changes.items) }
     ensures met { let seen = seen_by (N.view_queries setting.now.names.now)
         (S.content_now setting.now.store.now) setting.now.user
         setting.now.parameters.now in (parameters : List Kind) (shown : Shown)
@@ -137,7 +143,7 @@ fn rows_admitted<N: Names, S: Store>(
         (N.column_kinds setting.now.names.now)
         (S.content_now setting.now.store.now) setting.now.user setting.now.parameters.now parameters shown
         → AreRowsPut leaf.now.table.columns changed.now.changes.items
-        → MeetsAs (λ referenced. tt) result
+        → MeetsAs (λ asked. tt) result
         (rows_met shown seen leaf.now (rows_put changed.now.changes.items)) }
     ensures right { (parameters : List Kind) (tables : TablePlace → Outcome (List (List AnyValue)))
         → MayRead (N.base_tables setting.now.names.now) (N.view_queries setting.now.names.now)
@@ -149,7 +155,7 @@ fn rows_admitted<N: Names, S: Store>(
     let table = leaf.table.get();
     check_options_met(setting, leaf, changes)?;
     rows_satisfied(setting, table, changes)?;
-    referenced_by(setting, table, changes)
+    asked_by(setting, table, changes, changed.lost_keys.as_slice())
 }
 
 /// Makes changes in the store, where no two rows have the same key afterwards.

@@ -9,6 +9,7 @@
 mod complete;
 mod constraint;
 mod given;
+mod lost;
 mod reference;
 mod row;
 mod setting;

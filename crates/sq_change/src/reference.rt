@@ -1,26 +1,24 @@
 //! References between tables after a change (ISO/IEC 9075:1992, 11.8).
 
-ghost use Rattle.std.specs.Prelude.{◌≡◌, ◌<◌, ◌&&◌, ◌++◌, true, length, flat_map, IfErr, IfOk, OnOk};
-ghost use Rattle.std.specs.List.{list_all};
+ghost use Rattle.std.specs.Prelude.{◌≡◌, ◌&&◌, ◌++◌, true, length, flat_map, IfErr, IfOk, OnOk};
 ghost use Rattle.sq_store.specs.Change.{rows_put};
 ghost use Rattle.sq_store.specs.Content.{table_at};
-ghost use Rattle.sq_store.specs.Keys.{has_columns};
 ghost use Rattle.sq_meaning.specs.declared.status.Status.TheVariants.{IntegrityConstraintViolation};
 ghost use Rattle.sq_model.specs.Constraints.{demanded};
-ghost use Rattle.sq_bound.specs.Fits.{have_width, holds, keys_of_bases};
+ghost use Rattle.sq_bound.specs.Fits.{IsBase, holds, keys_of_bases};
 ghost use Rattle.sq_expression.specs.Fault.{Meets};
 ghost use Rattle.sq_query.specs.MayRead.{MayEnd};
 ghost use Rattle.sq_change.specs.Changed.{are_wide};
-ghost use Rattle.sq_change.specs.Constraints.{is_met_in, reference_met_in};
-ghost use Rattle.sq_change.specs.Reference.{are_of_keys, are_rows_there, is_of_key, is_row_there, lost_are_met, lost_met_in, refer_to_keys, referred, referred_by, refers_to_key, refers_to_lost, values_referred};
+ghost use Rattle.sq_change.specs.Lost.{are_free, lost_by, referred_keys};
+ghost use Rattle.sq_change.specs.Reference.{are_of_keys, are_rows_there, is_of_key, is_row_there, refer_to_keys, referred, referred_by};
 
-use crate::row::{has_null, row_put};
+use crate::lost::{LostKey, all_free, lost_by};
+use crate::row::{row_put, values_in};
 use crate::setting::Setting;
-use sq_bound::{BaseTable, Names, Reference};
+use sq_bound::{BaseTable, Names};
 use sq_expression::{Failure, Fault};
 use sq_store::{Change, Meter, Store};
 use sq_value::{Key, Row};
-use std::alloc::Global;
 
 /// A row that has to be there: the one with these values in a key of a table.
 #[derive(Drop)]
@@ -28,6 +26,46 @@ pub(crate) struct Referenced {
     table: usize,
     key: usize,
     values: Key,
+}
+
+/// What decides whether references hold after changes of a table: the rows to which the rows that are put in it refer, and
+/// the values of keys that rows of it may have lost.
+#[derive(Drop)]
+pub(crate) struct Asked {
+    referenced: Vec<Referenced>,
+    lost: Vec<LostKey>,
+}
+
+/// What has to be asked after changes of a table by which rows may lose their values in these keys.
+pub(crate) fn asked_by<N: Names, S: Store>(
+    setting: &Setting<'_, N, S>,
+    table: &BaseTable,
+    changes: &[Change],
+    lost_keys: &[usize],
+) -> Result<Asked, Fault>
+    requires tables { holds (N.base_tables setting.now.names.now) (S.content_now setting.now.store.now)
+        ≡ true }
+    requires base { IsBase (N.base_tables setting.now.names.now) table.now }
+    requires keys { refer_to_keys (S.key_columns setting.now.store.now) table.now.references ≡ true }
+    requires wide { are_wide (length table.now.columns) (rows_put changes.now) ≡ true }
+    ensures known { IfOk result
+        (λ asked. are_of_keys (S.key_columns setting.now.store.now) asked.referenced.items ≡ true) }
+    ensures list { IfOk result
+        (λ asked. asked.referenced.items ≡ referred_by table.now.references (rows_put changes.now)) }
+    ensures lost { IfOk result (λ asked. asked.lost.items
+        ≡ lost_by (table_at (S.content_now setting.now.store.now) table.now.place) table.now.keys
+        (referred_keys (N.base_tables setting.now.names.now) table.now.place lost_keys.now) changes.now) }
+    ensures memory { IfErr result (λ fault. fault ≡ Fault.NoMemory) }
+    ensures right { IfErr result MayEnd }
+{
+    let referenced = referenced_by(setting, table, changes)?;
+    match lost_by(setting, table, changes, lost_keys) {
+        Ok(lost) => Ok(Asked { referenced, lost }),
+        Err(fault) => {
+            drop(referenced);
+            Err(fault)
+        }
+    }
 }
 
 /// The rows that are referred to by the rows put in a table.
@@ -72,7 +110,7 @@ fn push_referenced<N: Names, S: Store>(
     ensures right { IfErr result MayEnd }
 {
     for reference in table.references.as_slice() {
-        if let Some(values) = values_referred(setting.alloc, reference, row)? {
+        if let Some(values) = values_in(setting.alloc, row, reference.by_key.as_slice())? {
             referenced.push(Referenced {
                 table: reference.table,
                 key: reference.key,
@@ -83,50 +121,26 @@ fn push_referenced<N: Names, S: Store>(
     Ok(())
 }
 
-/// The values of a row's referencing columns, in the order of the referenced key. Where one is null, the row refers to no
-/// row.
-#[tactic(auto, using(sq_store::proofs::Sound::HasColumns_test))]
-fn values_referred(alloc: Global, reference: &Reference, row: &Row) -> Result<Option<Key>, Fault>
-    requires { has_columns reference.now.by_key row.now ≡ true }
-    ensures values { IfOk result (λ values. values ≡ values_referred row.now reference.now) }
-    ensures memory { IfErr result (λ fault. fault ≡ Fault.NoMemory) }
-    ensures right { IfErr result MayEnd }
-{
-    let row = row.as_slice();
-    let columns = reference.by_key.as_slice();
-    if has_null(row, columns) {
-        return Ok(None);
-    }
-    Ok(Some(Key::of_columns(alloc, row, columns)?))
-}
-
-/// Whether references hold after a change of a table: those of the rows that were put in it, and those to the keys whose
-/// values its rows may have lost.
+/// Whether references hold after changes of a table: those of the rows that were put in it, and those to the values of keys
+/// that rows of it may have lost.
 pub(crate) fn references_satisfied<N: Names, S: Store>(
-    alloc: Global,
     names: &N,
     store: &S,
-    referenced: &[Referenced],
     table: usize,
-    lost_keys: &[usize],
+    asked: &Asked,
 ) -> Result<(), Fault>
     requires tables { holds (N.base_tables names.now) (S.content_now store.now) ≡ true }
     requires keys { S.key_columns store.now ≡ keys_of_bases (N.base_tables names.now) }
-    requires known { are_of_keys (S.key_columns store.now) referenced.now ≡ true }
+    requires known { are_of_keys (S.key_columns store.now) asked.now.referenced.items ≡ true }
     ensures meant { Meets result
-        (demanded (are_rows_there (S.key_columns store.now) (S.content_now store.now) referenced.now
-        && lost_are_met (N.base_tables names.now)
-        (S.content_now store.now) table lost_keys.now) IntegrityConstraintViolation) }
+        (demanded (are_rows_there (S.key_columns store.now) (S.content_now store.now)
+        asked.now.referenced.items
+        && are_free (N.base_tables names.now) (S.content_now store.now) table asked.now.lost.items)
+        IntegrityConstraintViolation) }
     ensures right { IfErr result MayEnd }
 {
-    all_there(store, referenced)?;
-    if lost_keys.is_empty() {
-        return Ok(());
-    }
-    for (place, base) in names.bases().iter().enumerate() {
-        references_to(alloc, store, place, base.get(), table, lost_keys)?;
-    }
-    Ok(())
+    all_there(store, asked.referenced.as_slice())?;
+    all_free(names, store, table, asked.lost.as_slice())
 }
 
 /// Whether there are all these rows.
@@ -153,88 +167,5 @@ fn is_there<S: Store>(store: &S, referenced: &Referenced) -> Result<(), Fault>
     match store.find_key(*table, *key, values, &mut Meter::new()) {
         Some(_) => Ok(()),
         None => Err(Fault::Status(Failure::IntegrityConstraintViolation)),
-    }
-}
-
-/// Whether the references hold that the base table at a place has to these keys of another.
-fn references_to<S: Store>(
-    alloc: Global,
-    store: &S,
-    place: usize,
-    base: &BaseTable,
-    table: usize,
-    keys: &[usize],
-) -> Result<(), Fault>
-    requires kept { place < length (S.content_now store.now) }
-    requires wide { have_width (length base.now.columns) (table_at (S.content_now store.now) place).rows
-        ≡ true }
-    requires keys { refer_to_keys (S.key_columns store.now) base.now.references ≡ true }
-    ensures meant { Meets result (demanded (list_all (lost_met_in (S.key_columns store.now)
-        (S.content_now store.now) table keys.now place) base.now.references)
-        IntegrityConstraintViolation) }
-    ensures right { IfErr result MayEnd }
-{
-    for reference in base.references.as_slice() {
-        if refers_to_lost(reference, table, keys) {
-            reference_satisfied(alloc, store, place, reference)?;
-        }
-    }
-    Ok(())
-}
-
-/// Whether a reference is to one of these keys of a table.
-fn refers_to_lost(reference: &Reference, table: usize, keys: &[usize]) -> bool
-    ensures { result ≡ refers_to_lost table keys.now reference.now }
-{
-    reference.table == table && keys.contains(&reference.key)
-}
-
-/// Whether a reference holds for all rows of its table.
-fn reference_satisfied<S: Store>(
-    alloc: Global,
-    store: &S,
-    place: usize,
-    reference: &Reference,
-) -> Result<(), Fault>
-    requires kept { place < length (S.content_now store.now) }
-    requires columns { list_all (λ r. has_columns reference.now.by_key r.row)
-        (table_at (S.content_now store.now) place).rows ≡ true }
-    requires key { refers_to_key (S.key_columns store.now) reference.now ≡ true }
-    ensures meant { Meets result (demanded (reference_met_in (S.key_columns store.now)
-        (S.content_now store.now) place reference.now) IntegrityConstraintViolation) }
-    ensures right { IfErr result MayEnd }
-{
-    let mut meter = Meter::new();
-    let mut number = 0;
-    while let Some((found, row)) = store.next_from(place, number, &mut meter) {
-        is_satisfied(alloc, store, reference, row)?;
-        number = found + 1;
-    }
-    Ok(())
-}
-
-/// Whether a reference holds for a row.
-fn is_satisfied<S: Store>(
-    alloc: Global,
-    store: &S,
-    reference: &Reference,
-    row: &Row,
-) -> Result<(), Fault>
-    requires columns { has_columns reference.now.by_key row.now ≡ true }
-    requires key { refers_to_key (S.key_columns store.now) reference.now ≡ true }
-    ensures meant { Meets result (demanded (is_met_in (S.key_columns store.now)
-        (S.content_now store.now) reference.now row.now) IntegrityConstraintViolation) }
-    ensures right { IfErr result MayEnd }
-{
-    match values_referred(alloc, reference, row)? {
-        Some(values) => is_there(
-            store,
-            &Referenced {
-                table: reference.table,
-                key: reference.key,
-                values,
-            },
-        ),
-        None => Ok(()),
     }
 }

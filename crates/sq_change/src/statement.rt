@@ -19,7 +19,9 @@ ghost use Rattle.sq_change.specs.Statement.{IsGiven, IsShown, update_made};
 use crate::complete::{Changed, complete};
 use crate::given::new_rows;
 use crate::setting::Setting;
-use crate::target::{all_keys, keys_assigned, leaf_under, numbers_changed, removed, replaced};
+use crate::target::{
+    all_keys, keys_assigned, leaf_under, numbers_changed, removed, replaced, rows_changed,
+};
 use sq_bound::{BoundInsert, BoundUpdate, ChangeTarget, Names};
 use sq_expression::{Failure, Fault};
 use sq_query::Inputs;
@@ -218,9 +220,9 @@ fn updated<N: Names, S: Store>(
 {
     let table = leaf_under(&update.target).table.get();
     let assignments = update.assignments.as_slice();
-    let numbers = numbers_changed(setting, &update.target, on, meter)?;
-    let changes = replaced(setting, table, assignments, numbers.as_slice());
-    drop(numbers);
+    let rows = rows_changed(setting, &update.target, on, meter)?;
+    let changes = replaced(setting, table, assignments, rows.as_slice());
+    drop(rows);
     changed(changes, keys_assigned(setting.alloc, table, assignments))
 }
 

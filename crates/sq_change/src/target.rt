@@ -8,9 +8,10 @@ ghost use Rattle.sq_bound.specs.Fits.{AreInDomains, IsBase, IsColumnOf, IsRowIn,
 ghost use Rattle.sq_bound.specs.declared.names.BaseTable.{BaseTable as AnyTable};
 ghost use Rattle.sq_query.specs.Keyed.{IsKeyedChange};
 ghost use Rattle.sq_query.specs.MayRead.{MayEnd};
-ghost use Rattle.sq_query.specs.Target.{AreNumbersOf, numbers_in};
+ghost use Rattle.sq_query.specs.Table.{numbered_in, numbered_row};
+ghost use Rattle.sq_query.specs.Target.{AreNumbersOf, AreRowsThere, numbers_in};
 ghost use Rattle.sq_expression.specs.Fault.{Meets, MeetsAs};
-ghost use Rattle.sq_change.specs.Changed.{AreReplacements, AreRowsPut, are_wide, rows_replaced_in};
+ghost use Rattle.sq_change.specs.Changed.{AreReplacements, AreRowsPut, are_wide, numbers_with, rows_replaced_in};
 ghost use Rattle.sq_change.specs.Given.{AreAssignable, MayAssign, MayChoose};
 ghost use Rattle.sq_change.specs.Made.{Shown, numbers_changed, row_updated, rows_updated, seen_by};
 ghost use Rattle.sq_change.specs.Reference.{LosesAll, LosesAssigned, is_assigned};
@@ -21,7 +22,7 @@ use crate::storing::stored_value;
 use sq_bound::{BaseTable, BoundAssignment, ChangeTarget, Leaf, Names};
 use sq_expression::{Failure, Fault};
 use sq_items::Items;
-use sq_query::numbers_of;
+use sq_query::{numbers_of, rows_of};
 use sq_store::{Change, Meter, Store};
 use sq_value::{Row, Value, copy_row};
 use std::alloc::{AllocError, Global};
@@ -101,44 +102,83 @@ fn only(alloc: Global, number: u64) -> Result<Vec<u64>, Fault>
     Ok(numbers)
 }
 
-/// The rows under these numbers after the set clauses.
-pub(crate) fn replaced<N: Names, S: Store>(
-    setting: &Setting<'_, N, S>,
-    table: &BaseTable,
-    assignments: &[BoundAssignment],
-    numbers: &[u64],
-) -> Result<Vec<Change>, Fault>
-    requires there { AreNumbersOf
-        (table_at (S.content_now setting.now.store.now) table.now.place) numbers.now }
+/// The rows, with their numbers: those that the search condition keeps, of which there has to be one, or the row that a cursor
+/// is on.
+pub(crate) fn rows_changed<'a, N: Names, S: Store>(
+    setting: &Setting<'a, N, S>,
+    target: &ChangeTarget,
+    on: Option<u64>,
+    meter: &mut Meter,
+) -> Result<Vec<(u64, &'a Row)>, Fault>
+    requires given { IsGiven target.now on }
+    requires there { IfSome on
+        (λ n. IsSome (row_at
+        (table_at (S.content_now setting.now.store.now) (under target.now).table.place) n)) }
     requires tables { holds (N.base_tables setting.now.names.now) (S.content_now setting.now.store.now)
         ≡ true }
-    requires base { IsBase (N.base_tables setting.now.names.now) table.now }
-    requires columns { are_columns (length table.now.columns) assignments.now ≡ true }
-    requires in_domains { AreInDomains (N.base_tables setting.now.names.now)
-        (S.content_now setting.now.store.now) }
-    requires domains { AllByRecursion (λ a. IsColumnOf table.now a.column) assignments.now }
-    requires assigned { MayAssign
-        (N.column_kinds setting.now.names.now) setting.now.parameters.now table.now assignments.now }
-    ensures replacements { IfOk result (λ changes. AreReplacements numbers.now changes.items) }
+    requires keys { S.key_columns setting.now.store.now
+        ≡ keys_of_bases (N.base_tables setting.now.names.now) }
+    requires not_null { not_nulls_hold (N.base_tables setting.now.names.now)
+        (S.content_now setting.now.store.now) ≡ true }
+    requires base { IsBase (N.base_tables setting.now.names.now) (under target.now).table }
+    requires may { MayChoose (N.base_tables setting.now.names.now) (N.view_queries setting.now.names.now)
+        (N.column_kinds setting.now.names.now)
+        (S.content_now setting.now.store.now) setting.now.user setting.now.parameters.now target.now }
     ensures meant { let seen = seen_by (N.view_queries setting.now.names.now)
         (S.content_now setting.now.store.now) setting.now.user
-        setting.now.parameters.now in (shown : Shown)
-        → MeetsAs rows_replaced_in result
-        (rows_updated shown seen assignments.now table.now.place numbers.now) }
-    ensures wide { IfOk result
-        (λ changes. are_wide (length table.now.columns) (rows_put changes.items) ≡ true) }
-    ensures in_domains { IfOk result (λ changes. AreRowsPut table.now.columns changes.items) }
+        setting.now.parameters.now in (shown : Shown) → IsShown seen shown
+        → MeetsAs numbers_with result (numbers_changed shown seen target.now on) }
+    ensures there { IfOk result
+        (λ rows. AreRowsThere (table_at (S.content_now setting.now.store.now) (under target.now).table.place)
+        (numbered_in rows)) }
     ensures right { IfErr result MayEnd }
+    ensures read { IsKeyedChange target.now setting.now.parameters.now setting.now.user
+        → meter.new ≤ meter.old + 1 }
 {
-    let mut changes = Vec::new(setting.alloc);
-    for number in numbers {
-        let row = updated_row(setting, assignments, row_under(setting, table, *number))?;
-        changes.push(Change::Replace(*number, row))?;
+    match target {
+        ChangeTarget::Searched(target) => {
+            let rows = rows_of(
+                setting.alloc,
+                setting.names,
+                target,
+                setting.store,
+                setting.inputs(),
+                meter,
+            )?;
+            if rows.is_empty() {
+                return Err(Fault::Status(Failure::NoData));
+            }
+            Ok(rows)
+        }
+        ChangeTarget::Positioned(_) => match on {
+            Some(number) => only_row(setting, leaf_under(target).table.get(), number),
+            None => unreachable!(),
+        },
     }
-    Ok(changes)
 }
 
-/// The row under a number. It isn't counted: whoever found the number has read it.
+/// The row under a number, with it. It isn't counted: it was read when the cursor came to it.
+fn only_row<'a, N: Names, S: Store>(
+    setting: &Setting<'a, N, S>,
+    table: &BaseTable,
+    number: u64,
+) -> Result<Vec<(u64, &'a Row)>, Fault>
+    requires place { table.now.place < length (S.content_now setting.now.store.now) }
+    requires there { IsSome (row_at (table_at (S.content_now setting.now.store.now) table.now.place) number) }
+    ensures only { IfOk result (λ rows. numbers_with rows ≡ number ∷ []) }
+    ensures there { IfOk result
+        (λ rows. AreRowsThere (table_at (S.content_now setting.now.store.now) table.now.place)
+        (numbered_in rows)) }
+    ensures memory { IfErr result (λ f. f ≡ Fault.NoMemory) }
+    ensures right { IfErr result MayEnd }
+{
+    let row = row_under(setting, table, number);
+    let mut rows = Vec::new(setting.alloc);
+    rows.push((number, row))?;
+    Ok(rows)
+}
+
+/// The row under a number.
 fn row_under<'a, N: Names, S: Store>(
     setting: &Setting<'a, N, S>,
     table: &BaseTable,
@@ -153,6 +193,44 @@ fn row_under<'a, N: Names, S: Store>(
         Some(row) => row,
         None => unreachable!(),
     }
+}
+
+/// These rows after the set clauses, under their numbers.
+pub(crate) fn replaced<N: Names, S: Store>(
+    setting: &Setting<'_, N, S>,
+    table: &BaseTable,
+    assignments: &[BoundAssignment],
+    rows: &[(u64, &Row)],
+) -> Result<Vec<Change>, Fault>
+    requires there { AreRowsThere (table_at (S.content_now setting.now.store.now) table.now.place)
+        (map numbered_row rows.now) }
+    requires tables { holds (N.base_tables setting.now.names.now) (S.content_now setting.now.store.now)
+        ≡ true }
+    requires base { IsBase (N.base_tables setting.now.names.now) table.now }
+    requires columns { are_columns (length table.now.columns) assignments.now ≡ true }
+    requires in_domains { AreInDomains (N.base_tables setting.now.names.now)
+        (S.content_now setting.now.store.now) }
+    requires domains { AllByRecursion (λ a. IsColumnOf table.now a.column) assignments.now }
+    requires assigned { MayAssign
+        (N.column_kinds setting.now.names.now) setting.now.parameters.now table.now assignments.now }
+    ensures replacements { IfOk result
+        (λ changes. AreReplacements (map (λ found. found.0) rows.now) changes.items) }
+    ensures meant { let seen = seen_by (N.view_queries setting.now.names.now)
+        (S.content_now setting.now.store.now) setting.now.user
+        setting.now.parameters.now in (shown : Shown)
+        → MeetsAs rows_replaced_in result
+        (rows_updated shown seen assignments.now table.now.place (map (λ found. found.0) rows.now)) }
+    ensures wide { IfOk result
+        (λ changes. are_wide (length table.now.columns) (rows_put changes.items) ≡ true) }
+    ensures in_domains { IfOk result (λ changes. AreRowsPut table.now.columns changes.items) }
+    ensures right { IfErr result MayEnd }
+{
+    let mut changes = Vec::new(setting.alloc);
+    for found in rows {
+        let row = updated_row(setting, assignments, found.1)?;
+        changes.push(Change::Replace(found.0, row))?;
+    }
+    Ok(changes)
 }
 
 /// A row after the set clauses, which read the values before.

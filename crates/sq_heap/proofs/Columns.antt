@@ -3,6 +3,7 @@ use Rattle.std.proofs.Common.{◌≡◌, ℕ, zero, suc, ◌+◌, true, List, []
 use Rattle.std.specs.List.{list_all}
 use Rattle.std.proofs.lemmas.Grind.{common_steps}
 use Rattle.sq_value.specs.declared.value.Value.{Value}
+use Rattle.sq_store.specs.declared.table.Numbered.{Numbered}
 use Rattle.sq_store.specs.Keys.{Keys, has_columns, has_keys, have_keys}
 use Rattle.sq_heap.specs.Alone.{slots_have}
 use Rattle.sq_heap.specs.Slots.{Slot, rows_from, slot_at}
@@ -32,3 +33,11 @@ pub slots_of_keys : (keys : Keys) (n : ℕ) (ss : List Slot) → have_keys keys 
 slots_of_keys keys n [] h = no_slots_of keys
 slots_of_keys keys n (None ∷ ss) h = slots_of_keys_none keys ss (slots_of_keys keys (n + 1) ss h)
 slots_of_keys keys n (Some row ∷ ss) h = slots_of_keys_some keys row ss (grind (arith, common_steps)) (slots_of_keys keys (n + 1) ss (grind (arith, common_steps)))
+
+-- rows with the columns of one list
+pub slots_of_rows : (columns : List ℕ) (n : ℕ) (ss : List Slot) → list_all (λ (r : Numbered). has_columns columns r.row) (rows_from n ss) ≡ true → slots_have columns ss ≡ true
+slots_of_rows columns n [] h = refl
+slots_of_rows columns n (None ∷ ss) h = slots_of_rows columns (n + 1) ss h
+slots_of_rows columns n (Some row ∷ ss) h =
+    let rest : slots_have columns ss ≡ true = slots_of_rows columns (n + 1) ss (grind (arith, common_steps)) in
+    grind (arith, common_steps)

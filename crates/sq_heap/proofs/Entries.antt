@@ -1,6 +1,8 @@
 -- The indexes of a table, and the entries of one of them.
-use Rattle.std.proofs.Common.{◌≡◌, ℕ, zero, suc, ◌+◌, ◌<◌, Bool, true, List, [], ◌∷◌, length, take, get_or, slice_set, arith, refl, sym, ap, ◌∙◌}
+use Rattle.std.proofs.Common.{◌≡◌, ℕ, zero, suc, ◌+◌, ◌<◌, Bool, true, nat_eq, List, [], ◌∷◌, length, take, get_or, slice_set, arith, refl, sym, ap, ◌∙◌}
 use Rattle.std.specs.List.{list_all, fold}
+use Rattle.std.proofs.lemmas.Bool.{eqb-true}
+use Rattle.std.proofs.lemmas.List.{take-map}
 use Rattle.std.specs.Cmp.Lexicographic.{pointwise}
 use Rattle.std.specs.Hash.{items_Alike}
 use Rattle.std.specs.Hash.FoldHasher as folding
@@ -64,3 +66,24 @@ length_keys (z ∷ xs) = ap suc (length_keys xs)
 
 pub same_length : (xs ys : List Index) → keys_of ys ≡ keys_of xs → length ys ≡ length xs
 same_length xs ys e = sym (length_keys ys) ∙ ap length e ∙ length_keys xs
+
+-- ---- the first of them
+
+pub keys_first : (n : ℕ) (xs : List Index) → keys_of (take n xs) ≡ take n (keys_of xs)
+keys_first n xs = sym (take-map columns_of n xs)
+
+pub all_first : (P : Index → Bool) (n : ℕ) (xs : List Index) → list_all P xs ≡ true → list_all P (take n xs) ≡ true
+all_first P zero xs h = refl
+all_first P (suc n) [] h = refl
+all_first P (suc n) (x ∷ xs) h = both (left_of (P x) (list_all P xs) h) (all_first P n xs (right_of (P x) (list_all P xs) h))
+
+-- ---- lists of columns
+
+pub same_numbers : (ms ns : List ℕ) → pointwise nat_eq ms ns ≡ true → ms ≡ ns
+same_numbers [] [] h = refl
+same_numbers [] (n ∷ ns) h = cc
+same_numbers (m ∷ ms) [] h = cc
+same_numbers (m ∷ ms) (n ∷ ns) h =
+    let first : m ≡ n = eqb-true m n (left_of (nat_eq m n) (pointwise nat_eq ms ns) h) in
+    let rest : ms ≡ ns = same_numbers ms ns (right_of (nat_eq m n) (pointwise nat_eq ms ns) h) in
+    λ i. first i ∷ rest i

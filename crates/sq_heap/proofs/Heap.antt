@@ -1,5 +1,6 @@
 -- Tables of a heap store, one changed at a time.
-use Rattle.std.proofs.Common.{◌≡◌, ℕ, zero, suc, ◌+◌, ◌<◌, ◌≤◌, Bool, true, false, ◌&&◌, ◌||◌, nat_eq, nat_lt, List, [], ◌∷◌, ◌++◌, length, drop, take, map, get_or, slice_set, Option, Some, None, arith, refl, sym, ap, ◌∙◌}
+use Rattle.std.proofs.Math.Seq.{take-append_seam}
+use Rattle.std.proofs.Common.{◌≡◌, ℕ, zero, suc, ◌+◌, ◌<◌, ◌≤◌, Bool, true, false, ◌&&◌, ◌||◌, nat_eq, nat_lt, List, [], ◌∷◌, ◌++◌, length, drop, take, map, get_or, get_or-take, slice_index_or, slice_set, Option, Some, None, arith, refl, sym, ap, ◌∙◌}
 use Rattle.std.specs.List.{list_any}
 use Rattle.std.proofs.lemmas.List.{replicate_more}
 use Rattle.std.proofs.lemmas.Bool.{false≢true}
@@ -14,7 +15,7 @@ use Rattle.sq_store.specs.Keys.{Keys, are_keyed, has_distinct_keys, have_keys, k
 use Rattle.sq_store.specs.Sound.{is_sound}
 use Rattle.sq_store.specs.laws.Sound.{keyed_of}
 use Rattle.sq_store.proofs.Sound.{next_at, sound_length}
-use Rattle.sq_heap.specs.Heap.{all_before, all_committed, all_keys, all_now, are_listed, are_within, before_of, committed_of, has_none, now_of, table_keys}
+use Rattle.sq_heap.specs.Heap.{all_before, all_committed, all_keys, all_now, are_listed, are_within, before_of, committed_of, first_keys, has_none, now_of, table_keys}
 use Rattle.sq_heap.specs.Index.{keys_of}
 use Rattle.sq_heap.specs.Slots.{Slot, table_of}
 use Rattle.sq_heap.specs.Undo.{back}
@@ -288,14 +289,39 @@ pub length_given : (given : List (Vec (Vec ℕ Global) Global)) → length (give
 length_given [] = refl
 length_given (k ∷ given) = ap suc (length_given given)
 
-pub keys_push : (ts : List HeapTable) (t : HeapTable) (keys : List Keys) (i : ℕ) (k : Keys) → i < length keys → k ≡ get_or keys i k → table_keys t ≡ k → all_keys ts ≡ take i keys → all_keys (ts ++ t ∷ []) ≡ take (i + 1) keys
-keys_push ts t keys i k lt o e h = all_push ts ∙ (λ j. h j ++ e j ∷ []) ∙ (let one : suc i ≡ i + 1 = omega arith in take_one keys i lt o ∙ ap (λ (n : ℕ). take n keys) one)
-  where
-    all_push : (ts : List HeapTable) → all_keys (ts ++ t ∷ []) ≡ all_keys ts ++ table_keys t ∷ []
-    all_push [] = refl
-    all_push (u ∷ ts) = ap (λ (ks : List Keys). table_keys u ∷ ks) (all_push ts)
+-- the first indexes are those of the keys
+pub first_at : (keys all : List Keys) (i : ℕ) → first_keys keys all ≡ keys → i < length keys → take (length (keys_at keys i)) (keys_at all i) ≡ keys_at keys i
+first_at [] all i h lt = absurd (omega arith)
+first_at (ks ∷ keys) [] i h lt = cc
+first_at (ks ∷ keys) (cs ∷ all) zero h lt = cc
+first_at (ks ∷ keys) (cs ∷ all) (suc i) h lt = let rest : first_keys keys all ≡ keys = cc in first_at keys all i rest (omega arith)
 
-    take_one : (keys : List Keys) (i : ℕ) → i < length keys → k ≡ get_or keys i k → take i keys ++ k ∷ [] ≡ take (suc i) keys
-    take_one [] i lt o = absurd (omega arith)
-    take_one (l ∷ keys) zero lt o = ap (λ (m : Keys). m ∷ []) o
-    take_one (l ∷ keys) (suc i) lt o = ap (λ (ks : List Keys). l ∷ ks) (take_one keys i (omega arith) o)
+pub first_long : (ys xs : Keys) → take (length ys) xs ≡ ys → length ys ≤ length xs
+first_long [] xs h = omega arith
+first_long (y ∷ ys) [] h = cc
+first_long (y ∷ ys) (x ∷ xs) h =
+    let rest : take (length ys) xs ≡ ys = cc in
+    let le : length ys ≤ length xs = first_long ys xs rest in
+    omega (arith, le)
+
+pub first_same : (ys xs : Keys) (k : ℕ) → take (length ys) xs ≡ ys → k < length ys → slice_index_or xs k [] ≡ slice_index_or ys k []
+first_same ys xs k h lt = sym (get_or-take (length ys) xs k [] lt) ∙ ap (λ (zs : Keys). get_or zs k []) h
+
+pub first_push : (keys : List Keys) (ts : List HeapTable) (t : HeapTable) (i : ℕ) (k more : Keys) → i < length keys → k ≡ get_or keys i k → table_keys t ≡ k ++ more → length ts ≡ i → first_keys (take i keys) (all_keys ts) ≡ take i keys
+    → first_keys (take (i + 1) keys) (all_keys (ts ++ t ∷ [])) ≡ take (i + 1) keys
+first_push keys ts t i k more lt o e long h = let one : i + 1 ≡ suc i = omega arith in ap (λ (n : ℕ). first_keys (take n keys) (all_keys (ts ++ t ∷ []))) one ∙ grown keys ts i lt o long h ∙ ap (λ (n : ℕ). take n keys) (sym one)
+  where
+    here : (l : Keys) → k ≡ l → take (length l) (table_keys t) ≡ l
+    here l same = ap (λ (ks : Keys). take (length l) ks) (e ∙ ap (λ (ks : Keys). ks ++ more) same) ∙ take-append_seam l more
+
+    grown : (keys : List Keys) (ts : List HeapTable) (i : ℕ) → i < length keys → k ≡ get_or keys i k → length ts ≡ i → first_keys (take i keys) (all_keys ts) ≡ take i keys
+        → first_keys (take (suc i) keys) (all_keys (ts ++ t ∷ [])) ≡ take (suc i) keys
+    grown [] ts i lt o long h = absurd (omega arith)
+    grown (l ∷ keys) [] zero lt o long h = ap (λ (x : Keys). x ∷ []) (here l o)
+    grown (l ∷ keys) [] (suc i) lt o long h = absurd (omega arith)
+    grown (l ∷ keys) (u ∷ ts) zero lt o long h = absurd (omega arith)
+    grown (l ∷ keys) (u ∷ ts) (suc i) lt o long h =
+        let first : take (length l) (table_keys u) ≡ l = cc in
+        let rest : first_keys (take i keys) (all_keys ts) ≡ take i keys = cc in
+        let less : length ts ≡ i = omega (arith, long) in
+        (λ j. first j ∷ grown keys ts i (omega arith) o less rest j)

@@ -1,5 +1,5 @@
 -- Rows found through an index, and whether they share its key.
-use Rattle.std.proofs.Common.{◌≡◌, ℕ, zero, suc, ◌+◌, ◌<◌, Bool, true, false, ◌&&◌, not, nat_eq, drop, find, List, [], ◌∷◌, length, get_or, slice_index_or, if◌then◌else◌, Some, None, arith, refl, sym, ap, ◌∙◌}
+use Rattle.std.proofs.Common.{◌≡◌, ℕ, zero, suc, ◌+◌, ◌<◌, Bool, true, false, ◌&&◌, not, nat_eq, drop, find, List, [], ◌∷◌, length, get_or, slice_index_or, cond, if◌then◌else◌, is_some, Option, Some, None, arith, refl, sym, ap, ◌∙◌}
 use Rattle.std.specs.List.{list_all, list_any}
 use Rattle.std.proofs.lemmas.Bool.{false≢true}
 use Rattle.std.proofs.lemmas.Grind.{common_steps}
@@ -23,11 +23,6 @@ use Rattle.sq_heap.proofs.Holds.{both, holds_at, left_of, right_of, slots_give}
 use Rattle.sq_heap.proofs.Entries.{same_hash}
 
 -- ---- one of the indexes
-
-pub of_index : (P : List ℕ → Bool) (xs : List Index) (i : ℕ) (x : Index) → i < length xs → x ≡ get_or xs i x → list_all P (keys_of xs) ≡ true → P x.columns ≡ true
-of_index P [] i x lt e h = absurd (omega arith)
-of_index P (z ∷ xs) zero x lt e h = ap (λ (y : Index). P y.columns) e ∙ left_of (P z.columns) (list_all P (keys_of xs)) h
-of_index P (z ∷ xs) (suc i) x lt e h = of_index P xs i x (omega arith) e (right_of (P z.columns) (list_all P (keys_of xs)) h)
 
 pub columns_at_index : (xs : List Index) (i : ℕ) (x : Index) → i < length xs → x ≡ get_or xs i x → slice_index_or (keys_of xs) i [] ≡ x.columns
 columns_at_index [] i x lt e = absurd (omega arith)
@@ -124,6 +119,30 @@ none_with index key ss hash e h none = no_key index.columns key 1 ss (λ j q s. 
 pub found_with : (columns : List ℕ) (key : List Value) (ss : List Slot) (j : ℕ) (q : List Value) (number : ℕ) → number ≡ 1 + j → are_distinct columns (rows_from 1 ss) ≡ true → slot_at ss j ≡ Some q → pointwise is_same key (in_columns q columns) ≡ true
     → find (has_key columns key) (rows_from 1 ss) ≡ Some (record { number = number; row = q })
 found_with columns key ss j q number e distinct s same = unique_found columns key (rows_from 1 ss) number (record { number = number; row = q }) distinct (row_there 1 ss j number q e s) same
+
+-- ---- whether there is one
+
+is_some_of : {X : Type 0} (b : Bool) (x : X) (rest : Option X) → is_some rest ≡ true → is_some (cond b (Some x) rest) ≡ true
+is_some_of true x rest h = refl
+is_some_of false x rest h = h
+
+is_some_here : {X : Type 0} (b : Bool) (x : X) (rest : Option X) → b ≡ true → is_some (cond b (Some x) rest) ≡ true
+is_some_here true x rest h = refl
+is_some_here false x rest h = cc
+
+some_from : (columns : List ℕ) (key : List Value) (n : ℕ) (ss : List Slot) (j : ℕ) (q : List Value) → slot_at ss j ≡ Some q → pointwise is_same key (in_columns q columns) ≡ true
+    → is_some (find (has_key columns key) (rows_from n ss)) ≡ true
+some_from columns key n [] j q e h = cc
+some_from columns key n (None ∷ ss) zero q e h = cc
+some_from columns key n (None ∷ ss) (suc j) q e h = some_from columns key (n + 1) ss j q e h
+some_from columns key n (Some r ∷ ss) zero q e h =
+    let same : r ≡ q = cc in
+    is_some_here (pointwise is_same key (in_columns r columns)) (record { number = n; row = r }) (find (has_key columns key) (rows_from (n + 1) ss)) (ap (λ (x : List Value). pointwise is_same key (in_columns x columns)) same ∙ h)
+some_from columns key n (Some r ∷ ss) (suc j) q e h =
+    is_some_of (pointwise is_same key (in_columns r columns)) (record { number = n; row = r }) (find (has_key columns key) (rows_from (n + 1) ss)) (some_from columns key (n + 1) ss j q e h)
+
+pub some_with : (columns : List ℕ) (key : List Value) (ss : List Slot) (j : ℕ) (q : List Value) → slot_at ss j ≡ Some q → pointwise is_same key (in_columns q columns) ≡ true → is_some (find (has_key columns key) (rows_from 1 ss)) ≡ true
+some_with columns key ss j q e h = some_from columns key 1 ss j q e h
 
 -- ---- a row that shares its key with no other
 

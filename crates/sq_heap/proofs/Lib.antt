@@ -3,10 +3,11 @@ pub mod Blocks
 pub mod Chains
 pub mod Columns
 pub mod Distinct
-pub mod Heap
-pub mod Holds
 pub mod Entering
 pub mod Entries
+pub mod Heap
+pub mod Holds
+pub mod KeyAt
 pub mod Keyed
 pub mod OnResult
 pub mod Rows

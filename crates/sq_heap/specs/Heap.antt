@@ -1,5 +1,5 @@
 -- What a heap store contains, now, as committed, and before the last apply.
-use Rattle.std.specs.Prelude.{ℕ, ◌+◌, Bool, true, false, ◌&&◌, ◌||◌, nat_eq, nat_lt, List, [], ◌∷◌, Option, Some, None, drop, map, slice_set}
+use Rattle.std.specs.Prelude.{ℕ, ◌+◌, Bool, true, false, ◌&&◌, ◌||◌, nat_eq, nat_lt, List, [], ◌∷◌, Option, Some, None, drop, length, map, slice_set, take}
 use Rattle.std.specs.List.{list_any}
 use Rattle.sq_store.specs.declared.table.Table.{Table}
 use Rattle.sq_store.specs.Content.{Content, table_at}
@@ -26,12 +26,18 @@ all_now tables = map now_of tables
 abbrev pub all_committed : List HeapTable → Content
 all_committed tables = map committed_of tables
 
--- the keys of each table, as its indexes have them
+-- the columns of each index of each table
 abbrev pub table_keys : HeapTable → Keys
 table_keys t = keys_of t.indexes.items
 
 abbrev pub all_keys : List HeapTable → List Keys
 all_keys tables = map table_keys tables
+
+-- of each table the columns of its first indexes, as many as it has keys
+abbrev pub first_keys : List Keys → List Keys → List Keys
+first_keys [] all = []
+first_keys (ks ∷ keys) [] = []
+first_keys (ks ∷ keys) (columns ∷ all) = take (length ks) columns ∷ first_keys keys all
 
 -- the content before the last apply, which changed one table
 abbrev pub all_before : Option Mark → List HeapTable → Option Content

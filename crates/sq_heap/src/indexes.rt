@@ -1,6 +1,6 @@
 //! The indexes of a table, and how they get their entries.
 
-ghost use Rattle.std.specs.Prelude.{◌≡◌, ◌<◌, ◌+◌, ◌^◌, ℕ, List, length, true, IfOk, OnOk};
+ghost use Rattle.std.specs.Prelude.{◌≡◌, ◌<◌, ◌+◌, ◌++◌, ◌^◌, [], ℕ, List, length, slice_index_or, true, IfOk, IfSome, OnOk};
 ghost use Rattle.sq_value.specs.declared.value.Value.{Value as SqlValue};
 ghost use Rattle.sq_heap.specs.Entered.{change_holds, changes_hold, next_slot};
 ghost use Rattle.sq_heap.specs.Index.{in_all, is_in, keys_of, slot_holds, slots_hold, undo_holds};
@@ -12,16 +12,45 @@ use sq_store::Change;
 use sq_value::{Row, Value};
 use std::alloc::{AllocError, Global};
 
-/// An index without entries for each key.
-pub(crate) fn empty_indexes(alloc: Global, keys: &[Items<usize>]) -> Result<Vec<Index>, AllocError>
-    ensures { IfOk result (λ indexes. keys_of indexes.items ≡ keys.now) }
+/// An index without entries for each key, and behind them one for each lookup.
+pub(crate) fn empty_indexes(
+    alloc: Global,
+    keys: &[Items<usize>],
+    lookups: &[Items<usize>],
+) -> Result<Vec<Index>, AllocError>
+    ensures { IfOk result (λ indexes. keys_of indexes.items ≡ keys.now ++ lookups.now) }
 {
     let mut indexes = Vec::new(alloc);
-    for columns in keys {
+    push_indexes(alloc, &mut indexes, keys)?;
+    push_indexes(alloc, &mut indexes, lookups)?;
+    Ok(indexes)
+}
+
+/// Adds an index without entries for each list of columns.
+fn push_indexes(
+    alloc: Global,
+    indexes: &mut Vec<Index>,
+    lists: &[Items<usize>],
+) -> Result<(), AllocError>
+    ensures { OnOk result (keys_of indexes.new.items ≡ keys_of indexes.old.items ++ lists.now) }
+{
+    for columns in lists {
         let columns = Items::from_slice(alloc, columns.as_slice())?;
         indexes.push(Index::new(alloc, columns, 0)?)?;
     }
-    Ok(indexes)
+    Ok(())
+}
+
+/// Which of the indexes has these columns.
+pub(crate) fn index_on(indexes: &[Index], columns: &[usize]) -> Option<usize>
+    ensures { IfSome result (λ place. (place < length indexes.now) × (slice_index_or (keys_of indexes.now) place [] ≡ columns.now)) }
+{
+    for (place, index) in indexes.iter().enumerate() {
+        if index.columns() == columns {
+            return Some(place);
+        }
+    }
+    None
 }
 
 /// An index with the entries of the rows in slots and of the rows that undoing brings back. It has room for twice as many,

@@ -1,14 +1,14 @@
-//! Rows found by their keys, and whether they share them.
+//! Rows found by their keys, and whether they share them; whether a row has some values.
 
-ghost use Rattle.std.specs.Prelude.{◌≡◌, find, false, true, length, Some, None, MatchOption};
+ghost use Rattle.std.specs.Prelude.{◌≡◌, find, false, true, is_some, length, Some, None, MatchOption};
 ghost use Rattle.std.specs.Cmp.Lexicographic.{pointwise};
-ghost use Rattle.std.specs.List.{list_any};
+ghost use Rattle.std.specs.List.{list_all, list_any};
 ghost use Rattle.std.specs.Option.{option_copied};
 ghost use Rattle.sq_value.specs.Comparison.{is_same};
 ghost use Rattle.sq_value.specs.Key.{in_columns};
 ghost use Rattle.sq_store.specs.Keys.{are_distinct, has_columns, has_key};
 ghost use Rattle.sq_heap.specs.Alone.{all_alone, is_alone, slots_have};
-ghost use Rattle.sq_heap.specs.Index.{bucket_of, is_in, named, names_key, names_other, slots_hold};
+ghost use Rattle.sq_heap.specs.Index.{bucket_of, enters, is_in, keys_of, named, names_key, names_other, slots_hold};
 ghost use Rattle.sq_heap.specs.Slots.{rows_from, slot_at};
 ghost use Rattle.sq_heap.specs.Undo.{fits};
 
@@ -34,6 +34,31 @@ pub(crate) fn first_with<'a>(
 {
     let (at, row) = among(slots, index, values, hash_of_key(values))?;
     Some((at as u64 + 1, row))
+}
+
+/// Whether a row has these values in the columns of an index.
+#[tactic(auto, using(crate::proofs::Keyed::none_with, crate::proofs::Keyed::some_with))]
+pub(crate) fn has_row(slots: &[Option<Row>], index: &Index, values: &Key) -> bool
+    requires columns { slots_have index.now.columns slots.now ≡ true }
+    requires entered { slots_hold (is_in index.now) 0 slots.now ≡ true }
+    ensures { result ≡ is_some (find (has_key index.now.columns values.now) (rows_from 1 slots.now)) }
+{
+    among(slots, index, values, hash_of_key(values)).is_some()
+}
+
+/// Whether a row has these values in these columns, where there is no index on them.
+pub(crate) fn is_in_slots(slots: &[Option<Row>], columns: &[usize], values: &Key) -> bool
+    requires { slots_have columns.now slots.now ≡ true }
+    ensures { result ≡ is_some (find (has_key columns.now values.now) (rows_from 1 slots.now)) }
+{
+    for slot in slots {
+        if let Some(held) = slot {
+            if values.is_of(held.as_slice(), columns) {
+                return true;
+            }
+        }
+    }
+    false
 }
 
 /// The row with these values that one of the entries under a hash names, and its slot.
@@ -110,7 +135,7 @@ fn has_other(slots: &[Option<Row>], index: &Index, row: &[Value], at: usize, has
 
 /// Whether no changed row shares the key of an index with another row.
 #[tactic(auto, using(crate::proofs::Columns::columns_of_slot, crate::proofs::Rows::slot_is, crate::proofs::Back::fits_at))]
-pub(crate) fn all_alone(slots: &[Option<Row>], index: &Index, changes: &[Undo]) -> bool
+fn all_alone(slots: &[Option<Row>], index: &Index, changes: &[Undo]) -> bool
     requires columns { slots_have index.now.columns slots.now ≡ true }
     requires entered { slots_hold (is_in index.now) 0 slots.now ≡ true }
     requires changes { fits (length slots.now) changes.now ≡ true }
@@ -121,6 +146,21 @@ pub(crate) fn all_alone(slots: &[Option<Row>], index: &Index, changes: &[Undo]) 
             if !is_alone(slots, index, row.as_slice(), change.at) {
                 return false;
             }
+        }
+    }
+    true
+}
+
+/// Whether no changed row shares the key of one of these indexes with another row.
+pub(crate) fn are_alone(slots: &[Option<Row>], indexes: &[Index], changes: &[Undo]) -> bool
+    requires columns { list_all (λ columns. slots_have columns slots.now) (keys_of indexes.now) ≡ true }
+    requires entered { list_all (enters slots.now) indexes.now ≡ true }
+    requires changes { fits (length slots.now) changes.now ≡ true }
+    ensures { result ≡ list_all (λ columns. all_alone columns slots.now changes.now) (keys_of indexes.now) }
+{
+    for index in indexes {
+        if !all_alone(slots, index, changes) {
+            return false;
         }
     }
     true

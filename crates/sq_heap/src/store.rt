@@ -1,4 +1,4 @@
-ghost use Rattle.std.specs.Prelude.{◌≡◌, ◌≤◌, ◌<◌, ◌+◌, ◌++◌, ◌∷◌, [], ℕ, List, Option, false, true, Some, None, length, slice_set, IfOk, OnErr, OnOk};
+ghost use Rattle.std.specs.Prelude.{◌≡◌, ◌≤◌, ◌<◌, ◌+◌, ◌++◌, ◌∷◌, [], ℕ, List, Option, false, true, Some, None, length, slice_set, take, IfOk, OnErr, OnOk};
 ghost use Rattle.std.specs.List.{list_all};
 ghost use Rattle.sq_store.specs.Change.{rows_put};
 ghost use Rattle.sq_store.specs.Content.{changed_by, no_rows, table_at};
@@ -7,7 +7,7 @@ ghost use Rattle.sq_store.specs.Saved.{is_sound_if};
 ghost use Rattle.sq_store.specs.Sound.{is_sound};
 ghost use Rattle.sq_store.specs.declared.store.TheConstants.{MOST_ROW_NUMBERS};
 ghost use Rattle.sq_heap.specs.declared.mark.Mark.{Mark};
-ghost use Rattle.sq_heap.specs.Heap.{all_before, all_committed, all_keys, all_now, are_listed, are_within, is_mark_of};
+ghost use Rattle.sq_heap.specs.Heap.{all_before, all_committed, all_keys, all_now, are_listed, are_within, first_keys, is_mark_of};
 
 use crate::mark::Mark;
 use crate::table::HeapTable;
@@ -18,9 +18,9 @@ use std::alloc::{AllocError, Global};
 
 /// A store that keeps each table as slots by number, and what undoes the changes since the last commit.
 ///
-/// `apply`, `take_back`, `commit` and `rollback` cost what changes, and `find_key` looks at the rows with the key's hash. An
-/// index that is full is made anew over the whole table, which falls to each change as a part that doesn't grow with the
-/// table. `next_from` passes at most the slots of two blocks, and the blocks between that have no rows.
+/// `apply`, `take_back`, `commit` and `rollback` cost what changes, and `find_key` and `has_row` look at the rows with the hash
+/// of the values (`has_row` where `new` was given its columns; else at all rows). An index that is full is made anew over the
+/// whole table, which falls to each change as a part that doesn't grow with the table. `next_from` passes at most the slots of two blocks, and the blocks between that have no rows.
 #[derive(Drop)]
 pub struct HeapStore {
     /// Of each table the columns of each key.
@@ -35,7 +35,7 @@ pub struct HeapStore {
     ghost committed_sound: { is_sound row_numbers keys (all_committed tables.items) ≡ true },
     ghost before_sound: { is_sound_if row_numbers keys (all_before last tables.items) ≡ true },
     ghost marked: { is_mark_of last (length tables.items) ≡ true },
-    ghost indexed: { all_keys tables.items ≡ keys },
+    ghost indexed: { first_keys keys (all_keys tables.items) ≡ keys },
     ghost listed_there: { are_within (length tables.items) listed.items ≡ true },
     ghost changes_listed: { are_listed listed.items 0 tables.items ≡ true },
 }
@@ -63,10 +63,12 @@ impl Store for HeapStore {
     fn new(
         alloc: Global,
         keys: &[Vec<Vec<usize>>],
+        lookups: &[Vec<Vec<usize>>],
         greatest: u64,
     ) -> Result<HeapStore, AllocError> {
         let keys = copy_keys(alloc, keys)?;
-        let tables = empty_tables(alloc, keys.as_slice())?;
+        let lookups = copy_keys(alloc, lookups)?;
+        let tables = empty_tables(alloc, keys.as_slice(), lookups.as_slice())?;
         Ok(HeapStore {
             keys,
             row_numbers: greatest,
@@ -81,7 +83,7 @@ impl Store for HeapStore {
         self.tables.len()
     }
 
-    #[tactic(auto, using(crate::proofs::Heap::tables_of_keys))]
+    #[tactic(auto, using(sq_store::proofs::Sound::sound_length))]
     fn keys(&self, table: usize) -> &[Items<usize>] {
         self.keys.as_slice()[table].as_slice()
     }
@@ -110,6 +112,10 @@ impl Store for HeapStore {
         Some(found)
     }
 
+    fn has_row(&self, table: usize, columns: &[usize], values: &Key) -> bool {
+        self.tables[table].has_row(columns, values)
+    }
+
     #[tactic(auto, using(crate::proofs::Heap::slots_within, crate::proofs::Heap::map_at))]
     fn next_number(&self, table: usize) -> u64 {
         self.tables[table].slots().len() as u64 + 1
@@ -127,7 +133,8 @@ impl Store for HeapStore {
         changes: Vec<Change>,
     ) -> Result<(), ApplyFault> {
         self.listed.reserve(1)?;
-        match apply_to(alloc, &mut self.tables, table, changes) {
+        let keys = self.keys(table).len();
+        match apply_to(alloc, &mut self.tables, table, keys, changes) {
             Ok(from) => {
                 self.listed.push(table).unwrap();
                 self.last = Some(Mark { table, from });
@@ -155,36 +162,53 @@ impl Store for HeapStore {
     }
 }
 
-/// A table without rows for each entry, which has the columns of each key.
-fn empty_tables(alloc: Global, keys: &[Items<Items<usize>>]) -> Result<Vec<HeapTable>, AllocError>
+/// A table without rows for each entry of `keys`, which has the columns of each key; `lookups` has lists of columns of as
+/// many tables as it has entries.
+fn empty_tables(
+    alloc: Global,
+    keys: &[Items<Items<usize>>],
+    lookups: &[Items<Items<usize>>],
+) -> Result<Vec<HeapTable>, AllocError>
     ensures now { IfOk result (λ tables. all_now tables.items ≡ no_rows (length keys.now)) }
     ensures committed { IfOk result (λ tables. all_committed tables.items ≡ no_rows (length keys.now)) }
     ensures listed { IfOk result (λ tables. are_listed [] 0 tables.items ≡ true) }
-    ensures keys { IfOk result (λ tables. all_keys tables.items ≡ keys.now) }
+    ensures keys { IfOk result (λ tables. first_keys keys.now (all_keys tables.items) ≡ keys.now) }
 {
     let mut tables = Vec::new(alloc);
-    for keys in keys {
-        tables.push(HeapTable::new(alloc, keys.as_slice())?)?;
+    for table in 0..keys.len() {
+        let lookups = lookups_at(lookups, table);
+        tables.push(HeapTable::new(alloc, keys[table].as_slice(), lookups)?)?;
     }
     Ok(tables)
 }
 
-/// Makes all changes of a table, or none. Says how many changes of it there were before.
+/// The lookups of a table, none where there is no entry for it.
+fn lookups_at(lookups: &[Items<Items<usize>>], table: usize) -> &[Items<usize>] {
+    if table < lookups.len() {
+        lookups[table].as_slice()
+    } else {
+        &[]
+    }
+}
+
+/// Makes all changes of a table, so many of whose indexes are of keys, or none. Says how many changes of it there were before.
 fn apply_to(
     alloc: Global,
     tables: &mut Vec<HeapTable>,
     table: usize,
+    keys: usize,
     changes: Vec<Change>,
 ) -> Result<usize, ApplyFault>
     requires known { table < length tables.old.items }
-    requires columns { have_keys (keys_at (all_keys tables.old.items) table) (table_at (all_now tables.old.items) table).rows ≡ true }
-    requires new_columns { list_all (has_keys (keys_at (all_keys tables.old.items) table)) (rows_put changes.items) ≡ true }
-    requires distinct { has_distinct_keys (keys_at (all_keys tables.old.items) table) (table_at (all_now tables.old.items) table) ≡ true }
+    requires keys { keys ≤ length (keys_at (all_keys tables.old.items) table) }
+    requires columns { have_keys (take keys (keys_at (all_keys tables.old.items) table)) (table_at (all_now tables.old.items) table).rows ≡ true }
+    requires new_columns { list_all (has_keys (take keys (keys_at (all_keys tables.old.items) table))) (rows_put changes.items) ≡ true }
+    requires distinct { has_distinct_keys (take keys (keys_at (all_keys tables.old.items) table)) (table_at (all_now tables.old.items) table) ≡ true }
     ensures ok { OnOk result (all_now tables.new.items
         ≡ slice_set (all_now tables.old.items) table (changed_by (table_at (all_now tables.old.items) table) changes.items)) }
-    ensures distinct { OnOk result (has_distinct_keys (keys_at (all_keys tables.old.items) table) (changed_by (table_at (all_now tables.old.items) table) changes.items) ≡ true) }
+    ensures distinct { OnOk result (has_distinct_keys (take keys (keys_at (all_keys tables.old.items) table)) (changed_by (table_at (all_now tables.old.items) table) changes.items) ≡ true) }
     ensures duplicate { result ≡ Err ApplyFault.Duplicate
-        → has_distinct_keys (keys_at (all_keys tables.old.items) table) (changed_by (table_at (all_now tables.old.items) table) changes.items) ≡ false }
+        → has_distinct_keys (take keys (keys_at (all_keys tables.old.items) table)) (changed_by (table_at (all_now tables.old.items) table) changes.items) ≡ false }
     ensures before { IfOk result (λ from. all_before (Some (record { table = table; from = from })) tables.new.items ≡ Some (all_now tables.old.items)) }
     ensures committed { all_committed tables.new.items ≡ all_committed tables.old.items }
     ensures err { OnErr result (all_now tables.new.items ≡ all_now tables.old.items) }
@@ -194,7 +218,7 @@ fn apply_to(
     ensures tables { length tables.new.items ≡ length tables.old.items }
     ensures keys { all_keys tables.new.items ≡ all_keys tables.old.items }
 {
-    tables[table].apply(alloc, changes)
+    tables[table].apply(alloc, keys, changes)
 }
 
 /// Goes back to where the last changes of a table began.

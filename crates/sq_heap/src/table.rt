@@ -1,9 +1,9 @@
-ghost use Rattle.std.specs.Prelude.{◌≡◌, ◌<◌, ◌≤◌, ◌+◌, ◌-◌, ◌^◌, [], ℕ, false, true, drop, is_some, length, slice_index_or, slice_set, take, vec_capacity, vec_len, IfOk, MatchOption, None, Some, OnErr, OnOk};
+ghost use Rattle.std.specs.Prelude.{◌≡◌, ◌<◌, ◌≤◌, ◌+◌, ◌-◌, ◌++◌, ◌^◌, [], ℕ, false, true, drop, is_some, length, slice_index_or, slice_set, take, vec_capacity, vec_len, IfOk, MatchOption, None, Some, OnErr, OnOk};
 ghost use Rattle.std.specs.List.{list_all};
 ghost use Rattle.sq_store.specs.Change.{rows_put};
 ghost use Rattle.sq_store.specs.Content.{changed, changed_by, inserted, removed, replaced};
-ghost use Rattle.sq_store.specs.Keys.{has_distinct_keys, has_keys, have_keys, with_key};
-ghost use Rattle.sq_heap.specs.Alone.{all_alone};
+ghost use Rattle.sq_store.specs.Keys.{are_distinct, has_distinct_keys, has_keys, have_keys, with_key};
+ghost use Rattle.sq_heap.specs.Alone.{all_alone, slots_have};
 ghost use Rattle.sq_heap.specs.Entered.{change_holds, changes_hold};
 ghost use Rattle.sq_heap.specs.Index.{in_all, keys_of, slot_holds, slots_hold, undo_holds};
 ghost use Rattle.sq_heap.specs.Room.{HasSlots, KeepsRoom, KeepsSlots};
@@ -11,8 +11,8 @@ ghost use Rattle.sq_heap.specs.Slots.{slot_at, table_of};
 ghost use Rattle.sq_heap.specs.Undo.{GoesBack, back, fits};
 
 use crate::index::Index;
-use crate::indexes::{empty_indexes, enter_changes, index_of};
-use crate::keys::{all_alone, first_with};
+use crate::indexes::{empty_indexes, enter_changes, index_of, index_on};
+use crate::keys::{are_alone, first_with, has_row, is_in_slots};
 use crate::slots::Slots;
 use crate::undo::Undo;
 use sq_items::Items;
@@ -20,7 +20,8 @@ use sq_store::{ApplyFault, Change};
 use sq_value::{Key, Row};
 use std::alloc::{AllocError, Global};
 
-/// A table as slots with an index for each key, and what undoes its changes since the last commit, the latest change last.
+/// A table as slots with an index for each key, and behind them one for each lookup, and what undoes its changes since the
+/// last commit, the latest change last.
 ///
 /// Every row that is there, and every one that undoing brings back, has its entries in the indexes.
 #[derive(Drop)]
@@ -34,14 +35,18 @@ pub(crate) struct HeapTable {
 }
 
 impl HeapTable {
-    /// A table with these keys, and without rows.
-    pub(crate) fn new(alloc: Global, keys: &[Items<usize>]) -> Result<HeapTable, AllocError>
+    /// A table with these keys and lookups, and without rows.
+    pub(crate) fn new(
+        alloc: Global,
+        keys: &[Items<usize>],
+        lookups: &[Items<usize>],
+    ) -> Result<HeapTable, AllocError>
         ensures slots { IfOk result (λ table. table.slots.list.items ≡ []) }
         ensures undo { IfOk result (λ table. table.undo.items ≡ []) }
-        ensures keys { IfOk result (λ table. keys_of table.indexes.items ≡ keys.now) }
+        ensures keys { IfOk result (λ table. keys_of table.indexes.items ≡ keys.now ++ lookups.now) }
     {
         Ok(HeapTable {
-            indexes: empty_indexes(alloc, keys)?,
+            indexes: empty_indexes(alloc, keys, lookups)?,
             slots: Slots::new(alloc),
             undo: Vec::new(alloc),
         })
@@ -153,18 +158,25 @@ impl HeapTable {
         }
     }
 
-    /// Makes all changes, or none. No two rows may then have the same key. Says how many changes there were before.
+    /// Makes all changes, or none. No two rows may then have the same key, where so many of the indexes are of keys. Says how
+    /// many changes there were before.
     ///
     /// All memory is taken before the first change. An entry for a row that isn't put in does no harm.
     #[tactic(auto, using(crate::proofs::Back::goes_back_before, crate::proofs::Back::goes_back_committed, crate::proofs::Back::goes_back_take, sq_store::proofs::Sound::have_keys_changed_by))]
-    pub(crate) fn apply(&mut self, alloc: Global, changes: Vec<Change>) -> Result<usize, ApplyFault>
-        requires columns { have_keys (keys_of self.old.indexes.items) (table_of self.old.slots.list.items).rows ≡ true }
-        requires new_columns { list_all (has_keys (keys_of self.old.indexes.items)) (rows_put changes.items) ≡ true }
-        requires distinct { has_distinct_keys (keys_of self.old.indexes.items) (table_of self.old.slots.list.items) ≡ true }
+    pub(crate) fn apply(
+        &mut self,
+        alloc: Global,
+        keys: usize,
+        changes: Vec<Change>,
+    ) -> Result<usize, ApplyFault>
+        requires keys { keys ≤ length self.old.indexes.items }
+        requires columns { have_keys (take keys (keys_of self.old.indexes.items)) (table_of self.old.slots.list.items).rows ≡ true }
+        requires new_columns { list_all (has_keys (take keys (keys_of self.old.indexes.items))) (rows_put changes.items) ≡ true }
+        requires distinct { has_distinct_keys (take keys (keys_of self.old.indexes.items)) (table_of self.old.slots.list.items) ≡ true }
         ensures ok { OnOk result (table_of self.new.slots.list.items ≡ changed_by (table_of self.old.slots.list.items) changes.items) }
-        ensures distinct { OnOk result (has_distinct_keys (keys_of self.old.indexes.items) (changed_by (table_of self.old.slots.list.items) changes.items) ≡ true) }
+        ensures distinct { OnOk result (has_distinct_keys (take keys (keys_of self.old.indexes.items)) (changed_by (table_of self.old.slots.list.items) changes.items) ≡ true) }
         ensures duplicate { result ≡ Err ApplyFault.Duplicate
-            → has_distinct_keys (keys_of self.old.indexes.items) (changed_by (table_of self.old.slots.list.items) changes.items) ≡ false }
+            → has_distinct_keys (take keys (keys_of self.old.indexes.items)) (changed_by (table_of self.old.slots.list.items) changes.items) ≡ false }
         ensures from { IfOk result (λ from. from ≡ length self.old.undo.items) }
         ensures before { OnOk result (back self.new.slots.list.items (drop (length self.old.undo.items) self.new.undo.items) ≡ self.old.slots.list.items) }
         ensures committed { back self.new.slots.list.items self.new.undo.items ≡ back self.old.slots.list.items self.old.undo.items }
@@ -178,7 +190,7 @@ impl HeapTable {
         }
         let from = self.undo.len();
         self.make_all(changes);
-        if self.has_distinct_keys(from) {
+        if self.has_distinct_keys(keys, from) {
             Ok(from)
         } else {
             self.undo_to(from);
@@ -243,41 +255,55 @@ impl HeapTable {
         Ok(())
     }
 
-    /// Whether no two rows have the same key, where no two had before the changes from a place on.
-    fn has_distinct_keys(&self, from: usize) -> bool
+    /// Whether no two rows have the same key, where so many of the indexes are of keys, and no two had before the changes
+    /// from a place on.
+    fn has_distinct_keys(&self, keys: usize, from: usize) -> bool
+        requires keys { keys ≤ length self.now.indexes.items }
         requires place { from ≤ length self.now.undo.items }
-        requires columns { have_keys (keys_of self.now.indexes.items) (table_of self.now.slots.list.items).rows ≡ true }
-        requires before { has_distinct_keys (keys_of self.now.indexes.items) (table_of (back self.now.slots.list.items (drop from self.now.undo.items))) ≡ true }
-        ensures { result ≡ has_distinct_keys (keys_of self.now.indexes.items) (table_of self.now.slots.list.items) }
+        requires columns { have_keys (take keys (keys_of self.now.indexes.items)) (table_of self.now.slots.list.items).rows ≡ true }
+        requires before { has_distinct_keys (take keys (keys_of self.now.indexes.items)) (table_of (back self.now.slots.list.items (drop from self.now.undo.items))) ≡ true }
+        ensures { result ≡ has_distinct_keys (take keys (keys_of self.now.indexes.items)) (table_of self.now.slots.list.items) }
     {
-        self.are_alone(from)
+        self.are_alone(keys, from)
     }
 
     /// Whether no row that was changed from a place on shares one of the keys with another row.
     #[tactic(auto, using(crate::proofs::Columns::slots_of_keys, crate::proofs::Keyed::each_holds))]
-    fn are_alone(&self, from: usize) -> bool
+    fn are_alone(&self, keys: usize, from: usize) -> bool
+        requires keys { keys ≤ length self.now.indexes.items }
         requires place { from ≤ length self.now.undo.items }
-        requires columns { have_keys (keys_of self.now.indexes.items) (table_of self.now.slots.list.items).rows ≡ true }
-        ensures { result ≡ list_all (λ columns. all_alone columns self.now.slots.list.items (drop from self.now.undo.items)) (keys_of self.now.indexes.items) }
+        requires columns { have_keys (take keys (keys_of self.now.indexes.items)) (table_of self.now.slots.list.items).rows ≡ true }
+        ensures { result ≡ list_all (λ columns. all_alone columns self.now.slots.list.items (drop from self.now.undo.items)) (take keys (keys_of self.now.indexes.items)) }
     {
-        for index in &self.indexes {
-            if !all_alone(self.slots.as_slice(), index, &self.undo[from..]) {
-                return false;
-            }
-        }
-        true
+        are_alone(
+            self.slots.as_slice(),
+            &self.indexes[..keys],
+            &self.undo[from..],
+        )
     }
 
     /// The row with a key, and its number.
     #[tactic(auto, using(crate::proofs::Keyed::columns_at_index, crate::proofs::Entries::length_keys))]
     pub(crate) fn first_with(&self, key: usize, values: &Key) -> Option<(u64, &Row)>
         requires key { key < length (keys_of self.now.indexes.items) }
-        requires columns { have_keys (keys_of self.now.indexes.items) (table_of self.now.slots.list.items).rows ≡ true }
-        requires distinct { has_distinct_keys (keys_of self.now.indexes.items) (table_of self.now.slots.list.items) ≡ true }
+        requires columns { slots_have (slice_index_or (keys_of self.now.indexes.items) key []) self.now.slots.list.items ≡ true }
+        requires distinct { are_distinct (slice_index_or (keys_of self.now.indexes.items) key []) (table_of self.now.slots.list.items).rows ≡ true }
         ensures { let found = with_key (table_of self.now.slots.list.items) (slice_index_or (keys_of self.now.indexes.items) key []) values.now in
             MatchOption result (found ≡ None) (λ r. found ≡ Some (record { number = r.0; row = r.1.now })) }
     {
         first_with(self.slots.as_slice(), &self.indexes[key], values)
+    }
+
+    /// Whether a row has these values in these columns.
+    pub(crate) fn has_row(&self, columns: &[usize], values: &Key) -> bool
+        requires { slots_have columns.now self.now.slots.list.items ≡ true }
+        ensures { result ≡ is_some (with_key (table_of self.now.slots.list.items) columns.now values.now) }
+    {
+        let slots = self.slots.as_slice();
+        match index_on(self.indexes.as_slice(), columns) {
+            Some(place) => has_row(slots, &self.indexes[place], values),
+            None => is_in_slots(slots, columns, values),
+        }
     }
 
     /// Undoes the last change.

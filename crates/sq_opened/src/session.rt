@@ -9,7 +9,8 @@ use sq_store::{MOST_ROW_NUMBERS, Store};
 use sq_tree::ModuleText;
 use std::alloc::{AllocError, Global};
 
-/// A store without rows for the base tables of a catalog and their keys, of so many row numbers or of `MOST_ROW_NUMBERS`.
+/// A store without rows for the base tables of a catalog, their keys and references, of so many row numbers or of
+/// `MOST_ROW_NUMBERS`.
 #[tactic(auto, using(sq_session::proofs::Holding::keys_count))]
 pub fn store_of<S: Store>(
     alloc: Global,
@@ -20,7 +21,13 @@ pub fn store_of<S: Store>(
     ensures committed { IfOk result (λ store. S.committed store ≡ no_rows (length catalog.now.bases)) }
     ensures keys { IfOk result (λ store. S.key_columns store ≡ keys_of_bases catalog.now.bases) }
 {
-    S::new(alloc, catalog.keys(), row_numbers.min(MOST_ROW_NUMBERS))
+    let lookups = catalog.lookups(alloc)?;
+    S::new(
+        alloc,
+        catalog.keys(),
+        lookups.as_slice(),
+        row_numbers.min(MOST_ROW_NUMBERS),
+    )
 }
 
 /// A session of modules over such a store.

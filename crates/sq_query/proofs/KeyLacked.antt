@@ -33,11 +33,11 @@ use Rattle.sq_meaning.proofs.ReadingKinds.{places_agree, env_by_place}
 use Rattle.sq_meaning.proofs.ValueKinds.{value_fits}
 use Rattle.sq_bound.specs.Condition.{PlacedCond}
 use Rattle.sq_bound.specs.Expression.{PlacedExpr}
-use Rattle.sq_bound.specs.WellFormed.{TableKinds, of_base_at}
+use Rattle.sq_bound.specs.WellFormed.{TableKinds}
 use Rattle.sq_bound.specs.declared.condition.TablePlace.{TablePlace}
-use Rattle.sq_bound.specs.declared.condition.TablePlace.TheVariants.{Base}
 use Rattle.sq_bound.proofs.QuietRows.{no_tables}
 use Rattle.sq_expression.specs.Frame.{inputs_of}
+use Rattle.sq_query.specs.Key.{on_rows_of}
 use Rattle.sq_query.specs.Row.{outside}
 use Rattle.sq_query.proofs.AnyTables.{truth_over, value_over}
 use Rattle.sq_query.proofs.KeyTests.{same_value, column_is}
@@ -86,7 +86,7 @@ outcomes_differ (Ok k) (Ok l) (Ok x) y goes h g has so y_is =
 
 -- ---- NOT NULL
 
-unnull : (w b : Bool) → w ≡ true → (w && b) ≡ false → b ≡ false
+pub unnull : (w b : Bool) → w ≡ true → (w && b) ≡ false → b ≡ false
 unnull true b e h = h
 unnull false b e h = cc
 
@@ -146,8 +146,8 @@ pub none_fit : (o : Outcome (List Kind)) → Fits AreRowsOf o (Err NoData)
 none_fit (Ok kinds) = tt
 none_fit (Err status) = tt
 
-module _ (tables : TablePlace → Outcome (List Row)) (columns : TableKinds) (parameters : List Kind) (values : List Value) (caller : Name) (row : Row) (place : ℕ)
-    (fits : Has (λ ks. IsRowOf ks row) (columns (Base place))) (given : IsRowOf parameters values) where
+module _ (tables : TablePlace → Outcome (List Row)) (columns : TableKinds) (parameters : List Kind) (values : List Value) (caller : Name) (row : Row) (place : TablePlace)
+    (fits : Has (λ ks. IsRowOf ks row) (columns place)) (given : IsRowOf parameters values) where
   abbrev here : Env (Unit {0})
   here = outside (row ∷ []) values caller
 
@@ -155,22 +155,22 @@ module _ (tables : TablePlace → Outcome (List Row)) (columns : TableKinds) (pa
   known_kinds = kinds_by_place columns parameters
 
   abbrev pub IsTestOn : PlacedCond → Type 0
-  IsTestOn = WellFormedCond (by_place no_tables) known_kinds (IsDeclaredAt parameters) (of_base_at place)
+  IsTestOn = WellFormedCond (by_place no_tables) known_kinds (IsDeclaredAt parameters) (on_rows_of place)
 
-  env_is : IsEnvOf (by_place no_tables) known_kinds (IsDeclaredAt parameters) (of_base_at place) here
+  env_is : IsEnvOf (by_place no_tables) known_kinds (IsDeclaredAt parameters) (on_rows_of place) here
   env_is =
-      env_by_place no_tables columns parameters (of_base_at place) (alone [] (row ∷ []) ∷ []) (inputs_of values) caller (record { line = (fits, tt); group = tt }, tt)
+      env_by_place no_tables columns parameters (on_rows_of place) (alone [] (row ∷ []) ∷ []) (inputs_of values) caller (record { line = (fits, tt); group = tt }, tt)
       (inputs_are parameters values given)
 
   -- a well-formed test that is quiet has a truth
   pub test_answers : (c : PlacedCond) → IsTestOn c → is_quiet c ≡ true → HasValue (truth (by_place tables) c here)
   test_answers c well quiet =
       subst HasValue (truth_over no_tables tables c here (quiet_plain c quiet))
-      (has_truth no_tables known_kinds (IsDeclaredAt parameters) (places_agree no_tables columns parameters (λ t. none_fit (columns t))) c (of_base_at place) here well env_is quiet)
+      (has_truth no_tables known_kinds (IsDeclaredAt parameters) (places_agree no_tables columns parameters (λ t. none_fit (columns t))) c (on_rows_of place) here well env_is quiet)
 
-  fits_kind : (e : PlacedExpr) (well : HasValue (kind known_kinds (froms (of_base_at place)) e)) → Fits IsOfKind (kind known_kinds (froms (of_base_at place)) e) (value (by_place no_tables) e here)
-      → Fits IsOfKind (kind known_kinds (froms (of_base_at place)) e) (value (by_place tables) e here)
-  fits_kind e well = subst (Fits IsOfKind (kind known_kinds (froms (of_base_at place)) e)) (value_over no_tables tables e here)
+  fits_kind : (e : PlacedExpr) (well : HasValue (kind known_kinds (froms (on_rows_of place)) e)) → Fits IsOfKind (kind known_kinds (froms (on_rows_of place)) e) (value (by_place no_tables) e here)
+      → Fits IsOfKind (kind known_kinds (froms (on_rows_of place)) e) (value (by_place tables) e here)
+  fits_kind e well = subst (Fits IsOfKind (kind known_kinds (froms (on_rows_of place)) e)) (value_over no_tables tables e here)
 
   in_line : (item n : ℕ) (x : Value) → value_at here (record { depth = zero; item = item; column = n }) ≡ Ok x → well_formed (slice_get row n) ≡ Ok x
   in_line zero n x h = h
@@ -187,10 +187,10 @@ module _ (tables : TablePlace → Outcome (List Row)) (columns : TableKinds) (pa
       ap (λ (o : Outcome Value). and_then at (λ x. and_then o (λ y. Ok (comparison Equal x y)))) known_value in
       let agrees = places_agree no_tables columns parameters (λ t. none_fit (columns t)) in
       step
-      ∙ outcomes_differ (kind known_kinds (froms (of_base_at place)) (column (record { depth = zero; item = item; column = n }))) (kind known_kinds (froms (of_base_at place)) e) at v well.2
-      (value_fits (by_place no_tables) known_kinds (IsDeclaredAt parameters) agrees (of_base_at place) (column (record { depth = zero; item = item; column = n })) here well.0.1 env_is)
-      (subst (Fits IsOfKind (kind known_kinds (froms (of_base_at place)) e)) known_value
-      (fits_kind e well.1.0 (value_fits (by_place no_tables) known_kinds (IsDeclaredAt parameters) agrees (of_base_at place) e here well.1.1 env_is)))
+      ∙ outcomes_differ (kind known_kinds (froms (on_rows_of place)) (column (record { depth = zero; item = item; column = n }))) (kind known_kinds (froms (on_rows_of place)) e) at v well.2
+      (value_fits (by_place no_tables) known_kinds (IsDeclaredAt parameters) agrees (on_rows_of place) (column (record { depth = zero; item = item; column = n })) here well.0.1 env_is)
+      (subst (Fits IsOfKind (kind known_kinds (froms (on_rows_of place)) e)) known_value
+      (fits_kind e well.1.0 (value_fits (by_place no_tables) known_kinds (IsDeclaredAt parameters) agrees (on_rows_of place) e here well.1.1 env_is)))
       (subst HasValue step (test_answers (compare Equal (column (record { depth = zero; item = item; column = n })) e) well quiet))
       (λ x found. (
         column_not x (in_line item n x found),

@@ -22,7 +22,7 @@ use Rattle.sq_bound.specs.declared.names.Leaf.{Leaf}
 use Rattle.sq_bound.specs.declared.query.Target.{Target}
 use Rattle.sq_bound.proofs.QuietTruths.{both_left, both_right}
 use Rattle.sq_expression.specs.declared.fault.Fault.{Fault}
-use Rattle.sq_query.specs.Key.{AreFirstTests, IsComparedWith, IsKeyOf, IsKeyOn}
+use Rattle.sq_query.specs.Key.{AreFirstTests, IsComparedWith, IsKeyOf, IsKeyOn, IsNamedBy}
 use Rattle.sq_query.specs.declared.key.KnownKey.{KnownKey}
 
 -- ---- the key of a target
@@ -107,23 +107,31 @@ first_tests_name own columns tests named r =
 
 -- ---- the key of a condition
 
--- the values of the first tests are those of a key
-pub key_on : (place : ℕ) (own : BoundCond) (content : Content) (keys : List Keys) (parameters : List Value) (user : Name) (key : ℕ) (columns : List ℕ) (tests : List BoundTest) (values : List Value) (known : KnownKey)
-    → place < length content → key < length (keys_at keys place) → names_key (key_at keys place key) (out-BoundCond own).terms ≡ true → columns ≡ key_at keys place key → AreFirstTests columns own tests
-    → AllZip (IsComparedWith tests parameters user) columns values → known.key ≡ key → known.values ≡ values → IsKeyOn place own content keys parameters user known
-key_on place own content keys parameters user key columns tests values known there within named columns_are r all is_key values_are =
-    let at : columns ≡ key_at keys place known.key = columns_are ∙ ap (key_at keys place) (sym is_key) in
-    let compared : AllZip (IsComparedWith (take (length columns) (out-BoundConj r.term).tests) parameters user) columns known.values =
-    subst (λ (vs : List Value). AllZip (IsComparedWith (take (length columns) (out-BoundConj r.term).tests) parameters user) columns vs) (sym values_are)
-    (subst (λ (ts : List BoundTest). AllZip (IsComparedWith ts parameters user) columns values) r.firsts all) in
-    record {
-      table = there;
-      key = subst (λ (k : ℕ). k < length (keys_at keys place)) (sym is_key) within;
-      named = subst (λ (k : ℕ). names_key (key_at keys place k) (out-BoundCond own).terms ≡ true) (sym is_key) named;
-      term = r.term;
-      only_term = r.only_term;
-      values = subst (λ (cs : List ℕ). AllZip (IsComparedWith (take (length cs) (out-BoundConj r.term).tests) parameters user) cs known.values) at compared;
-    }
+-- the first tests, which name these columns, compare them with these values
+pub named_by : (own : BoundCond) (parameters : List Value) (user : Name) (columns : List ℕ) (tests : List BoundTest) (values found : List Value) → names_key columns (out-BoundCond own).terms ≡ true → AreFirstTests columns own tests
+    → AllZip (IsComparedWith tests parameters user) columns values → found ≡ values → IsNamedBy columns own parameters user found
+named_by own parameters user columns tests values found named r all values_are = record {
+  named = named;
+  term = r.term;
+  only_term = r.only_term;
+  compared = subst (λ (vs : List Value). AllZip (IsComparedWith (take (length columns) (out-BoundConj r.term).tests) parameters user) columns vs) (sym values_are)
+      (subst (λ (ts : List BoundTest). AllZip (IsComparedWith ts parameters user) columns values) r.firsts all);
+}
+
+-- so a condition does by a key of a base table
+pub key_on : (place : ℕ) (own : BoundCond) (content : Content) (keys : List Keys) (parameters : List Value) (user : Name) (key : ℕ) (columns : List ℕ) (r : Result (Option KnownKey) Fault) → place < length content
+    → key < length (keys_at keys place) → columns ≡ key_at keys place key → IfOk r (λ found. IfSome found (λ known. (known.key ≡ key) × IsNamedBy columns own parameters user known.values))
+    → IfOk r (λ found. IfSome found (λ known. (known.key ≡ key) × IsKeyOn place own content keys parameters user known))
+key_on place own content keys parameters user key columns (Err e) there within are h = tt
+key_on place own content keys parameters user key columns (Ok None) there within are h = tt
+key_on place own content keys parameters user key columns (Ok (Some known)) there within are h = (
+  h.0,
+  record {
+    table = there;
+    key = subst (λ (k : ℕ). k < length (keys_at keys place)) (sym h.0) within;
+    by_key = subst (λ (cs : List ℕ). IsNamedBy cs own parameters user known.values) (are ∙ ap (key_at keys place) (sym h.0)) h.1;
+  },
+)
 
 -- so it is of the key that is noted for a target
 pub noted_key : (t : Target) (own : BoundCond) (content : Content) (keys : List Keys) (parameters : List Value) (user : Name) (key : ℕ) (r : Result (Option KnownKey) Fault) → t.condition ≡ Some own → t.key ≡ Some key
@@ -140,6 +148,14 @@ shortest_names keys own key (Some k) h is =
     let same : k ≡ key = cc in
     subst (λ (n : ℕ). (n < length keys) × (names_key (slice_index_or keys n []) (out-BoundCond own).terms ≡ true)) same
     (slice_get_within keys k h.0 h.1, ap (λ (columns : List ℕ). names_key columns (out-BoundCond own).terms) (get_or_from_slice_get keys k h.0 [] h.1) ∙ h.2)
+
+-- of one key alone it is this one
+pub only_named : (columns : List ℕ) (own : BoundCond) (key : ℕ) (found : Option ℕ) → IsShortestKey (columns ∷ []) own found → found ≡ Some key → names_key columns (out-BoundCond own).terms ≡ true
+only_named columns own key found h is = by key (shortest_names (columns ∷ []) own key found h is)
+  where
+    by : (k : ℕ) → (k < 1) × (names_key (slice_index_or (columns ∷ []) k []) (out-BoundCond own).terms ≡ true) → names_key columns (out-BoundCond own).terms ≡ true
+    by zero p = p.1
+    by (suc k) p = let below : suc k < 1 = p.0 in absurd (omega (arith, below))
 
 pub shortest_known : (place : ℕ) (own : BoundCond) (content : Content) (keys : List Keys) (parameters : List Value) (user : Name) (key : ℕ) (r : Result (Option KnownKey) Fault)
     → IfOk r (λ found. IfSome found (λ known. (known.key ≡ key) × IsKeyOn place own content keys parameters user known)) → IfOk r (λ found. IfSome found (IsKeyOn place own content keys parameters user))

@@ -66,7 +66,7 @@ compared_if tests parameters caller n e v (Some w) found has h = record {
 
 -- ---- values
 
-in_row : (row : Row) (n : ℕ) (x : Value) → well_formed (slice_get row n) ≡ Ok x → slice_index_or row n Null ≡ x
+pub in_row : (row : Row) (n : ℕ) (x : Value) → well_formed (slice_get row n) ≡ Ok x → slice_index_or row n Null ≡ x
 in_row [] n x h = cc
 in_row (v ∷ row) zero x h = ok_same v x h
 in_row (v ∷ row) (suc n) x h = in_row row n x h

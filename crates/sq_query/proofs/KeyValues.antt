@@ -30,6 +30,7 @@ use Rattle.sq_bound.specs.declared.condition.BoundCond.{BoundCond, out-BoundCond
 use Rattle.sq_bound.specs.declared.condition.BoundConj.{BoundConj, out-BoundConj}
 use Rattle.sq_bound.specs.declared.condition.BoundTest.{BoundTest}
 use Rattle.sq_bound.specs.declared.condition.TablePlace.{TablePlace}
+use Rattle.sq_bound.specs.declared.condition.TablePlace.TheVariants.{Base}
 use Rattle.sq_bound.specs.declared.expression.BoundExpr.{BoundExpr}
 use Rattle.sq_bound.specs.declared.query.Target.{Target}
 use Rattle.sq_bound.proofs.ConditionLaws.{cond_of-out, conj_of-out}
@@ -39,7 +40,7 @@ use Rattle.sq_expression.specs.Fault.{Meets, MeetsAs}
 use Rattle.sq_expression.specs.Frame.{inputs_of}
 use Rattle.sq_expression.specs.declared.fault.Fault.{Fault}
 use Rattle.sq_expression.specs.declared.fault.Fault.TheVariants as fault
-use Rattle.sq_query.specs.Key.{AreFirstTests, HaveValues, IsEquality, StandsOn}
+use Rattle.sq_query.specs.Key.{AreFirstTests, HaveValues, IsEquality, StandsOn, on_rows_of}
 use Rattle.sq_query.specs.Row.{outside}
 use Rattle.sq_query.proofs.KeyLacked.{none_fit}
 use Rattle.sq_query.proofs.KeyNames.{first_tests_start, firsts_name}
@@ -68,10 +69,10 @@ module _ (columns : TableKinds) (parameters : List Kind) where
   abbrev known_kinds : Kinds (Placed TablePlace)
   known_kinds = kinds_by_place columns parameters
 
-  abbrev pub IsTestAt : ℕ → PlacedCond → Type 0
-  IsTestAt place = WellFormedCond (by_place no_tables) known_kinds (IsDeclaredAt parameters) (of_base_at place)
+  abbrev pub IsTestAt : TablePlace → PlacedCond → Type 0
+  IsTestAt place = WellFormedCond (by_place no_tables) known_kinds (IsDeclaredAt parameters) (on_rows_of place)
 
-  tests_at : (place : ℕ) (ts : List BoundTest) → WellFormedConds (by_place no_tables) known_kinds (IsDeclaredAt parameters) (of_base_at place) (conds (map (test_of []) ts)) → AllByRecursion (λ x. IsTestAt place (test_of [] x)) ts
+  tests_at : (place : TablePlace) (ts : List BoundTest) → WellFormedConds (by_place no_tables) known_kinds (IsDeclaredAt parameters) (on_rows_of place) (conds (map (test_of []) ts)) → AllByRecursion (λ x. IsTestAt place (test_of [] x)) ts
   tests_at place [] h = tt
   tests_at place (x ∷ ts) h = (h.0, tests_at place ts h.1)
 
@@ -83,12 +84,12 @@ module _ (columns : TableKinds) (parameters : List Kind) where
       by (Some d) h e = let same : d ≡ own = cc in subst (IsCond columns parameters (of_base_at t.leaf.table.place) []) same h
 
   -- so it stands on the rows of the base table
-  pub own_stands : (t : Target) (own : BoundCond) → IsTarget columns parameters t → t.condition ≡ Some own → StandsOn columns parameters t.leaf.table.place own
+  pub own_stands : (t : Target) (own : BoundCond) → IsTarget columns parameters t → t.condition ≡ Some own → StandsOn columns parameters (Base t.leaf.table.place) own
   own_stands t own well is rows_of =
       let c = own_well t own well is in
       subst (WellFormedCond (by_place rows_of) known_kinds (IsDeclaredAt parameters) (of_base_at t.leaf.table.place)) (sym (c.is_tree [])) (c.stands rows_of)
 
-  pub tests_stand : (place : ℕ) (own : BoundCond) (term : BoundConj) → (out-BoundCond own).terms ≡ term ∷ [] → IsTestAt place (cond_of [] own) → AllByRecursion (λ x. IsTestAt place (test_of [] x)) (out-BoundConj term).tests
+  pub tests_stand : (place : TablePlace) (own : BoundCond) (term : BoundConj) → (out-BoundCond own).terms ≡ term ∷ [] → IsTestAt place (cond_of [] own) → AllByRecursion (λ x. IsTestAt place (test_of [] x)) (out-BoundConj term).tests
   tests_stand place own term only whole =
       let taken : IsTestAt place (disjunction (conds (conjunction (conds (map (test_of []) (out-BoundConj term).tests)) ∷ []))) = subst (IsTestAt place) (term_tree own term only) whole in
       tests_at place (out-BoundConj term).tests taken.0
@@ -112,7 +113,7 @@ constant_in key n item x h = by (is_constant x) refl h
 
 -- ---- the value of a literal or a parameter, on no row
 
-answered : (known : Outcome Kind) (o : Outcome Value) → HasValue known → Fits IsOfKind known o → Answers (λ x. ⊤) o
+pub answered : (known : Outcome Kind) (o : Outcome Value) → HasValue known → Fits IsOfKind known o → Answers (λ x. ⊤) o
 answered (Err s) o there fits = absurd there
 answered (Ok k) (Ok v) there fits = tt
 answered (Ok k) (Err s) there fits = fits
@@ -167,16 +168,16 @@ module _ (columns : TableKinds) (parameters : List Kind) (values : List Value) (
 
   -- ---- and of all that the tests of a target compare columns with
 
-  named_value : (place : ℕ) (key : List ℕ) (tables : TablePlace → Outcome (List Row)) (test : BoundTest) (n : ℕ) (e : BoundExpr) → IsEquality n e test → names_one_of key (test_of [] test) ≡ true
+  named_value : (place : TablePlace) (key : List ℕ) (tables : TablePlace → Outcome (List Row)) (test : BoundTest) (n : ℕ) (e : BoundExpr) → IsEquality n e test → names_one_of key (test_of [] test) ≡ true
       → IsTestAt columns parameters place (test_of [] test) → HasValue (value (by_place tables) (expr_of [] e) nowhere)
   named_value place key tables test n e is names well =
       let pair = subst (IsTestAt columns parameters place) is.1 well in
-      constant_there (of_base_at place) tables (expr_of [] e) (constant_in key n is.0 (expr_of [] e) (sym (ap (names_one_of key) is.1) ∙ names)) pair.1.0 pair.1.1
+      constant_there (on_rows_of place) tables (expr_of [] e) (constant_in key n is.0 (expr_of [] e) (sym (ap (names_one_of key) is.1) ∙ names)) pair.1.0 pair.1.1
 
   all_names : (key : List ℕ) (ts : List BoundTest) → list_all (names_one_of key) (map (test_of []) ts) ≡ true → AllByRecursion (λ x. names_one_of key (test_of [] x) ≡ true) ts
   all_names key ts h = all_passed (λ x. names_one_of key (test_of [] x)) ts (sym (list_all-map (names_one_of key) (test_of []) ts) ∙ h)
 
-  firsts_valued : (place : ℕ) (own : BoundCond) (term : BoundConj) (key : List ℕ) (count : ℕ) → StandsOn columns parameters place own → (out-BoundCond own).terms ≡ term ∷ []
+  firsts_valued : (place : TablePlace) (own : BoundCond) (term : BoundConj) (key : List ℕ) (count : ℕ) → StandsOn columns parameters place own → (out-BoundCond own).terms ≡ term ∷ []
       → list_all (names_one_of key) (map (test_of []) (take count (out-BoundConj term).tests)) ≡ true → HaveValues (take count (out-BoundConj term).tests) values caller
   firsts_valued place own term key count stands only names tables test n e among is_test =
       let firsts : List BoundTest = take count (out-BoundConj term).tests in
@@ -184,7 +185,7 @@ module _ (columns : TableKinds) (parameters : List Kind) (values : List Value) (
       (all_contained (λ x. names_one_of key (test_of [] x) ≡ true) firsts among.0 test (all_names key firsts names) among.1 among.2)
       (all_contained (λ x. IsTestAt columns parameters place (test_of [] x)) firsts among.0 test (all_first _ count (out-BoundConj term).tests (tests_stand columns parameters place own term only (stands no_tables))) among.1 among.2)
 
-  pub first_tests_valued : (place : ℕ) (own : BoundCond) (key : List ℕ) (tests : List BoundTest) → StandsOn columns parameters place own → names_key key (out-BoundCond own).terms ≡ true → AreFirstTests key own tests
+  pub first_tests_valued : (place : TablePlace) (own : BoundCond) (key : List ℕ) (tests : List BoundTest) → StandsOn columns parameters place own → names_key key (out-BoundCond own).terms ≡ true → AreFirstTests key own tests
       → HaveValues tests values caller
   first_tests_valued place own key tests stands named r =
       subst (λ (firsts : List BoundTest). HaveValues firsts values caller) (sym r.firsts)

@@ -1,6 +1,6 @@
 -- The rows of a base table that well-formed conditions choose, those with subqueries too (ISO/IEC 9075:1992, 13.7 and 13.10).
-use Rattle.std.proofs.Common.{◌≡◌, ◌∙◌, Bool, Bor, ℕ, ◌+◌, ◌<◌, ◌≤◌, List, [], ◌∷◌, ◌++◌, length, drop, take, map, get_or, Some, Result, refl, sym, ap, subst, Ok, Err}
-use Rattle.std.specs.Prelude.{⊤, find, IfErr, IfOk}
+use Rattle.std.proofs.Common.{◌≡◌, ◌∙◌, Bool, Bor, ℕ, ◌+◌, ◌<◌, ◌≤◌, List, [], ◌∷◌, ◌++◌, length, drop, take, map, get_or, Result, refl, sym, ap, subst, Ok, Err}
+use Rattle.std.specs.Prelude.{⊤, IfErr, IfOk}
 use Rattle.std.specs.List.{AllByRecursion}
 use Rattle.std.specs.Result.{IsErrAnd}
 use Rattle.std.proofs.lemmas.List.{map_push, take_all, take_more}
@@ -11,7 +11,6 @@ use Rattle.sq_value.specs.declared.truth.Truth.{Truth}
 use Rattle.sq_value.specs.declared.truth.Truth.TheVariants.{False, Unknown, True}
 use Rattle.sq_value.specs.declared.value.Value.{Value}
 use Rattle.sq_store.specs.Content.{Content, table_at}
-use Rattle.sq_store.specs.Keys.{has_key}
 use Rattle.sq_store.specs.declared.table.Numbered.{Numbered}
 use Rattle.sq_store.specs.declared.table.Table.{Table}
 use Rattle.sq_meaning.specs.Environment.{Row}
@@ -21,7 +20,7 @@ use Rattle.sq_meaning.specs.WellFormed.{Answers, Has, HasValue, IsRowOf}
 use Rattle.sq_meaning.proofs.AnswerLaws.{all_appended, all_weaker, kept_answers, then_answers, valued}
 use Rattle.sq_bound.specs.Condition.{cond_of}
 use Rattle.sq_bound.specs.Expression.{PlacedExpr}
-use Rattle.sq_bound.specs.WellFormed.{IsCond, IsCondOn, IsTarget, IsViewQuery, TableKinds, base_kinds, of_base, of_base_at}
+use Rattle.sq_bound.specs.WellFormed.{IsCond, IsCondOn, IsTarget, IsViewQuery, TableKinds, of_base, of_base_at}
 use Rattle.sq_bound.specs.declared.condition.BoundCond.{BoundCond}
 use Rattle.sq_bound.specs.declared.condition.BoundSpecification.{BoundSpecification}
 use Rattle.sq_bound.specs.declared.condition.TablePlace.{TablePlace}
@@ -29,13 +28,13 @@ use Rattle.sq_bound.specs.declared.condition.TablePlace.TheVariants.{Base, View}
 use Rattle.sq_bound.specs.declared.names.BaseTable.{BaseTable}
 use Rattle.sq_bound.specs.declared.query.Target.{Target}
 use Rattle.sq_bound.proofs.Wider.{is_cond_wider}
-use Rattle.sq_expression.specs.Fault.{IsRight, Meets}
+use Rattle.sq_expression.specs.Fault.{IsRight}
 use Rattle.sq_expression.specs.Frame.{table_rows}
 use Rattle.sq_query.specs.MayRead.{MayEnd, MayRead}
 use Rattle.sq_query.specs.Needed.{Adds, IsNeeded, NeedsBases, ReadsCond, cond_tables}
-use Rattle.sq_query.specs.Row.{IsOnRow, outside, truth_on_row}
+use Rattle.sq_query.specs.Row.{outside, truth_on_row}
 use Rattle.sq_query.specs.Table.{ReadsAsMeant, bases_of, rows_read, stored_base, stored_numbered}
-use Rattle.sq_query.specs.Target.{AreKnownIn, AreOnBase, are_true, chosen, conditions_of, is_true_of, numbers_chosen}
+use Rattle.sq_query.specs.Target.{AreKnownIn, AreOnBase, chosen, conditions_of, is_true_of}
 use Rattle.sq_expression.specs.declared.context.Context.{Context}
 use Rattle.sq_expression.specs.declared.fault.Failure.TheVariants as failure
 use Rattle.sq_expression.specs.declared.fault.Fault.{Fault}
@@ -44,17 +43,14 @@ use Rattle.sq_query.specs.declared.needed.Needed.{Needed}
 use Rattle.sq_query.specs.declared.view.Tables.{Tables}
 use Rattle.sq_query.proofs.Added.{cond_needed, needs_more}
 use Rattle.sq_query.proofs.Chosen.{chosen_failed}
-use Rattle.sq_query.proofs.Fitting.{ends_right}
 use Rattle.sq_query.proofs.KeyedRows.{both_are}
 use Rattle.sq_query.proofs.KindsOfTables.{KindsAreOf, stored_kinds}
 use Rattle.sq_query.proofs.KnownQueries.{known_cond_of}
 use Rattle.sq_query.proofs.NeededViews.{cond_reads_weaker}
-use Rattle.sq_query.proofs.OnlyOne.{found_is}
 use Rattle.sq_query.proofs.ReadAs.{cond_read_as}
 use Rattle.sq_query.proofs.ReadRows.{truth_answers}
 use Rattle.sq_query.proofs.SameTables.{same_truth}
 use Rattle.sq_query.proofs.TablesMeant.{known_stored}
-use Rattle.sq_query.proofs.TargetRows.{all_true_answers, conditions_on_row}
 use Rattle.sq_query.proofs.Walk.{there_within}
 
 -- ---- condition after condition
@@ -119,9 +115,9 @@ module _ (f g : TablePlace → Outcome (List Row)) (parameters : List Value) (us
   same_chosen [] read rows = refl
   same_chosen (c ∷ cs) read rows = λ i. and_then (kept (λ r. is_true (same_truth f g (cond_of [] c) read.0 (outside (r.row ∷ []) parameters user) i)) rows) (λ left. same_chosen cs read.1 left i)
 
-  pub same_numbers : (o : Outcome (List Numbered)) (cs : List BoundCond) → AllByRecursion (λ c. ReadsCond (λ t. f t ≡ g t) (cond_of [] c)) cs
-      → and_then o (numbers_chosen (is_true_of f parameters user) cs) ≡ and_then o (numbers_chosen (is_true_of g parameters user) cs)
-  same_numbers o cs read = λ i. and_then o (λ rows. and_then (same_chosen cs read rows i) (λ found. Ok (map (λ r. r.number) found)))
+  pub same_rows : (o : Outcome (List Numbered)) (cs : List BoundCond) → AllByRecursion (λ c. ReadsCond (λ t. f t ≡ g t) (cond_of [] c)) cs
+      → and_then o (chosen (is_true_of f parameters user) cs) ≡ and_then o (chosen (is_true_of g parameters user) cs)
+  same_rows o cs read = λ i. and_then o (λ rows. same_chosen cs read rows i)
 
 -- ---- the conditions of a target
 
@@ -157,37 +153,20 @@ module _ (bases : List BaseTable) (queries : List BoundSpecification) (columns :
   rows_fit place within kinds is = rows_so (IsRowOf kinds) (table_at content place).rows (stored_kinds columns bases content kinds_of_bases may.in_domains place within kinds is)
 
   -- the conditions choose rows of it, or end with a status other than 42000
-  pub numbers_answer : (place : ℕ) (cs : List BoundCond) → AreOnBase columns parameters place cs → Answers (λ ns. ⊤) (and_then (stored_numbered content place) (numbers_chosen (is_true_of tables values user) cs))
-  numbers_answer place cs on =
+  pub rows_answer : (place : ℕ) (cs : List BoundCond) → AreOnBase columns parameters place cs → Answers (λ found. ⊤) (and_then (stored_numbered content place) (chosen (is_true_of tables values user) cs))
+  rows_answer place cs on =
       let within = known_stored bases queries columns content user tables kinds_of_bases may.there may.in_domains may.meant place on.known in
       let kinds = valued (columns (Base place)) on.known in
       let Fitting = λ (r : Numbered). IsRowOf kinds.0 r.row in
       let test = is_true_of tables values user in
       let rows = (table_at content place).rows in
       let stored = ap (λ (o : Outcome Table). and_then o (λ found. Ok found.rows)) (there_within content place within) in
-      subst (λ (o : Outcome (List Numbered)). Answers (λ ns. ⊤) (and_then o (numbers_chosen test cs))) (sym stored)
-      (then_answers (λ found. ⊤) (λ ns. ⊤) (chosen test cs rows) (λ found. Ok (map (λ r. r.number) found))
+      subst (λ (o : Outcome (List Numbered)). Answers (λ found. ⊤) (and_then o (chosen test cs))) (sym stored)
       (chosen_answers Fitting test cs (all_weaker (IsCond columns parameters (of_base_at place) []) (λ c. (r : Numbered) → Fitting r → Answers (λ b. ⊤) (test c r))
       (λ c well r is_row. truth_so (truth_on_row tables values user r.row c)
       (truth_answers bases queries columns content user values kinds_of_bases kinds_of_views parameters tables may r.row c
       (record { place = place; well = well; fits = subst (Has (λ ks. IsRowOf ks r.row)) (sym kinds.1) is_row })))
       cs on.well) rows (rows_fit place within kinds.0 kinds.1))
-      (λ found p. tt))
-
-  -- whether the conditions of a target are true of a row that is found by a key never ends with 42000
-  pub found_right : (t : Target) → IsTarget columns parameters t → t.base < length content → (key : List ℕ) (wanted : List Value) (r : Numbered) → find (has_key key wanted) (table_at content t.base).rows ≡ Some r
-      → (e : Fault) → (AllByRecursion (IsOnRow columns parameters r.row) (conditions_of t) → Meets {A = Bool} (Err e) (are_true (truth_on_row tables values user r.row) (conditions_of t))) → MayEnd e
-  found_right t h within key wanted r is e ends =
-      let kinds = base_kinds t.leaf.table in
-      let rows = (table_at content t.base).rows in
-      let fit = rows_fit t.base within kinds (ap (λ (p : ℕ). columns (Base p)) t.is_under ∙ h.leaf.kinds_are) in
-      let is_row = found_is (λ (s : Numbered). IsRowOf kinds s.row) (has_key key wanted) rows r fit is in
-      let test = truth_on_row tables values user r.row in
-      let on = conditions_on_row columns parameters t r.row h is_row in
-      ends_right {A = Bool} (Err e) (λ b. ⊤) (are_true test (conditions_of t))
-      (all_true_answers test (conditions_of t) (all_weaker (IsOnRow columns parameters r.row) (λ c. Answers (λ u. ⊤) (test c))
-      (truth_answers bases queries columns content user values kinds_of_bases kinds_of_views parameters tables may r.row) (conditions_of t) on))
-      (ends on)
 
 -- ---- faults
 

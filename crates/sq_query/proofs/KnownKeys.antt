@@ -28,7 +28,7 @@ pub not_none : {A : Type 0} (o : Option A) → o ≡ None → IsSome o → ⊥
 not_none None e h = let k : false ≡ true = h in cc
 not_none (Some x) e h = cc
 
-same_some : {A : Type 0} (x y : A) (o : Option A) → o ≡ Some x → o ≡ Some y → x ≡ y
+pub same_some : {A : Type 0} (x y : A) (o : Option A) → o ≡ Some x → o ≡ Some y → x ≡ y
 same_some x y o h k = cc
 
 -- the value with which a test compares a column, which is known

@@ -1,39 +1,54 @@
--- The numbers of the rows that a target means are those of rows that are there (ISO/IEC 9075:1992, 13.7 and 13.10).
-use Rattle.std.proofs.Common.{◌≡◌, ℕ, Bool, true, false, List, [], ◌∷◌, cond, length, map, Some, Result, Vec, Global, refl, sym, ap, subst, Ok, Err}
-use Rattle.std.proofs.lemmas.Bool.{eq-eqb}
-use Rattle.std.specs.Prelude.{IfOk, IsSome, find, if◌then◌else◌, is_some, nat_eq, nat_lt}
+-- The rows that a target means stand in the table under their numbers (ISO/IEC 9075:1992, 13.7 and 13.10).
+use Rattle.std.proofs.Common.{◌≡◌, ℕ, ◌+◌, ◌≤◌, Bool, true, false, List, [], ◌∷◌, cond, length, map, Option, Some, Result, Vec, Global, Bor, refl, ap, subst, arith, Ok, Err}
+use Rattle.std.proofs.lemmas.Bool.{eq-eqb, eqb-true, leb-true}
+use Rattle.std.specs.Prelude.{IfOk, IsSome, find, if◌then◌else◌, is_some, nat_eq, nat_le, nat_lt}
 use Rattle.std.specs.List.{AllByRecursion}
-use Rattle.sq_value.specs.declared.value.Value.{Value}
 use Rattle.sq_store.specs.Content.{Content, row_at, table_at}
-use Rattle.sq_store.specs.Keys.{has_key, with_key}
+use Rattle.sq_store.specs.Rising.{all_rising, rising_between}
 use Rattle.sq_store.specs.declared.table.Numbered.{Numbered}
 use Rattle.sq_store.specs.declared.table.Table.{Table}
+use Rattle.sq_store.proofs.Rises.{rows_rise_at}
+use Rattle.sq_meaning.specs.Environment.{Row}
 use Rattle.sq_meaning.specs.Status.{Outcome, and_then, kept, not_well_formed}
-use Rattle.sq_meaning.proofs.AnswerLaws.{all_weaker}
+use Rattle.sq_bound.proofs.QuietTruths.{both_left, both_right}
 use Rattle.sq_expression.specs.Fault.{MeetsAs}
 use Rattle.sq_expression.specs.declared.fault.Fault.{Fault}
-use Rattle.sq_query.specs.Table.{stored_numbered}
-use Rattle.sq_query.specs.Target.{AreNumbersOf, chosen, numbers_chosen, numbers_in}
-use Rattle.sq_query.proofs.OnlyOne.{found_is}
+use Rattle.sq_expression.proofs.Kept.{ok_same}
+use Rattle.sq_query.specs.Table.{numbered_in, stored_numbered}
+use Rattle.sq_query.specs.Target.{AreNumbersOf, AreRowsThere, chosen, numbers_in}
 
--- ---- each row is found by its number
+-- ---- each row is found by its number, where the numbers rise
 
-abbrev IsFoundIn : List Numbered → Numbered → Type 0
-IsFoundIn rows r = IsSome (find (λ s. nat_eq s.number r.number) rows)
+from_lower : (low high : ℕ) (rows : List Numbered) → low ≤ high → AllByRecursion (λ (r : Numbered). high + 1 ≤ r.number) rows → AllByRecursion (λ (r : Numbered). low ≤ r.number) rows
+from_lower low high [] lower all = tt
+from_lower low high (r ∷ rows) lower all = (omega (arith, all.0, lower), from_lower low high rows lower all.1)
 
-still_found : (x : Numbered) (rows : List Numbered) (r : Numbered) → IsFoundIn rows r → IsFoundIn (x ∷ rows) r
-still_found x rows r h = by (nat_eq x.number r.number)
+all_from : (low : ℕ) (rows : List Numbered) (next : ℕ) → rising_between low rows next ≡ true → AllByRecursion (λ (r : Numbered). low ≤ r.number) rows
+all_from low [] next rises = tt
+all_from low (x ∷ rows) next rises =
+    let here : low ≤ x.number = leb-true low x.number (both_left (nat_le low x.number) (rising_between (x.number + 1) rows next) rises) in
+    (here, from_lower low x.number rows here (all_from (x.number + 1) rows next (both_right (nat_le low x.number) (rising_between (x.number + 1) rows next) rises)))
+
+-- a row behind one with a lower number
+behind : (x : Numbered) (rows : List Numbered) (r : Numbered) → x.number + 1 ≤ r.number → find (λ s. nat_eq s.number r.number) rows ≡ Some r → find (λ s. nat_eq s.number r.number) (x ∷ rows) ≡ Some r
+behind x rows r above found = by (nat_eq x.number r.number) refl
   where
-    by : (b : Bool) → is_some (cond b (Some x) (find (λ s. nat_eq s.number r.number) rows)) ≡ true
-    by true = refl
-    by false = h
+    by : (b : Bool) → nat_eq x.number r.number ≡ b → cond b (Some x) (find (λ s. nat_eq s.number r.number) rows) ≡ Some r
+    by false e = found
+    by true e = let same : x.number ≡ r.number = eqb-true x.number r.number e in absurd (omega (arith, above, same))
 
-all_found : (rows : List Numbered) → AllByRecursion (IsFoundIn rows) rows
-all_found [] = tt
-all_found (x ∷ rows) = (
-  ap (λ b. is_some (cond b (Some x) (find (λ s. nat_eq s.number x.number) rows))) (eq-eqb x.number x.number refl),
-  all_weaker (IsFoundIn rows) (IsFoundIn (x ∷ rows)) (still_found x rows) rows (all_found rows),
-)
+all_behind : (x : Numbered) (whole rows : List Numbered) → AllByRecursion (λ (r : Numbered). x.number + 1 ≤ r.number) rows → AllByRecursion (λ (r : Numbered). find (λ s. nat_eq s.number r.number) whole ≡ Some r) rows
+    → AllByRecursion (λ (r : Numbered). find (λ s. nat_eq s.number r.number) (x ∷ whole) ≡ Some r) rows
+all_behind x whole [] above found = tt
+all_behind x whole (r ∷ rows) above found = (behind x whole r above.0 found.0, all_behind x whole rows above.1 found.1)
+
+all_found : (low : ℕ) (rows : List Numbered) (next : ℕ) → rising_between low rows next ≡ true → AllByRecursion (λ (r : Numbered). find (λ s. nat_eq s.number r.number) rows ≡ Some r) rows
+all_found low [] next rises = tt
+all_found low (x ∷ rows) next rises =
+    let rest = both_right (nat_le low x.number) (rising_between (x.number + 1) rows next) rises in (
+      ap (λ b. cond b (Some x) (find (λ s. nat_eq s.number x.number) rows)) (eq-eqb x.number x.number refl),
+      all_behind x rows rows (all_from (x.number + 1) rows next rest) (all_found (x.number + 1) rows next rest),
+    )
 
 -- ---- conditions choose some of the rows
 
@@ -58,38 +73,32 @@ module _ (P : Numbered → Type 0) where
       by (Err s) k later = tt
       by (Ok left) k later = later left k
 
-numbered_all : (P : ℕ → Type 0) (rows : List Numbered) → AllByRecursion (λ (r : Numbered). P r.number) rows → AllByRecursion P (map (λ (r : Numbered). r.number) rows)
-numbered_all P [] h = tt
-numbered_all P (r ∷ rows) h = (h.0, numbered_all P rows h.1)
-
-numbers_all : {X : Type 0} (t : Table) (test : X → Numbered → Outcome Bool) (xs : List X) → IfOk (numbers_chosen test xs t.rows) (AreNumbersOf t)
-numbers_all t test xs = by (chosen test xs t.rows) (chosen_all (IsFoundIn t.rows) test xs t.rows (all_found t.rows))
+chosen_there : {X : Type 0} (content : Content) (base row_numbers : ℕ) (test : X → Numbered → Outcome Bool) (xs : List X) → all_rising row_numbers content ≡ true
+    → IfOk (and_then (stored_numbered content base) (chosen test xs)) (AreRowsThere (table_at content base))
+chosen_there content base row_numbers test xs rises = by (nat_lt base (length content))
   where
-    by : (o : Outcome (List Numbered)) → IfOk o (AllByRecursion (IsFoundIn t.rows)) → IfOk (and_then o (λ found. Ok (map (λ r. r.number) found))) (AreNumbersOf t)
-    by (Err s) k = tt
-    by (Ok found) k = numbered_all (λ n. IsSome (row_at t n)) found k
+    t : Table
+    t = table_at content base
 
-numbers_stored : {X : Type 0} (content : Content) (base : ℕ) (test : X → Numbered → Outcome Bool) (xs : List X) → IfOk (and_then (stored_numbered content base) (numbers_chosen test xs)) (AreNumbersOf (table_at content base))
-numbers_stored content base test xs = by (nat_lt base (length content))
-  where
-    by : (b : Bool) → IfOk (and_then (and_then (if b then Ok (table_at content base) else not_well_formed) (λ found. Ok found.rows)) (numbers_chosen test xs)) (AreNumbersOf (table_at content base))
-    by true = numbers_all (table_at content base) test xs
+    by : (b : Bool) → IfOk (and_then (and_then (if b then Ok t else not_well_formed) (λ found. Ok found.rows)) (chosen test xs)) (AreRowsThere t)
+    by true = chosen_all (λ r. row_at t r.number ≡ Some r) test xs t.rows (all_found 1 t.rows t.next (rows_rise_at row_numbers content base rises))
     by false = tt
 
--- ---- the numbers that were found
+-- ---- the rows that were found
 
--- by all rows
-pub numbers_there : {X : Type 0} (r : Result (Vec ℕ Global) Fault) (content : Content) (base : ℕ) (test : X → Numbered → Outcome Bool) (xs : List X)
-    → MeetsAs numbers_in r (and_then (stored_numbered content base) (numbers_chosen test xs)) → IfOk r (λ numbers. AreNumbersOf (table_at content base) numbers.items)
-numbers_there (Err e) content base test xs h = tt
-numbers_there (Ok numbers) content base test xs h = subst (λ (o : Outcome (List ℕ)). IfOk o (AreNumbersOf (table_at content base))) h (numbers_stored content base test xs)
+pub rows_there : {X : Type 0} (r : Result (Vec (ℕ × Bor Row) Global) Fault) (content : Content) (base row_numbers : ℕ) (test : X → Numbered → Outcome Bool) (xs : List X) → all_rising row_numbers content ≡ true
+    → MeetsAs numbered_in r (and_then (stored_numbered content base) (chosen test xs)) → IfOk r (λ rows. AreRowsThere (table_at content base) (numbered_in rows))
+rows_there (Err e) content base row_numbers test xs rises h = tt
+rows_there (Ok rows) content base row_numbers test xs rises h = subst (λ (o : Outcome (List Numbered)). IfOk o (AreRowsThere (table_at content base))) h (chosen_there content base row_numbers test xs rises)
 
--- by a key
-key_found : (t : Table) (columns : List ℕ) (key : List Value) (r : Numbered) → with_key t columns key ≡ Some r → IsSome (row_at t r.number)
-key_found t columns key r is = found_is (IsFoundIn t.rows) (has_key columns key) t.rows r (all_found t.rows) is
+-- and their numbers
+some_there : (t : Table) (n : ℕ) (r : Numbered) → row_at t n ≡ Some r → IsSome (row_at t n)
+some_there t n r is = ap (λ (o : Option Numbered). is_some o) is
 
-pub only_there : (r : Result (Vec ℕ Global) Fault) (t : Table) (columns : List ℕ) (key : List Value) (found : Numbered) (is_chosen : Bool) → with_key t columns key ≡ Some found
-    → IfOk r (λ numbers. numbers.items ≡ (if is_chosen then found.number ∷ [] else [])) → IfOk r (λ numbers. AreNumbersOf t numbers.items)
-only_there (Err e) t columns key found is_chosen is h = tt
-only_there (Ok numbers) t columns key found true is h = subst (AreNumbersOf t) (sym h) (key_found t columns key found is, tt)
-only_there (Ok numbers) t columns key found false is h = subst (AreNumbersOf t) (sym h) tt
+all_some : (t : Table) (rows : List Numbered) → AreRowsThere t rows → AreNumbersOf t (map (λ r. r.number) rows)
+all_some t [] there = tt
+all_some t (r ∷ rows) there = (some_there t r.number r there.0, all_some t rows there.1)
+
+pub numbers_there : (r : Result (Vec ℕ Global) Fault) (t : Table) (rows : List Numbered) → AreRowsThere t rows → MeetsAs numbers_in r (Ok (map (λ r. r.number) rows)) → IfOk r (λ numbers. AreNumbersOf t numbers.items)
+numbers_there (Err e) t rows there h = tt
+numbers_there (Ok numbers) t rows there h = subst (AreNumbersOf t) (ok_same (map (λ r. r.number) rows) numbers.items h) (all_some t rows there)

@@ -66,14 +66,14 @@ module _ (f g : TablePlace → Outcome (List Row)) where
     abbrev pub wanted_of : (TablePlace → Outcome (List Row)) → Line → Outcome Bool
     wanted_of tables line = is_true (clause_truth (by_place tables) filter (within (alone (tt ∷ []) line) env))
 
-    abbrev shown_of : (TablePlace → Outcome (List Row)) → List Line → Outcome (List Row)
+    abbrev pub shown_of : (TablePlace → Outcome (List Row)) → List Line → Outcome (List Row)
     shown_of tables lines =
         and_then (scopes_of (by_place tables) list by having (tt ∷ []) lines env)
         (λ scopes. and_then (kept (λ scope. is_true (clause_truth (by_place tables) having (within scope env))) scopes)
         (λ left. and_then (each (λ scope. listed_values (by_place tables) list (within scope env)) left)
         (λ shown. Ok (if distinct then firsts same_row shown else shown))))
 
-    over_rows : (tables : TablePlace → Outcome (List Row)) (found : List Row) → tables table ≡ Ok found
+    pub over_rows : (tables : TablePlace → Outcome (List Row)) (found : List Row) → tables table ≡ Ok found
         → rows (by_place tables) (select distinct list (table ∷ []) filter by having) env ≡ and_then (kept (wanted_of tables) (product (found ∷ []))) (shown_of tables)
     over_rows tables found is = ap (λ (o : Outcome (List Row)). and_then (and_then o (λ y. Ok (y ∷ []))) (λ ts. and_then (kept (wanted_of tables) (product ts)) (shown_of tables))) is
 

@@ -13,11 +13,11 @@ use Rattle.sq_meaning.specs.Syntax.{column, compare}
 use Rattle.sq_meaning.specs.Environment.{Row}
 use Rattle.sq_meaning.specs.Expression as meaning
 use Rattle.sq_meaning.specs.Placed.{by_place}
-use Rattle.sq_meaning.specs.WellFormed.{HasValue, IsDeclaredAt, WellFormedCond, kinds_by_place}
+use Rattle.sq_meaning.specs.WellFormed.{HasValue, IsDeclaredAt, WellFormedCond, kinds_by_place, of_lines}
 use Rattle.sq_bound.specs.Condition.{cond_of, test_of}
 use Rattle.sq_bound.specs.Expression.{expr_of}
 use Rattle.sq_bound.specs.Keyed.{names_key}
-use Rattle.sq_bound.specs.WellFormed.{TableKinds, of_base_at}
+use Rattle.sq_bound.specs.WellFormed.{Levels, TableKinds}
 use Rattle.sq_bound.specs.declared.condition.BoundCond.{BoundCond, out-BoundCond}
 use Rattle.sq_bound.specs.declared.condition.BoundConj.{BoundConj, out-BoundConj}
 use Rattle.sq_bound.specs.declared.condition.BoundTest.{BoundTest}
@@ -60,21 +60,28 @@ pub record IsComparedWith (tests : List BoundTest) (parameters : List Value) (us
   pub has_value : (tables : TablePlace → Outcome (List Row)) → meaning.value (by_place tables) (expr_of [] expr) (outside [] parameters user) ≡ Ok v
   pub known : is_null v ≡ false
 
--- a key of the base table at a place by which a condition on its rows names one, and for each of its columns the value with which one
--- of the first tests of the condition's only term, as many as there are columns, compares it
+-- a condition names a row by these columns: the first tests of its only term, as many as there are columns, name these, and compare each
+-- with one of these values
+pub record IsNamedBy (columns : List ℕ) (own : BoundCond) (parameters : List Value) (user : Name) (values : List Value) : Type 0 where
+  pub named : names_key columns (out-BoundCond own).terms ≡ true
+  pub term : BoundConj
+  pub only_term : (out-BoundCond own).terms ≡ term ∷ []
+  pub compared : AllZip (IsComparedWith (take (length columns) (out-BoundConj term).tests) parameters user) columns values
+
+-- a key of the base table at a place by which a condition on its rows names one, and the values of its columns
 pub record IsKeyOn (place : ℕ) (own : BoundCond) (content : Content) (keys : List Keys) (parameters : List Value) (user : Name) (known : KnownKey) : Type 0 where
   pub table : place < length content
   pub key : known.key < length (keys_at keys place)
-  pub named : names_key (key_at keys place known.key) (out-BoundCond own).terms ≡ true
-  pub term : BoundConj
-  pub only_term : (out-BoundCond own).terms ≡ term ∷ []
-  pub values : AllZip (IsComparedWith (take (length (key_at keys place known.key)) (out-BoundConj term).tests) parameters user)
-      (key_at keys place known.key) known.values
+  pub by_key : IsNamedBy (key_at keys place known.key) own parameters user known.values
 
--- a condition that may stand on the rows of the base table at a place, whatever rows the tables have
-abbrev pub StandsOn : TableKinds → List Kind → ℕ → BoundCond → Type 0
-StandsOn columns parameters place own =
-    (rows_of : TablePlace → Outcome (List Row)) → WellFormedCond (by_place rows_of) (kinds_by_place columns parameters) (IsDeclaredAt parameters) (of_base_at place) (cond_of [] own)
+-- where a row of a table alone is in scope
+abbrev pub on_rows_of : TablePlace → Levels
+on_rows_of t = of_lines (t ∷ []) ∷ []
+
+-- a condition that may stand on the rows of a table, whatever rows the tables have
+abbrev pub StandsOn : TableKinds → List Kind → TablePlace → BoundCond → Type 0
+StandsOn columns parameters t own =
+    (rows_of : TablePlace → Outcome (List Row)) → WellFormedCond (by_place rows_of) (kinds_by_place columns parameters) (IsDeclaredAt parameters) (on_rows_of t) (cond_of [] own)
 
 -- the key that is noted for a target, on whose condition it is such a one
 pub record IsKeyOf (t : Target) (content : Content) (keys : List Keys) (parameters : List Value) (user : Name) (known : KnownKey) : Type 0 where

@@ -1,10 +1,12 @@
 pub mod Key
 pub mod Keyed
 pub mod MayRead
+pub mod Meant
 pub mod Needed
 pub mod Order
 pub mod Row
 pub mod Search
+pub mod Shown
 pub mod Table
 pub mod Target
 pub mod Union

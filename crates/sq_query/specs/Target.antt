@@ -1,5 +1,6 @@
 -- The rows of a base table that a statement may change (ISO/IEC 9075:1992, 13.6 to 13.10).
 use Rattle.std.specs.Prelude.{◌≡◌, ℕ, map, Vec, Bool, true, false, if◌then◌else◌, List, [], ◌∷◌, ◌++◌, Option, Some, None, IsSome, Result, Ok}
+use Rattle.std.specs.Borrow.{Bor}
 use Rattle.std.specs.List.{list_any, AllByRecursion}
 use Rattle.std.specs.declared.alloc.Global.{Global}
 use Rattle.sq_lex.specs.declared.name.Name.{Name}
@@ -25,7 +26,7 @@ use Rattle.sq_expression.specs.Fault.{Meets, MeetsAs}
 use Rattle.sq_condition.specs.Memo.{Meant}
 use Rattle.sq_query.specs.Row.{outside}
 use Rattle.sq_condition.specs.Subquery.{KnowsCond}
-use Rattle.sq_query.specs.Table.{stored_numbered}
+use Rattle.sq_query.specs.Table.{numbered_in, stored_numbered}
 use Rattle.sq_expression.specs.declared.context.Context.{Context}
 use Rattle.sq_expression.specs.declared.fault.Fault.{Fault}
 
@@ -70,12 +71,19 @@ numbers_in numbers = numbers.items
 abbrev pub AreNumbersOf : Table → List ℕ → Type 0
 AreNumbersOf table numbers = AllByRecursion (λ n. IsSome (row_at table n)) numbers
 
--- of a target whose conditions have no subquery: the numbers of the rows of its base table for which they are true
-abbrev pub HasNumbers : Result (Vec ℕ Global) Fault → Target → Content → List Value → Name → Type 0
-HasNumbers result target content parameters user =
+-- each stands in the table under its number
+abbrev pub AreRowsThere : Table → List Numbered → Type 0
+AreRowsThere table rows = AllByRecursion (λ r. row_at table r.number ≡ Some r) rows
+
+-- the rows of its base table that a target means
+abbrev pub rows_of_target : (TablePlace → Outcome (List Row)) → Content → List Value → Name → Target → Outcome (List Numbered)
+rows_of_target tables content parameters user target = stored_numbered content target.base >>= chosen (is_true_of tables parameters user) (conditions_of target)
+
+-- of a target whose conditions have no subquery: the rows of its base table for which they are true
+abbrev pub HasRows : Result (Vec (ℕ × Bor Row) Global) Fault → Target → Content → List Value → Name → Type 0
+HasRows result target content parameters user =
     list_any (λ c. has_subquery (cond_of [] c)) (conditions_of target) ≡ false
-    → (tables : TablePlace → Outcome (List Row))
-    → MeetsAs numbers_in result (stored_numbered content target.base >>= numbers_chosen (is_true_of tables parameters user) (conditions_of target))
+    → (tables : TablePlace → Outcome (List Row)) → MeetsAs numbered_in result (rows_of_target tables content parameters user target)
 
 -- the subqueries of each condition are known
 abbrev pub AreKnownIn : Context → List BoundCond → Type 0

@@ -8,10 +8,12 @@
 
 mod inputs;
 mod key;
+mod meant;
 mod needed;
 mod order;
 mod row;
 mod search;
+mod shown;
 mod table;
 mod target;
 mod union;
@@ -19,7 +21,8 @@ mod view;
 
 pub use inputs::Inputs;
 pub use key::{KnownKey, key_of};
+pub use meant::{numbers_of, rows_of};
 pub use order::{ordered_rows, specification_rows};
 pub use row::{truth_of, value_of};
 pub use sq_expression::{Failure, Fault};
-pub use target::{is_chosen, numbers_of};
+pub use target::is_chosen;

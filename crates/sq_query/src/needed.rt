@@ -1,6 +1,6 @@
 //! Which tables a statement reads.
 
-ghost use Rattle.std.specs.Prelude.{◌≡◌, ◌≤◌, ℕ, List, [], false, fold, nat_eq, slice_get, IfOk, OnOk, Some};
+ghost use Rattle.std.specs.Prelude.{◌≡◌, ◌≤◌, true, ℕ, List, [], false, fold, nat_eq, slice_get, IfOk, OnOk, Some};
 ghost use Rattle.std.specs.List.{AllByRecursion, list_any};
 ghost use Rattle.sq_meaning.specs.WellFormed.{HasValue};
 ghost use Rattle.sq_bound.specs.Condition.{cond_of, conj_of, predicate_of, clause_of, select_of};
@@ -91,6 +91,17 @@ impl Needed {
         let mut needed = Needed::new(alloc);
         needed.add_of_condition(condition)?;
         Ok(needed)
+    }
+
+    /// Whether a table is among them.
+    pub(crate) fn contains(&self, table: TablePlace) -> bool
+        ensures yes { result ≡ true → IsNeeded self.now table }
+        ensures no { result ≡ false → IsNeeded self.now table → ⊥ }
+    {
+        match table {
+            TablePlace::Base(place) => is_among(place, self.bases.as_slice()),
+            TablePlace::View(place) => is_among(place, self.views.as_slice()),
+        }
     }
 
     /// No view stands behind this place.

@@ -113,7 +113,7 @@ fn view_tables<N: Names>(
 }
 
 /// The rows of a view, or the status that its query ends with. Only what a statement then reads delivers the status.
-fn view_rows<'a>(
+pub(crate) fn view_rows<'a>(
     alloc: Global,
     view: &'a View,
     place: usize,

@@ -52,6 +52,7 @@ impl Store for ListStore {
     fn new(
         alloc: Global,
         keys: &[Vec<Vec<usize>>],
+        _lookups: &[Vec<Vec<usize>>],
         greatest: u64,
     ) -> Result<ListStore, AllocError> {
         Ok(ListStore {
@@ -96,6 +97,10 @@ impl Store for ListStore {
         let found = first_with(self.rows_of(table), columns, values)?;
         meter.hand_out();
         Some((found.number, &found.row))
+    }
+
+    fn has_row(&self, table: usize, columns: &[usize], values: &Key) -> bool {
+        first_with(self.rows_of(table), columns, values).is_some()
     }
 
     fn next_number(&self, table: usize) -> u64 {

@@ -2,7 +2,7 @@ ghost use Rattle.std.specs.Prelude.{◌≡◌, ◌<◌, ◌≤◌, ◌+◌, ◌-
 ghost use Rattle.std.specs.List.{list_all};
 ghost use Rattle.sq_store.specs.Change.{insert_count, rows_put};
 ghost use Rattle.sq_store.specs.Content.{Content, changed_by, first_from, no_rows, row_at, table_at, with_table};
-ghost use Rattle.sq_store.specs.Keys.{Keys, are_keyed, has_distinct_keys, has_keys, key_at, keys_at, keys_of, with_key};
+ghost use Rattle.sq_store.specs.Keys.{Keys, are_keyed, has_columns, has_distinct_keys, has_keys, key_at, keys_at, keys_of, with_key};
 ghost use Rattle.sq_store.specs.Meter.{counted};
 ghost use Rattle.sq_store.specs.Rising.{all_rising};
 ghost use Rattle.sq_store.specs.declared.store.TheConstants.{MOST_ROW_NUMBERS};
@@ -32,8 +32,14 @@ pub trait Store: Drop {
 
     ghost row_numbers: { Self → ℕ };
 
-    /// An empty table for each entry of `keys`, which has the column positions of each key of that table.
-    fn new(alloc: Global, keys: &[Vec<Vec<usize>>], greatest: u64) -> Result<Self, AllocError>
+    /// An empty table for each entry of `keys`, which has the column positions of each key of that table. The entry of
+    /// `lookups` at the same place, if there is one, has lists of columns for which `has_row` will be asked of that table.
+    fn new(
+        alloc: Global,
+        keys: &[Vec<Vec<usize>>],
+        lookups: &[Vec<Vec<usize>>],
+        greatest: u64,
+    ) -> Result<Self, AllocError>
         requires { greatest ≤ MOST_ROW_NUMBERS }
         ensures content { IfOk result (λ store. content_now store ≡ no_rows (length keys.now)) }
         ensures committed { IfOk result (λ store. committed store ≡ no_rows (length keys.now)) }
@@ -79,6 +85,12 @@ pub trait Store: Drop {
         ensures row { let found = with_key (table_at (content_now self.now) table) (key_at (key_columns self.now) table key) values.now in
             MatchOption result (found ≡ None) (λ r. found ≡ Some (record { number = r.0; row = r.1.now })) }
         ensures metered { meter.new ≡ (if is_some result then counted meter.old else meter.old) };
+
+    /// Whether a row has these values in these columns, where null is the same as null.
+    fn has_row(&self, table: usize, columns: &[usize], values: &Key) -> bool
+        requires table { table < length (content_now self.now) }
+        requires columns { list_all (λ r. has_columns columns.now r.row) (table_at (content_now self.now) table).rows ≡ true }
+        ensures { result ≡ is_some (with_key (table_at (content_now self.now) table) columns.now values.now) };
 
     /// The number of the next new row.
     fn next_number(&self, table: usize) -> u64

@@ -17,7 +17,7 @@ use work::{Bench, Task, run};
 fn main(rt: HostRuntime) -> io::Result<()> {
     let bench = bench_of(&rt)?;
     let keys = rows::keys(rt.alloc(), bench.keys)?;
-    let mut store = HeapStore::new(rt.alloc(), keys.as_slice(), 1_000_000_000)?;
+    let mut store = HeapStore::new(rt.alloc(), keys.as_slice(), &[], 1_000_000_000)?;
     run(&rt, &bench, &mut store)
 }
 

@@ -63,7 +63,9 @@ fn main(rt: HostRuntime) -> io::Result<()> {
 
 /// Does all actions to a store without rows, and prints what it shows after each.
 fn trial<S: Store>(rt: &impl Print, alloc: Global) -> io::Result<()> {
-    let mut store: S = S::new(alloc, two_keys(alloc)?.as_slice(), 12)?;
+    let keys = two_keys(alloc)?;
+    let lookups = one_lookup(alloc)?;
+    let mut store: S = S::new(alloc, keys.as_slice(), lookups.as_slice(), 12)?;
     for action in ACTIONS {
         println!(rt; "{}", act(alloc, &mut store, action)?)?;
         show(rt, alloc, &store)?;
@@ -78,6 +80,15 @@ fn two_keys(alloc: Global) -> Result<Vec<Vec<Vec<usize>>>, AllocError> {
     keys.push(Vec::from_slice(alloc, &[0, 1])?)?;
     let mut tables = Vec::new(alloc);
     tables.push(keys)?;
+    Ok(tables)
+}
+
+/// For the one table a lookup by its second column.
+fn one_lookup(alloc: Global) -> Result<Vec<Vec<Vec<usize>>>, AllocError> {
+    let mut lookups = Vec::new(alloc);
+    lookups.push(Vec::from_slice(alloc, &[1])?)?;
+    let mut tables = Vec::new(alloc);
+    tables.push(lookups)?;
     Ok(tables)
 }
 

@@ -1,9 +1,8 @@
 use Rattle.std.proofs.Common.{◌≡◌, ◌∙◌, ◌&&◌, List, false, is_err, true, Ok, Err, ap, refl, rules, subst, sym}
-use Rattle.std.specs.Prelude.{Vec}
-use Rattle.std.specs.declared.alloc.Global.{Global}
 use Rattle.sq_store.specs.Change.{rows_put}
 use Rattle.sq_store.specs.Content.{Content, changed_by, table_at, with_table}
 use Rattle.sq_store.specs.Keys.{Keys, keys_at}
+use Rattle.sq_store.proofs.Rises.{rows_rise_at}
 use Rattle.sq_bound.specs.Fits.{keys_of_bases}
 use Rattle.sq_meaning.specs.declared.status.Status.TheVariants.{IntegrityConstraintViolation}
 use Rattle.sq_model.specs.Constraints.{demanded}
@@ -11,8 +10,9 @@ use Rattle.sq_expression.specs.Fault.{Meets}
 use Rattle.sq_expression.proofs.Views.{failed_as, handed_on_as}
 use Rattle.sq_change.specs.Made.{Seen, seen_by}
 use Rattle.sq_change.specs.Constraints.{completed, constraints_hold, references_met, rows_met}
-use Rattle.sq_change.specs.declared.reference.Referenced.{Referenced}
-use Rattle.sq_change.specs.Reference.{are_rows_there, lost_are_met, referred_by}
+use Rattle.sq_change.specs.declared.reference.Asked.{Asked}
+use Rattle.sq_change.specs.Lost.{are_free, lost_by, referred_keys}
+use Rattle.sq_change.specs.Reference.{are_rows_there, referred_by}
 use Rattle.sq_change.proofs.AllMet.{met_so}
 use Rattle.sq_change.proofs.Held.{is_there, keys_at_base, put_have_keys}
 use Rattle.sq_change.proofs.Obeyed.{constraints_kept, met_unless, references_of}
@@ -50,7 +50,7 @@ returns-in-Err-clause-meant g c = λ kinds shown may held.
     let f = c.in-Err.fault in
     let stop = rw (is.names, is.store, is.user, is.parameters) at (c.in-Err.ensures.met kinds shown (rw (is.names, is.store, is.user, is.parameters) may) c.requires.domains) in
     handed_on_as (λ (u : Unit {0}). content) (Err f) f (completed shown seen bases leaf (rows_put changes) changed) refl
-    (rows_stop shown seen bases leaf (rows_put changes) changed f (failed_as (λ (r : Vec Referenced Global). tt) f (rows_met shown seen leaf (rows_put changes)) stop))
+    (rows_stop shown seen bases leaf (rows_put changes) changed f (failed_as (λ (a : Asked). tt) f (rows_met shown seen leaf (rows_put changes)) stop))
 
 pub returns-in_err-apply-clause-meant : goal.returns-in_err-apply-clause-meant
 returns-in_err-apply-clause-meant g c = λ kinds shown may held.
@@ -88,10 +88,11 @@ returns-clause-meant g c = λ kinds shown may held.
     let done : mid ≡ with_table content leaf.table.place changed = rw c.get-table.ensures at c.in_ok-apply.ensures.ok in
     let known : g.S.Store.key_columns c.apply.new.store ≡ keys_of_bases bases = c.in_ok-apply.ensures.keys ∙ c.requires.keys in
     let r = c.references_satisfied-satisfied.result in
-    let tested : Meets r (demanded (are_rows_there (g.S.Store.key_columns c.apply.new.store) mid (referred_by leaf.table.references (rows_put changes)) && lost_are_met bases mid leaf.table.place lost) IntegrityConstraintViolation)
-    = rw (c.as_slice-referenced.ensures.value, c.in-Ok.ensures.list, c.get-table.ensures, c.as_slice-lost_keys.ensures.value) at c.references_satisfied-satisfied.ensures.meant in
+    let losts = lost_by (table_at content leaf.table.place) leaf.table.keys (referred_keys bases leaf.table.place lost) changes in
+    let tested : Meets r (demanded (are_rows_there (g.S.Store.key_columns c.apply.new.store) mid (referred_by leaf.table.references (rows_put changes)) && are_free bases mid leaf.table.place losts) IntegrityConstraintViolation)
+    = rw (c.in-Ok.ensures.list, c.in-Ok.ensures.lost, is.names, is.store, c.get-table.ensures) at c.references_satisfied-satisfied.ensures.meant in
     let decided = references_decided bases content mid leaf.table lost changes c.requires.tables c.requires.base (g.met.N.Names.references names) done (g.S.Store.key_columns c.apply.new.store) known
-    (references_of bases content held) c.requires.keeps.keys c.requires.keeps.put in
+    (references_of bases content held) (rows_rise_at (g.S.Store.row_numbers c.args.store.now) content leaf.table.place (g.met.S.Store.rises c.args.store.now)) c.requires.keeps.keys c.requires.keeps.put in
     let met : Meets r (demanded (references_met bases mid) IntegrityConstraintViolation) = met_so r (references_met bases mid) _ IntegrityConstraintViolation (sym decided) tested in
     let admitted = rw (is.names, is.store, is.user, is.parameters) at (c.in-Ok.ensures.met kinds shown (rw (is.names, is.store, is.user, is.parameters) may) c.requires.domains) in
     let distinct = rw (c.get-table.ensures, keys (g.S.Store.key_columns c.args.store.now) c.requires.keys) at c.in_ok-apply.ensures.distinct in
@@ -111,14 +112,16 @@ returns-clause-constraints g c = λ held.
     let changes = c.args.changed.changes.items in
     let lost = c.args.changed.lost_keys.items in
     let changed = changed_by (table_at content leaf.table.place) changes in
+    let is = c.new-setting.ensures in
     let mid = g.S.Store.content_now c.apply.new.store in
     let done : mid ≡ with_table content leaf.table.place changed = rw c.get-table.ensures at c.in_ok-apply.ensures.ok in
     let known : g.S.Store.key_columns c.apply.new.store ≡ keys_of_bases bases = c.in_ok-apply.ensures.keys ∙ c.requires.keys in
     let r = c.references_satisfied-satisfied.result in
-    let tested : Meets r (demanded (are_rows_there (g.S.Store.key_columns c.apply.new.store) mid (referred_by leaf.table.references (rows_put changes)) && lost_are_met bases mid leaf.table.place lost) IntegrityConstraintViolation)
-    = rw (c.as_slice-referenced.ensures.value, c.in-Ok.ensures.list, c.get-table.ensures, c.as_slice-lost_keys.ensures.value) at c.references_satisfied-satisfied.ensures.meant in
+    let losts = lost_by (table_at content leaf.table.place) leaf.table.keys (referred_keys bases leaf.table.place lost) changes in
+    let tested : Meets r (demanded (are_rows_there (g.S.Store.key_columns c.apply.new.store) mid (referred_by leaf.table.references (rows_put changes)) && are_free bases mid leaf.table.place losts) IntegrityConstraintViolation)
+    = rw (c.in-Ok.ensures.list, c.in-Ok.ensures.lost, is.names, is.store, c.get-table.ensures) at c.references_satisfied-satisfied.ensures.meant in
     let decided = references_decided bases content mid leaf.table lost changes c.requires.tables c.requires.base (g.met.N.Names.references names) done (g.S.Store.key_columns c.apply.new.store) known
-    (references_of bases content held) c.requires.keeps.keys c.requires.keeps.put in
+    (references_of bases content held) (rows_rise_at (g.S.Store.row_numbers c.args.store.now) content leaf.table.place (g.met.S.Store.rises c.args.store.now)) c.requires.keeps.keys c.requires.keeps.put in
     let met : Meets r (demanded (references_met bases mid) IntegrityConstraintViolation) = met_so r (references_met bases mid) _ IntegrityConstraintViolation (sym decided) tested in
     elim c.if-is_err.branch [
       | then-is_err w ↦

@@ -10,8 +10,8 @@ use Rattle.sq_change.proofs.OnRows.{conditions_on_rows, checks_on_rows}
 use Rattle.sq_change.proofs.Outcomes.{next_stops, stops_as, taken_if}
 use Rattle.sq_change.proofs.complete.rows_admitted.Goals as goal
 
-pub referenced_by-requires-clause-keys : goal.referenced_by-requires-clause-keys
-referenced_by-requires-clause-keys g c =
+pub asked_by-requires-clause-keys : goal.asked_by-requires-clause-keys
+asked_by-requires-clause-keys g c =
     let names = c.args.setting.now.names.now in
     let store = c.args.setting.now.store.now in
     let table = c.args.leaf.now.table in
@@ -49,7 +49,7 @@ returns-in_err-check_options_met-clause-met g c = λ parameters shown may put.
     let rows = rows_put c.args.changed.now.changes.items in
     let leaf = c.args.leaf.now in
     let on = conditions_on_rows columns parameters leaf c.args.changed.now.changes.items c.requires.leaf put in
-    stops_as (λ referenced. tt) c.from_residual.result c.in_err-check_options_met.field-0.0 (all_satisfied (check_option_met shown seen leaf) rows)
+    stops_as (λ asked. tt) c.from_residual.result c.in_err-check_options_met.field-0.0 (all_satisfied (check_option_met shown seen leaf) rows)
     (λ _. all_satisfied (row_met shown seen leaf.table) rows) c.from_residual.ensures.1
     (rw c.as_slice-changes.ensures.value at (c.in_err-check_options_met.ensures.met parameters shown may (rw c.as_slice-changes.ensures.value on)))
 
@@ -78,4 +78,7 @@ returns-clause-met g c = λ parameters shown may put.
     let checks = checks_on_rows columns parameters leaf c.args.changed.now.changes.items c.requires.leaf put in
     let options = rw c.as_slice-changes.ensures.value at (c.in_ok-check_options_met.ensures.met parameters shown may (rw c.as_slice-changes.ensures.value on)) in
     let satisfied = rw (c.get-table.ensures, c.as_slice-changes.ensures.value) at (c.in_ok-rows_satisfied.ensures.met parameters shown may (rw (c.get-table.ensures, c.as_slice-changes.ensures.value) checks)) in
-    taken_if c.referenced_by.result (rows_met shown seen leaf rows) (rw (options, satisfied) refl) c.referenced_by.ensures.memory
+    taken_if c.asked_by.result (rows_met shown seen leaf rows) (rw (options, satisfied) refl) c.asked_by.ensures.memory
+
+pub returns-clause-lost : goal.returns-clause-lost
+returns-clause-lost g c = rw (c.get-table.ensures, c.as_slice-changes.ensures.value, c.as_slice.ensures.value) at c.asked_by.ensures.lost

@@ -1,5 +1,6 @@
-use Rattle.std.proofs.Common.{arith}
+use Rattle.std.proofs.Common.{◌∙◌, ap, arith}
 use Rattle.std.proofs.lemmas.Grind.{common_steps}
+use Rattle.sq_change.specs.Reference.{values_in}
 use Rattle.sq_change.proofs.Referred.{all_referred, none_referred, one_referred}
 use Rattle.sq_change.proofs.reference.push_referenced.Goals as goal
 use Rattle.sq_change.proofs.reference.push_referenced.Goals.{in-Some+in_ok-push, in_default}
@@ -16,13 +17,13 @@ loop-reference-preserved g c =
       | in-Some+in_ok-push w ↦ record {
         known = grind (arith, common_steps);
         list =
-            one_referred c.args.row.now references before done i c.reference-item.result lt at c.loop-reference.invariant.list c.in_ok-values.field-0 c.in_ok-values.ensures.values
+            one_referred c.args.row.now references before done i c.reference-item.result lt at c.loop-reference.invariant.list c.in_ok-values.field-0 (c.in_ok-values.ensures.values ∙ ap (values_in c.args.row.now) c.as_slice.ensures)
             c.match-branch-2.referenced w.push.new.self w.in-Some.values w.in-Some.is w.referenced-is w.in_ok-push.ensures.items;
       }
       | in_default w ↦ record {
         known = grind (arith, common_steps);
         list =
-            none_referred c.args.row.now references before done i c.reference-item.result lt at c.loop-reference.invariant.list c.in_ok-values.field-0 c.in_ok-values.ensures.values
+            none_referred c.args.row.now references before done i c.reference-item.result lt at c.loop-reference.invariant.list c.in_ok-values.field-0 (c.in_ok-values.ensures.values ∙ ap (values_in c.args.row.now) c.as_slice.ensures)
             c.match-branch-2.referenced w.in_default.is w.referenced-is;
       }
     ]

@@ -1,8 +1,8 @@
-use Rattle.std.proofs.Common.{sym, subst}
+use Rattle.std.proofs.Common.{ℕ, List, Bor, map, sym, subst}
+use Rattle.sq_meaning.specs.Environment.{Row}
 use Rattle.sq_expression.specs.Fault.{MeetsAs}
 use Rattle.sq_expression.proofs.Views.{failed_as}
-use Rattle.sq_query.specs.Target.{numbers_in}
-use Rattle.sq_change.specs.Changed.{changed_in}
+use Rattle.sq_change.specs.Changed.{changed_in, numbers_with}
 use Rattle.sq_change.specs.Made.{Seen, numbers_changed, rows_updated, seen_by}
 use Rattle.sq_change.specs.Statement.{Chosen, base_of}
 use Rattle.sq_change.proofs.Applied.{base_under}
@@ -17,8 +17,8 @@ returns-clause-replacements g c =
     let u = c.args.update.now in
     let setting = c.args.setting.now in
     let s : Seen = seen_by (g.N.Names.view_queries setting.names.now) (g.S.Store.content_now setting.store.now) setting.user setting.parameters.now in
-    replacements_kept c.replaced-changes.result c.changed.result c.changed.ensures.changes s u c.args.on c.as_slice.result.now
-    (subst (Chosen s u.target c.args.on) (sym c.as_slice.ensures.value) c.in_ok-numbers.ensures.meant)
+    replacements_kept c.replaced-changes.result c.changed.result c.changed.ensures.changes s u c.args.on (map (λ (f : ℕ × Bor Row). f.0) c.as_slice.result.now)
+    (subst (λ (rows : List (ℕ × Bor Row)). Chosen s u.target c.args.on (map (λ (f : ℕ × Bor Row). f.0) rows)) (sym c.as_slice.ensures.value) c.in_ok-rows.ensures.meant)
     c.replaced-changes.ensures.replacements
     (λ shown. rw (base_under u.target, ← c.leaf_under.ensures, ← c.get-table.ensures, ← c.as_slice-assignments.ensures) (c.replaced-changes.ensures.meant shown))
 
@@ -27,30 +27,30 @@ returns-clause-meant g c = λ shown is.
     let u = c.args.update.now in
     let setting = c.args.setting.now in
     let s : Seen = seen_by (g.N.Names.view_queries setting.names.now) (g.S.Store.content_now setting.store.now) setting.user setting.parameters.now in
-    let numbers = c.in_ok-numbers.numbers.items in
+    let numbers = numbers_with c.in_ok-rows.rows in
     let made : MeetsAs changed_in c.changed.result (rows_updated shown s u.assignments (base_of u.target) numbers)
     = changed_meets c.replaced-changes.result c.changed.result c.changed.ensures.changes _
     (rw (base_under u.target, ← c.leaf_under.ensures, ← c.get-table.ensures, ← c.as_slice-assignments.ensures, ← c.as_slice.ensures.value) (c.replaced-changes.ensures.meant shown))
     c.changed.ensures.fails in
-    rw (c.in_ok-numbers.ensures.meant shown is) made
+    rw (c.in_ok-rows.ensures.meant shown is) made
 
-pub returns-in_err-numbers-clause-meant : goal.returns-in_err-numbers-clause-meant
-returns-in_err-numbers-clause-meant g c = λ shown is.
+pub returns-in_err-rows-clause-meant : goal.returns-in_err-rows-clause-meant
+returns-in_err-rows-clause-meant g c = λ shown is.
     let u = c.args.update.now in
     let setting = c.args.setting.now in
     let s : Seen = seen_by (g.N.Names.view_queries setting.names.now) (g.S.Store.content_now setting.store.now) setting.user setting.parameters.now in
-    let f = c.in_err-numbers.field-0.0 in
+    let f = c.in_err-rows.field-0.0 in
     stops_as changed_in c.from_residual.result f (numbers_changed shown s u.target c.args.on) (rows_updated shown s u.assignments (base_of u.target)) c.from_residual.ensures.1
-    (failed_as numbers_in f (numbers_changed shown s u.target c.args.on) (c.in_err-numbers.ensures.meant shown is))
+    (failed_as numbers_with f (numbers_changed shown s u.target c.args.on) (c.in_err-rows.ensures.meant shown is))
 
 pub returns-clause-right : goal.returns-clause-right
 returns-clause-right g c = c.changed.ensures.right c.replaced-changes.ensures.right
 
-pub returns-in_err-numbers-clause-right : goal.returns-in_err-numbers-clause-right
-returns-in_err-numbers-clause-right g c = ends_so c.from_residual.result c.in_err-numbers.field-0.0 c.from_residual.ensures.1 c.in_err-numbers.ensures.right
+pub returns-in_err-rows-clause-right : goal.returns-in_err-rows-clause-right
+returns-in_err-rows-clause-right g c = ends_so c.from_residual.result c.in_err-rows.field-0.0 c.from_residual.ensures.1 c.in_err-rows.ensures.right
 
 pub replaced-changes-requires-clause-there : goal.replaced-changes-requires-clause-there
-replaced-changes-requires-clause-there g c = rw (c.as_slice.ensures.value, c.get-table.ensures, c.leaf_under.ensures) (c.in_ok-numbers.ensures.there c.requires.there)
+replaced-changes-requires-clause-there g c = rw (c.as_slice.ensures.value, c.get-table.ensures, c.leaf_under.ensures) c.in_ok-rows.ensures.there
 
 pub replaced-changes-requires-clause-domains : goal.replaced-changes-requires-clause-domains
 replaced-changes-requires-clause-domains g c = rw (c.as_slice-assignments.ensures, c.get-table.ensures, c.leaf_under.ensures) c.requires.domains
@@ -60,15 +60,15 @@ returns-clause-keeps g c =
     let u = c.args.update.now in
     let setting = c.args.setting.now in
     let s : Seen = seen_by (g.N.Names.view_queries setting.names.now) (g.S.Store.content_now setting.store.now) setting.user setting.parameters.now in
-    let replacements = replacements_kept c.replaced-changes.result c.changed.result c.changed.ensures.changes s u c.args.on c.as_slice.result.now
-    (subst (Chosen s u.target c.args.on) (sym c.as_slice.ensures.value) c.in_ok-numbers.ensures.meant)
+    let replacements = replacements_kept c.replaced-changes.result c.changed.result c.changed.ensures.changes s u c.args.on (map (λ (f : ℕ × Bor Row). f.0) c.as_slice.result.now)
+    (subst (λ (rows : List (ℕ × Bor Row)). Chosen s u.target c.args.on (map (λ (f : ℕ × Bor Row). f.0) rows)) (sym c.as_slice.ensures.value) c.in_ok-rows.ensures.meant)
     c.replaced-changes.ensures.replacements
     (λ shown. rw (base_under u.target, ← c.leaf_under.ensures, ← c.get-table.ensures, ← c.as_slice-assignments.ensures) (c.replaced-changes.ensures.meant shown)) in
     replaced_rest c.keys_assigned.result c.changed.result c.changed.ensures.lost s u c.args.on (g.S.Store.row_numbers setting.store.now) (g.met.S.Store.rises setting.store.now) replacements
     (rw (c.as_slice-assignments.ensures, c.get-table.ensures, c.leaf_under.ensures) at c.keys_assigned.ensures.lost)
 
-pub returns-in_err-numbers-clause-read : goal.returns-in_err-numbers-clause-read
-returns-in_err-numbers-clause-read g c = c.in_err-numbers.ensures.read
+pub returns-in_err-rows-clause-read : goal.returns-in_err-rows-clause-read
+returns-in_err-rows-clause-read g c = c.in_err-rows.ensures.read
 
 pub returns-clause-read : goal.returns-clause-read
-returns-clause-read g c = c.in_ok-numbers.ensures.read
+returns-clause-read g c = c.in_ok-rows.ensures.read

@@ -3,6 +3,7 @@ use Rattle.sq_store.specs.Keys.{Keys, key_at}
 use Rattle.sq_bound.specs.Keyed.{names_key}
 use Rattle.sq_bound.specs.declared.condition.BoundCond.{out-BoundCond}
 use Rattle.sq_bound.specs.declared.condition.BoundTest.{BoundTest}
+use Rattle.sq_bound.specs.declared.condition.TablePlace.TheVariants.{Base}
 use Rattle.sq_query.specs.Key.{AreFirstTests}
 use Rattle.sq_query.specs.Keyed.{AreKnownEqual, IsKeyed}
 use Rattle.sq_query.proofs.KeyNames.{has_condition, key_there, noted_key, own_named}
@@ -54,7 +55,7 @@ returns-clause-memory g c = λ kinds parameters well given.
     let columns = key_at (g.S.Store.key_columns c.args.store.now) t.base key in
     let named = ap (λ (ks : Keys). names_key (slice_index_or ks key []) (out-BoundCond own).terms) c.requires.keys ∙ own_named t key c.in-Some.is own is_own in
     c.key_with_values.ensures.memory
-    (λ tests firsts. first_tests_valued kinds parameters call.parameters.now call.user given t.leaf.table.place own columns tests (own_stands kinds parameters t own well is_own) named firsts)
+    (λ tests firsts. first_tests_valued kinds parameters call.parameters.now call.user given (Base t.leaf.table.place) own columns tests (own_stands kinds parameters t own well is_own) named firsts)
 
 pub returns-in_default-clause-found : goal.returns-in_default-clause-found
 returns-in_default-clause-found g c = λ keyed. absurd (key_noted c.args.target.now c.args.call.now.parameters.now c.args.call.now.user c.in_default.is keyed)

@@ -2,6 +2,7 @@ use Rattle.std.proofs.Common.{List, subst}
 use Rattle.sq_store.specs.Keys.{Keys, key_at, keys_at}
 use Rattle.sq_bound.specs.Keyed.{IsShortestKey}
 use Rattle.sq_bound.specs.declared.condition.BoundTest.{BoundTest}
+use Rattle.sq_bound.specs.declared.condition.TablePlace.TheVariants.{Base}
 use Rattle.sq_query.specs.Key.{AreFirstTests}
 use Rattle.sq_query.specs.Keyed.{AreKnownEqual, IsKeyedBy}
 use Rattle.sq_query.proofs.KeyNames.{shortest_known, shortest_names}
@@ -34,7 +35,7 @@ returns-in-Some-clause-memory g c = λ kinds parameters stands given.
     let key = c.in-Some.key in
     let keys = g.S.Store.key_columns c.args.store.now in
     let named = (shortest_names (keys_at keys c.args.base) own key c.shortest_key.result (subst (λ (ks : Keys). IsShortestKey ks own c.shortest_key.result) c.keys.ensures c.shortest_key.ensures) c.in-Some.is).1 in
-    c.key_with_values.ensures.memory (λ tests firsts. first_tests_valued kinds parameters call.parameters.now call.user given c.args.base own (key_at keys c.args.base key) tests stands named firsts)
+    c.key_with_values.ensures.memory (λ tests firsts. first_tests_valued kinds parameters call.parameters.now call.user given (Base c.args.base) own (key_at keys c.args.base key) tests stands named firsts)
 
 pub returns-in-Some-clause-found : goal.returns-in-Some-clause-found
 returns-in-Some-clause-found g c =

@@ -1,9 +1,9 @@
-use Rattle.std.proofs.Common.{◌≡◌, ◌∙◌, ap, length, refl}
+use Rattle.std.proofs.Common.{◌≡◌, ◌∙◌, List, ap, length, refl, sym}
 use Rattle.sq_store.specs.Content.{no_rows}
-use Rattle.sq_store.specs.Keys.{keys_of}
+use Rattle.sq_store.specs.Keys.{Keys, keys_of}
 use Rattle.sq_store.specs.Sound.{is_sound}
 use Rattle.sq_store.proofs.Sound.{sound_at_first}
-use Rattle.sq_heap.specs.Heap.{all_committed, all_now, are_listed, are_within}
+use Rattle.sq_heap.specs.Heap.{all_committed, all_keys, all_now, are_listed, are_within, first_keys}
 use Rattle.sq_heap.proofs.Heap.{length_given}
 use Rattle.sq_heap.proofs.store.HeapStoreStore.new.Goals as goal
 
@@ -21,7 +21,7 @@ invariant_of-result c =
       committed_sound = (λ i. is_sound c.args.greatest (keys i) (committed i)) ∙ sound_at_first c.args.greatest given;
       before_sound = refl;
       marked = refl;
-      indexed = c.in_ok-tables.ensures.keys ∙ c.as_slice.ensures;
+      indexed = ap (λ (ks : List Keys). first_keys ks (all_keys ts)) (sym c.as_slice.ensures) ∙ c.in_ok-tables.ensures.keys ∙ c.as_slice.ensures;
       listed_there = ap (are_within (length ts)) c.new.ensures.items;
       changes_listed = ap (λ l. are_listed l 0 ts) c.new.ensures.items ∙ c.in_ok-tables.ensures.listed;
     }

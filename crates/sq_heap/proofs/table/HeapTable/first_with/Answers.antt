@@ -1,12 +1,11 @@
-use Rattle.std.proofs.Common.{◌≡◌, ◌∙◌, ◌<◌, List, ap, arith, length}
+use Rattle.std.proofs.Common.{◌≡◌, ◌∙◌, ◌<◌, List, ℕ, ap, arith, length, sym}
 use Rattle.sq_store.specs.Keys.{are_distinct}
 use Rattle.sq_heap.specs.Alone.{slots_have}
 use Rattle.sq_heap.specs.Index.{in_all, is_in, keys_of, slots_hold}
 use Rattle.sq_heap.specs.Slots.{Slot, rows_from}
-use Rattle.sq_heap.proofs.Columns.{slots_of_keys}
 use Rattle.sq_heap.proofs.Entries.{all_at, length_keys}
 use Rattle.sq_heap.proofs.Holds.{slots_give}
-use Rattle.sq_heap.proofs.Keyed.{of_index}
+use Rattle.sq_heap.proofs.Keyed.{columns_at_index}
 use Rattle.sq_heap.proofs.table.HeapTable.first_with.Goals as goal
 
 pub first_with-requires-clause-columns : goal.first_with-requires-clause-columns
@@ -17,7 +16,7 @@ first_with-requires-clause-columns c =
     let long : length (keys_of c.args.self.now.indexes.items) ≡ length c.args.self.now.indexes.items = length_keys xs in
     let lt : c.args.key < length c.args.self.now.indexes.items = omega (arith, c.requires.key) in
     ap (λ (slots : List Slot). slots_have x.columns slots) c.as_slice.ensures
-    ∙ of_index (λ columns. slots_have columns ss) xs c.args.key x lt c.index.ensures (slots_of_keys (keys_of xs) 1 ss c.requires.columns)
+    ∙ ap (λ (columns : List ℕ). slots_have columns ss) (sym (columns_at_index xs c.args.key x lt c.index.ensures)) ∙ c.requires.columns
 
 pub first_with-requires-clause-entered : goal.first_with-requires-clause-entered
 first_with-requires-clause-entered c =
@@ -37,4 +36,4 @@ first_with-requires-clause-distinct c =
     let long : length (keys_of c.args.self.now.indexes.items) ≡ length c.args.self.now.indexes.items = length_keys xs in
     let lt : c.args.key < length c.args.self.now.indexes.items = omega (arith, c.requires.key) in
     ap (λ (slots : List Slot). are_distinct x.columns (rows_from 1 slots)) c.as_slice.ensures
-    ∙ of_index (λ columns. are_distinct columns (rows_from 1 ss)) xs c.args.key x lt c.index.ensures c.requires.distinct
+    ∙ ap (λ (columns : List ℕ). are_distinct columns (rows_from 1 ss)) (sym (columns_at_index xs c.args.key x lt c.index.ensures)) ∙ c.requires.distinct

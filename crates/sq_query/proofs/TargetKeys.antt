@@ -1,0 +1,43 @@
+-- The key by which a target names a row, through views too.
+use Rattle.std.proofs.Common.{◌≡◌, ◌∙◌, ℕ, true, List, Option, Some, None, Result, sym, ap, subst, Ok, Err}
+use Rattle.std.specs.Prelude.{IfOk, IfSome, IsSome}
+use Rattle.sq_lex.specs.declared.name.Name.{Name}
+use Rattle.sq_value.specs.declared.domain.Kind.{Kind}
+use Rattle.sq_value.specs.declared.value.Value.{Value}
+use Rattle.sq_store.specs.Content.{Content}
+use Rattle.sq_store.specs.Keys.{Keys}
+use Rattle.sq_bound.specs.Quiet.{are_sure}
+use Rattle.sq_bound.specs.WellFormed.{IsTarget, TableKinds}
+use Rattle.sq_bound.specs.declared.condition.BoundCond.{BoundCond}
+use Rattle.sq_bound.specs.declared.condition.TablePlace.TheVariants.{Base}
+use Rattle.sq_bound.specs.declared.query.Target.{Target}
+use Rattle.sq_expression.specs.declared.fault.Fault.{Fault}
+use Rattle.sq_query.specs.Key.{IsKeyOf, IsKeyOn, StandsOn}
+use Rattle.sq_query.specs.Meant.{IsKeyUnder}
+use Rattle.sq_query.specs.declared.key.KnownKey.{KnownKey}
+use Rattle.sq_query.proofs.KeyNames.{no_view}
+use Rattle.sq_query.proofs.KeySearch.{no_element}
+use Rattle.sq_query.proofs.KeyValues.{own_stands}
+
+module _ (t : Target) (content : Content) (keys : List Keys) (parameters : List Value) (user : Name) where
+  -- where a key is noted, no view is between
+  pub noted_under : (r : Result (Option KnownKey) Fault) → IfOk r (λ found. IfSome found (IsKeyOf t content keys parameters user)) → IfOk r (λ found. IfSome found (IsKeyUnder t content keys parameters user))
+  noted_under (Err e) h = tt
+  noted_under (Ok None) h = tt
+  noted_under (Ok (Some known)) h = record { own = h.own; is_own = h.is_own; sure = ap are_sure (no_element t.leaf.conditions (no_view t known.key h.is_key)); on = h.on }
+
+  -- or the conditions of those that are are never a fault
+  pub views_under : (own : BoundCond) (r : Result (Option KnownKey) Fault) → t.condition ≡ Some own → t.leaf.is_quiet ≡ true → IfOk r (λ found. IfSome found (IsKeyOn t.base own content keys parameters user))
+      → IfOk r (λ found. IfSome found (IsKeyUnder t content keys parameters user))
+  views_under own (Err e) is quiet h = tt
+  views_under own (Ok None) is quiet h = tt
+  views_under own (Ok (Some known)) is quiet h = record { own = own; is_own = is; sure = sym t.leaf.quiet ∙ quiet; on = h }
+
+-- what is found where a key is noted is found of no target that notes none
+pub none_noted : (r : Result (Option KnownKey) Fault) (Q : Type 0) → (Q → ⊥) → IfOk r (λ found. Q → IsSome found)
+none_noted (Ok found) Q none = λ q. absurd (none q)
+none_noted (Err e) Q none = tt
+
+-- the target's own condition stands on the rows of the base table
+pub own_on_base : (columns : TableKinds) (parameters : List Kind) (t : Target) (own : BoundCond) → IsTarget columns parameters t → t.condition ≡ Some own → StandsOn columns parameters (Base t.base) own
+own_on_base columns parameters t own well is = subst (λ (p : ℕ). StandsOn columns parameters (Base p) own) (sym t.is_under) (own_stands columns parameters t own well is)

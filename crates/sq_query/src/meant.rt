@@ -1,0 +1,256 @@
+//! The rows of a base table that a target means: found by a key, or by a search over all rows.
+
+ghost use Rattle.std.specs.Prelude.{◌≡◌, ◌<◌, ◌≤◌, ◌+◌, ◌∷◌, [], List, false, if◌then◌else◌, length, map, IfErr, IfOk, IfSome, IsSome, true};
+ghost use Rattle.sq_value.specs.declared.domain.Kind.{Kind};
+ghost use Rattle.sq_value.specs.declared.value.Value.{Value as AnyValue};
+ghost use Rattle.sq_store.specs.Content.{table_at};
+ghost use Rattle.sq_store.specs.Keys.{keys_at};
+ghost use Rattle.sq_meaning.specs.Status.{Outcome, and_then};
+ghost use Rattle.sq_meaning.specs.WellFormed.{IsRowOf};
+ghost use Rattle.sq_bound.specs.Fits.{IsBase, keys_of_bases, not_nulls_hold};
+ghost use Rattle.sq_bound.specs.WellFormed.{IsTarget, TableKinds};
+ghost use Rattle.sq_bound.specs.declared.condition.TablePlace.{TablePlace};
+ghost use Rattle.sq_expression.specs.Fault.{MeetsAs};
+ghost use Rattle.sq_query.specs.Keyed.{IsKeyed};
+ghost use Rattle.sq_query.specs.MayRead.{MayEnd, MayRead};
+ghost use Rattle.sq_query.specs.Meant.{IsKeyUnder};
+ghost use Rattle.sq_query.specs.Needed.{FindsConds};
+ghost use Rattle.sq_query.specs.Table.{numbered_in, numbered_row, stored_numbered};
+ghost use Rattle.sq_query.specs.Target.{AreNumbersOf, AreRowsThere, conditions_of, is_true_of, numbers_chosen, numbers_in, rows_of_target};
+
+use crate::inputs::Inputs;
+use crate::key::{KnownKey, known_key, shortest_known_key};
+use crate::needed::Needed;
+use crate::target::{meets_target, rows_by_scan};
+use sq_bound::{BoundCond, Names, Target};
+use sq_expression::{Context, Fault};
+use sq_store::{Meter, Store};
+use sq_value::Row;
+use std::alloc::{AllocError, Global};
+
+/// The rows that a target means, with their numbers, which rise: those for which each condition in turn is true, over all rows.
+/// Where the target names one row by a key, no other row is read: on each of them one of the first tests of its own condition,
+/// those of the key's columns, is false, and decides before a later test can end with a status, and the conditions of views between
+/// have a truth. The meter counts the rows that are read.
+pub fn rows_of<'a, N: Names, S: Store>(
+    alloc: Global,
+    names: &N,
+    target: &Target,
+    store: &'a S,
+    inputs: Inputs<'_>,
+    meter: &mut Meter,
+) -> Result<Vec<(u64, &'a Row)>, Fault>
+    requires finds { FindsConds (N.base_tables names.now) (N.column_kinds names.now)
+        (conditions_of target.now) }
+    requires base { IsBase (N.base_tables names.now) target.now.leaf.table }
+    requires keys { S.key_columns store.now ≡ keys_of_bases (N.base_tables names.now) }
+    requires not_null { not_nulls_hold (N.base_tables names.now) (S.content_now store.now) ≡ true }
+    ensures meant { (parameters : List Kind) (tables : TablePlace → Outcome (List (List AnyValue)))
+        → MayRead (N.base_tables names.now) (N.view_queries names.now) (N.column_kinds names.now)
+        (S.content_now store.now)
+        inputs.entry.user inputs.entry.parameters.now parameters tables
+        → IsTarget (N.column_kinds names.now) parameters target.now
+        → MeetsAs numbered_in result
+        (rows_of_target tables (S.content_now store.now) inputs.entry.parameters.now inputs.entry.user
+        target.now) }
+    ensures there { (parameters : List Kind) (tables : TablePlace → Outcome (List (List AnyValue)))
+        → MayRead (N.base_tables names.now) (N.view_queries names.now) (N.column_kinds names.now)
+        (S.content_now store.now)
+        inputs.entry.user inputs.entry.parameters.now parameters tables
+        → IsTarget (N.column_kinds names.now) parameters target.now
+        → IfOk result (λ rows. AreRowsThere (table_at (S.content_now store.now) target.now.base)
+        (numbered_in rows)) }
+    ensures right { (parameters : List Kind) (tables : TablePlace → Outcome (List (List AnyValue)))
+        → MayRead (N.base_tables names.now) (N.view_queries names.now) (N.column_kinds names.now)
+        (S.content_now store.now)
+        inputs.entry.user inputs.entry.parameters.now parameters tables
+        → IsTarget (N.column_kinds names.now) parameters target.now
+        → IfErr result MayEnd }
+    ensures read { IsKeyed target.now inputs.entry.parameters.now inputs.entry.user
+        → meter.new ≤ meter.old + 1 }
+{
+    let call = Context {
+        alloc,
+        user: inputs.user,
+        parameters: &*inputs.parameters,
+        bases: &[],
+        views: &[],
+    };
+    match key_of(target, store, &call)? {
+        Some(known) => {
+            let rows = rows_by_key(names, &*target, store, &call, &known, meter);
+            drop(known);
+            rows
+        }
+        None => rows_by_scan(names, &*target, store, &call, meter),
+    }
+}
+
+/// The numbers of the rows that a target means, rising.
+pub fn numbers_of<N: Names, S: Store>(
+    alloc: Global,
+    names: &N,
+    target: &Target,
+    store: &S,
+    inputs: Inputs<'_>,
+    meter: &mut Meter,
+) -> Result<Vec<u64>, Fault>
+    requires finds { FindsConds (N.base_tables names.now) (N.column_kinds names.now)
+        (conditions_of target.now) }
+    requires base { IsBase (N.base_tables names.now) target.now.leaf.table }
+    requires keys { S.key_columns store.now ≡ keys_of_bases (N.base_tables names.now) }
+    requires not_null { not_nulls_hold (N.base_tables names.now) (S.content_now store.now) ≡ true }
+    ensures meant { (parameters : List Kind) (tables : TablePlace → Outcome (List (List AnyValue)))
+        → MayRead (N.base_tables names.now) (N.view_queries names.now) (N.column_kinds names.now)
+        (S.content_now store.now)
+        inputs.entry.user inputs.entry.parameters.now parameters tables
+        → IsTarget (N.column_kinds names.now) parameters target.now
+        → MeetsAs numbers_in result (and_then (stored_numbered (S.content_now store.now) target.now.base)
+        (numbers_chosen (is_true_of tables inputs.entry.parameters.now inputs.entry.user)
+        (conditions_of target.now))) }
+    ensures there { (parameters : List Kind) (tables : TablePlace → Outcome (List (List AnyValue)))
+        → MayRead (N.base_tables names.now) (N.view_queries names.now) (N.column_kinds names.now)
+        (S.content_now store.now)
+        inputs.entry.user inputs.entry.parameters.now parameters tables
+        → IsTarget (N.column_kinds names.now) parameters target.now
+        → IfOk result (λ numbers. AreNumbersOf
+        (table_at (S.content_now store.now) target.now.base) numbers.items) }
+    ensures right { (parameters : List Kind) (tables : TablePlace → Outcome (List (List AnyValue)))
+        → MayRead (N.base_tables names.now) (N.view_queries names.now) (N.column_kinds names.now)
+        (S.content_now store.now)
+        inputs.entry.user inputs.entry.parameters.now parameters tables
+        → IsTarget (N.column_kinds names.now) parameters target.now
+        → IfErr result MayEnd }
+    ensures read { IsKeyed target.now inputs.entry.parameters.now inputs.entry.user
+        → meter.new ≤ meter.old + 1 }
+{
+    let lent = Inputs {
+        user: inputs.user,
+        parameters: &*inputs.parameters,
+    };
+    let rows = rows_of(alloc, names, target, store, lent, meter)?;
+    numbers(alloc, rows.as_slice())
+}
+
+/// The key by which a target names a row of the base table, with its values, where no other row needs to be read: the one that is
+/// noted for it or, where views are between, the shortest.
+fn key_of<S: Store>(
+    target: &Target,
+    store: &S,
+    call: &Context<'_>,
+) -> Result<Option<KnownKey>, Fault>
+    requires there { target.now.base < length (S.content_now store.now) }
+    requires keys { keys_at (S.key_columns store.now) target.now.base ≡ target.now.leaf.table.keys }
+    ensures known { IfOk result
+        (λ found. IfSome found (IsKeyUnder target.now (S.content_now store.now) (S.key_columns store.now)
+        call.now.parameters.now call.now.user)) }
+    ensures found { IfOk result
+        (λ found. IsKeyed target.now call.now.parameters.now call.now.user → IsSome found) }
+    ensures memory { (columns : TableKinds) (parameters : List Kind) → IsTarget columns parameters target.now
+        → IsRowOf parameters call.now.parameters.now → IfErr result (λ fault. fault ≡ Fault.NoMemory) }
+{
+    match target.key {
+        Some(_) => known_key(target, store, call),
+        None => key_through_views(target, store, call),
+    }
+}
+
+/// The shortest key by which a target's own condition names a row of the base table, with its values: none where the condition of a
+/// view between may end with a status on another row, or the own one has a subquery, the rows of whose tables are counted.
+fn key_through_views<S: Store>(
+    target: &Target,
+    store: &S,
+    call: &Context<'_>,
+) -> Result<Option<KnownKey>, Fault>
+    requires there { target.now.base < length (S.content_now store.now) }
+    ensures known { IfOk result
+        (λ found. IfSome found (IsKeyUnder target.now (S.content_now store.now) (S.key_columns store.now)
+        call.now.parameters.now call.now.user)) }
+    ensures memory { (columns : TableKinds) (parameters : List Kind) → IsTarget columns parameters target.now
+        → IsRowOf parameters call.now.parameters.now → IfErr result (λ fault. fault ≡ Fault.NoMemory) }
+{
+    match &target.condition {
+        Some(own) => {
+            let may = may_look_up(call.alloc, target, own)?;
+            if may {
+                shortest_known_key(target.base, own, store, call)
+            } else {
+                Ok(None)
+            }
+        }
+        None => Ok(None),
+    }
+}
+
+/// Whether the conditions of the views between are never a fault, and the target's own has no subquery.
+fn may_look_up(alloc: Global, target: &Target, own: &BoundCond) -> Result<bool, AllocError>
+    ensures { IfOk result (λ may. may ≡ true → target.now.leaf.is_quiet ≡ true) }
+{
+    if !target.leaf.get().is_quiet {
+        return Ok(false);
+    }
+    let needed = Needed::of_condition(alloc, own)?;
+    Ok(needed.bases.is_empty() && needed.views.is_empty())
+}
+
+/// The row with a key, if the conditions are true of it. They are true of no other row.
+fn rows_by_key<'a, N: Names, S: Store>(
+    names: &N,
+    target: &Target,
+    store: &'a S,
+    call: &Context<'_>,
+    known: &KnownKey,
+    meter: &mut Meter,
+) -> Result<Vec<(u64, &'a Row)>, Fault>
+    requires key { IsKeyUnder target.now (S.content_now store.now)
+        (S.key_columns store.now) call.now.parameters.now call.now.user
+        known.now }
+    requires base { IsBase (N.base_tables names.now) target.now.leaf.table }
+    requires keys { S.key_columns store.now ≡ keys_of_bases (N.base_tables names.now) }
+    requires not_null { not_nulls_hold (N.base_tables names.now) (S.content_now store.now) ≡ true }
+    requires finds { FindsConds (N.base_tables names.now) (N.column_kinds names.now)
+        (conditions_of target.now) }
+    ensures meant { (parameters : List Kind) (tables : TablePlace → Outcome (List (List AnyValue)))
+        → MayRead (N.base_tables names.now) (N.view_queries names.now) (N.column_kinds names.now)
+        (S.content_now store.now) call.now.user
+        call.now.parameters.now parameters tables → IsTarget (N.column_kinds names.now) parameters target.now
+        → MeetsAs numbered_in result
+        (rows_of_target tables (S.content_now store.now) call.now.parameters.now call.now.user target.now) }
+    ensures read { meter.new ≤ meter.old + 1 }
+{
+    match store.find_key(target.base, known.key, &known.values, meter) {
+        Some(found) => {
+            let is_chosen = meets_target(&*names, &*target, &*found.1, &*store, &*call)?;
+            row_if(call.alloc, is_chosen, found)
+        }
+        None => Ok(Vec::new(call.alloc)),
+    }
+}
+
+/// The one row that may be chosen.
+fn row_if<'a>(
+    alloc: Global,
+    is_chosen: bool,
+    found: (u64, &'a Row),
+) -> Result<Vec<(u64, &'a Row)>, Fault>
+    ensures rows { IfOk result
+        (λ rows. numbered_in rows ≡ (if is_chosen then numbered_row found.entry ∷ [] else [])) }
+    ensures memory { IfErr result (λ fault. fault ≡ Fault.NoMemory) }
+{
+    let mut rows = Vec::new(alloc);
+    if is_chosen {
+        rows.push(found)?;
+    }
+    Ok(rows)
+}
+
+/// The numbers of rows.
+fn numbers(alloc: Global, rows: &[(u64, &Row)]) -> Result<Vec<u64>, Fault>
+    ensures { MeetsAs numbers_in result (Ok (map (λ found. found.number) (map numbered_row rows.now))) }
+{
+    let mut numbers = Vec::new(alloc);
+    for found in rows {
+        numbers.push(found.0)?;
+    }
+    Ok(numbers)
+}
