@@ -9,7 +9,7 @@ use Rattle.sq_catalog.specs.Base.{AreBasesOf}
 use Rattle.sq_catalog.specs.Catalog.{Catalog, Gains, HaveReferences, SeenView, declared_definitions, declared_tables, known, meant}
 use Rattle.sq_catalog.specs.Columns.{HasColumnsOf}
 use Rattle.sq_catalog.specs.Declares.{Declares}
-use Rattle.sq_catalog.specs.Views.{GainsViews, HasQueryOf, IsSeenAs, declared_views, view_name}
+use Rattle.sq_catalog.specs.Views.{GainsViews, HasQueryKinds, HasQueryOf, IsSeenAs, declared_views, view_name}
 use Rattle.sq_catalog.specs.declared.catalog.FullName.{FullName}
 
 pub declared_all : (texts : List SchemaText) (a b : Catalog) → a.tables ≡ [] → a.columns ≡ [] → a.bases ≡ [] → a.view_names ≡ [] → a.seen_views ≡ [] → a.views ≡ []
@@ -26,5 +26,9 @@ declared_all texts a b tables columns bases view_names seen views g v =
       seen = b.seen_views;
       seen_are = subst (λ (vs : List SeenView). AllZip (IsSeenAs (known b)) (declared_views texts) vs) (sym (v.added.seen_views ∙ ap (λ l. l ++ v.seen) seen)) v.seen_are;
       views_are = subst (λ (qs : List BoundSpecification). AllZip (HasQueryOf (known b)) (declared_views texts) qs) (sym (v.added.views ∙ ap (λ l. l ++ v.queries) views)) v.queries_are;
+      kinds_are =
+          subst (λ (vs : List SeenView). AllZip HasQueryKinds vs b.views) (sym (v.added.seen_views ∙ ap (λ l. l ++ v.seen) seen))
+          (subst (λ (qs : List BoundSpecification). AllZip HasQueryKinds v.seen qs) (sym (v.added.views ∙ ap (λ l. l ++ v.queries) views)) v.kinds_are);
+      stand = b.stand;
       names = λ i. meant (named i) b.columns (views_named i) b.seen_views;
     }

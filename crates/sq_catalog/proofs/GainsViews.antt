@@ -7,18 +7,22 @@ use Rattle.std.specs.Map.{keys_of}
 use Rattle.std.specs.List.{AllZip}
 use Rattle.std.specs.Result.{OnOk, is_ok}
 use Rattle.sq_lex.specs.declared.name.Name.{Name}
+use Rattle.sq_value.specs.declared.domain.Kind.{Kind}
 use Rattle.sq_tree.specs.declared.list.CommaList.{CommaList}
 use Rattle.sq_meaning.specs.Spelled.{select_of}
 use Rattle.sq_bound.specs.Condition as tree
 use Rattle.sq_bound.specs.Known.{KnownTables, Under}
+use Rattle.sq_bound.specs.WellFormed.{TableKinds, kinds_of_columns, kinds_of_select}
 use Rattle.sq_bound.specs.declared.condition.BoundSpecification.{BoundSpecification}
 use Rattle.sq_bound.specs.declared.names.Column.{Column}
+use Rattle.sq_bound.specs.declared.names.TableBody.{TableBody}
+use Rattle.sq_bound.specs.declared.names.TableBody.TheVariants as body
 use Rattle.sq_bound.specs.declared.names.TableDesc.{TableDesc}
 use Rattle.sq_select.specs.Names.{names_placed}
 use Rattle.sq_bind.proofs.MoreKnown.{names_stay, select_stays, updatable_stays}
-use Rattle.sq_catalog.specs.Catalog.{Catalog, IsNewName, SeenView, known, meant}
-use Rattle.sq_catalog.specs.Stored.{columns_of, queries_of, query_in, seen, seen_of}
-use Rattle.sq_catalog.specs.Views.{AddsViews, GainsViews, HasNamesOf, HasQueryOf, IsSeenAs, IsUnderView, IsViewOf, StillKnown, WrittenView, around_view, column_names, view_name}
+use Rattle.sq_catalog.specs.Catalog.{Catalog, IsNewName, SeenView, column_kinds, known, meant}
+use Rattle.sq_catalog.specs.Stored.{IsNextView, IsViewOver, columns_of, queries_of, query_in, seen, seen_of}
+use Rattle.sq_catalog.specs.Views.{AddsViews, GainsViews, HasNamesOf, HasQueryKinds, HasQueryOf, IsSeenAs, IsUnderView, IsViewOf, StillKnown, WrittenView, around_view, column_names, view_name}
 use Rattle.sq_catalog.specs.declared.catalog.FullName.{FullName}
 use Rattle.sq_catalog.proofs.Gains.{keys_append, parts_next, zip_append}
 use Rattle.sq_catalog.proofs.StillKnown.{base_still, view_still}
@@ -69,6 +73,7 @@ views_kept a b still names seen views = record {
   still = still;
   seen_are = tt;
   queries_are = tt;
+  kinds_are = tt;
 }
 
 pub views_none : (a : Catalog) → GainsViews a a []
@@ -113,10 +118,15 @@ adds_view r a b old new name t names views queries new_names new_views new_queri
       views = new_queries ∙ ap queries_of e ∙ flat_map-append query old ((name, t) ∷ []) ∙ ap (λ l. queries_of old ++ l) (append-nil (query_in t.body)) ∙ ap (λ l. l ++ query_in t.body) queries;
     })
 
+-- its columns are of the kinds of its query's
+query_kinds : (columns : TableKinds) (kinds : List Kind) (b : TableBody) (q : BoundSpecification) → IsViewOver columns kinds b → query_in b ≡ q ∷ [] → kinds ≡ kinds_of_select q
+query_kinds columns kinds (body.Base own) q h e = absurd h
+query_kinds columns kinds (body.View v) q h e = let same : v.query ≡ q = cc in h.1 ∙ ap kinds_of_select same
+
 -- one
-pub views_one : {E : Type 0} (r : Result (Unit {0}) E) (a b : Catalog) (w : WrittenView) (t : TableDesc) → IsViewOf (known a) w t → b.tables ≡ a.tables → b.columns ≡ a.columns
+pub views_one : {E : Type 0} (r : Result (Unit {0}) E) (a b : Catalog) (w : WrittenView) (t : TableDesc) → IsViewOf (known a) w t → IsViewOver (column_kinds a) (kinds_of_columns t.columns) t.body → b.tables ≡ a.tables → b.columns ≡ a.columns
     → OnOk r (AddsViews a b (view_name w ∷ []) (seen t ∷ []) (query_in t.body)) → OnOk r (GainsViews a b (w ∷ []))
-views_one (Ok u) a b w t is tables columns h =
+views_one (Ok u) a b w t is over tables columns h =
     let still = view_still a b (view_name w ∷ []) (seen t ∷ []) tables columns h.view_names h.seen_views in record {
       seen = seen t ∷ [];
       queries = is.query ∷ [];
@@ -124,17 +134,18 @@ views_one (Ok u) a b w t is tables columns h =
       still = still;
       seen_are = (seen_kept (known a) (known b) w (seen t) still is.is_seen, tt);
       queries_are = (query_kept (known a) (known b) w is.query still is.is_written, tt);
+      kinds_are = (query_kinds (column_kinds a) (kinds_of_columns t.columns) t.body is.query over is.stands_for, tt);
     }
-views_one (Err e) a b w t is tables columns h = tt
+views_one (Err e) a b w t is over tables columns h = tt
 
 -- a view is added, and what its owner holds on it behind that
-pub view_created : {E : Type 0} (r added : Result (Unit {0}) E) (a b c : Catalog) (w : WrittenView) (name : FullName) (t : TableDesc) → IsViewOf (known a) w t → name ≡ view_name w → is_ok added ≡ true → (b.tables ≡ a.tables) × (b.columns ≡ a.columns)
+pub view_created : {E : Type 0} (r added : Result (Unit {0}) E) (a b c : Catalog) (w : WrittenView) (name : FullName) (t : TableDesc) → IsViewOf (known a) w t → IsNextView a name t → name ≡ view_name w → is_ok added ≡ true → (b.tables ≡ a.tables) × (b.columns ≡ a.columns)
     → OnOk added (AddsViews a b (name ∷ []) (seen t ∷ []) (query_in t.body)) → c.tables ≡ b.tables → c.columns ≡ b.columns → c.view_names ≡ b.view_names → c.seen_views ≡ b.seen_views → c.views ≡ b.views
     → OnOk r (GainsViews a c (w ∷ []))
-view_created (Err e) added a b c w name t is named ok kept adds tables columns names views queries = tt
-view_created (Ok u) (Err e) a b c w name t is named ok kept adds tables columns names views queries = cc
-view_created {E} (Ok u) (Ok v) a b c w name t is named ok kept adds tables columns names views queries =
-    views_one {E = E} (Ok u) a c w t is (tables ∙ kept.0) (columns ∙ kept.1)
+view_created (Err e) added a b c w name t is next named ok kept adds tables columns names views queries = tt
+view_created (Ok u) (Err e) a b c w name t is next named ok kept adds tables columns names views queries = cc
+view_created {E} (Ok u) (Ok v) a b c w name t is next named ok kept adds tables columns names views queries =
+    views_one {E = E} (Ok u) a c w t is next.body (tables ∙ kept.0) (columns ∙ kept.1)
     (record { view_names = names ∙ adds.view_names ∙ ap (λ n. a.view_names ++ n ∷ []) named; seen_views = views ∙ adds.seen_views; views = queries ∙ adds.views })
 
 pub views_first : (a b : Catalog) (views : List WrittenView) → GainsViews a b views → GainsViews a b (views ++ [])
@@ -154,6 +165,7 @@ views_more a b c views more p q = record {
       (zip_weaker (IsSeenAs (known b)) (IsSeenAs (known c)) views p.seen (λ w v h. seen_kept (known b) (known c) w v q.still h) p.seen_are) q.seen_are;
   queries_are = zip_append (HasQueryOf (known c)) views more p.queries q.queries
       (zip_weaker (HasQueryOf (known b)) (HasQueryOf (known c)) views p.queries (λ w s h. query_kept (known b) (known c) w s q.still h) p.queries_are) q.queries_are;
+  kinds_are = zip_append HasQueryKinds p.seen q.seen p.queries q.queries p.kinds_are q.kinds_are;
 }
 
 pub views_next : {X : Type 0} (f : X → List WrittenView) (before : List WrittenView) (parts : List X) (i : ℕ) (x : X) (a b c : Catalog) → i < length parts → x ≡ get_or parts i x

@@ -4,6 +4,7 @@ pub mod Checks
 pub mod Columns
 pub mod Fault
 pub mod Keys
+pub mod Lookups
 pub mod Reference
 pub mod References
 pub mod Stored

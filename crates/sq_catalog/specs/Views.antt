@@ -11,6 +11,7 @@ use Rattle.sq_tree.specs.declared.schema.ViewDefinition.{ViewDefinition}
 use Rattle.sq_meaning.specs.Spelled.{listed, select_of}
 use Rattle.sq_meaning.specs.Status.{Outcome}
 use Rattle.sq_bound.specs.Known.{KnownTable, KnownTables, Under}
+use Rattle.sq_bound.specs.WellFormed.{kinds_of_columns, kinds_of_select}
 use Rattle.sq_bound.specs.declared.condition.BoundSpecification.{BoundSpecification}
 use Rattle.sq_bound.specs.declared.names.Column.{Column}
 use Rattle.sq_bound.specs.declared.names.TableDesc.{TableDesc}
@@ -82,6 +83,10 @@ pub record IsSeenAs (known : KnownTables) (w : WrittenView) (v : SeenView) : Typ
   pub names : HasNamesOf known w v.columns
   pub under : IfSome v.under (IsUnderView known w v.columns)
 
+-- its columns are of the kinds of its query's columns
+abbrev pub HasQueryKinds : SeenView → BoundSpecification → Type 0
+HasQueryKinds v q = kinds_of_columns v.columns ≡ kinds_of_select q
+
 -- a description of a table is the view that is written
 pub record IsViewOf (known : KnownTables) (w : WrittenView) (t : TableDesc) : Type 0 where
   pub is_seen : IsSeenAs known w (seen t)
@@ -109,3 +114,4 @@ pub record GainsViews (old new : Catalog) (views : List WrittenView) : Type 0 wh
   pub still : StillKnown (known old) (known new)
   pub seen_are : AllZip (IsSeenAs (known new)) views seen
   pub queries_are : AllZip (HasQueryOf (known new)) views queries
+  pub kinds_are : AllZip HasQueryKinds seen queries

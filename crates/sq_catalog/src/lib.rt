@@ -5,6 +5,7 @@ mod catalog;
 mod fault;
 mod grants;
 mod key;
+mod lookups;
 mod reference;
 mod table;
 mod view;

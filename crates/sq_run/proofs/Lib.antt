@@ -1,3 +1,4 @@
+pub mod Actions
 pub mod Noted
 pub mod Moved
 pub mod Opened

@@ -11,7 +11,7 @@ use Rattle.sq_catalog.specs.Catalog.{Catalog, declared_tables, known}
 use Rattle.sq_catalog.specs.Declares.{Declares}
 use Rattle.sq_module.specs.Program.{declared_procedures}
 use Rattle.sq_session.specs.Schemas.{Schemas, schemas_of}
-use Rattle.sq_session.specs.Session.{AreOfModules, Session, names_of}
+use Rattle.sq_session.specs.Session.{IsOfModules, Session, names_of}
 use Rattle.sq_run.specs.Opened.{Defined, Holds, Opened}
 use Rattle.sq_run.specs.Run.{AllSpell, IsStart}
 use Rattle.sq_run.specs.declared.texts.TextFault.{TextFault}
@@ -23,7 +23,7 @@ defined_if schemas trees (Err fault) spelled tables declares = tables
 
 pub holds_if : (row_numbers : ℕ) (c : Catalog) (modules : List Bytes) (trees : List ModuleText) (answer : Result Session TextFault) → AllSpell module_tokens modules trees
     → IfOk answer (λ s. s.tables ≡ c.tables) → IfOk answer (λ s. s.schemas ≡ schemas_of c) → IfOk answer (λ s. names_of s.procedures ≡ declared_procedures trees)
-    → IfOk answer (λ s. AreOfModules c.bases (known c) trees s.procedures) → IfOk answer (λ s. first_module_refusal trees ≡ None) → IfOk answer (IsStart row_numbers)
+    → IfOk answer (IsOfModules (known c) trees) → IfOk answer (λ s. first_module_refusal trees ≡ None) → IfOk answer (IsStart row_numbers)
     → IfOk answer (Holds row_numbers c modules)
 holds_if row_numbers c modules trees (Ok s) spelled tables schemas procedures written admitted start =
     record { trees = trees; spelled = spelled; tables_are = tables; schemas_are = schemas; procedures = procedures; written = written; admitted = admitted; start = start }
@@ -40,7 +40,7 @@ opened_by row_numbers schemas modules c s defined holds = record {
     procedures = holds.procedures;
     known = known c;
     declares = subst (λ (x : Schemas). Declares defined.trees (known c) x.bases x.views) (sym holds.schemas_are) defined.declares;
-    written = subst (λ (x : Schemas). AreOfModules x.bases (known c) holds.trees s.procedures) (sym holds.schemas_are) holds.written;
+    written = holds.written;
     admitted = holds.admitted;
     start = holds.start;
   };

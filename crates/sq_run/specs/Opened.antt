@@ -10,7 +10,7 @@ use Rattle.sq_catalog.specs.Catalog.{Catalog, declared_tables, known}
 use Rattle.sq_catalog.specs.Declares.{Declares}
 use Rattle.sq_module.specs.Program.{declared_procedures}
 use Rattle.sq_session.specs.Schemas.{schemas_of}
-use Rattle.sq_session.specs.Session.{AreOfModules, Session, names_of}
+use Rattle.sq_session.specs.Session.{IsOfModules, Session, names_of}
 use Rattle.sq_run.specs.Run.{AllSpell, IsOpened, IsStart}
 
 -- a catalog of trees that the schemas spell
@@ -27,7 +27,7 @@ pub record Holds (row_numbers : ℕ) (c : Catalog) (modules : List Bytes) (s : S
   pub tables_are : s.tables ≡ c.tables
   pub schemas_are : s.schemas ≡ schemas_of c
   pub procedures : names_of s.procedures ≡ declared_procedures trees
-  pub written : AreOfModules c.bases (known c) trees s.procedures
+  pub written : IsOfModules (known c) trees s
   pub admitted : first_module_refusal trees ≡ None
   pub start : IsStart row_numbers s
 

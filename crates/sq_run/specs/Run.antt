@@ -20,7 +20,7 @@ use Rattle.sq_bound.specs.Known.{KnownTables}
 use Rattle.sq_catalog.specs.Catalog.{declared_tables}
 use Rattle.sq_catalog.specs.Declares.{Declares}
 use Rattle.sq_module.specs.Program.{declared_procedures}
-use Rattle.sq_session.specs.Session.{AreOfModules, Session, names_of}
+use Rattle.sq_session.specs.Session.{IsOfModules, Session, names_of}
 use Rattle.sq_session.specs.State.{AreClosed}
 use Rattle.sq_run.specs.Action.{item_of}
 use Rattle.sq_run.specs.Items.{IsTaken}
@@ -61,7 +61,7 @@ pub record IsOpened (row_numbers : ℕ) (schemas : List SchemaText) (modules : L
   pub procedures : names_of s.procedures ≡ declared_procedures modules
   pub known : KnownTables
   pub declares : Declares schemas known s.schemas.bases s.schemas.views
-  pub written : AreOfModules s.schemas.bases known modules s.procedures
+  pub written : IsOfModules known modules s
   pub admitted : first_module_refusal modules ≡ None
   pub start : IsStart row_numbers s
 

@@ -12,7 +12,7 @@ ghost use Rattle.sq_catalog.specs.Catalog.{declared_tables, known};
 ghost use Rattle.sq_catalog.specs.Declares.{Declares};
 ghost use Rattle.sq_module.specs.Program.{declared_procedures};
 ghost use Rattle.sq_session.specs.Schemas.{schemas_of};
-ghost use Rattle.sq_session.specs.Session.{AreOfModules, names_of};
+ghost use Rattle.sq_session.specs.Session.{IsOfModules, names_of};
 ghost use Rattle.sq_store.specs.Content.{no_rows};
 ghost use Rattle.sq_run.specs.Opened.{Defined, Holds, Opened};
 ghost use Rattle.sq_run.specs.Refused.{refused_start};
@@ -169,7 +169,7 @@ fn session_from<S: Store>(
     ensures tables { IfOk result (λ s. s.tables ≡ catalog.tables) }
     ensures procedures { IfOk result (λ s. names_of s.procedures ≡ declared_procedures trees.now) }
     ensures schemas { IfOk result (λ s. s.schemas ≡ schemas_of catalog) }
-    ensures written { IfOk result (λ s. AreOfModules catalog.bases (known catalog) trees.now s.procedures) }
+    ensures written { IfOk result (IsOfModules (known catalog) trees.now) }
     ensures start { IfOk result (IsStart limits.row_numbers) }
     ensures admitted { IfOk result (λ _. first_module_refusal trees.now ≡ None) }
     ensures refused { IfErr result (SomeRefused module_tokens module_depth (texts modules.now)) }
@@ -194,7 +194,7 @@ fn session_over<S: Store>(
     ensures tables { IfOk result (λ s. s.tables ≡ catalog.tables) }
     ensures procedures { IfOk result (λ s. names_of s.procedures ≡ declared_procedures modules.now) }
     ensures schemas { IfOk result (λ s. s.schemas ≡ schemas_of catalog) }
-    ensures written { IfOk result (λ s. AreOfModules catalog.bases (known catalog) modules.now s.procedures) }
+    ensures written { IfOk result (IsOfModules (known catalog) modules.now) }
     ensures start { IfOk result (IsStart limits.row_numbers) }
     ensures refused { IfErr result (IsOfSomeModule (length modules.now)) }
     ensures first { MatchResult result (λ _. first_module_refusal modules.now ≡ None)
@@ -209,7 +209,7 @@ fn session_over<S: Store>(
     }
 }
 
-/// A new store for the base tables of a catalog and their keys.
+/// A new store for the base tables of a catalog, their keys and references.
 #[tactic(auto, using(sq_session::proofs::Holding::keys_count))]
 fn store_of<S: Store>(alloc: Global, catalog: &Catalog, limits: Limits) -> Result<S, AllocError>
     requires numbers { limits.row_numbers ≤ MOST_ROW_NUMBERS }
@@ -218,7 +218,13 @@ fn store_of<S: Store>(alloc: Global, catalog: &Catalog, limits: Limits) -> Resul
     ensures keys { IfOk result (λ store. S.key_columns store ≡ keys_of_bases catalog.now.bases) }
     ensures numbers { IfOk result (λ store. S.row_numbers store ≡ limits.row_numbers) }
 {
-    S::new(alloc, catalog.keys(), limits.row_numbers)
+    let lookups = catalog.lookups(alloc)?;
+    S::new(
+        alloc,
+        catalog.keys(),
+        lookups.as_slice(),
+        limits.row_numbers,
+    )
 }
 
 /// A refusal of a module at its first token, or of one of its cursors or procedures at that one's.

@@ -1,5 +1,5 @@
 -- Procedures by their names and numbers.
-use Rattle.std.proofs.Common.{true, ◌≡◌, ◌&&◌, ◌+◌, ◌<◌, ℕ, zero, suc, Bool, not, cond, List, [], ◌∷◌, length, map, nat_eq, nat_lt, position, Some, None, slice_get, Ok, Err, refl, ap, ap₂, arith}
+use Rattle.std.proofs.Common.{true, ◌≡◌, ◌&&◌, ◌+◌, ◌<◌, ℕ, zero, suc, Bool, not, cond, List, [], ◌∷◌, length, map, nat_eq, nat_lt, position, Some, None, slice_get, Ok, Err, refl, sym, ap, ap₂, subst, arith}
 use Rattle.std.specs.Cmp.Lexicographic.{pointwise}
 use Rattle.std.specs.List.{position_or_len}
 use Rattle.std.specs.Map.{keys_of, values_of}
@@ -8,17 +8,19 @@ use Rattle.sq_value.specs.declared.value.Value.{Value}
 use Rattle.sq_tree.specs.declared.module.ModuleText.{ModuleText}
 use Rattle.sq_rules.specs.Script.{fit}
 use Rattle.sq_bound.specs.declared.fault.BindFault.{BindFault}
-use Rattle.sq_catalog.specs.Catalog.{Catalog, known}
+use Rattle.sq_catalog.specs.Catalog.{Catalog, column_kinds, known}
 use Rattle.sq_bound.specs.declared.statement.BoundStatement.{BoundStatement}
 use Rattle.sq_module.specs.declared.program.BoundProcedure.{BoundProcedure}
 use Rattle.sq_module.specs.declared.program.DeclaredCursor.{DeclaredCursor}
 use Rattle.sq_module.specs.declared.program.ProcedureName.{ProcedureName}
 use Rattle.sq_module.specs.declared.program.Program.{Program}
-use Rattle.sq_module.specs.Program.{FitsProgram}
+use Rattle.sq_module.specs.Program.{FitsProgram, ProgramIsWellFormed}
 use Rattle.sq_module.specs.Written.{IsOfTexts}
-use Rattle.sq_session.specs.Kind.{Procedure, fault_at, fits_at, kind_at, kind_of}
+use Rattle.sq_session.specs.Cursors.{are_over}
+use Rattle.sq_session.specs.Kind.{fault_at, fits_at, kind_at, kind_of}
 use Rattle.sq_session.specs.Parameter.{declared}
-use Rattle.sq_session.specs.Session.{AreOfModules, is_procedure, names_of, procedure_number, procedures_of}
+use Rattle.sq_session.specs.Schemas.{Schemas, columns_of, schemas_of}
+use Rattle.sq_session.specs.Session.{IsOfModules, Session, is_procedure, names_of, procedure_number, procedures_of}
 
 abbrev Entry : Type 0
 Entry = ProcedureName × BoundProcedure
@@ -73,8 +75,15 @@ pub names_are : (cs : List DeclaredCursor) (es : List Entry) → names_of (proce
 names_are cs [] = refl
 names_are cs (e ∷ es) = ap (λ names. e.0 ∷ names) (names_are cs es)
 
--- ---- procedures of module texts
+-- ---- a session of module texts
 
-pub of_modules : (c : Catalog) (modules : List ModuleText) (p : Program) (procedures : List Procedure) → IsOfTexts (known c) modules p → FitsProgram c.bases p
-    → procedures ≡ procedures_of p.cursors.items p.procedures.entries → AreOfModules c.bases (known c) modules procedures
-of_modules c modules p procedures is_of fits are = record { program = p; is_of = is_of; fits = fits; are = are }
+pub of_modules : (c : Catalog) (modules : List ModuleText) (p : Program) (s : Session) → IsOfTexts (known c) modules p → FitsProgram c.bases p → ProgramIsWellFormed (column_kinds c) p
+    → s.schemas ≡ schemas_of c → s.procedures ≡ procedures_of p.cursors.items p.procedures.entries → are_over p.cursors.items s.state.cursors ≡ true → IsOfModules (known c) modules s
+of_modules c modules p s is_of fits well_formed schemas are cursors = record {
+  program = p;
+  is_of = is_of;
+  fits = subst (λ (x : Schemas). FitsProgram x.bases p) (sym schemas) fits;
+  well_formed = subst (λ (x : Schemas). ProgramIsWellFormed (columns_of x) p) (sym schemas) well_formed;
+  are = are;
+  cursors = cursors;
+}

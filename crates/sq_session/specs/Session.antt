@@ -1,5 +1,5 @@
 -- A session.
-use Rattle.std.specs.Prelude.{◌≡◌, ℕ, Bool, ◌&&◌, List, map, nat_eq, position, Option}
+use Rattle.std.specs.Prelude.{◌≡◌, ℕ, Bool, true, ◌&&◌, List, map, nat_eq, position, Option}
 use Rattle.std.specs.Cmp.Lexicographic.{pointwise}
 use Rattle.std.specs.Option.{option_map}
 use Rattle.std.specs.Result.{result_map_both}
@@ -8,18 +8,18 @@ use Rattle.sq_store.specs.Content.{table_at}
 use Rattle.sq_store.specs.declared.table.Numbered.{Numbered}
 use Rattle.sq_tree.specs.declared.module.ModuleText.{ModuleText}
 use Rattle.sq_bound.specs.Known.{KnownTables}
-use Rattle.sq_bound.specs.declared.names.BaseTable.{BaseTable}
 use Rattle.sq_catalog.specs.Catalog.{table_number}
 use Rattle.sq_catalog.specs.declared.catalog.FullName.{FullName}
 use Rattle.sq_module.specs.declared.program.BoundProcedure.{BoundProcedure}
 use Rattle.sq_module.specs.declared.program.DeclaredCursor.{DeclaredCursor}
 use Rattle.sq_module.specs.declared.program.ProcedureName.{ProcedureName}
 use Rattle.sq_module.specs.declared.program.Program.{Program}
-use Rattle.sq_module.specs.Program.{FitsProgram}
+use Rattle.sq_module.specs.Program.{FitsProgram, ProgramIsWellFormed}
 use Rattle.sq_module.specs.Written.{IsOfTexts}
+use Rattle.sq_session.specs.Cursors.{are_over}
 use Rattle.sq_session.specs.Kind.{Procedure, kind_of}
 use Rattle.sq_session.specs.Parameter.{declared}
-use Rattle.sq_session.specs.Schemas.{Schemas}
+use Rattle.sq_session.specs.Schemas.{Schemas, columns_of}
 use Rattle.sq_session.specs.State.{State}
 
 -- the procedures and the names of the base tables, each at its number, what the schemas define, and what calls work on
@@ -62,10 +62,12 @@ name_of p = record { «module» = p.«module»; name = p.name }
 abbrev pub names_of : List Procedure → List ProcedureName
 names_of procedures = map name_of procedures
 
--- the procedures are those of a program that is bound from these modules over these base tables, where the names of tables and views
--- mean this (12.1 and 12.3)
-pub record AreOfModules (bases : List BaseTable) (known : KnownTables) (modules : List ModuleText) (procedures : List Procedure) : Type 0 where
+-- The procedures of a session are those of a program that is bound from these modules, where the names of tables and views mean this
+-- (12.1 and 12.3). It is well formed over the session's tables and views, and the session has a cursor for each that it declares.
+pub record IsOfModules (known : KnownTables) (modules : List ModuleText) (s : Session) : Type 0 where
   pub program : Program
   pub is_of : IsOfTexts known modules program
-  pub fits : FitsProgram bases program
-  pub are : procedures ≡ procedures_of program.cursors.items program.procedures.entries
+  pub fits : FitsProgram s.schemas.bases program
+  pub well_formed : ProgramIsWellFormed (columns_of s.schemas) program
+  pub are : s.procedures ≡ procedures_of program.cursors.items program.procedures.entries
+  pub cursors : are_over program.cursors.items s.state.cursors ≡ true

@@ -5,6 +5,7 @@ ghost use Rattle.sq_rules.specs.ModuleRefusal.{first_module_refusal};
 ghost use Rattle.sq_module.specs.FirstRefusal.{IsFaultFor};
 ghost use Rattle.sq_module.specs.Refusal.{IsOfSomeModule};
 ghost use Rattle.sq_catalog.specs.Catalog.{known, table_number};
+ghost use Rattle.sq_session.specs.Cursors.{are_over};
 ghost use Rattle.sq_session.specs.Kind.{fault_at, fits_at, kind_at, needs_memory};
 ghost use Rattle.sq_session.specs.Metered.{CallReads};
 ghost use Rattle.std.specs.Map.{keys_of};
@@ -14,7 +15,7 @@ ghost use Rattle.sq_catalog.specs.Catalog.{column_kinds};
 ghost use Rattle.sq_module.specs.Program.{FitsProgram, ProgramIsWellFormed, declared_procedures};
 ghost use Rattle.sq_module.specs.Written.{IsOfTexts};
 ghost use Rattle.sq_session.specs.Schemas.{schemas_of};
-ghost use Rattle.sq_session.specs.Session.{AreOfModules, names_of, procedure_number, procedures_of, rows_named};
+ghost use Rattle.sq_session.specs.Session.{IsOfModules, names_of, procedure_number, procedures_of, rows_named};
 ghost use Rattle.sq_session.specs.State.{AreClosed};
 ghost use Rattle.sq_session.specs.Step.{MayCall, is_success};
 
@@ -76,7 +77,6 @@ impl<S: Store> Model for Session<S> {
 impl<S: Store> Session<S> {
     /// A session of these modules over a store of the catalog's tables and keys, with all cursors closed; or the first refusal,
     /// module by module, and within a module in the order of `ModuleRefusalName` (12.1 to 12.3 and 13.1).
-    #[tactic(auto, using(crate::proofs::Named::of_modules))]
     pub fn new(
         alloc: Global,
         catalog: Catalog,
@@ -93,8 +93,7 @@ impl<S: Store> Session<S> {
             s.state.cursors) }
         ensures numbers { IfOk result (λ s. s.state.row_numbers ≡ S.row_numbers store) }
         ensures procedures { IfOk result (λ s. names_of s.procedures ≡ declared_procedures modules.now) }
-        ensures written { IfOk result
-            (λ s. AreOfModules catalog.bases (known catalog) modules.now s.procedures) }
+        ensures written { IfOk result (IsOfModules (known catalog) modules.now) }
         ensures tables { IfOk result (λ s. s.tables ≡ catalog.tables) }
         ensures schemas { IfOk result (λ s. s.schemas ≡ schemas_of catalog) }
         ensures refused { IfErr result (IsOfSomeModule (length modules.now)) }
@@ -133,6 +132,7 @@ impl<S: Store> Session<S> {
         ensures procedures { IfOk result (λ s. names_of s.procedures ≡ keys_of program.procedures.entries) }
         ensures program { IfOk result
             (λ s. s.procedures ≡ procedures_of program.cursors.items program.procedures.entries) }
+        ensures cursors { IfOk result (λ s. are_over program.cursors.items s.state.cursors ≡ true) }
         ensures tables { IfOk result (λ s. s.tables ≡ catalog.tables) }
         ensures schemas { IfOk result (λ s. s.schemas ≡ schemas_of catalog) }
     {
