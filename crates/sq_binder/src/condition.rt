@@ -359,7 +359,7 @@ fn clause_value<T: Tables>(
 }
 
 /// A clause that is written.
-fn present(cond: CondResult) -> ClauseResult
+pub fn present(cond: CondResult) -> ClauseResult
     ensures { (b : Binding NumberedCond) (before : AnyCounts) → Finds cond_seen b before cond
         → Finds clause_seen (clause_present b) before result }
 {
@@ -371,7 +371,7 @@ fn present(cond: CondResult) -> ClauseResult
 }
 
 /// A WHERE clause, which is bound with no set function of the query before it, behind those that there are.
-fn counted(filter: ClauseResult, before: Counts) -> ClauseResult
+pub fn counted(filter: ClauseResult, before: Counts) -> ClauseResult
     ensures { (b : Binding NumberedClause) → Finds clause_seen b (first before) filter
         → Finds clause_seen (from_first b) before result }
 {

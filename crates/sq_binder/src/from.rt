@@ -177,7 +177,7 @@ fn item_over(
 }
 
 /// The correlation name of a table reference.
-fn correlation_of(reference: &TableReference) -> Option<Name>
+pub fn correlation_of(reference: &TableReference) -> Option<Name>
     ensures { result ≡ option_map (λ c. c.name) reference.now.correlation }
 {
     match reference.correlation {
@@ -209,7 +209,7 @@ fn may_fail(place: TablePlace) -> bool
 }
 
 /// The columns of an item over a table with these columns.
-fn columns_over(alloc: Global, columns: &[Column]) -> Result<Items<ItemColumn>, AllocError>
+pub fn columns_over(alloc: Global, columns: &[Column]) -> Result<Items<ItemColumn>, AllocError>
     ensures { IfOk result (λ items. map column_of items ≡ columns_over columns.now) }
 {
     let mut items = Items::new(alloc);

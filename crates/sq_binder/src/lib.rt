@@ -33,13 +33,19 @@ mod typed;
 
 pub use bound::{Bound, ExprResult};
 pub use column::{FoundColumn, ItemColumn};
-pub use condition::{ClauseResult, CondResult, bind_cond, bind_select};
+pub use condition::{ClauseResult, CondResult, bind_cond, bind_select, counted, present};
 pub use expression::bind_expr;
 pub use findings::Findings;
-pub use found::{Brought, Counts, Found};
-pub use from::{FromClause, from_clause};
+pub use found::{Brought, Counts, Found, alone, begun, paired, pushed, with_next};
+pub use from::{FromClause, columns_over, correlation_of, from_clause};
+pub use item_name::name_of;
+pub use kinds::{are_comparable, is_text};
+pub use parameter::{indicator_of, parameter_of};
 pub use query_findings::QueryFindings;
 pub use scope::{Environment, FromItem, Scope};
 pub use stop::Stop;
 pub use subquery::SelectResult;
-pub use surroundings::{NamedTable, Surroundings, Tables};
+pub use surroundings::{
+    NamedTable, Surroundings, Tables, TreeResult, TypedResult, agreeing, value,
+};
+pub use typed::Typed;

@@ -197,6 +197,7 @@ impl<'a> Environment<'a> {
     pub fn new(alloc: Global, user: Name, parameters: &'a [ParameterDesc]) -> Environment<'a>
         ensures scopes { scopes_in result ≡ [] }
         ensures parameters { parameters_in result ≡ map declared_of parameters.now }
+        ensures user { result.user ≡ user }
     {
         Environment {
             alloc,

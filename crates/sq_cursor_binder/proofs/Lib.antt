@@ -1,0 +1,9 @@
+pub mod Columns
+pub mod Commons
+pub mod Cursors
+pub mod Orders
+pub mod Queries
+pub mod Targets
+pub mod Turns
+pub mod Unions
+pub mod Updatables

@@ -1,0 +1,9 @@
+pub mod Changeable
+pub mod Check
+pub mod Cursor
+pub mod InTurn
+pub mod Names
+pub mod Order
+pub mod Query
+pub mod Updatable
+pub mod View

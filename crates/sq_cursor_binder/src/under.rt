@@ -1,0 +1,18 @@
+//! What is under a table that may be changed.
+
+ghost use Rattle.std.specs.Prelude.{◌≡◌, ◌||◌, length, nat_eq, nat_lt, not, true};
+ghost use Rattle.std.specs.List.{list_all};
+
+use sq_bound::{Column, Leaf, Shared};
+
+/// What is under a table that may be changed: rows of a base table, and the columns of the table, each with the column of the
+/// base table that it is.
+#[derive(Clone, Copy)]
+pub struct UnderTable<'a> {
+    pub leaf: &'a Shared<Leaf>,
+    pub columns: &'a [Column],
+    /// Whether the table is the base table itself, with no view in between.
+    pub is_base: bool,
+    pub ghost plain: { (not is_base || nat_eq (length leaf.now.conditions) 0) ≡ true },
+    pub ghost placed: { list_all (λ c. nat_lt c.leaf_column (length leaf.now.table.columns)) columns.now ≡ true },
+}

@@ -1,0 +1,36 @@
+//! What is bound by itself, in no query: its subqueries are numbered from 0, and a missing privilege is a fault where there is no
+//! other.
+
+ghost use Rattle.std.specs.Prelude.{◌≡◌, Err, Ok, if◌then◌else◌};
+ghost use Rattle.sq_rules.specs.declared.fault.BindingFault.TheVariants.{PrivilegeMissing};
+ghost use Rattle.sq_binder.specs.declared.stop.Stop.TheVariants.{Fault};
+
+use sq_binder::{Counts, Found, Stop};
+use sq_rules::BindingFault;
+
+/// With no set function and no subquery before.
+pub fn at_first() -> Counts
+    ensures { result ≡ record { functions = 0; subqueries = 0 } }
+{
+    Counts {
+        functions: 0,
+        subqueries: 0,
+    }
+}
+
+/// The part, where no privilege is missing.
+pub fn permitted<T: Drop>(found: Found<T>) -> Result<T, Stop>
+    ensures { result ≡ (if found.brought.findings.lacks_privilege
+        then Err (Fault PrivilegeMissing)
+        else Ok found.part) }
+{
+    let Found { part, brought } = found;
+    let lacks_privilege = brought.findings.lacks_privilege;
+    drop(brought);
+    if lacks_privilege {
+        drop(part);
+        Err(Stop::Fault(BindingFault::PrivilegeMissing))
+    } else {
+        Ok(part)
+    }
+}

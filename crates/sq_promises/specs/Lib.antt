@@ -1,0 +1,4 @@
+pub mod Names
+pub mod Seen
+pub mod There
+pub mod Written

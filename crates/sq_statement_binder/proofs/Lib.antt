@@ -1,0 +1,14 @@
+pub mod Chains
+pub mod ChangedRows
+pub mod ColumnLoops
+pub mod ColumnsInTurn
+pub mod Deletes
+pub mod Inserts
+pub mod NewValues
+pub mod Receivers
+pub mod SelectRows
+pub mod Sources
+pub mod Targets
+pub mod Turned
+pub mod Twice
+pub mod WholeStatements

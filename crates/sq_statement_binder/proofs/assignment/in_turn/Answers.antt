@@ -1,0 +1,30 @@
+use Rattle.std.proofs.Common.{map}
+use Rattle.sq_tree.specs.declared.statement.Assignment.{Assignment}
+use Rattle.sq_binder.specs.Surroundings.{surroundings}
+use Rattle.sq_cursor_binder.specs.Changeable.{table_name}
+use Rattle.sq_statement_binder.specs.Receiver.{receiver_seen}
+use Rattle.sq_statement_binder.specs.Update.{assignment_in, assignment_seen}
+use Rattle.sq_statement_binder.proofs.ColumnLoops.{all_columns, begun_columns, next_column, next_column_stops}
+use Rattle.sq_statement_binder.proofs.assignment.in_turn.Goals as goal
+
+pub loop-number-init : goal.loop-number-init
+loop-number-init g c =
+    begun_columns assignment_seen (map receiver_seen c.args.receivers.now) (λ (s : Assignment). s.column) (assignment_in ((g.T.ChangeableTables.changes c.args.at.now.tables.now).holds (table_name c.args.table.now)) (surroundings g.T.Tables.named c.args.at.now)) c.args.before c.args.list.now.first c.args.list.now.rest
+    c.bind_assignment-first.result c.in_ok-assignments.assignments c.bind_assignment-first.ensures c.in_ok-assignments.ensures
+
+pub returns-in-Err : goal.returns-in-Err
+returns-in-Err g c =
+    next_column_stops assignment_seen (map receiver_seen c.args.receivers.now) (λ (s : Assignment). s.column) (assignment_in ((g.T.ChangeableTables.changes c.args.at.now.tables.now).holds (table_name c.args.table.now)) (surroundings g.T.Tables.named c.args.at.now)) c.args.before c.args.list.now.first c.args.list.now.rest
+    c.as_slice-assignment-items.result.now c.as_slice-assignment-items.ensures c.loop-number.number c.assignment-item.result c.is_assigned-again.result c.loop-number.assignments c.loop-number-test.true c.assignment-item.is c.is_assigned-again.ensures c.loop-number.invariant
+    c.bind_assignment-next.result c.in-Err.stop c.bind_assignment-next.ensures c.in-Err.ensures
+
+pub loop-number-preserved : goal.loop-number-preserved
+loop-number-preserved g c =
+    next_column assignment_seen (map receiver_seen c.args.receivers.now) (λ (s : Assignment). s.column) (assignment_in ((g.T.ChangeableTables.changes c.args.at.now.tables.now).holds (table_name c.args.table.now)) (surroundings g.T.Tables.named c.args.at.now)) c.args.before c.args.list.now.first c.args.list.now.rest
+    c.as_slice-assignment-items.result.now c.as_slice-assignment-items.ensures c.loop-number.number c.assignment-item.result c.is_assigned-again.result c.loop-number.assignments c.loop-number-test.true c.assignment-item.is c.is_assigned-again.ensures c.loop-number.invariant
+    c.bind_assignment-next.result c.in-Ok.more c.bind_assignment-next.ensures c.in-Ok.ensures
+
+pub returns : goal.returns
+returns g c =
+    all_columns assignment_seen (map receiver_seen c.args.receivers.now) (λ (s : Assignment). s.column) (assignment_in ((g.T.ChangeableTables.changes c.args.at.now.tables.now).holds (table_name c.args.table.now)) (surroundings g.T.Tables.named c.args.at.now)) c.args.before c.args.list.now.first c.args.list.now.rest
+    c.as_slice-assignment-items.result.now c.as_slice-assignment-items.ensures c.loop-number.number c.loop-number.assignments c.loop-number-test.false c.loop-number.invariant

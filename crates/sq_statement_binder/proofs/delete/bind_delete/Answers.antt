@@ -1,0 +1,26 @@
+use Rattle.sq_meaning.specs.Spelled.{table_of}
+use Rattle.sq_binding.specs.Changeable.{changed_table}
+use Rattle.sq_binder.specs.Found.{counts_of}
+use Rattle.sq_binder.specs.Surroundings.{surroundings}
+use Rattle.sq_cursor_binder.specs.Changeable.{changed_of}
+use Rattle.sq_cursor_binder.specs.Names.{names_at}
+use Rattle.sq_statement_binder.specs.Delete.{delete_over}
+use Rattle.sq_statement_binder.specs.Rows.{change_of}
+use Rattle.sq_statement_binder.proofs.Turned.{outcome_stops, outcome_then}
+use Rattle.sq_statement_binder.proofs.delete.bind_delete.Goals as goal
+
+pub returns-in-Ok : goal.returns-in-Ok
+returns-in-Ok g c =
+    let names = names_at g.T.Tables.named g.T.ChangeableTables.changes c.args.at.now in
+    let a = surroundings g.T.Tables.named c.args.at.now in
+    let cursors = g.C.Cursors.named c.args.cursors.now in
+    let s = c.args.delete.now in
+    outcome_then change_of (changed_table names (table_of names.user s.table)) (delete_over names a cursors s) c.args.before (changed_of c.in-Ok.table) c.delete_from.result c.in-Ok.ensures.binds c.delete_from.ensures
+
+pub returns-in-Err : goal.returns-in-Err
+returns-in-Err g c =
+    let names = names_at g.T.Tables.named g.T.ChangeableTables.changes c.args.at.now in
+    let a = surroundings g.T.Tables.named c.args.at.now in
+    let cursors = g.C.Cursors.named c.args.cursors.now in
+    let s = c.args.delete.now in
+    outcome_stops (changed_table names (table_of names.user s.table)) (delete_over names a cursors s) (counts_of c.args.before) c.in-Err.stop c.in-Err.ensures.binds

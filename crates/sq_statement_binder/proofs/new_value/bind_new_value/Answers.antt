@@ -1,0 +1,22 @@
+use Rattle.std.proofs.Common.{Ok, sym, ap, subst, ◌∙◌}
+use Rattle.sq_value.specs.declared.value.Value.TheVariants as value
+use Rattle.sq_binding.specs.Change.{new_value_bound}
+use Rattle.sq_binding.specs.Numbered.{Numbered}
+use Rattle.sq_binding.specs.Seen.{numbered_of}
+use Rattle.sq_binder.specs.Found.{Finds}
+use Rattle.sq_binder.specs.Surroundings.{surroundings}
+use Rattle.sq_binder.proofs.Images.{numbered_of-Literal}
+use Rattle.sq_statement_binder.proofs.NewValues.{value_is}
+use Rattle.sq_statement_binder.proofs.Turned.{alone_seen}
+use Rattle.sq_statement_binder.proofs.new_value.bind_new_value.Goals as goal
+
+pub returns-in-Expr : goal.returns-in-Expr
+returns-in-Expr g c =
+    let a = surroundings g.T.Tables.named c.args.at.now in
+    subst (λ b. Finds numbered_of b c.args.before c.agreeing.result) (sym (ap (new_value_bound a c.args.kind) c.in-Expr.is ∙ value_is a c.args.kind c.in-Expr.expr)) c.agreeing.ensures
+
+pub returns-in-Null : goal.returns-in-Null
+returns-in-Null g c =
+    let a = surroundings g.T.Tables.named c.args.at.now in
+    subst (λ v. Finds numbered_of (new_value_bound a c.args.kind v) c.args.before (Ok c.alone.result)) (sym c.in-Null.is)
+    (alone_seen numbered_of (Numbered.literal value.Null) c.alone.result c.args.before (ap (λ x. numbered_of x.part) c.alone.ensures ∙ numbered_of-Literal value.Null) (ap (λ x. x.brought) c.alone.ensures))

@@ -1,0 +1,12 @@
+pub mod Cursors
+pub mod Delete
+pub mod Fetch
+pub mod Insert
+pub mod Needed
+pub mod Receiver
+pub mod Row
+pub mod Rows
+pub mod Source
+pub mod Statement
+pub mod Target
+pub mod Update

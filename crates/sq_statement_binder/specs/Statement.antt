@@ -1,0 +1,41 @@
+-- Bound statements, as the definitions see them (ISO/IEC 9075:1992, 13.2 to 13.10, 14.3 and 14.4).
+use Rattle.std.specs.Prelude.{Ok}
+use Rattle.sq_tree.specs.declared.statement.Statement.{Statement}
+use Rattle.sq_tree.specs.declared.statement.Statement.TheVariants as written
+use Rattle.sq_bound.specs.declared.statement.BoundStatement.{BoundStatement}
+use Rattle.sq_bound.specs.declared.statement.BoundStatement.TheVariants as bound
+use Rattle.sq_binding.specs.Change.{NamedCursors, cursor_named}
+use Rattle.sq_binding.specs.Changeable.{UserNames}
+use Rattle.sq_binding.specs.Outcome.{Outcome, ◌>>=◌}
+use Rattle.sq_binding.specs.Select.{Surroundings}
+use Rattle.sq_binding.specs.Statement.{NumberedStatement, fetch_bound}
+use Rattle.sq_binding.specs.Whole.{whole}
+use Rattle.sq_statement_binder.specs.Delete.{delete_in}
+use Rattle.sq_statement_binder.specs.Fetch.{fetch_of}
+use Rattle.sq_statement_binder.specs.Insert.{insert_in, insert_of}
+use Rattle.sq_statement_binder.specs.Row.{row_in, row_of}
+use Rattle.sq_statement_binder.specs.Rows.{change_of}
+use Rattle.sq_statement_binder.specs.Update.{update_in, update_of}
+
+abbrev pub statement_of : BoundStatement → NumberedStatement
+statement_of (bound.Open n) = NumberedStatement.open_cursor n
+statement_of (bound.Fetch f) = NumberedStatement.fetch (fetch_of f)
+statement_of (bound.Close n) = NumberedStatement.close_cursor n
+statement_of (bound.Select s) = NumberedStatement.select_row (row_of s)
+statement_of (bound.Insert i) = NumberedStatement.insert (insert_of i)
+statement_of (bound.Update u) = NumberedStatement.update (update_of u)
+statement_of (bound.Delete d) = NumberedStatement.delete (change_of d)
+statement_of bound.Commit = NumberedStatement.commit
+statement_of bound.Rollback = NumberedStatement.rollback
+
+-- a statement in these surroundings
+abbrev pub statement_in : UserNames → Surroundings → NamedCursors → Statement → Outcome NumberedStatement
+statement_in names a cursors (written.Open name) = cursor_named cursors name >>= λ c. Ok (NumberedStatement.open_cursor c.number)
+statement_in names a cursors (written.Fetch f) = fetch_bound a.parameters cursors f >>= λ x. Ok (NumberedStatement.fetch x)
+statement_in names a cursors (written.Close name) = cursor_named cursors name >>= λ c. Ok (NumberedStatement.close_cursor c.number)
+statement_in names a cursors (written.Select s) = whole (row_in names.user a s) >>= λ x. Ok (NumberedStatement.select_row x)
+statement_in names a cursors (written.Insert i) = whole (insert_in names a i) >>= λ x. Ok (NumberedStatement.insert x)
+statement_in names a cursors (written.Update u) = whole (update_in names a cursors u) >>= λ x. Ok (NumberedStatement.update x)
+statement_in names a cursors (written.Delete d) = whole (delete_in names a cursors d) >>= λ x. Ok (NumberedStatement.delete x)
+statement_in names a cursors (written.Commit work) = Ok NumberedStatement.commit
+statement_in names a cursors (written.Rollback work) = Ok NumberedStatement.rollback

@@ -1,0 +1,49 @@
+//! DELETE (ISO/IEC 9075:1992, 13.6 and 13.7).
+
+ghost use Rattle.sq_binder.specs.Found.{Finds};
+ghost use Rattle.sq_binder.specs.Surroundings.{surroundings};
+ghost use Rattle.sq_cursor_binder.specs.Changeable.{changed_of};
+ghost use Rattle.sq_cursor_binder.specs.Names.{names_at};
+ghost use Rattle.sq_statement_binder.specs.Delete.{delete_in, delete_over};
+ghost use Rattle.sq_statement_binder.specs.Rows.{change_of};
+
+use crate::cursors::Cursors;
+use crate::needed::{reading, requiring};
+use crate::rows::{RowsResult, bind_rows};
+use sq_binder::{Counts, Found, Surroundings};
+use sq_cursor_binder::{ChangeableTables, ChangedTable, Privilege, changed_table};
+use sq_tree::Delete;
+
+pub fn bind_delete<T: ChangeableTables, C: Cursors>(
+    delete: &Delete,
+    at: &Surroundings<'_, T>,
+    cursors: &C,
+    before: Counts,
+) -> RowsResult
+    ensures { Finds change_of (delete_in (names_at T.named T.changes at.now)
+        (surroundings T.named at.now) (C.named cursors.now) delete.now) before result }
+{
+    match changed_table(at.tables, at.environment.user, delete.table) {
+        Ok(table) => delete_from(delete, &table, at, cursors, before),
+        Err(stop) => Err(stop),
+    }
+}
+
+fn delete_from<T: ChangeableTables, C: Cursors>(
+    delete: &Delete,
+    table: &ChangedTable<'_>,
+    at: &Surroundings<'_, T>,
+    cursors: &C,
+    before: Counts,
+) -> RowsResult
+    ensures { Finds change_of (delete_over (names_at T.named T.changes at.now) (surroundings T.named at.now)
+        (C.named cursors.now) delete.now (changed_of table.now)) before result }
+{
+    let Found { part, brought } = bind_rows(&delete.target, table, at, cursors, before)?;
+    let may_select = at.tables.holds(table.user, table.name, Privilege::Select);
+    let may_delete = at.tables.holds(table.user, table.name, Privilege::Delete);
+    Ok(Found {
+        part,
+        brought: requiring(reading(brought, may_select), may_delete),
+    })
+}

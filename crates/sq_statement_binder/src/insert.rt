@@ -1,0 +1,99 @@
+//! INSERT (ISO/IEC 9075:1992, 13.8).
+
+ghost use Rattle.std.specs.Prelude.{◌≡◌, IfOk, map};
+ghost use Rattle.sq_binder.specs.Found.{Finds};
+ghost use Rattle.sq_binder.specs.Surroundings.{surroundings};
+ghost use Rattle.sq_cursor_binder.specs.Changeable.{changed_of};
+ghost use Rattle.sq_cursor_binder.specs.Names.{names_at};
+ghost use Rattle.sq_statement_binder.specs.Insert.{InsertsInto, insert_in, insert_of, insert_over};
+
+use crate::needed::requiring;
+use crate::receiver::{Receiver, insert_receivers};
+use crate::source::bind_source;
+use sq_binder::{Counts, Found, Stop, Surroundings, paired};
+use sq_bound::{BoundInsert, InsertedRows, ObjectColumn};
+use sq_cursor_binder::{ChangeableTables, ChangedTable, Privilege, changed_table};
+use sq_items::Items;
+use sq_tree::Insert;
+use std::alloc::{AllocError, Global};
+
+/// What binding an insert statement answers.
+pub type InsertResult = Result<Found<BoundInsert>, Stop>;
+
+/// The columns that get values, and where the values come from.
+type Parts = Found<(Items<Receiver>, InsertedRows)>;
+
+pub fn bind_insert<T: ChangeableTables>(
+    insert: &Insert,
+    at: &Surroundings<'_, T>,
+    before: Counts,
+) -> InsertResult
+    ensures { Finds insert_of (insert_in (names_at T.named T.changes at.now)
+        (surroundings T.named at.now) insert.now) before result }
+{
+    match changed_table(at.tables, at.environment.user, insert.table) {
+        Ok(table) => insert_into(insert, &table, at, before),
+        Err(stop) => Err(stop),
+    }
+}
+
+fn insert_into<T: ChangeableTables>(
+    insert: &Insert,
+    table: &ChangedTable<'_>,
+    at: &Surroundings<'_, T>,
+    before: Counts,
+) -> InsertResult
+    ensures { Finds insert_of (insert_over (names_at T.named T.changes at.now) (surroundings T.named at.now)
+        insert.now (changed_of table.now)) before result }
+{
+    let alloc = at.environment.alloc;
+    let receivers = insert_receivers(alloc, table, &insert.columns, before)?;
+    let next = receivers.brought.next;
+    let source = bind_source(&insert.source, receivers.part.as_slice(), at, next);
+    let parts = paired(receivers, source);
+    let may_insert = at.tables.holds(table.user, table.name, Privilege::Insert);
+    inserted(alloc, table, parts, may_insert)
+}
+
+fn inserted(
+    alloc: Global,
+    table: &ChangedTable<'_>,
+    parts: Result<Parts, Stop>,
+    may_insert: bool,
+) -> InsertResult
+    ensures { InsertsInto table.now may_insert parts result }
+{
+    let Found { part, brought } = parts?;
+    let (receivers, source) = part;
+    let columns = object_columns(alloc, receivers.as_slice());
+    drop(receivers);
+    match (columns, table.under.leaf.share()) {
+        (Ok(columns), Ok(leaf)) => Ok(Found {
+            part: BoundInsert {
+                base: table.base(),
+                leaf,
+                columns,
+                source,
+            },
+            brought: requiring(brought, may_insert),
+        }),
+        (columns, leaf) => {
+            drop(columns);
+            drop(leaf);
+            drop(source);
+            drop(brought);
+            Err(Stop::NoMemory)
+        }
+    }
+}
+
+/// The columns of the base table that get values.
+fn object_columns(alloc: Global, receivers: &[Receiver]) -> Result<Items<ObjectColumn>, AllocError>
+    ensures { IfOk result (λ columns. columns ≡ map (λ receiver. receiver.object) receivers.now) }
+{
+    let mut columns = Items::new(alloc);
+    for receiver in receivers {
+        columns.push(receiver.object)?;
+    }
+    Ok(columns)
+}

@@ -1,0 +1,89 @@
+//! Statements of procedures (ISO/IEC 9075:1992, 13.2 to 13.10, 14.3 and 14.4).
+
+ghost use Rattle.std.specs.Prelude.{map};
+ghost use Rattle.sq_binding.specs.Statement.{statement_bound};
+ghost use Rattle.sq_binder.specs.Binds.{Binds};
+ghost use Rattle.sq_binder.specs.Scope.{declared_of};
+ghost use Rattle.sq_binder.specs.Surroundings.{surroundings};
+ghost use Rattle.sq_cursor_binder.specs.Names.{names_at, user_names};
+ghost use Rattle.sq_statement_binder.specs.Statement.{statement_in, statement_of};
+
+use crate::cursors::{Cursors, cursor_named};
+use crate::delete::bind_delete;
+use crate::fetch::bind_fetch;
+use crate::insert::bind_insert;
+use crate::needed::whole;
+use crate::row::bind_row;
+use crate::update::bind_update;
+use sq_binder::{Environment, Stop, Surroundings};
+use sq_bound::{BoundStatement, ParameterDesc};
+use sq_cursor_binder::{ChangeableTables, at_first};
+use sq_lex::Name;
+use sq_tree::Statement;
+use std::alloc::Global;
+
+/// What binding a statement answers.
+pub type StatementResult = Result<BoundStatement, Stop>;
+
+/// A statement of a procedure of this user with these parameters, in a module with these cursors.
+pub fn bind_statement<T: ChangeableTables, C: Cursors>(
+    alloc: Global,
+    user: Name,
+    parameters: &[ParameterDesc],
+    tables: &T,
+    cursors: &C,
+    statement: &Statement,
+) -> StatementResult
+    ensures { Binds statement_of
+        (statement_bound (user_names user (T.named tables.now) (T.changes tables.now))
+        (map declared_of parameters.now) (C.named cursors.now) statement.now) result }
+{
+    let environment = Environment {
+        alloc,
+        user,
+        parameters,
+        scope: None,
+    };
+    let at = Surroundings {
+        tables,
+        environment: &environment,
+        functions_allowed: false,
+    };
+    statement_at(statement, &at, cursors)
+}
+
+fn statement_at<T: ChangeableTables, C: Cursors>(
+    statement: &Statement,
+    at: &Surroundings<'_, T>,
+    cursors: &C,
+) -> StatementResult
+    ensures { Binds statement_of (statement_in (names_at T.named T.changes at.now)
+        (surroundings T.named at.now) (C.named cursors.now) statement.now) result }
+{
+    let environment = at.environment;
+    let first = at_first();
+    match statement {
+        Statement::Open(name) => Ok(BoundStatement::Open(cursor_named(cursors, *name)?.number)),
+        Statement::Close(name) => Ok(BoundStatement::Close(cursor_named(cursors, *name)?.number)),
+        Statement::Fetch(fetch) => Ok(BoundStatement::Fetch(bind_fetch(
+            environment.alloc,
+            fetch,
+            environment.parameters,
+            cursors,
+        )?)),
+        Statement::Select(select) => Ok(BoundStatement::Select(whole(bind_row(
+            select, at, first,
+        ))?)),
+        Statement::Insert(insert) => Ok(BoundStatement::Insert(whole(bind_insert(
+            insert, at, first,
+        ))?)),
+        Statement::Update(update) => Ok(BoundStatement::Update(whole(bind_update(
+            update, at, cursors, first,
+        ))?)),
+        Statement::Delete(delete) => Ok(BoundStatement::Delete(whole(bind_delete(
+            delete, at, cursors, first,
+        ))?)),
+        Statement::Commit(_) => Ok(BoundStatement::Commit),
+        Statement::Rollback(_) => Ok(BoundStatement::Rollback),
+    }
+}

@@ -1,0 +1,126 @@
+//! The targets of INTO: the parameters that get the values of a row, and their indicator parameters (ISO/IEC 9075:1992, 6.2,
+//! 13.3 and 13.5).
+
+ghost use Rattle.std.specs.Prelude.{◌≡◌, false, map, nat_eq};
+ghost use Rattle.sq_meaning.specs.Spelled.{listed};
+ghost use Rattle.sq_rules.specs.Words.{has_twice};
+ghost use Rattle.sq_binding.specs.Targets.{target_bound, targets_bound};
+ghost use Rattle.sq_binder.specs.Binds.{Binds};
+ghost use Rattle.sq_binder.specs.Scope.{declared_of};
+ghost use Rattle.sq_statement_binder.specs.Target.{all_set, indicator_again, is_set_again, is_set_in, kinds_shown, placed_of, set_unless, sets, target_step};
+
+use sq_binder::{Stop, are_comparable, indicator_of, parameter_of, pushed};
+use sq_bound::{Output, ParameterDesc, ResultColumn};
+use sq_items::Items;
+use sq_rules::BindingFault;
+use sq_tree::{CommaList, Parameter};
+use sq_value::Kind;
+use std::alloc::Global;
+
+/// The targets of columns: as many, each of a kind that agrees, and no parameter is set twice.
+pub fn targets_of(
+    alloc: Global,
+    targets: &CommaList<Parameter>,
+    columns: &[ResultColumn],
+    parameters: &[ParameterDesc],
+) -> Result<Items<Output>, Stop>
+    ensures { Binds (map placed_of) (targets_bound (map declared_of parameters.now) (listed targets.now)
+        (kinds_shown columns.now)) result }
+{
+    let Some((first, others)) = columns.split_first() else {
+        return Err(Stop::Fault(BindingFault::CountMismatch));
+    };
+    let rest = targets.rest.as_slice();
+    if rest.len() != others.len() {
+        return Err(Stop::Fault(BindingFault::CountMismatch));
+    }
+    let mut outputs = with_target(Items::new(alloc), &targets.first, first.kind, parameters)?;
+    for (number, target) in rest.iter().enumerate() {
+        match with_target(outputs, target, others[number].kind, parameters) {
+            Ok(more) => outputs = more,
+            Err(stop) => return Err(stop),
+        }
+    }
+    Ok(outputs)
+}
+
+/// The targets with a further one, for a column of this kind.
+fn with_target(
+    outputs: Items<Output>,
+    target: &Parameter,
+    kind: Kind,
+    parameters: &[ParameterDesc],
+) -> Result<Items<Output>, Stop>
+    requires { has_twice nat_eq (all_set (map placed_of outputs)) ≡ false }
+    ensures { Binds (map placed_of) (target_step (map declared_of parameters.now) (map placed_of outputs)
+        (target.now, kind)) result }
+{
+    match target_of(target, kind, parameters) {
+        Ok(output) => {
+            let again = is_set_again(outputs.as_slice(), output);
+            with_output(outputs, output, again)
+        }
+        Err(stop) => {
+            drop(outputs);
+            Err(stop)
+        }
+    }
+}
+
+/// A parameter whose kind agrees with that of its column.
+fn target_of(target: &Parameter, kind: Kind, parameters: &[ParameterDesc]) -> Result<Output, Stop>
+    ensures { Binds placed_of
+        (target_bound (map declared_of parameters.now) (target.now, kind)) result }
+{
+    let (position, parameter) = parameter_of(parameters, target.name)?;
+    let indicator = indicator_of(parameters, target.indicator)?;
+    if are_comparable(parameter.domain.kind(), kind) {
+        Ok(Output {
+            parameter: position,
+            indicator,
+        })
+    } else {
+        Err(Stop::Fault(BindingFault::KindMismatch))
+    }
+}
+
+/// The targets with a further one, where it sets no parameter again.
+fn with_output(outputs: Items<Output>, output: Output, again: bool) -> Result<Items<Output>, Stop>
+    ensures { Binds (map placed_of) (set_unless again (map placed_of outputs) (placed_of output)) result }
+{
+    if again {
+        drop(outputs);
+        return Err(Stop::Fault(BindingFault::TargetTwice));
+    }
+    Ok(pushed(outputs, output)?)
+}
+
+/// Whether a target sets a parameter that one before it sets, or one that is its own indicator.
+fn is_set_again(outputs: &[Output], output: Output) -> bool
+    ensures { result ≡ is_set_again outputs.now output }
+{
+    is_set(outputs, output.parameter)
+        || is_indicator_set(outputs, output.parameter, output.indicator)
+}
+
+fn is_indicator_set(outputs: &[Output], parameter: usize, indicator: Option<usize>) -> bool
+    ensures { result ≡ indicator_again outputs.now parameter indicator }
+{
+    match indicator {
+        Some(indicator) => parameter == indicator || is_set(outputs, indicator),
+        None => false,
+    }
+}
+
+/// Whether a parameter is among targets or their indicators.
+fn is_set(outputs: &[Output], parameter: usize) -> bool
+    ensures { result ≡ is_set_in outputs.now parameter }
+{
+    outputs.iter().any(|output| sets(output, parameter))
+}
+
+fn sets(output: &Output, parameter: usize) -> bool
+    ensures { result ≡ sets parameter output.now }
+{
+    output.parameter == parameter || output.indicator == Some(parameter)
+}

@@ -1,0 +1,86 @@
+//! UPDATE (ISO/IEC 9075:1992, 13.9 and 13.10).
+
+ghost use Rattle.std.specs.Prelude.{◌≡◌};
+ghost use Rattle.sq_binding.specs.Change.{update_parts};
+ghost use Rattle.sq_binder.specs.Found.{Finds};
+ghost use Rattle.sq_binder.specs.Surroundings.{surroundings};
+ghost use Rattle.sq_cursor_binder.specs.Changeable.{changed_of};
+ghost use Rattle.sq_cursor_binder.specs.Names.{names_at};
+ghost use Rattle.sq_statement_binder.specs.Update.{update_in, update_of, update_over, updated};
+
+use crate::assignment::bind_assignments;
+use crate::cursors::Cursors;
+use crate::needed::reading;
+use crate::rows::bind_rows;
+use sq_binder::{Counts, Found, Stop, Surroundings, paired};
+use sq_bound::{BoundAssignment, BoundUpdate, ChangeTarget};
+use sq_cursor_binder::{ChangeableTables, ChangedTable, Privilege, changed_table};
+use sq_items::Items;
+use sq_tree::Update;
+
+/// What binding an update statement answers.
+pub type UpdateResult = Result<Found<BoundUpdate>, Stop>;
+
+pub fn bind_update<T: ChangeableTables, C: Cursors>(
+    update: &Update,
+    at: &Surroundings<'_, T>,
+    cursors: &C,
+    before: Counts,
+) -> UpdateResult
+    ensures { Finds update_of (update_in (names_at T.named T.changes at.now)
+        (surroundings T.named at.now) (C.named cursors.now) update.now) before result }
+{
+    match changed_table(at.tables, at.environment.user, update.table) {
+        Ok(table) => update_of_table(update, &table, at, cursors, before),
+        Err(stop) => Err(stop),
+    }
+}
+
+fn update_of_table<T: ChangeableTables, C: Cursors>(
+    update: &Update,
+    table: &ChangedTable<'_>,
+    at: &Surroundings<'_, T>,
+    cursors: &C,
+    before: Counts,
+) -> UpdateResult
+    ensures { Finds update_of (update_over (names_at T.named T.changes at.now) (surroundings T.named at.now)
+        (C.named cursors.now) update.now (changed_of table.now)) before result }
+{
+    let Found { part, brought } = parts(update, table, at, cursors, before)?;
+    let may_select = at.tables.holds(table.user, table.name, Privilege::Select);
+    Ok(Found {
+        part,
+        brought: reading(brought, may_select),
+    })
+}
+
+/// The set clauses, and the rows.
+fn parts<T: ChangeableTables, C: Cursors>(
+    update: &Update,
+    table: &ChangedTable<'_>,
+    at: &Surroundings<'_, T>,
+    cursors: &C,
+    before: Counts,
+) -> UpdateResult
+    ensures { Finds update_of (update_parts (names_at T.named T.changes at.now)
+        (surroundings T.named at.now) (C.named cursors.now) (changed_of table.now) update.now) before result }
+{
+    let assignments = bind_assignments(&update.assignments, table, &*at, before)?;
+    let next = assignments.brought.next;
+    let rows = bind_rows(&update.target, table, at, cursors, next);
+    updated(paired(assignments, rows))
+}
+
+fn updated(parts: Result<Found<(Items<BoundAssignment>, ChangeTarget)>, Stop>) -> UpdateResult
+    ensures { result ≡ updated parts }
+{
+    let Found { part, brought } = parts?;
+    let (assignments, target) = part;
+    Ok(Found {
+        part: BoundUpdate {
+            target,
+            assignments,
+        },
+        brought,
+    })
+}
