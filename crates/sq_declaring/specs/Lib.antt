@@ -1,0 +1,10 @@
+pub mod Catalog
+pub mod Column
+pub mod Declaring
+pub mod Grant
+pub mod Key
+pub mod Outcome
+pub mod Position
+pub mod Reference
+pub mod Table
+pub mod View
