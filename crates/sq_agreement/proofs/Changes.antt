@@ -75,7 +75,7 @@ positioned_chosen m queries known shown bases name p t number r there = record {
 }
 
 -- what is changed is under its own leaf
-base_is_under : (ct : ChangeTarget) → (under ct).table.place ≡ by_place.base_of ct
+pub base_is_under : (ct : ChangeTarget) → (under ct).table.place ≡ by_place.base_of ct
 base_is_under (change.Searched x) = sym x.is_under
 base_is_under (change.Positioned p) = sym p.is_under
 

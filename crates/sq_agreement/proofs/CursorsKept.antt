@@ -1,6 +1,6 @@
 -- Where rows of tables go, cursors stay what they are to each other (ISO/IEC 9075:1992, 13.3, 13.6 and 13.7): numbers under which there is no
 -- row any more are left out, and a walk no longer has those rows.
-use Rattle.std.proofs.Common.{◌≡◌, ℕ, ◌+◌, ◌≤◌, cond, not, Bool, true, false, List, [], ◌∷◌, filter, map, Option, Some, None, refl, sym, ap, subst, ◌∙◌, arith, eqb-true, eq-eqb, Ok, Err}
+use Rattle.std.proofs.Common.{◌≡◌, ℕ, ◌+◌, ◌≤◌, cond, not, Bool, true, false, List, [], ◌∷◌, filter, map, Some, None, refl, sym, ap, subst, ◌∙◌, arith, eqb-true}
 use Rattle.std.specs.Prelude.{find, is_some, nat_eq, nat_le, nat_lt}
 use Rattle.std.specs.List.{AllByRecursion}
 use Rattle.sq_lex.specs.declared.name.Name.{Name}
@@ -54,6 +54,16 @@ swapped {A} p q (x ∷ xs) = by_tests (p x) (q x) refl refl (swapped p q xs)
     by_tests false true f g e = ap (λ b. cond b (x ∷ filter p (filter q xs)) (filter p (filter q xs))) f ∙ e
     by_tests false false f g e = e
 
+-- ---- numbers
+
+-- none of greater numbers is under a number
+pub none_above : (n : ℕ) (rows : List Numbered) → AreAbove (n + 1) rows → find (λ r. nat_eq r.number n) rows ≡ None
+none_above n [] h = refl
+none_above n (x ∷ rows) h =
+    ap (λ b. cond b (Some x) (find (λ r. nat_eq r.number n) rows))
+    (is_false (nat_eq x.number n) (λ is. let same : x.number ≡ n = eqb-true x.number n is in let more : n + 1 ≤ x.number = h.0 in absurd (omega (arith, same, more))))
+    ∙ none_above n rows h.1
+
 -- ---- rows that go
 
 module _ (keep : Numbered → Bool) where
@@ -70,13 +80,6 @@ module _ (keep : Numbered → Bool) where
       by_tests true false is others e =
           others (sym (ap (λ b. is_some (cond b (Some x) (find (λ r. nat_eq r.number n) (filter keep rows)))) is) ∙ e)
       by_tests false false is others e = others e
-
-  none_above : (n : ℕ) (rows : List Numbered) → AreAbove (n + 1) rows → find (λ r. nat_eq r.number n) rows ≡ None
-  none_above n [] h = refl
-  none_above n (x ∷ rows) h =
-      ap (λ b. cond b (Some x) (find (λ r. nat_eq r.number n) rows))
-      (is_false (nat_eq x.number n) (λ is. let same : x.number ≡ n = eqb-true x.number n is in let more : n + 1 ≤ x.number = h.0 in absurd (omega (arith, same, more))))
-      ∙ none_above n rows h.1
 
   abbrev IsKept : List Numbered → Numbered → Type 0
   IsKept rows r = is_some (find (λ x. nat_eq x.number r.number) (filter keep rows)) ≡ keep r
@@ -136,6 +139,8 @@ module _ (t : Table) (gone : List ℕ) (rising : has_rising_rows t ≡ true) whe
     same =
         stricter (is_there t) (is_there (without t gone)) fewer h.numbers ∙ ap (filter (is_there (without t gone))) h.same
         ∙ sym (stricter (is_there t) (is_there (without t gone)) fewer (left c));
+    below = h.below;
+    left_below = h.left_below;
   }
 
   -- a walk has the rows that are kept
@@ -160,6 +165,8 @@ module _ (t : Table) (gone : List ℕ) (rising : has_rising_rows t ≡ true) whe
     same =
         stricter (is_there t) (is_there (without t gone)) fewer h.numbers ∙ ap (filter (is_there (without t gone))) h.same
         ∙ walked_kept conditions user c.values c.next c.mark;
+    below = h.below;
+    marked = h.marked;
   }
 
 -- ---- all cursors, where rows of some tables go

@@ -112,20 +112,20 @@ module _ (texts : List SchemaText) (known : KnownTables) (bases : List BoundTabl
   abbrev all : Elements
   all = elements_of texts
 
-  abbrev Within : Elements → Type 0
+  abbrev pub Within : Elements → Type 0
   Within elements =
       BeginsWith (tables_created elements) (declared_tables texts)
       × BeginsWith (definitions_created elements) (declared_definitions texts)
       × BeginsWith (views_created elements) (declared_views texts)
 
-  all_within : Within all
+  pub all_within : Within all
   all_within = (
     begins_all (tables_created all) (declared_tables texts) (declared_tables_are texts),
     begins_all (definitions_created all) (declared_definitions texts) (declared_definitions_are texts),
     begins_all (views_created all) (declared_views texts) (declared_views_are texts),
   )
 
-  within_before : (e : Element) (before : Elements) → Within (e ∷ before) → Within before
+  pub within_before : (e : Element) (before : Elements) → Within (e ∷ before) → Within before
   within_before e before w = (
     begins_before (tables_created before) (table_in e.user e.element) (declared_tables texts) w.0,
     begins_before (definitions_created before) (definition_in e.element) (declared_definitions texts) w.1,

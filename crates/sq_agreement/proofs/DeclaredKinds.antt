@@ -1,6 +1,6 @@
 -- The kinds of the columns of a view's query are noted right in a catalog whose views' queries are well formed (ISO/IEC 9075:1992, 7.9 and
 -- 11.19), so only the kinds of the view's own columns are left to ask for.
-use Rattle.std.proofs.Common.{◌≡◌, ℕ, suc, Bool, true, false, List, [], ◌∷◌, Some, refl, sym, ap, subst, ◌∙◌, eqb-true, eq-eqb, Ok, Err}
+use Rattle.std.proofs.Common.{◌≡◌, ℕ, suc, Bool, true, false, List, [], ◌∷◌, Some, refl, ap, subst, ◌∙◌, eqb-true, eq-eqb, Ok, Err}
 use mathlib.Core.Bool.{Bool-set}
 use Rattle.std.proofs.Math.Logic.{∥∥₁_elim}
 use Rattle.std.specs.Cmp.Lexicographic.{pointwise}
@@ -16,7 +16,6 @@ use Rattle.sq_bound.specs.Condition.{select_of as placed_of}
 use Rattle.sq_bound.specs.Names.{same_kind}
 use Rattle.sq_bound.specs.WellFormed.{Extends, IsSelect, TableKinds, before_view, kinds_of_columns, kinds_of_select}
 use Rattle.sq_bound.specs.declared.condition.BoundSpecification.{BoundSpecification}
-use Rattle.sq_bound.specs.declared.condition.TablePlace.{TablePlace}
 use Rattle.sq_bound.specs.declared.condition.TablePlace.TheVariants.{Base, View}
 use Rattle.sq_bound.specs.declared.names.BaseTable.{BaseTable}
 use Rattle.sq_bound.proofs.Wider.{is_select_wider}

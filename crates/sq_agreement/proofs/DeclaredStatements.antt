@@ -112,7 +112,7 @@ module _ (texts : List SchemaText) (known : KnownTables) (bases : List BoundTabl
   module _ (name : TableName) (leaf : Leaf) (target : Target) (means : target_of (tables_in m) name ≡ Ok target)
       (is_under : option_and_then (λ k. k.under) (table_known known name) ≡ Some (under_of leaf))
       (is_base : IsBase bases leaf.table) where
-    place_is : target.place ≡ leaf.table.place
+    pub place_is : target.place ≡ leaf.table.place
     place_is =
         let k = known_under (table_known known name) (under_of leaf) is_under in
         (each_target (tables_in m) content caller known (kinds_at bases views) views shown bases meant

@@ -106,7 +106,7 @@ pub record IsSoundTable (t : BaseTable) : Type 0 where
   pub references_once : AllByRecursion (λ r. has_name_twice (listed_if_any r.references.columns) ≡ false) (table_references t.definition)
 
 -- what is said of some of a list
-all_chosen : {A B : Type 0} (h : A → Option B) (P : A → Type 0) (Q : B → Type 0) → ((x : A) → P x → IfSome (h x) Q) → (xs : List A)
+pub all_chosen : {A B : Type 0} (h : A → Option B) (P : A → Type 0) (Q : B → Type 0) → ((x : A) → P x → IfSome (h x) Q) → (xs : List A)
     → AllByRecursion P xs → AllByRecursion Q (filter_map h xs)
 all_chosen h P Q f [] p = tt
 all_chosen {A} {B} h P Q f (x ∷ xs) p = of_one (h x) (f x p.0) (all_chosen h P Q f xs p.1)

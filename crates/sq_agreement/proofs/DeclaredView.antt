@@ -32,7 +32,7 @@ use Rattle.sq_agreement.proofs.ColumnKinds.{AreTyped}
 use Rattle.sq_agreement.proofs.Databases.{IsDeclaredAs, among_same, in_database, known_among}
 use Rattle.sq_agreement.proofs.FromClauses.{MeansSame, SelectReads, names_become, select_becomes, select_reads}
 use Rattle.sq_agreement.proofs.Items.{IsFit, names_of_columns}
-use Rattle.sq_agreement.proofs.Outcomes.{known_of}
+use Rattle.sq_agreement.proofs.Outcomes.{known_of, ok_same}
 use Rattle.sq_agreement.proofs.Queries.{SameKinds, names_same, select_kinds_same}
 use Rattle.sq_agreement.proofs.Setting.{Setting, around}
 
@@ -42,9 +42,6 @@ pub record HasKindsOf (columns : TableKinds) (v : SeenView) (q : BoundSpecificat
   pub kinds_are : select_kinds (kinds_by_place columns []) [] (placed_of q) ≡ Ok (kinds_of_select q)
 
 -- ---- columns
-
-ok_same : {A : Type 0} (x y : A) → (let found : Outcome A = Ok x in found ≡ Ok y) → x ≡ y
-ok_same x y e = cc
 
 zip_names : (cs : List Column)
     → map (λ (c : ColumnDescriptor). c.name) (map (λ c. record { name = unwrap_or c.0 []; kind = c.1 }) (zip (map (λ c. Some c.name) cs) (kinds_of_columns cs)))

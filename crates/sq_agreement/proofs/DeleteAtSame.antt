@@ -1,5 +1,5 @@
 -- A positioned DELETE changes the row that both cursors are on, takes both off it, and ends alike (ISO/IEC 9075:1992, 13.6).
-use Rattle.std.proofs.Common.{◌≡◌, ℕ, Bool, true, false, List, [], ◌∷◌, Option, Some, None, refl, sym, ap, subst, ◌∙◌, Ok, Err}
+use Rattle.std.proofs.Common.{◌≡◌, ℕ, true, List, Option, Some, None, refl, sym, ap, subst, ◌∙◌, Ok}
 use Rattle.std.specs.Prelude.{◌==◌, find, is_some, option_and_then, option_map, slice_get}
 use Rattle.sq_lex.specs.declared.name.Name.{Name}
 use Rattle.sq_tree.specs.declared.«module».Cursor.{Cursor}
@@ -23,8 +23,8 @@ use Rattle.sq_bound.specs.declared.statement.PositionedTarget.{PositionedTarget}
 use Rattle.sq_module.specs.declared.program.DeclaredCursor.{DeclaredCursor}
 use Rattle.sq_session.specs.Kind.{Caller}
 use Rattle.sq_session.specs.Schemas.{Schemas}
-use Rattle.sq_session.specs.State.{State, cursor_at, number_on, off_row, with_cursor}
-use Rattle.sq_session.specs.Step.{DeleteComesTo, MayDelete, MayDeleteAt, is_on_row, left_row, on_row}
+use Rattle.sq_session.specs.State.{State, cursor_at, number_on, off_row}
+use Rattle.sq_session.specs.Step.{DeleteComesTo, MayDeleteAt, is_on_row, left_row, on_row}
 use Rattle.sq_session.specs.declared.cursor.CursorState.{CursorState}
 use Rattle.sq_session.specs.declared.cursor.CursorState.TheVariants as cursor
 use Rattle.sq_session.specs.declared.reply.Done.{Done}
@@ -45,8 +45,8 @@ pub off_same : (tables : Content) (d : DeclaredCursor) (y : CursorState) (x : ma
     → SameCursor tables d (off_row y) (machine.off_row x)
 off_same tables d cursor.Closed x h = ap machine.off_row h
 off_same tables d (cursor.Rows c) x h = ap machine.off_row h
-off_same tables d (cursor.Numbers c) x h = record { numbers = h.numbers; is = ap machine.off_row h.is; same = h.same }
-off_same tables d (cursor.Walking c) x h = record { numbers = h.numbers; is = ap machine.off_row h.is; same = h.same }
+off_same tables d (cursor.Numbers c) x h = record { numbers = h.numbers; is = ap machine.off_row h.is; same = h.same; below = h.below; left_below = h.left_below }
+off_same tables d (cursor.Walking c) x h = record { numbers = h.numbers; is = ap machine.off_row h.is; same = h.same; below = h.below; marked = h.marked }
 
 module _ (declared : List DeclaredCursor) (s : State) (r : Running) (same : SameStates declared s r.state) (name : Name)
     (p : PositionedTarget)
@@ -57,7 +57,7 @@ module _ (declared : List DeclaredCursor) (s : State) (r : Running) (same : Same
   now_is = now_same declared s r same name p.cursor only c there
 
   -- the number that both are on, if its row is there
-  current_is : current_number r name ≡ option_and_then (λ n. option_map (λ x. n) (row_at (table_at s.tables p.base) n)) (on_row s p)
+  pub current_is : current_number r name ≡ option_and_then (λ n. option_map (λ x. n) (row_at (table_at s.tables p.base) n)) (on_row s p)
   current_is =
       ap (λ o. option_and_then (λ k. option_and_then (λ t. option_and_then (row_is_there r t) (machine.number_on (cursor_now r name))) (updatable_cursor (surroundings r) k)) o) is_named
       ∙ ap (λ o. option_and_then (λ t. option_and_then (row_is_there r t) (machine.number_on (cursor_now r name))) o) meant

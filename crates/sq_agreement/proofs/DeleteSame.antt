@@ -1,19 +1,15 @@
 -- A searched DELETE keeps what the states of a session and of the machine are to each other, and ends alike (ISO/IEC 9075:1992, 13.7), where it
 -- comes to the same tables or the same status.
-use Rattle.std.proofs.Common.{◌≡◌, ℕ, zero, suc, Bool, true, false, cond, not, List, [], ◌∷◌, filter, map, Option, Some, None, refl, sym, ap, subst, ◌∙◌, Ok, Err}
+use Rattle.std.proofs.Common.{◌≡◌, ℕ, zero, suc, true, not, List, [], ◌∷◌, filter, None, refl, sym, ap, subst, ◌∙◌, Ok, Err}
 use Rattle.std.specs.Prelude.{slice_set}
 use Rattle.sq_tree.specs.declared.statement.Delete.{Delete}
 use Rattle.sq_value.specs.declared.value.Value.{Value}
-use Rattle.sq_store.specs.Content.{Content, empty, table_at, with_table}
+use Rattle.sq_store.specs.Content.{Content, table_at, with_table}
 use Rattle.sq_store.specs.Rising.{has_rising_rows}
 use Rattle.sq_store.specs.declared.table.Numbered.{Numbered}
 use Rattle.sq_store.specs.declared.table.Table.{Table}
-use Rattle.sq_meaning.specs.Spelled.{table_of}
-use Rattle.sq_meaning.specs.Status.{Outcome, and_then}
-use Rattle.sq_meaning.specs.Target.{Target}
-use Rattle.sq_rules.specs.Schema.{BaseTable}
-use Rattle.sq_model.specs.Change.{Setting, Which, base_at, check_options_met, completed, completed_with, delete_outcome, is_numbered, numbers_changed, which_target, without}
-use Rattle.sq_model.specs.Constraints.{constraints_checked}
+use Rattle.sq_meaning.specs.Status.{Outcome}
+use Rattle.sq_model.specs.Change.{Which, delete_outcome, is_numbered, without}
 use Rattle.sq_model.specs.Machine as by_name
 use Rattle.sq_model.specs.Machine.{Running, behind_delete, change_by, delete_rows, setting}
 use Rattle.sq_bound.specs.declared.query.Target.{Target as BoundTarget}
@@ -25,6 +21,7 @@ use Rattle.sq_session.specs.Schemas.{Schemas}
 use Rattle.sq_session.specs.State.{State}
 use Rattle.sq_session.specs.Step.{DeleteComesTo, MayDelete, Performs}
 use Rattle.sq_session.specs.declared.reply.Done.{Done}
+use Rattle.sq_agreement.proofs.Completed.{deleted_is}
 use Rattle.sq_agreement.proofs.CursorsKept.{cursors_kept}
 use Rattle.sq_agreement.proofs.SameCursors.{AreSame}
 use Rattle.sq_agreement.proofs.SameStates.{SameCursor, SameReply, SameStates, ended_same}
@@ -53,49 +50,6 @@ removed_at (t ∷ content) zero numbers zero = refl
 removed_at (t ∷ content) zero numbers (suc k) = none_goes (table_at content k)
 removed_at (t ∷ content) (suc place) numbers zero = none_goes t
 removed_at (t ∷ content) (suc place) numbers (suc k) = removed_at content place numbers k
-
--- ---- what DELETE comes to
-
-pub record IsRemoved (before after : Content) : Type 0 where
-  pub place : ℕ
-  pub numbers : List ℕ
-  pub is : after ≡ with_table before place (without (table_at before place) numbers)
-
-deleted_is : (m : Setting) (x : Delete) (which : Which) (after : Content) → delete_outcome m x which ≡ Ok after
-    → IsRemoved m.content after
-deleted_is m x which after e = by_target (which_target m (table_of m.user x.table) which) e
-  where
-    by_checks : (target : Target) (numbers : List ℕ) (checked : Outcome (Unit {0})) → and_then checked (λ _. Ok (with_table m.content target.place (without (table_at m.content target.place) numbers))) ≡ Ok after
-        → IsRemoved m.content after
-    by_checks target numbers (Ok done) e =
-        let same : with_table m.content target.place (without (table_at m.content target.place) numbers) ≡ after = cc in
-        record { place = target.place; numbers = numbers; is = sym same }
-    by_checks target numbers (Err st) e = cc
-
-    by_options : (target : Target) (t : BaseTable) (numbers : List ℕ) (met : Outcome (Unit {0}))
-        → and_then met (λ _. completed_with m t (with_table m.content target.place (without (table_at m.content target.place) numbers))) ≡ Ok after
-        → IsRemoved m.content after
-    by_options target t numbers (Ok done) e =
-        by_checks target numbers (constraints_checked m.elements t (with_table m.content target.place (without (table_at m.content target.place) numbers))) e
-    by_options target t numbers (Err st) e = cc
-
-    by_numbers : (target : Target) (t : BaseTable) (numbers : Outcome (List ℕ))
-        → and_then numbers (λ ns. completed m target t [] (without (table_at m.content target.place) ns)) ≡ Ok after
-        → IsRemoved m.content after
-    by_numbers target t (Ok ns) e = by_options target t ns (check_options_met m target []) e
-    by_numbers target t (Err st) e = cc
-
-    by_base : (target : Target) (t : Outcome BaseTable)
-        → and_then t (λ b. and_then (numbers_changed m target which) (λ ns. completed m target b [] (without (table_at m.content target.place) ns))) ≡ Ok after
-        → IsRemoved m.content after
-    by_base target (Ok b) e = by_numbers target b (numbers_changed m target which) e
-    by_base target (Err st) e = cc
-
-    by_target : (target : Outcome Target)
-        → and_then target (λ s. and_then (base_at m s.place) (λ b. and_then (numbers_changed m s which) (λ ns. completed m s b [] (without (table_at m.content s.place) ns)))) ≡ Ok after
-        → IsRemoved m.content after
-    by_target (Ok s) e = by_base s (base_at m s.place) e
-    by_target (Err st) e = cc
 
 -- ---- the statement
 

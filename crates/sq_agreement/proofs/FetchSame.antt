@@ -160,7 +160,7 @@ module _ (declared : List DeclaredCursor) (s : State) (r : Running) (same : Same
       let row : Option (List Value) = option_map (λ v. in_columns v f.columns) (row_on t next.on) in
       let come = comes_to f row (cursor.Numbers next) n s d after right (row_fetched f row) refl
       (subst (λ o. Comes o n s d after) (twice (row_fetched f row) next cursor.Numbers) e) in
-      let both = next_same t now (there_alike x.table by_target) x h.numbers h.same in
+      let both = next_same t now (there_alike x.table by_target) x y h in
       subst (Both d after) (sym h.is)
       (reached_alike (cursor.Numbers next) (machine.CursorState.over_numbers h.numbers x.on) row d after come.0 come.1 both.0
       (both.1 ∙ row_shown x.table by_target next.on))
@@ -178,7 +178,7 @@ module _ (declared : List DeclaredCursor) (s : State) (r : Running) (same : Same
       let come = comes_to f row (cursor.Walking (walked_to x found)) n s d after right (row_fetched f row) refl
       (subst (λ o. Comes o n s d after)
       (ap over_walk (λ i. session.walk_come_to f x (first_meant (conditions i) x.values (user i) x.next x.mark t.rows)) ∙ twice (row_fetched f row) (walked_to x found) cursor.Walking) e) in
-      let both = walk_same (conditions_in c.cursor.body) c.user t now (there_alike x.table by_target) rising x h.numbers h.same in
+      let both = walk_same (conditions_in c.cursor.body) c.user t now (there_alike x.table by_target) rising x y h in
       subst (Both d after) (sym h.is)
       (reached_alike (cursor.Walking (walked_to x found)) (machine.CursorState.over_numbers h.numbers x.on) row d after come.0 come.1
       (in_table (walked_to x found) found refl both.0) (both.1 ∙ row_is found refl))

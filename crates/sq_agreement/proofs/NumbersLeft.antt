@@ -1,8 +1,8 @@
 -- A FETCH over numbers comes to the same row by the machine's cursor and by a session's (ISO/IEC 9075:1992, 13.3), where what is left to
 -- both is the same but for numbers under which there is no row any more: those are passed for good.
-use Rattle.std.proofs.Common.{◌≡◌, ℕ, zero, suc, ◌+◌, min, not, cond, Bool, true, false, List, [], ◌∷◌, drop, filter, length, Option, Some, None, refl, sym, ap, ◌∙◌, arith}
+use Rattle.std.proofs.Common.{◌≡◌, ℕ, zero, suc, ◌+◌, ◌<◌, min, not, cond, Bool, true, false, List, [], ◌∷◌, drop, filter, length, Option, Some, None, refl, sym, ap, subst, ◌∙◌, arith}
 use Rattle.std.specs.Prelude.{is_some, slice_get}
-use Rattle.std.specs.List.{position_or_len}
+use Rattle.std.specs.List.{AllByRecursion, position_or_len}
 use Rattle.std.specs.Option.{option_and_then}
 use Rattle.sq_store.specs.declared.table.Table.{Table}
 use Rattle.sq_meaning.specs.Environment.{Row}
@@ -112,30 +112,44 @@ pub firsts_alike : (t : Table) (now : ℕ → Option Row) → ((n : ℕ) → is_
 firsts_alike t now alike [] = refl
 firsts_alike t now alike (x ∷ xs) = (λ i. cond (not (alike x i)) (1 + firsts_alike t now alike xs i) 0)
 
+-- numbers that rows of a table have had: new rows have others
+abbrev pub AreBelow : ℕ → List ℕ → Type 0
+AreBelow next numbers = AllByRecursion (λ n. n < next) numbers
+
+pub below_dropped : (next k : ℕ) (numbers : List ℕ) → AreBelow next numbers → AreBelow next (drop k numbers)
+below_dropped next zero [] h = tt
+below_dropped next (suc k) [] h = tt
+below_dropped next zero (n ∷ numbers) h = h
+below_dropped next (suc k) (n ∷ numbers) h = below_dropped next k numbers h.1
+
 -- the same numbers are left to both, but for those that are gone, and both are on the same
 pub record SameNumbers (t : Table) (c : NumbersCursor) (x : CursorState) : Type 0 where
   pub numbers : List ℕ
   pub is : x ≡ CursorState.over_numbers numbers c.on
   pub same : filter (is_there t) numbers ≡ filter (is_there t) (left c)
+  pub below : AreBelow t.next numbers
+  pub left_below : AreBelow t.next (left c)
 
 -- FETCH keeps it so, and comes to the row that is under the number that the session's cursor is on then.
 pub next_same : (t : Table) (now : ℕ → Option Row) → ((n : ℕ) → is_some (now n) ≡ is_there t n) → (c : NumbersCursor)
-    (numbers : List ℕ) → filter (is_there t) numbers ≡ filter (is_there t) (left c)
-    → SameNumbers t (next_number t c) (to_next now numbers).cursor
-    × ((to_next now numbers).row ≡ option_and_then now (next_number t c).on)
-next_same t now alike c numbers same = (
+    (x : CursorState) (h : SameNumbers t c x)
+    → SameNumbers t (next_number t c) (to_next now h.numbers).cursor
+    × ((to_next now h.numbers).row ≡ option_and_then now (next_number t c).on)
+next_same t now alike c x h = (
   record {
-    numbers = drop (first (is_there t) numbers + 1) numbers;
+    numbers = drop (first (is_there t) h.numbers + 1) h.numbers;
     is =
-        next_cursor now numbers
-        ∙ (λ i. CursorState.over_numbers (drop (firsts_alike t now alike numbers i + 1) numbers) (slice_get numbers (firsts_alike t now alike numbers i)))
-        ∙ ap (CursorState.over_numbers (drop (first (is_there t) numbers + 1) numbers)) on_same;
+        next_cursor now h.numbers
+        ∙ (λ i. CursorState.over_numbers (drop (firsts_alike t now alike h.numbers i + 1) h.numbers) (slice_get h.numbers (firsts_alike t now alike h.numbers i)))
+        ∙ ap (CursorState.over_numbers (drop (first (is_there t) h.numbers + 1) h.numbers)) on_same;
     same =
-        others_are (is_there t) numbers ∙ ap (drop 1) same ∙ sym (others_are (is_there t) (left c))
+        others_are (is_there t) h.numbers ∙ ap (drop 1) h.same ∙ sym (others_are (is_there t) (left c))
         ∙ ap (filter (is_there t)) (sym (left_after t c));
+    below = below_dropped t.next (first (is_there t) h.numbers + 1) h.numbers h.below;
+    left_below = subst (AreBelow t.next) (sym (left_after t c)) (below_dropped t.next (gone t c + 1) (left c) h.left_below);
   },
-  next_row now numbers ∙ (λ i. option_and_then now (slice_get numbers (firsts_alike t now alike numbers i))) ∙ ap (option_and_then now) on_same,
+  next_row now h.numbers ∙ (λ i. option_and_then now (slice_get h.numbers (firsts_alike t now alike h.numbers i))) ∙ ap (option_and_then now) on_same,
 )
   where
-    on_same : slice_get numbers (first (is_there t) numbers) ≡ slice_get (left c) (gone t c)
-    on_same = first_is (is_there t) numbers ∙ ap (λ xs. slice_get xs 0) same ∙ sym (first_is (is_there t) (left c))
+    on_same : slice_get h.numbers (first (is_there t) h.numbers) ≡ slice_get (left c) (gone t c)
+    on_same = first_is (is_there t) h.numbers ∙ ap (λ xs. slice_get xs 0) h.same ∙ sym (first_is (is_there t) (left c))

@@ -1,9 +1,10 @@
 -- A cursor that isn't updatable is opened over the same rows in the same order (ISO/IEC 9075:1992, 13.2), where its query is bound as it is
 -- written; and an updatable one whose conditions may answer a status over the same numbers.
-use Rattle.std.proofs.Common.{◌≡◌, ℕ, List, [], map, None, Some, sym, ap, subst, ◌∙◌, Ok}
+use Rattle.std.proofs.Common.{◌≡◌, ℕ, true, List, [], map, None, Some, sym, ap, subst, ◌∙◌, Ok}
 use Rattle.sq_tree.specs.declared.«module».Cursor.{Cursor}
 use Rattle.sq_value.specs.declared.value.Value.{Value}
-use Rattle.sq_store.specs.Content.{Content}
+use Rattle.sq_store.specs.Content.{Content, table_at}
+use Rattle.sq_store.specs.Rising.{has_rising_rows}
 use Rattle.sq_meaning.specs.Environment.{Row, outermost}
 use Rattle.sq_meaning.specs.Placed.{by_place}
 use Rattle.sq_meaning.specs.QueryExpression.{query_rows}
@@ -36,6 +37,7 @@ use Rattle.sq_query.specs.Target.{conditions_of, is_true_of, numbers_chosen}
 use Rattle.sq_session.specs.Open.{NumbersAreMeant, RowsAreMeant, numbers_opened, rows_opened}
 use Rattle.sq_session.specs.Schemas.{Schemas, columns_of}
 use Rattle.sq_session.specs.declared.cursor.CursorState.{CursorState}
+use Rattle.sq_agreement.proofs.Below.{opened_below}
 use Rattle.sq_agreement.proofs.ColumnKinds.{declared_of}
 use Rattle.sq_agreement.proofs.Databases.{IsDatabase}
 use Rattle.sq_agreement.proofs.OpenSame.{OpensAlike, numbers_alike, rows_alike}
@@ -77,25 +79,29 @@ module _ (r : Running) (known : KnownTables) (schemas : Schemas) (shown : TableP
           ∙ ap (λ vs. and_then (query_rows (by_place shown) (kinds_by_place (columns_of schemas) (kinds_of_parameters parameters)) (query_of b) (outermost (inputs_of vs) r.in_module.authorization)) (λ found. Ok (sorted (by_columns (map (λ k. record { column = k.column; descending = k.descending }) sorts)) found)))
           (sym given))
 
-  -- the numbers of an updatable one
-  pub numbers_open : AreUnder known schemas.bases (tables_in (setting r)) → (q : Select Named) (over : UpdatableQuery)
-      → IsUpdatableOf (around (read_in (setting r) known shown parameters) []) q over → SelectStars q
-      → (target : Meant) → cursor_target (tables_in (setting r)) q ≡ Ok target → updatable_cursor (surroundings r) c ≡ Some target
-      → (opened : Outcome CursorState)
-      → NumbersAreMeant schemas over.target r.in_module.authorization values tables opened
-      → OpensAlike tables d opened (by_name.opened r c)
-  numbers_open under q over text stars target means updatable opened numbers =
-      subst (λ o. OpensAlike tables d o (by_name.opened r c)) (sym (numbers shown meant))
-      (subst (λ o. OpensAlike tables d (numbers_opened over.target.base found) o) (sym opens) (numbers_alike tables d over.target.base found))
-    where
-      found : Outcome (List ℕ)
-      found =
-          and_then (stored_numbered tables over.target.base)
-          (numbers_chosen (is_true_of shown values r.in_module.authorization) (conditions_of over.target))
+  -- ---- of an updatable cursor
 
-      opens : by_name.opened r c ≡ and_then found (λ ns. Ok (machine.before_numbers ns))
-      opens =
-          ap (numbers_or_rows r c) updatable
-          ∙ ap (λ (o : Outcome (List ℕ)). and_then o (λ ns. Ok (machine.before_numbers ns)))
-          (cursor_numbers_same (setting r) known (columns_of schemas) schemas.views shown database schemas.bases under parameters names q over text stars target means
-          ∙ (λ i. and_then (stored_numbered (same i) over.target.base) (numbers_chosen (is_true_of shown (sym given i) r.in_module.authorization) (conditions_of over.target))))
+  module _ (under : AreUnder known schemas.bases (tables_in (setting r))) (q : Select Named) (over : UpdatableQuery)
+      (text : IsUpdatableOf (around (read_in (setting r) known shown parameters) []) q over) (stars : SelectStars q) (target : Meant)
+      (means : cursor_target (tables_in (setting r)) q ≡ Ok target) (updatable : updatable_cursor (surroundings r) c ≡ Some target) where
+    -- the numbers of the rows that it means
+    abbrev pub numbers_over : Outcome (List ℕ)
+    numbers_over =
+        and_then (stored_numbered tables over.target.base)
+        (numbers_chosen (is_true_of shown values r.in_module.authorization) (conditions_of over.target))
+
+    pub opens_numbers : by_name.opened r c ≡ and_then numbers_over (λ ns. Ok (machine.before_numbers ns))
+    opens_numbers =
+        ap (numbers_or_rows r c) updatable
+        ∙ ap (λ (o : Outcome (List ℕ)). and_then o (λ ns. Ok (machine.before_numbers ns)))
+        (cursor_numbers_same (setting r) known (columns_of schemas) schemas.views shown database schemas.bases under parameters names q over text stars target means
+        ∙ (λ i. and_then (stored_numbered (same i) over.target.base) (numbers_chosen (is_true_of shown (sym given i) r.in_module.authorization) (conditions_of over.target))))
+
+    pub numbers_open : has_rising_rows (table_at tables over.target.base) ≡ true → (opened : Outcome CursorState)
+        → NumbersAreMeant schemas over.target r.in_module.authorization values tables opened
+        → OpensAlike tables d opened (by_name.opened r c)
+    numbers_open rising opened numbers =
+        subst (λ o. OpensAlike tables d o (by_name.opened r c)) (sym (numbers shown meant))
+        (subst (λ o. OpensAlike tables d (numbers_opened over.target.base numbers_over) o) (sym opens_numbers)
+        (numbers_alike tables d over.target.base numbers_over
+        (opened_below tables over.target.base rising (is_true_of shown values r.in_module.authorization) (conditions_of over.target))))

@@ -1,11 +1,11 @@
 -- OPEN leaves a session's cursor over what the machine's is over, and ends with the same status (ISO/IEC 9075:1992, 13.2): over the rows of its
 -- query in their order, or over the numbers of the rows that an updatable query means.
 use Rattle.std.proofs.Common.{◌≡◌, ℕ, Bool, true, false, List, [], ◌∷◌, Some, refl, sym, subst, Ok, Err}
-use Rattle.std.specs.Prelude.{if◌then◌else◌, slice_get}
+use Rattle.std.specs.Prelude.{if◌then◌else◌, slice_get, IfOk}
 use Rattle.sq_lex.specs.declared.name.Name.{Name}
 use Rattle.sq_tree.specs.declared.«module».Cursor.{Cursor}
 use Rattle.sq_value.specs.declared.value.Value.{Value}
-use Rattle.sq_store.specs.Content.{Content}
+use Rattle.sq_store.specs.Content.{Content, table_at}
 use Rattle.sq_meaning.specs.Environment.{Row}
 use Rattle.sq_meaning.specs.Status.{Outcome, and_then}
 use Rattle.sq_meaning.specs.declared.status.Status.TheVariants as status
@@ -20,6 +20,7 @@ use Rattle.sq_session.specs.State.{State, cursor_at, is_open}
 use Rattle.sq_session.specs.Step.{MayOpen, MayOpenIf, OpensAs}
 use Rattle.sq_session.specs.declared.cursor.CursorState.{CursorState}
 use Rattle.sq_session.specs.declared.reply.Done.{Done}
+use Rattle.sq_agreement.proofs.NumbersLeft.{AreBelow}
 use Rattle.sq_agreement.proofs.SameCursors.{IsOnly}
 use Rattle.sq_agreement.proofs.SameStates.{SameCursor, SameReply, SameStates, ended_same, moved_same, now_same, open_same}
 
@@ -36,11 +37,13 @@ rows_alike tables d (Err st) = refl
 
 -- or over the same numbers
 pub numbers_alike : (tables : Content) (d : DeclaredCursor) (table : ℕ) (found : Outcome (List ℕ))
+    → IfOk found (AreBelow (table_at tables table).next)
     → OpensAlike tables d (numbers_opened table found) (and_then found (λ numbers. Ok (machine.before_numbers numbers)))
-numbers_alike tables d table (Ok []) = (machine.before_numbers [], refl, record { numbers = []; is = refl; same = refl })
-numbers_alike tables d table (Ok (n ∷ numbers)) =
-    (machine.before_numbers (n ∷ numbers), refl, record { numbers = n ∷ numbers; is = refl; same = refl })
-numbers_alike tables d table (Err st) = refl
+numbers_alike tables d table (Ok []) below =
+    (machine.before_numbers [], refl, record { numbers = []; is = refl; same = refl; below = tt; left_below = tt })
+numbers_alike tables d table (Ok (n ∷ numbers)) below =
+    (machine.before_numbers (n ∷ numbers), refl, record { numbers = n ∷ numbers; is = refl; same = refl; below = below; left_below = below })
+numbers_alike tables d table (Err st) below = refl
 
 module _ (declared : List DeclaredCursor) (s : State) (r : Running) (same : SameStates declared s r.state) (name : Name) (n : ℕ)
     (only : IsOnly (SameCursor s.tables) r.in_module.name name r.state.cursors n) (c : DeclaredCursor)

@@ -1,12 +1,11 @@
 -- A cursor that walks is opened over the rows under the numbers that the machine fixes (ISO/IEC 9075:1992, 13.2), where its conditions answer no
 -- status: then the rows of which they are true are those that the walk means.
-use Rattle.std.proofs.Common.{◌≡◌, ℕ, ◌+◌, ◌≤◌, ◌<◌, cond, Bool, true, List, [], ◌∷◌, filter, map, Option, Some, refl, sym, ap, subst, ◌∙◌, arith, leb-true, lt-ltb, Ok}
+use Rattle.std.proofs.Common.{◌≡◌, ℕ, ◌≤◌, ◌<◌, cond, Bool, true, List, [], ◌∷◌, filter, map, Some, refl, sym, ap, ◌∙◌, arith, lt-ltb, Ok}
 use Rattle.std.specs.Prelude.{is_some, nat_lt}
 use Rattle.std.specs.List.{AllByRecursion}
-use Rattle.sq_lex.specs.declared.name.Name.{Name}
 use Rattle.sq_value.specs.declared.value.Value.{Value}
 use Rattle.sq_store.specs.Content.{Content, row_at, table_at}
-use Rattle.sq_store.specs.Rising.{has_rising_rows, rising_between}
+use Rattle.sq_store.specs.Rising.{has_rising_rows}
 use Rattle.sq_store.specs.declared.table.Numbered.{Numbered}
 use Rattle.sq_store.specs.declared.table.Table.{Table}
 use Rattle.sq_meaning.specs.Status.{Outcome}
@@ -16,12 +15,12 @@ use Rattle.sq_module.specs.declared.program.DeclaredCursor.{DeclaredCursor}
 use Rattle.sq_session.specs.Kind.{conditions_in}
 use Rattle.sq_session.specs.Open.{walk_before}
 use Rattle.sq_session.specs.State.{is_there}
-use Rattle.sq_session.specs.Walk.{is_meant, rows_between, rows_from}
-use Rattle.sq_session.specs.declared.cursor.CursorState.{CursorState}
+use Rattle.sq_session.specs.Walk.{is_meant, rows_between}
 use Rattle.sq_session.specs.declared.cursor.CursorState.TheVariants as cursor
+use Rattle.sq_agreement.proofs.Below.{rows_below}
 use Rattle.sq_agreement.proofs.OpenSame.{OpensAlike}
 use Rattle.sq_agreement.proofs.Outcomes.{all_map}
-use Rattle.sq_agreement.proofs.RowsAgain.{above, all_there, all_within, rest_rises}
+use Rattle.sq_agreement.proofs.RowsAgain.{above, all_there, all_within}
 use Rattle.sq_agreement.proofs.WalkLeft.{all_from, all_kept}
 
 -- ---- all rows of a table are before the next number
@@ -30,26 +29,12 @@ all_pass : {A : Type 0} (test : A → Bool) (xs : List A) → AllByRecursion (λ
 all_pass test [] h = refl
 all_pass test (x ∷ xs) h = ap (λ b. cond b (x ∷ filter test xs) (filter test xs)) h.0 ∙ ap (λ l. x ∷ l) (all_pass test xs h.1)
 
-rises_to : (low next : ℕ) (rows : List Numbered) → rising_between low rows next ≡ true → low ≤ next
-rises_to low next [] h = leb-true low next h
-rises_to low next (r ∷ rows) h =
-    let from : low ≤ r.number = (above low next (r ∷ rows) h).0 in
-    let further : r.number + 1 ≤ next = rises_to (r.number + 1) next rows (rest_rises low next r rows h) in
-    omega (arith, from, further)
-
-all_below : (low next : ℕ) (rows : List Numbered) → rising_between low rows next ≡ true
-    → AllByRecursion (λ r. nat_lt r.number next ≡ true) rows
-all_below low next [] h = tt
-all_below low next (r ∷ rows) h =
-    let further : r.number + 1 ≤ next = rises_to (r.number + 1) next rows (rest_rises low next r rows h) in
-    let less : r.number < next = omega (arith, further) in
-    (lt-ltb r.number next less, all_below (r.number + 1) next rows (rest_rises low next r rows h))
-
 all_between : (t : Table) → has_rising_rows t ≡ true → rows_between 0 t.next t.rows ≡ t.rows
 all_between t rising =
     let none : 0 ≤ 1 = omega arith in
     ap (filter (λ r. nat_lt r.number t.next)) (all_from 0 1 t.rows none (above 1 t.next t.rows rising))
-    ∙ all_pass (λ r. nat_lt r.number t.next) t.rows (all_below 1 t.next t.rows rising)
+    ∙ all_pass (λ r. nat_lt r.number t.next) t.rows
+    (all_weaker (λ r. r.number < t.next) (λ r. nat_lt r.number t.next ≡ true) (λ r less. lt-ltb r.number t.next less) t.rows (rows_below t rising))
 
 -- ---- the walk
 
@@ -81,5 +66,9 @@ module _ (tables : Content) (d : DeclaredCursor) (table : ℕ) (values : List Va
       same =
           all_are_there
           ∙ ap (λ rows. map (λ (r : Numbered). r.number) (filter (is_meant (conditions_in d.cursor.body) values d.user) rows)) (sym (all_between t rising));
+      below =
+          all_map (λ n. n < t.next) (λ (r : Numbered). r.number) meant
+          (all_kept (λ r. r.number < t.next) (is_meant (conditions_in d.cursor.body) values d.user) t.rows (rows_below t rising));
+      marked = omega arith;
     },
   )

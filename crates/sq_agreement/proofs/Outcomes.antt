@@ -49,6 +49,14 @@ if_three (Err status) r t f P Q R S p q u g = tt
 pub known_of : {A : Type 0} (o : Outcome A) (P : A → Type 0) (x : A) → IfOk o P → o ≡ Ok x → P x
 known_of o P x h e = subst (λ r. IfOk r P) e h
 
+-- where both steps have a value, so has the first
+pub ok_then : {A B : Type 0} (o : Outcome A) (f : A → Outcome B) (y : B) → and_then o f ≡ Ok y → (x : A) × (f x ≡ Ok y)
+ok_then (Ok x) f y e = (x, e)
+ok_then (Err status) f y e = cc
+
+pub ok_same : {A : Type 0} (x y : A) → (let found : Outcome A = Ok x in found ≡ Ok y) → x ≡ y
+ok_same x y e = cc
+
 -- each of a list in turn
 pub if_each : {A B : Type 0} (f : A → Outcome B) (R : A → B → Type 0) → ((x : A) → IfOk (f x) (R x)) → (xs : List A)
     → IfOk (each f xs) (AllZip R xs)
@@ -56,6 +64,13 @@ if_each f R h [] = tt
 if_each {A} {B} f R h (x ∷ xs) =
     if_then (f x) (λ y. and_then (each f xs) (λ ys. Ok (y ∷ ys))) (R x) (AllZip R (x ∷ xs)) (h x)
     (λ y r. if_then (each f xs) (λ ys. Ok (y ∷ ys)) (AllZip R xs) (AllZip R (x ∷ xs)) (if_each f R h xs) (λ ys rs. (r, rs)))
+
+pub each_so : {A B : Type 0} (f : A → Outcome B) (P : B → Type 0) → ((x : A) → IfOk (f x) P) → (xs : List A)
+    → IfOk (each f xs) (AllByRecursion P)
+each_so f P h [] = tt
+each_so f P h (x ∷ xs) =
+    if_then (f x) (λ y. and_then (each f xs) (λ ys. Ok (y ∷ ys))) P (AllByRecursion P) (h x)
+    (λ y p. if_one (each f xs) (λ ys. y ∷ ys) (AllByRecursion P) (AllByRecursion P) (each_so f P h xs) (λ ys ps. (p, ps)))
 
 -- two that go on alike
 pub same_then : {A B : Type 0} (o : Outcome A) (P : A → Type 0) (f g : A → Outcome B) → IfOk o P → ((x : A) → P x → f x ≡ g x)

@@ -59,7 +59,7 @@ abbrev pub SameNamed : List ParameterDesc → Name → ℕ × Domain → Type 0
 SameNamed parameters name at =
     (inputs others : List Input) → SameInputs parameters inputs others → input_named inputs name ≡ input_at others at.0
 
-named_same : (parameters : List ParameterDesc) (name : Name) → IfOk (parameter_named parameters name) (SameNamed parameters name)
+pub named_same : (parameters : List ParameterDesc) (name : Name) → IfOk (parameter_named parameters name) (SameNamed parameters name)
 named_same [] name = tt
 named_same (q ∷ parameters) name = where_there (nat_lt first (length (q ∷ parameters)))
   where

@@ -44,7 +44,7 @@ use Rattle.sq_agreement.proofs.Constraints.{IsCheckedAs, delete_checks_same, ins
 use Rattle.sq_agreement.proofs.Inserts.{IsInsertIn, insert_same}
 use Rattle.sq_agreement.proofs.Items.{IsFit}
 use Rattle.sq_agreement.proofs.Levels.{HasLength, width_at}
-use Rattle.sq_agreement.proofs.Outcomes.{if_also, if_any, if_each, if_one, if_then, same_then}
+use Rattle.sq_agreement.proofs.Outcomes.{each_so, if_also, if_any, if_each, if_one, if_then, same_then}
 use Rattle.sq_agreement.proofs.Parameters.{AreNamed}
 use Rattle.sq_agreement.proofs.RowsAgain.{AreApart, AreNumbersIn, IsWithin, found_again, numbers_of, replaced_same, so_within, within_apart}
 use Rattle.sq_agreement.proofs.Searched.{searched}
@@ -57,13 +57,6 @@ each_long f [] = refl
 each_long {A} {B} f (x ∷ xs) =
     if_then (f x) (λ y. and_then (each f xs) (λ ys. Ok (y ∷ ys))) (λ y. ⊤) (λ ys. length ys ≡ suc (length xs)) (if_any (f x))
     (λ y any. if_one (each f xs) (λ ys. y ∷ ys) (λ ys. length ys ≡ length xs) (λ ys. length ys ≡ suc (length xs)) (each_long f xs) (λ ys e. ap suc e))
-
-each_so : {A B : Type 0} (f : A → Outcome B) (P : B → Type 0) → ((x : A) → IfOk (f x) P) → (xs : List A)
-    → IfOk (each f xs) (AllByRecursion P)
-each_so f P h [] = tt
-each_so f P h (x ∷ xs) =
-    if_then (f x) (λ y. and_then (each f xs) (λ ys. Ok (y ∷ ys))) P (AllByRecursion P) (h x)
-    (λ y p. if_one (each f xs) (λ ys. y ∷ ys) (AllByRecursion P) (AllByRecursion P) (each_so f P h xs) (λ ys ps. (p, ps)))
 
 completed_long : (user : Name) (t : BoundTable) (columns : List ObjectColumn) (given : Row)
     → IfOk (row_completed user t columns given) (HasLength (length t.columns))

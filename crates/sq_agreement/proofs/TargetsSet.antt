@@ -21,6 +21,7 @@ use Rattle.sq_bound.specs.declared.names.ParameterDesc.{ParameterDesc}
 use Rattle.sq_bound.specs.declared.statement.Output.{Output as Target}
 use Rattle.sq_scope.specs.Expression.{indicator_named, parameter_named}
 use Rattle.sq_bind.specs.Written.{IsOutputOf}
+use Rattle.sq_agreement.proofs.Outcomes.{ok_same}
 
 -- ---- parameters
 
@@ -54,9 +55,6 @@ pub record IsPlaced (ps : List ParameterDesc) (name : Name) (place : ℕ) : Type
   pub at : slice_get ps place ≡ Some parameter
   pub named : parameter.name ≡ name
   pub first : find (λ p. same_name p.name name) ps ≡ Some parameter
-
-ok_same : {A : Type 0} (x y : A) → (let found : Outcome A = Ok x in found ≡ Ok y) → x ≡ y
-ok_same x y e = cc
 
 placed_at : (ps : List ParameterDesc) (name : Name) (place : ℕ) (d : Domain) → parameter_named ps name ≡ Ok (place, d)
     → IsPlaced ps name place

@@ -1,39 +1,38 @@
 -- UPDATE keeps what the states of a session and of the machine are to each other, and ends alike (ISO/IEC 9075:1992, 13.9 and 13.10), where it
 -- comes to the same tables or the same status. Rows keep their numbers; a walk whose conditions read what changes goes on over the
 -- numbers that were left to it, and any other has the same rows.
-use Rattle.std.proofs.Common.{◌≡◌, ℕ, zero, suc, Bool, true, false, cond, List, [], ◌∷◌, drop, filter, map, Option, Some, None, refl, sym, ap, subst, ◌∙◌, eqb-true, Ok, Err}
+use Rattle.std.proofs.Common.{◌≡◌, ℕ, zero, suc, ◌≤◌, Bool, true, false, cond, List, [], ◌∷◌, drop, filter, map, Option, Some, refl, sym, ap, subst, ◌∙◌, eqb-true, Ok}
 use Rattle.std.specs.Prelude.{◌==◌, find, if◌then◌else◌, is_some, nat_eq, slice_set, unwrap_or}
 use Rattle.sq_tree.specs.declared.statement.Update.{Update}
 use Rattle.sq_value.specs.declared.value.Value.{Value}
 use Rattle.sq_store.specs.Content.{Content, table_at, with_table}
+use Rattle.sq_store.specs.Rising.{has_rising_rows}
 use Rattle.sq_store.specs.declared.table.Numbered.{Numbered}
-use Rattle.sq_store.specs.declared.table.Table.{Table}
-use Rattle.sq_meaning.specs.Spelled.{table_of}
-use Rattle.sq_meaning.specs.Status.{Outcome, and_then, each}
-use Rattle.sq_meaning.specs.Tables.{TableDescriptor, descriptor_of}
-use Rattle.sq_meaning.specs.Target.{Target}
-use Rattle.sq_rules.specs.Schema.{BaseTable}
-use Rattle.sq_model.specs.Change.{Setting, Which, base_at, check_options_met, completed, completed_with, is_numbered, numbers_changed, replaced, rows_at, tables_in, update_outcome, updated_row, which_target, with_replaced}
-use Rattle.sq_model.specs.Constraints.{constraints_checked}
+use Rattle.sq_meaning.specs.Status.{Outcome}
+use Rattle.sq_model.specs.Change.{Which, replaced, update_outcome, with_replaced}
 use Rattle.sq_model.specs.Cursor as machine
 use Rattle.sq_model.specs.Machine.{CursorEntry, Running, change_by, setting, update_rows}
 use Rattle.sq_module.specs.declared.program.DeclaredCursor.{DeclaredCursor}
+use Rattle.sq_change.specs.Statement.{base_of}
 use Rattle.sq_session.specs.Cursors.{go_on, goes_on, listed, numbers_left, reads}
 use Rattle.sq_session.specs.Kind.{Updating, conditions_in}
 use Rattle.sq_session.specs.Schemas.{Schemas}
 use Rattle.sq_session.specs.State.{State, is_there, left}
-use Rattle.sq_session.specs.Step.{MayUpdate, UpdateComesTo, walks_listed}
+use Rattle.sq_session.specs.Step.{HasTables, MayUpdate, UpdateComesTo, seen_in, walks_listed}
 use Rattle.sq_session.specs.declared.cursor.CursorState.{CursorState}
 use Rattle.sq_session.specs.declared.cursor.CursorState.TheVariants as cursor
 use Rattle.sq_session.specs.declared.cursor.NumbersCursor.{NumbersCursor}
 use Rattle.sq_session.specs.declared.reply.Done.{Done}
 use Rattle.sq_session.specs.declared.walk.WalkingCursor.{WalkingCursor}
 use Rattle.sq_bound.specs.declared.statement.BoundUpdate.{BoundUpdate}
+use Rattle.sq_agreement.proofs.Below.{meant_below}
+use Rattle.sq_agreement.proofs.Completed.{updated_is}
 use Rattle.sq_agreement.proofs.CursorsKept.{stricter}
 use Rattle.sq_agreement.proofs.DeleteSame.{change_same}
-use Rattle.sq_agreement.proofs.NumbersLeft.{SameNumbers}
+use Rattle.sq_agreement.proofs.NumbersLeft.{AreBelow, SameNumbers}
 use Rattle.sq_agreement.proofs.SameCursors.{AreSame}
 use Rattle.sq_agreement.proofs.SameStates.{SameCursor, SameReply, SameStates}
+use Rattle.sq_agreement.proofs.UnreadRows.{SameRows, unread_rows}
 use Rattle.sq_agreement.proofs.WalkLeft.{SameWalk}
 
 -- ---- rows keep their numbers
@@ -61,61 +60,7 @@ there_kept changed n (r ∷ rows) =
     by_test true e = refl
     by_test false e = e
 
--- ---- what UPDATE comes to
-
-pub record IsReplaced (before after : Content) : Type 0 where
-  pub place : ℕ
-  pub changed : List Numbered
-  pub is : after ≡ with_table before place (with_replaced (table_at before place) changed)
-
-updated_is : (m : Setting) (u : Update) (which : Which) (after : Content) → update_outcome m u which ≡ Ok after
-    → IsReplaced m.content after
-updated_is m u which after e = by_descriptor (descriptor_of (tables_in m) (table_of m.user u.table)) e
-  where
-    by_checks : (target : Target) (changed : List Numbered) (checked : Outcome (Unit {0}))
-        → and_then checked (λ _. Ok (with_table m.content target.place (with_replaced (table_at m.content target.place) changed))) ≡ Ok after
-        → IsReplaced m.content after
-    by_checks target changed (Ok done) e =
-        let same : with_table m.content target.place (with_replaced (table_at m.content target.place) changed) ≡ after = cc in
-        record { place = target.place; changed = changed; is = sym same }
-    by_checks target changed (Err st) e = cc
-
-    by_options : (target : Target) (t : BaseTable) (changed : List Numbered) (met : Outcome (Unit {0}))
-        → and_then met (λ _. completed_with m t (with_table m.content target.place (with_replaced (table_at m.content target.place) changed))) ≡ Ok after
-        → IsReplaced m.content after
-    by_options target t changed (Ok done) e =
-        by_checks target changed (constraints_checked m.elements t (with_table m.content target.place (with_replaced (table_at m.content target.place) changed))) e
-    by_options target t changed (Err st) e = cc
-
-    by_rows : (target : Target) (t : BaseTable) (changed : Outcome (List Numbered))
-        → and_then changed (λ rows. completed m target t (map (λ r. r.row) rows) (with_replaced (table_at m.content target.place) rows)) ≡ Ok after
-        → IsReplaced m.content after
-    by_rows target t (Ok rows) e = by_options target t rows (check_options_met m target (map (λ r. r.row) rows)) e
-    by_rows target t (Err st) e = cc
-
-    by_numbers : (d : TableDescriptor) (target : Target) (t : BaseTable) (numbers : Outcome (List ℕ))
-        → and_then numbers (λ ns. and_then (each (updated_row m d target t u) (filter (is_numbered ns) (rows_at m target.place))) (λ rows. completed m target t (map (λ r. r.row) rows) (with_replaced (table_at m.content target.place) rows))) ≡ Ok after
-        → IsReplaced m.content after
-    by_numbers d target t (Ok ns) e = by_rows target t (each (updated_row m d target t u) (filter (is_numbered ns) (rows_at m target.place))) e
-    by_numbers d target t (Err st) e = cc
-
-    by_base : (d : TableDescriptor) (target : Target) (t : Outcome BaseTable)
-        → and_then t (λ b. and_then (numbers_changed m target which) (λ ns. and_then (each (updated_row m d target b u) (filter (is_numbered ns) (rows_at m target.place))) (λ rows. completed m target b (map (λ r. r.row) rows) (with_replaced (table_at m.content target.place) rows)))) ≡ Ok after
-        → IsReplaced m.content after
-    by_base d target (Ok b) e = by_numbers d target b (numbers_changed m target which) e
-    by_base d target (Err st) e = cc
-
-    by_target : (d : TableDescriptor) (target : Outcome Target)
-        → and_then target (λ s. and_then (base_at m s.place) (λ b. and_then (numbers_changed m s which) (λ ns. and_then (each (updated_row m d s b u) (filter (is_numbered ns) (rows_at m s.place))) (λ rows. completed m s b (map (λ r. r.row) rows) (with_replaced (table_at m.content s.place) rows))))) ≡ Ok after
-        → IsReplaced m.content after
-    by_target d (Ok s) e = by_base d s (base_at m s.place) e
-    by_target d (Err st) e = cc
-
-    by_descriptor : (d : Outcome TableDescriptor)
-        → and_then d (λ x. and_then (which_target m (table_of m.user u.table) which) (λ s. and_then (base_at m s.place) (λ b. and_then (numbers_changed m s which) (λ ns. and_then (each (updated_row m x s b u) (filter (is_numbered ns) (rows_at m s.place))) (λ rows. completed m s b (map (λ r. r.row) rows) (with_replaced (table_at m.content s.place) rows)))))) ≡ Ok after
-        → IsReplaced m.content after
-    by_descriptor (Ok d) e = by_target d (which_target m (table_of m.user u.table) which) e
-    by_descriptor (Err st) e = cc
+-- ---- one table changes
 
 -- the rows that are there under each number are there afterwards
 there_at : (content : Content) (place : ℕ) (changed : List Numbered) (k n : ℕ)
@@ -125,6 +70,15 @@ there_at (t ∷ content) zero changed zero n = there_kept changed n t.rows
 there_at (t ∷ content) zero changed (suc k) n = refl
 there_at (t ∷ content) (suc place) changed zero n = refl
 there_at (t ∷ content) (suc place) changed (suc k) n = there_at content place changed k n
+
+-- and its next number is the same
+next_at : (content : Content) (place : ℕ) (changed : List Numbered) (k : ℕ)
+    → (table_at (slice_set content place (with_replaced (table_at content place) changed)) k).next ≡ (table_at content k).next
+next_at [] place changed k = refl
+next_at (t ∷ content) zero changed zero = refl
+next_at (t ∷ content) zero changed (suc k) = refl
+next_at (t ∷ content) (suc place) changed zero = refl
+next_at (t ∷ content) (suc place) changed (suc k) = next_at content place changed k
 
 -- ---- cursors
 
@@ -136,24 +90,31 @@ all_left : {A : Type 0} (xs : List A) → drop 0 xs ≡ xs
 all_left [] = refl
 all_left (x ∷ xs) = refl
 
--- where a walk's conditions read nothing that changes, it has the same rows
-abbrev pub SameRows : BoundUpdate → Content → Content → Type 0
-SameRows u before after = (d : DeclaredCursor) (c : WalkingCursor) → reads u d c ≡ false
-    → numbers_left d before c ≡ numbers_left d after c
-
 module _ (before after : Content) (u : BoundUpdate)
-    (there : (k n : ℕ) → is_there (table_at after k) n ≡ is_there (table_at before k) n) (unread : SameRows u before after) where
+    (there : (k n : ℕ) → is_there (table_at after k) n ≡ is_there (table_at before k) n)
+    (next : (k : ℕ) → (table_at after k).next ≡ (table_at before k).next) (unread : SameRows u before after) where
   alike : (k : ℕ) (xs : List ℕ) → filter (is_there (table_at after k)) xs ≡ filter (is_there (table_at before k)) xs
   alike k xs = filters_alike (is_there (table_at before k)) (is_there (table_at after k)) (there k) xs
 
   numbers_stay : (c : NumbersCursor) (x : machine.CursorState) → SameNumbers (table_at before c.table) c x → SameNumbers (table_at after c.table) c x
-  numbers_stay c x h = record { numbers = h.numbers; is = h.is; same = alike c.table h.numbers ∙ h.same ∙ sym (alike c.table (left c)) }
+  numbers_stay c x h = record {
+    numbers = h.numbers;
+    is = h.is;
+    same = alike c.table h.numbers ∙ h.same ∙ sym (alike c.table (left c));
+    below = subst (λ n. AreBelow n h.numbers) (sym (next c.table)) h.below;
+    left_below = subst (λ n. AreBelow n (left c)) (sym (next c.table)) h.left_below;
+  }
 
   walk_stays : (d : DeclaredCursor) (c : WalkingCursor) (x : machine.CursorState)
       → SameWalk (conditions_in d.cursor.body) d.user (table_at before c.table) c x → (b : Bool) → reads u d c ≡ b
       → SameCursor after d (if b then cursor.Numbers (listed d before c) else cursor.Walking c) x
-  walk_stays d c x h false is =
-      record { numbers = h.numbers; is = h.is; same = alike c.table h.numbers ∙ h.same ∙ unread d c is }
+  walk_stays d c x h false is = record {
+    numbers = h.numbers;
+    is = h.is;
+    same = alike c.table h.numbers ∙ h.same ∙ unread d c is;
+    below = subst (λ n. AreBelow n h.numbers) (sym (next c.table)) h.below;
+    marked = subst (λ n. c.mark ≤ n) (sym (next c.table)) h.marked;
+  }
   walk_stays d c x h true is = record {
     numbers = h.numbers;
     is = h.is;
@@ -162,6 +123,11 @@ module _ (before after : Content) (u : BoundUpdate)
         ∙ stricter (is_there (table_at before c.table)) (is_there (table_at before c.table)) (λ n e. e) h.numbers
         ∙ ap (filter (is_there (table_at before c.table))) (h.same ∙ sym (all_left (numbers_left d before c)))
         ∙ sym (alike c.table (left (listed d before c)));
+    below = subst (λ n. AreBelow n h.numbers) (sym (next c.table)) h.below;
+    left_below =
+        subst (AreBelow (table_at after c.table).next) (sym (all_left (numbers_left d before c)))
+        (meant_below (conditions_in d.cursor.body) c.values d.user c.next c.mark (table_at after c.table).next (table_at before c.table).rows
+        (subst (λ n. c.mark ≤ n) (sym (next c.table)) h.marked));
   }
 
   cursor_stays : (d : DeclaredCursor) (c : CursorState) (x : machine.CursorState) → SameCursor before d c x
@@ -180,7 +146,7 @@ module _ (before after : Content) (u : BoundUpdate)
 -- ---- the statement
 
 module _ (s : State) (r : Running) (u : Updating) (same : SameStates u.cursors s r.state) where
-  rows_replaced : (x : Update) (which : Which) (content : Content) → SameRows u.statement s.tables content
+  pub rows_replaced : (x : Update) (which : Which) (content : Content) → SameRows u.statement s.tables content
       → update_outcome (setting r) x which ≡ Ok content
       → SameStates u.cursors (record (walks_listed u s) { tables = content }) (record r.state { tables = content })
   rows_replaced x which content unread e =
@@ -192,17 +158,28 @@ module _ (s : State) (r : Running) (u : Updating) (same : SameStates u.cursors s
             cursors_stay s.tables content u.statement
             (λ k n. ap (λ (c : Content). is_there (table_at c k) n) (replaced_in.is ∙ (λ i. with_table (same.tables i) replaced_in.place (with_replaced (table_at (same.tables i) replaced_in.place) replaced_in.changed)))
             ∙ there_at s.tables replaced_in.place replaced_in.changed k n)
+            (λ k. ap (λ (c : Content). (table_at c k).next) (replaced_in.is ∙ (λ i. with_table (same.tables i) replaced_in.place (with_replaced (table_at (same.tables i) replaced_in.place) replaced_in.changed)))
+            ∙ next_at s.tables replaced_in.place replaced_in.changed k)
             unread u.cursors s.cursors r.state.cursors same.cursors;
       }
 
-  -- UPDATE keeps what the states are to each other, and ends alike, where walks that read nothing of it have the same rows.
-  pub update_same : (x : Update) (which : Which) → update_rows r x ≡ update_outcome (setting r) x which → (schemas : Schemas)
-      (values : List Value) (on : Option ℕ)
-      → ((done : Outcome Content) → UpdateComesTo schemas u values on s.tables done → done ≡ update_outcome (setting r) x which)
-      → ((content : Content) → update_outcome (setting r) x which ≡ Ok content → SameRows u.statement s.tables content)
-      → (d : Done) (after : State) → MayUpdate schemas u values on s d after
-      → SameStates u.cursors after (change_by r r.state (update_rows r x)).0 × SameReply d (change_by r r.state (update_rows r x)).1
-  update_same x which rows_are schemas values on alike_done unread d after h =
-      subst (λ o. SameStates u.cursors after (change_by r r.state o).0 × SameReply d (change_by r r.state o).1) (sym rows_are)
-      (change_same u.cursors s r same (walks_listed u s) r.state h.0 (update_outcome (setting r) x which) (alike_done h.0 h.1)
-      (λ content is. rows_replaced x which content (unread content is) is) d after h.2)
+  -- what it comes to by place and by name
+  module _ (schemas : Schemas) (values : List Value) (on : Option ℕ) (shown : HasTables schemas s.tables)
+      (rising : (place : ℕ) → has_rising_rows (table_at s.tables place) ≡ true) (x : Update) (which : Which)
+      (alike : (done : Outcome Content) → UpdateComesTo schemas u values on s.tables done → done ≡ update_outcome (setting r) x which) where
+    pub rows_update : (done : Outcome Content) → UpdateComesTo schemas u values on s.tables done → (content : Content)
+        → update_outcome (setting r) x which ≡ Ok content
+        → SameStates u.cursors (record (walks_listed u s) { tables = content }) (record r.state { tables = content })
+    rows_update done comes content e =
+        let tables = shown u.caller.user in
+        rows_replaced x which content
+        (unread_rows tables.0 (seen_in schemas u.caller values s.tables) schemas.bases u.statement on content (rising (base_of u.statement.target))
+        (sym (comes tables.0 tables.1) ∙ alike done comes ∙ e)) e
+
+    -- UPDATE keeps what the states are to each other, and ends alike.
+    pub update_same : update_rows r x ≡ update_outcome (setting r) x which → (d : Done) (after : State)
+        → MayUpdate schemas u values on s d after
+        → SameStates u.cursors after (change_by r r.state (update_rows r x)).0 × SameReply d (change_by r r.state (update_rows r x)).1
+    update_same rows_are d after h =
+        subst (λ o. SameStates u.cursors after (change_by r r.state o).0 × SameReply d (change_by r r.state o).1) (sym rows_are)
+        (change_same u.cursors s r same (walks_listed u s) r.state h.0 (update_outcome (setting r) x which) (alike h.0 h.1) (rows_update h.0 h.1) d after h.2)

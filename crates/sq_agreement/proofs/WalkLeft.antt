@@ -16,7 +16,7 @@ use Rattle.sq_session.specs.Fetch.{walked_to}
 use Rattle.sq_session.specs.State.{is_there}
 use Rattle.sq_session.specs.Walk.{first_meant, is_meant, numbers_meant, rows_between, rows_from}
 use Rattle.sq_session.specs.declared.walk.WalkingCursor.{WalkingCursor}
-use Rattle.sq_agreement.proofs.NumbersLeft.{first, first_is, firsts_alike, next_cursor, next_row, others_are}
+use Rattle.sq_agreement.proofs.NumbersLeft.{AreBelow, below_dropped, first, first_is, firsts_alike, next_cursor, next_row, others_are}
 use Rattle.sq_agreement.proofs.RowsAgain.{AreAbove, above, all_there, all_within, rest_rises}
 
 -- ---- rows that are kept
@@ -50,7 +50,7 @@ all_kept P test (r ∷ rows) h = by_test (test r) (all_kept P test rows h.1)
     by_test true others = (h.0, others)
     by_test false others = others
 
-kept_pass : (test : Numbered → Bool) (rows : List Numbered) → AllByRecursion (λ r. test r ≡ true) (filter test rows)
+pub kept_pass : (test : Numbered → Bool) (rows : List Numbered) → AllByRecursion (λ r. test r ≡ true) (filter test rows)
 kept_pass test [] = tt
 kept_pass test (r ∷ rows) = by_test (test r) refl (kept_pass test rows)
   where
@@ -189,6 +189,8 @@ module _ (conditions : List BoundCond) (user : Name) where
     pub numbers : List ℕ
     pub is : x ≡ CursorState.over_numbers numbers c.on
     pub same : filter (is_there t) numbers ≡ numbers_meant conditions c.values user c.next c.mark t.rows
+    pub below : AreBelow t.next numbers
+    pub marked : c.mark ≤ t.next
 
   abbrev pub reached : Table → WalkingCursor → Option Numbered
   reached t c = first_meant conditions c.values user c.next c.mark t.rows
@@ -217,23 +219,24 @@ module _ (conditions : List BoundCond) (user : Name) where
 
   -- FETCH keeps it so, and comes to the row that the walk comes to.
   pub walk_same : (t : Table) (now : ℕ → Option Row) → ((n : ℕ) → is_some (now n) ≡ is_there t n) → has_rising_rows t ≡ true
-      → (c : WalkingCursor) (numbers : List ℕ)
-      → filter (is_there t) numbers ≡ numbers_meant conditions c.values user c.next c.mark t.rows
-      → SameWalk t (walked_to c (reached t c)) (to_next now numbers).cursor
-      × ((to_next now numbers).row ≡ option_and_then now (option_map (λ r. r.number) (reached t c)))
-  walk_same t now alike rising c numbers same = (
+      → (c : WalkingCursor) (x : CursorState) (h : SameWalk t c x)
+      → SameWalk t (walked_to c (reached t c)) (to_next now h.numbers).cursor
+      × ((to_next now h.numbers).row ≡ option_and_then now (option_map (λ r. r.number) (reached t c)))
+  walk_same t now alike rising c x h = (
     record {
-      numbers = drop (first (is_there t) numbers + 1) numbers;
+      numbers = drop (first (is_there t) h.numbers + 1) h.numbers;
       is =
-          next_cursor now numbers
-          ∙ (λ i. CursorState.over_numbers (drop (firsts_alike t now alike numbers i + 1) numbers) (slice_get numbers (firsts_alike t now alike numbers i)))
-          ∙ ap (CursorState.over_numbers (drop (first (is_there t) numbers + 1) numbers)) (on_same ∙ sym (on_walked (reached t c)));
+          next_cursor now h.numbers
+          ∙ (λ i. CursorState.over_numbers (drop (firsts_alike t now alike h.numbers i + 1) h.numbers) (slice_get h.numbers (firsts_alike t now alike h.numbers i)))
+          ∙ ap (CursorState.over_numbers (drop (first (is_there t) h.numbers + 1) h.numbers)) (on_same ∙ sym (on_walked (reached t c)));
       same =
-          others_are (is_there t) numbers ∙ ap (drop 1) same ∙ left_walked t c rising (reached t c) refl
+          others_are (is_there t) h.numbers ∙ ap (drop 1) h.same ∙ left_walked t c rising (reached t c) refl
           ∙ ap (λ values. numbers_meant conditions values user (walked_to c (reached t c)).next c.mark t.rows) (sym (values_walked (reached t c)))
           ∙ ap (λ mark. numbers_meant conditions (walked_to c (reached t c)).values user (walked_to c (reached t c)).next mark t.rows) (sym (mark_walked (reached t c)));
+      below = below_dropped t.next (first (is_there t) h.numbers + 1) h.numbers h.below;
+      marked = subst (λ m. m ≤ t.next) (sym (mark_walked (reached t c))) h.marked;
     },
-    next_row now numbers ∙ (λ i. option_and_then now (slice_get numbers (firsts_alike t now alike numbers i))) ∙ ap (option_and_then now) on_same,
+    next_row now h.numbers ∙ (λ i. option_and_then now (slice_get h.numbers (firsts_alike t now alike h.numbers i))) ∙ ap (option_and_then now) on_same,
   )
     where
       on_walked : (o : Option Numbered) → (walked_to c o).on ≡ option_map (λ r. r.number) o
@@ -248,7 +251,7 @@ module _ (conditions : List BoundCond) (user : Name) where
       mark_walked None = refl
       mark_walked (Some r) = refl
 
-      on_same : slice_get numbers (first (is_there t) numbers) ≡ option_map (λ r. r.number) (reached t c)
+      on_same : slice_get h.numbers (first (is_there t) h.numbers) ≡ option_map (λ r. r.number) (reached t c)
       on_same =
-          first_is (is_there t) numbers ∙ ap (λ xs. slice_get xs 0) same
+          first_is (is_there t) h.numbers ∙ ap (λ xs. slice_get xs 0) h.same
           ∙ first_number (is_meant conditions c.values user) (rows_between c.next c.mark t.rows)

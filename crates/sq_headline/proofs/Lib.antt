@@ -1,0 +1,16 @@
+pub mod Agrees
+pub mod CallIsStep
+pub mod Exact
+pub mod FirstState
+pub mod Found
+pub mod GoesOver
+pub mod Headline
+pub mod InDomains
+pub mod Moves
+pub mod Openers
+pub mod Projected
+pub mod Reports
+pub mod Rules
+pub mod Started
+pub mod Statements
+pub mod Turns
