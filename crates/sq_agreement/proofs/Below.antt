@@ -15,9 +15,9 @@ use Rattle.sq_bound.specs.declared.condition.BoundCond.{BoundCond}
 use Rattle.sq_query.specs.Table.{stored_numbered}
 use Rattle.sq_query.specs.Target.{chosen, numbers_chosen}
 use Rattle.sq_session.specs.Walk.{is_meant, numbers_meant, rows_between, rows_from}
+use Rattle.sq_places.proofs.Outcomes.{all_map, if_one, if_then, kept_of}
+use Rattle.sq_places.proofs.RowsAgain.{above, rest_rises}
 use Rattle.sq_agreement.proofs.NumbersLeft.{AreBelow}
-use Rattle.sq_agreement.proofs.Outcomes.{all_map, if_one, if_then, kept_of}
-use Rattle.sq_agreement.proofs.RowsAgain.{above, rest_rises}
 use Rattle.sq_agreement.proofs.WalkLeft.{all_kept, kept_pass}
 
 -- ---- rows

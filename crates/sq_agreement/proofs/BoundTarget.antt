@@ -20,13 +20,13 @@ use Rattle.sq_bound.specs.declared.condition.TablePlace.{TablePlace}
 use Rattle.sq_bound.specs.declared.names.ParameterDesc.{ParameterDesc}
 use Rattle.sq_bound.specs.declared.query.CursorBody.TheVariants as body
 use Rattle.sq_bound.specs.declared.query.UpdatableQuery.{UpdatableQuery}
-use Rattle.sq_bind.specs.Written.{HasRowsOf, outside}
+use Rattle.sq_promises.specs.Written.{HasRowsOf}
 use Rattle.sq_session.specs.Schemas.{Schemas, columns_of}
-use Rattle.sq_agreement.proofs.Databases.{IsDatabase}
-use Rattle.sq_agreement.proofs.Parameters.{AreNamed}
-use Rattle.sq_agreement.proofs.Retrieved.{cursor_target_same}
-use Rattle.sq_agreement.proofs.Stars.{QueryStars}
-use Rattle.sq_agreement.proofs.ViewTargets.{AreUnder}
+use Rattle.sq_places.proofs.Databases.{IsDatabase}
+use Rattle.sq_places.proofs.Parameters.{AreNamed}
+use Rattle.sq_places.proofs.Retrieved.{cursor_target_same}
+use Rattle.sq_places.proofs.Stars.{QueryStars}
+use Rattle.sq_places.proofs.ViewTargets.{AreUnder}
 
 -- inputs of these names
 abbrev any_inputs : List ParameterDesc → List Input
@@ -54,7 +54,7 @@ module _ (r : Running) (known : KnownTables) (schemas : Schemas) (shown : TableP
     (database : IsDatabase (tables_in (setting r)) r.state.tables r.in_module.authorization known (columns_of schemas) schemas.views shown)
     (under : AreUnder known schemas.bases (tables_in (setting r))) (c : Cursor) (stars : QueryStars (cursor_query (surroundings r) c))
     (ps : List ParameterDesc) (over : UpdatableQuery) (target : Meant) (updatable : updatable_cursor (surroundings r) c ≡ Some target) where
-  by_query : (q : Query Named) → cursor_query (surroundings r) c ≡ q → HasRowsOf (outside known ps) q (body.Updatable over)
+  by_query : (q : Query Named) → cursor_query (surroundings r) c ≡ q → HasRowsOf known ps q (body.Updatable over)
       → (target.place ≡ over.target.base) × (target.columns ≡ over.columns)
   by_query (specification s) is rows =
       let means = target_of_query (is_plain c) (cursor_target (tables_in (setting r))) s target
@@ -65,6 +65,6 @@ module _ (r : Running) (known : KnownTables) (schemas : Schemas) (shown : TableP
       (bound.place ∙ sym over.target.is_under, bound.columns_are)
   by_query (union all left right) is rows = absurd rows
 
-  pub target_bound : HasRowsOf (outside known ps) (cursor_query (surroundings r) c) (body.Updatable over)
+  pub target_bound : HasRowsOf known ps (cursor_query (surroundings r) c) (body.Updatable over)
       → (target.place ≡ over.target.base) × (target.columns ≡ over.columns)
   target_bound rows = by_query (cursor_query (surroundings r) c) refl rows

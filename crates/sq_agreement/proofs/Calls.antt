@@ -3,11 +3,11 @@ use Rattle.std.proofs.Common.{◌≡◌, List, [], ◌∷◌, length, map, refl,
 use Rattle.sq_value.specs.declared.value.Value.{Value}
 use Rattle.sq_model.specs.Parameter.{inputs_of, started_parameters}
 use Rattle.sq_bound.specs.declared.names.ParameterDesc.{ParameterDesc}
-use Rattle.sq_agreement.proofs.ColumnKinds.{declared_of}
-use Rattle.sq_agreement.proofs.Parameters.{AreNamed}
+use Rattle.sq_promises.specs.Names.{declared}
+use Rattle.sq_places.proofs.Parameters.{AreNamed}
 
 names_started : (parameters : List ParameterDesc) (values : List Value) → length values ≡ length parameters
-    → map (λ p. p.name) parameters ≡ map (λ i. i.name) (inputs_of (started_parameters (declared_of parameters) values))
+    → map (λ p. p.name) parameters ≡ map (λ i. i.name) (inputs_of (started_parameters (declared parameters) values))
 names_started [] values e = refl
 names_started (p ∷ parameters) [] e = absurd (omega arith)
 names_started (p ∷ parameters) (v ∷ values) e =
@@ -15,6 +15,6 @@ names_started (p ∷ parameters) (v ∷ values) e =
 
 -- So the inputs of a statement have the names of the parameters.
 pub call_named : (parameters : List ParameterDesc) (values : List Value) → length values ≡ length parameters
-    → AreNamed parameters (inputs_of (started_parameters (declared_of parameters) values))
+    → AreNamed parameters (inputs_of (started_parameters (declared parameters) values))
 call_named [] values e = tt
 call_named (p ∷ parameters) values e = names_started (p ∷ parameters) values e

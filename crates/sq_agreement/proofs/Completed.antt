@@ -17,7 +17,7 @@ use Rattle.sq_meaning.specs.declared.status.Status.TheVariants.{NoRowNumberLeft}
 use Rattle.sq_rules.specs.Schema.{BaseTable}
 use Rattle.sq_model.specs.Change.{Setting, Which, base_at, check_options_met, completed, completed_with, delete_outcome, given_rows, has_numbers, insert_outcome, insert_places, is_numbered, new_row, numbers_changed, rows_at, tables_in, update_outcome, updated_row, which_target, with_replaced, with_rows, without}
 use Rattle.sq_model.specs.Constraints.{constraints_checked, demanded}
-use Rattle.sq_agreement.proofs.Outcomes.{ok_same, ok_then}
+use Rattle.sq_places.proofs.Outcomes.{ok_same, ok_then}
 
 completed_is : (m : Setting) (target : Target) (t : BaseTable) (rows : List Row) (changed : Table) (after : Content)
     → completed m target t rows changed ≡ Ok after → after ≡ with_table m.content target.place changed

@@ -26,7 +26,8 @@ use Rattle.sq_bound.specs.declared.names.ParameterDesc.{ParameterDesc}
 use Rattle.sq_bound.specs.declared.query.CursorBody.{CursorBody}
 use Rattle.sq_bound.specs.declared.query.CursorBody.TheVariants as body
 use Rattle.sq_bound.specs.declared.query.UpdatableQuery.{UpdatableQuery}
-use Rattle.sq_bind.specs.Written.{HasRowsOf, IsCursorOf, IsSortedBy, IsUpdatableOf, outside, query_names_placed}
+use Rattle.sq_promises.specs.Names.{declared, tables_of}
+use Rattle.sq_promises.specs.Written.{HasRowsOf, IsCursorOf, IsSortedBy, IsUpdatableOf, query_names_placed}
 use Rattle.sq_module.specs.declared.program.DeclaredCursor.{DeclaredCursor}
 use Rattle.sq_query.specs.Table.{AreMeant}
 use Rattle.sq_query.specs.Target.{conditions_of, is_true_of, numbers_chosen}
@@ -38,18 +39,17 @@ use Rattle.sq_session.specs.Schemas.{Schemas, columns_of}
 use Rattle.sq_session.specs.Walk.{is_meant}
 use Rattle.sq_session.specs.declared.cursor.CursorState.{CursorState}
 use Rattle.sq_session.proofs.QuietWalks.{are_under, quiet_with}
+use Rattle.sq_places.proofs.Databases.{IsDatabase}
+use Rattle.sq_places.proofs.Parameters.{AreNamed}
+use Rattle.sq_places.proofs.RowsAgain.{itself}
+use Rattle.sq_places.proofs.Stars.{QueryStars}
+use Rattle.sq_places.proofs.Statements.{values_in}
+use Rattle.sq_places.proofs.ViewTargets.{AreUnder}
 use Rattle.sq_agreement.proofs.BoundTarget.{target_of_query}
-use Rattle.sq_agreement.proofs.ColumnKinds.{declared_of}
-use Rattle.sq_agreement.proofs.Databases.{IsDatabase}
 use Rattle.sq_agreement.proofs.OpenQueries.{numbers_open, opens_numbers, query_opens}
 use Rattle.sq_agreement.proofs.OpenSame.{OpensAlike}
 use Rattle.sq_agreement.proofs.OpenWalks.{walk_opens}
-use Rattle.sq_agreement.proofs.Parameters.{AreNamed}
 use Rattle.sq_agreement.proofs.QuietOpens.{quiet_numbers}
-use Rattle.sq_agreement.proofs.RowsAgain.{itself}
-use Rattle.sq_agreement.proofs.Stars.{QueryStars}
-use Rattle.sq_agreement.proofs.Statements.{values_in}
-use Rattle.sq_agreement.proofs.ViewTargets.{AreUnder}
 
 -- a cursor that is bound as an updatable one is updatable, and no other is
 abbrev pub IsUpdatableAs : CursorBody → Option Meant → Type 0
@@ -62,13 +62,13 @@ module _ (r : Running) (known : KnownTables) (schemas : Schemas) (shown : TableP
     (given : values ≡ values_in (setting r)) (tables : Content) (same : r.state.tables ≡ tables) (d : DeclaredCursor) (c : Cursor)
     (meant : AreMeant schemas.views tables r.in_module.authorization shown)
     (under : AreUnder known schemas.bases (tables_in (setting r))) (stars : QueryStars (cursor_query (surroundings r) c))
-    (declares : (surroundings r).parameters ≡ declared_of parameters) (of_user : d.user ≡ r.in_module.authorization)
+    (declares : (surroundings r).parameters ≡ declared parameters) (of_user : d.user ≡ r.in_module.authorization)
     (count : length tables ≡ length schemas.bases) (rising : (place : ℕ) → has_rising_rows (table_at tables place) ≡ true)
     (in_domains : AreInDomains schemas.bases tables) (may : MayKeep (columns_of schemas) d.cursor values) where
   -- ---- of an updatable query
 
   module _ (u : UpdatableQuery) (is : d.cursor.body ≡ body.Updatable u) (fits : FitsBody schemas.bases (body.Updatable u)) (s : Select Named)
-      (text : IsUpdatableOf (outside known parameters) s u) (query_is : cursor_query (surroundings r) c ≡ specification s) (target : Meant)
+      (text : IsUpdatableOf known parameters s u) (query_is : cursor_query (surroundings r) c ≡ specification s) (target : Meant)
       (means : cursor_target (tables_in (setting r)) s ≡ Ok target) (updatable : updatable_cursor (surroundings r) c ≡ Some target) where
     there : u.target.base < length tables
     there =
@@ -110,16 +110,16 @@ module _ (r : Running) (known : KnownTables) (schemas : Schemas) (shown : TableP
   -- ---- of any
 
   by_query : (b : CursorBody) → d.cursor.body ≡ b → (q : Query Named) → cursor_query (surroundings r) c ≡ q → (plain : Bool)
-      → is_plain c ≡ plain → HasRowsOf (outside known parameters) q b
-      → IsSortedBy (query_names_placed known q) (listed_if_any c.order_by) b
+      → is_plain c ≡ plain → HasRowsOf known parameters q b
+      → IsSortedBy (query_names_placed (tables_of known) q) (listed_if_any c.order_by) b
       → IsUpdatableAs b (updatable_cursor (surroundings r) c) → FitsBody schemas.bases b → (opened : Outcome CursorState)
       → IsOpenOver (over_of b) values tables opened
       → IsMeant schemas b r.in_module.authorization parameters values tables opened
       → OpensAlike tables d opened (by_name.opened r c)
   by_query (body.Rows b sorts) is q query_is plain plain_is rows order updatable fits opened over h =
       query_opens r known schemas shown database parameters names values given tables same d c meant updatable declares stars b sorts
-      (subst (λ x. HasRowsOf (outside known parameters) x (body.Rows b sorts)) (sym query_is) rows)
-      (subst (λ x. IsSortedBy (query_names_placed known x) (listed_if_any c.order_by) (body.Rows b sorts)) (sym query_is) order)
+      (subst (λ x. HasRowsOf known parameters x (body.Rows b sorts)) (sym query_is) rows)
+      (subst (λ x. IsSortedBy (query_names_placed (tables_of known) x) (listed_if_any c.order_by) (body.Rows b sorts)) (sym query_is) order)
       opened h
   by_query (body.Updatable u) is (specification s) query_is plain plain_is rows order updatable fits opened over h =
       updatable_opens u is fits s rows query_is updatable.0

@@ -25,9 +25,9 @@ use Rattle.sq_session.specs.declared.cursor.CursorState.{CursorState}
 use Rattle.sq_session.specs.declared.cursor.CursorState.TheVariants as cursor
 use Rattle.sq_session.specs.declared.cursor.NumbersCursor.{NumbersCursor}
 use Rattle.sq_session.specs.declared.walk.WalkingCursor.{WalkingCursor}
+use Rattle.sq_places.proofs.RowsAgain.{AreAbove}
 use Rattle.sq_agreement.proofs.CursorsKept.{none_above}
 use Rattle.sq_agreement.proofs.NumbersLeft.{AreBelow, SameNumbers}
-use Rattle.sq_agreement.proofs.RowsAgain.{AreAbove}
 use Rattle.sq_agreement.proofs.SameCursors.{AreSame}
 use Rattle.sq_agreement.proofs.SameStates.{SameCursor}
 use Rattle.sq_agreement.proofs.WalkLeft.{SameWalk, is_false}

@@ -21,8 +21,8 @@ use Rattle.sq_session.specs.declared.cursor.CursorState.{CursorState}
 use Rattle.sq_session.specs.declared.cursor.CursorState.TheVariants as cursor
 use Rattle.sq_session.specs.declared.cursor.NumbersCursor.{NumbersCursor}
 use Rattle.sq_session.specs.declared.walk.WalkingCursor.{WalkingCursor}
+use Rattle.sq_places.proofs.RowsAgain.{AreAbove, above, itself, rest_rises}
 use Rattle.sq_agreement.proofs.NumbersLeft.{SameNumbers}
-use Rattle.sq_agreement.proofs.RowsAgain.{AreAbove, above, itself, rest_rises}
 use Rattle.sq_agreement.proofs.SameCursors.{AreSame}
 use Rattle.sq_agreement.proofs.SameStates.{SameCursor}
 use Rattle.sq_agreement.proofs.WalkLeft.{SameWalk, all_kept, is_false}

@@ -21,7 +21,6 @@ use Rattle.sq_meaning.specs.Spelled.{select_of, table_of}
 use Rattle.sq_meaning.specs.Status.{Outcome, well_formed}
 use Rattle.sq_meaning.specs.Tables.{Tables, by_name, descriptor_of, kinds_by_name, rows_in}
 use Rattle.sq_meaning.specs.WellFormed.{AreRowsOf, Has, HasValue, WellFormedSelect}
-use Rattle.sq_laws.proofs.ViewSites.{view_well_formed}
 use Rattle.sq_rules.specs.Catalog.{base_count, is_base_table, table_descriptor, tables_of, view_descriptor}
 use Rattle.sq_rules.specs.Schema.{Element, Elements}
 use Rattle.sq_rules.specs.SchemaRefusal.{elements_of, first_schema_refusal, is_made}
@@ -32,6 +31,7 @@ use Rattle.sq_bound.specs.declared.condition.BoundSpecification.{BoundSpecificat
 use Rattle.sq_bound.specs.declared.condition.TablePlace.{TablePlace}
 use Rattle.sq_bound.specs.declared.names.BaseTable.{BaseTable as BoundTable}
 use Rattle.sq_bound.specs.declared.names.Column.{Column}
+use Rattle.sq_laws.proofs.ViewSites.{view_well_formed}
 use Rattle.sq_catalog.specs.Catalog.{base_meant, declared_definitions, declared_tables, definition_in, kinds_at, table_in, table_number, view_meant}
 use Rattle.sq_catalog.specs.Declares.{Declares}
 use Rattle.sq_catalog.specs.View.{conditions_with}
@@ -39,16 +39,16 @@ use Rattle.sq_catalog.specs.Views.{IsUnderView as IsWrittenUnder, WrittenView, d
 use Rattle.sq_catalog.specs.declared.catalog.FullName.{FullName}
 use Rattle.sq_query.specs.Table.{AreMeant}
 use Rattle.sq_query.specs.Target.{and_own}
+use Rattle.sq_places.proofs.Databases.{AreAll, AreDeclared, IsDatabase, IsDeclaredAs, each_same, fits_before, typed_before}
+use Rattle.sq_places.proofs.Outcomes.{all_map, some_also}
+use Rattle.sq_places.proofs.ViewTargets.{AreUnder, IsUnderBody, IsUnderView}
 use Rattle.sq_agreement.proofs.Accepted.{AreAccepted, IsAccepted, accepted_elements, view_is_sound}
 use Rattle.sq_agreement.proofs.Created.{declared_definitions_are, declared_tables_are, declared_views_are, definitions_created, tables_created, views_created}
-use Rattle.sq_agreement.proofs.Databases.{AreAll, AreDeclared, IsDatabase, IsDeclaredAs, each_same, fits_before, typed_before}
 use Rattle.sq_agreement.proofs.DeclaredBase.{base_declared, base_kinds_are, base_under}
 use Rattle.sq_agreement.proofs.DeclaredPlaces.{HasBase, HasView, has_base, has_view, known_as}
 use Rattle.sq_agreement.proofs.DeclaredView.{HasKindsOf, query_kinds_are, view_declared}
 use Rattle.sq_agreement.proofs.NoParameters.{without_parameters}
 use Rattle.sq_agreement.proofs.Numbers.{BeginsWith, IsNoTable, begins_all, begins_before, is_its_name, no_table, no_view, none_there, views_apart, zip_both}
-use Rattle.sq_agreement.proofs.Outcomes.{all_map, some_also}
-use Rattle.sq_agreement.proofs.ViewTargets.{AreUnder, IsUnderBody, IsUnderView}
 
 -- ---- as many base tables as the definitions count
 

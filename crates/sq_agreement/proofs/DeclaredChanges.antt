@@ -34,22 +34,23 @@ use Rattle.sq_bound.specs.declared.statement.BoundUpdate.{BoundUpdate}
 use Rattle.sq_bound.specs.declared.statement.ChangeTarget.{ChangeTarget}
 use Rattle.sq_bound.specs.declared.statement.ChangeTarget.TheVariants as change
 use Rattle.sq_bound.specs.declared.statement.PositionedTarget.{PositionedTarget}
-use Rattle.sq_bind.specs.Written.{IsDeleteOf, IsInsertOf, IsUpdateOf, outside, table_known}
+use Rattle.sq_promises.specs.Names.{meant_by}
+use Rattle.sq_promises.specs.Written.{IsDeleteOf, IsInsertOf, IsUpdateOf}
 use Rattle.sq_catalog.specs.Catalog.{kinds_at}
 use Rattle.sq_catalog.specs.Declares.{Declares}
 use Rattle.sq_change.specs.Performed as performed
 use Rattle.sq_query.specs.Table.{AreMeant}
-use Rattle.sq_agreement.proofs.Constraints.{IsCheckedAs}
+use Rattle.sq_places.proofs.Constraints.{IsCheckedAs}
+use Rattle.sq_places.proofs.InDatabase.{IsFound, clause_written, delete_at_comes_to_same, delete_comes_to_same, insert_comes_to_same, update_at_comes_to_same, update_comes_to_same}
+use Rattle.sq_places.proofs.Inserts.{IsSourceRight}
+use Rattle.sq_places.proofs.Parameters.{AreNamed}
+use Rattle.sq_places.proofs.Stars.{ClauseStars}
+use Rattle.sq_places.proofs.Statements.{seen_in}
+use Rattle.sq_places.proofs.ViewTargets.{AreUnder}
 use Rattle.sq_agreement.proofs.Declared.{declares_are_under}
 use Rattle.sq_agreement.proofs.DeclaredStatements.{declared_database, is_checked, is_found, m, target_found}
 use Rattle.sq_agreement.proofs.DeclaredView.{HasKindsOf}
-use Rattle.sq_agreement.proofs.InDatabase.{IsFound, clause_written, delete_at_comes_to_same, delete_comes_to_same, insert_comes_to_same, update_at_comes_to_same, update_comes_to_same}
-use Rattle.sq_agreement.proofs.Inserts.{IsSourceRight}
-use Rattle.sq_agreement.proofs.Parameters.{AreNamed}
 use Rattle.sq_agreement.proofs.ReferencesMet.{references_alike}
-use Rattle.sq_agreement.proofs.Stars.{ClauseStars}
-use Rattle.sq_agreement.proofs.Statements.{seen_in}
-use Rattle.sq_agreement.proofs.ViewTargets.{AreUnder}
 
 module _ (texts : List SchemaText) (known : KnownTables) (bases : List BoundTable) (views : List BoundSpecification)
     (d : Declares texts known bases views) (accepted : first_schema_refusal texts ≡ None)
@@ -64,7 +65,7 @@ module _ (texts : List SchemaText) (known : KnownTables) (bases : List BoundTabl
 
   -- the table that is named, and how it is checked
   module _ (name : TableName) (leaf : Leaf) (target : Target) (means : target_of (tables_in reads) name ≡ Ok target)
-      (is_under : option_and_then (λ k. k.under) (table_known known name) ≡ Some (under_of leaf))
+      (is_under : option_and_then (λ k. k.under) (meant_by known name) ≡ Some (under_of leaf))
       (is_base : IsBase bases leaf.table) where
     found : IsFound reads bases name leaf.table
     found = is_found texts known bases views d accepted kinds row_numbers content inputs caller shown meant count hold name leaf target means is_under is_base
@@ -83,7 +84,7 @@ module _ (texts : List SchemaText) (known : KnownTables) (bases : List BoundTabl
   module _ (parameters : List ParameterDesc) (names : AreNamed parameters inputs) where
     -- ---- INSERT (13.8)
 
-    pub insert_agrees : (i : Insert) (x : BoundInsert) → IsInsertOf (outside known parameters) caller i x → IsBase bases x.leaf.table
+    pub insert_agrees : (i : Insert) (x : BoundInsert) → IsInsertOf known parameters caller i x → IsBase bases x.leaf.table
         → AllByRecursion (IsColumnOf x.leaf.table) x.columns
         → (target : Target) → target_of (tables_in reads) (table_of caller i.table) ≡ Ok target → IsSourceRight caller i.source
         → by_name.insert_outcome reads i ≡ performed.insert_outcome shown (seen_in reads views) bases row_numbers x
@@ -96,7 +97,7 @@ module _ (texts : List SchemaText) (known : KnownTables) (bases : List BoundTabl
     -- ---- DELETE (13.6 and 13.7)
 
     pub delete_agrees : (IsNumberOf : Name → ℕ → Type 0) (x : Delete) (t : BoundTarget) (on : Option ℕ)
-        → IsDeleteOf IsNumberOf (outside known parameters) caller x (change.Searched t) → IsBase bases t.leaf.table
+        → IsDeleteOf IsNumberOf known parameters caller x (change.Searched t) → IsBase bases t.leaf.table
         → (target : Target) → target_of (tables_in reads) (table_of caller x.table) ≡ Ok target
         → ClauseStars (clause_written reads known (kinds_at bases views) views shown
         (declared_database texts known bases views d accepted kinds row_numbers content inputs caller shown meant count hold) bases are_under parameters names x.target)
@@ -111,7 +112,7 @@ module _ (texts : List SchemaText) (known : KnownTables) (bases : List BoundTabl
 
     -- of the row that a cursor is on
     pub delete_at_agrees : (IsNumberOf : Name → ℕ → Type 0) (x : Delete) (p : PositionedTarget)
-        → IsDeleteOf IsNumberOf (outside known parameters) caller x (change.Positioned p) → IsBase bases p.leaf.table
+        → IsDeleteOf IsNumberOf known parameters caller x (change.Positioned p) → IsBase bases p.leaf.table
         → (target : Target) → target_of (tables_in reads) (table_of caller x.table) ≡ Ok target
         → (number : ℕ) (r : Numbered) → row_at (table_at content target.place) number ≡ Some r
         → by_name.delete_outcome reads x (Which.numbered number)
@@ -126,12 +127,12 @@ module _ (texts : List SchemaText) (known : KnownTables) (bases : List BoundTabl
     -- ---- UPDATE (13.9 and 13.10)
 
     module _ (IsNumberOf : Name → ℕ → Type 0) (u : Update) (bound : BoundUpdate)
-        (is : IsUpdateOf IsNumberOf (outside known parameters) caller u bound) (target : Target)
+        (is : IsUpdateOf IsNumberOf known parameters caller u bound) (target : Target)
         (means : target_of (tables_in reads) (table_of caller u.table) ≡ Ok target)
         (rising : has_rising_rows (table_at content target.place) ≡ true) where
       under_is : (t : ChangeTarget) → bound.target ≡ t
-          → option_and_then (λ k. k.under) (table_known known (table_of caller u.table)) ≡ Some (under_of (below t))
-      under_is t e = subst (λ s. option_and_then (λ k. k.under) (table_known known (table_of caller u.table)) ≡ Some (under_of (below s))) e is.is_under
+          → option_and_then (λ k. k.under) (meant_by known (table_of caller u.table)) ≡ Some (under_of (below t))
+      under_is t e = subst (λ s. option_and_then (λ k. k.under) (meant_by known (table_of caller u.table)) ≡ Some (under_of (below s))) e is.is_under
 
       pub update_agrees : (t : BoundTarget) (on : Option ℕ) → bound.target ≡ change.Searched t → IsBase bases t.leaf.table
           → AllByRecursion (λ a. IsColumnOf t.leaf.table a.column) bound.assignments

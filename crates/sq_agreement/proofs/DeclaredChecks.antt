@@ -15,24 +15,23 @@ use Rattle.sq_tree.specs.declared.schema.TableElement.{TableElement}
 use Rattle.sq_tree.specs.declared.schema.TableElement.TheVariants as element
 use Rattle.sq_meaning.specs.Environment.{same_name}
 use Rattle.sq_meaning.specs.Spelled.{cond_of, listed}
-use Rattle.sq_laws.proofs.SiteLaws.{neither, none_passes}
 use Rattle.sq_rules.specs.Schema.{BaseTable, checks, column_definitions, condition_in, constraints_in, has_name_twice, key_columns, keys, of_column, table_columns}
 use Rattle.sq_rules.specs.Words.{has_twice}
 use Rattle.sq_model.specs.Constraints.{places_among}
 use Rattle.sq_bound.specs.declared.names.BaseTable.{BaseTable as BoundTable}
-use Rattle.sq_bind.specs.Written.{check_placed}
-use Rattle.sq_select.specs.Written.{CondIs}
+use Rattle.sq_promises.specs.Written.{CondIs, check_placed}
+use Rattle.sq_laws.proofs.SiteLaws.{neither, none_passes}
 use Rattle.sq_catalog.specs.Base.{IsBaseOf}
 use Rattle.sq_catalog.specs.Checks.{check_of_column, checks_in, checks_written}
 use Rattle.sq_catalog.specs.Columns.{AreBaseColumnsOf, IsBaseColumnOf, IsColumnOf}
 use Rattle.sq_catalog.specs.Keys.{KeysStandAt, StandAt, key_of_column, keys_in, keys_written, names_written}
 use Rattle.sq_catalog.specs.Written.{is_not_null_constraint}
+use Rattle.sq_places.proofs.Checks.{IsCondOfRow, IsRowCheckedAs}
+use Rattle.sq_places.proofs.NotNull.{AreFoundFrom, is_not_null, refuses_null}
+use Rattle.sq_places.proofs.Outcomes.{all_append, weaker_zip}
 use Rattle.sq_agreement.proofs.Unnamed.{WrittenKey}
-use Rattle.sq_agreement.proofs.Checks.{IsCondOfRow, IsRowCheckedAs}
 use Rattle.sq_agreement.proofs.DeclaredColumns.{columns_are_written, names_seen}
-use Rattle.sq_agreement.proofs.NotNull.{AreFoundFrom, is_not_null, refuses_null}
 use Rattle.sq_agreement.proofs.Numbers.{first_behind, name_turned}
-use Rattle.sq_agreement.proofs.Outcomes.{all_append, weaker_zip}
 
 -- ---- conditions
 
@@ -169,7 +168,7 @@ row_checked_as t b h once of_row = record {
       names_seen 0 (column_definitions t.definition) h.checks.columns
       (subst (λ ws. AllZip IsColumnOf (enumerate_from 0 ws) h.checks.columns) (columns_are_written t.definition) h.checks.columns_are);
   checks_are =
-      subst (λ ws. AllZip (λ written c. CondIs [] (check_placed t.name h.checks.columns written) c) ws b.checks)
+      subst (λ ws. AllZip (λ written c. CondIs (check_placed t.name h.checks.columns written) c) ws b.checks)
       (checks_are_written t.definition) h.checks.checks_are;
   of_row = of_row;
   found = columns_found t.definition once;

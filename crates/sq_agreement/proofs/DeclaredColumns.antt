@@ -28,12 +28,12 @@ use Rattle.sq_bound.specs.declared.names.BaseColumn.{BaseColumn}
 use Rattle.sq_bound.specs.declared.names.Column.{Column}
 use Rattle.sq_bound.specs.declared.names.ColumnDefault.{ColumnDefault}
 use Rattle.sq_bound.specs.declared.names.ColumnDefault.TheVariants as default
+use Rattle.sq_promises.specs.Names.{leaf_positions}
 use Rattle.sq_catalog.specs.Columns.{AreBaseColumnsOf, IsBaseColumnOf, IsColumnOf, IsDefaultOf, column_in, columns_written}
 use Rattle.sq_change.specs.Made.{default_stored}
-use Rattle.sq_agreement.proofs.Items.{names_of_columns}
-use Rattle.sq_agreement.proofs.Outcomes.{weaker_zip}
-use Rattle.sq_agreement.proofs.Statements.{IsColumnAs}
-use Rattle.sq_agreement.proofs.Targets.{leaf_positions}
+use Rattle.sq_places.proofs.Items.{names_of_columns}
+use Rattle.sq_places.proofs.Outcomes.{weaker_zip}
+use Rattle.sq_places.proofs.Statements.{IsColumnAs}
 
 -- ---- the definitions that are written
 

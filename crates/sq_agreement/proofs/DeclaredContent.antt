@@ -12,13 +12,13 @@ use Rattle.sq_meaning.specs.Environment.{Row}
 use Rattle.sq_meaning.specs.Tables.{rows_in}
 use Rattle.sq_meaning.specs.WellFormed.{AreRowsOf, IsRowOf}
 use Rattle.sq_meaning.proofs.AnswerLaws.{all_weaker}
-use Rattle.sq_laws.proofs.CallLaws.{NamesDiffer}
 use Rattle.sq_rules.specs.Catalog.{column_domain}
 use Rattle.sq_rules.specs.Schema.{BaseTable, Elements, base_tables, column_definitions}
 use Rattle.sq_model.specs.Constraints.{AreInDomains, ConstraintsHold, all_satisfied, row_satisfied, rows_of_base}
 use Rattle.sq_model.proofs.KindLaws.{of_its_kind}
 use Rattle.sq_bound.specs.WellFormed.{base_kinds}
 use Rattle.sq_bound.specs.declared.names.BaseTable.{BaseTable as BoundTable}
+use Rattle.sq_laws.proofs.CallLaws.{NamesDiffer}
 use Rattle.sq_catalog.specs.Columns.{AreBaseColumnsOf}
 use Rattle.sq_agreement.proofs.DeclaredColumns.{columns_are_written, kinds_held}
 use Rattle.sq_agreement.proofs.DeclaredTables.{IsBaseAs}

@@ -22,10 +22,10 @@ use Rattle.sq_catalog.specs.Columns.{HasColumnsOf}
 use Rattle.sq_catalog.specs.Declares.{Declares}
 use Rattle.sq_catalog.specs.Views.{HasQueryOf, IsSeenAs, WrittenView, declared_views, view_name}
 use Rattle.sq_catalog.specs.declared.catalog.FullName.{FullName}
+use Rattle.sq_places.proofs.Outcomes.{all_map}
 use Rattle.sq_agreement.proofs.Accepted.{IsAccepted, table_is_new, view_is_new}
 use Rattle.sq_agreement.proofs.Created.{definitions_created, tables_created, views_created}
 use Rattle.sq_agreement.proofs.Numbers.{BeginsWith, IsNoTable, first_behind, is_its_name, no_table, no_view, none_there, same_itself, stands_behind, zip_at}
-use Rattle.sq_agreement.proofs.Outcomes.{all_map}
 
 -- ---- lists
 

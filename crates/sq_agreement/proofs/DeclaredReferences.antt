@@ -21,11 +21,11 @@ use Rattle.sq_tree.specs.declared.schema.TableElement.TheVariants as element
 use Rattle.sq_store.specs.Keys.{Keys}
 use Rattle.sq_meaning.specs.Environment.{same_name}
 use Rattle.sq_meaning.specs.Spelled.{listed, listed_if_any}
-use Rattle.sq_laws.proofs.SiteLaws.{neither, none_passes}
 use Rattle.sq_rules.specs.Schema.{Reference, constraints_in, has_name_twice, of_column, primary_columns, primary_keys, reference_in, referenced_columns, table_columns, table_references}
 use Rattle.sq_rules.specs.Words.{has_twice}
 use Rattle.sq_bound.specs.Names.{is_name}
 use Rattle.sq_bound.specs.declared.names.Reference.{Reference as BoundReference}
+use Rattle.sq_laws.proofs.SiteLaws.{neither, none_passes}
 use Rattle.sq_catalog.specs.Keys.{KeysStandAt, StandAt, key_of_column, keys_in, keys_written, names_written, primary_among}
 use Rattle.sq_catalog.specs.References.{AreListed, IsToKey, ReferentialConstraint, are_listed, is_key_of, key_referenced, reference_on, references_in, references_written}
 use Rattle.sq_agreement.proofs.Unnamed.{WrittenKey}

@@ -15,8 +15,6 @@ use Rattle.sq_meaning.specs.Tables.{TableDescriptor, Tables, base_table, viewed_
 use Rattle.sq_meaning.specs.Target.{Target, base_target, places_of, seen_through, target_of, updatable_source, with_check_option}
 use Rattle.sq_meaning.specs.WellFormed.{AreRowsOf}
 use Rattle.sq_meaning.specs.declared.status.Status.TheVariants.{IntegrityConstraintViolation}
-use Rattle.sq_laws.proofs.CallLaws.{NamesDiffer}
-use Rattle.sq_laws.proofs.NameLaws.{accepted_names_differ}
 use Rattle.sq_rules.specs.Schema.{BaseTable, base_tables}
 use Rattle.sq_rules.specs.SchemaRefusal.{elements_of, first_schema_refusal}
 use Rattle.sq_model.specs.Change as by_name
@@ -29,22 +27,24 @@ use Rattle.sq_bound.specs.declared.condition.BoundSpecification.{BoundSpecificat
 use Rattle.sq_bound.specs.declared.condition.TablePlace.{TablePlace}
 use Rattle.sq_bound.specs.declared.names.BaseTable.{BaseTable as BoundTable}
 use Rattle.sq_bound.specs.declared.names.Leaf.{Leaf}
-use Rattle.sq_bind.specs.Written.{table_known}
+use Rattle.sq_promises.specs.Names.{meant_by}
+use Rattle.sq_laws.proofs.CallLaws.{NamesDiffer}
+use Rattle.sq_laws.proofs.NameLaws.{accepted_names_differ}
 use Rattle.sq_catalog.specs.Catalog.{kinds_at}
 use Rattle.sq_catalog.specs.Declares.{Declares}
 use Rattle.sq_change.specs.Constraints.{references_met}
 use Rattle.sq_query.specs.Table.{AreMeant}
-use Rattle.sq_agreement.proofs.Constraints.{IsCheckedAs}
-use Rattle.sq_agreement.proofs.Databases.{IsDatabase, database_fits}
+use Rattle.sq_places.proofs.Constraints.{IsCheckedAs}
+use Rattle.sq_places.proofs.Databases.{IsDatabase, database_fits}
+use Rattle.sq_places.proofs.InDatabase.{IsFound}
+use Rattle.sq_places.proofs.Statements.{call_seen, outer_places}
+use Rattle.sq_places.proofs.ViewTargets.{each_target}
 use Rattle.sq_agreement.proofs.Declared.{declares_are_under, declares_database}
 use Rattle.sq_agreement.proofs.DeclaredChecks.{keys_held, row_checked_as}
 use Rattle.sq_agreement.proofs.DeclaredContent.{rows_hold, rows_of_kinds}
 use Rattle.sq_agreement.proofs.DeclaredPlaces.{all_at}
 use Rattle.sq_agreement.proofs.DeclaredTables.{IsBaseAs, IsSoundTable, all_bases, sound_tables, table_as}
 use Rattle.sq_agreement.proofs.DeclaredView.{HasKindsOf}
-use Rattle.sq_agreement.proofs.InDatabase.{IsFound}
-use Rattle.sq_agreement.proofs.Statements.{call_seen, outer_places}
-use Rattle.sq_agreement.proofs.ViewTargets.{each_target}
 
 -- ---- lists
 
@@ -110,11 +110,11 @@ module _ (texts : List SchemaText) (known : KnownTables) (bases : List BoundTabl
   -- ---- the table that a statement names
 
   module _ (name : TableName) (leaf : Leaf) (target : Target) (means : target_of (tables_in m) name ≡ Ok target)
-      (is_under : option_and_then (λ k. k.under) (table_known known name) ≡ Some (under_of leaf))
+      (is_under : option_and_then (λ k. k.under) (meant_by known name) ≡ Some (under_of leaf))
       (is_base : IsBase bases leaf.table) where
     pub place_is : target.place ≡ leaf.table.place
     place_is =
-        let k = known_under (table_known known name) (under_of leaf) is_under in
+        let k = known_under (meant_by known name) (under_of leaf) is_under in
         (each_target (tables_in m) content caller known (kinds_at bases views) views shown bases meant
         (database_fits (tables_in m) content caller known (kinds_at bases views) views shown declared_database [])
         (outer_env m) (outer_places m) (call_seen m [] tt) (tables_in m) declared_database.kept declared_database.declared

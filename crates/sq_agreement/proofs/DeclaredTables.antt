@@ -10,25 +10,25 @@ use Rattle.sq_tree.specs.declared.schema.SchemaElement.TheVariants as element
 use Rattle.sq_tree.specs.declared.schema.SchemaText.{SchemaText}
 use Rattle.sq_tree.specs.declared.schema.TableDefinition.{TableDefinition}
 use Rattle.sq_meaning.specs.Spelled.{cond_of, listed_if_any, table_of}
-use Rattle.sq_laws.proofs.SiteLaws.{none_passes}
 use Rattle.sq_rules.specs.Schema.{BaseTable, Constraint, Elements, base_tables, checks, column_definitions, constraints, has_name_twice, primary_columns, primary_keys, reference_in, table_columns, table_references}
 use Rattle.sq_rules.specs.SchemaRefusal.{elements_of, first_schema_refusal, is_bad_key, is_bad_list}
 use Rattle.sq_bound.specs.Known.{KnownTables}
 use Rattle.sq_bound.specs.declared.condition.BoundSpecification.{BoundSpecification}
 use Rattle.sq_bound.specs.declared.names.BaseTable.{BaseTable as BoundTable}
+use Rattle.sq_laws.proofs.SiteLaws.{none_passes}
 use Rattle.sq_catalog.specs.Base.{AreBasesOf, IsBaseOf}
 use Rattle.sq_catalog.specs.Catalog.{declared_definitions, declared_tables, definition_in, named_by, table_in}
 use Rattle.sq_catalog.specs.Columns.{AreBaseColumnsOf}
 use Rattle.sq_catalog.specs.Declares.{Declares}
 use Rattle.sq_catalog.specs.declared.catalog.FullName.{FullName}
+use Rattle.sq_places.proofs.Checks.{IsCondOfRow}
+use Rattle.sq_places.proofs.ChecksRead.{checks_read_row}
+use Rattle.sq_places.proofs.Outcomes.{all_append}
+use Rattle.sq_places.proofs.Statements.{IsTableAs}
 use Rattle.sq_agreement.proofs.Accepted.{AreAccepted, IsAccepted, accepted_elements, both_false, checks_good, columns_apart, keys_good, table_of_user}
-use Rattle.sq_agreement.proofs.Checks.{IsCondOfRow}
-use Rattle.sq_agreement.proofs.ChecksRead.{checks_read_row}
 use Rattle.sq_agreement.proofs.Created.{base_in, bases_created, created, declared_definitions_are, declared_tables_are, definitions_created, tables_created}
 use Rattle.sq_agreement.proofs.Declared.{definitions_counted}
 use Rattle.sq_agreement.proofs.DeclaredColumns.{columns_are_written, columns_as}
-use Rattle.sq_agreement.proofs.Outcomes.{all_append}
-use Rattle.sq_agreement.proofs.Statements.{IsTableAs}
 
 -- ---- the base tables of the definitions
 

@@ -24,17 +24,18 @@ use Rattle.sq_bound.specs.declared.condition.BoundSpecification.{BoundSpecificat
 use Rattle.sq_bound.specs.declared.condition.TablePlace.{TablePlace}
 use Rattle.sq_bound.specs.declared.condition.TablePlace.TheVariants.{View}
 use Rattle.sq_bound.specs.declared.names.Column.{Column}
-use Rattle.sq_select.specs.Names.{names_placed}
-use Rattle.sq_select.specs.Placed.{select_placed}
+use Rattle.sq_binding.proofs.ColumnNames.{names_placed}
+use Rattle.sq_binding.specs.PlacedQuery.{select_placed}
+use Rattle.sq_promises.specs.Names.{tables_of}
 use Rattle.sq_catalog.specs.Catalog.{SeenView, view_meant}
 use Rattle.sq_catalog.specs.Views.{HasQueryOf, IsSeenAs, WrittenView, column_names as names_listed}
-use Rattle.sq_agreement.proofs.ColumnKinds.{AreTyped}
-use Rattle.sq_agreement.proofs.Databases.{IsDeclaredAs, among_same, in_database, known_among}
-use Rattle.sq_agreement.proofs.FromClauses.{MeansSame, SelectReads, names_become, select_becomes, select_reads}
-use Rattle.sq_agreement.proofs.Items.{IsFit, names_of_columns}
-use Rattle.sq_agreement.proofs.Outcomes.{known_of, ok_same}
-use Rattle.sq_agreement.proofs.Queries.{SameKinds, names_same, select_kinds_same}
-use Rattle.sq_agreement.proofs.Setting.{Setting, around}
+use Rattle.sq_places.proofs.ColumnKinds.{AreTyped}
+use Rattle.sq_places.proofs.Databases.{IsDeclaredAs, among_same, in_database, known_among}
+use Rattle.sq_places.proofs.FromClauses.{MeansSame, SelectReads, names_become, select_becomes, select_reads}
+use Rattle.sq_places.proofs.Items.{IsFit, names_of_columns}
+use Rattle.sq_places.proofs.Outcomes.{known_of, ok_same}
+use Rattle.sq_places.proofs.Queries.{SameKinds, names_same, select_kinds_same}
+use Rattle.sq_places.proofs.Setting.{Setting, around}
 
 -- The columns of a view are of the kinds of its query's columns, which are noted right.
 pub record HasKindsOf (columns : TableKinds) (v : SeenView) (q : BoundSpecification) : Type 0 where
@@ -87,11 +88,11 @@ module _ (content : Content) (caller : Name) (known : KnownTables) (columns : Ta
   names_are : view_names earlier w.user w.view ≡ map (λ c. Some c.name) seen.columns
   names_are = by_list w.view.columns is_seen.names
     where
-      by_list : (list : Option (CommaList Name)) → names_listed list (names_placed known text) ≡ Ok (map (λ c. Some c.name) seen.columns)
+      by_list : (list : Option (CommaList Name)) → names_listed list (names_placed (tables_of known) text) ≡ Ok (map (λ c. Some c.name) seen.columns)
           → names_written list (unwrap_or (result_ok (select_names earlier text)) []) ≡ map (λ c. Some c.name) seen.columns
       by_list None e =
           ap (λ (o : Outcome (List (Option Name))). unwrap_or (result_ok o) [])
-          (known_of (names_placed (known_among earlier known) text) (λ ns. select_names earlier text ≡ Ok ns) (map (λ c. Some c.name) seen.columns)
+          (known_of (names_placed (tables_of (known_among earlier known)) text) (λ ns. select_names earlier text ≡ Ok ns) (map (λ c. Some c.name) seen.columns)
           (names_same s fit text) (sym (names_become known (known_among earlier known) [] text reads) ∙ e))
       by_list (Some list) e = ok_same (names_written (Some list) []) (map (λ c. Some c.name) seen.columns) e
 

@@ -20,7 +20,7 @@ use Rattle.sq_bound.specs.declared.query.CursorBody.{CursorBody}
 use Rattle.sq_bound.specs.declared.query.CursorBody.TheVariants as body
 use Rattle.sq_bound.specs.declared.statement.BoundFetch.{BoundFetch}
 use Rattle.sq_bound.specs.declared.statement.BoundSelect.{BoundSelect}
-use Rattle.sq_bind.specs.Written.{HasRowsOf, IsCursorOf, IsFetchOf, IsRowOf, outside}
+use Rattle.sq_promises.specs.Written.{HasRowsOf, IsCursorOf, IsFetchOf, IsRowOf}
 use Rattle.sq_module.specs.declared.program.DeclaredCursor.{DeclaredCursor}
 use Rattle.sq_query.specs.Table.{AreMeant}
 use Rattle.sq_session.specs.Cursors.{is_over, is_over_numbers, is_over_table}
@@ -34,6 +34,8 @@ use Rattle.sq_session.specs.declared.cursor.CursorState.{CursorState}
 use Rattle.sq_session.specs.declared.cursor.CursorState.TheVariants as cursor
 use Rattle.sq_session.specs.declared.cursor.RowsCursor.{RowsCursor}
 use Rattle.sq_session.specs.declared.reply.Done.{Done}
+use Rattle.sq_places.proofs.Stars.{QueryStars, SelectStars}
+use Rattle.sq_places.proofs.TargetsSet.{AreApart}
 use Rattle.sq_agreement.proofs.BoundTarget.{target_bound}
 use Rattle.sq_agreement.proofs.CursorOpens.{IsUpdatableAs}
 use Rattle.sq_agreement.proofs.FetchSame.{IsFetchBy, IsRight, IsShownBy, fetch_same}
@@ -41,8 +43,6 @@ use Rattle.sq_agreement.proofs.InSession.{AreKept, AreOf, IsCalledAs, database, 
 use Rattle.sq_agreement.proofs.MovesAlike.{moves_alike, no_move}
 use Rattle.sq_agreement.proofs.SelectSame.{select_same}
 use Rattle.sq_agreement.proofs.SessionKeeps.{IsCursorHere, IsSameStep}
-use Rattle.sq_agreement.proofs.Stars.{QueryStars, SelectStars}
-use Rattle.sq_agreement.proofs.TargetsSet.{AreApart}
 
 -- what an updatable cursor goes over is its base table, listed or walked
 over_numbers : (quiet : Bool) (base table : ℕ) → is_over_numbers (if quiet then Over.walk base else Over.numbers base) table ≡ true → base ≡ table
@@ -72,7 +72,7 @@ module _ (texts : List SchemaText) (known : KnownTables) (schemas : Schemas) (of
     by = record { parameters = call.parameters; apart = apart; targets = is_fetch.2 }
 
     -- an updatable one shows columns of the rows of its base table
-    shown_by : (b : CursorBody) → here.declared_as.cursor.body ≡ b → HasRowsOf (outside known ps) (cursor_query (surroundings r) here.cursor) b
+    shown_by : (b : CursorBody) → here.declared_as.cursor.body ≡ b → HasRowsOf known ps (cursor_query (surroundings r) here.cursor) b
         → IsUpdatableAs b (updatable_cursor (surroundings r) here.cursor) → (table : ℕ)
         → is_over_numbers (over_of b) table ≡ true → IsShownBy r here.cursor f table
     shown_by (body.Rows b sorts) body_is rows may table over = cc
@@ -122,7 +122,7 @@ module _ (texts : List SchemaText) (known : KnownTables) (schemas : Schemas) (of
 
   -- ---- SELECT INTO (13.5)
 
-  pub select_keeps : (text : SelectStatement) (x : BoundSelect) → IsRowOf (outside known caller.parameters) r.in_module.authorization text x
+  pub select_keeps : (text : SelectStatement) (x : BoundSelect) → IsRowOf known caller.parameters r.in_module.authorization text x
       → SelectStars (select_of_statement r.in_module.authorization text) → AreApart caller.parameters → (d : Done) (after : State)
       → EndsRight d → (after ≡ s) × Selects schemas (selecting r.in_module.authorization caller.parameters x) values s.tables d
       → IsSameStep declared d after (select_into r text)

@@ -24,7 +24,7 @@ use Rattle.sq_model.specs.Cursor.{Fetched, bounded, fetched, row_at as row_of, t
 use Rattle.sq_model.specs.Machine as by_name
 use Rattle.sq_model.specs.Machine.{Running, cursor_now, fetch_cursor, fetch_reply, moved, shown_now, surroundings}
 use Rattle.sq_bound.specs.declared.names.ParameterDesc.{ParameterDesc}
-use Rattle.sq_bind.specs.Written.{AreOutputsOf}
+use Rattle.sq_promises.specs.Written.{AreOutputsOf}
 use Rattle.sq_module.specs.declared.program.DeclaredCursor.{DeclaredCursor}
 use Rattle.sq_session.specs.Fetch.{come_to_number, come_to_row, come_to_walk, over_numbers, over_rows, over_walk, place_reached, row_fetched, row_on, walked_to}
 use Rattle.sq_session.specs.Fetch as session
@@ -39,13 +39,13 @@ use Rattle.sq_session.specs.declared.cursor.CursorState.TheVariants as cursor
 use Rattle.sq_session.specs.declared.cursor.NumbersCursor.{NumbersCursor}
 use Rattle.sq_session.specs.declared.cursor.RowsCursor.{RowsCursor}
 use Rattle.sq_session.specs.declared.reply.Done.{Done}
-use Rattle.sq_agreement.proofs.Unnamed.{Assignments}
 use Rattle.sq_session.specs.declared.walk.WalkingCursor.{WalkingCursor}
+use Rattle.sq_places.proofs.TargetsSet.{AreApart, AreParameters}
+use Rattle.sq_agreement.proofs.Unnamed.{Assignments}
 use Rattle.sq_agreement.proofs.NumbersLeft.{SameNumbers, next_same}
 use Rattle.sq_agreement.proofs.RepliesAlike.{row_alike}
 use Rattle.sq_agreement.proofs.SameCursors.{IsOnly}
 use Rattle.sq_agreement.proofs.SameStates.{SameCursor, SameReply, SameStates, ended_same, moved_same, now_same}
-use Rattle.sq_agreement.proofs.TargetsSet.{AreApart, AreParameters}
 use Rattle.sq_agreement.proofs.WalkLeft.{SameWalk, reached, reached_there, walk_same}
 
 -- ---- how it ends

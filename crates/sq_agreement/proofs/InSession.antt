@@ -37,7 +37,8 @@ use Rattle.sq_bound.specs.declared.statement.BoundUpdate.{BoundUpdate}
 use Rattle.sq_bound.specs.declared.statement.ChangeTarget.{ChangeTarget}
 use Rattle.sq_bound.specs.declared.statement.ChangeTarget.TheVariants as change
 use Rattle.sq_bound.specs.declared.statement.PositionedTarget.{PositionedTarget}
-use Rattle.sq_bind.specs.Written.{IsDeleteOf, IsInsertOf, IsUpdateOf, outside, table_known}
+use Rattle.sq_promises.specs.Names.{declared as as_declared, meant_by}
+use Rattle.sq_promises.specs.Written.{IsDeleteOf, IsInsertOf, IsUpdateOf}
 use Rattle.sq_catalog.specs.Declares.{Declares}
 use Rattle.sq_change.specs.Made.{Seen, Shown}
 use Rattle.sq_change.specs.Performed as performed
@@ -47,19 +48,18 @@ use Rattle.sq_session.specs.Kind.{Caller, updating}
 use Rattle.sq_session.specs.Schemas.{Schemas, columns_of}
 use Rattle.sq_session.specs.State.{State}
 use Rattle.sq_session.specs.Step.{DeleteComesTo, HasTables, InsertComesTo, UpdateComesTo, on_row, seen_in}
-use Rattle.sq_agreement.proofs.ColumnKinds.{declared_of}
-use Rattle.sq_agreement.proofs.Databases.{IsDatabase}
+use Rattle.sq_places.proofs.Databases.{IsDatabase}
+use Rattle.sq_places.proofs.InDatabase.{clause_written}
+use Rattle.sq_places.proofs.Inserts.{IsSourceRight}
+use Rattle.sq_places.proofs.Parameters.{AreNamed}
+use Rattle.sq_places.proofs.Stars.{ClauseStars}
+use Rattle.sq_places.proofs.Statements.{seen_in as read_by, values_in}
+use Rattle.sq_places.proofs.TargetsSet.{AreParameters}
+use Rattle.sq_places.proofs.ViewTargets.{AreUnder}
 use Rattle.sq_agreement.proofs.DeclaredChanges.{are_under, delete_agrees, delete_at_agrees, insert_agrees, update_agrees, update_at_agrees}
 use Rattle.sq_agreement.proofs.DeclaredStatements.{declared_database, place_is}
 use Rattle.sq_agreement.proofs.DeclaredView.{HasKindsOf}
-use Rattle.sq_agreement.proofs.InDatabase.{clause_written}
-use Rattle.sq_agreement.proofs.Inserts.{IsSourceRight}
-use Rattle.sq_agreement.proofs.Parameters.{AreNamed}
 use Rattle.sq_agreement.proofs.SameStates.{SameStates}
-use Rattle.sq_agreement.proofs.Stars.{ClauseStars}
-use Rattle.sq_agreement.proofs.Statements.{seen_in as read_by, values_in}
-use Rattle.sq_agreement.proofs.TargetsSet.{AreParameters}
-use Rattle.sq_agreement.proofs.ViewTargets.{AreUnder}
 
 -- ---- what is asked for
 
@@ -88,7 +88,7 @@ pub record IsCalledAs (texts : List SchemaText) (declared : List DeclaredCursor)
   pub names : AreNamed caller.parameters (inputs_of r.parameters)
   pub given : values ≡ values_in (setting r)
   pub parameters : AreParameters caller.parameters r.parameters
-  pub declared_as : (surroundings r).parameters ≡ declared_of caller.parameters
+  pub declared_as : (surroundings r).parameters ≡ as_declared caller.parameters
 
 -- `*` stands in no grouped query of a search condition
 abbrev pub WhereStars : Name → Option Where → Type 0
@@ -175,7 +175,7 @@ module _ (texts : List SchemaText) (known : KnownTables) (schemas : Schemas) (of
   under = subst (λ (m : by_name.Setting). AreUnder known schemas.bases (tables_in m)) setting_is under_here
 
   pub base_place : (name : TableName) (leaf : Leaf) (target : Target) → IsNamed texts name target
-      → option_and_then (λ k. k.under) (table_known known name) ≡ Some (under_of leaf) → IsBase schemas.bases leaf.table
+      → option_and_then (λ k. k.under) (meant_by known name) ≡ Some (under_of leaf) → IsBase schemas.bases leaf.table
       → target.place ≡ leaf.table.place
   base_place =
       place_is texts known schemas.bases schemas.views of.declares of.accepted of.kinds r.program.row_numbers r.state.tables
@@ -183,7 +183,7 @@ module _ (texts : List SchemaText) (known : KnownTables) (schemas : Schemas) (of
 
   -- ---- INSERT (13.8)
 
-  pub insert_alike : (i : Insert) (x : BoundInsert) → IsInsertOf (outside known caller.parameters) user i x
+  pub insert_alike : (i : Insert) (x : BoundInsert) → IsInsertOf known caller.parameters user i x
       → IsBase schemas.bases x.leaf.table → AllByRecursion (IsColumnOf x.leaf.table) x.columns
       → (target : Target) → IsNamed texts (table_of user i.table) target → IsSourceRight user i.source
       → (done : Outcome Content) → InsertComesTo schemas caller values x s done → done ≡ by_name.insert_outcome (setting r) i
@@ -224,7 +224,7 @@ module _ (texts : List SchemaText) (known : KnownTables) (schemas : Schemas) (of
         ≡ performed.delete_outcome shown_here seen_here schemas.bases t on
     delete_is t on = sym (λ k. performed.delete_outcome shown_here (seen_same k) schemas.bases t on)
 
-    pub delete_alike : (t : BoundTarget) → IsDeleteOf IsNumberOf (outside known caller.parameters) user x (change.Searched t)
+    pub delete_alike : (t : BoundTarget) → IsDeleteOf IsNumberOf known caller.parameters user x (change.Searched t)
         → IsBase schemas.bases t.leaf.table → WhereStars user x.target → (done : Outcome Content)
         → DeleteComesTo schemas caller values (change.Searched t) None s.tables done
         → done ≡ by_name.delete_outcome (setting r) x (searched_by user x.target)
@@ -235,7 +235,7 @@ module _ (texts : List SchemaText) (known : KnownTables) (schemas : Schemas) (of
         (inputs_of r.parameters) user shown_here meant_here count_here hold_here caller.parameters call.names IsNumberOf x t None is base target means (stars_here x.target stars))
         ∙ (λ k. by_name.delete_outcome (setting_is k) x (clause_is x.target k))
 
-    pub delete_at_alike : (p : PositionedTarget) → IsDeleteOf IsNumberOf (outside known caller.parameters) user x (change.Positioned p)
+    pub delete_at_alike : (p : PositionedTarget) → IsDeleteOf IsNumberOf known caller.parameters user x (change.Positioned p)
         → IsBase schemas.bases p.leaf.table → (n : ℕ) (row : Numbered) → row_at (table_at s.tables p.base) n ≡ Some row
         → on_row s p ≡ Some n → (done : Outcome Content)
         → DeleteComesTo schemas caller values (change.Positioned p) (on_row s p) s.tables done
@@ -252,7 +252,7 @@ module _ (texts : List SchemaText) (known : KnownTables) (schemas : Schemas) (of
   -- ---- UPDATE (13.9 and 13.10)
 
   module _ (IsNumberOf : Name → ℕ → Type 0) (u : Update) (bound : BoundUpdate)
-      (is : IsUpdateOf IsNumberOf (outside known caller.parameters) user u bound) (target : Target)
+      (is : IsUpdateOf IsNumberOf known caller.parameters user u bound) (target : Target)
       (means : IsNamed texts (table_of user u.table) target) where
     update_is : (on : Option ℕ)
         → performed.update_outcome shown_here seen_is schemas.bases bound on
@@ -285,5 +285,5 @@ module _ (texts : List SchemaText) (known : KnownTables) (schemas : Schemas) (of
         ∙ sym (update_at_agrees texts known schemas.bases schemas.views of.declares of.accepted of.kinds r.program.row_numbers r.state.tables
         (inputs_of r.parameters) user shown_here meant_here count_here hold_here caller.parameters call.names IsNumberOf u bound is target means rises p is_positioned base columns n row
         (row_here target p (base_place (table_of user u.table) p.leaf target means
-        (subst (λ t. option_and_then (λ k. k.under) (table_known known (table_of user u.table)) ≡ Some (under_of (below t))) is_positioned is.is_under) base) n row there))
+        (subst (λ t. option_and_then (λ k. k.under) (meant_by known (table_of user u.table)) ≡ Some (under_of (below t))) is_positioned is.is_under) base) n row there))
         ∙ ap (λ (m : by_name.Setting). by_name.update_outcome m u (Which.numbered n)) setting_is

@@ -2,14 +2,12 @@
 -- (own rule; ISO/IEC 9075:1992, 11.7, 13.7 and 13.10).
 use Rattle.std.proofs.Common.{◌≡◌, ℕ, zero, suc, ◌≤◌, Bool, true, false, ◌&&◌, ◌||◌, List, [], ◌∷◌, length, map, take, Option, Some, refl, sym, ap, subst, ◌∙◌, arith, eq-eqb, inl, inr}
 use Rattle.std.proofs.lemmas.Bool.{le-leb}
-use Rattle.std.proofs.lemmas.Cmp.{nat_list_eq_equiv}
 use Rattle.std.proofs.lemmas.List.{length-map}
-use Rattle.std.specs.Cmp.Lexicographic.{same_text}
 use Rattle.std.specs.Prelude.{filter_map, nat_eq, nat_le, option_to_list, position}
 use Rattle.std.specs.List.{AllByRecursion, AllZip, list_all, list_any}
 use Rattle.sq_lex.specs.declared.name.Name.{Name}
 use Rattle.sq_value.specs.declared.value.Value.{Value}
-use Rattle.sq_meaning.specs.Environment.{Input, column_named as column_of_name, same_name}
+use Rattle.sq_meaning.specs.Environment.{Input, column_named as column_of_name}
 use Rattle.sq_meaning.specs.Spelled.{Named}
 use Rattle.sq_meaning.specs.Syntax.{Cond}
 use Rattle.sq_meaning.proofs.AnswerLaws.{all_weaker}
@@ -21,14 +19,15 @@ use Rattle.sq_bound.specs.Keyed.{names_column, names_one_of, start_with_key}
 use Rattle.sq_bound.specs.Known.{KnownTables}
 use Rattle.sq_bound.specs.Names.{is_name}
 use Rattle.sq_bound.specs.declared.names.ParameterDesc.{ParameterDesc}
+use Rattle.sq_binding.specs.Scope.{FromItem}
 use Rattle.sq_catalog.specs.Keys.{StandAt}
 use Rattle.sq_expression.specs.Frame.{inputs_of}
-use Rattle.sq_scope.specs.declared.scope.FromItem.{FromItem}
-use Rattle.sq_agreement.proofs.Items.{IsInOrder}
+use Rattle.sq_places.proofs.Given.{same_turned}
+use Rattle.sq_places.proofs.Items.{IsInOrder}
+use Rattle.sq_places.proofs.KeyedTests.{IsKnownTest, IsPlacedTest, item_names, test_known, test_names}
+use Rattle.sq_places.proofs.Outcomes.{same_length}
+use Rattle.sq_places.proofs.Parameters.{SameInputs}
 use Rattle.sq_agreement.proofs.KeyNamed.{Has, IsOneOf, all_named, found_short, has_found}
-use Rattle.sq_agreement.proofs.KeyedTests.{IsKnownTest, IsPlacedTest, item_names, test_known, test_names}
-use Rattle.sq_agreement.proofs.Outcomes.{same_length}
-use Rattle.sq_agreement.proofs.Parameters.{SameInputs}
 
 -- ---- lists
 
@@ -53,18 +52,6 @@ pub some_is : {A : Type 0} (x y : A) (o : Option A) → o ≡ Some x → o ≡ S
 some_is x y o e f = cc
 
 -- ---- names in either order
-
-same_turned : (a b : Name) → same_name a b ≡ same_name b a
-same_turned a b = by (same_name a b) (same_name b a) refl refl
-  where
-    equal : (x y : Name) → same_name x y ≡ true → same_name y x ≡ true
-    equal x y e = ap (same_name y) (same_text x y (sym e)) ∙ nat_list_eq_equiv.refl y
-
-    by : (p q : Bool) → same_name a b ≡ p → same_name b a ≡ q → p ≡ q
-    by true true e f = refl
-    by false false e f = refl
-    by true false e f = sym (equal a b e) ∙ f
-    by false true e f = sym e ∙ equal b a f
 
 -- a column of a name is looked for in one order or the other
 position_turned : (n : Name) (names : List Name) → position (is_name n) names ≡ column_of_name n names

@@ -32,7 +32,8 @@ use Rattle.sq_bound.specs.declared.statement.BoundUpdate.{BoundUpdate}
 use Rattle.sq_bound.specs.declared.statement.ChangeTarget.{ChangeTarget}
 use Rattle.sq_bound.specs.declared.statement.ChangeTarget.TheVariants as change
 use Rattle.sq_bound.specs.declared.statement.PositionedTarget.{PositionedTarget}
-use Rattle.sq_bind.specs.Written.{IsStatementOf, IsTargetOf, filter_placed, outside, table_known}
+use Rattle.sq_promises.specs.Names.{meant_by}
+use Rattle.sq_promises.specs.Written.{IsStatementOf, IsTargetOf, filter_placed}
 use Rattle.sq_catalog.specs.Declares.{Declares}
 use Rattle.sq_module.specs.declared.program.DeclaredCursor.{DeclaredCursor}
 use Rattle.sq_expression.specs.Frame.{inputs_of}
@@ -42,10 +43,10 @@ use Rattle.sq_session.specs.Metered.{CallReads}
 use Rattle.sq_session.specs.Parameter.{started_values}
 use Rattle.sq_session.specs.Schemas.{Schemas, columns_of}
 use Rattle.sq_session.specs.State.{State}
-use Rattle.sq_agreement.proofs.Bound.{outside_seen}
+use Rattle.sq_places.proofs.Bound.{outside_seen}
+use Rattle.sq_places.proofs.Parameters.{SameInputs}
 use Rattle.sq_agreement.proofs.InSession.{IsCalledAs}
 use Rattle.sq_agreement.proofs.KeyedTargets.{IsShortestNoted, keyed_where}
-use Rattle.sq_agreement.proofs.Parameters.{SameInputs}
 
 -- where the machine makes the same call, those of its inputs
 pub call_inputs : (texts : List SchemaText) (declared : List DeclaredCursor) (caller : Caller) (values : List Value) (s : State)
@@ -84,11 +85,11 @@ module _ (texts : List SchemaText) (known : KnownTables) (schemas : Schemas) (de
   not_positioned filter name (Some (rows_where.CurrentOf cursor)) p is keyed = cc
 
   change_keyed : (name : TableName) (w : Option Where) (g : ChangeTarget) → IsBoundChange g
-      → option_and_then (λ k. k.under) (table_known known name) ≡ Some (under_of (under g))
-      → IsTargetOf IsNumberOf (filter_placed (outside known ps) user name) w g
+      → option_and_then (λ k. k.under) (meant_by known name) ≡ Some (under_of (under g))
+      → IsTargetOf IsNumberOf (filter_placed known ps user name) w g
       → is_keyed_where (elements_of texts) user inputs name w ≡ true → IsKeyedChange g (started_values ps handed) user
   change_keyed name w (change.Positioned p) so is_under is keyed =
-      absurd (not_positioned (filter_placed (outside known ps) user name) name w p is keyed)
+      absurd (not_positioned (filter_placed known ps user name) name w p is keyed)
   change_keyed name w (change.Searched x) so is_under is keyed =
       keyed_where texts known schemas.bases schemas.views declares accepted ps inputs (started_values ps handed) user same_inputs
       (columns_of schemas) kinds given x so.well so.shortest so.is_base name is_under IsNumberOf w is keyed

@@ -12,7 +12,6 @@ use Rattle.sq_tree.specs.declared.schema.SchemaText.{SchemaText}
 use Rattle.sq_tree.specs.declared.schema.TableDefinition.{TableDefinition}
 use Rattle.sq_meaning.specs.Environment.{TableName, same_table}
 use Rattle.sq_meaning.specs.Spelled.{table_of}
-use Rattle.sq_laws.proofs.SiteLaws.{neither, none_passes}
 use Rattle.sq_rules.specs.Catalog.{base_count}
 use Rattle.sq_rules.specs.Schema.{Constraint, Elements, column_definitions, constraints, has_name_twice, key_columns, keys, table_if_named, table_named}
 use Rattle.sq_rules.specs.SchemaRefusal.{elements_of, first_schema_refusal, is_bad_key}
@@ -22,21 +21,23 @@ use Rattle.sq_bound.specs.declared.condition.BoundSpecification.{BoundSpecificat
 use Rattle.sq_bound.specs.declared.names.BaseTable.{BaseTable as BoundTable}
 use Rattle.sq_bound.specs.declared.names.Column.{Column}
 use Rattle.sq_bound.specs.declared.names.Leaf.{Leaf}
-use Rattle.sq_bind.specs.Written.{item_at_leaf, table_known}
+use Rattle.sq_binding.specs.From.{column_over}
+use Rattle.sq_binding.specs.Scope.{ItemColumn}
+use Rattle.sq_promises.specs.Names.{descriptor_of, meant_by}
+use Rattle.sq_promises.specs.Written.{item_at_leaf}
+use Rattle.sq_laws.proofs.SiteLaws.{neither, none_passes}
 use Rattle.sq_catalog.specs.Catalog.{base_meant, itself}
 use Rattle.sq_catalog.specs.Columns.{IsColumnOf}
 use Rattle.sq_catalog.specs.Declares.{Declares}
 use Rattle.sq_catalog.specs.Keys.{KeysStandAt, StandAt, keys_written, names_written}
-use Rattle.sq_scope.specs.Scope.{column_over}
-use Rattle.sq_scope.specs.declared.column.ItemColumn.{ItemColumn}
+use Rattle.sq_places.proofs.Databases.{table_is}
+use Rattle.sq_places.proofs.Items.{IsInOrder, columns_at_leaf, names_at_leaf}
 use Rattle.sq_agreement.proofs.Accepted.{AreAccepted, IsAccepted, accepted_elements, keys_good}
-use Rattle.sq_agreement.proofs.Databases.{table_is}
 use Rattle.sq_agreement.proofs.Declared.{Within, all_within, base_there, within_before}
 use Rattle.sq_agreement.proofs.DeclaredChecks.{keys_are_written, names_are_written}
 use Rattle.sq_agreement.proofs.DeclaredColumns.{columns_are_written, names_seen}
 use Rattle.sq_agreement.proofs.DeclaredPlaces.{HasBase}
 use Rattle.sq_agreement.proofs.DeclaredTables.{all_chosen}
-use Rattle.sq_agreement.proofs.Items.{IsInOrder, names_over}
 use Rattle.sq_agreement.proofs.Unnamed.{WrittenKey}
 
 -- no column is listed twice in a key
@@ -75,12 +76,12 @@ key_at_one test columns (k ∷ ks) (places ∷ held) stand once any =
 
 -- columns of a base table stand at their own positions
 at_own : (n k : ℕ) (ws : List ColumnDefinition) (cs : List Column) → AllZip IsColumnOf (enumerate_from n ws) cs → (c : ItemColumn)
-    → slice_get (map (column_over true) (enumerate_from n cs)) k ≡ Some c → c.position ≡ n + k
+    → slice_get (columns_at_leaf cs) k ≡ Some c → c.position ≡ n + k
 at_own n k [] [] h c e = cc
 at_own n k [] (x ∷ cs) h c e = absurd h
 at_own n k (w ∷ ws) [] h c e = absurd h
 at_own n zero (w ∷ ws) (x ∷ cs) h c e =
-    let there : column_over true (n, x) ≡ c = cc in
+    let there : column_over (x.leaf_column, descriptor_of x) ≡ c = cc in
     let added : n ≡ n + 0 = omega arith in
     sym (ap (λ (d : ItemColumn). d.position) there) ∙ h.0.place ∙ added
 at_own n (suc k) (w ∷ ws) (x ∷ cs) h c e =
@@ -137,7 +138,7 @@ module _ (texts : List SchemaText) (known : KnownTables) (bases : List BoundTabl
     abbrev pub meant : KnownTable
     meant = base_meant b.number b.base.columns
 
-    pub meant_is : table_known known name ≡ Some meant
+    pub meant_is : meant_by known name ≡ Some meant
     meant_is = ap (λ (m : TableName). known m.user m.name) (sym b.named) ∙ b.base.is_known
 
     columns_are : AllZip IsColumnOf (enumerate_from 0 (column_definitions t)) b.base.columns
@@ -149,9 +150,9 @@ module _ (texts : List SchemaText) (known : KnownTables) (bases : List BoundTabl
 
     -- the names of its columns
     pub names_are : names_written t ≡ map (λ (c : ItemColumn). c.name) (item_at_leaf name meant).columns
-    names_are = names_are_written t ∙ names_seen 0 (column_definitions t) b.base.columns columns_are ∙ sym (names_over true 0 b.base.columns)
+    names_are = names_are_written t ∙ names_seen 0 (column_definitions t) b.base.columns columns_are ∙ sym (names_at_leaf b.base.columns)
 
-    module _ (leaf : Leaf) (is_under : option_and_then (λ k. k.under) (table_known known name) ≡ Some (under_of leaf))
+    module _ (leaf : Leaf) (is_under : option_and_then (λ k. k.under) (meant_by known name) ≡ Some (under_of leaf))
         (is_base : IsBase bases leaf.table) where
       itself_is : itself b.number ≡ under_of leaf
       itself_is =

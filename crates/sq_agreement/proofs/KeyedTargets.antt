@@ -21,8 +21,6 @@ use Rattle.sq_meaning.specs.Status.{Outcome, and_then, well_formed}
 use Rattle.sq_meaning.specs.Syntax.{Clause, Conds, a_cond, compare, column, conds, conjunction, disjunction, no_cond, present}
 use Rattle.sq_meaning.specs.Target.{have_subquery}
 use Rattle.sq_meaning.specs.WellFormed.{HasValue, IsRowOf}
-use Rattle.sq_laws.proofs.CondLiterals.{cond_spells}
-use Rattle.sq_laws.proofs.ConditionSites.{ClauseSpellsNoNull, CondsSpellNoNull}
 use Rattle.sq_rules.specs.Keyed.{is_by_key, is_keyed, is_keyed_where, tests_of}
 use Rattle.sq_rules.specs.Schema.{keys, table_named}
 use Rattle.sq_rules.specs.SchemaRefusal.{elements_of, first_schema_refusal}
@@ -46,9 +44,13 @@ use Rattle.sq_bound.specs.declared.names.TableBody.TheVariants as table_body
 use Rattle.sq_bound.specs.declared.query.Target.{Target as BoundTarget}
 use Rattle.sq_bound.specs.declared.statement.ChangeTarget.TheVariants as change
 use Rattle.sq_bound.proofs.ConditionLaws.{cond_of-out, conj_of-out}
-use Rattle.sq_scope.specs.declared.scope.FromItem.{FromItem}
-use Rattle.sq_select.specs.Placed.{Around, clause_placed, cond_placed, conds_placed, inside}
-use Rattle.sq_bind.specs.Written.{IsTargetOf, filter_on, filter_placed, item_at_leaf, outside, table_known}
+use Rattle.sq_binding.specs.PlacedQuery.{clause_placed, cond_placed, conds_placed}
+use Rattle.sq_binding.specs.Scope.{FromItem}
+use Rattle.sq_binding.specs.Select.{Surroundings, of_lines}
+use Rattle.sq_promises.specs.Names.{meant_by, outside}
+use Rattle.sq_promises.specs.Written.{IsTargetOf, filter_on, filter_placed, item_at_leaf}
+use Rattle.sq_laws.proofs.CondLiterals.{cond_spells}
+use Rattle.sq_laws.proofs.ConditionSites.{ClauseSpellsNoNull, CondsSpellNoNull}
 use Rattle.sq_catalog.specs.Declares.{Declares}
 use Rattle.sq_expression.specs.Frame.{inputs_of}
 use Rattle.sq_query.specs.Key.{HaveValues}
@@ -56,12 +58,12 @@ use Rattle.sq_query.specs.Keyed.{AreKnownEqual, IsKeyed, IsKnownValue}
 use Rattle.sq_query.specs.Row as row
 use Rattle.sq_query.proofs.KeyValues.{all_contained, first_tests_valued, own_stands}
 use Rattle.sq_query.proofs.ShortestKnown.{keyed_by_any}
-use Rattle.sq_agreement.proofs.Items.{IsInOrder}
+use Rattle.sq_places.proofs.Items.{IsInOrder}
+use Rattle.sq_places.proofs.KeyedTests.{IsPlacedTest, item_names, ok_both, placed_tests, tests_joined, tests_placed, value_known}
+use Rattle.sq_places.proofs.Outcomes.{ok_same}
+use Rattle.sq_places.proofs.Parameters.{SameInputs}
 use Rattle.sq_agreement.proofs.KeyedPlaced.{IsOfKey, by_key_placed, some_is}
 use Rattle.sq_agreement.proofs.KeyedTables.{IsBaseNamed, IsKeyAt, base_is_named, key_bound, meant, meant_is, names_are, own_positions}
-use Rattle.sq_agreement.proofs.KeyedTests.{IsPlacedTest, item_names, ok_both, placed_tests, tests_joined, tests_placed, value_known}
-use Rattle.sq_agreement.proofs.Outcomes.{ok_same}
-use Rattle.sq_agreement.proofs.Parameters.{SameInputs}
 
 -- The shortest key by which the condition names a row is the one that is noted, which is what binding promises of a condition on a base table
 -- without a subquery.
@@ -102,8 +104,8 @@ module _ (known : KnownTables) (ps : List ParameterDesc) (item : FromItem) (in_o
   abbrev tests_in : Conds (Placed TablePlace) → List PlacedCond
   tests_in = placed_tests known ps item in_order inputs values user same_inputs
 
-  abbrev around : Around
-  around = inside (item ∷ []) (outside known ps)
+  abbrev around : Surroundings
+  around = of_lines (item ∷ []) (outside known ps)
 
   by_terms : (own : BoundCond) (ts : Conds (Placed TablePlace)) (terms : List BoundConj) → (out-BoundCond own).terms ≡ terms
       → ◌≡◌ {A = PlacedCond} (disjunction (a_cond (conjunction ts) no_cond)) (disjunction (conds (map (conj_of []) terms)))
@@ -182,20 +184,20 @@ module _ (texts : List SchemaText) (known : KnownTables) (bases : List BoundTabl
     (values : List Value) (user : Name) (same_inputs : SameInputs ps inputs (inputs_of values)) (columns : TableKinds) (kinds : List Kind)
     (given : IsRowOf kinds values) (x : BoundTarget) (well : IsTarget columns kinds x) (shortest : IsShortestNoted x)
     (is_base : IsBase bases x.leaf.table) (name : TableName)
-    (is_under : option_and_then (λ k. k.under) (table_known known name) ≡ Some (under_of x.leaf)) where
+    (is_under : option_and_then (λ k. k.under) (meant_by known name) ≡ Some (under_of x.leaf)) where
   module _ (t : TableDefinition) (b : IsBaseNamed texts known bases views d accepted name t) where
     abbrev own_item : FromItem
     own_item = item_at_leaf name (meant texts known bases views d accepted name t b)
 
     abbrev placed_by : Clause Named → Outcome PlacedClause
-    placed_by = clause_placed (inside (own_item ∷ []) (outside known ps))
+    placed_by = clause_placed (of_lines (own_item ∷ []) (outside known ps))
 
     in_order : IsInOrder own_item
     in_order = own_positions texts known bases views d accepted name t b
 
     by_condition : (cs : Conds Named) → CondsSpellNoNull cs
         → IsKeyAt (is_by_key inputs cs) (item_names known ps own_item in_order inputs values user same_inputs) x.leaf.table.keys
-        → (p : PlacedCond) → cond_placed (inside (own_item ∷ []) (outside known ps)) (disjunction (a_cond (conjunction cs) no_cond)) ≡ Ok p
+        → (p : PlacedCond) → cond_placed (of_lines (own_item ∷ []) (outside known ps)) (disjunction (a_cond (conjunction cs) no_cond)) ≡ Ok p
         → (o : Option BoundCond) → x.condition ≡ o → ◌≡◌ {A = Outcome PlacedClause} (Ok (present p)) (Ok (clause_of [] o))
         → IsKeyed x values user
     by_condition cs spells k p placed None is e = cc
@@ -209,7 +211,7 @@ module _ (texts : List SchemaText) (known : KnownTables) (bases : List BoundTabl
     by_clause (present (disjunction (a_cond (conjunction cs) no_cond))) spells keyed e =
         let any = (both_true (not (have_subquery cs)) (list_any (is_by_key inputs cs) (keys t)) keyed).1 in
         let key = key_bound texts known bases views d accepted name t b x.leaf is_under is_base (is_by_key inputs cs) any in
-        let made = ok_both (cond_placed (inside (own_item ∷ []) (outside known ps)) (disjunction (a_cond (conjunction cs) no_cond)))
+        let made = ok_both (cond_placed (of_lines (own_item ∷ []) (outside known ps)) (disjunction (a_cond (conjunction cs) no_cond)))
         (λ p. Ok (present p)) (clause_of [] x.condition) e in
         by_condition cs spells.0
         (subst (λ ns. IsKeyAt (is_by_key inputs cs) ns x.leaf.table.keys) (names_are texts known bases views d accepted name t b) key)
@@ -217,14 +219,14 @@ module _ (texts : List SchemaText) (known : KnownTables) (bases : List BoundTabl
     by_clause _ spells keyed e = cc
 
     -- the table that is changed, as an item
-    filter_here : (c : SpelledCond) → filter_placed (outside known ps) user name c ≡ placed_by (present (cond_of user c))
+    filter_here : (c : SpelledCond) → filter_placed known ps user name c ≡ placed_by (present (cond_of user c))
     filter_here c =
         ap (λ o. and_then (well_formed (option_map (item_at_leaf name) o)) (λ item. filter_on (outside known ps) user item c))
         (meant_is texts known bases views d accepted name t b)
 
   -- Where the definition of the text says that it names its row by a key, its bound target is keyed in this call.
   pub keyed_where : (IsNumberOf : Name → ℕ → Type 0) (w : Option Where)
-      → IsTargetOf IsNumberOf (filter_placed (outside known ps) user name) w (change.Searched x)
+      → IsTargetOf IsNumberOf (filter_placed known ps user name) w (change.Searched x)
       → is_keyed_where (elements_of texts) user inputs name w ≡ true → IsKeyed x values user
   keyed_where IsNumberOf None is keyed = cc
   keyed_where IsNumberOf (Some (rows_where.CurrentOf cursor)) is keyed = cc

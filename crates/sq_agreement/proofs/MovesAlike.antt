@@ -24,12 +24,13 @@ use Rattle.sq_bound.specs.declared.statement.Distance.{Distance}
 use Rattle.sq_bound.specs.declared.statement.Distance.TheVariants as distance
 use Rattle.sq_bound.specs.declared.statement.FetchOrientation.{FetchOrientation}
 use Rattle.sq_bound.specs.declared.statement.FetchOrientation.TheVariants as orientation
-use Rattle.sq_scope.specs.Expression as scope
-use Rattle.sq_bind.specs.Written.{IsDistanceOf, IsOrientationOf, IsParameter, orientation_of}
+use Rattle.sq_binding.specs.Placed.{position_named}
+use Rattle.sq_promises.specs.Names.{declared}
+use Rattle.sq_promises.specs.Written.{IsDistanceOf, IsOrientationOf, IsParameter, orientation_of}
 use Rattle.sq_session.specs.Fetch.{number_of, whole_number}
 use Rattle.sq_session.specs.Fetch as session
-use Rattle.sq_agreement.proofs.Outcomes.{known_of, ok_same}
-use Rattle.sq_agreement.proofs.Parameters.{AreNamed, SameNamed, get_map, named_same}
+use Rattle.sq_places.proofs.Outcomes.{known_of, ok_same}
+use Rattle.sq_places.proofs.Parameters.{AreNamed, SameNamed, get_map, named_same}
 
 -- ---- the value of a parameter
 
@@ -52,7 +53,7 @@ module _ (ps : List ParameterDesc) (qs : Parameters) (names : AreNamed ps (input
   parameter_value name at h =
       ap (λ vs. well_formed (slice_get vs at)) given
       ∙ ap well_formed (sym (get_map (λ i. i.value) (inputs_of qs) at))
-      ∙ sym (known_of (scope.parameter_named ps name) (SameNamed ps name) (at, h.0) (named_same ps name) h.1
+      ∙ sym (known_of (position_named (declared ps) name) (SameNamed ps name) (at, h.0) (named_same ps name) h.1
       (inputs_of qs) (inputs_of qs) (record { names = names; values = refl }))
       ∙ ap well_formed (value_named name qs)
 

@@ -18,9 +18,9 @@ use Rattle.sq_rules.specs.SchemaRefusal.{is_made}
 use Rattle.sq_catalog.specs.Catalog.{is_table, named_by}
 use Rattle.sq_catalog.specs.Views.{WrittenView, view_name}
 use Rattle.sq_catalog.specs.declared.catalog.FullName.{FullName}
+use Rattle.sq_places.proofs.Outcomes.{all_append}
 use Rattle.sq_agreement.proofs.Accepted.{AreAccepted, IsAccepted, both_false, table_is_new, view_is_new}
 use Rattle.sq_agreement.proofs.Created.{tables_created, views_created}
-use Rattle.sq_agreement.proofs.Outcomes.{all_append}
 
 -- ---- lists that begin alike
 

@@ -9,10 +9,9 @@ use Rattle.sq_meaning.specs.Environment.{Row, outermost}
 use Rattle.sq_meaning.specs.Placed.{by_place}
 use Rattle.sq_meaning.specs.QueryExpression.{query_rows}
 use Rattle.sq_meaning.specs.Rows.{by_columns, sorted}
-use Rattle.sq_meaning.specs.Spelled.{listed_if_any}
+use Rattle.sq_meaning.specs.Spelled.{listed_if_any, Named}
 use Rattle.sq_meaning.specs.Status.{Outcome, and_then}
 use Rattle.sq_meaning.specs.Syntax.{Select}
-use Rattle.sq_meaning.specs.Spelled.{Named}
 use Rattle.sq_meaning.specs.Target.{Target as Meant, cursor_target}
 use Rattle.sq_meaning.specs.WellFormed.{kinds_by_place}
 use Rattle.sq_rules.specs.WellFormed.{cursor_query, updatable_cursor}
@@ -29,7 +28,9 @@ use Rattle.sq_bound.specs.declared.query.BoundQuery.{BoundQuery}
 use Rattle.sq_bound.specs.declared.query.CursorBody.TheVariants as body
 use Rattle.sq_bound.specs.declared.query.SortColumn.{SortColumn}
 use Rattle.sq_bound.specs.declared.query.UpdatableQuery.{UpdatableQuery}
-use Rattle.sq_bind.specs.Written.{IsSortedBy, IsUpdatableOf, QueryIs, query_names_placed, query_placed}
+use Rattle.sq_binding.specs.PlacedUnion.{query_placed}
+use Rattle.sq_promises.specs.Names.{declared, tables_of}
+use Rattle.sq_promises.specs.Written.{IsSortedBy, IsUpdatableOf, QueryIs, query_names_placed}
 use Rattle.sq_expression.specs.Frame.{inputs_of}
 use Rattle.sq_module.specs.declared.program.DeclaredCursor.{DeclaredCursor}
 use Rattle.sq_query.specs.Table.{AreMeant, stored_numbered}
@@ -37,16 +38,15 @@ use Rattle.sq_query.specs.Target.{conditions_of, is_true_of, numbers_chosen}
 use Rattle.sq_session.specs.Open.{NumbersAreMeant, RowsAreMeant, numbers_opened, rows_opened}
 use Rattle.sq_session.specs.Schemas.{Schemas, columns_of}
 use Rattle.sq_session.specs.declared.cursor.CursorState.{CursorState}
+use Rattle.sq_places.proofs.Databases.{IsDatabase}
+use Rattle.sq_places.proofs.Parameters.{AreNamed}
+use Rattle.sq_places.proofs.Retrieved.{cursor_numbers_same, opened_rows_same}
+use Rattle.sq_places.proofs.Setting.{around}
+use Rattle.sq_places.proofs.Stars.{QueryStars, SelectStars}
+use Rattle.sq_places.proofs.Statements.{read_in, values_in}
+use Rattle.sq_places.proofs.ViewTargets.{AreUnder}
 use Rattle.sq_agreement.proofs.Below.{opened_below}
-use Rattle.sq_agreement.proofs.ColumnKinds.{declared_of}
-use Rattle.sq_agreement.proofs.Databases.{IsDatabase}
 use Rattle.sq_agreement.proofs.OpenSame.{OpensAlike, numbers_alike, rows_alike}
-use Rattle.sq_agreement.proofs.Parameters.{AreNamed}
-use Rattle.sq_agreement.proofs.Retrieved.{cursor_numbers_same, opened_rows_same}
-use Rattle.sq_agreement.proofs.Setting.{around}
-use Rattle.sq_agreement.proofs.Stars.{QueryStars, SelectStars}
-use Rattle.sq_agreement.proofs.Statements.{read_in, values_in}
-use Rattle.sq_agreement.proofs.ViewTargets.{AreUnder}
 
 module _ (r : Running) (known : KnownTables) (schemas : Schemas) (shown : TablePlace → Outcome (List Row))
     (database : IsDatabase (tables_in (setting r)) r.state.tables r.in_module.authorization known (columns_of schemas) schemas.views shown)
@@ -54,10 +54,10 @@ module _ (r : Running) (known : KnownTables) (schemas : Schemas) (shown : TableP
     (given : values ≡ values_in (setting r)) (tables : Content) (same : r.state.tables ≡ tables) (d : DeclaredCursor) (c : Cursor)
     (meant : AreMeant schemas.views tables r.in_module.authorization shown) where
   -- the rows of a query
-  pub query_opens : updatable_cursor (surroundings r) c ≡ None → (surroundings r).parameters ≡ declared_of parameters
+  pub query_opens : updatable_cursor (surroundings r) c ≡ None → (surroundings r).parameters ≡ declared parameters
       → QueryStars (cursor_query (surroundings r) c) → (b : BoundQuery) (sorts : List SortColumn)
       → QueryIs (query_placed (around (read_in (setting r) known shown parameters) []) (cursor_query (surroundings r) c)) b
-      → IsSortedBy (query_names_placed known (cursor_query (surroundings r) c)) (listed_if_any c.order_by) (body.Rows b sorts)
+      → IsSortedBy (query_names_placed (tables_of known) (cursor_query (surroundings r) c)) (listed_if_any c.order_by) (body.Rows b sorts)
       → (opened : Outcome CursorState)
       → RowsAreMeant schemas b sorts r.in_module.authorization parameters values tables opened
       → OpensAlike tables d opened (by_name.opened r c)
@@ -82,7 +82,7 @@ module _ (r : Running) (known : KnownTables) (schemas : Schemas) (shown : TableP
   -- ---- of an updatable cursor
 
   module _ (under : AreUnder known schemas.bases (tables_in (setting r))) (q : Select Named) (over : UpdatableQuery)
-      (text : IsUpdatableOf (around (read_in (setting r) known shown parameters) []) q over) (stars : SelectStars q) (target : Meant)
+      (text : IsUpdatableOf known parameters q over) (stars : SelectStars q) (target : Meant)
       (means : cursor_target (tables_in (setting r)) q ≡ Ok target) (updatable : updatable_cursor (surroundings r) c ≡ Some target) where
     -- the numbers of the rows that it means
     abbrev pub numbers_over : Outcome (List ℕ)

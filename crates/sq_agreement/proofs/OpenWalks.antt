@@ -17,10 +17,10 @@ use Rattle.sq_session.specs.Open.{walk_before}
 use Rattle.sq_session.specs.State.{is_there}
 use Rattle.sq_session.specs.Walk.{is_meant, rows_between}
 use Rattle.sq_session.specs.declared.cursor.CursorState.TheVariants as cursor
+use Rattle.sq_places.proofs.Outcomes.{all_map}
+use Rattle.sq_places.proofs.RowsAgain.{above, all_there, all_within}
 use Rattle.sq_agreement.proofs.Below.{rows_below}
 use Rattle.sq_agreement.proofs.OpenSame.{OpensAlike}
-use Rattle.sq_agreement.proofs.Outcomes.{all_map}
-use Rattle.sq_agreement.proofs.RowsAgain.{above, all_there, all_within}
 use Rattle.sq_agreement.proofs.WalkLeft.{all_from, all_kept}
 
 -- ---- all rows of a table are before the next number

@@ -17,7 +17,7 @@ use Rattle.sq_bound.specs.Known.{KnownTables}
 use Rattle.sq_bound.specs.declared.names.ParameterDesc.{ParameterDesc}
 use Rattle.sq_bound.specs.declared.statement.BoundFetch.{BoundFetch}
 use Rattle.sq_bound.specs.declared.statement.BoundStatement.TheVariants as statement
-use Rattle.sq_bind.specs.Written.{IsCursorOf}
+use Rattle.sq_promises.specs.Written.{IsCursorOf}
 use Rattle.sq_catalog.specs.Declares.{Declares}
 use Rattle.sq_module.specs.declared.program.DeclaredCursor.{DeclaredCursor}
 use Rattle.sq_session.specs.Cursors.{is_over}
@@ -30,10 +30,10 @@ use Rattle.sq_session.specs.State.{State, cursor_at}
 use Rattle.sq_session.specs.declared.cursor.CursorState.{CursorState}
 use Rattle.sq_session.specs.declared.cursor.CursorState.TheVariants as cursor
 use Rattle.sq_session.specs.declared.walk.WalkingCursor.{WalkingCursor}
+use Rattle.sq_places.proofs.ViewTargets.{AreUnder}
 use Rattle.sq_agreement.proofs.CursorOpens.{IsUpdatableAs}
 use Rattle.sq_agreement.proofs.Declared.{declares_are_under}
 use Rattle.sq_agreement.proofs.QuietTargets.{is_walk, walks_where_quiet}
-use Rattle.sq_agreement.proofs.ViewTargets.{AreUnder}
 
 -- what an OPEN that walks reads, and what it opens
 none_read : (o : Over) (count : ℕ) → is_walk o ≡ true → OpenReads o count → count ≡ 0

@@ -30,17 +30,19 @@ use Rattle.sq_bound.specs.declared.query.BoundCursor.{BoundCursor}
 use Rattle.sq_bound.specs.declared.query.CursorBody.{CursorBody}
 use Rattle.sq_bound.specs.declared.query.CursorBody.TheVariants as body
 use Rattle.sq_bound.specs.declared.query.UpdatableQuery.{UpdatableQuery}
-use Rattle.sq_select.specs.Placed.{clause_placed, inside}
-use Rattle.sq_bind.specs.Written.{HasRowsOf, IsCursorOf, IsUpdatableOf, leaf_item, outside}
+use Rattle.sq_binding.specs.PlacedQuery.{clause_placed}
+use Rattle.sq_binding.specs.Select.{of_lines}
+use Rattle.sq_promises.specs.Names.{outside}
+use Rattle.sq_promises.specs.Written.{HasRowsOf, IsCursorOf, IsUpdatableOf, leaf_item}
 use Rattle.sq_query.specs.Target.{and_own}
 use Rattle.sq_session.specs.Kind.{Over, over_of}
+use Rattle.sq_places.proofs.Databases.{table_is}
+use Rattle.sq_places.proofs.Levels.{item_found}
+use Rattle.sq_places.proofs.Outcomes.{known_of}
+use Rattle.sq_places.proofs.QuietSame.{IsClauseAs, clause_as}
+use Rattle.sq_places.proofs.ViewTargets.{AreUnder, IsMadeOver, IsUnderBody, made_over}
 use Rattle.sq_agreement.proofs.BoundTarget.{target_of_query}
 use Rattle.sq_agreement.proofs.CursorOpens.{IsUpdatableAs}
-use Rattle.sq_agreement.proofs.Databases.{around_view, table_is}
-use Rattle.sq_agreement.proofs.Levels.{item_found}
-use Rattle.sq_agreement.proofs.Outcomes.{known_of}
-use Rattle.sq_agreement.proofs.QuietSame.{IsClauseAs, clause_as}
-use Rattle.sq_agreement.proofs.ViewTargets.{AreUnder, IsMadeOver, IsUnderBody, made_over}
 
 -- ---- a target
 
@@ -70,7 +72,7 @@ option_as false t = refl
 
 -- an updatable query over a table whose conditions are so
 module _ (known : KnownTables) (ps : List ParameterDesc) (earlier : Tables) (q : Select Named) (over : UpdatableQuery)
-    (text : IsUpdatableOf (outside known ps) q over) (check_option : Bool) (target : Target)
+    (text : IsUpdatableOf known ps q over) (check_option : Bool) (target : Target)
     (made : IsMadeOver earlier text.reference text.list text.filter check_option target) where
   abbrev source : Source
   source = record { item = item_found text.reference made.descriptor; columns = made.columns; condition = text.filter }
@@ -83,9 +85,9 @@ module _ (known : KnownTables) (ps : List ParameterDesc) (earlier : Tables) (q :
 
   clause_is : is_quiet_clause text.filter ≡ is_quiet_clause (clause_of [] over.target.condition)
   clause_is =
-      known_of (clause_placed (inside (leaf_item text.reference text.table ∷ []) (outside known ps)) text.filter)
+      known_of (clause_placed (of_lines (leaf_item text.reference text.table ∷ []) (outside known ps)) text.filter)
       (IsClauseAs text.filter) (clause_of [] over.target.condition)
-      (clause_as (inside (leaf_item text.reference text.table ∷ []) (outside known ps)) text.filter) (text.condition [])
+      (clause_as (of_lines (leaf_item text.reference text.table ∷ []) (outside known ps)) text.filter) (text.condition [])
 
   query_quiet : IsQuietAs made.under (under_of over.target.leaf)
       → is_quiet_target target ≡ are_sure (and_own over.target.leaf.conditions over.target.condition)
@@ -127,7 +129,7 @@ module _ (known : KnownTables) (bases : List BaseTable) where
       (each text.reference.table made.under made.means text.table text.is_known (under_of h.over.target.leaf) text.is_over)
       ∙ sym (ap are_sure h.conditions)
     where
-      text : IsUpdatableOf (around_view known) q h.over
+      text : IsUpdatableOf known [] q h.over
       text = h.is_over
 
       made : IsMadeOver earlier text.reference text.list text.filter check_option target
@@ -165,7 +167,7 @@ module _ (known : KnownTables) (bases : List BaseTable) where
 
   -- The target of an updatable query is quiet exactly where that is noted.
   pub cursor_quiet : (ps : List ParameterDesc) (tables : Tables) → AreUnder known bases tables → (q : Select Named)
-      (over : UpdatableQuery) → IsUpdatableOf (outside known ps) q over → (target : Target) → cursor_target tables q ≡ Ok target
+      (over : UpdatableQuery) → IsUpdatableOf known ps q over → (target : Target) → cursor_target tables q ≡ Ok target
       → is_quiet_target target ≡ over.target.is_quiet
   cursor_quiet ps tables under q over text target e =
       query_quiet known ps tables q over text false target made
@@ -182,7 +184,7 @@ module _ (known : KnownTables) (bases : List BaseTable) where
     walk_if true place = refl
     walk_if false place = refl
 
-    by_query : (b : CursorBody) (q : Query Named) → cursor_query u c ≡ q → HasRowsOf (outside known ps) q b
+    by_query : (b : CursorBody) (q : Query Named) → cursor_query u c ≡ q → HasRowsOf known ps q b
         → IsUpdatableAs b (updatable_cursor u c) → is_walk (over_of b) ≡ is_quiet_cursor u c
     by_query (body.Rows query order) q is rows updatable = sym (ap (is_some_and is_quiet_target) updatable)
     by_query (body.Updatable over) (specification s) is rows updatable =

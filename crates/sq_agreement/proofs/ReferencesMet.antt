@@ -22,8 +22,6 @@ use Rattle.sq_meaning.specs.Status.{and_then}
 use Rattle.sq_meaning.specs.Tables.{rows_in}
 use Rattle.sq_meaning.specs.declared.status.Status.{Status}
 use Rattle.sq_meaning.specs.declared.status.Status.TheVariants.{IntegrityConstraintViolation}
-use Rattle.sq_laws.proofs.CallLaws.{NamesDiffer}
-use Rattle.sq_laws.proofs.NameLaws.{accepted_names_differ}
 use Rattle.sq_rules.specs.Catalog.{tables_of}
 use Rattle.sq_rules.specs.Schema.{BaseTable, Elements, base_tables, column_definitions, has_name_twice, referenced_columns, table_columns, table_if_named, table_named, table_references}
 use Rattle.sq_rules.specs.SchemaRefusal.{elements_of, first_schema_refusal, is_made}
@@ -34,6 +32,8 @@ use Rattle.sq_bound.specs.declared.condition.BoundSpecification.{BoundSpecificat
 use Rattle.sq_bound.specs.declared.names.BaseTable.{BaseTable as BoundTable}
 use Rattle.sq_bound.specs.declared.names.Column.{Column}
 use Rattle.sq_bound.specs.declared.names.Reference.{Reference as BoundReference}
+use Rattle.sq_laws.proofs.CallLaws.{NamesDiffer}
+use Rattle.sq_laws.proofs.NameLaws.{accepted_names_differ}
 use Rattle.sq_catalog.specs.Catalog.{HaveReferences, declared_definitions, declared_tables, is_table, number_meant}
 use Rattle.sq_catalog.specs.Columns.{HasColumnsOf, IsColumnOf}
 use Rattle.sq_catalog.specs.Declares.{Declares}
@@ -41,6 +41,9 @@ use Rattle.sq_catalog.specs.Keys.{names_written}
 use Rattle.sq_catalog.specs.References.{AreListed, HasReferencesOf, IsReferenceOf, ReferentialConstraint, references_written}
 use Rattle.sq_catalog.specs.declared.catalog.FullName.{FullName}
 use Rattle.sq_change.specs.Constraints.{is_met_in, reference_met_in, references_met}
+use Rattle.sq_places.proofs.Items.{names_of_columns}
+use Rattle.sq_places.proofs.Outcomes.{all_append, same_length}
+use Rattle.sq_places.proofs.Parameters.{get_map}
 use Rattle.sq_agreement.proofs.Accepted.{AreAccepted, IsAccepted, accepted_elements, both_false, table_is_new}
 use Rattle.sq_agreement.proofs.Created.{base_in, bases_created, created}
 use Rattle.sq_agreement.proofs.DeclaredChecks.{names_are_written, places_stand}
@@ -50,11 +53,8 @@ use Rattle.sq_agreement.proofs.DeclaredPlaces.{all_at}
 use Rattle.sq_agreement.proofs.DeclaredReferences.{IsReferenced, reference_of, referenced_is, references_are_written}
 use Rattle.sq_agreement.proofs.DeclaredStatements.{zip_back}
 use Rattle.sq_agreement.proofs.DeclaredTables.{IsBaseAs, IsSoundTable, all_bases, base_tables_named, named_table, named_tables, sound_tables}
-use Rattle.sq_agreement.proofs.Items.{names_of_columns}
 use Rattle.sq_agreement.proofs.Numbers.{apart_turned, same_itself, zip_both}
-use Rattle.sq_agreement.proofs.Outcomes.{all_append, same_length}
 use Rattle.sq_agreement.proofs.PairedColumns.{found_alike, nulls_alike}
-use Rattle.sq_agreement.proofs.Parameters.{get_map}
 
 -- ---- lists
 

@@ -22,15 +22,15 @@ use Rattle.sq_model.specs.Parameter as machine
 use Rattle.sq_model.specs.Parameter.{Parameters, Retrieval, assigned_to, domain_of_parameter, is_cut, replied_row, row_retrieved}
 use Rattle.sq_bound.specs.declared.names.ParameterDesc.{ParameterDesc}
 use Rattle.sq_bound.specs.declared.statement.Output.{Output as Target}
-use Rattle.sq_bind.specs.Written.{AreOutputsOf}
+use Rattle.sq_promises.specs.Written.{AreOutputsOf}
 use Rattle.sq_session.specs.Target as session
 use Rattle.sq_session.specs.Target.{domain_at, each_set, fits, is_refused, outputs_from, row_reply, set_behind}
 use Rattle.sq_session.specs.declared.reply.Done.{Done}
 use Rattle.sq_session.specs.declared.reply.Output.{Output}
+use Rattle.sq_places.proofs.Outcomes.{append_zip}
+use Rattle.sq_places.proofs.TargetsSet.{AreApart, AreParameters, IsIndicator, IsPlaced, IsTargetAt, domain_same, target_at}
 use Rattle.sq_agreement.proofs.Unnamed.{Assignment, Assignments}
-use Rattle.sq_agreement.proofs.Outcomes.{append_zip}
 use Rattle.sq_agreement.proofs.SameStates.{SameReply, assignment_of, ended_same}
-use Rattle.sq_agreement.proofs.TargetsSet.{AreApart, AreParameters, IsIndicator, IsPlaced, IsTargetAt, domain_same, target_at}
 
 -- the parameter at a place gets the value that the one of the name gets
 pub record SameAssignment (ps : List ParameterDesc) (a : Assignment) (b : machine.Assignment) : Type 0 where

@@ -12,19 +12,19 @@ use Rattle.sq_meaning.specs.Spelled.{Named, cond_of, select_of}
 use Rattle.sq_meaning.specs.Syntax.{Clause, Cond, Conds, Expr, Select, SelectList, a_cond, absent, added, all_columns, between, bracketed, column, compare, compare_quantified, compare_subquery, conjunction, count_rows, disjunction, exists, expressions, in_list, in_subquery, is_null, like, literal, negated, no_cond, parameter, present, scaled, select, set_function, signed, user}
 use Rattle.sq_rules.specs.Schema.{checks}
 use Rattle.sq_rules.specs.SchemaRefusal.{Part, elements_of, first_schema_refusal, schema_parts}
-use Rattle.sq_laws.proofs.CondLiterals.{cond_spells, select_spells}
-use Rattle.sq_laws.proofs.ConditionSites as laws
-use Rattle.sq_laws.proofs.ExpressionSites as exprs
+use Rattle.sq_declaring.specs.Declaring.{catalog_of}
+use Rattle.sq_declaring.proofs.Refused.{DeclaresAs, IsPlain, IsPlainPart, catalog_told, refusal_in, refused_exactly, users_behind}
 use Rattle.sq_binding.proofs.CondFaults.{ClauseSpellsNoNull, CondSpellsNoNull, CondsSpellNoNull, SelectSpellsNoNull}
 use Rattle.sq_binding.proofs.FoundKinds.{SpellsNoNull}
 use Rattle.sq_binding.proofs.PredicateFaults.{EscapeSpellsNoNull}
 use Rattle.sq_binding.proofs.SelectFaults.{ListSpellsNoNull}
-use Rattle.sq_declaring.specs.Declaring.{catalog_of}
-use Rattle.sq_declaring.proofs.Refused.{DeclaresAs, IsPlain, IsPlainPart, catalog_told, refusal_in, refused_exactly, users_behind}
+use Rattle.sq_laws.proofs.CondLiterals.{cond_spells, select_spells}
+use Rattle.sq_laws.proofs.ConditionSites as laws
+use Rattle.sq_laws.proofs.ExpressionSites as exprs
 
 -- ---- no literal is null
 
-expr_too : (e : Expr Named) → exprs.SpellsNoNull e → SpellsNoNull e
+pub expr_too : (e : Expr Named) → exprs.SpellsNoNull e → SpellsNoNull e
 expr_too (literal value.Null) h = h
 expr_too (literal (value.Num n)) h = h
 expr_too (literal (value.Chars t)) h = h
@@ -51,7 +51,7 @@ list_too all_columns h = tt
 list_too (expressions es) h = exprs_too es h
 
 mutual
-  cond_too : (c : Cond Named) → laws.CondSpellsNoNull c → CondSpellsNoNull c
+  pub cond_too : (c : Cond Named) → laws.CondSpellsNoNull c → CondSpellsNoNull c
   cond_too (compare op a b) h = (expr_too a h.0, expr_too b h.1)
   cond_too (compare_subquery op a q) h = (expr_too a h.0, select_too q h.1)
   cond_too (compare_quantified op k a q) h = (expr_too a h.0, select_too q h.1)
@@ -73,7 +73,7 @@ mutual
   clause_too absent h = tt
   clause_too (present c) h = cond_too c h
 
-  select_too : (q : Select Named) → laws.SelectSpellsNoNull q → SelectSpellsNoNull q
+  pub select_too : (q : Select Named) → laws.SelectSpellsNoNull q → SelectSpellsNoNull q
   select_too (select distinct list from filter by having) h = (list_too list h.0, clause_too filter h.1, clause_too having h.2)
 
 -- ---- nor in a schema text

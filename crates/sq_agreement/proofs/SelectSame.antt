@@ -1,5 +1,5 @@
 -- SELECT INTO sets the same targets by its names and by its places, and ends with the same status (ISO/IEC 9075:1992, 13.5).
-use Rattle.std.proofs.Common.{◌≡◌, List, [], refl, sym, ap, subst, ◌∙◌, Ok, Err}
+use Rattle.std.proofs.Common.{◌≡◌, List, refl, sym, ap, subst, ◌∙◌, Ok, Err}
 use Rattle.sq_tree.specs.declared.statement.Select.{Select as SelectStatement}
 use Rattle.sq_value.specs.declared.value.Value.{Value}
 use Rattle.sq_meaning.specs.Environment.{Row, outermost}
@@ -16,7 +16,7 @@ use Rattle.sq_bound.specs.Known.{KnownTables}
 use Rattle.sq_bound.specs.declared.condition.TablePlace.{TablePlace}
 use Rattle.sq_bound.specs.declared.names.ParameterDesc.{ParameterDesc}
 use Rattle.sq_bound.specs.declared.statement.BoundSelect.{BoundSelect}
-use Rattle.sq_bind.specs.Written.{IsRowOf}
+use Rattle.sq_promises.specs.Written.{IsRowOf}
 use Rattle.sq_expression.specs.Frame.{inputs_of}
 use Rattle.sq_module.specs.declared.program.DeclaredCursor.{DeclaredCursor}
 use Rattle.sq_query.specs.Table.{AreMeant}
@@ -26,16 +26,15 @@ use Rattle.sq_session.specs.State.{State}
 use Rattle.sq_session.specs.Step.{EndsRight, Selects, ended_by}
 use Rattle.sq_session.specs.Target.{row_reply, row_set}
 use Rattle.sq_session.specs.declared.reply.Done.{Done}
-use Rattle.sq_agreement.proofs.Databases.{IsDatabase}
+use Rattle.sq_places.proofs.Databases.{IsDatabase}
+use Rattle.sq_places.proofs.Parameters.{AreNamed}
+use Rattle.sq_places.proofs.Retrieved.{selected_row_same}
+use Rattle.sq_places.proofs.Stars.{SelectStars}
+use Rattle.sq_places.proofs.Statements.{values_in}
+use Rattle.sq_places.proofs.TargetsSet.{AreApart, AreParameters}
 use Rattle.sq_agreement.proofs.FetchSame.{reply_fails}
-use Rattle.sq_agreement.proofs.Parameters.{AreNamed}
 use Rattle.sq_agreement.proofs.RepliesAlike.{row_alike}
-use Rattle.sq_agreement.proofs.Retrieved.{selected_row_same}
 use Rattle.sq_agreement.proofs.SameStates.{SameReply, SameStates, ended_same}
-use Rattle.sq_agreement.proofs.Setting.{around}
-use Rattle.sq_agreement.proofs.Stars.{SelectStars}
-use Rattle.sq_agreement.proofs.Statements.{read_in, values_in}
-use Rattle.sq_agreement.proofs.TargetsSet.{AreApart, AreParameters}
 
 module _ (r : Running) (known : KnownTables) (schemas : Schemas) (shown : TablePlace → Outcome (List Row))
     (database : IsDatabase (tables_in (setting r)) r.state.tables r.in_module.authorization known (columns_of schemas) schemas.views shown)
@@ -44,7 +43,7 @@ module _ (r : Running) (known : KnownTables) (schemas : Schemas) (shown : TableP
     (declared : List DeclaredCursor) (s : State) (same : SameStates declared s r.state)
     (meant : AreMeant schemas.views s.tables r.in_module.authorization shown) (text : SelectStatement) (x : BoundSelect)
     (stars : SelectStars (select_of_statement r.in_module.authorization text))
-    (is : IsRowOf (around (read_in (setting r) known shown parameters) []) r.in_module.authorization text x) where
+    (is : IsRowOf known parameters r.in_module.authorization text x) where
   reply_alike : (o : Outcome Row) (d : Done) → EndsRight d → d ≡ ended_by (and_then o (row_reply parameters x.outputs))
       → SameReply d (select_reply r text o)
   reply_alike (Err st) d right e = ended_same d st e

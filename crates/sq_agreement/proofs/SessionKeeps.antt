@@ -30,7 +30,7 @@ use Rattle.sq_bound.specs.declared.statement.BoundInsert.{BoundInsert}
 use Rattle.sq_bound.specs.declared.statement.BoundUpdate.{BoundUpdate}
 use Rattle.sq_bound.specs.declared.statement.ChangeTarget.TheVariants as change
 use Rattle.sq_bound.specs.declared.statement.PositionedTarget.{PositionedTarget}
-use Rattle.sq_bind.specs.Written.{IsCursorOf, IsDeleteOf, IsInsertOf, IsTargetOf, IsUpdateOf, filter_placed, outside}
+use Rattle.sq_promises.specs.Written.{IsCursorOf, IsDeleteOf, IsInsertOf, IsTargetOf, IsUpdateOf, filter_placed}
 use Rattle.sq_module.specs.declared.program.DeclaredCursor.{DeclaredCursor}
 use Rattle.sq_query.specs.Table.{AreMeant}
 use Rattle.sq_session.specs.Cursors.{MayKeep}
@@ -40,16 +40,16 @@ use Rattle.sq_session.specs.Schemas.{Schemas, columns_of}
 use Rattle.sq_session.specs.State.{State}
 use Rattle.sq_session.specs.Step.{MayDelete, MayDeleteAt, MayInsert, MayOpen, MayUpdate, MayUpdateAt, is_on_row}
 use Rattle.sq_session.specs.declared.reply.Done.{Done}
+use Rattle.sq_places.proofs.Inserts.{IsSourceRight}
+use Rattle.sq_places.proofs.Stars.{QueryStars}
 use Rattle.sq_agreement.proofs.CursorOpens.{IsUpdatableAs, cursor_opens}
 use Rattle.sq_agreement.proofs.DeleteAtSame.{delete_at_same}
 use Rattle.sq_agreement.proofs.DeleteSame.{delete_same}
 use Rattle.sq_agreement.proofs.InSession.{AreKept, AreOf, IsCalledAs, IsNamed, WhereStars, database, delete_alike, delete_at_alike, insert_alike, searched_by, under, update_alike, update_at_alike}
-use Rattle.sq_agreement.proofs.Inserts.{IsSourceRight}
 use Rattle.sq_agreement.proofs.InsertSame.{insert_same}
 use Rattle.sq_agreement.proofs.OpenSame.{opened_same}
 use Rattle.sq_agreement.proofs.SameCursors.{IsOnly}
 use Rattle.sq_agreement.proofs.SameStates.{SameCursor, SameReply, SameStates}
-use Rattle.sq_agreement.proofs.Stars.{QueryStars}
 use Rattle.sq_agreement.proofs.UpdateAtSame.{update_at_same}
 use Rattle.sq_agreement.proofs.UpdateSame.{update_same}
 
@@ -97,7 +97,7 @@ module _ (texts : List SchemaText) (known : KnownTables) (schemas : Schemas) (of
 
   -- ---- INSERT (13.8)
 
-  pub insert_keeps : (i : Insert) (x : BoundInsert) → IsInsertOf (outside known caller.parameters) r.in_module.authorization i x
+  pub insert_keeps : (i : Insert) (x : BoundInsert) → IsInsertOf known caller.parameters r.in_module.authorization i x
       → IsBase schemas.bases x.leaf.table → AllByRecursion (IsColumnOf x.leaf.table) x.columns
       → (target : Target) → IsNamed texts (table_of r.in_module.authorization i.table) target
       → IsSourceRight r.in_module.authorization i.source → (d : Done) (after : State) → MayInsert schemas caller values x s d after
@@ -125,10 +125,10 @@ module _ (texts : List SchemaText) (known : KnownTables) (schemas : Schemas) (of
   module _ (IsNumberOf : Name → ℕ → Type 0) (x : Delete) (target : Target)
       (means : IsNamed texts (table_of r.in_module.authorization x.table) target) where
     abbrev delete_filter : Cond → Outcome PlacedClause
-    delete_filter = filter_placed (outside known caller.parameters) r.in_module.authorization (table_of r.in_module.authorization x.table)
+    delete_filter = filter_placed known caller.parameters r.in_module.authorization (table_of r.in_module.authorization x.table)
 
     pub delete_keeps : (t : BoundTarget)
-        → IsDeleteOf IsNumberOf (outside known caller.parameters) r.in_module.authorization x (change.Searched t)
+        → IsDeleteOf IsNumberOf known caller.parameters r.in_module.authorization x (change.Searched t)
         → IsBase schemas.bases t.leaf.table → WhereStars r.in_module.authorization x.target → (d : Done) (after : State)
         → MayDelete schemas caller values (change.Searched t) None s s d after
         → IsSameStep declared d after (change_by r (behind_delete r x.target) (delete_rows r x))
@@ -140,7 +140,7 @@ module _ (texts : List SchemaText) (known : KnownTables) (schemas : Schemas) (of
 
     -- of the row that a cursor is on
     pub delete_at_keeps : (p : PositionedTarget)
-        → IsDeleteOf IsNumberOf (outside known caller.parameters) r.in_module.authorization x (change.Positioned p)
+        → IsDeleteOf IsNumberOf known caller.parameters r.in_module.authorization x (change.Positioned p)
         → IsBase schemas.bases p.leaf.table → (name : Name) → x.target ≡ Some (rows_where.CurrentOf name)
         → (here : IsCursorHere declared s r name p.cursor) → IsUpdatableOver r here.cursor p.base → (d : Done) (after : State)
         → MayDeleteAt (is_on_row s p) schemas caller p values s d after
@@ -153,10 +153,10 @@ module _ (texts : List SchemaText) (known : KnownTables) (schemas : Schemas) (of
   -- ---- UPDATE (13.9 and 13.10)
 
   module _ (IsNumberOf : Name → ℕ → Type 0) (u : Update) (bound : BoundUpdate)
-      (is : IsUpdateOf IsNumberOf (outside known caller.parameters) r.in_module.authorization u bound) (target : Target)
+      (is : IsUpdateOf IsNumberOf known caller.parameters r.in_module.authorization u bound) (target : Target)
       (means : IsNamed texts (table_of r.in_module.authorization u.table) target) where
     abbrev update_filter : Cond → Outcome PlacedClause
-    update_filter = filter_placed (outside known caller.parameters) r.in_module.authorization (table_of r.in_module.authorization u.table)
+    update_filter = filter_placed known caller.parameters r.in_module.authorization (table_of r.in_module.authorization u.table)
 
     pub update_keeps : (t : BoundTarget) → bound.target ≡ change.Searched t → IsBase schemas.bases t.leaf.table
         → AllByRecursion (λ a. IsColumnOf t.leaf.table a.column) bound.assignments → WhereStars r.in_module.authorization u.target

@@ -30,10 +30,10 @@ use Rattle.sq_session.specs.Reads.{AreAlike, is_assigned, one_reads}
 use Rattle.sq_session.specs.Walk.{is_meant, numbers_meant, rows_between, rows_from}
 use Rattle.sq_session.specs.declared.walk.WalkingCursor.{WalkingCursor}
 use Rattle.sq_session.proofs.Unread.{unread}
-use Rattle.sq_agreement.proofs.Changes.{base_is_under}
+use Rattle.sq_places.proofs.Changes.{base_is_under}
+use Rattle.sq_places.proofs.Outcomes.{each_so, if_any, if_each, if_one, if_then, known_of}
+use Rattle.sq_places.proofs.RowsAgain.{all_there, all_within, row_among}
 use Rattle.sq_agreement.proofs.NoTables.{neither}
-use Rattle.sq_agreement.proofs.Outcomes.{each_so, if_any, if_each, if_one, if_then, known_of}
-use Rattle.sq_agreement.proofs.RowsAgain.{all_there, all_within, row_among}
 
 -- ---- a row with new values
 

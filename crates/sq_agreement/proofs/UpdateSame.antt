@@ -12,6 +12,7 @@ use Rattle.sq_meaning.specs.Status.{Outcome}
 use Rattle.sq_model.specs.Change.{Which, replaced, update_outcome, with_replaced}
 use Rattle.sq_model.specs.Cursor as machine
 use Rattle.sq_model.specs.Machine.{CursorEntry, Running, change_by, setting, update_rows}
+use Rattle.sq_bound.specs.declared.statement.BoundUpdate.{BoundUpdate}
 use Rattle.sq_module.specs.declared.program.DeclaredCursor.{DeclaredCursor}
 use Rattle.sq_change.specs.Statement.{base_of}
 use Rattle.sq_session.specs.Cursors.{go_on, goes_on, listed, numbers_left, reads}
@@ -24,7 +25,6 @@ use Rattle.sq_session.specs.declared.cursor.CursorState.TheVariants as cursor
 use Rattle.sq_session.specs.declared.cursor.NumbersCursor.{NumbersCursor}
 use Rattle.sq_session.specs.declared.reply.Done.{Done}
 use Rattle.sq_session.specs.declared.walk.WalkingCursor.{WalkingCursor}
-use Rattle.sq_bound.specs.declared.statement.BoundUpdate.{BoundUpdate}
 use Rattle.sq_agreement.proofs.Below.{meant_below}
 use Rattle.sq_agreement.proofs.Completed.{updated_is}
 use Rattle.sq_agreement.proofs.CursorsKept.{stricter}

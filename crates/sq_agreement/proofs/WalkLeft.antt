@@ -16,8 +16,8 @@ use Rattle.sq_session.specs.Fetch.{walked_to}
 use Rattle.sq_session.specs.State.{is_there}
 use Rattle.sq_session.specs.Walk.{first_meant, is_meant, numbers_meant, rows_between, rows_from}
 use Rattle.sq_session.specs.declared.walk.WalkingCursor.{WalkingCursor}
+use Rattle.sq_places.proofs.RowsAgain.{AreAbove, above, all_there, all_within, rest_rises}
 use Rattle.sq_agreement.proofs.NumbersLeft.{AreBelow, below_dropped, first, first_is, firsts_alike, next_cursor, next_row, others_are}
-use Rattle.sq_agreement.proofs.RowsAgain.{AreAbove, above, all_there, all_within, rest_rises}
 
 -- ---- rows that are kept
 

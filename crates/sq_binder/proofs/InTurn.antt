@@ -77,9 +77,9 @@ module _ {A B E X : Type 0} (image : X → B) (f : A → Binding B) (g : E → A
     pub next_stop : (r : Result (Found X) Stop) (stop : Stop) → i < length xs → e ≡ get_or xs i e → SoFar image f g before whole parts (drop i xs) → Finds image (f (g e)) parts.brought.next r → Continues parts r (Err stop) → Stops whole stop
     next_stop (Ok next) stop within at so_far found is = subst (λ (s : Stop). Stops whole s) (sym is) tt
     next_stop (Err NoMemory) stop within at so_far found is = subst (λ (s : Stop). Stops whole s) (sym is) tt
-    next_stop (Err (Fault fault)) stop within at so_far found is =
+    next_stop (Err (Fault broken)) stop within at so_far found is =
         subst (λ (s : Stop). Stops whole s) (sym is)
-        (step_stops step g whole xs i (found_of (map image) parts) e (Fault fault) within at so_far.is (stepped_to (Err fault) so_far found))
+        (step_stops step g whole xs i (found_of (map image) parts) e (Fault broken) within at so_far.is (stepped_to (Err broken.rule) so_far found))
 
   pub all_found : (b : Binding (List B)) (xs : List E) (i : ℕ) (parts : Found (List X)) → length xs ≤ i → SoFar image f g before (b (counts_of before)) parts (drop i xs) → Finds (map image) b before (Ok parts)
   all_found b xs i parts past so_far = (all_done step g (b (counts_of before)) xs i (found_of (map image) parts) past so_far.is, so_far.counted)

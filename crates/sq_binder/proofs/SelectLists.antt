@@ -130,9 +130,9 @@ module _ {A E : Type 0} (f : A → Binding ShownColumn) (g : E → A) (before : 
     pub next_shown_stop : (r : Result (Found (BoundExpr × BoundColumn)) Stop) (stop : Stop) → i < length xs → e ≡ get_or xs i e → SoFarShown f g before whole list (drop i xs) → Finds shown_of (f (g e)) list.brought.next r → Shows list r (Err stop) → Stops whole stop
     next_shown_stop (Ok next) stop within at so_far found is = subst (λ (s : Stop). Stops whole s) (sym is) tt
     next_shown_stop (Err NoMemory) stop within at so_far found is = subst (λ (s : Stop). Stops whole s) (sym is) tt
-    next_shown_stop (Err (Fault fault)) stop within at so_far found is =
+    next_shown_stop (Err (Fault broken)) stop within at so_far found is =
         subst (λ (s : Stop). Stops whole s) (sym is)
-        (step_stops step g whole xs i (found_of list_seen list) e (Fault fault) within at so_far.is (stepped_to (Err fault) so_far found))
+        (step_stops step g whole xs i (found_of list_seen list) e (Fault broken) within at so_far.is (stepped_to (Err broken.rule) so_far found))
 
   pub all_shown : (b : Binding Shown) (xs : List E) (i : ℕ) (list : Found SelectedList) → length xs ≤ i → SoFarShown f g before (b (counts_of before)) list (drop i xs) → Finds list_seen b before (Ok list)
   all_shown b xs i list past so_far = (all_done step g (b (counts_of before)) xs i (found_of list_seen list) past so_far.is, so_far.counted)

@@ -6,6 +6,7 @@ use Rattle.std.specs.Result.{IsErrAnd}
 use Rattle.sq_rules.specs.declared.fault.BindingFault.{BindingFault}
 use Rattle.sq_binding.specs.Outcome.{Outcome, and_then}
 use Rattle.sq_binder.specs.Binds.{Binds, Stops}
+use Rattle.sq_binder.specs.declared.stop.Fault.{Fault as Broken}
 use Rattle.sq_binder.specs.declared.stop.Stop.{Stop}
 use Rattle.sq_binder.specs.declared.stop.Stop.TheVariants.{Fault, NoMemory}
 
@@ -15,6 +16,10 @@ binds_as {A} image o p r is h = subst (λ (q : Outcome A). Binds image q r) (sym
 
 pub stops_as : {A : Type 0} (o p : Outcome A) (stop : Stop) → o ≡ p → Stops p stop → Stops o stop
 stops_as {A} o p stop is h = subst (λ (q : Outcome A). Stops q stop) (sym is) h
+
+-- it stops with a fault
+pub stops_by : {A : Type 0} (o : Outcome A) (stop : Stop) (f : Broken) → stop ≡ Fault f → o ≡ Err f.rule → Stops o stop
+stops_by o stop f is fails = subst (λ (s : Stop). Stops o s) (sym is) fails
 
 -- a part is bound, and then what follows it
 pub then_binds : {A B C : Type 0} (image : C → B) (o : Outcome A) (f : A → Outcome B) (x : A) (r : Result C Stop) → o ≡ Ok x → Binds image (f x) r → Binds image (and_then o f) r
@@ -51,8 +56,8 @@ module _ {A B X : Type 0} (step : A → B → Outcome A) (g : X → B) (whole : 
 
   pub step_stops : (x : X) (stop : Stop) → i < length xs → x ≡ get_or xs i x → whole ≡ stepped step (Ok a) (map g (drop i xs)) → Stops (step a (g x)) stop → Stops whole stop
   step_stops x NoMemory within is so_far s = tt
-  step_stops x (Fault fault) within is so_far s =
-      first_left x within is so_far ∙ ap (λ (o : Outcome A). stepped step o (map g (drop (i + 1) xs))) s ∙ stepped_fault step fault (map g (drop (i + 1) xs))
+  step_stops x (Fault f) within is so_far s =
+      first_left x within is so_far ∙ ap (λ (o : Outcome A). stepped step o (map g (drop (i + 1) xs))) s ∙ stepped_fault step f.rule (map g (drop (i + 1) xs))
 
   pub all_done : length xs ≤ i → whole ≡ stepped step (Ok a) (map g (drop i xs)) → whole ≡ Ok a
   all_done past so_far = so_far ∙ ap (λ (rest : List X). stepped step (Ok a) (map g rest)) (drop_all i xs past)

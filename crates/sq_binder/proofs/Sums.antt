@@ -71,12 +71,12 @@ module _ (at : Standing) (n : ℕ) where
   pub sum_stops : (e : SpelledExpr) (stop : Stop) → Stops (bound_at at (term_of (out-Expr e).first) n) stop → Stops (bound_at at (expr_of e) n) stop
   sum_stops e NoMemory s = tt
   sum_stops e (Fault f) s =
-      sum_is e ∙ ap (λ (o : Outcome binding.Bound). stepped (sum_step at n) o (map added_of (out-Expr e).rest)) s ∙ stepped_fault (sum_step at n) f (map added_of (out-Expr e).rest)
+      sum_is e ∙ ap (λ (o : Outcome binding.Bound). stepped (sum_step at n) o (map added_of (out-Expr e).rest)) s ∙ stepped_fault (sum_step at n) f.rule (map added_of (out-Expr e).rest)
 
   pub product_stops : (t : Term) (stop : Stop) → Stops (bound_at at (factor_of (out-Term t).first) n) stop → Stops (bound_at at (term_of t) n) stop
   product_stops t NoMemory s = tt
   product_stops t (Fault f) s =
-      product_is t ∙ ap (λ (o : Outcome binding.Bound). stepped (product_step at n) o (map scaled_of (out-Term t).rest)) s ∙ stepped_fault (product_step at n) f (map scaled_of (out-Term t).rest)
+      product_is t ∙ ap (λ (o : Outcome binding.Bound). stepped (product_step at n) o (map scaled_of (out-Term t).rest)) s ∙ stepped_fault (product_step at n) f.rule (map scaled_of (out-Term t).rest)
 
   -- ---- a further operand
 

@@ -206,7 +206,7 @@ fn column_allowed(alloc: Global, in_function: bool, found: &FoundColumn) -> Expr
     ensures { Binds bound_of (spec.column_allowed in_function (found_of found.now)) result }
 {
     if is_ungrouped(in_function, found) {
-        return Err(Stop::Fault(BindingFault::UngroupedColumn));
+        return Err(Stop::broken(BindingFault::UngroupedColumn));
     }
     column_bound(alloc, found)
 }

@@ -1,6 +1,6 @@
 //! FROM clauses (ISO/IEC 9075:1992, 5.4, 6.3 and 7.4).
 
-ghost use Rattle.std.specs.Prelude.{◌≡◌, IfOk, map};
+ghost use Rattle.std.specs.Prelude.{◌≡◌, IfOk, is_some, map};
 ghost use Rattle.std.specs.List.{list_any};
 ghost use Rattle.std.specs.Option.{option_map};
 ghost use Rattle.sq_meaning.specs.Spelled.{listed, reference_of};
@@ -47,13 +47,13 @@ pub fn from_clause<T: Tables>(
         (map (reference_of at.now.environment.now.user) (listed list.now))) before result }
 {
     if list.rest.len() >= MOST_ITEMS {
-        return Err(Stop::Fault(BindingFault::LimitExceeded));
+        return Err(Stop::broken(BindingFault::LimitExceeded));
     }
     let Found { part, brought } = items(list, at, before)?;
-    if has_item_twice(part.as_slice()) {
+    if let Some(name) = exposed_twice(part.as_slice()) {
         drop(part);
         drop(brought);
-        return Err(Stop::Fault(BindingFault::AmbiguousName));
+        return Err(Stop::about(BindingFault::AmbiguousName, name));
     }
     match tables(at.environment.alloc, part.as_slice()) {
         Ok(tables) => Ok(Found {
@@ -82,13 +82,19 @@ fn tables(alloc: Global, items: &[FromItem]) -> Result<Items<TablePlace>, AllocE
     Ok(tables)
 }
 
-/// Whether two of the items are exposed by one name.
-fn has_item_twice(items: &[FromItem]) -> bool
-    ensures { result ≡ has_item_twice (map exposed items.now) }
+/// The first name by which two of the items are exposed, if there is one.
+fn exposed_twice(items: &[FromItem]) -> Option<Name>
+    ensures { is_some result ≡ has_item_twice (map exposed items.now) }
 {
     match items {
-        [] => false,
-        [item, others @ ..] => is_exposed(item, others) || has_item_twice(others),
+        [] => None,
+        [item, others @ ..] => {
+            if is_exposed(item, others) {
+                Some(item.correlation.unwrap_or(item.name))
+            } else {
+                exposed_twice(others)
+            }
+        }
     }
 }
 
@@ -143,7 +149,7 @@ fn item<T: Tables>(
     let user = reference.table.schema.unwrap_or(at.environment.user);
     match at.tables.table(user, reference.table.table) {
         Some(table) => item_over(at.environment.alloc, user, reference, &table, before),
-        None => Err(Stop::Fault(BindingFault::UnknownTable)),
+        None => Err(Stop::about(BindingFault::UnknownTable, reference.table.table)),
     }
 }
 

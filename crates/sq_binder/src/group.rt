@@ -77,7 +77,7 @@ fn grouping_place(alloc: Global, found: &FoundColumn, before: Counts) -> Result<
     ensures { Finds place_meant (spec.grouping_place (found_of found.now)) before result }
 {
     if !found.is_grouped {
-        return Err(Stop::Fault(BindingFault::UngroupedColumn));
+        return Err(Stop::broken(BindingFault::UngroupedColumn));
     }
     let findings = column_findings(found)?;
     Ok(Found {

@@ -35,7 +35,7 @@ pub fn operation_kind(operator: Operator, left: Kind, right: Kind) -> Result<Kin
 {
     match (left, right) {
         (Kind::Num(left), Kind::Num(right)) => number_kind(operator, left, right),
-        _ => Err(Stop::Fault(BindingFault::KindMismatch)),
+        _ => Err(Stop::broken(BindingFault::KindMismatch)),
     }
 }
 
@@ -49,10 +49,10 @@ fn number_kind(operator: Operator, left: u8, right: u8) -> Result<Kind, Stop>
         Operator::Plus | Operator::Minus => Ok(Kind::Num(greater)),
         Operator::Times => match left.checked_add(right) {
             Some(scale) if scale <= 18 => Ok(Kind::Num(scale)),
-            _ => Err(Stop::Fault(BindingFault::LimitExceeded)),
+            _ => Err(Stop::broken(BindingFault::LimitExceeded)),
         },
         Operator::Over if greater as u16 + right as u16 > 18 + left as u16 => {
-            Err(Stop::Fault(BindingFault::LimitExceeded))
+            Err(Stop::broken(BindingFault::LimitExceeded))
         }
         Operator::Over => Ok(Kind::Num(greater)),
     }
@@ -67,7 +67,7 @@ pub fn set_function_kind(function: SetFunction, operand: Kind) -> Result<Kind, S
         SetFunction::Min | SetFunction::Max => Ok(operand),
         SetFunction::Sum | SetFunction::Avg => match operand {
             Kind::Num(_) => Ok(operand),
-            Kind::Chars(_) | Kind::Vary(_) => Err(Stop::Fault(BindingFault::KindMismatch)),
+            Kind::Chars(_) | Kind::Vary(_) => Err(Stop::broken(BindingFault::KindMismatch)),
         },
     }
 }

@@ -1,5 +1,5 @@
 //! Binding: what the names of a text mean, and what its value expressions, search conditions and query specifications become
-//! (ISO/IEC 9075:1992, 6.2 to 6.5, 6.11 to 6.13, 7.3 to 7.9, 7.11 and clause 8). The program does not use it yet.
+//! (ISO/IEC 9075:1992, 6.2 to 6.5, 6.11 to 6.13, 7.3 to 7.9, 7.11 and clause 8).
 //!
 //! Each function has one clause: `Binds image definition result` says that what is answered is what the definition of
 //! `sq_binding` computes, the fault included, or that memory ran out. `Finds` says it of a part of a query, behind the set functions
@@ -43,7 +43,7 @@ pub use kinds::{are_comparable, is_text};
 pub use parameter::{indicator_of, parameter_of};
 pub use query_findings::QueryFindings;
 pub use scope::{Environment, FromItem, Scope};
-pub use stop::Stop;
+pub use stop::{Fault, Stop};
 pub use subquery::SelectResult;
 pub use surroundings::{
     NamedTable, Surroundings, Tables, TreeResult, TypedResult, agreeing, value,

@@ -42,7 +42,7 @@ pub fn signed(alloc: Global, sign: Sign, operand: Bound) -> ExprResult
 {
     if is_text(operand.kind) {
         drop(operand);
-        return Err(Stop::Fault(BindingFault::KindMismatch));
+        return Err(Stop::broken(BindingFault::KindMismatch));
     }
     with_sign(alloc, sign, operand)
 }

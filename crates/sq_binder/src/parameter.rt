@@ -37,11 +37,11 @@ pub fn parameter_of(
     ensures { Binds named_of (spec.parameter_named (map declared_of parameters.now) name) result }
 {
     let Some(position) = position_of(parameters, name) else {
-        return Err(Stop::Fault(BindingFault::UnknownParameter));
+        return Err(Stop::about(BindingFault::UnknownParameter, name));
     };
     match parameters.get(position).copied() {
         Some(parameter) => Ok((position, parameter)),
-        None => Err(Stop::Fault(BindingFault::UnknownParameter)),
+        None => Err(Stop::about(BindingFault::UnknownParameter, name)),
     }
 }
 
@@ -70,7 +70,7 @@ pub fn indicator_of(
     if is_indicator_domain(parameter.domain) {
         Ok(Some(position))
     } else {
-        Err(Stop::Fault(BindingFault::BadIndicator))
+        Err(Stop::about(BindingFault::BadIndicator, indicator.name))
     }
 }
 

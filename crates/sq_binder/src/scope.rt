@@ -91,7 +91,7 @@ impl Scope<'_> {
     {
         let mut found = None;
         for (number, item) in self.items.iter().enumerate() {
-            match with_fit(found, number, item.column(reference)) {
+            match with_fit(found, number, item.column(reference), reference.column) {
                 Ok(next) => found = next,
                 Err(stop) => return Err(stop),
             }
@@ -133,7 +133,7 @@ impl Scope<'_> {
                 is_grouped: self.is_grouped(item, column.position),
                 is_outermost: self.outer.is_none(),
             }),
-            None => Err(Stop::Fault(BindingFault::UnknownColumn)),
+            None => Err(Stop::broken(BindingFault::UnknownColumn)),
         }
     }
 
@@ -148,23 +148,24 @@ impl Scope<'_> {
                 let found = outer.column(reference)?;
                 further_out(found)
             }
-            (None, None) => Err(Stop::Fault(BindingFault::UnknownColumn)),
+            (None, None) => Err(Stop::about(BindingFault::UnknownColumn, reference.column)),
         }
     }
 }
 
-/// What fits so far, with what fits in a further item.
+/// What fits so far, with what fits in a further item. The reference is of a column of this name.
 fn with_fit(
     found: Option<(usize, usize)>,
     number: usize,
     column: Option<usize>,
+    name: Name,
 ) -> Result<Option<(usize, usize)>, Stop>
     ensures { Binds (λ fit. fit) (with_fit found number column) result }
 {
     match (found, column) {
         (found, None) => Ok(found),
         (None, Some(column)) => Ok(Some((number, column))),
-        (Some(_), Some(_)) => Err(Stop::Fault(BindingFault::AmbiguousName)),
+        (Some(_), Some(_)) => Err(Stop::about(BindingFault::AmbiguousName, name)),
     }
 }
 
@@ -242,7 +243,7 @@ impl<'a> Environment<'a> {
     {
         match &self.scope {
             Some(scope) => scope.column(reference),
-            None => Err(Stop::Fault(BindingFault::UnknownColumn)),
+            None => Err(Stop::about(BindingFault::UnknownColumn, reference.column)),
         }
     }
 }

@@ -59,7 +59,7 @@ fn star(alloc: Global, items: &[FromItem], before: Counts) -> ListResult
     let list = all_columns(alloc, items)?;
     if list.columns.len() > MOST_COLUMNS {
         drop(list);
-        return Err(Stop::Fault(BindingFault::LimitExceeded));
+        return Err(Stop::broken(BindingFault::LimitExceeded));
     }
     Ok(alone(alloc, list, before))
 }
@@ -159,7 +159,7 @@ fn listed_columns<T: Tables>(
         (expressions (map expr_of (listed list.now)))) before result }
 {
     if list.rest.len() >= MOST_COLUMNS {
-        return Err(Stop::Fault(BindingFault::LimitExceeded));
+        return Err(Stop::broken(BindingFault::LimitExceeded));
     }
     let first = shown_column(&list.first, at, before);
     let mut shown = first_shown(at.environment.alloc, first)?;

@@ -33,7 +33,7 @@ pub fn count_rows(alloc: Global, allowed: bool, number: usize) -> ExprResult
             true,
         )
     } else {
-        Err(Stop::Fault(BindingFault::MisplacedSetFunction))
+        Err(Stop::broken(BindingFault::MisplacedSetFunction))
     }
 }
 
@@ -52,7 +52,7 @@ pub fn function_over(
 {
     if is_misplaced(allowed, operand.findings) {
         drop(operand);
-        return Err(Stop::Fault(BindingFault::MisplacedSetFunction));
+        return Err(Stop::broken(BindingFault::MisplacedSetFunction));
     }
     match set_function_kind(function, operand.kind) {
         Ok(kind) => function_call(alloc, number, function, quantifier, operand, kind),

@@ -52,7 +52,7 @@ pub fn specification(
     match fault_of(is_star, &parts) {
         Some(fault) => {
             drop(parts);
-            Err(Stop::Fault(fault))
+            Err(Stop::broken(fault))
         }
         None => Ok(selected(alloc, distinct, before, parts)),
     }

@@ -94,7 +94,7 @@ fn beside(kind: Kind, query: SelectResult) -> SelectResult
         None => Ok(query),
         Some(fault) => {
             drop(query);
-            Err(Stop::Fault(fault))
+            Err(Stop::broken(fault))
         }
     }
 }

@@ -8,10 +8,10 @@ ghost use Rattle.sq_rules.specs.declared.fault.BindingFault.TheVariants.{KindMis
 ghost use Rattle.sq_binding.specs.Condition as spec;
 ghost use Rattle.sq_binding.specs.Seen.{numbered_of};
 ghost use Rattle.sq_binding.specs.Select.{value, value_found};
+ghost use Rattle.sq_binder.specs.Binds.{broken};
 ghost use Rattle.sq_binder.specs.Bound.{bound_of};
 ghost use Rattle.sq_binder.specs.Found.{Finds};
 ghost use Rattle.sq_binder.specs.Surroundings.{named_table_of, surroundings, typed_of};
-ghost use Rattle.sq_binder.specs.declared.stop.Stop.TheVariants.{Fault};
 
 use crate::bound::Bound;
 use crate::expression::{bind_expr, number_behind};
@@ -103,7 +103,7 @@ fn found_value(bound: Bound, before: Counts) -> TypedResult
 fn tree_if(value: Found<Typed>, passes: bool) -> TreeResult
     ensures { result ≡ (if passes
         then Ok (record { part = value.part.expr; brought = value.brought })
-        else Err (Fault KindMismatch)) }
+        else Err (broken KindMismatch)) }
 {
     let Found { part, brought } = value;
     let Typed { expr, kind: _ } = part;
@@ -115,7 +115,7 @@ fn tree_if(value: Found<Typed>, passes: bool) -> TreeResult
     } else {
         drop(expr);
         drop(brought);
-        Err(Stop::Fault(BindingFault::KindMismatch))
+        Err(Stop::broken(BindingFault::KindMismatch))
     }
 }
 

@@ -2,9 +2,9 @@
 #![tactic(auto)]
 
 ghost use Rattle.std.specs.Prelude.{Some, [], IfErr, IfOk};
+ghost use Rattle.sq_perform.specs.Texts.{texts};
 ghost use Rattle.sq_run.specs.Refused.{RefusedText};
-ghost use Rattle.sq_run.specs.Run.{Run, texts};
-ghost use Rattle.sq_run.specs.Steps.{Reported};
+ghost use Rattle.sq_run.specs.Written.{IsReported};
 
 use sq_heap::HeapStore;
 use sq_run::{Limits, OutOf, RunFault, run};
@@ -18,10 +18,10 @@ fn report_of(
     modules: &[Vec<u8>],
     script: &[u8],
 ) -> Result<Vec<u8>, RunFault>
-    // It is the report of a run of the trees that the texts spell.
-    ensures report { IfOk result (λ report. (r : Run 1000000 (texts schemas.now) (texts modules.now) script.now)
-        × Reported r.actions r.start (Some []) (Some report.items)) }
-    ensures refused { IfErr result (RefusedText 1000000 (texts schemas.now) (texts modules.now) script.now) }
+    // It is the table machine's report, run on the trees that the texts spell.
+    ensures report { IfOk result (λ report. IsReported 1000000 (texts schemas.now) (texts modules.now) script.now
+        (Some []) (Some report.items)) }
+    ensures refused { IfErr result (RefusedText (texts schemas.now) (texts modules.now) script.now) }
 {
     let mut out = OutOf::new(Vec::new(alloc));
     let limits = Limits {

@@ -3,7 +3,7 @@ ghost use Rattle.std.specs.Prelude.{◌≤◌};
 
 use crate::opened::{OpenRun, open_run};
 use crate::run::Run;
-use sq_bound::BindFault;
+use sq_binder::Fault;
 use sq_lex::Name;
 use sq_opened::values_of;
 use sq_session::Session;
@@ -14,7 +14,7 @@ use std::alloc::{AllocError, Global};
 /// What a session says of a call, which its line of the report does not.
 #[derive(Clone, Copy, Debug)]
 pub struct Facts {
-    fault: Option<BindFault>,
+    fault: Option<Fault>,
     reads: u64,
 }
 
@@ -92,13 +92,9 @@ pub fn answer(alloc: Global, calls: &[Facts], wanted: &str) -> Result<String, Al
     }
 }
 
-fn shown_fault(
-    alloc: Global,
-    number: &str,
-    fault: Option<BindFault>,
-) -> Result<String, AllocError> {
+fn shown_fault(alloc: Global, number: &str, fault: Option<Fault>) -> Result<String, AllocError> {
     match fault {
-        Some(fault) => format!(in alloc; "{number} fault {fault}"),
+        Some(fault) => format!(in alloc; "{number} fault {:?}", fault.rule),
         None => format!(in alloc; "{number} has no fault"),
     }
 }

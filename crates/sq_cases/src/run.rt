@@ -2,7 +2,7 @@
 ghost use Rattle.std.specs.Prelude.{◌≤◌};
 
 use crate::written::expanded;
-use sq_run::{Limits, OutOf, Refusal, RunFault, run};
+use sq_perform::{Limits, OutOf, Refusal, RunFault, run};
 use sq_store::{MOST_ROW_NUMBERS, Store};
 use std::alloc::{AllocError, Global};
 

@@ -1,16 +1,19 @@
 -- The columns of a table definition, made one after the other.
-use Rattle.std.proofs.Common.{◌≡◌, ℕ, zero, suc, ◌+◌, ◌<◌, List, [], ◌∷◌, ◌++◌, length, get_or, take, Some, refl, ap, sym, subst, ◌∙◌, arith}
-use Rattle.std.specs.List.{AllZip, enumerate_from}
+use Rattle.std.proofs.Common.{◌≡◌, ℕ, zero, suc, ◌+◌, ◌<◌, List, [], ◌∷◌, ◌++◌, length, get_or, map, take, Some, refl, ap, sym, subst, ◌∙◌, arith}
+use Rattle.std.specs.List.{AllZip, enumerate_from, zip}
 use Rattle.std.specs.Option.{option_map}
-use Rattle.std.proofs.lemmas.List.{map-append, take_more}
+use Rattle.std.proofs.lemmas.List.{length-map, length-take-le, map-append, take_more}
 use Rattle.indexmap.proofs.SetLemmas.{AllZip-push}
+use Rattle.sq_lex.specs.declared.name.Name.{Name}
 use Rattle.sq_value.specs.Domain.{kind_of}
+use Rattle.sq_meaning.specs.Target.{places_of}
 use Rattle.sq_bound.specs.declared.names.BaseColumn.{BaseColumn}
 use Rattle.sq_bound.specs.declared.names.Column.{Column}
 use Rattle.sq_catalog.specs.Columns.{AreBaseColumnsOf, AreColumnsOf, IsBaseColumnOf, IsColumnOf, IsDefaultOf}
-use Rattle.sq_catalog.specs.Table.{typed_definitions}
+use Rattle.sq_catalog.specs.Exact.{column_declared}
+use Rattle.sq_catalog.specs.Table.{held_declared, typed_definitions}
 use Rattle.sq_catalog.specs.Written.{is_written_not_null}
-use Rattle.sq_catalog.specs.declared.written.TypedColumn.{TypedColumn}
+use Rattle.sq_catalog.specs.declared.typed.TypedColumn.{TypedColumn}
 
 -- ---- the definitions
 
@@ -57,3 +60,38 @@ base_column_made typed columns new i t c lt e grown domain not_null default so_f
     } in
     subst (λ cs. AreBaseColumnsOf (typed_definitions (take (i + 1) typed)) cs) (sym grown)
     (subst (λ ws. AreBaseColumnsOf ws (columns ++ c ∷ [])) (sym (typed_next typed i t lt e)) (AllZip-push IsBaseColumnOf (typed_definitions (take i typed)) columns t.definition.now c so_far one))
+
+-- ---- places
+
+module _ {X : Type 0} (xs : List X) (i : ℕ) (x : X) where
+  -- the places of those that were read, and one more
+  pub place_next : (columns new : List Column) (c : Column) → i < length xs → x ≡ get_or xs i x → new ≡ columns ++ c ∷ [] → c.leaf_column ≡ i → map (λ (c : Column). c.leaf_column) columns ≡ places_of (take i xs)
+      → map (λ (c : Column). c.leaf_column) new ≡ places_of (take (i + 1) xs)
+  place_next columns new c lt e grown place so_far =
+      let long : length (take i xs) ≡ i = length-take-le i xs (omega arith) in
+      let at : 0 + length (take i xs) ≡ i = omega (arith, long) in
+      ap (map (λ (c : Column). c.leaf_column)) grown ∙ map-append (λ (c : Column). c.leaf_column) columns (c ∷ []) ∙ (λ j. so_far j ++ (place ∙ sym at) j ∷ [])
+      ∙ sym (ap places_of (take_more xs i x lt ∙ ap (λ y. take i xs ++ y ∷ []) (sym e)) ∙ ap (map (λ (p : ℕ × X). p.0)) (place_last 0 (take i xs) x) ∙ map-append (λ (p : ℕ × X). p.0) (enumerate_from 0 (take i xs)) ((0 + length (take i xs), x) ∷ []))
+
+-- ---- columns as their table holds them
+
+zip_last : {A B : Type 0} (xs : List A) (ys : List B) (x : A) (y : B) → length ys ≡ length xs → zip (xs ++ x ∷ []) (ys ++ y ∷ []) ≡ zip xs ys ++ (x, y) ∷ []
+zip_last [] [] x y e = refl
+zip_last [] (b ∷ ys) x y e = absurd (omega (arith, e))
+zip_last (a ∷ xs) [] x y e = absurd (omega (arith, e))
+zip_last (a ∷ xs) (b ∷ ys) x y e = ap (λ l. (a, b) ∷ l) (zip_last xs ys x y (omega (arith, e)))
+
+abbrev defined_name : TypedColumn → Name
+defined_name t = t.definition.now.name
+
+-- one more
+pub held_last : (typed : List TypedColumn) (i : ℕ) (t : TypedColumn) (columns new : List BaseColumn) (c : BaseColumn) → i < length typed → t ≡ get_or typed i t → new ≡ columns ++ c ∷ [] → length columns ≡ i
+    → held_declared (take (i + 1) typed) new ≡ held_declared (take i typed) columns ++ column_declared (t.definition.now.name, c) ∷ []
+held_last typed i t columns new c lt e grown count =
+    let before = take i typed in
+    let long : length before ≡ i = length-take-le i typed (omega arith) in
+    let names : map defined_name (take (i + 1) typed) ≡ map defined_name before ++ defined_name t ∷ [] =
+    ap (map defined_name) (take_more typed i t lt ∙ ap (λ y. before ++ y ∷ []) (sym e)) ∙ map-append defined_name before (t ∷ []) in
+    (λ j. map column_declared (zip (names j) (grown j)))
+    ∙ ap (map column_declared) (zip_last (map defined_name before) columns (defined_name t) c (count ∙ sym (length-map before defined_name ∙ long)))
+    ∙ map-append column_declared (zip (map defined_name before) columns) ((defined_name t, c) ∷ [])

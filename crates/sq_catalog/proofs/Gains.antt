@@ -20,7 +20,7 @@ use Rattle.sq_catalog.proofs.References.{have_append, have_still}
 
 -- ---- a key that is new goes last
 
-none_there : {X : Type 0} (o : Option X) → is_some o ≡ false → o ≡ None
+pub none_there : {X : Type 0} (o : Option X) → is_some o ≡ false → o ≡ None
 none_there None h = refl
 none_there (Some x) h = absurd (true≢false h)
 

@@ -18,32 +18,33 @@ use Rattle.sq_bound.specs.declared.names.Column.{Column}
 use Rattle.sq_bound.specs.declared.names.TableBody.{TableBody}
 use Rattle.sq_bound.specs.declared.names.TableBody.TheVariants as body
 use Rattle.sq_bound.specs.declared.names.TableDesc.{TableDesc}
-use Rattle.sq_select.specs.Names.{names_placed}
-use Rattle.sq_bind.proofs.MoreKnown.{names_stay, select_stays, updatable_stays}
+use Rattle.sq_promises.specs.Names.{outside}
+use Rattle.sq_promises.proofs.MoreKnown.{names_stay, select_stays, updatable_stays}
 use Rattle.sq_catalog.specs.Catalog.{Catalog, IsNewName, SeenView, column_kinds, known, meant}
 use Rattle.sq_catalog.specs.Stored.{IsNextView, IsViewOver, columns_of, queries_of, query_in, seen, seen_of}
-use Rattle.sq_catalog.specs.Views.{AddsViews, GainsViews, HasNamesOf, HasQueryKinds, HasQueryOf, IsSeenAs, IsUnderView, IsViewOf, StillKnown, WrittenView, around_view, column_names, view_name}
+use Rattle.sq_catalog.specs.Views.{AddsViews, GainsViews, HasNamesOf, HasQueryKinds, HasQueryOf, IsSeenAs, IsUnderView, IsViewOf, StillKnown, WrittenView, column_names, names_written, view_name}
 use Rattle.sq_catalog.specs.declared.catalog.FullName.{FullName}
 use Rattle.sq_catalog.proofs.Gains.{keys_append, parts_next, zip_append}
 use Rattle.sq_catalog.proofs.StillKnown.{base_still, view_still}
+use Rattle.sq_catalog.proofs.Zips.{zip_weaker}
 
 -- ---- a view stays what it is
 
 names_kept : (less more : KnownTables) (w : WrittenView) (columns : List Column) → StillKnown less more → HasNamesOf less w columns → HasNamesOf more w columns
 names_kept less more w columns keep h = listed_or w.view.columns h
   where
-    listed_or : (list : Option (CommaList Name)) → column_names list (names_placed less (select_of w.user w.view.query)) ≡ Ok (map (λ (c : Column). Some c.name) columns)
-        → column_names list (names_placed more (select_of w.user w.view.query)) ≡ Ok (map (λ (c : Column). Some c.name) columns)
+    listed_or : (list : Option (CommaList Name)) → column_names list (names_written less w) ≡ Ok (map (λ (c : Column). Some c.name) columns)
+        → column_names list (names_written more w) ≡ Ok (map (λ (c : Column). Some c.name) columns)
     listed_or None h = names_stay less more keep (select_of w.user w.view.query) (map (λ (c : Column). Some c.name) columns) h
     listed_or (Some list) h = h
 
 query_kept : (less more : KnownTables) (w : WrittenView) (q : BoundSpecification) → StillKnown less more → HasQueryOf less w q → HasQueryOf more w q
-query_kept less more w q keep h = select_stays less more keep (around_view less) (select_of w.user w.view.query) (tree.select_of q) h
+query_kept less more w q keep h = select_stays less more keep (outside less []) (select_of w.user w.view.query) (tree.select_of q) h
 
 under_kept : (less more : KnownTables) (w : WrittenView) (columns : List Column) (u : Under) → StillKnown less more → IsUnderView less w columns u → IsUnderView more w columns u
 under_kept less more w columns u keep h = record {
   over = h.over;
-  is_over = updatable_stays less more keep (around_view less) (select_of w.user w.view.query) h.over h.is_over;
+  is_over = updatable_stays less more keep [] (select_of w.user w.view.query) h.over h.is_over;
   base = h.base;
   conditions = h.conditions;
   demanded = h.demanded;
@@ -55,12 +56,6 @@ seen_kept less more w v keep h = record {
   names = names_kept less more w v.columns keep h.names;
   under = IfSome_then v.under {P = IsUnderView less w v.columns} {Q = IsUnderView more w v.columns} h.under (λ u is. under_kept less more w v.columns u keep is);
 }
-
-zip_weaker : {A B : Type 0} (R S : A → B → Type 0) (xs : List A) (ys : List B) → ((x : A) (y : B) → R x y → S x y) → AllZip R xs ys → AllZip S xs ys
-zip_weaker R S [] [] f h = h
-zip_weaker R S [] (y ∷ ys) f h = h
-zip_weaker R S (x ∷ xs) [] f h = h
-zip_weaker R S (x ∷ xs) (y ∷ ys) f h = (f x y h.0, zip_weaker R S xs ys f h.1)
 
 -- ---- views that are added one after the other
 
@@ -162,9 +157,9 @@ views_more a b c views more p q = record {
   };
   still = λ user name t e. q.still user name t (p.still user name t e);
   seen_are = zip_append (IsSeenAs (known c)) views more p.seen q.seen
-      (zip_weaker (IsSeenAs (known b)) (IsSeenAs (known c)) views p.seen (λ w v h. seen_kept (known b) (known c) w v q.still h) p.seen_are) q.seen_are;
+      (zip_weaker (IsSeenAs (known b)) (IsSeenAs (known c)) (λ w v h. seen_kept (known b) (known c) w v q.still h) views p.seen p.seen_are) q.seen_are;
   queries_are = zip_append (HasQueryOf (known c)) views more p.queries q.queries
-      (zip_weaker (HasQueryOf (known b)) (HasQueryOf (known c)) views p.queries (λ w s h. query_kept (known b) (known c) w s q.still h) p.queries_are) q.queries_are;
+      (zip_weaker (HasQueryOf (known b)) (HasQueryOf (known c)) (λ w s h. query_kept (known b) (known c) w s q.still h) views p.queries p.queries_are) q.queries_are;
   kinds_are = zip_append HasQueryKinds p.seen q.seen p.queries q.queries p.kinds_are q.kinds_are;
 }
 

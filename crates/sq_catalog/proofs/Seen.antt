@@ -14,7 +14,7 @@ use Rattle.sq_bound.specs.declared.names.BaseTable.{BaseTable}
 use Rattle.sq_bound.specs.declared.names.Column.{Column}
 use Rattle.sq_bound.specs.declared.names.Leaf.{Leaf}
 use Rattle.sq_bound.specs.declared.query.UpdatableQuery.{UpdatableQuery}
-use Rattle.sq_bind.proofs.Joins.{on_value}
+use Rattle.sq_catalog.proofs.Zips.{on_value}
 use Rattle.sq_catalog.specs.Stored.{AreColumnsOver}
 use Rattle.sq_catalog.specs.View.{IsAbove, conditions_with}
 use Rattle.sq_catalog.proofs.Listed.{all_push, all_weaker, below, is_below}

@@ -1,7 +1,7 @@
 -- Tables and views that stand over base tables, and references to their keys, as base tables are added.
-use Rattle.std.proofs.Common.{◌≡◌, ℕ, zero, suc, ◌<◌, true, nat_eq, nat_lt, List, [], ◌∷◌, ◌++◌, length, map, get_or, Option, Some, Result, Ok, Err, IfOk, refl, ap, ap₂, sym, subst, ◌∙◌, arith}
+use Rattle.std.proofs.Common.{◌≡◌, ℕ, zero, suc, ◌+◌, ◌<◌, true, nat_eq, nat_lt, List, [], ◌∷◌, ◌++◌, length, map, get_or, Option, Some, Result, Ok, Err, IfOk, refl, ap, ap₂, sym, subst, ◌∙◌, arith}
 use Rattle.std.specs.Cmp.Lexicographic.{pointwise, same_text}
-use Rattle.std.specs.List.{list_all, slice_get}
+use Rattle.std.specs.List.{enumerate_from, list_all, slice_get}
 use Rattle.std.specs.Map.{lookup_key}
 use Rattle.std.specs.Option.{option_map}
 use Rattle.std.specs.Prelude.{Vec}
@@ -12,6 +12,7 @@ use Rattle.std.proofs.lemmas.List.{length-map, map-append}
 use Rattle.std.proofs.lemmas.List.Elements.{All-get_or, All-weaker}
 use Rattle.std.proofs.lemmas.Map.Made.{lookup_key_passes}
 use Rattle.std.proofs.lemmas.Option.{IfSome_then, slice_get_within, get_or_from_slice_get}
+use Rattle.sq_meaning.specs.Target.{places_of}
 use Rattle.sq_store.specs.Keys.{Keys, keys_at, keys_of}
 use Rattle.sq_bound.specs.Fits.{IsBase, all_refer, keys_of_bases, refers}
 use Rattle.sq_bound.specs.Known.{under_of}
@@ -29,7 +30,7 @@ use Rattle.sq_bound.specs.declared.names.TableBody.TheVariants as body
 use Rattle.sq_bound.specs.declared.names.TableDesc.{TableDesc}
 use Rattle.sq_catalog.specs.Catalog.{is_table, itself}
 use Rattle.sq_catalog.specs.Reference.{is_to, keys_with}
-use Rattle.sq_catalog.specs.Stored.{AreChecksAt, AreNamed, AreStored, IsBody, IsDescribed, IsNamed, IsNext, IsStored, IsTableOf, IsUnderItself}
+use Rattle.sq_catalog.specs.Stored.{AreChecksAt, AreNamed, AreStored, HasOwnPlaces, IsBody, IsDescribed, IsNamed, IsNext, IsStored, IsTableOf, IsUnderItself}
 use Rattle.sq_catalog.specs.declared.catalog.FullName.{FullName}
 use Rattle.sq_catalog.proofs.Listed.{all_push, all_weaker, get_behind, get_more, is_below}
 use Rattle.sq_catalog.proofs.Extending.{table_made}
@@ -51,6 +52,7 @@ stored_more bases b t h = record {
   over = IfSome_then t.leaf {P = λ (l : Leaf). IsBase bases l.table} {Q = λ (l : Leaf). IsBase (bases ++ b ∷ []) l.table} h.over (λ l there. get_more bases b l.table l.table.place there);
   body = body_more bases b (length t.columns) t.body h.body;
   itself = h.itself;
+  places = h.places;
 }
 
 pub all_stored_more : (bases : List BaseTable) (b : BaseTable) (es : List (FullName × TableDesc)) → AreStored bases es → AreStored (bases ++ b ∷ []) es
@@ -143,9 +145,19 @@ itself_made : (b : BaseTable) (t : TableBody) (under : Option Leaf) → IsTableO
 itself_made b (body.Base own) under h is = is ∙ ap (λ (y : BaseTable). Some (itself y.place)) (sym h)
 itself_made b (body.View v) under h is = absurd h
 
+pub places_counted : {A B : Type 0} (xs : List A) (ys : List B) (n : ℕ) → length xs ≡ length ys → map (λ (p : ℕ × A). p.0) (enumerate_from n xs) ≡ map (λ (p : ℕ × B). p.0) (enumerate_from n ys)
+places_counted [] [] n e = refl
+places_counted [] (y ∷ ys) n e = absurd (omega (arith, e))
+places_counted (x ∷ xs) [] n e = absurd (omega (arith, e))
+places_counted (x ∷ xs) (y ∷ ys) n e = ap (λ l. n ∷ l) (places_counted xs ys (n + 1) (omega (arith, e)))
+
+places_made : (b : BaseTable) (columns : List Column) (t : TableBody) → IsTableOf b t → length columns ≡ length b.columns → map (λ (c : Column). c.leaf_column) columns ≡ places_of columns → HasOwnPlaces columns t
+places_made b columns (body.Base own) h count own_places = own_places ∙ places_counted columns own.columns 0 (count ∙ ap (λ (y : BaseTable). length y.columns) (sym h))
+places_made b columns (body.View v) h count own_places = tt
+
 pub next_made : (bases : List BaseTable) (name : FullName) (b : BaseTable) (columns : List Column) (width : ℕ) (t : TableDesc) → IsDescribed name b columns t → b.place ≡ length bases → kinds_of_columns columns ≡ base_kinds b
-    → AreChecksAt (length bases) (kinds_of_columns columns) b.checks → list_all (is_to (keys_with bases b.keys) width) b.references ≡ true → IsNext bases name t b
-next_made bases name b columns width t h place kinds checks refer =
+    → map (λ (c : Column). c.leaf_column) columns ≡ places_of columns → AreChecksAt (length bases) (kinds_of_columns columns) b.checks → list_all (is_to (keys_with bases b.keys) width) b.references ≡ true → IsNext bases name t b
+next_made bases name b columns width t h place kinds places checks refer =
     let count : length columns ≡ length b.columns = sym (length-map columns (λ (c : Column). c.kind)) ∙ ap length kinds ∙ length-map b.columns (λ (c : BaseColumn). kind_of c.domain) in
     record {
       named = h.named;
@@ -154,6 +166,7 @@ next_made bases name b columns width t h place kinds checks refer =
             (λ l same. subst (λ (y : BaseTable). IsBase (bases ++ b ∷ []) y) (sym same.0) (base_behind bases b place));
         body = body_made (bases ++ b ∷ []) b (length t.columns) t.body (base_behind bases b place) (ap length h.columns ∙ count) h.body;
         itself = itself_made b t.body t.leaf h.body h.itself;
+        places = subst (λ (cs : List Column). HasOwnPlaces cs t.body) (sym h.columns) (places_made b columns t.body h.body count places);
       };
       place = place_made b t.body h.body ∙ ap Base place;
       table = λ views. table_made bases name b columns views t h place kinds checks;
@@ -180,7 +193,7 @@ by_keys_at keys n m rs e h = by_keys keys n rs (ap (λ k. list_all (is_to keys k
 
 -- a base table that is made with the table as names see it
 pub next_of : {E : Type 0} (bases : List BaseTable) (name : FullName) (columns : List Column) (width : ℕ) (b : BaseTable) (r : Result (TableDesc × BaseTable) E) → IfOk r (λ new. new.1 ≡ b) → IfOk r (λ new. IsDescribed name b columns new.0)
-    → b.place ≡ length bases → kinds_of_columns columns ≡ base_kinds b → AreChecksAt (length bases) (kinds_of_columns columns) b.checks → list_all (is_to (keys_with bases b.keys) width) b.references ≡ true
+    → b.place ≡ length bases → kinds_of_columns columns ≡ base_kinds b → map (λ (c : Column). c.leaf_column) columns ≡ places_of columns → AreChecksAt (length bases) (kinds_of_columns columns) b.checks → list_all (is_to (keys_with bases b.keys) width) b.references ≡ true
     → IfOk r (λ new. IsNext bases name new.0 new.1)
-next_of bases name columns width b (Ok new) e h place kinds checks refer = subst (λ (x : BaseTable). IsNext bases name new.0 x) (sym e) (next_made bases name b columns width new.0 h place kinds checks refer)
-next_of bases name columns width b (Err x) e h place kinds checks refer = tt
+next_of bases name columns width b (Ok new) e h place kinds places checks refer = subst (λ (x : BaseTable). IsNext bases name new.0 x) (sym e) (next_made bases name b columns width new.0 h place kinds places checks refer)
+next_of bases name columns width b (Err x) e h place kinds places checks refer = tt

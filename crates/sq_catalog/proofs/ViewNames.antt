@@ -1,7 +1,7 @@
 -- The names of a view's columns, and that a view is that of its text.
 use Rattle.std.proofs.Common.{◌≡◌, ℕ, suc, ◌+◌, ◌<◌, ◌≤◌, List, [], ◌∷◌, ◌++◌, length, get_or, take, map, Option, Some, None, Result, Ok, Err, IfOk, refl, ap, sym, subst, ◌∙◌, append-nil, arith}
 use Rattle.std.specs.List.{cons_option, filter_map}
-use Rattle.std.specs.Option.{IfSome, option_map}
+use Rattle.std.specs.Option.{IfSome, IsSomeAnd, option_map}
 use Rattle.std.proofs.lemmas.List.{take_more}
 use Rattle.std.proofs.lemmas.List.Elements.{filter_map-append}
 use Rattle.std.proofs.lemmas.Simd.{map-map}
@@ -16,10 +16,20 @@ use Rattle.sq_bound.specs.declared.names.Column.{Column}
 use Rattle.sq_bound.specs.declared.names.Leaf.{Leaf}
 use Rattle.sq_bound.specs.declared.names.TableDesc.{TableDesc}
 use Rattle.sq_bound.specs.declared.query.UpdatableQuery.{UpdatableQuery}
-use Rattle.sq_bind.specs.Written.{IsUpdatableOf}
-use Rattle.sq_select.specs.Names.{NamesAre, names_of, names_placed}
-use Rattle.sq_catalog.specs.View.{IsAbove, IsOverQuery, IsViewWith, names_or}
-use Rattle.sq_catalog.specs.Views.{HasQueryOf, IsUnderView, IsViewOf, WrittenView, around_view, column_names}
+use Rattle.sq_bound.specs.declared.condition.ResultColumn.{ResultColumn}
+use Rattle.sq_rules.specs.Schema.{has_name_twice}
+use Rattle.sq_rules.specs.declared.refusal.SchemaFault.TheVariants as fault
+use Rattle.sq_binding.specs.NumberedCondition as numbered
+use Rattle.sq_binding.specs.Seen.{column_of}
+use Rattle.sq_declaring.specs.Outcome.{and_then, refused_if}
+use Rattle.sq_declaring.specs.View as definition
+use Rattle.sq_declaring.specs.View.{as_many, own_names as declared_names}
+use Rattle.sq_promises.specs.Written.{IsUpdatableOf, NamesAre}
+use Rattle.sq_catalog.specs.Fault.{Makes, Stops}
+use Rattle.sq_catalog.specs.declared.fault.ElementFault.{ElementFault}
+use Rattle.sq_catalog.proofs.ViewSteps.{stopped}
+use Rattle.sq_catalog.specs.View.{IsAbove, IsOverQuery, IsViewWith, names_for, names_of_query, names_or}
+use Rattle.sq_catalog.specs.Views.{HasQueryOf, IsUnderView, IsViewOf, WrittenView, column_names, names_written}
 
 -- ---- the items that have a value
 
@@ -61,13 +71,41 @@ module _ {A B : Type 0} (f : A → Option B) where
   none_found xs i x ys lt e is h =
       h ∙ sym (append-nil (filter_map f (take i xs))) ∙ ap (λ o. filter_map f (take i xs) ++ cons_option o []) (sym is) ∙ sym (values_next xs i x lt e)
 
+-- ---- the names of a query's columns
+
+own_same : (columns : List ResultColumn) → filter_map (λ c. c.name) columns ≡ declared_names (map column_of columns)
+own_same [] = refl
+own_same (c ∷ columns) = ap (cons_option c.name) (own_same columns)
+
+module _ (columns : List ResultColumn) (names : List Name) (is : names ≡ filter_map (λ (c : ResultColumn). c.name) columns) where
+  abbrev shown : List (numbered.ResultColumn)
+  shown = map column_of columns
+
+  pub query_named : (r : Result (List Name) ElementFault) → refused_if fault.NameTwice (has_name_twice names) ≡ Ok tt → Makes (λ (ns : List Name). ns) (as_many shown names) r → Makes (λ (ns : List Name). ns) (names_of_query shown) r
+  query_named r once made =
+      subst (λ (ns : List Name). Makes (λ (them : List Name). them) (and_then (refused_if fault.NameTwice (has_name_twice ns)) (λ _. as_many shown ns)) r) (is ∙ own_same columns)
+      (subst (λ o. Makes (λ (them : List Name). them) (and_then o (λ _. as_many shown names)) r) (sym once) made)
+
+  pub query_unnamed : (stop : ElementFault) → Stops (refused_if fault.NameTwice (has_name_twice names)) stop → Stops (names_of_query shown) stop
+  query_unnamed stop stops =
+      subst (λ (ns : List Name). Stops (and_then (refused_if fault.NameTwice (has_name_twice ns)) (λ _. as_many shown ns)) stop) (is ∙ own_same columns)
+      (stopped (refused_if fault.NameTwice (has_name_twice names)) (λ _. as_many shown names) stop stops)
+
+-- the names that are listed, or those of the query
+pub names_chosen : (list : Option (CommaList Name)) (columns : List numbered.ResultColumn) → names_for (option_map listed list) columns ≡ definition.column_names list columns
+names_chosen None columns = refl
+names_chosen (Some list) columns = refl
+
 -- ---- the view of a text
+
+abbrev pub own_names : BoundSpecification → List (Option Name)
+own_names q = map (λ (c : ResultColumn). c.name) (out-BoundSpecification q).columns
 
 names_listed : (list : Option (CommaList Name)) (text : Outcome (List (Option Name))) (own : List (Option Name)) → text ≡ Ok own → column_names list text ≡ Ok (names_or (option_map listed list) own)
 names_listed None text own e = e
 names_listed (Some list) text own e = refl
 
-under_above : (known : KnownTables) (w : WrittenView) (over : UpdatableQuery) (columns : List Column) (under : Option Leaf) → IsUpdatableOf (around_view known) (select_of w.user w.view.query) over
+under_above : (known : KnownTables) (w : WrittenView) (over : UpdatableQuery) (columns : List Column) (under : Option Leaf) → IsUpdatableOf known [] (select_of w.user w.view.query) over
     → IfSome under (IsAbove w.view.check_option over columns) → IfSome (option_map under_of under) (IsUnderView known w columns)
 under_above known w over columns None is_over h = tt
 under_above known w over columns (Some l) is_over h = record {
@@ -79,19 +117,23 @@ under_above known w over columns (Some l) is_over h = record {
   shows = h.shows;
 }
 
-under_written : (known : KnownTables) (w : WrittenView) (t : TableDesc) (updatable : Option ((Name × Name) × UpdatableQuery)) → IfSome updatable (λ over. IsUpdatableOf (around_view known) (select_of w.user w.view.query) over.1)
+at_some : {A : Type 0} (P : A → Type 0) (o : Option A) → IsSomeAnd o P → IfSome o P
+at_some P None h = absurd h
+at_some P (Some x) h = h
+
+under_written : (known : KnownTables) (w : WrittenView) (t : TableDesc) (updatable : Option ((Name × Name) × UpdatableQuery)) → IfSome updatable (λ over. IsUpdatableOf known [] (select_of w.user w.view.query) over.1)
     → IsOverQuery w.view.check_option updatable t → IfSome (option_map under_of t.leaf) (IsUnderView known w t.columns)
 under_written known w t None is_over none = subst (λ (l : Option Leaf). IfSome (option_map under_of l) (IsUnderView known w t.columns)) (sym none) tt
-under_written known w t (Some over) is_over h = under_above known w over.1 t.columns t.leaf is_over h
+under_written known w t (Some over) is_over h = under_above known w over.1 t.columns t.leaf is_over (at_some (IsAbove w.view.check_option over.1 t.columns) t.leaf h)
 
 pub view_written : (known : KnownTables) (w : WrittenView) (own : Option (List Name)) (names : List Name) (q : BoundSpecification) (t : TableDesc) → own ≡ option_map listed w.view.columns
-    → NamesAre (names_placed known (select_of w.user w.view.query)) q → HasQueryOf known w q → map (λ n. Some n) names ≡ names_or own (names_of (out-BoundSpecification q).columns) → IsViewWith names q t
-    → (updatable : Option ((Name × Name) × UpdatableQuery)) → IfSome updatable (λ over. IsUpdatableOf (around_view known) (select_of w.user w.view.query) over.1) → IsOverQuery w.view.check_option updatable t → IsViewOf known w t
+    → NamesAre (names_written known w) q → HasQueryOf known w q → map (λ n. Some n) names ≡ names_or own (own_names q) → IsViewWith names q t
+    → (updatable : Option ((Name × Name) × UpdatableQuery)) → IfSome updatable (λ over. IsUpdatableOf known [] (select_of w.user w.view.query) over.1) → IsOverQuery w.view.check_option updatable t → IsViewOf known w t
 view_written known w own names q t list named is_written is h updatable is_over over = record {
   is_seen = record {
     names =
-        names_listed w.view.columns (names_placed known (select_of w.user w.view.query)) (names_of (out-BoundSpecification q).columns) named
-        ∙ ap (λ l. Ok (names_or l (names_of (out-BoundSpecification q).columns))) (sym list)
+        names_listed w.view.columns (names_written known w) (own_names q) named
+        ∙ ap (λ l. Ok (names_or l (own_names q))) (sym list)
         ∙ ap Ok (sym is ∙ ap (map (λ n. Some n)) (sym h.names_are) ∙ map-map (λ n. Some n) (λ (c : Column). c.name) t.columns);
     under = under_written known w t updatable is_over over;
   };
@@ -99,3 +141,10 @@ view_written known w own names q t list named is_written is h updatable is_over 
   stands_for = h.stands_for;
   is_written = is_written;
 }
+
+-- as it is answered
+pub views_written : {X E : Type 0} (known : KnownTables) (w : WrittenView) (own : Option (List Name)) (names : List Name) (q : BoundSpecification) (table : X → TableDesc) (r : Result X E) → own ≡ option_map listed w.view.columns
+    → NamesAre (names_written known w) q → HasQueryOf known w q → map (λ n. Some n) names ≡ names_or own (own_names q) → (updatable : Option ((Name × Name) × UpdatableQuery))
+    → IfSome updatable (λ over. IsUpdatableOf known [] (select_of w.user w.view.query) over.1) → IfOk r (λ x. IsViewWith names q (table x)) → IfOk r (λ x. IsOverQuery w.view.check_option updatable (table x)) → IfOk r (λ x. IsViewOf known w (table x))
+views_written known w own names q table (Err e) list named is_written is updatable is_over made over = tt
+views_written known w own names q table (Ok x) list named is_written is updatable is_over made over = view_written known w own names q (table x) list named is_written is made updatable is_over over

@@ -23,6 +23,8 @@ use Rattle.sq_bound.specs.declared.condition.BoundSpecification.{BoundSpecificat
 use Rattle.sq_bound.specs.declared.condition.TablePlace.TheVariants.{Base, View}
 use Rattle.sq_bound.specs.declared.names.BaseTable.{BaseTable}
 use Rattle.sq_bound.specs.declared.names.Column.{Column}
+use Rattle.sq_bound.specs.declared.names.TableDesc.{TableDesc}
+use Rattle.sq_declaring.specs.Catalog.{Grant}
 use Rattle.sq_catalog.specs.Base.{AreBasesOf}
 use Rattle.sq_catalog.specs.Columns.{HasColumnsOf}
 use Rattle.sq_catalog.specs.References.{HasReferencesOf}
@@ -45,9 +47,14 @@ pub record SeenView : Type 0 where
   pub columns : List Column
   pub under : Option Under
 
--- the base tables' names, their columns and the base tables, as many of each and each at its place, with references to keys of base
--- tables alone; and the views' names, the views as names see them and their queries, likewise
+-- The users that have a schema; the base tables and the views that stand under names, in the order of the texts; and what is granted. Of
+-- these the base tables' names, their columns and the base tables, as many of each and each at its place, with references to keys of base
+-- tables alone; and the views' names, the views as names see them and their queries, likewise.
 pub record Catalog : Type 0 where
+  pub users : List Name
+  pub base_entries : List (FullName × TableDesc)
+  pub view_entries : List (FullName × TableDesc)
+  pub grants : List Grant
   pub tables : List FullName
   pub columns : List (List Column)
   pub bases : List BaseTable

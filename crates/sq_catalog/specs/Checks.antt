@@ -7,11 +7,17 @@ use Rattle.sq_tree.specs.declared.schema.ColumnConstraint.TheVariants as constra
 use Rattle.sq_tree.specs.declared.schema.TableDefinition.{TableDefinition}
 use Rattle.sq_tree.specs.declared.schema.TableElement.{TableElement}
 use Rattle.sq_tree.specs.declared.schema.TableElement.TheVariants as element
-use Rattle.sq_meaning.specs.Spelled.{listed}
+use Rattle.sq_meaning.specs.Spelled.{cond_of, listed}
 use Rattle.sq_bound.specs.declared.condition.BoundCond.{BoundCond}
 use Rattle.sq_bound.specs.declared.names.Column.{Column}
-use Rattle.sq_bind.specs.Written.{check_placed}
-use Rattle.sq_select.specs.Written.{CondIs}
+use Rattle.sq_lex.specs.declared.name.Name.{Name}
+use Rattle.sq_meaning.specs.Environment.{TableName}
+use Rattle.sq_meaning.specs.Tables.{ColumnDescriptor}
+use Rattle.sq_binding.specs.NumberedCondition.{NumberedCond}
+use Rattle.sq_binding.specs.View.{check_bound}
+use Rattle.sq_declaring.specs.Outcome.{Outcome}
+use Rattle.sq_declaring.specs.Table.{or_bad_check}
+use Rattle.sq_promises.specs.Written.{CondIs, check_placed}
 use Rattle.sq_catalog.specs.Columns.{HasColumnsOf}
 use Rattle.sq_catalog.specs.declared.catalog.FullName.{FullName}
 
@@ -41,7 +47,7 @@ checks_written t = flat_map checks_in (listed t.elements)
 
 -- a condition on a row of the table of this name with these columns, and what is bound is the one that is written
 abbrev pub IsCheckOf : FullName → List Column → Cond → BoundCond → Type 0
-IsCheckOf name columns written cond = CondIs [] (check_placed (record { user = name.user; name = name.name }) columns written) cond
+IsCheckOf name columns written cond = CondIs (check_placed (record { user = name.user; name = name.name }) columns written) cond
 
 -- each condition is the one that is written at its place
 abbrev pub AreChecksOf : FullName → List Column → List Cond → List BoundCond → Type 0
@@ -52,3 +58,9 @@ pub record HasChecksOf (name : FullName) (t : TableDefinition) (checks : List Bo
   pub columns : List Column
   pub columns_are : HasColumnsOf t columns
   pub checks_are : AreChecksOf name columns (checks_written t) checks
+
+-- ---- as the definitions see it
+
+-- a condition of CHECK that a user writes, on a row of a table of this name with these columns
+abbrev pub check_over : Name → TableName → List ColumnDescriptor → Cond → Outcome NumberedCond
+check_over user t columns condition = or_bad_check (check_bound t columns (cond_of user condition))

@@ -1,5 +1,5 @@
 -- The keys of a base table are those of its CREATE TABLE text (ISO/IEC 9075:1992, 11.7; 11.4 for those of columns).
-use Rattle.std.specs.Prelude.{◌≡◌, ℕ, true, false, List, [], ◌∷◌, flat_map, map, position, Option, Some}
+use Rattle.std.specs.Prelude.{◌≡◌, ℕ, true, false, List, [], ◌∷◌, filter_map, flat_map, if◌then◌else◌, map, position, Option, None, Some}
 use Rattle.std.specs.List.{AllZip}
 use Rattle.sq_lex.specs.declared.name.Name.{Name}
 use Rattle.sq_tree.specs.declared.schema.ColumnConstraint.{ColumnConstraint}
@@ -51,3 +51,10 @@ KeysStandAt columns = AllZip (λ key places. StandAt columns key.columns places)
 -- the number of the key that is written PRIMARY KEY, if one is
 abbrev pub primary_among : List WrittenKey → Option ℕ
 primary_among keys = position (λ key. key.is_primary) keys
+
+-- the columns of those that are written PRIMARY KEY
+abbrev pub primary_columns : WrittenKey → Option (List Name)
+primary_columns key = if key.is_primary then Some key.columns else None
+
+abbrev pub primaries : List WrittenKey → List (List Name)
+primaries keys = filter_map primary_columns keys

@@ -3,6 +3,8 @@ pub mod Catalog
 pub mod Checks
 pub mod Columns
 pub mod Fault
+pub mod Granting
+pub mod Held
 pub mod Keys
 pub mod Lookups
 pub mod Reference
@@ -13,3 +15,9 @@ pub mod View
 pub mod Written
 pub mod Views
 pub mod Declares
+pub mod Exact
+pub mod UserTables
+pub mod Draft
+pub mod Parts
+pub mod ViewGrants
+pub mod ViewMade

@@ -1,24 +1,40 @@
 -- References of a table definition, and the keys that they are to (ISO/IEC 9075:1992, 11.8).
-use Rattle.std.specs.Prelude.{◌≡◌, ℕ, nat_lt, Bool, true, ◌&&◌, List, [], ◌∷◌, ◌++◌, length, map, slice_get, Option, None, Some, IfSome, unwrap_or}
+use Rattle.std.specs.Prelude.{◌≡◌, ⊤, ℕ, nat_lt, Bool, false, true, ◌&&◌, List, [], ◌∷◌, ◌++◌, length, map, slice_get, Option, None, Some, IfSome, unwrap_or, Ok}
+use Rattle.std.specs.List.{list_all}
+use Rattle.std.specs.Option.{option_map}
 use Rattle.std.specs.Borrow.{Bor}
 use Rattle.sq_lex.specs.declared.name.Name.{Name}
 use Rattle.sq_store.specs.Keys.{Keys, keys_at}
 use Rattle.sq_tree.specs.declared.schema.TableDefinition.{TableDefinition}
 use Rattle.sq_bound.specs.Fits.{keys_of_bases}
+use Rattle.sq_value.specs.declared.domain.Kind.{Kind}
+use Rattle.sq_rules.specs.Privilege.{Privilege}
+use Rattle.sq_rules.specs.Schema as rules
+use Rattle.sq_rules.specs.Words.{is_none_or}
 use Rattle.sq_bound.specs.Names.{are_positions, option_all}
+use Rattle.sq_bound.specs.WellFormed.{base_kinds, kinds_of_columns}
 use Rattle.sq_bound.specs.declared.names.BaseTable.{BaseTable}
 use Rattle.sq_bound.specs.declared.names.Column.{Column}
 use Rattle.sq_bound.specs.declared.names.Reference.{Reference}
 use Rattle.sq_bound.specs.declared.names.TableBody.{TableBody}
 use Rattle.sq_bound.specs.declared.names.TableBody.TheVariants as body
 use Rattle.sq_bound.specs.declared.names.TableDesc.{TableDesc}
+use Rattle.sq_declaring.specs.Catalog as declaring
+use Rattle.sq_declaring.specs.Catalog.{Entry, may}
+use Rattle.sq_declaring.specs.Outcome.{Outcome, ◌>>=◌, each}
+use Rattle.sq_declaring.specs.Reference as definition
+use Rattle.sq_declaring.specs.Reference.{BoundReference, ReferencedTable}
 use Rattle.sq_catalog.specs.Catalog.{Catalog, named_by, number_meant}
+use Rattle.sq_catalog.specs.Exact.{entry_declared, names_in as column_names}
 use Rattle.sq_catalog.specs.Keys.{StandAt}
 use Rattle.sq_catalog.specs.References.{AreListed, HasReferencesOf, IsToKey, ReferentialConstraint, key_referenced}
 use Rattle.sq_catalog.specs.Stored.{IsNumbered, IsStored}
 use Rattle.sq_catalog.specs.declared.catalog.FullName.{FullName}
 use Rattle.sq_catalog.specs.declared.reference.FoundReference.{FoundReference}
+use Rattle.sq_catalog.specs.declared.reference.BoundReferences.{BoundReferences}
 use Rattle.sq_catalog.specs.declared.reference.ReferencedKey.{ReferencedKey}
+use Rattle.sq_catalog.specs.declared.target.OwnKeys.{OwnKeys}
+use Rattle.sq_catalog.specs.declared.target.Target.{Target}
 use Rattle.sq_catalog.specs.declared.written.WrittenReference.{WrittenReference}
 
 -- the referential constraint that is lent
@@ -35,10 +51,19 @@ abbrev pub target_width : ℕ → Option (Bor TableDesc) → ℕ
 target_width own None = own
 target_width own (Some t) = length t.now.columns
 
--- its columns are columns of the two tables, and the earlier one is stored
+-- the columns of a base table are of its kinds
+abbrev pub HasKinds : List Kind → TableBody → Type 0
+HasKinds kinds (body.Base b) = base_kinds b ≡ kinds
+HasKinds kinds (body.View v) = ⊤
+
+abbrev pub HasOwnKinds : TableDesc → Type 0
+HasOwnKinds t = HasKinds (kinds_of_columns t.columns) t.body
+
+-- its columns are columns of the two tables, and the earlier one is stored, with columns of its kinds
 pub record IsFound (bases : List BaseTable) (columns : ℕ) (f : FoundReference) : Type 0 where
   pub own : are_positions columns f.columns ≡ true
   pub stored : IfSome f.earlier (λ t. IsStored bases t.now)
+  pub kinds : IfSome f.earlier (λ t. HasOwnKinds t.now)
   pub listed : option_all (are_positions (target_width columns f.earlier)) f.listed ≡ true
 
 -- a name means the table that is being defined, of this name, or an earlier one
@@ -113,3 +138,59 @@ keys_with bases own = keys_of_bases bases ++ own ∷ []
 -- a reference to one of the keys, by columns of a table of so many
 abbrev pub is_to : List Keys → ℕ → Reference → Bool
 is_to keys columns r = nat_lt r.key (length (keys_at keys r.table)) && are_positions columns r.by_key
+
+-- ---- as the definitions see it
+
+-- a reference as it is written
+abbrev pub reference_seen : WrittenReference → rules.Reference
+reference_seen w = record { columns = w.columns; references = w.to.now }
+
+-- what stands under a table's name
+abbrev pub entry_of : TableDesc → Entry
+entry_of t = entry_declared (record { user = t.user; name = t.name }) t
+
+abbrev pub entries_seen : Option (Bor TableDesc) → Option Entry
+entries_seen earlier = option_map (λ t. entry_of t.now) earlier
+
+abbrev pub found_seen : FoundReference → definition.FoundReference
+found_seen f = record { columns = f.columns; earlier = entries_seen f.earlier; columns_listed = f.listed }
+
+abbrev pub target_seen : Target → ReferencedTable
+target_seen t = record {
+  place = t.place;
+  names = column_names t.columns.now;
+  kinds = kinds_of_columns t.columns.now;
+  keys = t.keys.now;
+  primary_key = t.primary;
+}
+
+abbrev pub own_seen : OwnKeys → ReferencedTable
+own_seen own = record {
+  place = length own.before.now;
+  names = column_names own.columns.now;
+  kinds = kinds_of_columns own.columns.now;
+  keys = own.keys.now.columns;
+  primary_key = own.keys.now.primary;
+}
+
+abbrev pub key_seen : ReferencedKey → definition.ReferencedKey
+key_seen k = record { place = k.place; columns = k.columns.now; columns_listed = k.listed.now }
+
+abbrev pub reference_with : Reference × Bool → BoundReference
+reference_with made = record { reference = made.0; is_permitted = made.1 }
+
+-- references, and whether a user may make all of them
+abbrev pub references_made : {A : Type 0} → (A → Outcome BoundReference) → List A → Outcome (List Reference × Bool)
+references_made bound found = each bound found >>= λ made. Ok (map (λ r. r.reference) made, list_all (λ r. r.is_permitted) made)
+
+-- a reference is added, if it is made
+pub record IsReferenceMade (o : Outcome BoundReference) (old new : BoundReferences) : Type 0 where
+  pub made : BoundReference
+  pub is_made : o ≡ Ok made
+  pub added : new.references ≡ old.references ++ made.reference ∷ []
+  pub permitted : new.are_permitted ≡ (old.are_permitted && made.is_permitted)
+
+-- the user holds REFERENCES on the column at a position, if there is one
+abbrev pub may_reference_at : declaring.Catalog → Name → TableDesc → ℕ → Bool
+may_reference_at c user t n =
+    is_none_or (λ name. may c false user (record { user = t.user; name = t.name }) (Privilege.references name)) (slice_get (column_names t.columns) n)

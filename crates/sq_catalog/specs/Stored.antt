@@ -7,22 +7,25 @@ use Rattle.std.specs.Option.{option_map}
 use Rattle.std.specs.List.{All, AllByRecursion, AllZip, list_all}
 use Rattle.sq_lex.specs.declared.name.Name.{Name}
 use Rattle.sq_value.specs.declared.domain.Kind.{Kind}
+use Rattle.sq_meaning.specs.Target.{places_of}
 use Rattle.sq_bound.specs.Fits.{FitsQuery, IsBase, IsOver, refers}
 use Rattle.sq_bound.specs.Known.{under_of}
 use Rattle.sq_bound.specs.Names.{is_kind_at}
 use Rattle.sq_bound.specs.WellFormed.{IsCond, IsLeaf, IsSelect, IsTable, IsUpdatable, TableKinds, base_kinds, kinds_of_columns, kinds_of_select, of_base_at, only, place_of}
 use Rattle.sq_bound.specs.declared.condition.BoundCond.{BoundCond}
-use Rattle.sq_bound.specs.declared.condition.BoundSpecification.{BoundSpecification, out-BoundSpecification}
+use Rattle.sq_bound.specs.declared.condition.BoundSpecification.{BoundSpecification}
 use Rattle.sq_bound.specs.declared.query.UpdatableQuery.{UpdatableQuery}
 use Rattle.sq_bound.specs.declared.condition.TablePlace.{TablePlace}
 use Rattle.sq_bound.specs.declared.condition.TablePlace.TheVariants.{Base, View}
+use Rattle.sq_bound.specs.declared.expression.BoundExpr.{BoundExpr}
+use Rattle.sq_bound.specs.declared.expression.BoundExpr.TheVariants as expr
+use Rattle.sq_bound.specs.declared.expression.Place.{Place}
 use Rattle.sq_bound.specs.declared.names.BaseTable.{BaseTable}
 use Rattle.sq_bound.specs.declared.names.Column.{Column}
 use Rattle.sq_bound.specs.declared.names.Leaf.{Leaf}
 use Rattle.sq_bound.specs.declared.names.TableBody.{TableBody}
 use Rattle.sq_bound.specs.declared.names.TableBody.TheVariants as body
 use Rattle.sq_bound.specs.declared.names.TableDesc.{TableDesc}
-use Rattle.sq_bind.specs.Updatable.{AreColumns}
 use Rattle.sq_catalog.specs.Catalog.{Catalog, SeenView, column_kinds, itself, kinds_at, table_number}
 use Rattle.sq_catalog.specs.declared.catalog.FullName.{FullName}
 
@@ -36,11 +39,17 @@ abbrev pub IsUnderItself : TableBody → Option Leaf → Type 0
 IsUnderItself (body.Base b) under = option_map under_of under ≡ Some (itself b.place)
 IsUnderItself (body.View v) under = ⊤
 
+-- each column of a base table is its own
+abbrev pub HasOwnPlaces : List Column → TableBody → Type 0
+HasOwnPlaces columns (body.Base b) = map (λ c. c.leaf_column) columns ≡ places_of b.columns
+HasOwnPlaces columns (body.View v) = ⊤
+
 -- a base table, or a view, over these base tables
 pub record IsStored (bases : List BaseTable) (t : TableDesc) : Type 0 where
   pub over : IsOver bases t
   pub body : IsBody bases (length t.columns) t.body
   pub itself : IsUnderItself t.body t.leaf
+  pub places : HasOwnPlaces t.columns t.body
 
 -- each table that stands under a name is over base tables that are stored
 abbrev pub AreStored : List BaseTable → List (FullName × TableDesc) → Type 0
@@ -148,9 +157,8 @@ pub record IsNextView (c : Catalog) (name : FullName) (t : TableDesc) : Type 0 w
   pub leaf : IfSome t.leaf (IsLeaf (column_kinds c))
   pub body : IsViewOver (column_kinds c) (kinds_of_columns t.columns) t.body
 
--- a view's query, bound over the tables and views of a catalog, and what it is where it is updatable: then it selects columns alone
+-- a view's query, bound over the tables and views of a catalog, and what it is where it is updatable
 pub record IsBoundOver (c : Catalog) (q : BoundSpecification) (updatable : Option ((Name × Name) × UpdatableQuery)) : Type 0 where
   pub fits : IfSome updatable (λ over. FitsQuery c.bases over.1)
   pub query : IsSelect (column_kinds c) [] [] q
   pub target : IfSome updatable (λ over. IsUpdatable (column_kinds c) [] (kinds_of_select q) over.1)
-  pub columns : IfSome updatable (λ over. AreColumns (out-BoundSpecification q).list)

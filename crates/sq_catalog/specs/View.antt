@@ -1,18 +1,33 @@
 -- Views as they are made, and what is under an updatable one (ISO/IEC 9075:1992, 11.19).
-use Rattle.std.specs.Prelude.{◌≡◌, Bool, if◌then◌else◌, length, List, [], ◌∷◌, ◌++◌, map, Option, None, Some, IfSome}
+use Rattle.std.specs.Prelude.{◌≡◌, Bool, if◌then◌else◌, length, List, [], ◌∷◌, ◌++◌, map, Option, None, Some}
+use Rattle.std.specs.Option.{IsSomeAnd}
 use Rattle.sq_lex.specs.declared.name.Name.{Name}
+use Rattle.sq_rules.specs.Schema.{has_name_twice}
+use Rattle.sq_rules.specs.declared.refusal.SchemaFault.TheVariants as fault
 use Rattle.sq_bound.specs.declared.condition.BoundCond.{BoundCond}
 use Rattle.sq_bound.specs.declared.condition.BoundSpecification.{BoundSpecification}
 use Rattle.sq_bound.specs.declared.names.Column.{Column}
 use Rattle.sq_bound.specs.declared.names.Leaf.{Leaf}
 use Rattle.sq_bound.specs.declared.names.TableDesc.{TableDesc}
 use Rattle.sq_bound.specs.declared.query.UpdatableQuery.{UpdatableQuery}
+use Rattle.sq_binding.specs.NumberedCondition.{ResultColumn}
+use Rattle.sq_declaring.specs.Outcome.{Outcome, ◌>>◌, refused_if}
+use Rattle.sq_declaring.specs.View.{as_many, own_names}
 use Rattle.sq_catalog.specs.Stored.{query_in}
 
 -- the names that are listed, or else the columns' own
 abbrev pub names_or : Option (List Name) → List (Option Name) → List (Option Name)
 names_or None own = own
 names_or (Some names) own = map (λ n. Some n) names
+
+-- the names of a query's columns: none twice, and none missing
+abbrev pub names_of_query : List ResultColumn → Outcome (List Name)
+names_of_query columns = refused_if fault.NameTwice (has_name_twice (own_names columns)) >> as_many columns (own_names columns)
+
+-- the names that are listed, or else those of the query's columns: as many as columns
+abbrev pub names_for : Option (List Name) → List ResultColumn → Outcome (List Name)
+names_for (Some names) columns = as_many columns names
+names_for None columns = names_of_query columns
 
 -- a table is a view with columns of these names, and this is its query
 pub record IsViewWith (names : List Name) (q : BoundSpecification) (t : TableDesc) : Type 0 where
@@ -36,4 +51,4 @@ pub record IsAbove (check_option : Bool) (over : UpdatableQuery) (columns : List
 -- a view over a query that isn't updatable has nothing under it
 abbrev pub IsOverQuery : Bool → Option ((Name × Name) × UpdatableQuery) → TableDesc → Type 0
 IsOverQuery check_option None t = t.leaf ≡ None
-IsOverQuery check_option (Some over) t = IfSome t.leaf (IsAbove check_option over.1 t.columns)
+IsOverQuery check_option (Some over) t = IsSomeAnd t.leaf (IsAbove check_option over.1 t.columns)

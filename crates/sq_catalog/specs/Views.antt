@@ -16,10 +16,10 @@ use Rattle.sq_bound.specs.declared.condition.BoundSpecification.{BoundSpecificat
 use Rattle.sq_bound.specs.declared.names.Column.{Column}
 use Rattle.sq_bound.specs.declared.names.TableDesc.{TableDesc}
 use Rattle.sq_bound.specs.declared.query.UpdatableQuery.{UpdatableQuery}
-use Rattle.sq_bind.specs.Written.{IsUpdatableOf}
-use Rattle.sq_select.specs.Names.{names_placed}
-use Rattle.sq_select.specs.Placed.{Around, select_placed}
-use Rattle.sq_select.specs.Written.{SelectIs}
+use Rattle.sq_binding.specs.PlacedQuery.{select_placed}
+use Rattle.sq_binding.proofs.ColumnNames.{names_placed}
+use Rattle.sq_promises.specs.Names.{outside, tables_of}
+use Rattle.sq_promises.specs.Written.{IsUpdatableOf, SelectIs}
 use Rattle.sq_catalog.specs.Catalog.{Catalog, SeenView, known, named_by}
 use Rattle.sq_catalog.specs.Stored.{query_in, seen}
 use Rattle.sq_catalog.specs.View.{conditions_with}
@@ -51,13 +51,12 @@ declared_views texts = flat_map text_views texts
 
 -- ---- what a view is
 
--- a view has no parameters, and is in no query
-abbrev pub around_view : KnownTables → Around
-around_view known = record { known = known; parameters = []; scopes = [] }
-
--- its query is the text's, where names of tables mean this
+-- its query is the text's, where names of tables mean this: it has no parameters, and is in no query
 abbrev pub HasQueryOf : KnownTables → WrittenView → BoundSpecification → Type 0
-HasQueryOf known w q = SelectIs (select_placed (around_view known) (select_of w.user w.view.query)) q
+HasQueryOf known w q = SelectIs (select_placed (outside known []) (select_of w.user w.view.query)) q
+
+abbrev pub names_written : KnownTables → WrittenView → Outcome (List (Option Name))
+names_written known w = names_placed (tables_of known) (select_of w.user w.view.query)
 
 -- its columns have the names that are listed, or those of the query's columns
 abbrev pub column_names : Option (CommaList Name) → Outcome (List (Option Name)) → Outcome (List (Option Name))
@@ -65,14 +64,14 @@ column_names None names = names
 column_names (Some list) names = Ok (map (λ n. Some n) (listed list))
 
 abbrev pub HasNamesOf : KnownTables → WrittenView → List Column → Type 0
-HasNamesOf known w columns = column_names w.view.columns (names_placed known (select_of w.user w.view.query)) ≡ Ok (map (λ c. Some c.name) columns)
+HasNamesOf known w columns = column_names w.view.columns (names_written known w) ≡ Ok (map (λ c. Some c.name) columns)
 
 -- What is under a view that may be changed: the base table under the table of its query, and behind the conditions in between its own.
 -- New and changed rows have to meet all of them where the check option is written, and else those that they have to meet below. Each
 -- column is the one of the base table that the query shows (7.9, 11.19).
 pub record IsUnderView (known : KnownTables) (w : WrittenView) (columns : List Column) (under : Under) : Type 0 where
   pub over : UpdatableQuery
-  pub is_over : IsUpdatableOf (around_view known) (select_of w.user w.view.query) over
+  pub is_over : IsUpdatableOf known [] (select_of w.user w.view.query) over
   pub base : under.base ≡ over.target.leaf.table.place
   pub conditions : under.conditions ≡ conditions_with over.target.leaf.conditions over.target.condition
   pub demanded : under.demanded ≡ (if w.view.check_option then length under.conditions else over.target.leaf.demanded)

@@ -1,13 +1,13 @@
 -- The columns of a table definition.
 use Rattle.std.specs.List.{list_any}
 use Rattle.std.specs.Borrow.{Bor}
-use Rattle.std.specs.Prelude.{ℕ, Bool, true, false, List, map}
+use Rattle.std.specs.Prelude.{ℕ, Bool, List, map}
 use Rattle.indexmap.specs.IndexSet.{index_set_len}
 use Rattle.sq_lex.specs.declared.name.Name.{Name}
 use Rattle.sq_tree.specs.declared.cond.Cond.{Cond}
 use Rattle.sq_tree.specs.declared.schema.ColumnConstraint.{ColumnConstraint}
-use Rattle.sq_tree.specs.declared.schema.ColumnConstraint.TheVariants as constraint
 use Rattle.sq_tree.specs.declared.schema.ColumnDefinition.{ColumnDefinition}
+use Rattle.sq_declaring.specs.Column.{is_not_null}
 use Rattle.sq_catalog.specs.declared.written.NamedColumns.{NamedColumns}
 
 -- the column definitions that are lent
@@ -27,8 +27,7 @@ abbrev pub column_count : NamedColumns → ℕ
 column_count columns = index_set_len columns.names
 
 abbrev pub is_not_null_constraint : ColumnConstraint → Bool
-is_not_null_constraint constraint.NotNull = true
-is_not_null_constraint _ = false
+is_not_null_constraint = is_not_null
 
 -- NOT NULL is written for a column (11.4)
 abbrev pub is_written_not_null : ColumnDefinition → Bool

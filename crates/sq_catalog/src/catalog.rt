@@ -1,29 +1,36 @@
-//! The catalog, built element by element (ISO/IEC 9075:1992, 11.1).
+//! The catalog: the tables, views and privileges that are defined, and what their names mean (ISO/IEC 9075:1992, 4.9 and 4.12).
 
-ghost use Rattle.std.specs.Prelude.{◌≡◌, ◌<◌, List, [], ◌∷◌, ◌++◌, true, IfErr, IfOk, IfSome, IsSome, None, OnErr, OnOk, is_none, length, map, nat_eq};
+ghost use Rattle.std.specs.Prelude.{◌≡◌, ◌<◌, List, [], true, IfSome, IsSome, OnOk, is_none, length, nat_eq, nat_le};
 ghost use Rattle.std.specs.Map.{keys_of};
 ghost use Rattle.std.specs.Option.{option_map};
-ghost use Rattle.sq_bound.specs.Known.{known_by};
 ghost use Rattle.sq_store.specs.Keys.{keys_of as keys_given};
-ghost use Rattle.sq_bound.specs.Fits.{all_refer, keys_of_bases};
+ghost use Rattle.sq_meaning.specs.Spelled.{table_of};
 ghost use Rattle.sq_meaning.specs.WellFormed.{HasValue};
+ghost use Rattle.sq_rules.specs.declared.refusal.SchemaFault.TheVariants as refusal;
+ghost use Rattle.sq_bound.specs.Fits.{all_refer, keys_of_bases};
+ghost use Rattle.sq_bound.specs.Known.{known_by};
 ghost use Rattle.sq_bound.specs.WellFormed.{IsTable, IsViewAmong, TableKinds, place_of};
 ghost use Rattle.sq_bound.specs.declared.names.BaseTable.{BaseTable as Base};
-ghost use Rattle.sq_catalog.specs.Catalog.{Adds, AreViewQueries, AreViewQueries-prop, Gains, IsNewName, base_there, column_kinds, declared_definitions, declared_tables, definition_in, known, named_by, schema_definitions, schema_tables, table_in, table_number, text_definitions, text_tables};
-ghost use Rattle.sq_catalog.specs.Declares.{Declares};
-ghost use Rattle.sq_catalog.specs.Fault.{IsOfSomeText, IsOfText};
-ghost use Rattle.sq_catalog.specs.Stored.{AreStored, AreTables, IsNamed, IsNext, IsNextView, IsNumbered, IsStored, StandsAt, queries_of, query_in, seen};
-ghost use Rattle.sq_catalog.specs.Views.{AddsViews, GainsViews, declared_views, schema_views, text_views, view_in};
+ghost use Rattle.sq_declaring.specs.Catalog as definition;
+ghost use Rattle.sq_declaring.specs.Catalog.{table_count};
+ghost use Rattle.sq_declaring.specs.Declaring.{with_user};
+ghost use Rattle.sq_declaring.specs.Outcome as outcome;
+ghost use Rattle.sq_declaring.specs.Table.{has_place, is_taken, most_tables};
+ghost use Rattle.sq_catalog.specs.Catalog.{AreViewQueries, AreViewQueries-prop, Gains, IsNewName, base_there, column_kinds, known, named_by, table_number};
+ghost use Rattle.sq_catalog.specs.Exact.{declared, described, entry_declared, name_in};
+ghost use Rattle.sq_catalog.specs.Fault.{Makes, Passes};
+ghost use Rattle.sq_catalog.specs.Stored.{AreStored, AreTables, IsNamed, IsNumbered, IsStored, StandsAt, queries_of};
+ghost use Rattle.sq_catalog.specs.Views.{GainsViews};
 
-use crate::fault::{CatalogFault, ElementFault, RefusalName, SchemaRefusal, refused_if};
-use crate::grants::{Held, Privilege};
+use crate::fault::{ElementFault, refused_if};
+use crate::held::Held;
 use crate::written::add_name;
 use indexmap::{IndexMap, IndexSet};
 use sq_bound::{Action, BaseTable, Names, Shared, TableDesc, TablePlace};
-use sq_items::Items;
 use sq_lex::Name;
-use sq_tree::{SchemaDefinition, SchemaElement, SchemaText, TableName};
-use std::alloc::{AllocError, Global};
+use sq_rules::SchemaFault;
+use sq_tree::TableName;
+use std::alloc::Global;
 use std::marker::Model;
 
 /// The greatest number of tables and views (own rule).
@@ -39,12 +46,12 @@ pub struct FullName {
 /// The tables, views and privileges that schema texts define.
 #[derive(Drop)]
 pub struct Catalog {
-    alloc: Global,
+    pub(crate) alloc: Global,
     users: IndexSet<Name>,
-    bases: IndexMap<FullName, TableDesc>,
-    views: IndexMap<FullName, TableDesc>,
-    base_tables: Vec<Shared<BaseTable>>,
-    keys: Vec<Vec<Vec<usize>>>,
+    pub(crate) bases: IndexMap<FullName, TableDesc>,
+    pub(crate) views: IndexMap<FullName, TableDesc>,
+    pub(crate) base_tables: Vec<Shared<BaseTable>>,
+    pub(crate) keys: Vec<Vec<Vec<usize>>>,
     pub(crate) held: Held,
     ghost counted: { nat_eq (length base_tables.items) (length (keys_of bases.entries)) ≡ true },
     ghost keyed: { keys_given keys.items ≡ keys_of_bases base_tables.items },
@@ -62,16 +69,18 @@ impl Model for Catalog {
     ghost use Rattle.sq_bound.specs.contracts.names.BaseColumn as column;
     ghost use Rattle.sq_bound.specs.contracts.names.BaseTable as base;
     ghost use Rattle.sq_bound.specs.contracts.names.Column as seen;
+    ghost use Rattle.sq_bound.specs.contracts.names.TableDesc as table;
     ghost use Rattle.sq_bound.specs.declared.condition.TablePlace.TheVariants.{Base, View};
     ghost use Rattle.sq_catalog.specs.Catalog.{AreViewQueries-prop, Catalog, kinds_at};
+    ghost use Rattle.sq_catalog.specs.Held.{grants_held};
     ghost use Rattle.sq_catalog.specs.Stored.{AreDescribed, AreNamed, AreStored, AreTables, StandFrom, all_described, columns_of, queries_of, seen_of};
 
     ghost Value = { Catalog };
 
     ghost coded = { Prim.hlevel
-        (codes, base.the_row.coded, column.the_row.coded, condition.the_row.coded, predicate.the_row.coded, specification.the_row.coded, expression.the_row.coded, seen.the_row.coded, AreViewQueries-prop) };
+        (codes, table.the_row.coded, base.the_row.coded, column.the_row.coded, condition.the_row.coded, predicate.the_row.coded, specification.the_row.coded, expression.the_row.coded, seen.the_row.coded, AreViewQueries-prop) };
 
-    ghost view = { λ c. record { tables = keys_of c.bases.entries; columns = columns_of c.bases.entries; bases = c.base_tables.items; view_names = keys_of c.views.entries; seen_views = seen_of c.views.entries; views = queries_of c.views.entries; described = all_described c.bases.entries; counted = c.counted; refer = c.refer; stand = c.stand } };
+    ghost view = { λ c. record { users = c.users.keys; base_entries = c.bases.entries; view_entries = c.views.entries; grants = grants_held c.held; tables = keys_of c.bases.entries; columns = columns_of c.bases.entries; bases = c.base_tables.items; view_names = keys_of c.views.entries; seen_views = seen_of c.views.entries; views = queries_of c.views.entries; described = all_described c.bases.entries; counted = c.counted; refer = c.refer; stand = c.stand } };
 
     ghost invariant = { λ c. AreStored c.base_tables.items c.bases.entries
         × AreStored c.base_tables.items c.views.entries
@@ -82,14 +91,13 @@ impl Model for Catalog {
 }
 
 impl Catalog {
-    /// The catalog of schema texts, or the first refusal in the order of the texts, of their schema definitions, of their
-    /// elements, and of `RefusalName` within one element.
-    pub fn build(alloc: Global, texts: &[SchemaText]) -> Result<Catalog, CatalogFault>
-        ensures tables { IfOk result (λ c. c.tables ≡ declared_tables texts.now) }
-        ensures declares { IfOk result (λ c. Declares texts.now (known c) c.bases c.views) }
-        ensures refused { IfErr result (IsOfSomeText (length texts.now)) }
+    /// Nothing is defined.
+    pub(crate) fn empty(alloc: Global) -> Catalog
+        ensures exact { declared result ≡ definition.empty }
+        ensures bases { (result.tables ≡ []) × (result.columns ≡ []) × (result.bases ≡ []) }
+        ensures views { (result.view_names ≡ []) × (result.seen_views ≡ []) × (result.views ≡ []) }
     {
-        let mut catalog = Catalog {
+        Catalog {
             alloc,
             users: IndexSet::new(alloc),
             bases: IndexMap::new(alloc),
@@ -97,13 +105,6 @@ impl Catalog {
             base_tables: Vec::new(alloc),
             keys: Vec::new(alloc),
             held: Held::new(alloc),
-        };
-        match catalog.add_texts(texts) {
-            Ok(()) => Ok(catalog),
-            Err(fault) => {
-                drop(catalog);
-                Err(fault)
-            }
         }
     }
 
@@ -118,127 +119,58 @@ impl Catalog {
         self.alloc
     }
 
-    fn add_texts(&mut self, texts: &[SchemaText]) -> Result<(), CatalogFault>
-        ensures tables { OnOk result
-            (Gains self.old self.new (declared_tables texts.now) (declared_definitions texts.now)) }
-        ensures views { OnOk result (GainsViews self.old self.new (declared_views texts.now)) }
-        ensures refused { IfErr result (IsOfSomeText (length texts.now)) }
-    {
-        for (number, text) in texts.iter().enumerate() {
-            self.add_text(number, text)?;
-        }
-        Ok(())
-    }
-
-    fn add_text(&mut self, text: usize, tree: &SchemaText) -> Result<(), CatalogFault>
-        ensures tables { OnOk result
-            (Gains self.old self.new (text_tables tree.now) (text_definitions tree.now)) }
-        ensures views { OnOk result (GainsViews self.old self.new (text_views tree.now)) }
-        ensures refused { IfErr result (IsOfText text) }
-    {
-        self.add_schema(text, 0, &tree.first)?;
-        for (number, schema) in tree.rest.as_slice().iter().enumerate() {
-            self.add_schema(text, number + 1, schema)?;
-        }
-        Ok(())
-    }
-
-    fn add_schema(
-        &mut self,
-        text: usize,
-        schema: usize,
-        definition: &SchemaDefinition,
-    ) -> Result<(), CatalogFault>
-        ensures tables { OnOk result
-            (Gains self.old self.new (schema_tables definition.now) (schema_definitions definition.now)) }
-        ensures views { OnOk result (GainsViews self.old self.new (schema_views definition.now)) }
-        ensures refused { IfErr result (IsOfText text) }
-    {
-        let user = definition.authorization;
-        if let Err(fault) = add_name(&mut self.users, user) {
-            return Err(placed(fault, text, schema, None));
-        }
-        for (number, element) in definition.elements.as_slice().iter().enumerate() {
-            if let Err(fault) = self.add_element(user, element) {
-                return Err(placed(fault, text, schema, Some(number)));
-            }
-        }
-        Ok(())
-    }
-
-    fn add_element(&mut self, user: Name, element: &SchemaElement) -> Result<(), ElementFault>
-        ensures tables { OnOk result
-            (Gains self.old self.new (table_in user element.now) (definition_in element.now)) }
-        ensures views { OnOk result (GainsViews self.old self.new (view_in user element.now)) }
-    {
-        match element {
-            SchemaElement::Table(table) => self.create_table(user, table),
-            SchemaElement::View(view) => self.create_view(user, view),
-            SchemaElement::Grant(grant) => self.grant(user, grant),
-        }
-    }
-
     /// Whether a table or view of the user's schema has the name that is to be created in it.
     pub(crate) fn check_new_name(
         &self,
         user: Name,
         full_name: &FullName,
     ) -> Result<(), ElementFault>
-        ensures { OnOk result (full_name.now.user ≡ user → IsNewName self.now full_name.now) }
+        ensures new { OnOk result (full_name.now.user ≡ user → IsNewName self.now full_name.now) }
+        ensures exact { Passes
+            (outcome.refused_if refusal.NameTwice (is_taken (declared self.now) user (name_in full_name.now))) result }
     {
         let is_used = full_name.user == user && self.entry(full_name).is_some();
-        refused_if(is_used, RefusalName::NameTwice)
+        refused_if(is_used, SchemaFault::NameTwice)
     }
 
     /// A table or view stands under its schema's user, and there are at most 1000.
     pub(crate) fn check_place(&self, user: Name, full_name: &FullName) -> Result<(), ElementFault>
-        ensures { OnOk result (full_name.now.user ≡ user) }
+        ensures own { OnOk result (full_name.now.user ≡ user) }
+        ensures exact { Passes (has_place (declared self.now) user (name_in full_name.now)) result }
     {
-        refused_if(full_name.user != user, RefusalName::OtherSchema)?;
-        let tables = self.bases.len() + self.views.len();
-        refused_if(tables >= MOST_TABLES, RefusalName::TooManyTables)
+        refused_if(full_name.user != user, SchemaFault::OtherSchema)?;
+        refused_if(self.is_full(), SchemaFault::TooManyTables)
+    }
+
+    fn is_full(&self) -> bool
+        ensures { result ≡ nat_le most_tables (table_count (declared self.now)) }
+    {
+        self.bases.len() + self.views.len() >= MOST_TABLES
+    }
+
+    /// The place of the next base table.
+    pub(crate) fn next_base(&self) -> usize
+        ensures place { result ≡ length self.now.bases }
+        ensures exact { result ≡ length (declared self.now).bases }
+    {
+        self.bases.len()
     }
 
     /// The place of the next view.
     pub(crate) fn next_view(&self) -> usize
-        ensures { result ≡ length self.now.views }
+        ensures place { result ≡ length self.now.views }
+        ensures exact { result ≡ length (declared self.now).views }
     {
         self.views.len()
     }
 
-    /// Adds a base table of a new name behind the others, and the table as names see it.
-    pub(crate) fn add_base(
-        &mut self,
-        name: FullName,
-        table: TableDesc,
-        base: Shared<BaseTable>,
-    ) -> Result<(), ElementFault>
-        requires new { IsNewName self.old name }
-        requires next { IsNext self.old.bases name table base }
-        ensures tables { OnOk result (Adds self.old self.new (name ∷ []) (table.columns ∷ []) (base ∷ [])) }
-        ensures views { OnOk result (GainsViews self.old self.new []) }
-    {
-        insert_with_keys(
-            self.alloc,
-            &mut self.bases,
-            &mut self.base_tables,
-            &mut self.keys,
-            name,
-            table,
-            base,
-        )
-    }
-
-    /// Adds a view of a new name behind the others.
-    pub(crate) fn add_view(&mut self, name: FullName, table: TableDesc) -> Result<(), ElementFault>
-        requires new { table_number self.old.view_names name.user name.name ≡ None }
-        requires next { IsNextView self.old name table }
+    /// A user has one schema.
+    pub(crate) fn add_user(&mut self, user: Name) -> Result<(), ElementFault>
         ensures tables { Gains self.old self.new [] [] }
-        ensures kept { (self.new.tables ≡ self.old.tables) × (self.new.columns ≡ self.old.columns) }
-        ensures views { OnOk result
-            (AddsViews self.old self.new (name ∷ []) (seen table ∷ []) (query_in table.body)) }
+        ensures views { GainsViews self.old self.new [] }
+        ensures exact { Makes (λ _. declared self.new) (with_user (declared self.old) user) result }
     {
-        insert_table(&mut self.views, name, table)
+        add_name(&mut self.users, user)
     }
 
     /// The place of the base table of this owner and name.
@@ -259,6 +191,9 @@ impl Catalog {
             ≡ known self.now full_name.now.user full_name.now.name }
         ensures number { IfSome result (λ entry. IsNumbered self.now.tables self.now.columns full_name.now
             entry.1.now.columns entry.1.now.body) }
+        ensures exact { option_map (λ entry. entry_declared full_name.now entry.1.now) result
+            ≡ definition.entry (declared self.now) (name_in full_name.now) }
+        ensures described { option_map (λ entry. entry.1.now) result ≡ described self.now (name_in full_name.now) }
     {
         match self.bases.get_full(full_name) {
             Some((place, _, table)) => Some((TablePlace::Base(place), table)),
@@ -282,145 +217,6 @@ impl Catalog {
             TablePlace::View(place) => value_at(&self.views, place),
         }
     }
-
-    fn holds(
-        &self,
-        user: Name,
-        action: Action,
-        table: (Name, Name),
-        column: Option<usize>,
-        to_grant: bool,
-    ) -> bool {
-        let full_name = FullName {
-            user: table.0,
-            name: table.1,
-        };
-        let Some((place, _)) = self.entry(&full_name) else {
-            return false;
-        };
-        if matches!(place, TablePlace::Base(_)) && full_name.user == user {
-            return true;
-        }
-        let privilege = Privilege { action, column };
-        self.held.has(user, place, privilege, to_grant)
-    }
-}
-
-/// Adds a base table as `insert_base` does, and the columns of its keys behind those of the others.
-#[tactic(auto, using(crate::proofs::Stored::keyed_added))]
-fn insert_with_keys(
-    alloc: Global,
-    tables: &mut IndexMap<FullName, TableDesc>,
-    bases: &mut Vec<Shared<BaseTable>>,
-    keys: &mut Vec<Vec<Vec<usize>>>,
-    name: FullName,
-    table: TableDesc,
-    base: Shared<BaseTable>,
-) -> Result<(), ElementFault>
-    requires new { table_number (keys_of tables.old.entries) name.user name.name ≡ None }
-    requires keyed { keys_given keys.old.items ≡ keys_of_bases bases.old.items }
-    ensures names { OnOk result (keys_of tables.new.entries ≡ keys_of tables.old.entries ++ name ∷ []) }
-    ensures added { OnOk result (tables.new.entries ≡ tables.old.entries ++ (name, table) ∷ []) }
-    ensures bases { OnOk result (bases.new.items ≡ bases.old.items ++ base ∷ []) }
-    ensures unchanged { OnErr result
-        ((tables.new.entries ≡ tables.old.entries) × (bases.new.items ≡ bases.old.items)) }
-    ensures keyed { keys_given keys.new.items ≡ keys_of_bases bases.new.items }
-{
-    match columns_of_keys(alloc, base.get()) {
-        Ok(columns) => insert_with(tables, bases, keys, name, table, base, columns),
-        Err(_) => {
-            drop(base);
-            drop(table);
-            Err(ElementFault::NoMemory)
-        }
-    }
-}
-
-/// The columns of each key of a base table.
-fn columns_of_keys(alloc: Global, base: &BaseTable) -> Result<Vec<Vec<usize>>, AllocError>
-    ensures { IfOk result (λ columns. map (λ key. key.items) columns.items ≡ base.now.keys) }
-{
-    key_columns(alloc, base.keys.as_slice())
-}
-
-/// Adds a base table as `insert_base` does, and the columns of its keys.
-fn insert_with(
-    tables: &mut IndexMap<FullName, TableDesc>,
-    bases: &mut Vec<Shared<BaseTable>>,
-    keys: &mut Vec<Vec<Vec<usize>>>,
-    name: FullName,
-    table: TableDesc,
-    base: Shared<BaseTable>,
-    columns: Vec<Vec<usize>>,
-) -> Result<(), ElementFault>
-    requires { table_number (keys_of tables.old.entries) name.user name.name ≡ None }
-    ensures names { OnOk result (keys_of tables.new.entries ≡ keys_of tables.old.entries ++ name ∷ []) }
-    ensures added { OnOk result (tables.new.entries ≡ tables.old.entries ++ (name, table) ∷ []) }
-    ensures bases { OnOk result (bases.new.items ≡ bases.old.items ++ base ∷ []) }
-    ensures keys { OnOk result (keys.new.items ≡ keys.old.items ++ columns ∷ []) }
-    ensures unchanged { OnErr result
-        ((tables.new.entries ≡ tables.old.entries) × (bases.new.items ≡ bases.old.items)) }
-    ensures unkeyed { OnErr result (keys.new.items ≡ keys.old.items) }
-{
-    if keys.push(columns).is_err() {
-        drop(base);
-        drop(table);
-        return Err(ElementFault::NoMemory);
-    }
-    let inserted = insert_base(tables, bases, name, table, base);
-    if inserted.is_err() {
-        drop(keys.pop());
-    }
-    inserted
-}
-
-/// Adds a base table behind the others, and the table as names see it under a new name: both, or out of memory neither.
-fn insert_base(
-    tables: &mut IndexMap<FullName, TableDesc>,
-    bases: &mut Vec<Shared<BaseTable>>,
-    name: FullName,
-    table: TableDesc,
-    base: Shared<BaseTable>,
-) -> Result<(), ElementFault>
-    requires { table_number (keys_of tables.old.entries) name.user name.name ≡ None }
-    ensures names { OnOk result (keys_of tables.new.entries ≡ keys_of tables.old.entries ++ name ∷ []) }
-    ensures added { OnOk result (tables.new.entries ≡ tables.old.entries ++ (name, table) ∷ []) }
-    ensures bases { OnOk result (bases.new.items ≡ bases.old.items ++ base ∷ []) }
-    ensures unchanged { OnErr result
-        ((tables.new.entries ≡ tables.old.entries) × (bases.new.items ≡ bases.old.items)) }
-{
-    if bases.push(base).is_err() {
-        drop(table);
-        return Err(ElementFault::NoMemory);
-    }
-    let inserted = insert_table(tables, name, table);
-    if inserted.is_err() {
-        drop(bases.pop());
-    }
-    inserted
-}
-
-/// Adds a table or view of a new name.
-fn insert_table(
-    tables: &mut IndexMap<FullName, TableDesc>,
-    name: FullName,
-    table: TableDesc,
-) -> Result<(), ElementFault>
-    requires { table_number (keys_of tables.old.entries) name.user name.name ≡ None }
-    ensures names { OnOk result (keys_of tables.new.entries ≡ keys_of tables.old.entries ++ name ∷ []) }
-    ensures added { OnOk result (tables.new.entries ≡ tables.old.entries ++ (name, table) ∷ []) }
-    ensures unchanged { OnErr result (tables.new.entries ≡ tables.old.entries) }
-{
-    match tables.insert(name, table) {
-        Ok(before) => {
-            drop(before);
-            Ok(())
-        }
-        Err(error) => {
-            drop(error);
-            Err(ElementFault::NoMemory)
-        }
-    }
 }
 
 /// The table or view at a place among those of its kind.
@@ -436,24 +232,10 @@ fn value_at(tables: &IndexMap<FullName, TableDesc>, place: usize) -> Option<&Tab
     Some(table)
 }
 
-/// A fault of an element with the element's place.
-fn placed(fault: ElementFault, text: usize, schema: usize, element: Option<usize>) -> CatalogFault
-    ensures { IsOfText text result }
-{
-    match fault {
-        ElementFault::Refused(name) => CatalogFault::Refused(SchemaRefusal {
-            name,
-            text,
-            schema,
-            element,
-        }),
-        ElementFault::NoMemory => CatalogFault::NoMemory,
-    }
-}
-
 /// The full name that a text of a user writes.
 pub(crate) fn full_name(user: Name, written: TableName) -> FullName
-    ensures { result ≡ named_by user written }
+    ensures named { result ≡ named_by user written }
+    ensures exact { name_in result ≡ table_of user written }
 {
     FullName {
         user: match written.schema {
@@ -462,17 +244,6 @@ pub(crate) fn full_name(user: Name, written: TableName) -> FullName
         },
         name: written.table,
     }
-}
-
-/// The columns of each key.
-fn key_columns(alloc: Global, keys: &[Items<usize>]) -> Result<Vec<Vec<usize>>, AllocError>
-    ensures { IfOk result (λ columns. map (λ key. key.items) columns.items ≡ keys.now) }
-{
-    let mut columns = Vec::new(alloc);
-    for key in keys {
-        columns.push(Vec::from_slice(alloc, key.as_slice())?)?;
-    }
-    Ok(columns)
 }
 
 impl Names for Catalog {
@@ -504,7 +275,7 @@ impl Names for Catalog {
     }
 
     fn may(&self, user: Name, action: Action, table: (Name, Name), column: Option<usize>) -> bool {
-        self.holds(user, action, table, column, false)
+        self.may_perform(false, user, action, table, column)
     }
 
     fn may_grant(
@@ -514,6 +285,6 @@ impl Names for Catalog {
         table: (Name, Name),
         column: Option<usize>,
     ) -> bool {
-        self.holds(user, action, table, column, true)
+        self.may_perform(true, user, action, table, column)
     }
 }

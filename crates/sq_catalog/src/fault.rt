@@ -1,65 +1,39 @@
 //! Why schema texts are refused.
 
 ghost use Rattle.std.specs.Prelude.{◌≡◌, false, OnOk};
-ghost use Rattle.sq_catalog.specs.Fault.{refused_as};
+ghost use Rattle.sq_declaring.specs.Outcome.{refused_if};
+ghost use Rattle.sq_catalog.specs.Fault.{Passes};
 
-use sq_bound::BindFault;
+use sq_rules::SchemaFault;
 use std::alloc::AllocError;
 use std::{error, fmt};
 use thiserror::Error;
 
-/// What is wrong with a schema definition or one of its elements. Where several hold, the first in this order is
-/// answered.
+/// What is wrong with a schema definition or one of its elements. Where several hold, the first in the order of
+/// `SchemaFault` is answered.
 #[derive(Clone, Copy, Debug, PartialEq, Eq)]
-pub enum RefusalName {
-    /// A user's second schema, a table or view name of the schema that is used, or a column name twice in one table or view.
-    NameTwice,
-    /// A table or column that a key, reference or grant names is not there.
-    UnknownName,
-    /// A precision, scale or length that is no whole number written without a point, or out of range.
-    BadType,
-    /// A key column is not declared NOT NULL.
-    NullableKey,
-    /// Two primary keys in a table, a column twice in a key or reference list, or more than 6 columns in one.
-    BadKey,
-    /// A reference to a view or to columns that are no key; counts or kinds differ; no list and no primary key.
-    BadReference,
-    /// A CHECK condition with a fault.
-    BadCheck,
-    /// A default of another kind, one that can't be stored, or USER in a text shorter than 18.
-    BadDefault,
-    /// A view whose query has a fault, whose column list has another count, or with a column without a name.
-    BadView,
-    /// A check option on a view that is not updatable.
-    BadCheckOption,
-    /// SELECT for a view, REFERENCES for a reference, or the grant option for a grant is missing.
-    PrivilegeMissing,
-    /// More than 64 columns in a table.
-    TooManyColumns,
-    /// A table or view under another user's name, or a column twice in a grant's list.
-    OtherSchema,
-    /// More than 1000 tables and views.
-    TooManyTables,
+pub struct RefusalName {
+    pub fault: SchemaFault,
 }
 
 impl RefusalName {
     /// The name as it is printed.
     fn text(self) -> &'static str {
-        match self {
-            RefusalName::NameTwice => "NameTwice",
-            RefusalName::UnknownName => "UnknownName",
-            RefusalName::BadType => "BadType",
-            RefusalName::NullableKey => "NullableKey",
-            RefusalName::BadKey => "BadKey",
-            RefusalName::BadReference => "BadReference",
-            RefusalName::BadCheck => "BadCheck",
-            RefusalName::BadDefault => "BadDefault",
-            RefusalName::BadView => "BadView",
-            RefusalName::BadCheckOption => "BadCheckOption",
-            RefusalName::PrivilegeMissing => "PrivilegeMissing",
-            RefusalName::TooManyColumns => "TooManyColumns",
-            RefusalName::OtherSchema => "OtherSchema",
-            RefusalName::TooManyTables => "TooManyTables",
+        match self.fault {
+            SchemaFault::NameTwice => "NameTwice",
+            SchemaFault::UnknownName => "UnknownName",
+            SchemaFault::BadType => "BadType",
+            SchemaFault::NullableKey => "NullableKey",
+            SchemaFault::BadKey => "BadKey",
+            SchemaFault::BadReference => "BadReference",
+            SchemaFault::BadCheck => "BadCheck",
+            SchemaFault::BadDefault => "BadDefault",
+            SchemaFault::BadView => "BadView",
+            SchemaFault::BadCheckOption => "BadCheckOption",
+            SchemaFault::PrivilegeMissing => "PrivilegeMissing",
+            SchemaFault::TooManyColumns => "TooManyColumns",
+            SchemaFault::OtherSchema => "OtherSchema",
+            SchemaFault::TooManyTables => "TooManyTables",
         }
     }
 }
@@ -75,7 +49,7 @@ impl error::Error for RefusalName {}
 /// Why an element is not defined.
 #[derive(Clone, Copy, Debug, PartialEq, Eq)]
 pub(crate) enum ElementFault {
-    Refused(RefusalName),
+    Refused(SchemaFault),
     NoMemory,
 }
 
@@ -90,23 +64,14 @@ impl From<AllocError> for ElementFault {
 }
 
 /// The refusal, if something is wrong.
-pub(crate) fn refused_if(is_wrong: bool, name: RefusalName) -> Result<(), ElementFault>
-    ensures { OnOk result (is_wrong ≡ false) }
+pub(crate) fn refused_if(is_wrong: bool, fault: SchemaFault) -> Result<(), ElementFault>
+    ensures right { OnOk result (is_wrong ≡ false) }
+    ensures exact { Passes (refused_if fault is_wrong) result }
 {
     if is_wrong {
-        Err(ElementFault::Refused(name))
+        Err(ElementFault::Refused(fault))
     } else {
         Ok(())
-    }
-}
-
-/// A binding fault inside an element, which is refused by one name; running out of memory is no refusal.
-pub(crate) fn refused_as(fault: BindFault, name: RefusalName) -> ElementFault
-    ensures { result ≡ refused_as fault name }
-{
-    match fault {
-        BindFault::NoMemory => ElementFault::NoMemory,
-        _ => ElementFault::Refused(name),
     }
 }
 

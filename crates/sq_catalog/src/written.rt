@@ -1,27 +1,37 @@
 //! What a table definition writes, by kinds of its elements (ISO/IEC 9075:1992, 11.3, 11.4, 11.6).
 
-ghost use Rattle.std.specs.Prelude.{◌≡◌, ◌<◌, ◌+◌, ◌∷◌, ◌++◌, [], Some, true, flat_map, length, map, position, vec_len, IfOk, IsOkAnd, OnOk};
-ghost use Rattle.sq_value.specs.Domain.{IsDomain};
+ghost use Rattle.std.specs.Prelude.{◌≡◌, ◌<◌, ◌+◌, ◌∷◌, ◌++◌, [], Some, false, true, flat_map, length, map, nat_eq, position, vec_len, IfErr, IfOk, IsOkAnd, OnOk};
 ghost use Rattle.sq_meaning.specs.Spelled as meaning;
+ghost use Rattle.indexmap.specs.IndexSet.{index_set_len};
+ghost use Rattle.sq_rules.specs.Schema.{has_name_twice};
+ghost use Rattle.sq_rules.specs.Words as words;
+ghost use Rattle.sq_rules.specs.declared.refusal.SchemaFault.TheVariants.{NameTwice};
+ghost use Rattle.sq_declaring.specs.Column.{typed_column};
+ghost use Rattle.sq_declaring.specs.Outcome as outcome;
+ghost use Rattle.sq_declaring.specs.Position as definition;
 ghost use Rattle.sq_bound.specs.Names.{are_positions, is_name};
-ghost use Rattle.sq_bound.specs.Parameter.{IsDomain-prop};
 ghost use Rattle.sq_catalog.specs.Checks.{check_of_column, checks_in, checks_written};
 ghost use Rattle.sq_catalog.specs.Columns.{column_in, columns_written};
+ghost use Rattle.sq_catalog.specs.Exact.{name_added};
+ghost use Rattle.sq_catalog.specs.Fault.{Makes, Passes};
 ghost use Rattle.sq_catalog.specs.Keys.{StandAt, key_of_column, keys_in, keys_written};
 ghost use Rattle.sq_catalog.specs.Reference.{constraints_lent};
 ghost use Rattle.sq_catalog.specs.References.{reference_on, references_in, references_written};
+ghost use Rattle.sq_catalog.specs.Table.{typed_seen};
+ghost use Rattle.sq_catalog.specs.declared.fault.ElementFault.TheVariants.{NoMemory};
 ghost use Rattle.sq_catalog.specs.Written.{column_count, conditions_lent, definitions_lent, is_written_not_null, names_at};
 
-use crate::fault::{ElementFault, RefusalName, refused_if};
+use crate::fault::{ElementFault, refused_if};
+use crate::typed::TypedColumn;
 use indexmap::IndexSet;
 use sq_items::Items;
 use sq_lex::Name;
 use sq_literal::domain_of;
+use sq_rules::SchemaFault;
 use sq_tree::{
     ColumnConstraint, ColumnDefinition, CommaList, Cond, ForeignKey, References, TableDefinition,
     TableElement,
 };
-use sq_value::Domain;
 use std::alloc::Global;
 
 /// A key as it is written.
@@ -47,18 +57,10 @@ pub(crate) struct Written<'t> {
     pub checks: Vec<&'t Cond>,
 }
 
-/// A column of a definition, and its domain.
-#[derive(Clone, Copy)]
-pub(crate) struct TypedColumn<'t> {
-    pub definition: &'t ColumnDefinition,
-    pub domain: Domain,
-    ghost is_domain: { IsDomain domain } by { IsDomain-prop domain },
-    ghost of_type: { meaning.domain_of definition.now.data_type ≡ Some domain },
-}
-
 /// The names of a list.
 pub(crate) fn names_of(alloc: Global, list: &CommaList<Name>) -> Result<Items<Name>, ElementFault>
-    ensures { IfOk result (λ names. names ≡ meaning.listed list.now) }
+    ensures names { IfOk result (λ names. names ≡ meaning.listed list.now) }
+    ensures memory { IfErr result (λ fault. fault ≡ NoMemory) }
 {
     let mut names = Items::new(alloc);
     names.push(list.first)?;
@@ -69,7 +71,8 @@ pub(crate) fn names_of(alloc: Global, list: &CommaList<Name>) -> Result<Items<Na
 }
 
 fn only_name(alloc: Global, name: Name) -> Result<Items<Name>, ElementFault>
-    ensures { IfOk result (λ names. names ≡ name ∷ []) }
+    ensures names { IfOk result (λ names. names ≡ name ∷ []) }
+    ensures memory { IfErr result (λ fault. fault ≡ NoMemory) }
 {
     let mut names = Items::new(alloc);
     names.push(name)?;
@@ -88,6 +91,7 @@ pub(crate) fn parts_of<'t>(
         (λ written. conditions_lent written.checks.items ≡ checks_written definition.now) }
     ensures references { IfOk result
         (λ written. constraints_lent written.references.items ≡ references_written definition.now) }
+    ensures memory { IfErr result (λ fault. fault ≡ NoMemory) }
 {
     let mut written = Written {
         columns: Vec::new(alloc),
@@ -113,6 +117,7 @@ impl<'t> Written<'t> {
             ++ checks_in element.now) }
         ensures references { OnOk result (constraints_lent self.new.references.items
             ≡ constraints_lent self.old.references.items ++ references_in element.now) }
+        ensures memory { IfErr result (λ fault. fault ≡ NoMemory) }
     {
         match element {
             TableElement::Column(column) => self.add_column(alloc, column),
@@ -144,6 +149,7 @@ impl<'t> Written<'t> {
         ensures references { OnOk result (constraints_lent self.new.references.items
             ≡ constraints_lent self.old.references.items
             ++ flat_map (reference_on column.now.name) column.now.constraints) }
+        ensures memory { IfErr result (λ fault. fault ≡ NoMemory) }
     {
         pushed(self.columns.push(column).is_ok())?;
         for constraint in column.constraints.as_slice() {
@@ -166,6 +172,7 @@ impl<'t> Written<'t> {
             ++ check_of_column constraint.now) }
         ensures references { OnOk result (constraints_lent self.new.references.items
             ≡ constraints_lent self.old.references.items ++ reference_on name constraint.now) }
+        ensures memory { IfErr result (λ fault. fault ≡ NoMemory) }
     {
         match constraint {
             ColumnConstraint::NotNull => Ok(()),
@@ -183,6 +190,8 @@ impl<'t> Written<'t> {
         is_primary: bool,
         columns: Result<Items<Name>, ElementFault>,
     ) -> Result<(), ElementFault>
+        requires { IfErr columns (λ fault. fault ≡ NoMemory) }
+        ensures memory { IfErr result (λ fault. fault ≡ NoMemory) }
         ensures columns { self.new.columns ≡ self.old.columns }
         ensures keys { OnOk result (IsOkAnd columns (λ names. self.new.keys.items ≡ self.old.keys.items
             ++ record { is_primary = is_primary; columns = names } ∷ [])) }
@@ -205,6 +214,8 @@ impl<'t> Written<'t> {
         columns: Result<Items<Name>, ElementFault>,
         to: &'t References,
     ) -> Result<(), ElementFault>
+        requires { IfErr columns (λ fault. fault ≡ NoMemory) }
+        ensures memory { IfErr result (λ fault. fault ≡ NoMemory) }
         ensures columns { self.new.columns ≡ self.old.columns }
         ensures keys { self.new.keys ≡ self.old.keys }
         ensures checks { self.new.checks ≡ self.old.checks }
@@ -220,6 +231,7 @@ impl<'t> Written<'t> {
     }
 
     fn add_check(&mut self, cond: &'t Cond) -> Result<(), ElementFault>
+        ensures memory { IfErr result (λ fault. fault ≡ NoMemory) }
         ensures columns { self.new.columns ≡ self.old.columns }
         ensures keys { self.new.keys ≡ self.old.keys }
         ensures checks { OnOk result
@@ -232,7 +244,8 @@ impl<'t> Written<'t> {
 
 /// Out of memory, unless a push found room.
 pub(crate) fn pushed(found_room: bool) -> Result<(), ElementFault>
-    ensures { OnOk result (found_room ≡ true) }
+    ensures room { OnOk result (found_room ≡ true) }
+    ensures memory { IfErr result (λ fault. fault ≡ NoMemory) }
 {
     if found_room {
         Ok(())
@@ -255,6 +268,8 @@ pub(crate) fn named_columns(
 ) -> Result<NamedColumns, ElementFault>
     ensures count { IfOk result (λ named. column_count named ≡ length columns.now) }
     ensures names { IfOk result (λ named. names_at named ≡ map (λ w. w.name) (definitions_lent columns.now)) }
+    ensures exact { Passes
+        (outcome.refused_if NameTwice (has_name_twice (map (λ w. w.name) (definitions_lent columns.now)))) result }
 {
     let mut named = NamedColumns {
         names: IndexSet::new(alloc),
@@ -270,34 +285,27 @@ pub(crate) fn named_columns(
 
 impl NamedColumns {
     fn add_all(&mut self, columns: &[&ColumnDefinition]) -> Result<(), ElementFault>
+        requires none { names_at self.old ≡ [] }
         ensures count { OnOk result (column_count self.new ≡ column_count self.old + length columns.now) }
-        ensures names { OnOk result
-            (names_at self.new ≡ names_at self.old ++ map (λ w. w.name) (definitions_lent columns.now)) }
+        ensures names { OnOk result (names_at self.new ≡ map (λ w. w.name) (definitions_lent columns.now)) }
+        ensures exact { Passes
+            (outcome.refused_if NameTwice (has_name_twice (map (λ w. w.name) (definitions_lent columns.now)))) result }
     {
         for column in columns {
-            self.add(column)?;
+            add_name(&mut self.names, column.name)?;
         }
         Ok(())
-    }
-
-    fn add(&mut self, column: &ColumnDefinition) -> Result<(), ElementFault>
-        ensures count { OnOk result (column_count self.new ≡ column_count self.old + 1) }
-        ensures names { OnOk result (names_at self.new ≡ names_at self.old ++ column.now.name ∷ []) }
-    {
-        match self.names.insert_full(column.name) {
-            Ok((_, added)) => refused_if(!added, RefusalName::NameTwice),
-            Err(_) => Err(ElementFault::NoMemory),
-        }
     }
 
     /// The position of the column of a name.
     pub(crate) fn position(&self, name: Name) -> Result<usize, ElementFault>
         ensures within { IfOk result (λ place. place < column_count self.now) }
         ensures named { IfOk result (λ place. position (is_name name) (names_at self.now) ≡ Some place) }
+        ensures exact { Makes (λ place. place) (definition.position_of (names_at self.now) name) result }
     {
         match self.names.get_index_of(&name) {
             Some(position) => Ok(position),
-            None => Err(ElementFault::Refused(RefusalName::UnknownName)),
+            None => Err(ElementFault::Refused(SchemaFault::UnknownName)),
         }
     }
 
@@ -309,10 +317,12 @@ impl NamedColumns {
     ) -> Result<Items<usize>, ElementFault>
         ensures within { IfOk result (λ positions. are_positions (column_count self.now) positions ≡ true) }
         ensures named { IfOk result (StandAt (names_at self.now) wanted.now) }
+        ensures exact { Makes (λ places. places) (definition.positions_of (names_at self.now) wanted.now) result }
     {
         let mut positions = Items::new(alloc);
         for name in wanted {
-            positions.push(self.position(*name)?)?;
+            let position = self.position(*name)?;
+            positions.push(position)?;
         }
         Ok(positions)
     }
@@ -326,15 +336,25 @@ pub(crate) fn typed_columns<'t>(
     ensures count { IfOk result (λ typed. vec_len typed ≡ length definitions.now) }
     ensures definitions { IfOk result
         (λ typed. map (λ t. t.definition.now) typed.items ≡ definitions_lent definitions.now) }
+    ensures exact { Makes (λ typed. map typed_seen typed.items)
+        (outcome.each typed_column (definitions_lent definitions.now)) result }
 {
     let mut typed = Vec::new(alloc);
     for definition in definitions {
-        let Some(domain) = domain_of(&definition.data_type) else {
-            return Err(ElementFault::Refused(RefusalName::BadType));
-        };
-        pushed(typed.push(TypedColumn { definition, domain }).is_ok())?;
+        let column = typed_column(definition)?;
+        pushed(typed.push(column).is_ok())?;
     }
     Ok(typed)
+}
+
+fn typed_column<'t>(definition: &'t ColumnDefinition) -> Result<TypedColumn<'t>, ElementFault>
+    ensures definition { IfOk result (λ typed. typed.definition.now ≡ definition.now) }
+    ensures exact { Makes typed_seen (typed_column definition.now) result }
+{
+    match domain_of(&definition.data_type) {
+        Some(domain) => Ok(TypedColumn { definition, domain }),
+        None => Err(ElementFault::Refused(SchemaFault::BadType)),
+    }
 }
 
 /// Whether NOT NULL is written for a column.
@@ -348,17 +368,23 @@ pub(crate) fn is_not_null(column: &ColumnDefinition) -> bool
 }
 
 /// Adds a name that is not there yet.
-pub(crate) fn add_name(names: &mut IndexSet<Name>, name: Name) -> Result<(), ElementFault> {
+pub(crate) fn add_name(names: &mut IndexSet<Name>, name: Name) -> Result<(), ElementFault>
+    ensures count { OnOk result (index_set_len names.new ≡ index_set_len names.old + 1) }
+    ensures added { OnOk result (names.new.keys ≡ names.old.keys ++ name ∷ []) }
+    ensures exact { Makes (λ _. names.new.keys) (name_added names.old.keys name) result }
+{
     match names.insert_full(name) {
-        Ok((_, added)) => refused_if(!added, RefusalName::NameTwice),
+        Ok((_, added)) => refused_if(!added, SchemaFault::NameTwice),
         Err(_) => Err(ElementFault::NoMemory),
     }
 }
 
 /// Whether a list of positions has one twice.
-pub(crate) fn has_twice(positions: &[usize]) -> bool {
+pub(crate) fn has_twice(positions: &[usize]) -> bool
+    ensures { result ≡ words.has_twice nat_eq positions.now }
+{
     for (number, position) in positions.iter().enumerate() {
-        if positions[..number].contains(position) {
+        if positions[number + 1..].contains(position) {
             return true;
         }
     }

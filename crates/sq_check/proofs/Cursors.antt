@@ -8,14 +8,17 @@ use Rattle.sq_lex.specs.declared.name.Name.{Name}
 use Rattle.sq_tree.specs.declared.module.Cursor.{Cursor}
 use Rattle.sq_tree.specs.declared.module.ModuleText.{ModuleText}
 use Rattle.sq_bound.specs.WellFormed.{IsCursor, kinds_of_parameters}
-use Rattle.sq_bound.specs.declared.fault.BindFault.{BindFault}
 use Rattle.sq_bound.specs.declared.names.ParameterDesc.{ParameterDesc}
 use Rattle.sq_bound.specs.declared.query.BoundCursor.{BoundCursor}
 use Rattle.sq_bound.specs.declared.query.BoundQuery.{BoundQuery}
 use Rattle.sq_bound.specs.declared.query.CursorBody.TheVariants as body
 use Rattle.sq_bound.specs.declared.query.SortColumn.{SortColumn}
-use Rattle.sq_bind.specs.Written.{IsCursorOf}
+use Rattle.sq_binding.specs.Cursor.{cursor_bound}
+use Rattle.sq_binder.specs.declared.stop.Fault.{Fault as Broken}
+use Rattle.sq_promises.specs.Names.{declared}
+use Rattle.sq_promises.specs.Written.{IsCursorOf}
 use Rattle.sq_catalog.specs.Catalog.{Catalog, column_kinds, known}
+use Rattle.sq_catalog.specs.UserTables.{names_in}
 use Rattle.sq_module.specs.Program.{same_name}
 use Rattle.sq_module.specs.declared.program.BoundProcedure.{BoundProcedure}
 use Rattle.sq_module.specs.declared.program.Program.{Program}
@@ -27,8 +30,9 @@ use Rattle.sq_check.specs.declared.remark.Remark.{Remark}
 use Rattle.sq_check.specs.declared.remark.Remark.TheVariants.{Fault, NotUpdatable}
 use Rattle.sq_check.specs.declared.rule.Rule.{Rule}
 
-pub with_fault : (catalog : Catalog) (user : Name) (parameters : List ParameterDesc) (c : Cursor) (fault : BindFault) → IsRemarkWith catalog user parameters c (Fault fault)
-with_fault catalog user parameters c fault = (Err fault, refl)
+pub with_fault : (catalog : Catalog) (user : Name) (parameters : List ParameterDesc) (c : Cursor) (fault : Broken)
+    → cursor_bound (names_in catalog user) (declared parameters) c ≡ Err fault.rule → IsRemarkWith catalog user parameters c (Fault fault)
+with_fault catalog user parameters c fault found = (Err fault, (refl, found))
 
 pub with_body : {E : Type 0} (catalog : Catalog) (user : Name) (parameters : List ParameterDesc) (c : Cursor) (bound : BoundCursor) (answer : Result Remark E)
     → IsCursorOf (known catalog) user parameters c bound → IsCursor (column_kinds catalog) (kinds_of_parameters parameters) bound → IfOk answer (IsOfBody c bound.body)

@@ -14,14 +14,17 @@ use Rattle.sq_tree.specs.declared.statement.Statement.TheVariants as statement
 use Rattle.sq_rules.specs.Words.{is_some_and}
 use Rattle.sq_bound.specs.Known.{KnownTable}
 use Rattle.sq_bound.specs.WellFormed.{IsCursor, kinds_of_parameters}
-use Rattle.sq_bound.specs.declared.fault.BindFault.{BindFault}
 use Rattle.sq_bound.specs.declared.names.ParameterDesc.{ParameterDesc}
 use Rattle.sq_bound.specs.declared.query.BoundCursor.{BoundCursor}
 use Rattle.sq_bound.specs.declared.query.CursorBody.{CursorBody}
 use Rattle.sq_bound.specs.declared.query.CursorBody.TheVariants as body
 use Rattle.sq_bound.specs.declared.statement.BoundStatement.{BoundStatement}
-use Rattle.sq_bind.specs.Written.{IsCursorOf}
+use Rattle.sq_binding.specs.Cursor.{cursor_bound}
+use Rattle.sq_binder.specs.declared.stop.Fault.{Fault as Broken}
+use Rattle.sq_promises.specs.Names.{declared}
+use Rattle.sq_promises.specs.Written.{IsCursorOf}
 use Rattle.sq_catalog.specs.Catalog.{Catalog, column_kinds, known}
+use Rattle.sq_catalog.specs.UserTables.{names_in}
 use Rattle.sq_module.specs.Program.{same_procedure}
 use Rattle.sq_module.specs.declared.program.BoundProcedure.{BoundProcedure}
 use Rattle.sq_module.specs.declared.program.ProcedureName.{ProcedureName}
@@ -41,7 +44,7 @@ abbrev pub procedure_of : Program → Name → Name → Option BoundProcedure
 procedure_of p «module» name = lookup (same_procedure (named «module» name)) p.procedures.entries
 
 -- nothing is to be said of a statement that is bound
-abbrev pub statement_remark : Result BoundStatement BindFault → Option Remark
+abbrev pub statement_remark : Result BoundStatement Broken → Option Remark
 statement_remark (Ok s) = None
 statement_remark (Err fault) = Some (Fault fault)
 
@@ -72,16 +75,16 @@ abbrev pub IsOfBody : Cursor → CursorBody → Remark → Type 0
 IsOfBody c (body.Updatable query) remark = remark ≡ Updatable
 IsOfBody c (body.Rows query order) remark = (rule : Rule) × IsRuleOf c rule × (remark ≡ NotUpdatable rule)
 
--- its fault; or it is bound as it is written, is well formed, and is what its body is
-abbrev pub IsOfResult : Catalog → Name → List ParameterDesc → Cursor → Remark → Result BoundCursor BindFault → Type 0
-IsOfResult catalog user parameters c remark (Err fault) = remark ≡ Fault fault
+-- its fault, which the definitions find; or it is bound as it is written, is well formed, and is what its body is
+abbrev pub IsOfResult : Catalog → Name → List ParameterDesc → Cursor → Remark → Result BoundCursor Broken → Type 0
+IsOfResult catalog user parameters c remark (Err fault) = (remark ≡ Fault fault) × (cursor_bound (names_in catalog user) (declared parameters) c ≡ Err fault.rule)
 IsOfResult catalog user parameters c remark (Ok bound) =
     IsCursorOf (known catalog) user parameters c bound
     × IsCursor (column_kinds catalog) (kinds_of_parameters parameters) bound
     × IsOfBody c bound.body remark
 
 abbrev pub IsRemarkWith : Catalog → Name → List ParameterDesc → Cursor → Remark → Type 0
-IsRemarkWith catalog user parameters c remark = (bound : Result BoundCursor BindFault) × IsOfResult catalog user parameters c remark bound
+IsRemarkWith catalog user parameters c remark = (bound : Result BoundCursor Broken) × IsOfResult catalog user parameters c remark bound
 
 -- the same for the parameters of the procedure that opens it
 pub record IsCursorRemark (catalog : Catalog) (p : Program) (m : ModuleText) (c : Cursor) (remark : Remark) : Type 0 where

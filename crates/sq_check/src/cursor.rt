@@ -5,10 +5,11 @@ ghost use Rattle.sq_check.specs.Remark as spec;
 
 use crate::remark::Remark;
 use crate::rule::cursor_rule;
-use sq_bind::bind_cursor;
-use sq_bound::{BindFault, BoundCursor, CursorBody, ParameterDesc};
+use sq_binder::Stop;
+use sq_bound::{BoundCursor, CursorBody, ParameterDesc};
 use sq_catalog::Catalog;
 use sq_lex::Name;
+use sq_module::bound_cursor;
 use sq_tree::Cursor;
 use std::alloc::{AllocError, Global};
 
@@ -23,10 +24,10 @@ pub(crate) fn cursor_remark(
 ) -> Result<Remark, AllocError>
     ensures { IfOk result (spec.IsRemarkWith catalog.now user parameters.now cursor.now) }
 {
-    match bind_cursor(alloc, catalog, user, parameters, cursor) {
+    match bound_cursor(alloc, catalog, user, parameters, cursor) {
         Ok(bound) => remark_of(alloc, cursor, bound),
-        Err(BindFault::NoMemory) => Err(AllocError),
-        Err(fault) => Ok(Remark::Fault(fault)),
+        Err(Stop::Fault(fault)) => Ok(Remark::Fault(fault)),
+        Err(Stop::NoMemory) => Err(AllocError),
     }
 }
 

@@ -1,12 +1,12 @@
 //! What is to be said of a part of a text.
 use crate::rule::Rule;
-use sq_bound::BindFault;
+use sq_binder::Fault;
 
 /// What is to be said of a procedure, a cursor or a view.
-#[derive(Clone, Copy, Debug, PartialEq, Eq)]
+#[derive(Clone, Copy, Debug)]
 pub enum Remark {
     /// The statement or the cursor's query has this fault, so each call answers 42000.
-    Fault(BindFault),
+    Fault(Fault),
     /// The cursor or the view is updatable.
     Updatable,
     /// It isn't, by this rule first.

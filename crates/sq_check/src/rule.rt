@@ -10,8 +10,8 @@ ghost use Rattle.sq_rules.specs.Words.{is_some_and};
 ghost use Rattle.sq_check.specs.Rule as spec;
 
 use indexmap::IndexSet;
+use sq_binder::name_of;
 use sq_lex::{Lexeme, Name, Word};
-use sq_select::reference_of;
 use sq_spell::write_tokens;
 use sq_tree::{
     CommaList, Cond, Cursor, Expr, Query, QuerySpecification, QueryTerm, SelectList, SetQuantifier,
@@ -236,8 +236,8 @@ fn is_new_column(names: &mut IndexSet<Name>, item: &Expr) -> Result<bool, AllocE
     ensures keys { IfOk result
         (λ is. is ≡ true → names.new.keys ≡ names.old.keys ++ option_to_list (spec.column_of item.now)) }
 {
-    match reference_of(item) {
-        Some(reference) => is_new(names, reference.column),
+    match name_of(item) {
+        Some(name) => is_new(names, name),
         None => Ok(false),
     }
 }

@@ -15,18 +15,17 @@ use Rattle.sq_binding.specs.Outcome.{Outcome}
 use Rattle.sq_binding.specs.QueryExpression.{NumberedQuery, columns_of_query}
 use Rattle.sq_binding.specs.Select.{Surroundings}
 use Rattle.sq_binding.specs.Whole.{permitted}
-use Rattle.sq_binder.specs.Binds.{Stops}
+use Rattle.sq_binder.specs.Binds.{Stops, broken}
 use Rattle.sq_binder.specs.Found.{found_of, pairs}
 use Rattle.sq_binder.specs.Scope.{parameters_in, scopes_in}
 use Rattle.sq_binder.specs.declared.found.Found.{Found}
 use Rattle.sq_binder.specs.declared.scope.Environment.{Environment}
 use Rattle.sq_binder.specs.declared.stop.Stop.{Stop}
-use Rattle.sq_binder.specs.declared.stop.Stop.TheVariants.{Fault}
 use Rattle.sq_binder.proofs.Behind.{made_of, two_made}
 use Rattle.sq_binder.proofs.Inside.{at}
 use Rattle.sq_cursor_binder.specs.Cursor.{IsOver, IsOverPart, in_order}
 use Rattle.sq_cursor_binder.specs.Names.{Changes, IsUnder}
-use Rattle.sq_cursor_binder.specs.Updatable.{named}
+use Rattle.sq_promises.specs.Seen.{table_named}
 use Rattle.sq_tree.specs.declared.«module».SortSpecification.{SortSpecification}
 
 -- in no query
@@ -45,17 +44,17 @@ abbrev part_in : {B : Type 0} → B → Result B Stop → B
 part_in d (Ok x) = x
 part_in d (Err stop) = d
 
-lacking : {A B : Type 0} (lacks : Bool) (part : B) (seen : A) (stop : Stop) → (if lacks then Err (Fault fault.PrivilegeMissing) else Ok part) ≡ Err stop → Stops (if lacks then Err fault.PrivilegeMissing else Ok seen) stop
+lacking : {A B : Type 0} (lacks : Bool) (part : B) (seen : A) (stop : Stop) → (if lacks then Err (broken fault.PrivilegeMissing) else Ok part) ≡ Err stop → Stops (if lacks then Err fault.PrivilegeMissing else Ok seen) stop
 lacking {A} true part seen stop is = subst (λ (s : Stop). Stops {A = A} (Err fault.PrivilegeMissing) s) (ap (stop_in stop) is) refl
 lacking false part seen stop is = cc
 
-holding : {A B : Type 0} (image : B → A) (lacks : Bool) (part x : B) → (if lacks then Err (Fault fault.PrivilegeMissing) else Ok part) ≡ Ok x → (if lacks then Err fault.PrivilegeMissing else Ok (image part)) ≡ Ok (image x)
+holding : {A B : Type 0} (image : B → A) (lacks : Bool) (part x : B) → (if lacks then Err (broken fault.PrivilegeMissing) else Ok part) ≡ Ok x → (if lacks then Err fault.PrivilegeMissing else Ok (image part)) ≡ Ok (image x)
 holding image true part x is = cc
 holding image false part x is = ap (λ p. Ok (image p)) (ap (part_in x) is)
 
 module _ {A B : Type 0} (image : B → A) (x : Found B) where
   abbrev granted : Result B Stop
-  granted = if x.brought.findings.lacks_privilege then Err (Fault fault.PrivilegeMissing) else Ok x.part
+  granted = if x.brought.findings.lacks_privilege then Err (broken fault.PrivilegeMissing) else Ok x.part
 
   pub permitted_stops : (stop : Stop) → granted ≡ Err stop → Stops (permitted (found_of image x)) stop
   permitted_stops stop is = lacking x.brought.findings.lacks_privilege x.part (image x.part) stop is
@@ -77,10 +76,10 @@ in_order_as b order counts =
 -- ---- what an updatable cursor is over
 
 pub over_as : (changes : Changes) (over : Option ((Name × Name) × UpdatableQuery)) (table : Option (Name × Name)) (b : CursorBody) → IsOverPart over table b
-    → IfSome over (λ o. IsUnder changes (named o.0) o.1.target.leaf) → IsOver changes table b
+    → IfSome over (λ o. IsUnder changes (table_named o.0) o.1.target.leaf) → IsOver changes table b
 over_as changes None table (body.Rows q order) is under = tt
 over_as changes None table (body.Updatable u) is under = absurd is
 over_as changes (Some over) table (body.Rows q order) is under = absurd is
 over_as changes (Some over) table (body.Updatable u) is under =
-    subst (λ (t : Option (Name × Name)). IfSome t (λ t. IsUnder changes (named t) u.target.leaf)) (sym is.0)
-    (subst (λ (u : UpdatableQuery). IsUnder changes (named over.0) u.target.leaf) (sym is.1) under)
+    subst (λ (t : Option (Name × Name)). IsOver changes t (body.Updatable u)) (sym is.0)
+    (subst (λ (u : UpdatableQuery). IsUnder changes (table_named over.0) u.target.leaf) (sym is.1) under)

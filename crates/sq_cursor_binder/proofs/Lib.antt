@@ -1,7 +1,10 @@
+pub mod Bases
 pub mod Columns
 pub mod Commons
 pub mod Cursors
 pub mod Orders
+pub mod Parts
+pub mod Promised
 pub mod Queries
 pub mod Targets
 pub mod Turns

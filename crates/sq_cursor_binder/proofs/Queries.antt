@@ -1,50 +1,33 @@
--- Query expressions: what the definitions see of them, level by level, and the terms that are joined one after the other.
-use Rattle.std.proofs.Common.{◌≡◌, ℕ, ◌+◌, ◌<◌, ◌≤◌, Bool, List, [], ◌∷◌, ◌++◌, length, drop, map, get_or, take, take_all, None, refl, sym, ap, ◌∙◌}
+-- Query expressions: those of one term and those of a further one, and the terms that are joined one after the other.
+use Rattle.std.proofs.Common.{◌≡◌, ℕ, ◌+◌, ◌<◌, ◌≤◌, Bool, List, [], ◌∷◌, ◌++◌, length, drop, map, get_or, take, take_all, None, refl, sym, ap, subst, ◌∙◌}
 use Rattle.std.proofs.lemmas.List.{map-append, take-append-drop, take_more}
 use Rattle.std.proofs.lemmas.List.Sums.{fold-append}
+use Rattle.std.specs.List.{AllByRecursion}
 use Rattle.std.specs.Prelude.{fold}
 use Rattle.sq_lex.specs.declared.name.Name.{Name}
 use Rattle.sq_tree.specs.declared.query.Query.{Query as SpelledQuery, out-Query, roll-out-Query}
 use Rattle.sq_tree.specs.declared.query.UnionTerm.{UnionTerm}
+use Rattle.sq_meaning.proofs.AnswerLaws.{all_appended}
 use Rattle.sq_meaning.proofs.SpelledLevels.{query_of-roll, union_term_of-out}
 use Rattle.sq_meaning.specs.Spelled.{Named, query_of, query_term_of, union_term_of}
 use Rattle.sq_meaning.specs.Syntax.{Query, union}
 use Rattle.sq_rules.specs.WellFormed.{only_specification}
-use Rattle.sq_bound.proofs.ExpressionLaws.{fold_mapped}
 use Rattle.sq_bound.specs.declared.condition.BoundSpecification.{BoundSpecification, out-BoundSpecification}
 use Rattle.sq_bound.specs.declared.condition.ResultColumn.{ResultColumn}
-use Rattle.sq_bound.specs.declared.query.BoundQuery.{BoundQuery, out-BoundQuery, out-roll-BoundQuery, roll-BoundQuery, fold_out-BoundQuery}
-use Rattle.sq_bound.specs.declared.query.BoundUnion.{BoundUnion, fold_out-BoundUnion}
-use Rattle.sq_bound.specs.declared.query.BoundTerm.{BoundTerm, fold-roll-BoundTerm}
+use Rattle.sq_bound.specs.declared.query.BoundQuery.{BoundQuery, BoundQuery-F, out-BoundQuery, out-roll-BoundQuery, roll-BoundQuery}
+use Rattle.sq_bound.specs.declared.query.BoundUnion.{BoundUnion}
+use Rattle.sq_bound.specs.declared.query.BoundTerm.{BoundTerm}
 use Rattle.sq_bound.specs.declared.query.BoundTerm.TheVariants as bound
-use Rattle.sq_bound.specs.declared.query.BoundTerm.TheOpen as layer
 use Rattle.sq_binding.proofs.SeenLevels.{columns_seen}
 use Rattle.sq_binding.specs.Found.{Counts, ◌>>=◌, after, pure, then_joined}
 use Rattle.sq_binding.specs.QueryExpression.{NumberedQuery, columns_of_query, common_columns, query_bound}
-use Rattle.sq_binding.specs.Seen.{column_of, select_seen}
+use Rattle.sq_binding.specs.Seen.{column_of}
 use Rattle.sq_binding.specs.Select.{Surroundings}
 use Rattle.sq_binder.specs.Binds.{Stops}
 use Rattle.sq_binder.specs.declared.stop.Stop.{Stop}
 use Rattle.sq_binder.proofs.Steps.{stops_as, stops_here}
-use Rattle.sq_cursor_binder.specs.Query.{HasColumns, TermHasColumns, columns_in, query_seen, term_seen, union_seen}
-
--- ---- level by level
-
-pub query_seen-out : (q : BoundQuery) → query_seen q ≡ fold (λ left u. union_seen u left) (term_seen (out-BoundQuery q).first) (out-BoundQuery q).rest
-unfolding query_seen union_seen term_seen
-query_seen-out q = fold_out-BoundQuery _ _ _ _ _ _ q ∙ fold_mapped (λ left u. u left) union_seen (term_seen (out-BoundQuery q).first) (out-BoundQuery q).rest
-
-pub union_seen-out : (u : BoundUnion) (left : NumberedQuery) → union_seen u left ≡ NumberedQuery.joined u.all left (term_seen u.term) (map column_of u.columns)
-unfolding union_seen term_seen
-union_seen-out u left = ap (λ (f : NumberedQuery → NumberedQuery). f left) (fold_out-BoundUnion _ _ _ _ _ _ u)
-
-pub term_seen-Specification : (s : BoundSpecification) → term_seen (bound.Specification s) ≡ NumberedQuery.select (select_seen s)
-unfolding term_seen
-term_seen-Specification s = ap term_seen (sym (bound.rolls-Specification s)) ∙ fold-roll-BoundTerm _ _ _ _ _ _ (layer.Specification s)
-
-pub term_seen-Bracketed : (q : BoundQuery) → term_seen (bound.Bracketed q) ≡ query_seen q
-unfolding term_seen query_seen
-term_seen-Bracketed q = ap term_seen (sym (bound.rolls-Bracketed q)) ∙ fold-roll-BoundTerm _ _ _ _ _ _ (layer.Bracketed q)
+use Rattle.sq_promises.specs.Seen.{HaveTheirColumns, TermHasColumns, UnionHasColumns, query_seen, term_seen, union_seen}
+use Rattle.sq_promises.proofs.SeenQueries.{query_itself, query_made, query_parts, query_seen-out, term_seen-Bracketed, term_seen-Specification, union_made, union_seen-out}
 
 -- ---- queries of a term, and of a further one
 
@@ -58,6 +41,12 @@ module _ (first : BoundTerm) (rest : List BoundUnion) (columns : List ResultColu
   pub made_columns : (out-BoundQuery made).columns ≡ columns
   made_columns = ap (λ o. o.columns) (out-roll-BoundQuery (record { first = first; rest = rest; columns = columns }))
 
+  pub made_has : TermHasColumns first → AllByRecursion UnionHasColumns rest → map column_of columns ≡ columns_of_query (query_seen made) → HaveTheirColumns made
+  made_has term unions are =
+      let o = out-roll-BoundQuery (record { first = first; rest = rest; columns = columns }) in
+      query_made made (subst (λ (q : BoundQuery-F BoundTerm BoundQuery BoundUnion). TermHasColumns q.first) (sym o) term)
+      (subst (λ (q : BoundQuery-F BoundTerm BoundQuery BoundUnion). AllByRecursion UnionHasColumns q.rest) (sym o) unions) (ap (map column_of) made_columns ∙ are)
+
 -- one term
 pub alone_seen : (first : BoundTerm) (rest : List BoundUnion) (columns : List ResultColumn) → rest ≡ [] → query_seen (roll-BoundQuery (record { first = first; rest = rest; columns = columns })) ≡ term_seen first
 alone_seen first rest columns none = made_seen first rest columns ∙ ap (fold (λ left u. union_seen u left) (term_seen first)) none
@@ -70,21 +59,18 @@ further_seen q u rest columns is =
     ∙ fold-append step (term_seen (out-BoundQuery q).first) (out-BoundQuery q).rest (u ∷ [])
     ∙ ap (union_seen u) (sym (query_seen-out q)) ∙ union_seen-out u (query_seen q)
 
+-- the further terms of a query, and one more
+pub further_have : (q : BoundQuery) (u : BoundUnion) (rest : List BoundUnion) → HaveTheirColumns q → TermHasColumns u.term → rest ≡ (out-BoundQuery q).rest ++ u ∷ [] → AllByRecursion UnionHasColumns rest
+further_have q u rest has term is =
+    subst (AllByRecursion UnionHasColumns) (sym is) (all_appended UnionHasColumns (out-BoundQuery q).rest (u ∷ []) (query_parts q has).1 (union_made u term, tt))
+
 -- ---- columns
 
-pub columns_in-Specification : (s : BoundSpecification) → columns_in (bound.Specification s) ≡ (out-BoundSpecification s).columns
-unfolding columns_in
-columns_in-Specification s = ap columns_in (sym (bound.rolls-Specification s)) ∙ fold-roll-BoundTerm _ _ _ _ _ _ (layer.Specification s)
+pub specification_columns : (s : BoundSpecification) → map column_of (out-BoundSpecification s).columns ≡ columns_of_query (term_seen (bound.Specification s))
+specification_columns s = sym (columns_seen s) ∙ ap columns_of_query (sym (term_seen-Specification s))
 
-pub columns_in-Bracketed : (q : BoundQuery) → columns_in (bound.Bracketed q) ≡ (out-BoundQuery q).columns
-unfolding columns_in
-columns_in-Bracketed q = ap columns_in (sym (bound.rolls-Bracketed q)) ∙ fold-roll-BoundTerm _ _ _ _ _ _ (layer.Bracketed q) ∙ fold_out-BoundQuery _ _ _ _ _ _ q
-
-pub specification_columns : (s : BoundSpecification) → TermHasColumns (bound.Specification s)
-specification_columns s = ap (map column_of) (columns_in-Specification s) ∙ sym (columns_seen s) ∙ ap columns_of_query (sym (term_seen-Specification s))
-
-pub bracketed_columns : (q : BoundQuery) → HasColumns q → TermHasColumns (bound.Bracketed q)
-bracketed_columns q has = ap (map column_of) (columns_in-Bracketed q) ∙ has ∙ ap columns_of_query (sym (term_seen-Bracketed q))
+pub bracketed_columns : (q : BoundQuery) → HaveTheirColumns q → map column_of (out-BoundQuery q).columns ≡ columns_of_query (term_seen (bound.Bracketed q))
+bracketed_columns q has = query_itself q has ∙ ap columns_of_query (sym (term_seen-Bracketed q))
 
 -- ---- terms one after the other
 

@@ -83,4 +83,4 @@ module _ (t : ChangedTable) (columns : Option (List ℕ)) where
 
   pub updatable_stops : (b : Binding NumberedClause) (before : Counts) (stop : Stop) → Stops (target_made t b (counts_of before)) stop → Stops (updatable_made t columns b (counts_of before)) stop
   updatable_stops b before NoMemory s = tt
-  updatable_stops b before (Fault fault) s = made_stops (b (counts_of before)) fault (sym (made_at b (counts_of before)) ∙ s)
+  updatable_stops b before (Fault f) s = made_stops (b (counts_of before)) f.rule (sym (made_at b (counts_of before)) ∙ s)

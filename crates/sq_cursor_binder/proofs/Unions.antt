@@ -15,7 +15,8 @@ use Rattle.sq_binder.specs.declared.found.Found.{Found}
 use Rattle.sq_binder.specs.declared.stop.Stop.{Stop}
 use Rattle.sq_binder.proofs.Behind.{Makes, three_made}
 use Rattle.sq_binder.proofs.Finds.{makes_found, makes_stop, pairs_found}
-use Rattle.sq_cursor_binder.specs.Query.{Joins, query_seen, term_seen, union_of}
+use Rattle.sq_cursor_binder.specs.Query.{Joins, union_of}
+use Rattle.sq_promises.specs.Seen.{query_seen, term_seen}
 
 abbrev Columns : Type 0
 Columns = List binding.ResultColumn

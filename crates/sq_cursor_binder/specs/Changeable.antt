@@ -5,11 +5,9 @@ use Rattle.sq_meaning.specs.Environment.{TableName}
 use Rattle.sq_meaning.specs.Spelled.{Named}
 use Rattle.sq_meaning.specs.Syntax.{Clause}
 use Rattle.sq_bound.specs.Keyed.{IsShortestKey}
-use Rattle.sq_bound.specs.Known.{under_of}
 use Rattle.sq_bound.specs.declared.condition.BoundCond.{BoundCond}
 use Rattle.sq_bound.specs.declared.names.Column.{Column}
 use Rattle.sq_bound.specs.declared.names.Leaf.{Leaf}
-use Rattle.sq_bound.specs.declared.query.Target.{Target}
 use Rattle.sq_binding.specs.Changeable as binding
 use Rattle.sq_binding.specs.Changeable.{NumberedTarget, condition_bound, table_over, target_over}
 use Rattle.sq_binding.specs.Found.{Binding, ◌>>=◌, pure}
@@ -17,7 +15,6 @@ use Rattle.sq_binding.specs.From.{column_over}
 use Rattle.sq_binding.specs.NumberedCondition.{NumberedClause}
 use Rattle.sq_binding.specs.Scope.{ItemColumn}
 use Rattle.sq_binding.specs.Select.{Surroundings}
-use Rattle.sq_binder.specs.Specification.{clause_seen}
 use Rattle.sq_binder.specs.Surroundings.{descriptor_of, named_table_of}
 use Rattle.sq_cursor_binder.specs.Names.{beneath_of, under_table}
 use Rattle.sq_cursor_binder.specs.declared.changeable.ChangedTable.{ChangedTable}
@@ -38,9 +35,6 @@ target_made t b = b >>= λ condition. pure (target_over t condition)
 
 abbrev pub target_bound : Surroundings → binding.ChangedTable → Clause Named → Binding NumberedTarget
 target_bound a t c = target_made t (condition_bound a t c)
-
-abbrev pub target_seen : Target → NumberedTarget
-target_seen t = record { table = t.table; leaf = under_of t.leaf; condition = clause_seen t.condition }
 
 -- The key that is noted for a condition on a base table: the shortest by which it names a row, where it has no subquery. Where a
 -- view is in between, none is.

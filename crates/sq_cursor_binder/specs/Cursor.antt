@@ -1,57 +1,29 @@
--- Cursors, as the definitions see them (ISO/IEC 9075:1992, 13.1).
-use Rattle.std.specs.Prelude.{⊤, ◌≡◌, List, [], map, Option, None, Some, IfSome}
-use Rattle.std.specs.Option.{option_map}
+-- What cursors are over, and their parts (ISO/IEC 9075:1992, 13.1).
+use Rattle.std.specs.Prelude.{⊤, ◌≡◌, List, Option, None, Some}
 use Rattle.sq_lex.specs.declared.name.Name.{Name}
 use Rattle.sq_tree.specs.declared.«module».Cursor.{Cursor}
 use Rattle.sq_tree.specs.declared.«module».SortSpecification.{SortSpecification}
-use Rattle.sq_meaning.specs.Environment.{TableName}
 use Rattle.sq_meaning.specs.Rows.{SortColumn}
 use Rattle.sq_meaning.specs.Spelled.{query_of}
-use Rattle.sq_bound.specs.declared.query.BoundCursor.{BoundCursor}
 use Rattle.sq_bound.specs.declared.query.CursorBody.{CursorBody}
 use Rattle.sq_bound.specs.declared.query.CursorBody.TheVariants as body
 use Rattle.sq_bound.specs.declared.query.UpdatableQuery.{UpdatableQuery}
 use Rattle.sq_binding.specs.Changeable.{UserNames}
 use Rattle.sq_binding.specs.Cursor as binding
-use Rattle.sq_binding.specs.Cursor.{NumberedCursor, NumberedRows, plain_specification}
+use Rattle.sq_binding.specs.Cursor.{NumberedCursor, plain_specification}
 use Rattle.sq_binding.specs.Found.{Binding, ◌>>=◌, outcome, pure}
 use Rattle.sq_binding.specs.Order.{names_of, order_bound}
 use Rattle.sq_binding.specs.Outcome.{Outcome}
 use Rattle.sq_binding.specs.QueryExpression.{NumberedQuery, columns_of_query}
-use Rattle.sq_binding.specs.Seen.{column_of}
 use Rattle.sq_binding.specs.Select.{Surroundings}
 use Rattle.sq_cursor_binder.specs.Names.{Changes, IsUnder}
-use Rattle.sq_cursor_binder.specs.Order.{sort_meant}
-use Rattle.sq_cursor_binder.specs.Query.{query_seen}
-use Rattle.sq_cursor_binder.specs.Updatable.{named, updatable_seen}
-
--- ---- what the definitions see
-
-abbrev pub nameless : TableName
-nameless = record { user = []; name = [] }
-
--- the table that an updatable cursor is over; the others have none
-abbrev pub over_table : Option (Name × Name) → TableName
-over_table None = nameless
-over_table (Some t) = named t
-
-abbrev pub rows_seen : TableName → CursorBody → NumberedRows
-rows_seen t (body.Rows q order) = NumberedRows.sorted (query_seen q) (map sort_meant order)
-rows_seen t (body.Updatable u) = NumberedRows.updatable (updatable_seen ((t.user, t.name), u))
-
-abbrev pub cursor_seen : BoundCursor → NumberedCursor
-cursor_seen c = record {
-  insensitive = c.insensitive;
-  scroll = c.scroll;
-  table = option_map named c.table;
-  columns = map column_of c.columns;
-  rows = rows_seen (over_table c.table) c.body;
-}
+use Rattle.sq_promises.specs.Seen.{table_named}
 
 -- an updatable cursor is over the rows that are under its table
 abbrev pub IsOver : Changes → Option (Name × Name) → CursorBody → Type 0
 IsOver changes table (body.Rows q order) = ⊤
-IsOver changes table (body.Updatable u) = IfSome table (λ t. IsUnder changes (named t) u.target.leaf)
+IsOver changes (Some t) (body.Updatable u) = IsUnder changes (table_named t) u.target.leaf
+IsOver changes None (body.Updatable u) = ⊥
 
 -- the cursor of an updatable query, if there is one
 abbrev pub IsOverPart : Option ((Name × Name) × UpdatableQuery) → Option (Name × Name) → CursorBody → Type 0

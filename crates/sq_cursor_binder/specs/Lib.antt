@@ -1,3 +1,4 @@
+pub mod Agree
 pub mod Changeable
 pub mod Check
 pub mod Cursor

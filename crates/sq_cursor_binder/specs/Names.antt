@@ -1,11 +1,13 @@
 -- What names of tables mean to the texts of a user, where tables may be changed: what is under each of them, and who may change it
 -- (ISO/IEC 9075:1992, 7.9 and 10.3).
-use Rattle.std.specs.Prelude.{◌≡◌, Bool, List, map, Option, Some}
+use Rattle.std.specs.Prelude.{◌≡◌, Bool, List, map, Option, Some, IfSome}
 use Rattle.std.specs.Option.{option_map}
 use Rattle.sq_lex.specs.declared.name.Name.{Name}
 use Rattle.sq_meaning.specs.Environment.{TableName}
 use Rattle.sq_rules.specs.Privilege as rules
+use Rattle.sq_bound.specs.Fits.{IsBase}
 use Rattle.sq_bound.specs.Known.{under_of}
+use Rattle.sq_bound.specs.declared.names.BaseTable.{BaseTable}
 use Rattle.sq_bound.specs.declared.names.Column.{Column}
 use Rattle.sq_bound.specs.declared.names.Leaf.{Leaf}
 use Rattle.sq_binding.specs.Changeable.{UnderTable, UserNames}
@@ -38,6 +40,10 @@ names_at named changes at = user_names at.environment.now.user (named at.tables.
 -- these are the rows under the table
 abbrev pub IsUnder : Changes → TableName → Leaf → Type 0
 IsUnder changes t leaf = option_map (λ b. b.leaf) (changes.beneath t) ≡ Some leaf
+
+-- each table that may be changed is over a base table that is there
+abbrev pub AreOverBases : List BaseTable → Changes → Type 0
+AreOverBases bases changes = (t : TableName) → IfSome (changes.beneath t) (λ b. IsBase bases b.leaf.table)
 
 -- ---- what the definitions see
 

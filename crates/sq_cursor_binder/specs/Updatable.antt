@@ -1,20 +1,10 @@
 -- Query specifications that are updatable: what they are over (ISO/IEC 9075:1992, 7.9).
 use Rattle.std.specs.Prelude.{ℕ, Bool, List, Option, None, Some, Ok, if◌then◌else◌}
-use Rattle.sq_lex.specs.declared.name.Name.{Name}
 use Rattle.sq_meaning.specs.Environment.{TableName}
-use Rattle.sq_bound.specs.declared.query.UpdatableQuery.{UpdatableQuery}
 use Rattle.sq_binding.specs.Changeable.{ChangedTable, NumberedTarget, NumberedUpdatable, made, updatable_where}
 use Rattle.sq_binding.specs.Found.{Binding}
 use Rattle.sq_binding.specs.NumberedCondition.{NumberedClause}
 use Rattle.sq_binding.specs.Outcome.{and_then}
-use Rattle.sq_cursor_binder.specs.Changeable.{target_seen}
-
--- an owner and a name
-abbrev pub named : Name × Name → TableName
-named t = record { user = t.0; name = t.1 }
-
-abbrev pub updatable_seen : (Name × Name) × UpdatableQuery → NumberedUpdatable
-updatable_seen over = record { table = named over.0; target = target_seen over.1.target; columns = over.1.columns }
 
 -- the updatable query of these columns, if they may be changed, and a condition
 abbrev pub updatable_made : ChangedTable → Option (List ℕ) → Binding NumberedClause → Binding (Option NumberedUpdatable)

@@ -2,7 +2,7 @@
 use Rattle.std.specs.Option.{option_map}
 use Rattle.sq_binding.specs.Seen.{select_seen}
 use Rattle.sq_binding.specs.View.{NumberedView}
-use Rattle.sq_cursor_binder.specs.Updatable.{updatable_seen}
+use Rattle.sq_promises.specs.Seen.{updatable_seen}
 use Rattle.sq_cursor_binder.specs.declared.view.BoundView.{BoundView}
 
 abbrev pub view_seen : BoundView → NumberedView

@@ -42,10 +42,10 @@ pub fn changed_table<T: ChangeableTables>(
     let user = written.schema.unwrap_or(own);
     let name = written.table;
     let Some(table) = tables.table(user, name) else {
-        return Err(Stop::Fault(BindingFault::UnknownTable));
+        return Err(Stop::about(BindingFault::UnknownTable, name));
     };
     let Some(under) = tables.beneath(user, name) else {
-        return Err(Stop::Fault(BindingFault::NotUpdatable));
+        return Err(Stop::about(BindingFault::NotUpdatable, name));
     };
     Ok(ChangedTable {
         user,

@@ -51,20 +51,20 @@ impl Tables for NoTables {
     }
 }
 
-/// A CHECK condition on the rows of a base table of this owner and name with these columns. `place` is the place that the table
-/// will have.
+/// A CHECK condition that a user writes on the rows of a base table of this owner and name with these columns. `place` is the
+/// place that the table will have.
 pub fn bind_check(
     alloc: Global,
     user: Name,
-    name: Name,
+    table: (Name, Name),
     place: usize,
     columns: &[Column],
     cond: &Cond,
 ) -> CheckResult
-    ensures { BindsCheck (spec.check_bound (record { user = user; name = name })
+    ensures { BindsCheck (spec.check_bound (record { user = table.0; name = table.1 })
         (map descriptor_of columns.now) (cond_of user cond.now)) result }
 {
-    let Ok(item) = own_item(alloc, user, name, place, columns) else {
+    let Ok(item) = own_item(alloc, table, place, columns) else {
         return Err(CheckStop::NoMemory);
     };
     let environment = Environment::new(alloc, user, &[]);
@@ -76,19 +76,18 @@ pub fn bind_check(
 /// The table that is defined, as an item.
 fn own_item(
     alloc: Global,
-    user: Name,
-    name: Name,
+    table: (Name, Name),
     place: usize,
     columns: &[Column],
 ) -> Result<FromItem, AllocError>
     ensures { IfOk result (λ item. item_of item
-        ≡ spec.own_item (record { user = user; name = name }) (map descriptor_of columns.now)) }
+        ≡ spec.own_item (record { user = table.0; name = table.1 }) (map descriptor_of columns.now)) }
 {
     let columns = columns_over(alloc, columns)?;
     Ok(FromItem {
         place: TablePlace::Base(place),
-        user,
-        name,
+        user: table.0,
+        name: table.1,
         correlation: None,
         columns,
     })
@@ -119,7 +118,7 @@ fn checked(cond: CondResult) -> CheckResult
 {
     match cond {
         Ok(found) => without(found),
-        Err(Stop::Fault(fault)) => Err(CheckStop::Broken(fault)),
+        Err(Stop::Fault(fault)) => Err(CheckStop::Broken(fault.rule)),
         Err(Stop::NoMemory) => Err(CheckStop::NoMemory),
     }
 }

@@ -32,7 +32,7 @@ pub fn common_columns(
         before result }
 {
     if left.len() != right.len() {
-        return Err(Stop::Fault(BindingFault::CountMismatch));
+        return Err(Stop::broken(BindingFault::CountMismatch));
     }
     let columns = columns_in_turn(alloc, left, right)?;
     Ok(alone(alloc, columns, before))
@@ -68,7 +68,7 @@ fn common_column(left: &ResultColumn, right: &ResultColumn) -> Result<ResultColu
             name: common_name(left.name, right.name),
             kind,
         }),
-        None => Err(Stop::Fault(BindingFault::KindMismatch)),
+        None => Err(Stop::broken(BindingFault::KindMismatch)),
     }
 }
 

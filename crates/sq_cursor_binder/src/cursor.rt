@@ -15,11 +15,10 @@ ghost use Rattle.sq_binder.specs.Found.{Finds, both_of, found_of};
 ghost use Rattle.sq_binder.specs.Scope.{declared_of};
 ghost use Rattle.sq_binder.specs.Surroundings.{surroundings};
 ghost use Rattle.sq_binder.specs.declared.found.Counts.{Counts as AnyCounts};
-ghost use Rattle.sq_cursor_binder.specs.Cursor.{IsOver, IsOverPart, cursor_at, cursor_seen, in_order};
+ghost use Rattle.sq_cursor_binder.specs.Cursor.{IsOver, IsOverPart, cursor_at, in_order};
 ghost use Rattle.sq_cursor_binder.specs.Names.{names_at, user_names};
-ghost use Rattle.sq_cursor_binder.specs.Order.{names_seen, sort_meant};
-ghost use Rattle.sq_cursor_binder.specs.Query.{HasColumns, query_seen};
-ghost use Rattle.sq_cursor_binder.specs.Updatable.{updatable_seen};
+ghost use Rattle.sq_cursor_binder.specs.Order.{names_seen};
+ghost use Rattle.sq_promises.specs.Seen.{BodyHasColumns, HaveTheirColumns, cursor_seen, query_seen, sort_seen, updatable_seen};
 
 use crate::names::ChangeableTables;
 use crate::order::order_by;
@@ -51,6 +50,7 @@ pub fn bind_cursor<T: ChangeableTables>(
         (spec.cursor_bound (user_names user (T.named tables.now) (T.changes tables.now))
         (map declared_of parameters.now) cursor.now) result }
     ensures under { IfOk result (λ cursor. IsOver (T.changes tables.now) cursor.table cursor.body) }
+    ensures columns { IfOk result (λ cursor. BodyHasColumns cursor.body) }
 {
     let environment = Environment::new(alloc, user, parameters);
     let at = Surroundings {
@@ -66,6 +66,7 @@ fn cursor_of<T: ChangeableTables>(cursor: &Cursor, at: &Surroundings<'_, T>) -> 
         (cursor_at (names_at T.named T.changes at.now) (surroundings T.named at.now) cursor.now) result }
     ensures under { IfOk result
         (λ cursor. IsOver (T.changes at.now.tables.now) cursor.table cursor.body) }
+    ensures columns { IfOk result (λ cursor. BodyHasColumns cursor.body) }
 {
     match plain_specification(cursor) {
         Some(query) => specification_cursor(cursor, query, at),
@@ -121,6 +122,7 @@ fn specification_cursor<T: ChangeableTables>(
         (Some (select_of at.now.environment.now.user query.now))) result }
     ensures under { IfOk result
         (λ cursor. IsOver (T.changes at.now.tables.now) cursor.table cursor.body) }
+    ensures columns { IfOk result (λ cursor. BodyHasColumns cursor.body) }
 {
     let found = bind_select(&query.table, query.quantifier, &query.list, at, at_first())?;
     select_cursor(cursor, query, at, found)
@@ -137,6 +139,7 @@ fn select_cursor<T: ChangeableTables>(
         (found_of select_seen found)) result }
     ensures under { IfOk result
         (λ cursor. IsOver (T.changes at.now.tables.now) cursor.table cursor.body) }
+    ensures columns { IfOk result (λ cursor. BodyHasColumns cursor.body) }
 {
     let behind = found.brought.next.first();
     let part = permitted(found)?;
@@ -158,6 +161,7 @@ fn cursor_over(
     ensures binds { Binds cursor_seen (Ok (spec.cursor_over cursor.now (select_seen query)
         (option_map updatable_seen over.part))) result }
     ensures body { IfOk result (λ cursor. IsOverPart over.part cursor.table cursor.body) }
+    ensures columns { IfOk result (λ cursor. BodyHasColumns cursor.body) }
 {
     let Found { part, brought } = over;
     drop(brought);
@@ -177,6 +181,7 @@ fn updatable_cursor(
     ensures binds { Binds cursor_seen
         (Ok (spec.updatable_cursor cursor.now (select_seen query) (updatable_seen over))) result }
     ensures body { IfOk result (λ cursor. IsOverPart (Some over) cursor.table cursor.body) }
+    ensures columns { IfOk result (λ cursor. BodyHasColumns cursor.body) }
 {
     let columns = Items::from_slice(alloc, query.columns.as_slice());
     drop(query);
@@ -201,6 +206,7 @@ fn read_cursor(alloc: Global, cursor: &Cursor, query: BoundSpecification) -> Cur
     ensures binds { Binds cursor_seen
         (Ok (spec.cursor_over cursor.now (select_seen query) None)) result }
     ensures body { IfOk result (λ cursor. IsOverPart None cursor.table cursor.body) }
+    ensures columns { IfOk result (λ cursor. BodyHasColumns cursor.body) }
 {
     let query = of_term(alloc, BoundTerm::Specification(query))?;
     rows_cursor(alloc, cursor, query, Items::new(alloc))
@@ -212,6 +218,7 @@ fn query_cursor<T: ChangeableTables>(cursor: &Cursor, at: &Surroundings<'_, T>) 
         (surroundings T.named at.now) cursor.now (query_of at.now.environment.now.user cursor.now.query)
         None) result }
     ensures body { IfOk result (λ cursor. IsOverPart None cursor.table cursor.body) }
+    ensures columns { IfOk result (λ cursor. BodyHasColumns cursor.body) }
 {
     let query = bind_query(&cursor.query, at, at_first());
     let sorted = sorted(at.environment.alloc, query, &cursor.order_by)?;
@@ -225,10 +232,10 @@ fn sorted(
     query: QueryResult,
     order: &Option<CommaList<SortSpecification>>,
 ) -> Result<Found<(BoundQuery, Items<SortColumn>)>, Stop>
-    requires { IfOk query (λ found. HasColumns found.part) }
+    requires { IfOk query (λ found. HaveTheirColumns found.part) }
     ensures finds { (b : Binding NumberedQuery) (before : AnyCounts) → Finds query_seen b before query
-        → Finds (both_of query_seen (map sort_meant)) (in_order b (listed_if_any order.now)) before result }
-    ensures columns { IfOk result (λ found. HasColumns found.part.0) }
+        → Finds (both_of query_seen (map sort_seen)) (in_order b (listed_if_any order.now)) before result }
+    ensures columns { IfOk result (λ found. HaveTheirColumns found.part.0) }
 {
     let query = query?;
     let columns = query.part.columns.as_slice();
@@ -242,7 +249,7 @@ fn found_order(
     order: &Option<CommaList<SortSpecification>>,
     before: Counts,
 ) -> Result<Found<Items<SortColumn>>, Stop>
-    ensures { Finds (map sort_meant)
+    ensures { Finds (map sort_seen)
         (outcome (order_bound (names_seen columns.now) (listed_if_any order.now))) before result }
 {
     let sorts = order_by(alloc, columns, order)?;
@@ -256,10 +263,11 @@ fn rows_cursor(
     query: BoundQuery,
     sorts: Items<SortColumn>,
 ) -> CursorResult
-    requires { HasColumns query }
+    requires { HaveTheirColumns query }
     ensures binds { Binds cursor_seen
-        (Ok (spec.sorted_cursor cursor.now (query_seen query) (map sort_meant sorts))) result }
+        (Ok (spec.sorted_cursor cursor.now (query_seen query) (map sort_seen sorts))) result }
     ensures body { IfOk result (λ cursor. IsOverPart None cursor.table cursor.body) }
+    ensures columns { IfOk result (λ cursor. BodyHasColumns cursor.body) }
 {
     match Items::from_slice(alloc, query.columns.as_slice()) {
         Ok(columns) => Ok(BoundCursor {

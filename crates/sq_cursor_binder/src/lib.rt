@@ -1,5 +1,5 @@
 //! Binding: tables that may be changed, query expressions, cursors, views and the conditions of CHECK (ISO/IEC 9075:1992, 7.9,
-//! 7.10, 11.9, 11.19 and 13.1). The program does not use it yet.
+//! 7.10, 11.9, 11.19 and 13.1).
 //!
 //! What a function answers is what the definition of `sq_binding` computes, seen by an image, the fault included, or memory ran
 //! out, as in `sq_binder`. An image forgets what the definitions do not speak of: of the base table under a table all but its

@@ -6,7 +6,8 @@ ghost use Rattle.sq_meaning.specs.SortKeys as meaning;
 ghost use Rattle.sq_meaning.specs.Spelled.{listed, listed_if_any, whole};
 ghost use Rattle.sq_binding.specs.Order as spec;
 ghost use Rattle.sq_binder.specs.Binds.{Binds};
-ghost use Rattle.sq_cursor_binder.specs.Order.{names_seen, sort_meant};
+ghost use Rattle.sq_cursor_binder.specs.Order.{names_seen};
+ghost use Rattle.sq_promises.specs.Seen.{sort_seen};
 
 use crate::in_turn::grown;
 use sq_binder::Stop;
@@ -27,7 +28,7 @@ pub fn order_by(
     columns: &[ResultColumn],
     order: &Option<CommaList<SortSpecification>>,
 ) -> OrderResult
-    ensures { Binds (map sort_meant) (spec.order_bound (names_seen columns.now) (listed_if_any order.now))
+    ensures { Binds (map sort_seen) (spec.order_bound (names_seen columns.now) (listed_if_any order.now))
         result }
 {
     match order {
@@ -41,7 +42,7 @@ fn listed_order(
     columns: &[ResultColumn],
     list: &CommaList<SortSpecification>,
 ) -> OrderResult
-    ensures { Binds (map sort_meant) (spec.order_bound (names_seen columns.now) (listed list.now)) result }
+    ensures { Binds (map sort_seen) (spec.order_bound (names_seen columns.now) (listed list.now)) result }
 {
     let first = sort_column(columns, &list.first);
     let mut sorts = grown(Items::new(alloc), first)?;
@@ -57,14 +58,14 @@ fn listed_order(
 
 /// The column that a sort specification names.
 fn sort_column(columns: &[ResultColumn], sort: &SortSpecification) -> Result<SortColumn, Stop>
-    ensures { Binds sort_meant (spec.sort_column_bound (names_seen columns.now) sort.now) result }
+    ensures { Binds sort_seen (spec.sort_column_bound (names_seen columns.now) sort.now) result }
 {
     match key_column(columns, sort.key) {
         Some(column) => Ok(SortColumn {
             column,
             descending: goes_down(sort.direction),
         }),
-        None => Err(Stop::Fault(BindingFault::BadSortKey)),
+        None => Err(Stop::broken(BindingFault::BadSortKey)),
     }
 }
 

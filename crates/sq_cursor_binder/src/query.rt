@@ -10,7 +10,8 @@ ghost use Rattle.sq_binding.specs.Seen.{column_of, select_seen};
 ghost use Rattle.sq_binder.specs.Found.{Finds, both_of, pairs};
 ghost use Rattle.sq_binder.specs.Surroundings.{surroundings};
 ghost use Rattle.sq_binder.specs.declared.found.Counts.{Counts as AnyCounts};
-ghost use Rattle.sq_cursor_binder.specs.Query.{HasColumns, Joins, TermHasColumns, as_query, query_seen, term_seen, union_of};
+ghost use Rattle.sq_cursor_binder.specs.Query.{Joins, as_query, union_of};
+ghost use Rattle.sq_promises.specs.Seen.{HaveTheirColumns, TermHasColumns, query_seen, term_seen};
 
 use crate::common::common_columns;
 use sq_binder::{
@@ -31,7 +32,7 @@ type TermResult = Result<Found<BoundTerm>, Stop>;
 pub fn bind_query<T: Tables>(query: &Query, at: &Surroundings<'_, T>, before: Counts) -> QueryResult
     ensures finds { Finds query_seen (spec.query_bound (surroundings T.named at.now)
         (query_of at.now.environment.now.user query.now)) before result }
-    ensures columns { IfOk result (λ found. HasColumns found.part) }
+    ensures columns { IfOk result (λ found. HaveTheirColumns found.part) }
 {
     let first = bind_term(&query.first, at, before);
     let mut joined = started(at.environment.alloc, first)?;
@@ -78,7 +79,7 @@ fn specification_term(query: SelectResult) -> TermResult
 }
 
 fn bracketed_term(alloc: Global, query: QueryResult) -> TermResult
-    requires { IfOk query (λ found. HasColumns found.part) }
+    requires { IfOk query (λ found. HaveTheirColumns found.part) }
     ensures finds { (b : Binding NumberedQuery) (before : AnyCounts) → Finds query_seen b before query
         → Finds term_seen b before result }
     ensures columns { IfOk result (λ found. TermHasColumns found.part) }
@@ -112,7 +113,7 @@ fn started(alloc: Global, term: TermResult) -> QueryResult
     requires { IfOk term (λ found. TermHasColumns found.part) }
     ensures finds { (b : Binding NumberedQuery) (before : AnyCounts) → Finds term_seen b before term
         → Finds query_seen b before result }
-    ensures columns { IfOk result (λ found. HasColumns found.part) }
+    ensures columns { IfOk result (λ found. HaveTheirColumns found.part) }
 {
     let Found { part, brought } = term?;
     match of_term(alloc, part) {
@@ -126,7 +127,7 @@ fn started(alloc: Global, term: TermResult) -> QueryResult
 
 pub fn of_term(alloc: Global, term: BoundTerm) -> Result<BoundQuery, AllocError>
     requires { TermHasColumns term }
-    ensures { IfOk result (λ query. (query_seen query ≡ term_seen term) × HasColumns query) }
+    ensures { IfOk result (λ query. (query_seen query ≡ term_seen term) × HaveTheirColumns query) }
 {
     match Items::from_slice(alloc, columns_of(&term)) {
         Ok(columns) => Ok(BoundQuery {
@@ -143,12 +144,12 @@ pub fn of_term(alloc: Global, term: BoundTerm) -> Result<BoundQuery, AllocError>
 
 /// The query expression with a further term.
 fn with_union(alloc: Global, joined: Found<BoundQuery>, all: bool, term: TermResult) -> QueryResult
-    requires joined { HasColumns joined.part }
+    requires joined { HaveTheirColumns joined.part }
     requires term { IfOk term (λ found. TermHasColumns found.part) }
     ensures finds { (left right : Binding NumberedQuery) (before : AnyCounts)
         → Finds query_seen left before (Ok joined) → Finds term_seen right joined.brought.next term
         → Finds query_seen (union_of all left right) before result }
-    ensures columns { IfOk result (λ found. HasColumns found.part) }
+    ensures columns { IfOk result (λ found. HaveTheirColumns found.part) }
 {
     let term = with_common(alloc, joined.part.columns.as_slice(), term);
     match paired(joined, term) {
@@ -164,9 +165,10 @@ fn with_common(
     term: TermResult,
 ) -> Result<Found<(BoundTerm, Items<ResultColumn>)>, Stop>
     requires { IfOk term (λ found. TermHasColumns found.part) }
-    ensures { (right : Binding NumberedQuery) (before : AnyCounts) → Finds term_seen right before term
+    ensures finds { (right : Binding NumberedQuery) (before : AnyCounts) → Finds term_seen right before term
         → Finds (both_of term_seen (map column_of))
         (pairs right (λ y. spec.common_columns (map column_of left.now) (columns_of_query y))) before result }
+    ensures columns { IfOk result (λ found. TermHasColumns found.part.0) }
 {
     let term = term?;
     let columns = common_columns(alloc, left, columns_of(&term.part), term.brought.next);
@@ -178,6 +180,8 @@ fn joined_sides(
     all: bool,
     sides: Found<(BoundQuery, (BoundTerm, Items<ResultColumn>))>,
 ) -> QueryResult
+    requires query { HaveTheirColumns sides.part.0 }
+    requires term { TermHasColumns sides.part.1.0 }
     ensures { Joins all sides result }
 {
     let Found { part, brought } = sides;
@@ -199,9 +203,11 @@ fn with_term(
     term: BoundTerm,
     columns: Items<ResultColumn>,
 ) -> Result<BoundQuery, AllocError>
+    requires query { HaveTheirColumns query }
+    requires term { TermHasColumns term }
     ensures { IfOk result (λ more. (query_seen more
         ≡ NumberedQuery.joined all (query_seen query) (term_seen term) (map column_of columns))
-        × HasColumns more) }
+        × HaveTheirColumns more) }
 {
     let BoundQuery {
         first,

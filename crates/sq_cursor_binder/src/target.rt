@@ -15,7 +15,8 @@ ghost use Rattle.sq_binder.specs.Scope.{item_of};
 ghost use Rattle.sq_binder.specs.Specification.{clause_seen};
 ghost use Rattle.sq_binder.specs.Surroundings.{surroundings};
 ghost use Rattle.sq_binder.specs.declared.found.Counts.{Counts as AnyCounts};
-ghost use Rattle.sq_cursor_binder.specs.Changeable.{IsNotedKey, changed_of, target_bound, target_made, target_seen};
+ghost use Rattle.sq_cursor_binder.specs.Changeable.{IsNotedKey, changed_of, target_bound, target_made};
+ghost use Rattle.sq_promises.specs.Seen.{target_seen};
 
 use crate::changeable::{ChangedTable, item_at_leaf};
 use crate::under::UnderTable;

@@ -13,9 +13,10 @@ ghost use Rattle.sq_binding.specs.Seen.{numbered_of, select_seen};
 ghost use Rattle.sq_binder.specs.Found.{Finds};
 ghost use Rattle.sq_binder.specs.Surroundings.{surroundings};
 ghost use Rattle.sq_binder.specs.declared.found.Counts.{Counts as AnyCounts};
-ghost use Rattle.sq_cursor_binder.specs.Changeable.{changed_of, table_name, target_made, target_seen};
+ghost use Rattle.sq_cursor_binder.specs.Changeable.{changed_of, table_name, target_made};
 ghost use Rattle.sq_cursor_binder.specs.Names.{IsUnder, beneath_of, names_at, under_table, user_names};
-ghost use Rattle.sq_cursor_binder.specs.Updatable.{named, updatable_if, updatable_made, updatable_seen};
+ghost use Rattle.sq_cursor_binder.specs.Updatable.{updatable_if, updatable_made};
+ghost use Rattle.sq_promises.specs.Seen.{table_named, target_seen, updatable_seen};
 
 use crate::changeable::ChangedTable;
 use crate::names::ChangeableTables;
@@ -45,7 +46,7 @@ pub fn bind_updatable<T: ChangeableTables>(
         (surroundings T.named at.now) (select_of at.now.environment.now.user query.now)
         (select_seen bound.now)) before result }
     ensures under { IfOk result (λ found. IfSome found.part
-        (λ over. IsUnder (T.changes at.now.tables.now) (named over.0) over.1.target.leaf)) }
+        (λ over. IsUnder (T.changes at.now.tables.now) (table_named over.0) over.1.target.leaf)) }
 {
     match only_table(query, bound, at.tables, at.environment.user) {
         Some(table) => updatable_over(&table, query, bound, at, before),
@@ -132,7 +133,7 @@ fn updatable_over<T: ChangeableTables>(
     ensures finds { Finds (option_map updatable_seen) (spec.updatable_over (surroundings T.named at.now)
         (select_of at.now.environment.now.user query.now) (select_seen bound.now)
         (Some (changed_of table.now))) before result }
-    ensures leaf { IfOk result (λ found. IfSome found.part (λ over. (named over.0 ≡ table_name table.now)
+    ensures leaf { IfOk result (λ found. IfSome found.part (λ over. (table_named over.0 ≡ table_name table.now)
         × (over.1.target.leaf ≡ table.now.under.leaf.now))) }
 {
     let alloc = at.environment.alloc;
@@ -151,7 +152,7 @@ fn updatable(
     ensures finds { (b : Binding NumberedClause) (before : AnyCounts)
         → Finds target_seen (target_made (changed_of table.now) b) before target
         → Finds (option_map updatable_seen) (updatable_made (changed_of table.now) columns b) before result }
-    ensures leaf { IfOk result (λ found. IfSome found.part (λ over. (named over.0 ≡ table_name table.now)
+    ensures leaf { IfOk result (λ found. IfSome found.part (λ over. (table_named over.0 ≡ table_name table.now)
         × (over.1.target.leaf ≡ table.now.under.leaf.now))) }
 {
     match target {
@@ -171,7 +172,7 @@ fn updatable_where(
     ensures part { option_map updatable_seen result.part ≡ updatable_if (table_name table.now) columns
         target.brought.findings.has_subquery (target_seen target.part) }
     ensures brought { result.brought ≡ target.brought }
-    ensures leaf { IfSome result.part (λ over. (named over.0 ≡ table_name table.now)
+    ensures leaf { IfSome result.part (λ over. (table_named over.0 ≡ table_name table.now)
         × (over.1.target.leaf ≡ target.part.leaf)) }
 {
     let Found { part, brought } = target;

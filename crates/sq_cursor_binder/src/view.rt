@@ -9,7 +9,7 @@ ghost use Rattle.sq_binder.specs.Binds.{Binds};
 ghost use Rattle.sq_binder.specs.Found.{found_of};
 ghost use Rattle.sq_binder.specs.Surroundings.{surroundings};
 ghost use Rattle.sq_cursor_binder.specs.Names.{IsUnder, names_at, user_names};
-ghost use Rattle.sq_cursor_binder.specs.Updatable.{named, updatable_seen};
+ghost use Rattle.sq_promises.specs.Seen.{table_named, updatable_seen};
 ghost use Rattle.sq_cursor_binder.specs.View.{view_seen};
 
 use crate::names::ChangeableTables;
@@ -45,7 +45,7 @@ pub fn bind_view<T: ChangeableTables>(
     ensures binds { Binds view_seen (spec.view_bound
         (user_names user (T.named tables.now) (T.changes tables.now)) (select_of user query.now)) result }
     ensures under { IfOk result (λ view. IfSome view.updatable
-        (λ over. IsUnder (T.changes tables.now) (named over.0) over.1.target.leaf)) }
+        (λ over. IsUnder (T.changes tables.now) (table_named over.0) over.1.target.leaf)) }
 {
     let environment = Environment::new(alloc, user, &[]);
     let at = Surroundings {
@@ -64,7 +64,7 @@ fn view_over<T: ChangeableTables>(
         (spec.view_over (names_at T.named T.changes at.now) (surroundings T.named at.now)
         (select_of at.now.environment.now.user query.now)) result }
     ensures under { IfOk result (λ view. IfSome view.updatable
-        (λ over. IsUnder (T.changes at.now.tables.now) (named over.0) over.1.target.leaf)) }
+        (λ over. IsUnder (T.changes at.now.tables.now) (table_named over.0) over.1.target.leaf)) }
 {
     let found = bind_select(&query.table, query.quantifier, &query.list, at, at_first())?;
     match bind_updatable(query, &found.part, at, found.brought.next.first()) {

@@ -3,7 +3,7 @@
 
 ghost use Rattle.std.specs.Prelude.{◌≡◌, Err, Ok, if◌then◌else◌};
 ghost use Rattle.sq_rules.specs.declared.fault.BindingFault.TheVariants.{PrivilegeMissing};
-ghost use Rattle.sq_binder.specs.declared.stop.Stop.TheVariants.{Fault};
+ghost use Rattle.sq_binder.specs.Binds.{broken};
 
 use sq_binder::{Counts, Found, Stop};
 use sq_rules::BindingFault;
@@ -21,7 +21,7 @@ pub fn at_first() -> Counts
 /// The part, where no privilege is missing.
 pub fn permitted<T: Drop>(found: Found<T>) -> Result<T, Stop>
     ensures { result ≡ (if found.brought.findings.lacks_privilege
-        then Err (Fault PrivilegeMissing)
+        then Err (broken PrivilegeMissing)
         else Ok found.part) }
 {
     let Found { part, brought } = found;
@@ -29,7 +29,7 @@ pub fn permitted<T: Drop>(found: Found<T>) -> Result<T, Stop>
     drop(brought);
     if lacks_privilege {
         drop(part);
-        Err(Stop::Fault(BindingFault::PrivilegeMissing))
+        Err(Stop::broken(BindingFault::PrivilegeMissing))
     } else {
         Ok(part)
     }

@@ -3,9 +3,10 @@
 use Rattle.std.proofs.Common.{◌≡◌, ℕ, Bool, true, false, not, ◌&&◌, ◌||◌, List, [], ◌∷◌, length, map, Option, Some, None, Ok, Err, refl, sym, ap, subst, ◌∙◌}
 use Rattle.std.proofs.lemmas.Simd.{map-map}
 use Rattle.std.specs.List.{AllZip, cons_option, filter_map, list_all, list_any, zip}
-use Rattle.std.specs.Option.{option_and_then}
+use Rattle.std.specs.Option.{option_and_then, option_map}
 use Rattle.std.specs.Prelude.{◌==◌, if◌then◌else◌, is_some, slice_get}
 use Rattle.sq_lex.specs.declared.name.Name.{Name}
+use Rattle.sq_value.specs.Domain.{kind_of}
 use Rattle.sq_tree.specs.declared.schema.ColumnDefinition.{ColumnDefinition}
 use Rattle.sq_tree.specs.declared.schema.SchemaElement.TheVariants as element
 use Rattle.sq_tree.specs.declared.schema.TableDefinition.{TableDefinition}
@@ -27,7 +28,7 @@ use Rattle.sq_declaring.specs.Reference.{BoundReference, FoundReference, Referen
 use Rattle.sq_declaring.proofs.Answers.{Tells, tells_at}
 use Rattle.sq_declaring.proofs.Known.{AreListed, IsBaseOf, IsColumnOf, Known}
 use Rattle.sq_declaring.proofs.Names.{IsPlaced, as_long, none_of, position_there, table_itself}
-use Rattle.sq_declaring.proofs.ReferencedKeys.{IfKey, IsDomainOf, IsKeyOf, IsTarget, all_paired, key_found, names_placed}
+use Rattle.sq_declaring.proofs.ReferencedKeys.{IfKey, IsKindOf, IsKeyOf, IsTarget, all_paired, key_found, names_placed}
 use Rattle.sq_declaring.proofs.References.{IsEarlier, IsFound}
 use Rattle.sq_binding.proofs.SameParameters.{name_itself}
 
@@ -42,16 +43,16 @@ column_names_are (d ∷ ds) (c ∷ cs) h = λ i. h.0.name i ∷ column_names_are
 pub base_names : (t : TableDefinition) (b : DeclaredBase) → IsBaseOf t b → map (λ c. c.name) b.columns ≡ table_columns t
 base_names t b h = column_names_are (column_definitions t) b.columns h.columns
 
-column_domains_are : (ds : List ColumnDefinition) (cs : List DeclaredColumn) → AllZip IsColumnOf ds cs → AllZip IsDomainOf ds (map (λ c. c.domain) cs)
-column_domains_are [] [] h = tt
-column_domains_are [] (c ∷ cs) h = absurd h
-column_domains_are (d ∷ ds) [] h = absurd h
-column_domains_are (d ∷ ds) (c ∷ cs) h = (h.0.domain, column_domains_are ds cs h.1)
+column_kinds_are : (ds : List ColumnDefinition) (cs : List DeclaredColumn) → AllZip IsColumnOf ds cs → AllZip IsKindOf ds (map (λ c. kind_of c.domain) cs)
+column_kinds_are [] [] h = tt
+column_kinds_are [] (c ∷ cs) h = absurd h
+column_kinds_are (d ∷ ds) [] h = absurd h
+column_kinds_are (d ∷ ds) (c ∷ cs) h = (ap (option_map kind_of) h.0.domain, column_kinds_are ds cs h.1)
 
 pub base_target : (t : TableDefinition) (b : DeclaredBase) → IsBaseOf t b → IsTarget t (as_referenced b)
 base_target t b h = record {
   names = base_names t b h;
-  domains = column_domains_are (column_definitions t) b.columns h.columns;
+  kinds = column_kinds_are (column_definitions t) b.columns h.columns;
   keys = h.keys;
   primary = h.primary;
   lists = h.lists;
@@ -132,7 +133,7 @@ module _ (before : Elements) (c : Catalog) (known : (name : TableName) → Known
     may_make o = is_none_or (list_all (may_reference_column elements user r.references)) (option_and_then (λ target. referenced_columns target r.references) o)
 
     abbrev after_key : Option Entry → List ℕ → ReferencedTable → ReferencedKey → Outcome BoundReference
-    after_key e ns target key = and_then (paired_reference own_table.domains ns target key) (λ reference. Ok (record { reference = reference; is_permitted = may_reference c user e (names_at target.names key.columns_listed) }))
+    after_key e ns target key = and_then (paired_reference own_table.kinds ns target key) (λ reference. Ok (record { reference = reference; is_permitted = may_reference c user e (names_at target.names key.columns_listed) }))
 
     module _ (f : FoundReference) (is : IsFound before c known user t r f) (good : has_bad_list f ≡ false) (definition : TableDefinition) (target : ReferencedTable) (target_is : IsTarget definition target)
         (there : refusal.referenced_table elements user r.references ≡ Some definition) (listed_are : AreListed (table_columns definition) r.references.columns f.columns_listed)
@@ -146,12 +147,12 @@ module _ (before : Elements) (c : Catalog) (known : (name : TableName) → Known
       -- where the key is there
       module _ (key : ReferencedKey) (k : IsKeyOf definition target target_is r.references key) where
         abbrev pairs : Bool
-        pairs = length f.columns == length key.columns_listed && list_all (are_paired own_table.domains target.domains) (zip f.columns key.columns_listed)
+        pairs = length f.columns == length key.columns_listed && list_all (are_paired own_table.kinds target.kinds) (zip f.columns key.columns_listed)
 
         pairs_same : (length r.columns == length k.wanted && list_all (refusal.are_paired t definition) (zip r.columns k.wanted)) ≡ pairs
         pairs_same =
             λ i. as_long (IsPlaced (table_columns t)) r.columns f.columns is.columns_are i == as_long (IsPlaced (table_columns definition)) k.wanted key.columns_listed k.placed i
-            && all_paired t definition own_table.domains target.domains own_is.domains target_is.domains r.columns f.columns is.columns_are k.wanted key.columns_listed k.placed i
+            && all_paired t definition own_table.kinds target.kinds own_is.kinds target_is.kinds r.columns f.columns is.columns_are k.wanted key.columns_listed k.placed i
 
         well : pairs_well t r.columns definition k.wanted ≡ pairs
         well = ap (λ b. b && length r.columns == length k.wanted && list_all (refusal.are_paired t definition) (zip r.columns k.wanted)) k.keyed ∙ pairs_same

@@ -1,7 +1,6 @@
 -- GRANT is accepted exactly where the rules refuse nothing of it, and what it grants is what the rules say that it gives (ISO/IEC 9075:1992,
 -- 11.36).
-use Rattle.std.proofs.Common.{◌≡◌, Bool, true, false, not, ◌&&◌, ◌||◌, List, [], ◌∷◌, ◌++◌, Option, Some, None, refl, sym, ap, subst, ◌∙◌}
-use Rattle.std.proofs.lemmas.List.Folds.{list_any-append}
+use Rattle.std.proofs.Common.{◌≡◌, Bool, true, false, not, ◌&&◌, ◌||◌, List, [], ◌∷◌, Option, Some, None, refl, sym, ap, subst, ◌∙◌}
 use Rattle.std.specs.List.{flat_map, list_any}
 use Rattle.std.specs.Prelude.{if◌then◌else◌, find, is_none, nat_lt}
 use Rattle.sq_lex.specs.declared.name.Name.{Name}
@@ -16,14 +15,15 @@ use Rattle.sq_rules.specs.SchemaRefusal.{action_columns, action_repeats, actions
 use Rattle.sq_rules.specs.Words.{is_some_and}
 use Rattle.sq_rules.specs.declared.refusal.SchemaFault.{SchemaFault}
 use Rattle.sq_rules.specs.declared.refusal.SchemaFault.TheVariants as fault
-use Rattle.sq_declaring.specs.Catalog.{Catalog, Entry, Grant, entry, entry_column_names, gives, may, may_on, owns}
-use Rattle.sq_declaring.specs.Grant.{declared_grants, grants_made, privileges_granted, with_grants}
+use Rattle.sq_declaring.specs.Catalog.{Catalog, Entry, Grant, entry, entry_column_names, gives, may, may_on, owns, with_grants}
+use Rattle.sq_declaring.specs.Grant.{declared_grants, grants_made, privileges_granted, with_granted}
 use Rattle.sq_declaring.specs.Outcome.{or_fault, refused_if}
 use Rattle.sq_declaring.proofs.Answers.{Answers, answers_end, answers_then, behind, first_broken, if_told, one_rule, tells_at, tells_made, tells_there}
 use Rattle.sq_declaring.proofs.Known.{IsCatalogOf, IsMadeOf, Known, made_columns, same_known, there_is_made}
 use Rattle.sq_declaring.proofs.Made.{made_still}
 use Rattle.sq_declaring.proofs.Names.{no_truth, table_same}
 use Rattle.sq_declaring.proofs.GrantedPrivileges.{AreGranted, granted_is, granted_told, made_gives}
+use Rattle.sq_declaring.proofs.GrantsAdded.{given_with_grants}
 
 module _ (users : List Name) (before : Elements) (c : Catalog) (of : IsCatalogOf users before c) (user : Name) (g : GrantStatement) where
   abbrev name : TableName
@@ -154,27 +154,27 @@ module _ (users : List Name) (before : Elements) (c : Catalog) (of : IsCatalogOf
     or_assoc false false true = refl
     or_assoc false false false = refl
 
-    held_now : (grantable : Bool) (who : Name) (to : TableName) (p : Privilege) → may (with_grants c gs) grantable who to p ≡ chain elements grantable who to p
+    held_now : (grantable : Bool) (who : Name) (to : TableName) (p : Privilege) → may (with_granted c gs) grantable who to p ≡ chain elements grantable who to p
     held_now grantable who to p = by (entry c to) refl
       where
-        by : (o : Option Entry) → entry c to ≡ o → is_some_and (may_on (with_grants c gs) grantable who to p) o ≡ (grant_gives (chain before) user g grantable who to p || chain before grantable who to p)
+        by : (o : Option Entry) → entry c to ≡ o → is_some_and (may_on (with_granted c gs) grantable who to p) o ≡ (grant_gives (chain before) user g grantable who to p || chain before grantable who to p)
         by None at =
             λ i. (sym (none_given grantable who to p (other to at)) ∙ gift grantable who to p) i || (sym (ap (is_some_and (may_on c grantable who to p)) at) ∙ of.held grantable who to p) i
         by (Some e) at =
-            ap (λ b. owns who to e && is_on_column (entry_column_names e) p || b) (list_any-append (gives grantable who to p) c.grants gs)
+            ap (λ b. owns who to e && is_on_column (entry_column_names e) p || b) (given_with_grants grantable who to p c.grants gs)
             ∙ or_assoc (owns who to e && is_on_column (entry_column_names e) p) (list_any (gives grantable who to p) c.grants) (list_any (gives grantable who to p) gs)
             ∙ (λ i. gift grantable who to p i || (sym (ap (is_some_and (may_on c grantable who to p)) at) ∙ of.held grantable who to p) i)
 
-    granted_now : (to : TableName) → entry c to ≡ None → (grantable : Bool) (who : Name) (p : Privilege) → list_any (gives grantable who to p) (c.grants ++ gs) ≡ false
+    granted_now : (to : TableName) → entry c to ≡ None → (grantable : Bool) (who : Name) (p : Privilege) → list_any (gives grantable who to p) (with_grants c.grants gs) ≡ false
     granted_now to none grantable who p =
-        list_any-append (gives grantable who to p) c.grants gs ∙ (λ i. of.granted to none grantable who p i || none_given grantable who to p (other to none) i)
+        given_with_grants grantable who to p c.grants gs ∙ (λ i. of.granted to none grantable who p i || none_given grantable who to p (other to none) i)
 
-    on_columns_now : (grantable : Bool) (who : Name) (to : TableName) (p : Privilege) (e : Entry) → entry c to ≡ Some e → may (with_grants c gs) grantable who to p ≡ true → is_on_column (entry_column_names e) p ≡ true
+    on_columns_now : (grantable : Bool) (who : Name) (to : TableName) (p : Privilege) (e : Entry) → entry c to ≡ Some e → may (with_granted c gs) grantable who to p ≡ true → is_on_column (entry_column_names e) p ≡ true
     on_columns_now grantable who to p e at is =
         by (may_on c grantable who to p e) refl (same_table name to) refl
         (sym (or_assoc_left (owns who to e && is_on_column (entry_column_names e) p) (list_any (gives grantable who to p) c.grants) (list_any (gives grantable who to p) gs))
-        ∙ sym (ap (λ b. owns who to e && is_on_column (entry_column_names e) p || b) (list_any-append (gives grantable who to p) c.grants gs))
-        ∙ sym (ap (is_some_and (may_on (with_grants c gs) grantable who to p)) at) ∙ is)
+        ∙ sym (ap (λ b. owns who to e && is_on_column (entry_column_names e) p || b) (given_with_grants grantable who to p c.grants gs))
+        ∙ sym (ap (is_some_and (may_on (with_granted c gs) grantable who to p)) at) ∙ is)
       where
         or_assoc_left : (a b d : Bool) → (a || (b || d)) ≡ ((a || b) || d)
         or_assoc_left true b d = refl
@@ -194,10 +194,10 @@ module _ (users : List Name) (before : Elements) (c : Catalog) (of : IsCatalogOf
             of.on_columns true user to p e at (ap (λ n. may c true user n p) (sym (table_same name to same)) ∙ is_it)
 
     -- a grant makes neither a base table nor a view
-    made_elsewhere : IsMadeOf before (with_grants c gs) → IsMadeOf elements (with_grants c gs)
+    made_elsewhere : IsMadeOf before (with_granted c gs) → IsMadeOf elements (with_granted c gs)
     made_elsewhere h = record { bases = h.bases; base_places = h.base_places; views = h.views; view_places = h.view_places }
 
-    pub with_these_grants : IsCatalogOf users elements (with_grants c gs)
+    pub with_these_grants : IsCatalogOf users elements (with_granted c gs)
     with_these_grants = record {
       users_are = of.users_are;
       known = λ to. same_known before elements refl to refl (entry c to) (of.known to);
@@ -205,7 +205,7 @@ module _ (users : List Name) (before : Elements) (c : Catalog) (of : IsCatalogOf
       bases = of.bases;
       few = of.few;
       held = held_now;
-      made = made_elsewhere (made_still before c (with_grants c gs) refl refl (λ to e at. at) of.made);
+      made = made_elsewhere (made_still before c (with_granted c gs) refl refl (λ to e at. at) of.made);
       on_columns = on_columns_now;
       granted = granted_now;
     }

@@ -6,6 +6,7 @@ pub mod Constraints
 pub mod Created
 pub mod Granted
 pub mod GrantedPrivileges
+pub mod GrantsAdded
 pub mod Known
 pub mod Made
 pub mod Names

@@ -127,7 +127,7 @@ module _ (c : Catalog) (user : Name) (own : ReferencedTable) (f : FoundReference
   after_pair target key reference = Ok (record { reference = reference; is_permitted = may_reference c user f.earlier (names_at target.names key.columns_listed) })
 
   abbrev after_key : ReferencedTable → ReferencedKey → Outcome BoundReference
-  after_key target key = and_then (paired_reference own.domains f.columns target key) (after_pair target key)
+  after_key target key = and_then (paired_reference own.kinds f.columns target key) (after_pair target key)
 
   abbrev after_target : ReferencedTable → Outcome BoundReference
   after_target target = and_then (or_fault fault.BadReference (referenced_key target f.columns_listed)) (after_key target)
@@ -149,16 +149,16 @@ module _ (c : Catalog) (user : Name) (own : ReferencedTable) (f : FoundReference
   reference_is_to y bound =
       let target = steps_of (referenced_table own f.earlier) after_target y bound in
       let key = steps_of (or_fault fault.BadReference (referenced_key target.step f.columns_listed)) (after_key target.step) y target.second in
-      let pair = steps_of (paired_reference own.domains f.columns target.step key.step) (after_pair target.step key.step) y key.second in
+      let pair = steps_of (paired_reference own.kinds f.columns target.step key.step) (after_pair target.step key.step) y key.second in
       let last = pair.second in
       let made : record { reference = pair.step; is_permitted = may_reference c user f.earlier (names_at target.step.names key.step.columns_listed) } ≡ y = cc in
-      let is = paired target.step key.step (length f.columns == length key.step.columns_listed && list_all (are_paired own.domains target.step.domains) (zip f.columns key.step.columns_listed)) pair.step pair.first in
+      let is = paired target.step key.step (length f.columns == length key.step.columns_listed && list_all (are_paired own.kinds target.step.kinds) (zip f.columns key.step.columns_listed)) pair.step pair.first in
       record {
         target = target.step;
         target_is = target.first;
         key = key.step;
         key_is = or_fault_ok fault.BadReference (referenced_key target.step f.columns_listed) key.step key.first;
-        as_many = (both_true (length f.columns == length key.step.columns_listed) (list_all (are_paired own.domains target.step.domains) (zip f.columns key.step.columns_listed)) is.0).0;
+        as_many = (both_true (length f.columns == length key.step.columns_listed) (list_all (are_paired own.kinds target.step.kinds) (zip f.columns key.step.columns_listed)) is.0).0;
         is = ap (λ (y : BoundReference). y.reference) (sym made) ∙ is.1;
       }
 

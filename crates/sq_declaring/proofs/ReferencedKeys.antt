@@ -2,12 +2,15 @@
 -- 9075:1992, 11.8).
 use Rattle.std.proofs.Common.{◌≡◌, ℕ, zero, suc, ◌+◌, Bool, true, false, cond, not, ◌&&◌, ◌||◌, List, [], ◌∷◌, length, map, Option, Some, None, refl, sym, ap, subst, ◌∙◌}
 use Rattle.std.proofs.lemmas.Bool.{eq-eqb}
+use Rattle.std.specs.Bool.{beq}
 use Rattle.std.specs.List.{AllZip, cons_option, enumerate_from, filter_map, list_all, list_any, zip}
 use Rattle.std.specs.Option.{option_and_then, option_map, option_or}
 use Rattle.std.specs.Prelude.{◌==◌, find, if◌then◌else◌, is_some, nat_eq, nat_lt, position, slice_get, unwrap_or}
 use Rattle.sq_lex.specs.declared.name.Name.{Name}
+use Rattle.sq_value.specs.Domain.{is_of_numbers, kind_of}
 use Rattle.sq_value.specs.declared.domain.Domain.{Domain}
 use Rattle.sq_value.specs.declared.domain.Domain.TheVariants as domain
+use Rattle.sq_value.specs.declared.domain.Kind.{Kind}
 use Rattle.sq_tree.specs.declared.list.CommaList.{CommaList}
 use Rattle.sq_tree.specs.declared.schema.ColumnDefinition.{ColumnDefinition}
 use Rattle.sq_tree.specs.declared.schema.References.{References}
@@ -17,11 +20,11 @@ use Rattle.sq_meaning.specs.Spelled.{domain_of, listed}
 use Rattle.sq_rules.specs.Catalog.{column_domain}
 use Rattle.sq_rules.specs.Schema as rules
 use Rattle.sq_rules.specs.Schema.{Constraint, column_definitions, constraints, has_name_twice, is_among, key_columns, place_among, primary_columns, referenced_columns, table_columns}
-use Rattle.sq_rules.specs.SchemaRefusal.{are_of_one_sort, domain_of_column, has_unknown, is_key, pairs_well}
+use Rattle.sq_rules.specs.SchemaRefusal.{domain_of_column, has_unknown, is_key, pairs_well}
 use Rattle.sq_rules.specs.SchemaRefusal as refusal
 use Rattle.sq_rules.specs.Words.{has_twice, is_some_and}
 use Rattle.sq_declaring.specs.Key.{has_bad_key, is_bad_list, is_primary, most_key_columns, primary_place}
-use Rattle.sq_declaring.specs.Reference.{ReferencedKey, ReferencedTable, are_paired, are_the_same, key_at, key_listed, names_at, primary_key, referenced_key}
+use Rattle.sq_declaring.specs.Reference.{ReferencedKey, ReferencedTable, are_of_one_sort, are_paired, are_the_same, is_numeric, key_at, key_listed, names_at, primary_key, referenced_key}
 use Rattle.sq_declaring.proofs.Names.{IsPlaced, any_placed, as_long, both_true, none_of, position_at, position_step}
 use Rattle.sq_declaring.proofs.Known.{AreListed}
 use Rattle.sq_declaring.proofs.Subsets.{same_members}
@@ -30,7 +33,7 @@ use Rattle.sq_binding.proofs.SameParameters.{name_itself, names_equal}
 -- A table as its references see it is that of its definition.
 pub record IsTarget (t : TableDefinition) (r : ReferencedTable) : Type 0 where
   pub names : r.names ≡ table_columns t
-  pub domains : AllZip (λ (d : ColumnDefinition) domain. domain_of d.data_type ≡ Some domain) (column_definitions t) r.domains
+  pub kinds : AllZip (λ (d : ColumnDefinition) kind. option_map kind_of (domain_of d.data_type) ≡ Some kind) (column_definitions t) r.kinds
   pub keys : AllZip (AllZip (IsPlaced (table_columns t))) (rules.keys t) r.keys
   pub primary : r.primary_key ≡ primary_place t
   pub lists : has_bad_key t r.keys ≡ false
@@ -45,7 +48,7 @@ names_placed names (a ∷ wanted) (n ∷ ns) h =
     let x = position_at (same_name a) names n h.0 in
     ap (λ o. cons_option o (names_at names ns)) (x.1 ∙ ap Some (sym (names_equal a x.0 x.2))) ∙ ap (λ l. a ∷ l) (names_placed names wanted ns h.1)
 
--- ---- domains
+-- ---- kinds
 
 turned : (a b : Name) → same_name a b ≡ same_name b a
 turned a b = by (same_name a b) refl (same_name b a) refl
@@ -56,25 +59,29 @@ turned a b = by (same_name a b) refl (same_name b a) refl
     by true is false of = sym (sym of ∙ ap (λ c. same_name b c) (names_equal a b is) ∙ name_itself b)
     by false is true of = sym is ∙ ap (λ c. same_name a c) (names_equal b a of) ∙ name_itself a
 
-abbrev pub IsDomainOf : ColumnDefinition → Domain → Type 0
-IsDomainOf d domain = domain_of d.data_type ≡ Some domain
+abbrev pub IsKindOf : ColumnDefinition → Kind → Type 0
+IsKindOf d kind = option_map kind_of (domain_of d.data_type) ≡ Some kind
 
-domain_itself : (d : ColumnDefinition) (x : Domain) → domain_of d.data_type ≡ Some x → Some (column_domain d) ≡ Some x
-domain_itself d x e = ap (λ (o : Option Domain). Some (unwrap_or o domain.Int)) e
+abbrev pub column_kind : ColumnDefinition → Kind
+column_kind d = kind_of (column_domain d)
 
--- a column's domain, by its name and by its position
-domain_placed : (name : Name) (ds : List ColumnDefinition) (domains : List Domain) → AllZip IsDomainOf ds domains → (n : ℕ) → IsPlaced (map (λ c. c.name) ds) name n
-    → option_map column_domain (find (λ c. same_name c.name name) ds) ≡ slice_get domains n
-domain_placed name [] [] h n e = cc
-domain_placed name [] (x ∷ domains) h n e = absurd h
-domain_placed name (d ∷ ds) [] h n e = absurd h
-domain_placed name (d ∷ ds) (x ∷ domains) h n e =
-    ap (λ b. option_map column_domain (cond b (Some d) (find (λ c. same_name c.name name) ds))) (turned d.name name)
-    ∙ by (λ m at. domain_placed name ds domains h.1 m at) (same_name name d.name) (place_among (map (λ c. c.name) ds) name) refl n (sym (position_step (same_name name) d.name (map (λ c. c.name) ds)) ∙ e)
+kind_itself : (o : Option Domain) (x : Kind) → option_map kind_of o ≡ Some x → Some (kind_of (unwrap_or o domain.Int)) ≡ Some x
+kind_itself (Some d) x e = e
+kind_itself None x e = cc
+
+-- a column's kind, by its name and by its position
+kind_placed : (name : Name) (ds : List ColumnDefinition) (kinds : List Kind) → AllZip IsKindOf ds kinds → (n : ℕ) → IsPlaced (map (λ c. c.name) ds) name n
+    → option_map column_kind (find (λ c. same_name c.name name) ds) ≡ slice_get kinds n
+kind_placed name [] [] h n e = cc
+kind_placed name [] (x ∷ kinds) h n e = absurd h
+kind_placed name (d ∷ ds) [] h n e = absurd h
+kind_placed name (d ∷ ds) (x ∷ kinds) h n e =
+    ap (λ b. option_map column_kind (cond b (Some d) (find (λ c. same_name c.name name) ds))) (turned d.name name)
+    ∙ by (λ m at. kind_placed name ds kinds h.1 m at) (same_name name d.name) (place_among (map (λ c. c.name) ds) name) refl n (sym (position_step (same_name name) d.name (map (λ c. c.name) ds)) ∙ e)
   where
-    by : ((m : ℕ) → IsPlaced (map (λ c. c.name) ds) name m → option_map column_domain (find (λ c. same_name c.name name) ds) ≡ slice_get domains m) → (b : Bool) (o : Option ℕ) → place_among (map (λ c. c.name) ds) name ≡ o
-        → (n : ℕ) → (if b then Some 0 else option_map suc o) ≡ Some n → option_map column_domain (cond b (Some d) (find (λ c. same_name c.name name) ds)) ≡ slice_get (x ∷ domains) n
-    by later true o at zero e = domain_itself d x h.0
+    by : ((m : ℕ) → IsPlaced (map (λ c. c.name) ds) name m → option_map column_kind (find (λ c. same_name c.name name) ds) ≡ slice_get kinds m) → (b : Bool) (o : Option ℕ) → place_among (map (λ c. c.name) ds) name ≡ o
+        → (n : ℕ) → (if b then Some 0 else option_map suc o) ≡ Some n → option_map column_kind (cond b (Some d) (find (λ c. same_name c.name name) ds)) ≡ slice_get (x ∷ kinds) n
+    by later true o at zero e = kind_itself (domain_of d.data_type) x h.0
     by later true o at (suc n) e = cc
     by later false None at n e = cc
     by later false (Some m) at zero e = cc
@@ -82,7 +89,31 @@ domain_placed name (d ∷ ds) (x ∷ domains) h n e =
 
 -- ---- how columns pair
 
-module _ (t target : TableDefinition) (own theirs : List Domain) (of : AllZip IsDomainOf (column_definitions t) own) (to : AllZip IsDomainOf (column_definitions target) theirs) where
+module _ (t target : TableDefinition) (own theirs : List Kind) (of : AllZip IsKindOf (column_definitions t) own) (to : AllZip IsKindOf (column_definitions target) theirs) where
+  of_numbers : (d : Domain) → is_of_numbers d ≡ is_numeric (kind_of d)
+  of_numbers domain.Small = refl
+  of_numbers domain.Int = refl
+  of_numbers (domain.Numeric p s) = refl
+  of_numbers (domain.Char n) = refl
+  of_numbers (domain.VarChar n) = refl
+
+  sorts : (o p : Option Domain) → refusal.are_of_one_sort o p ≡ are_of_one_sort (option_map kind_of o) (option_map kind_of p)
+  sorts None p = refl
+  sorts (Some d) None = refl
+  sorts (Some d) (Some e) = λ i. beq (of_numbers d i) (of_numbers e i)
+
+  kind_found : (name : Name) (ds : List ColumnDefinition) → option_map kind_of (option_map column_domain (find (λ c. same_name c.name name) ds)) ≡ option_map column_kind (find (λ c. same_name c.name name) ds)
+  kind_found name ds = by (find (λ c. same_name c.name name) ds)
+    where
+      by : (o : Option ColumnDefinition) → option_map kind_of (option_map column_domain o) ≡ option_map column_kind o
+      by None = refl
+      by (Some d) = refl
+
+  pair_sorted : (a : Name) (n : ℕ) → IsPlaced (table_columns t) a n → (b : Name) (w : ℕ) → IsPlaced (table_columns target) b w → refusal.are_paired t target (a, b) ≡ are_paired own theirs (n, w)
+  pair_sorted a n h b w g =
+      sorts (domain_of_column t a) (domain_of_column target b)
+      ∙ (λ i. are_of_one_sort ((kind_found a (column_definitions t) ∙ kind_placed a (column_definitions t) own of n h) i) ((kind_found b (column_definitions target) ∙ kind_placed b (column_definitions target) theirs to w g) i))
+
   pub all_paired : (names : List Name) (ns : List ℕ) → AllZip (IsPlaced (table_columns t)) names ns → (wanted : List Name) (ws : List ℕ) → AllZip (IsPlaced (table_columns target)) wanted ws
       → list_all (refusal.are_paired t target) (zip names wanted) ≡ list_all (are_paired own theirs) (zip ns ws)
   all_paired [] [] h wanted ws g = refl
@@ -92,7 +123,7 @@ module _ (t target : TableDefinition) (own theirs : List Domain) (of : AllZip Is
   all_paired (a ∷ names) (n ∷ ns) h [] (w ∷ ws) g = absurd g
   all_paired (a ∷ names) (n ∷ ns) h (b ∷ wanted) [] g = absurd g
   all_paired (a ∷ names) (n ∷ ns) h (b ∷ wanted) (w ∷ ws) g =
-      λ i. are_of_one_sort (domain_placed a (column_definitions t) own of n h.0 i) (domain_placed b (column_definitions target) theirs to w g.0 i) && all_paired names ns h.1 wanted ws g.1 i
+      λ i. pair_sorted a n h.0 b w g.0 i && all_paired names ns h.1 wanted ws g.1 i
 
 -- ---- keys by names and by positions
 

@@ -19,7 +19,7 @@ use Rattle.sq_rules.specs.declared.refusal.SchemaFault.TheVariants as fault
 use Rattle.sq_binding.proofs.CondFaults.{CondSpellsNoNull, SelectSpellsNoNull}
 use Rattle.sq_declaring.specs.Catalog.{Catalog, empty}
 use Rattle.sq_declaring.specs.Declaring.{Declared, catalog_of, then_parts, with_element, with_part, with_parts, with_user}
-use Rattle.sq_declaring.specs.Grant.{declared_grants, with_grants}
+use Rattle.sq_declaring.specs.Grant.{declared_grants, with_granted}
 use Rattle.sq_declaring.specs.Outcome.{Outcome, and_then, refused_if}
 use Rattle.sq_declaring.specs.Table.{declared_table, with_base}
 use Rattle.sq_declaring.specs.View.{declared_view, with_view}
@@ -69,7 +69,7 @@ module _ (users : List Name) (before : Elements) (c : Catalog) (of : IsCatalogOf
       (λ n made. with_this_view users before c of user v null n made.0 made.1))
   element_told (element.Grant g) null =
       as_first users (with_it (element.Grant g)) (grant_rules users before c of user g) (find (refused_for before user (element.Grant g)) schema_faults) (grant_first users before c of user g) (with_element c user (element.Grant g))
-      (answers_made (grant_rules users before c of user g) (IsGranted users before c of user g) (IsCatalogOf users (with_it (element.Grant g))) (declared_grants c user g) (with_grants c) (grants_told users before c of user g)
+      (answers_made (grant_rules users before c of user g) (IsGranted users before c of user g) (IsCatalogOf users (with_it (element.Grant g))) (declared_grants c user g) (with_granted c) (grants_told users before c of user g)
       (λ gs made. with_these_grants users before c of user g gs made))
 
   turned : (a b : Bool) → (a || (b || false)) ≡ (b || a)

@@ -3,6 +3,7 @@
 use Rattle.std.proofs.Common.{◌≡◌, ℕ, suc, Bool, true, false, cond, not, ◌&&◌, ◌||◌, List, [], ◌∷◌, ◌++◌, arith, length, map, Option, Some, None, Ok, Err, refl, sym, ap, subst, ◌∙◌}
 use Rattle.std.proofs.lemmas.Grind.{common_steps}
 use Rattle.std.specs.List.{AllByRecursion, AllZip, list_all, list_any}
+use Rattle.std.specs.Option.{option_map}
 use Rattle.std.specs.Prelude.{⊤, Result, find, if◌then◌else◌, is_err, is_none, is_ok, nat_le, nat_lt, unwrap_or}
 use Rattle.sq_lex.specs.declared.name.Name.{Name}
 use Rattle.sq_value.specs.Domain.{domain_length, kind_of}
@@ -46,7 +47,7 @@ use Rattle.sq_declaring.proofs.BoundReferences.{reference_bound}
 use Rattle.sq_declaring.proofs.Constraints.{IsTyped, keys_nullable}
 use Rattle.sq_declaring.proofs.Known.{IsBaseOf, IsCatalogOf, IsColumnOf, there_is_made}
 use Rattle.sq_declaring.proofs.Names.{IsPlaced, as_long, none_of, table_itself}
-use Rattle.sq_declaring.proofs.ReferencedKeys.{IsDomainOf, IsTarget}
+use Rattle.sq_declaring.proofs.ReferencedKeys.{IsKindOf, IsTarget}
 use Rattle.sq_declaring.proofs.References.{IsFound, is_unknown, keys_told, lists_are_bad, references_told, unknown_names}
 
 -- ---- defaults
@@ -77,7 +78,7 @@ column_told d c h =
     (default_told c.domain c.definition.default)
     (λ x is. record { name = ap (λ d. d.name) h.definition; domain = h.domain; not_null = ap refuses_null h.definition; default = subst (λ (d : ColumnDefinition). default_of c.domain d.default ≡ Ok x) h.definition is }))
 
--- ---- domains
+-- ---- domains and kinds
 
 typed_told : (d : ColumnDefinition) → Tells fault.BadType (is_none (domain_of d.data_type)) (IsTyped d) (typed_column d)
 typed_told d =
@@ -90,11 +91,11 @@ descriptors_typed [] (c ∷ cs) h = absurd h
 descriptors_typed (d ∷ ds) [] h = absurd h
 descriptors_typed (d ∷ ds) (c ∷ cs) h = λ i. record { name = (h.0.definition i).name; kind = kind_of (sym (domain_typed d c h.0) i) } ∷ descriptors_typed ds cs h.1 i
 
-domains_typed : (ds : List ColumnDefinition) (cs : List TypedColumn) → AllZip IsTyped ds cs → AllZip IsDomainOf ds (map (λ c. c.domain) cs)
-domains_typed [] [] h = tt
-domains_typed [] (c ∷ cs) h = absurd h
-domains_typed (d ∷ ds) [] h = absurd h
-domains_typed (d ∷ ds) (c ∷ cs) h = (h.0.domain, domains_typed ds cs h.1)
+kinds_typed : (ds : List ColumnDefinition) (cs : List TypedColumn) → AllZip IsTyped ds cs → AllZip IsKindOf ds (map (λ c. kind_of c.domain) cs)
+kinds_typed [] [] h = tt
+kinds_typed [] (c ∷ cs) h = absurd h
+kinds_typed (d ∷ ds) [] h = absurd h
+kinds_typed (d ∷ ds) (c ∷ cs) h = (ap (option_map kind_of) h.0.domain, kinds_typed ds cs h.1)
 
 -- ---- room
 
@@ -193,7 +194,7 @@ module _ (users : List Name) (before : Elements) (c : Catalog) (of : IsCatalogOf
   -- ---- all of it
 
   own_target : (d : Draft) → IsDraft d → has_bad_key t d.keys ≡ false → IsTarget t (own_table c t d)
-  own_target d h lists = record { names = refl; domains = domains_typed (column_definitions t) d.columns h.columns; keys = h.keys; primary = refl; lists = lists }
+  own_target d h lists = record { names = refl; kinds = kinds_typed (column_definitions t) d.columns h.columns; keys = h.keys; primary = refl; lists = lists }
 
   -- a reference that is made of one that is found
   pub record IsBoundAs (o : ReferencedTable) (r : Reference) (x : BoundReference) : Type 0 where
@@ -222,21 +223,21 @@ module _ (users : List Name) (before : Elements) (c : Catalog) (of : IsCatalogOf
   names_made (d ∷ ds) [] h = absurd h
   names_made (d ∷ ds) (c ∷ cs) h = λ i. sym h.0.name i ∷ names_made ds cs h.1 i
 
-  domains_made : (ds : List ColumnDefinition) (ts : List TypedColumn) (cs : List DeclaredColumn) → AllZip IsTyped ds ts → AllZip IsColumnOf ds cs → map (λ t. t.domain) ts ≡ map (λ c. c.domain) cs
-  domains_made [] [] [] h g = refl
-  domains_made [] [] (c ∷ cs) h g = absurd g
-  domains_made [] (t ∷ ts) cs h g = absurd h
-  domains_made (d ∷ ds) [] cs h g = absurd h
-  domains_made (d ∷ ds) (t ∷ ts) [] h g = absurd g
-  domains_made (d ∷ ds) (t ∷ ts) (c ∷ cs) h g =
+  kinds_made : (ds : List ColumnDefinition) (ts : List TypedColumn) (cs : List DeclaredColumn) → AllZip IsTyped ds ts → AllZip IsColumnOf ds cs → map (λ t. kind_of t.domain) ts ≡ map (λ c. kind_of c.domain) cs
+  kinds_made [] [] [] h g = refl
+  kinds_made [] [] (c ∷ cs) h g = absurd g
+  kinds_made [] (t ∷ ts) cs h g = absurd h
+  kinds_made (d ∷ ds) [] cs h g = absurd h
+  kinds_made (d ∷ ds) (t ∷ ts) [] h g = absurd g
+  kinds_made (d ∷ ds) (t ∷ ts) (c ∷ cs) h g =
       let both : Some t.domain ≡ Some c.domain = sym h.0.domain ∙ g.0.domain in
       let same : t.domain ≡ c.domain = cc in
-      λ i. same i ∷ domains_made ds ts cs h.1 g.1 i
+      λ i. kind_of (same i) ∷ kinds_made ds ts cs h.1 g.1 i
 
   own_is : (d : Draft) (cs : List DeclaredColumn) → IsDraft d → AllZip IsColumnOf (column_definitions t) cs
-      → own_table c t d ≡ record { place = length c.bases; names = map (λ c. c.name) cs; domains = map (λ c. c.domain) cs; keys = d.keys; primary_key = primary_place t }
+      → own_table c t d ≡ record { place = length c.bases; names = map (λ c. c.name) cs; kinds = map (λ c. kind_of c.domain) cs; keys = d.keys; primary_key = primary_place t }
   own_is d cs h are =
-      λ i. record { place = length c.bases; names = names_made (column_definitions t) cs are i; domains = domains_made (column_definitions t) d.columns cs h.columns are i; keys = d.keys; primary_key = primary_place t }
+      λ i. record { place = length c.bases; names = names_made (column_definitions t) cs are i; kinds = kinds_made (column_definitions t) d.columns cs h.columns are i; keys = d.keys; primary_key = primary_place t }
 
   -- the base table that is made
   pub record IsMade (b : DeclaredBase) : Type 0 where

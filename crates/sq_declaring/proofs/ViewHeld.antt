@@ -1,6 +1,6 @@
 -- A catalog with one more view is that of the elements with its CREATE VIEW: its owner holds on it what the rules say (ISO/IEC 9075:1992,
 -- 11.19).
-use Rattle.std.proofs.Common.{◌≡◌, ℕ, Bool, true, false, ◌&&◌, ◌||◌, List, [], ◌∷◌, ◌++◌, length, map, Option, Some, None, Ok, Err, refl, sym, ap, subst, ◌∙◌}
+use Rattle.std.proofs.Common.{◌≡◌, ℕ, Bool, true, false, ◌&&◌, ◌||◌, List, [], ◌∷◌, length, map, Option, Some, None, Ok, Err, refl, sym, ap, subst, ◌∙◌}
 use Rattle.std.proofs.lemmas.List.{append-nil}
 use Rattle.std.proofs.lemmas.List.Folds.{list_any-append}
 use Rattle.std.specs.List.{flat_map, list_all, list_any}
@@ -25,9 +25,10 @@ use Rattle.sq_binding.specs.Numbered.{Numbered}
 use Rattle.sq_binding.specs.View.{NumberedView}
 use Rattle.sq_binding.proofs.CondFaults.{SelectSpellsNoNull}
 use Rattle.sq_binding.proofs.Known.{columns_in}
-use Rattle.sq_declaring.specs.Catalog.{Catalog, Entry, entry, entry_column_names, gives, may, may_on, owns, same_privilege}
+use Rattle.sq_declaring.specs.Catalog.{Catalog, Entry, entry, entry_column_names, gives, may, may_on, owns, same_privilege, with_grants}
 use Rattle.sq_declaring.specs.View.{NewView, column_shown, declared_view, grants_over, names_underneath, owner_grants, privileges_followed, with_view}
 use Rattle.sq_declaring.proofs.BoundViews.{IsBoundView}
+use Rattle.sq_declaring.proofs.GrantsAdded.{given_with_grants}
 use Rattle.sq_declaring.proofs.Known.{IsCatalogOf, IsMadeOf, Known, known_columns}
 use Rattle.sq_declaring.proofs.Made.{StillNamed, made_with_view}
 use Rattle.sq_declaring.proofs.Names.{position_there, table_same}
@@ -215,8 +216,8 @@ module _ (users : List Name) (before : Elements) (c : Catalog) (of : IsCatalogOf
   none_before : (to : TableName) → same_table own to ≡ true → (grantable : Bool) (who : Name) (p : Privilege) → chain before grantable who to p ≡ false
   none_before to is grantable who p = sym (of.held grantable who to p) ∙ ap (is_some_and (may_on c grantable who to p)) (subst (λ t. entry c t ≡ None) (table_same own to is) (view_new users before c of user v null n m))
 
-  both_grants : (grantable : Bool) (who : Name) (to : TableName) (p : Privilege) → list_any (gives grantable who to p) (c.grants ++ n.grants) ≡ (list_any (gives grantable who to p) c.grants || list_any (gives grantable who to p) n.grants)
-  both_grants grantable who to p = list_any-append (gives grantable who to p) c.grants n.grants
+  both_grants : (grantable : Bool) (who : Name) (to : TableName) (p : Privilege) → list_any (gives grantable who to p) (with_grants c.grants n.grants) ≡ (list_any (gives grantable who to p) c.grants || list_any (gives grantable who to p) n.grants)
+  both_grants grantable who to p = given_with_grants grantable who to p c.grants n.grants
 
   or_no : (a b : Bool) → b ≡ false → (a || b) ≡ a
   or_no true b e = refl
@@ -238,10 +239,10 @@ module _ (users : List Name) (before : Elements) (c : Catalog) (of : IsCatalogOf
       by true is = held_here grantable who to p is ∙ sym (or_no (view_gives (chain before) (tables_of before) user v grantable who to p) (chain before grantable who to p) (none_before to is grantable who p))
       by false is = held_elsewhere grantable who to p is (entry c to) ∙ of.held grantable who to p ∙ ap (λ g. g || chain before grantable who to p) (sym (other_gift grantable who to p is))
 
-  granted_now : (to : TableName) → entry (with_view c n) to ≡ None → (grantable : Bool) (who : Name) (p : Privilege) → list_any (gives grantable who to p) (c.grants ++ n.grants) ≡ false
+  granted_now : (to : TableName) → entry (with_view c n) to ≡ None → (grantable : Bool) (who : Name) (p : Privilege) → list_any (gives grantable who to p) (with_grants c.grants n.grants) ≡ false
   granted_now to none grantable who p = by (same_table own to) refl (sym (view_entry users before c of user v null n m to) ∙ none)
     where
-      by : (same : Bool) → same_table own to ≡ same → (if same then Some (Entry.view n.view) else entry c to) ≡ None → list_any (gives grantable who to p) (c.grants ++ n.grants) ≡ false
+      by : (same : Bool) → same_table own to ≡ same → (if same then Some (Entry.view n.view) else entry c to) ≡ None → list_any (gives grantable who to p) (with_grants c.grants n.grants) ≡ false
       by true is e = cc
       by false is e = both_grants grantable who to p ∙ (λ i. of.granted to e grantable who p i || none_given grantable who to p is i)
 

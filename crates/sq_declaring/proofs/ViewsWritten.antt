@@ -8,7 +8,6 @@ use Rattle.sq_tree.specs.declared.list.CommaList.{CommaList}
 use Rattle.sq_tree.specs.declared.schema.ViewDefinition.{ViewDefinition}
 use Rattle.sq_meaning.specs.Spelled.{listed, select_of, table_of}
 use Rattle.sq_rules.specs.Schema.{has_name_twice}
-use Rattle.sq_rules.specs.declared.refusal.SchemaFault.{SchemaFault}
 use Rattle.sq_rules.specs.declared.refusal.SchemaFault.TheVariants as fault
 use Rattle.sq_binding.specs.NumberedCondition.{ResultColumn, columns_of}
 use Rattle.sq_binding.specs.Outcome as binding

@@ -1,6 +1,6 @@
 -- A catalog: the base tables and the views of schema elements, each at its place, and the privileges that are granted (ISO/IEC 9075:1992,
 -- 4.9, 4.26 and 11.1).
-use Rattle.std.specs.Prelude.{ℕ, ◌+◌, Bool, true, false, ◌&&◌, ◌||◌, List, [], find, map, length, Option, Some, None}
+use Rattle.std.specs.Prelude.{ℕ, ◌+◌, Bool, true, false, ◌&&◌, ◌||◌, if◌then◌else◌, List, [], ◌∷◌, ◌++◌, find, fold, map, length, Option, Some, None}
 use Rattle.std.specs.List.{list_any}
 use Rattle.std.specs.Option.{option_and_then, option_map, option_or}
 use Rattle.sq_lex.specs.declared.name.Name.{Name}
@@ -114,6 +114,21 @@ same_option false false = true
 
 abbrev pub gives : (grantable : Bool) → Name → TableName → Privilege → Grant → Bool
 gives grantable user t p g = same_option g.to_grant grantable && is_granted_to g.user user && same_table g.table t && same_privilege g.privilege p
+
+abbrev pub same_holder : Option Name → Option Name → Bool
+same_holder None None = true
+same_holder (Some a) (Some b) = same_name a b
+same_holder _ _ = false
+
+abbrev pub same_grant : Grant → Grant → Bool
+same_grant g h = same_holder g.user h.user && same_table g.table h.table && same_privilege g.privilege h.privilege && same_option g.to_grant h.to_grant
+
+-- a grant that is there already is not added again
+abbrev pub with_grant : List Grant → Grant → List Grant
+with_grant grants g = if list_any (same_grant g) grants then grants else grants ++ g ∷ []
+
+abbrev pub with_grants : List Grant → List Grant → List Grant
+with_grants grants new = fold with_grant grants new
 
 -- ---- a catalog
 

@@ -12,7 +12,7 @@ use Rattle.sq_meaning.specs.Spelled.{listed, table_of}
 use Rattle.sq_rules.specs.Privilege.{Privilege}
 use Rattle.sq_rules.specs.SchemaRefusal.{action_columns, action_privileges, action_repeats, actions_of, all_privileges, has_unknown}
 use Rattle.sq_rules.specs.declared.refusal.SchemaFault.TheVariants as fault
-use Rattle.sq_declaring.specs.Catalog.{Catalog, Grant, entry, entry_column_names, may}
+use Rattle.sq_declaring.specs.Catalog.{Catalog, Grant, entry, entry_column_names, may, with_grants}
 use Rattle.sq_declaring.specs.Outcome.{Outcome, ◌>>=◌, ◌>>◌, or_fault, refused_if}
 
 abbrev pub is_empty : {A : Type 0} → List A → Bool
@@ -38,17 +38,22 @@ grants_to t ps to_grant g = map (λ p. record { user = grantee_user g; table = t
 abbrev pub grants_made : TableName → List Privilege → GrantStatement → List Grant
 grants_made t ps g = flat_map (grants_to t ps false) (listed g.grantees) ++ (if g.grant_option then flat_map (grants_to t ps true) (listed g.grantees) else [])
 
+-- the grants that a statement makes on a table of this name with these columns
+abbrev pub grants_on : (held : Privilege → Bool) → List Name → TableName → GrantStatement → Outcome (List Grant)
+grants_on held columns t g = do
+  refused_if fault.UnknownName (has_unknown columns (flat_map action_columns (actions_of g.privileges)))
+  ps ← privileges_granted held columns g.privileges
+  refused_if fault.OtherSchema (list_any action_repeats (actions_of g.privileges))
+  Ok (grants_made t ps g)
+
 -- the grants that a statement of a user makes
 abbrev pub declared_grants : Catalog → Name → GrantStatement → Outcome (List Grant)
 declared_grants c user g = do
   e ← or_fault fault.UnknownName (entry c (table_of user g.table))
-  refused_if fault.UnknownName (has_unknown (entry_column_names e) (flat_map action_columns (actions_of g.privileges)))
-  ps ← privileges_granted (may c true user (table_of user g.table)) (entry_column_names e) g.privileges
-  refused_if fault.OtherSchema (list_any action_repeats (actions_of g.privileges))
-  Ok (grants_made (table_of user g.table) ps g)
+  grants_on (may c true user (table_of user g.table)) (entry_column_names e) (table_of user g.table) g
 
-abbrev pub with_grants : Catalog → List Grant → Catalog
-with_grants c gs = record c { grants = c.grants ++ gs }
+abbrev pub with_granted : Catalog → List Grant → Catalog
+with_granted c gs = record c { grants = with_grants c.grants gs }
 
 abbrev pub grant : Catalog → Name → GrantStatement → Outcome Catalog
-grant c user g = declared_grants c user g >>= λ gs. Ok (with_grants c gs)
+grant c user g = declared_grants c user g >>= λ gs. Ok (with_granted c gs)

@@ -1,15 +1,17 @@
 -- References of a table definition (ISO/IEC 9075:1992, 11.8). A table may reference itself.
+use Rattle.std.specs.Bool.{beq}
 use Rattle.std.specs.Prelude.{ℕ, Bool, true, false, ◌&&◌, ◌||◌, ◌==◌, if◌then◌else◌, List, nat_eq, length, map, find, filter_map, position, slice_get, zip, Option, Some, None, Ok, Err}
 use Rattle.std.specs.List.{enumerate_from, list_all, list_any}
 use Rattle.std.specs.Option.{option_and_then, option_map}
 use Rattle.sq_lex.specs.declared.name.Name.{Name}
-use Rattle.sq_value.specs.declared.domain.Domain.{Domain}
+use Rattle.sq_value.specs.Domain.{kind_of}
+use Rattle.sq_value.specs.declared.domain.Kind.{Kind}
+use Rattle.sq_value.specs.declared.domain.Kind.TheVariants.{Num, Chars, Vary}
 use Rattle.sq_tree.specs.declared.list.CommaList.{CommaList}
 use Rattle.sq_meaning.specs.Environment.{TableName, same_table}
 use Rattle.sq_meaning.specs.Spelled.{listed, table_of}
 use Rattle.sq_rules.specs.Privilege.{Privilege}
 use Rattle.sq_rules.specs.Schema as rules
-use Rattle.sq_rules.specs.SchemaRefusal.{are_of_one_sort}
 use Rattle.sq_rules.specs.Words.{is_some_and}
 use Rattle.sq_rules.specs.declared.refusal.SchemaFault.TheVariants as fault
 use Rattle.sq_bound.specs.declared.names.Reference.{Reference}
@@ -54,12 +56,12 @@ has_bad_list r = is_bad_list r.columns || is_some_and is_bad_list r.columns_list
 pub record ReferencedTable : Type 0 where
   pub place : ℕ
   pub names : List Name
-  pub domains : List Domain
+  pub kinds : List Kind
   pub keys : List (List ℕ)
   pub primary_key : Option ℕ
 
 abbrev pub as_referenced : DeclaredBase → ReferencedTable
-as_referenced b = record { place = b.place; names = map (λ c. c.name) b.columns; domains = map (λ c. c.domain) b.columns; keys = b.keys; primary_key = b.primary_key }
+as_referenced b = record { place = b.place; names = map (λ c. c.name) b.columns; kinds = map (λ c. kind_of c.domain) b.columns; keys = b.keys; primary_key = b.primary_key }
 
 -- a view has no keys
 abbrev pub referenced_table : (own : ReferencedTable) → Option Entry → Outcome ReferencedTable
@@ -97,8 +99,17 @@ referenced_key target (Some list) = key_listed target.keys list
 
 -- ---- the reference
 
+abbrev pub is_numeric : Kind → Bool
+is_numeric (Num scale) = true
+is_numeric (Chars length) = false
+is_numeric (Vary length) = false
+
 -- both are numbers, or both are texts
-abbrev pub are_paired : List Domain → List Domain → ℕ × ℕ → Bool
+abbrev pub are_of_one_sort : Option Kind → Option Kind → Bool
+are_of_one_sort (Some k) (Some l) = beq (is_numeric k) (is_numeric l)
+are_of_one_sort _ _ = false
+
+abbrev pub are_paired : List Kind → List Kind → ℕ × ℕ → Bool
 are_paired own target columns = are_of_one_sort (slice_get own columns.0) (slice_get target columns.1)
 
 -- the column that is paired with a column of the key
@@ -109,9 +120,9 @@ abbrev pub reference_to : ReferencedTable → ReferencedKey → List ℕ → Ref
 reference_to target key columns = record { columns = columns; table = target.place; key = key.place; by_key = filter_map (paired_with key.columns_listed columns) key.columns }
 
 -- the columns pair, numbers with numbers and texts with texts (own rule)
-abbrev pub paired_reference : List Domain → List ℕ → ReferencedTable → ReferencedKey → Outcome Reference
+abbrev pub paired_reference : List Kind → List ℕ → ReferencedTable → ReferencedKey → Outcome Reference
 paired_reference own columns target key =
-    if length columns == length key.columns_listed && list_all (are_paired own target.domains) (zip columns key.columns_listed) then Ok (reference_to target key columns) else Err fault.BadReference
+    if length columns == length key.columns_listed && list_all (are_paired own target.kinds) (zip columns key.columns_listed) then Ok (reference_to target key columns) else Err fault.BadReference
 
 -- whether a user holds REFERENCES on columns of another table
 abbrev pub may_reference : Catalog → Name → Option Entry → List Name → Bool
@@ -131,5 +142,5 @@ abbrev pub bound_reference : Catalog → Name → (own : ReferencedTable) → Fo
 bound_reference c user own r = do
   target ← referenced_table own r.earlier
   key ← or_fault fault.BadReference (referenced_key target r.columns_listed)
-  reference ← paired_reference own.domains r.columns target key
+  reference ← paired_reference own.kinds r.columns target key
   Ok (record { reference = reference; is_permitted = may_reference c user r.earlier (names_at target.names key.columns_listed) })

@@ -42,14 +42,17 @@ pub record Draft : Type 0 where
   pub keys : List (List ℕ)
   pub references : List FoundReference
 
-abbrev pub draft : Catalog → Name → TableDefinition → Outcome Draft
-draft c user t = do
-  refused_if fault.NameTwice (is_taken c user (table_of user t.name))
+abbrev pub drafted : Catalog → Name → TableDefinition → Outcome Draft
+drafted c user t = do
   refused_if fault.NameTwice (has_name_twice (table_columns t))
   keys ← key_positions t
   references ← each (found_reference c user (table_of user t.name) (table_columns t)) (table_references t)
   columns ← each typed_column (column_definitions t)
   Ok (record { columns = columns; keys = keys; references = references })
+
+-- that of a table whose own name is new
+abbrev pub draft : Catalog → Name → TableDefinition → Outcome Draft
+draft c user t = refused_if fault.NameTwice (is_taken c user (table_of user t.name)) >> drafted c user t
 
 -- ---- what its rows obey
 
@@ -69,7 +72,7 @@ abbrev pub own_table : Catalog → TableDefinition → Draft → ReferencedTable
 own_table c t d = record {
   place = length c.bases;
   names = table_columns t;
-  domains = map (λ column. column.domain) d.columns;
+  kinds = map (λ column. kind_of column.domain) d.columns;
   keys = d.keys;
   primary_key = primary_place t;
 }

@@ -16,7 +16,7 @@ use Rattle.sq_binding.specs.Numbered.{Numbered}
 use Rattle.sq_binding.specs.NumberedCondition.{NumberedClause, NumberedCond, NumberedSelect, ResultColumn, columns_of}
 use Rattle.sq_binding.specs.Outcome as binding
 use Rattle.sq_binding.specs.View.{NumberedView, view_bound}
-use Rattle.sq_declaring.specs.Catalog.{Catalog, DeclaredUnder, DeclaredView, Grant, entry, entry_column_names, entry_under, may, names_of}
+use Rattle.sq_declaring.specs.Catalog.{Catalog, DeclaredUnder, DeclaredView, Grant, entry, entry_column_names, entry_under, may, names_of, with_grants}
 use Rattle.sq_declaring.specs.Outcome.{Outcome, ◌>>=◌, ◌>>◌, refused_if}
 use Rattle.sq_declaring.specs.Table.{has_place, is_taken}
 
@@ -128,7 +128,7 @@ declared_view c user v = do
   Ok (new_view c user v bound names)
 
 abbrev pub with_view : Catalog → NewView → Catalog
-with_view c n = record c { views = c.views ++ n.view ∷ []; grants = c.grants ++ n.grants }
+with_view c n = record c { views = c.views ++ n.view ∷ []; grants = with_grants c.grants n.grants }
 
 abbrev pub create_view : Catalog → Name → ViewDefinition → Outcome Catalog
 create_view c user v = declared_view c user v >>= λ n. Ok (with_view c n)

@@ -36,10 +36,10 @@ use Rattle.sq_session.specs.State.{State}
 use Rattle.sq_session.specs.Step.{HasTables}
 use Rattle.sq_agreement.proofs.Calls.{call_named}
 use Rattle.sq_agreement.proofs.InSession.{AreKept, AreOf, IsCalledAs}
-use Rattle.sq_agreement.proofs.Parameters.{AreNamed}
+use Rattle.sq_places.proofs.Parameters.{AreNamed}
 use Rattle.sq_agreement.proofs.SameStates.{SameStates}
 use Rattle.sq_agreement.proofs.SessionKeeps.{IsCursorHere}
-use Rattle.sq_agreement.proofs.TargetsSet.{AreParameters}
+use Rattle.sq_places.proofs.TargetsSet.{AreParameters}
 use Rattle.sq_headline.proofs.Found.{at_mapped, both_true, cursor_found, itself, never_both}
 use Rattle.sq_headline.proofs.GoesOver.{GoesOver}
 use Rattle.sq_headline.proofs.InDomains.{in_domains}

@@ -35,13 +35,13 @@ use Rattle.sq_model.specs.Run.{program_of}
 use Rattle.sq_bound.specs.Fits.{FitsStatement}
 use Rattle.sq_bound.specs.Known.{KnownTables}
 use Rattle.sq_bound.specs.WellFormed.{kinds_of_parameters}
-use Rattle.sq_bound.specs.declared.fault.BindFault.{BindFault}
+use Rattle.sq_binder.specs.declared.stop.Fault.{Fault}
 use Rattle.sq_bound.specs.declared.names.ParameterDesc.{ParameterDesc}
 use Rattle.sq_bound.specs.declared.statement.BoundStatement.{BoundStatement}
 use Rattle.sq_bound.specs.declared.statement.BoundStatement.TheVariants as bound
 use Rattle.sq_bound.specs.declared.statement.ChangeTarget.{ChangeTarget}
 use Rattle.sq_bound.specs.declared.statement.ChangeTarget.TheVariants as change
-use Rattle.sq_bind.specs.Written.{IsTargetOf, filter_placed, outside}
+use Rattle.sq_promises.specs.Written.{IsTargetOf, filter_placed}
 use Rattle.sq_bound.specs.Condition.{PlacedClause}
 use Rattle.sq_module.specs.Program.{FitsProcedure, OpensWellFormed, ProcedureOpens}
 use Rattle.sq_module.specs.Written.{IsDeclaredFrom, IsFromTexts, IsNumberOf, IsStatementIn}
@@ -105,7 +105,7 @@ module _ (texts : List SchemaText) (modules : List ModuleText) (row_numbers : �
     names_only ps (statement.Select q) b h = tt
     names_only ps (statement.Insert i) b h = tt
     names_only ps (statement.Update u) b h = tt
-    names_only ps (statement.Delete x) (bound.Delete t) h = in_where (filter_placed (outside known ps) m.authorization (table_of m.authorization x.table)) x.target t h.rows
+    names_only ps (statement.Delete x) (bound.Delete t) h = in_where (filter_placed known ps m.authorization (table_of m.authorization x.table)) x.target t h.rows
     names_only ps (statement.Commit work) b h = tt
     names_only ps (statement.Rollback work) b h = tt
     names_only ps _ b h = absurd h
@@ -160,7 +160,7 @@ module _ (texts : List SchemaText) (modules : List ModuleText) (row_numbers : �
         )
 
     -- with a fault, and without
-    by_statement : (st : Result BoundStatement BindFault) (well : Bool) → is_ok st ≡ well
+    by_statement : (st : Result BoundStatement Fault) (well : Bool) → is_ok st ≡ well
         → is_well_formed_procedure (elements_of texts) f.text f.procedure ≡ well
         → IfOk st (IsStatementIn known f.text declared e.1.parameters f.procedure.statement)
         → IfOk st (FitsStatement schemas.bases (length declared) (length e.1.parameters))

@@ -1,6 +1,4 @@
--- What a session that texts opened knows, and what is asked of binding beside it.
---
--- The first two records are promises of `Session::new` and of the catalog. The third says what no contract says yet: that binding is exact.
+-- What a session that texts opened knows, and that its program is bound exactly.
 use Rattle.std.proofs.Common.{◌≡◌, ℕ, List, Some, None}
 use Rattle.std.specs.Prelude.{is_ok, slice_get}
 use Rattle.sq_tree.specs.declared.«module».Cursor.{Cursor}
@@ -23,7 +21,7 @@ use Rattle.sq_module.specs.declared.program.Program.{Program}
 use Rattle.sq_session.specs.Schemas.{Schemas, columns_of}
 use Rattle.sq_agreement.proofs.CursorOpens.{IsUpdatableAs}
 
--- What is known today: modules that the definitions do not refuse, what the catalog declares, and a program that is bound as it is written,
+-- What a session knows: modules that the definitions do not refuse, what the catalog declares, and a program that is bound as it is written,
 -- well formed, over base tables and cursors that are there.
 pub record IsOpenedFrom (texts : List SchemaText) (modules : List ModuleText) (known : KnownTables) (schemas : Schemas) (program : Program) : Type 0 where
   pub declares : Declares texts known schemas.bases schemas.views
@@ -49,8 +47,7 @@ pub record IsProcedureExactly (texts : List SchemaText) (modules : List ModuleTe
   pub is_procedure : procedure_named text e.0.name ≡ Some procedure
   pub accepted : is_ok e.1.statement ≡ is_well_formed_procedure (elements_of texts) text procedure
 
--- What is left to be proved of binding and of the catalog: no schema that they take is refused by the definitions, and each procedure and each
--- cursor is bound exactly.
+-- No schema is refused by the definitions, and each procedure and each cursor is bound exactly.
 pub record IsBoundExactly (texts : List SchemaText) (modules : List ModuleText) (program : Program) : Type 0 where
   pub accepted : first_schema_refusal texts ≡ None
   pub procedures : (i : ℕ) (e : ProcedureName × BoundProcedure) → slice_get program.procedures.entries i ≡ Some e → IsProcedureExactly texts modules e

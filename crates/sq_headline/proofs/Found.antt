@@ -81,7 +81,7 @@ found_at {A} test (y ∷ xs) (suc i) x at is none = by_test (test y) (found_at t
 pub itself : (name : Name) → same_name name name ≡ true
 itself name = nat_list_eq_equiv.refl name
 
-turned : (a b : Name) → same_name a b ≡ same_name b a
+pub turned : (a b : Name) → same_name a b ≡ same_name b a
 turned a b = by_tests (same_name a b) (same_name b a) refl refl
   where
     by_tests : (x y : Bool) → same_name a b ≡ x → same_name b a ≡ y → x ≡ y

@@ -1,5 +1,4 @@
--- The bytes that a run writes are the machine's report of its script, item by item, on the trees that its texts spell; but for what is asked of
--- binding, which no contract says yet.
+-- The bytes that a run writes are the machine's report of its script, item by item, on the trees that its texts spell.
 use Rattle.std.proofs.Common.{◌≡◌, ℕ, zero, suc, ◌+◌, ◌<◌, List, [], ◌∷◌, ◌++◌, length, map, take, Option, refl, sym, ap, subst, ◌∙◌, append_assoc, arith}
 use Rattle.std.proofs.lemmas.List.{length-append, take-append-le}
 use Rattle.std.specs.Io.KnownBytes.{Appends}
@@ -12,11 +11,12 @@ use Rattle.sq_model.specs.Report.{Bytes, item_lines, report}
 use Rattle.sq_model.specs.Run.{Item, after_item, item_of_script, program_of}
 use Rattle.sq_module.specs.declared.program.Program.{Program}
 use Rattle.sq_session.specs.Session.{Session}
-use Rattle.sq_run.specs.Run.{IsOpened, Run}
-use Rattle.sq_run.specs.Action.{item_of}
-use Rattle.sq_run.specs.Steps.{Reported, Steps}
-use Rattle.sq_run.specs.Stop.{StoppedInside}
+use Rattle.sq_perform.specs.Run.{IsOpened, Run}
+use Rattle.sq_perform.specs.Action.{item_of}
+use Rattle.sq_perform.specs.Steps.{Reported, Steps}
+use Rattle.sq_perform.specs.Stop.{StoppedInside}
 use Rattle.sq_headline.proofs.Exact.{IsBoundExactly, IsOpenedFrom}
+use Rattle.sq_headline.proofs.ExactlyBound.{exactly_bound}
 use Rattle.sq_headline.proofs.FirstState.{first_agrees}
 use Rattle.sq_headline.proofs.Found.{mapped_before}
 use Rattle.sq_headline.proofs.Reports.{Action, IsSession, steps_are}
@@ -34,13 +34,13 @@ module _ (row_numbers : ℕ) (texts : List SchemaText) (modules : List ModuleTex
     well_formed = opened.written.well_formed;
   }
 
-  -- What is left: that the definitions accept the schemas, and that binding is exact.
-  abbrev pub IsExact : Type 0
-  IsExact = IsBoundExactly texts modules program
+  -- The definitions accept the schemas, and binding is exact.
+  pub exact : IsBoundExactly texts modules program
+  exact = exactly_bound texts modules opened.admitted opened.catalog opened.is_catalog opened.names opened.names_are program opened.written.computed
 
   -- A session that the texts opened is the machine in its first state.
-  pub starts : (exact : IsExact) → IsSession texts modules row_numbers opened.known s.schemas program opened_from exact s (first_state (program_of texts modules row_numbers))
-  starts exact = record {
+  pub starts : IsSession texts modules row_numbers opened.known s.schemas program opened_from exact s (first_state (program_of texts modules row_numbers))
+  starts = record {
     procedures = opened.written.are;
     tables = opened.tables;
     schemas_are = refl;
@@ -60,8 +60,7 @@ begins p x (suc k) (i ∷ items) =
     let rest = begins p (after_item p x i) k items in
     (rest.0, ap (λ l. item_lines p x i ++ l) rest.1 ∙ sym (append_assoc (item_lines p x i) (report p (after_item p x i) (take k items)) rest.0))
 
-module _ (row_numbers : ℕ) (schemas modules : List Bytes) (script : Bytes) (r : Run row_numbers schemas modules script)
-    (exact : IsExact row_numbers r.schema_trees r.module_trees r.start r.is_opened) (old new : Option Bytes) where
+module _ (row_numbers : ℕ) (schemas modules : List Bytes) (script : Bytes) (r : Run row_numbers schemas modules script) (old new : Option Bytes) where
   -- the machine of the texts' trees, and the items of the script
   abbrev pub machine : by_name.Program
   machine = program_of r.schema_trees r.module_trees row_numbers
@@ -76,14 +75,14 @@ module _ (row_numbers : ℕ) (schemas modules : List Bytes) (script : Bytes) (r 
       → Steps actions r.start bytes last → bytes ≡ lines some
   report_is actions some are bytes last h =
       steps_are r.schema_trees r.module_trees row_numbers r.is_opened.known r.start.schemas (program row_numbers r.schema_trees r.module_trees r.start r.is_opened)
-      (opened_from row_numbers r.schema_trees r.module_trees r.start r.is_opened) exact actions r.start (first_state machine)
-      (starts row_numbers r.schema_trees r.module_trees r.start r.is_opened exact) bytes last h
+      (opened_from row_numbers r.schema_trees r.module_trees r.start r.is_opened) (exact row_numbers r.schema_trees r.module_trees r.start r.is_opened)
+      actions r.start (first_state machine) (starts row_numbers r.schema_trees r.module_trees r.start r.is_opened) bytes last h
       ∙ ap lines are
 
   first_items : (k : ℕ) → map item_of (take k r.actions) ≡ take k items
   first_items k = sym (mapped_before item_of k r.actions) ∙ ap (take k) r.are_items
 
-  -- What `run` promises of what it writes, and that binding is exact, make it the machine's report.
+  -- What is written is the machine's report.
   pub run_reports : Reported r.actions r.start old new → Appends old new (lines items)
   run_reports h = subst (Appends old new) (report_is r.actions items r.are_items h.report h.last h.steps) h.taken
 

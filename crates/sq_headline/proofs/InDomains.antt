@@ -22,7 +22,7 @@ use Rattle.sq_agreement.proofs.DeclaredContent.{rows_at_place}
 use Rattle.sq_agreement.proofs.DeclaredStatements.{zip_back}
 use Rattle.sq_agreement.proofs.DeclaredTables.{IsBaseAs, all_bases, table_as}
 use Rattle.sq_agreement.proofs.InSession.{AreOf}
-use Rattle.sq_agreement.proofs.Statements.{IsColumnAs}
+use Rattle.sq_places.proofs.Statements.{IsColumnAs}
 
 row_in : (ws : List ColumnDefinition) (cs : List BaseColumn) (row : Row) → AllZip IsColumnAs ws cs → AreInColumns (map column_domain ws) row
     → IsRowIn cs row

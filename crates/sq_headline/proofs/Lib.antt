@@ -1,12 +1,14 @@
 pub mod Agrees
 pub mod CallIsStep
 pub mod Exact
+pub mod ExactlyBound
 pub mod FirstState
 pub mod Found
 pub mod GoesOver
 pub mod Headline
 pub mod InDomains
 pub mod Moves
+pub mod NoNull
 pub mod Openers
 pub mod Projected
 pub mod Reports
@@ -14,3 +16,4 @@ pub mod Rules
 pub mod Started
 pub mod Statements
 pub mod Turns
+pub mod UpdatableCursors

@@ -18,10 +18,10 @@ use Rattle.sq_bound.specs.Known.{KnownTables}
 use Rattle.sq_value.specs.Domain.{IsDomain}
 use Rattle.sq_bound.specs.Parameter.{IsDomain-prop}
 use Rattle.sq_bound.specs.declared.names.ParameterDesc.{ParameterDesc}
-use Rattle.sq_bind.specs.Written.{IsCursorOf}
+use Rattle.sq_promises.specs.Written.{IsCursorOf}
 use Rattle.sq_module.specs.Written.{IsDeclaredFrom, IsOpenedIn}
 use Rattle.sq_module.specs.declared.program.DeclaredCursor.{DeclaredCursor}
-use Rattle.sq_agreement.proofs.ColumnKinds.{declared_of}
+use Rattle.sq_promises.specs.Names.{declared}
 use Rattle.sq_headline.proofs.Found.{itself, opened_once, procedure_found}
 use Rattle.sq_headline.proofs.Started.{bound_declared}
 
@@ -38,13 +38,13 @@ same_parameter : (p q : ParameterDesc) → p.name ≡ q.name → p.domain ≡ q.
 same_parameter p q names domains =
     (λ i. parameter (names i) p.domain p.is_domain) ∙ same_domain q.name p.domain q.domain domains p.is_domain q.is_domain
 
-same_parameters : (ps qs : List ParameterDesc) → declared_of ps ≡ declared_of qs → ps ≡ qs
+same_parameters : (ps qs : List ParameterDesc) → declared ps ≡ declared qs → ps ≡ qs
 same_parameters [] [] e = refl
 same_parameters [] (q ∷ qs) e = cc
 same_parameters (p ∷ ps) [] e = cc
 same_parameters (p ∷ ps) (q ∷ qs) e =
     let head : ◌≡◌ {A = Declared} (record { name = p.name; domain = p.domain }) (record { name = q.name; domain = q.domain }) = cc in
-    let rest : declared_of ps ≡ declared_of qs = cc in
+    let rest : declared ps ≡ declared qs = cc in
     (λ i. same_parameter p q (ap (λ (d : Declared). d.name) head) (ap (λ (d : Declared). d.domain) head) i ∷ same_parameters ps qs rest i)
 
 -- ---- the only procedure that opens a cursor

@@ -26,9 +26,9 @@ use Rattle.sq_session.specs.Kind.{kind_at}
 use Rattle.sq_session.specs.Session.{Session, procedures_of}
 use Rattle.sq_session.specs.Step.{MayCall}
 use Rattle.sq_session.specs.declared.reply.Reply.{Reply}
-use Rattle.sq_run.proofs.Actions.{by_action}
-use Rattle.sq_run.specs.Action.{call_of, item_of, table_of}
-use Rattle.sq_run.specs.Steps.{Step, Steps, told}
+use Rattle.sq_perform.proofs.Actions.{by_action}
+use Rattle.sq_perform.specs.Action.{call_of, item_of, table_of}
+use Rattle.sq_perform.specs.Steps.{Step, Steps, told}
 use Rattle.sq_agreement.proofs.Created.{declared_definitions_are, declared_tables_are}
 use Rattle.sq_agreement.proofs.Declared.{definitions_counted}
 use Rattle.sq_agreement.proofs.DeclaredTables.{base_tables_named, named_table, named_tables}

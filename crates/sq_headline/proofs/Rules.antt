@@ -38,11 +38,11 @@ use Rattle.sq_laws.proofs.ConditionSites.{SelectSpellsNoNull, cond_well_formed, 
 use Rattle.sq_laws.proofs.QueryLiterals.{query_spells}
 use Rattle.sq_laws.proofs.QuerySites.{query_well_formed}
 use Rattle.sq_laws.proofs.SiteLaws.{AreSound, IsSound, all_parts, never, none_passes, sound_sites}
-use Rattle.sq_agreement.proofs.Databases.{table_is}
-use Rattle.sq_agreement.proofs.Inserts.{IsSourceRight}
-use Rattle.sq_agreement.proofs.NewValues.{HasNoFunction}
-use Rattle.sq_agreement.proofs.StarRules.{cond_stars, query_stars, select_stars}
-use Rattle.sq_agreement.proofs.Stars.{ClauseStars, QueryStars, SelectStars}
+use Rattle.sq_places.proofs.Databases.{table_is}
+use Rattle.sq_places.proofs.Inserts.{IsSourceRight}
+use Rattle.sq_places.proofs.NewValues.{HasNoFunction}
+use Rattle.sq_places.proofs.StarRules.{cond_stars, query_stars, select_stars}
+use Rattle.sq_places.proofs.Stars.{ClauseStars, QueryStars, SelectStars}
 
 -- ---- sites at which no rule is broken
 

@@ -18,14 +18,14 @@ use Rattle.sq_model.specs.Parameter.{inputs_of, started, started_parameters}
 use Rattle.sq_bound.specs.declared.names.ParameterDesc.{ParameterDesc}
 use Rattle.sq_module.specs.Written.{Declare, named_as, named_in}
 use Rattle.sq_session.specs.Parameter.{started_values}
-use Rattle.sq_agreement.proofs.ColumnKinds.{declared_of}
-use Rattle.sq_agreement.proofs.TargetsSet.{AreApart, AreParameters}
+use Rattle.sq_promises.specs.Names.{declared}
+use Rattle.sq_places.proofs.TargetsSet.{AreApart, AreParameters}
 use Rattle.sq_headline.proofs.Found.{both_false, both_true, itself, never_both}
 
 -- ---- what is declared
 
 declared_same : (ds : List Declaration) (ps : List ParameterDesc) → map named_as ps ≡ flat_map named_in ds
-    → declared_of ps ≡ filter_map declared_by (filter_map declared_in ds)
+    → declared ps ≡ filter_map declared_by (filter_map declared_in ds)
 declared_same [] [] e = refl
 declared_same [] (p ∷ ps) e = cc
 declared_same (declaration.Parameter name data_type ∷ ds) [] e = cc
@@ -37,7 +37,7 @@ declared_same (declaration.Sqlcode ∷ ds) ps e = declared_same ds ps e
 declared_same (declaration.Sqlstate ∷ ds) ps e = declared_same ds ps e
 
 -- the bound ones are the declared ones
-pub bound_declared : (p : Procedure) (ps : List ParameterDesc) → Declare (declarations_of p.declarations) ps → declared_of ps ≡ declared_parameters p
+pub bound_declared : (p : Procedure) (ps : List ParameterDesc) → Declare (declarations_of p.declarations) ps → declared ps ≡ declared_parameters p
 bound_declared p ps e = declared_same (declarations_of p.declarations) ps e
 
 names_same : (ds : List Declaration) (ps : List ParameterDesc) → map named_as ps ≡ flat_map named_in ds
@@ -86,21 +86,21 @@ bound_apart p ps e good =
 -- ---- the values of a call
 
 -- as many as there are parameters
-pub as_many : (ps : List ParameterDesc) (values : List Value) → fit (declared_of ps) values ≡ true → length values ≡ length ps
+pub as_many : (ps : List ParameterDesc) (values : List Value) → fit (declared ps) values ≡ true → length values ≡ length ps
 as_many [] [] h = refl
 as_many [] (v ∷ values) h = cc
 as_many (p ∷ ps) [] h = cc
-as_many (p ∷ ps) (v ∷ values) h = ap suc (as_many ps values (both_true (fits_in p.domain v) (fit (declared_of ps) values) h).1)
+as_many (p ∷ ps) (v ∷ values) h = ap suc (as_many ps values (both_true (fits_in p.domain v) (fit (declared ps) values) h).1)
 
 pub are_parameters : (ps : List ParameterDesc) (values : List Value) → length values ≡ length ps
-    → AreParameters ps (started_parameters (declared_of ps) values)
+    → AreParameters ps (started_parameters (declared ps) values)
 are_parameters [] values e = tt
 are_parameters (p ∷ ps) [] e = absurd (omega arith)
 are_parameters (p ∷ ps) (v ∷ values) e = let fewer : length values ≡ length ps = omega arith in ((refl, refl), are_parameters ps values fewer)
 
 -- They start at the same values.
 pub started_same : (ps : List ParameterDesc) (values : List Value)
-    → started_values ps values ≡ map (λ i. i.value) (inputs_of (started_parameters (declared_of ps) values))
+    → started_values ps values ≡ map (λ i. i.value) (inputs_of (started_parameters (declared ps) values))
 started_same [] values = refl
 started_same (p ∷ ps) [] = refl
 started_same (p ∷ ps) (v ∷ values) = ap (λ l. started p.domain v ∷ l) (started_same ps values)

@@ -49,7 +49,8 @@ use Rattle.sq_bound.specs.declared.statement.BoundUpdate.{BoundUpdate}
 use Rattle.sq_bound.specs.declared.statement.ChangeTarget.{ChangeTarget}
 use Rattle.sq_bound.specs.declared.statement.ChangeTarget.TheVariants as change
 use Rattle.sq_bound.specs.declared.statement.PositionedTarget.{PositionedTarget}
-use Rattle.sq_bind.specs.Written.{IsDeleteOf, IsTargetOf, filter_placed, outside, table_known}
+use Rattle.sq_promises.specs.Names.{meant_by}
+use Rattle.sq_promises.specs.Written.{IsDeleteOf, IsTargetOf, filter_placed}
 use Rattle.sq_module.specs.Program.{OpensWellFormed}
 use Rattle.sq_module.specs.Written.{Declare, IsDeclaredFrom, IsNumberOf, IsStatementIn}
 use Rattle.sq_module.specs.declared.program.DeclaredCursor.{DeclaredCursor}
@@ -70,8 +71,8 @@ use Rattle.sq_agreement.proofs.InSession.{AreKept, AreOf, IsCalledAs, IsNamed, W
 use Rattle.sq_agreement.proofs.SameStates.{close_same, commit_same, rollback_same}
 use Rattle.sq_agreement.proofs.FetchKeeps.{fetch_keeps, select_keeps}
 use Rattle.sq_agreement.proofs.SessionKeeps.{IsCursorHere, IsSameStep, IsUpdatableOver, delete_at_keeps, delete_keeps, insert_keeps, open_keeps, update_at_keeps, update_keeps}
-use Rattle.sq_agreement.proofs.Stars.{ClauseStars}
-use Rattle.sq_agreement.proofs.TargetsSet.{AreApart}
+use Rattle.sq_places.proofs.Stars.{ClauseStars}
+use Rattle.sq_places.proofs.TargetsSet.{AreApart}
 use Rattle.sq_headline.proofs.Agrees.{Agrees, called, cursor_here, few, has_one, kept}
 use Rattle.sq_headline.proofs.Exact.{IsBoundExactly, IsCursorExactly, IsOpenedFrom}
 use Rattle.sq_headline.proofs.Found.{both_true, cursor_found, module_found, parameters_good}
@@ -222,7 +223,7 @@ module _ (texts : List SchemaText) (modules : List ModuleText) (row_numbers : �
     -- the cursor of a positioned statement is over the table that is changed
     over_base : (t : TableName) (name : Name) (q : PositionedTarget) → IsSound (known_in u) (Site.table_changed t)
         → not_updatable (known_in u) (Site.positioned t name) ≡ false → (target : Target) → IsNamed texts t target
-        → option_and_then (λ k. k.under) (table_known known t) ≡ Some (under_of q.leaf) → IsBase schemas.bases q.leaf.table → (c : IsCursorOfCall name q.cursor)
+        → option_and_then (λ k. k.under) (meant_by known t) ≡ Some (under_of q.leaf) → IsBase schemas.bases q.leaf.table → (c : IsCursorOfCall name q.cursor)
         → IsUpdatableOver run c.here.cursor q.base
     over_base t name q sound positioned target means is_under base c =
         let over = over_table u name c.here.cursor c.here.is_named t sound positioned in
@@ -288,8 +289,8 @@ module _ (texts : List SchemaText) (modules : List ModuleText) (row_numbers : �
         target = named_target name sound.0 updatable.0
 
         at_row : (q : PositionedTarget) (w : Option Where) → y.target ≡ w
-            → IsDeleteOf (IsNumberOf known m declared) (outside known ps) m.authorization y (change.Positioned q)
-            → IsTargetOf (IsNumberOf known m declared) (filter_placed (outside known ps) m.authorization name) w (change.Positioned q)
+            → IsDeleteOf (IsNumberOf known m declared) known ps m.authorization y (change.Positioned q)
+            → IsTargetOf (IsNumberOf known m declared) (filter_placed known ps m.authorization name) w (change.Positioned q)
             → FitsTarget schemas.bases (length declared) (change.Positioned q)
             → MayStep schemas (Kind.deletes_at (caller_of m.authorization ps) q) started_at s d after
             → IsSameStep declared d after (performed run (statement.Delete y))
@@ -303,7 +304,7 @@ module _ (texts : List SchemaText) (modules : List ModuleText) (row_numbers : �
             (positioned_is name sound.0 y.target cursor is (all_behind u (known_in u) (λ z. not_updatable (known_in u) z ≡ false) name (where_sites u name y.target) updatable.1.1))
             target.0 target.1 h.is_under fits.0 c) d after may
 
-        by_target : (t : ChangeTarget) → IsDeleteOf (IsNumberOf known m declared) (outside known ps) m.authorization y t
+        by_target : (t : ChangeTarget) → IsDeleteOf (IsNumberOf known m declared) known ps m.authorization y t
             → FitsTarget schemas.bases (length declared) t
             → MayStep schemas (delete_kind (caller_of m.authorization ps) t) (started_values (read_parameters (delete_kind (caller_of m.authorization ps) t)) values) s d after
             → IsSameStep declared d after (performed run (statement.Delete y))
@@ -342,7 +343,7 @@ module _ (texts : List SchemaText) (modules : List ModuleText) (row_numbers : �
         columns t is = subst (λ z. AllByRecursion (λ a. IsColumnOf (below z).table a.column) b.assignments) is fits.2
 
         at_row : (q : PositionedTarget) → b.target ≡ change.Positioned q → (w : Option Where) → y.target ≡ w
-            → IsTargetOf (IsNumberOf known m declared) (filter_placed (outside known ps) m.authorization name) w (change.Positioned q)
+            → IsTargetOf (IsNumberOf known m declared) (filter_placed known ps m.authorization name) w (change.Positioned q)
             → MayStep schemas (Kind.updates_at (updating declared (caller_of m.authorization ps) b) q) started_at s d after
             → IsSameStep declared d after (performed run (statement.Update y))
         at_row q is None is_at rows may = absurd rows
@@ -356,7 +357,7 @@ module _ (texts : List SchemaText) (modules : List ModuleText) (row_numbers : �
             (all_parts (λ z. not_updatable (known_in u) z ≡ false) sets (where_sites u name y.target)
             (all_behind u (known_in u) (λ z. not_updatable (known_in u) z ≡ false) name (sets ++ where_sites u name y.target) updatable.1.1)).1)
             target.0 target.1
-            (subst (λ z. option_and_then (λ k. k.under) (table_known known name) ≡ Some (under_of (below z))) is h.is_under) (base (change.Positioned q) is) c) d after may
+            (subst (λ z. option_and_then (λ k. k.under) (meant_by known name) ≡ Some (under_of (below z))) is h.is_under) (base (change.Positioned q) is) c) d after may
 
         by_target : (t : ChangeTarget) → b.target ≡ t
             → MayStep schemas (update_kind (updating declared (caller_of m.authorization ps) b) t) (started_values (read_parameters (update_kind (updating declared (caller_of m.authorization ps) b) t)) values) s d after
@@ -369,7 +370,7 @@ module _ (texts : List SchemaText) (modules : List ModuleText) (row_numbers : �
             (all_behind u (known_in u) (IsSound (known_in u)) name (sets ++ where_sites u name y.target) sound.1.1)).1) d after may
         by_target (change.Positioned q) is may =
             at_row q is y.target refl
-            (subst (λ z. IsTargetOf (IsNumberOf known m declared) (filter_placed (outside known ps) m.authorization name) y.target z) is h.rows) may
+            (subst (λ z. IsTargetOf (IsNumberOf known m declared) (filter_placed known ps m.authorization name) y.target z) is h.rows) may
 
     -- ---- all of them
 

@@ -8,7 +8,7 @@ use crate::datum::{Datum, datum_of, value_of};
 use crate::name::name_of;
 use crate::room::copied;
 use sq_heap::HeapStore;
-use sq_run::{Limits, Refusal, RunFault, open_session};
+use sq_perform::{Limits, Refusal, RunFault, open_session};
 use sq_session::{Output, Reply, Session};
 use sq_store::MOST_ROW_NUMBERS;
 use sq_value::Value;

@@ -1,6 +1,6 @@
 -- Cursors that differ in their modules or their names: each is added with the only procedure that opens it.
 use Rattle.std.proofs.Common.{◌≡◌, ℕ, zero, suc, ◌+◌, ◌<◌, ◌≤◌, Bool, true, false, cond, not, ◌&&◌, ◌||◌, List, [], ◌∷◌, ◌++◌, Option, None, Some, IfSome, Result, Ok, Err, OnOk, if◌then◌else◌, length, get_or, take, map, flat_map, refl, ap, ap₂, sym, subst, ◌∙◌, true≢false, append_assoc, arith}
-use Rattle.std.proofs.lemmas.Bool.{eq-eqb, eqb-true, not-false}
+use Rattle.std.proofs.lemmas.Bool.{eqb-true, not-false}
 use Rattle.std.proofs.lemmas.List.{append-nil, map-append, take_more}
 use Rattle.std.proofs.lemmas.List.Folds.{list_any-append}
 use Rattle.std.proofs.lemmas.List.Sums.{sum_by-append}
@@ -14,7 +14,8 @@ use Rattle.sq_tree.specs.declared.module.ModuleItem.{ModuleItem}
 use Rattle.sq_tree.specs.declared.module.ModuleItem.TheVariants as item
 use Rattle.sq_tree.specs.declared.statement.Statement.TheVariants as tree
 use Rattle.sq_module.specs.Admitted.{AreAdmitted, OpensEachOnce, opened_of, opening_in, openings}
-use Rattle.sq_module.specs.Opened.{AreOfOthers, IsNew, OpenedBy, OpensNew, is_in}
+use Rattle.sq_bound.specs.WellFormed.{kinds_of_parameters}
+use Rattle.sq_module.specs.Opened.{AreOfOthers, HaveKinds, IsNew, IsOnlyOpener, OpenedBy, OpensNew, is_in}
 use Rattle.sq_module.specs.Program.{same_name}
 use Rattle.sq_module.specs.Refusal.{has_open_count, is_name, opened_by, opened_in, opener_count}
 use Rattle.sq_module.specs.Written.{AreApart, IsCursorIn, is_cursor}
@@ -22,15 +23,12 @@ use Rattle.sq_module.specs.declared.admission.AdmittedModule.{AdmittedModule}
 use Rattle.sq_module.specs.declared.admission.AdmittedProcedure.{AdmittedProcedure}
 use Rattle.sq_module.specs.declared.program.DeclaredCursor.{DeclaredCursor}
 use Rattle.sq_module.proofs.Fitting.{all_last}
+use Rattle.sq_module.proofs.Opening.{name_itself}
 use Rattle.sq_module.proofs.Written.{names_equal}
 
 -- ---- names and tests
 
-name_itself : (n : List ℕ) → same_name n n ≡ true
-name_itself [] = refl
-name_itself (x ∷ n) = ap₂ (λ a b. a && b) (eq-eqb x x refl) (name_itself n)
-
-either : (a b : Bool) → (a || b) ≡ false → (a ≡ false) × (b ≡ false)
+pub either : (a b : Bool) → (a || b) ≡ false → (a ≡ false) × (b ≡ false)
 either true b h = cc
 either false b h = (refl, h)
 
@@ -106,10 +104,10 @@ not_there n name procedures (c ∷ cursors) none all = by (is_in n c) (same_name
 
 -- ---- each is opened once
 
-count_cons : {X : Type 0} (p : X → Bool) (y : X) (ys : List X) → count_by p (y ∷ ys) ≡ cond (p y) 1 0 + count_by p ys
+pub count_cons : {X : Type 0} (p : X → Bool) (y : X) (ys : List X) → count_by p (y ∷ ys) ≡ cond (p y) 1 0 + count_by p ys
 count_cons p y ys = let more = sum_by-append (λ x. cond (p x) 1 0) (y ∷ []) ys in omega (arith, more)
 
-count_some : {X : Type 0} (p : X → Bool) (xs : List X) (i : ℕ) (x : X) → i < length xs → x ≡ get_or xs i x → p x ≡ true → 1 ≤ count_by p xs
+pub count_some : {X : Type 0} (p : X → Bool) (xs : List X) (i : ℕ) (x : X) → i < length xs → x ≡ get_or xs i x → p x ≡ true → 1 ≤ count_by p xs
 count_some p [] i x lt is passes = let no : ⊥ = omega (arith, lt) in absurd no
 count_some p (y ∷ ys) zero x lt is passes =
     let one : ◌≡◌ {A = ℕ} (cond (p y) 1 0) 1 = ap (λ b. cond b 1 0) (ap p (sym is) ∙ passes) in
@@ -118,7 +116,7 @@ count_some p (y ∷ ys) (suc i) x lt is passes =
     let rest : 1 ≤ count_by p ys = count_some p ys i x (omega (arith, lt)) is passes in
     let more = count_cons p y ys in omega (arith, rest, more)
 
-none_before : {X : Type 0} (p : X → Bool) (xs : List X) (i : ℕ) (x : X) → i < length xs → x ≡ get_or xs i x → p x ≡ true → count_by p xs ≡ 1 → list_any p (take i xs) ≡ false
+pub none_before : {X : Type 0} (p : X → Bool) (xs : List X) (i : ℕ) (x : X) → i < length xs → x ≡ get_or xs i x → p x ≡ true → count_by p xs ≡ 1 → list_any p (take i xs) ≡ false
 none_before p [] i x lt is passes once = let no : ⊥ = omega (arith, lt) in absurd no
 none_before p (y ∷ ys) zero x lt is passes once = refl
 none_before p (y ∷ ys) (suc i) x lt is passes once =
@@ -135,19 +133,69 @@ none_before p (y ∷ ys) (suc i) x lt is passes once =
         let left : count_by p ys ≡ 1 = omega (arith, zero_here, more, once) in
         ap (λ b. b || list_any p (take i ys)) h ∙ before left
 
-count_mapped : {X Y : Type 0} (f : X → Y) (p : Y → Bool) (xs : List X) → count_by p (map f xs) ≡ count_by (λ x. p (f x)) xs
+pub none_counted : {X : Type 0} (p : X → Bool) (xs : List X) → count_by p xs ≡ 0 → list_any p xs ≡ false
+none_counted p [] none = refl
+none_counted p (y ∷ ys) none = by (p y) refl (count_cons p y ys) (λ left. none_counted p ys left)
+  where
+    by : (b : Bool) → p y ≡ b → count_by p (y ∷ ys) ≡ cond (p y) 1 0 + count_by p ys → (count_by p ys ≡ 0 → list_any p ys ≡ false) → list_any p (y ∷ ys) ≡ false
+    by true h more rest = let one : ◌≡◌ {A = ℕ} (cond (p y) 1 0) 1 = ap (λ b. cond b 1 0) h in let no : ⊥ = omega (arith, one, more, none) in absurd no
+    by false h more rest =
+        let zero_here : ◌≡◌ {A = ℕ} (cond (p y) 1 0) 0 = ap (λ b. cond b 1 0) h in
+        let left : count_by p ys ≡ 0 = omega (arith, zero_here, more, none) in ap (λ b. b || list_any p ys) h ∙ rest left
+
+none_pass : {X : Type 0} (p : X → Bool) (x : X) (xs : List X) → list_any p xs ≡ false → AllByRecursion (λ y. p y ≡ true → y ≡ x) xs
+none_pass p x [] none = tt
+none_pass p x (y ∷ ys) none = let both = either (p y) (list_any p ys) none in ((λ passes. absurd (true≢false (sym passes ∙ both.0))), none_pass p x ys both.1)
+
+-- where one passes, and it is this one, no other does
+pub only_passes : {X : Type 0} (p : X → Bool) (xs : List X) (i : ℕ) (x : X) → i < length xs → x ≡ get_or xs i x → p x ≡ true → count_by p xs ≡ 1 → AllByRecursion (λ y. p y ≡ true → y ≡ x) xs
+only_passes p [] i x lt is passes once = let no : ⊥ = omega (arith, lt) in absurd no
+only_passes p (y ∷ ys) zero x lt is passes once =
+    let more = count_cons p y ys in
+    let one : ◌≡◌ {A = ℕ} (cond (p y) 1 0) 1 = ap (λ b. cond b 1 0) (ap p (sym is) ∙ passes) in
+    let left : count_by p ys ≡ 0 = omega (arith, one, more, once) in
+    ((λ _. sym is), none_pass p x ys (none_counted p ys left))
+only_passes p (y ∷ ys) (suc i) x lt is passes once =
+    let rest : 1 ≤ count_by p ys = count_some p ys i x (omega (arith, lt)) is passes in
+    by (p y) refl rest (count_cons p y ys) (λ left. only_passes p ys i x (omega (arith, lt)) is passes left)
+  where
+    by : (b : Bool) → p y ≡ b → 1 ≤ count_by p ys → count_by p (y ∷ ys) ≡ cond (p y) 1 0 + count_by p ys → (count_by p ys ≡ 1 → AllByRecursion (λ z. p z ≡ true → z ≡ x) ys)
+        → (p y ≡ true → y ≡ x) × AllByRecursion (λ z. p z ≡ true → z ≡ x) ys
+    by true h rest more others =
+        let one : ◌≡◌ {A = ℕ} (cond (p y) 1 0) 1 = ap (λ b. cond b 1 0) h in
+        let no : ⊥ = omega (arith, one, rest, more, once) in absurd no
+    by false h rest more others =
+        let zero_here : ◌≡◌ {A = ℕ} (cond (p y) 1 0) 0 = ap (λ b. cond b 1 0) h in
+        let left : count_by p ys ≡ 1 = omega (arith, zero_here, more, once) in ((λ passes. absurd (true≢false (sym passes ∙ h))), others left)
+
+pub counted_any : {X : Type 0} (p : X → Bool) (xs : List X) → count_by p xs ≡ 1 → list_any p xs ≡ true
+counted_any {X} p xs once = by (list_any p xs) refl
+  where
+    counted_none : (ys : List X) → list_any p ys ≡ false → count_by p ys ≡ 0
+    counted_none [] none = refl
+    counted_none (y ∷ ys) none =
+        let both = either (p y) (list_any p ys) none in
+        let more = count_cons p y ys in
+        let zero_here : ◌≡◌ {A = ℕ} (cond (p y) 1 0) 0 = ap (λ b. cond b 1 0) both.0 in
+        let rest : count_by p ys ≡ 0 = counted_none ys both.1 in omega (arith, zero_here, more, rest)
+
+    by : (b : Bool) → list_any p xs ≡ b → list_any p xs ≡ true
+    by true some = some
+    by false none = let zero_all : count_by p xs ≡ 0 = counted_none xs none in let no : ⊥ = omega (arith, zero_all, once) in absurd no
+
+pub count_mapped : {X Y : Type 0} (f : X → Y) (p : Y → Bool) (xs : List X) → count_by p (map f xs) ≡ count_by (λ x. p (f x)) xs
 count_mapped f p [] = refl
 count_mapped f p (x ∷ xs) =
     let first = count_cons p (f x) (map f xs) in
     let second = count_cons (λ y. p (f y)) x xs in
     let rest = count_mapped f p xs in omega (arith, first, second, rest)
 
-any_mapped : {X Y : Type 0} (f : X → Y) (p : Y → Bool) (xs : List X) → list_any p (map f xs) ≡ list_any (λ x. p (f x)) xs
+pub any_mapped : {X Y : Type 0} (f : X → Y) (p : Y → Bool) (xs : List X) → list_any p (map f xs) ≡ list_any (λ x. p (f x)) xs
 any_mapped f p [] = refl
 any_mapped f p (x ∷ xs) = ap (λ b. p (f x) || b) (any_mapped f p xs)
 
 -- the entry under a name
-once_found : {V : Type 0} (procedures : List AdmittedProcedure) (entries : List (Name × V)) (name : Name) (v : V) → AllByRecursion (λ e. count_by (is_name e.0) (openings procedures) ≡ 1) entries
+pub once_found : {V : Type 0} (procedures : List AdmittedProcedure) (entries : List (Name × V)) (name : Name) (v : V) → AllByRecursion (λ e. count_by (is_name e.0) (openings procedures) ≡ 1) entries
     → lookup (same_name name) entries ≡ Some v → count_by (is_name name) (openings procedures) ≡ 1
 once_found procedures [] name v all is = cc
 once_found procedures (e ∷ es) name v all is = by (same_name name e.0) refl is (λ found. once_found procedures es name v all.1 found)
@@ -176,6 +224,34 @@ opens_new a i p cursors lt is once all = by (opened_of p) refl
     by : (o : Option Name) → opened_of p ≡ o → IfSome o (λ name. IfSome (lookup (same_name name) a.cursors.entries) (λ c. IsNew a.name cursors name))
     by None opens = tt
     by (Some name) opens = found name opens (lookup (same_name name) a.cursors.entries) refl
+
+-- a cursor of the module that a procedure opens is opened with no other parameters
+pub only_opener : (a : AdmittedModule) (i : ℕ) (p : AdmittedProcedure) → i < length a.procedures.items → p ≡ get_or a.procedures.items i p → OpensEachOnce a → IsOnlyOpener a a.procedures.items p
+only_opener a i p lt is once = by (opened_of p) refl
+  where
+    ps : List AdmittedProcedure
+    ps = a.procedures.items
+
+    same_kinds : (name : Name) (qs : List AdmittedProcedure) → AllByRecursion (λ q. is_name name (opened_of q) ≡ true → q ≡ p) qs → HaveKinds name (kinds_of_parameters p.parameters) qs
+    same_kinds name [] all = tt
+    same_kinds name (q ∷ qs) all = ((λ opens. ap (λ (x : AdmittedProcedure). kinds_of_parameters x.parameters) (all.0 opens)), same_kinds name qs all.1)
+
+    found : (name : Name) → opened_of p ≡ Some name → (r : Option (Bor Cursor)) → lookup (same_name name) a.cursors.entries ≡ r → IfSome r (λ c. HaveKinds name (kinds_of_parameters p.parameters) ps)
+    found name opens None there = tt
+    found name opens (Some c) there =
+        let count : count_by (λ q. is_name name (opened_of q)) ps ≡ 1 = sym (count_mapped opened_of (is_name name) ps) ∙ once_found ps a.cursors.entries name c once there in
+        same_kinds name ps (only_passes (λ q. is_name name (opened_of q)) ps i p lt is (ap (is_name name) opens ∙ name_itself name) count)
+
+    by : (o : Option Name) → opened_of p ≡ o → IfSome o (λ name. IfSome (lookup (same_name name) a.cursors.entries) (λ c. HaveKinds name (kinds_of_parameters p.parameters) ps))
+    by None opens = tt
+    by (Some name) opens = found name opens (lookup (same_name name) a.cursors.entries) refl
+
+pub kinds_found : (a : AdmittedModule) (ps : List AdmittedProcedure) (p : AdmittedProcedure) (name : Name) (c : Bor Cursor) → p.procedure.now.statement ≡ tree.Open name
+    → lookup (same_name name) a.cursors.entries ≡ Some c → IsOnlyOpener a ps p → HaveKinds name (kinds_of_parameters p.parameters) ps
+kinds_found a ps p name c opens found h =
+    let named : IfSome (lookup (same_name name) a.cursors.entries) (λ b. HaveKinds name (kinds_of_parameters p.parameters) ps)
+    = subst (λ (o : Option Name). IfSome o (λ n. IfSome (lookup (same_name n) a.cursors.entries) (λ b. HaveKinds n (kinds_of_parameters p.parameters) ps))) (ap opened_by opens) h in
+    subst (λ (o : Option (Bor Cursor)). IfSome o (λ b. HaveKinds name (kinds_of_parameters p.parameters) ps)) found named
 
 pub new_found : (a : AdmittedModule) (cursors : List DeclaredCursor) (p : AdmittedProcedure) (name : Name) (c : Bor Cursor) → p.procedure.now.statement ≡ tree.Open name
     → lookup (same_name name) a.cursors.entries ≡ Some c → OpensNew a cursors p → IsNew a.name cursors name

@@ -1,5 +1,5 @@
 -- What a program names is there and its parts are well formed with a cursor or a procedure more.
-use Rattle.std.proofs.Common.{◌≡◌, ℕ, ◌≤◌, Bool, true, false, List, [], ◌∷◌, ◌++◌, length, length-append, Option, Some, IfSome, slice_get, Result, Ok, Err, IfOk, nat_lt, zero, suc, refl, sym, ap, ◌∙◌, subst, arith}
+use Rattle.std.proofs.Common.{◌≡◌, ℕ, ◌≤◌, Bool, true, false, List, [], ◌∷◌, ◌++◌, length, length-append, Option, None, Some, IfSome, slice_get, Result, Ok, Err, IfOk, nat_lt, zero, suc, refl, sym, ap, ◌∙◌, subst, arith}
 use Rattle.std.proofs.lemmas.Bool.{lt-ltb, ltb-true}
 use Rattle.std.proofs.lemmas.List.{map-append}
 use Rattle.std.specs.List.{AllByRecursion}
@@ -8,7 +8,9 @@ use Rattle.sq_value.specs.declared.domain.Kind.{Kind}
 use Rattle.sq_meaning.specs.Status.{well_formed}
 use Rattle.sq_meaning.specs.WellFormed.{Has}
 use Rattle.sq_bound.specs.declared.names.BaseTable.{BaseTable}
-use Rattle.sq_bound.specs.declared.fault.BindFault.{BindFault}
+use Rattle.sq_binder.specs.declared.stop.Fault.{Fault}
+use Rattle.sq_binder.specs.declared.stop.Stop.{Stop}
+use Rattle.sq_binder.specs.declared.stop.Stop.TheVariants as stop
 use Rattle.sq_bound.specs.declared.query.BoundCursor.{BoundCursor}
 use Rattle.sq_bound.specs.declared.statement.BoundStatement.{BoundStatement}
 use Rattle.sq_bound.specs.declared.statement.BoundStatement.TheVariants as statement
@@ -16,6 +18,7 @@ use Rattle.sq_bound.specs.declared.statement.ChangeTarget.{ChangeTarget}
 use Rattle.sq_bound.specs.declared.statement.ChangeTarget.TheVariants as target
 use Rattle.sq_bound.specs.Fits.{FitsCursor, FitsStatement, FitsTarget}
 use Rattle.sq_bound.specs.WellFormed.{IsCursor, IsStatement, TableKinds, TakeKinds, kinds_of_parameters, kinds_of_results}
+use Rattle.sq_module.specs.Computed.{IsPart}
 use Rattle.sq_module.specs.declared.program.BoundProcedure.{BoundProcedure}
 use Rattle.sq_module.specs.declared.program.DeclaredCursor.{DeclaredCursor}
 use Rattle.sq_module.specs.declared.program.ProcedureName.{ProcedureName}
@@ -64,7 +67,7 @@ statement_more bases n m k statement.Rollback le fits = tt
 procedure_more : (bases : List BaseTable) (n m : ℕ) (p : BoundProcedure) → n ≤ m → FitsProcedure bases n p → FitsProcedure bases m p
 procedure_more bases n m p le fits = by p.statement fits
   where
-    by : (r : Result BoundStatement BindFault) → IfOk r (FitsStatement bases n (length p.parameters)) → IfOk r (FitsStatement bases m (length p.parameters))
+    by : (r : Result BoundStatement Fault) → IfOk r (FitsStatement bases n (length p.parameters)) → IfOk r (FitsStatement bases m (length p.parameters))
     by (Ok s) h = statement_more bases n m (length p.parameters) s le h
     by (Err e) h = tt
 
@@ -92,7 +95,7 @@ procedure_stands columns cursors more p stands = by p.statement stands
     ps : List Kind
     ps = kinds_of_parameters p.parameters
 
-    by : (r : Result BoundStatement BindFault) → IfOk r (IsStatement columns cursors ps) → IfOk r (IsStatement columns (cursors ++ more) ps)
+    by : (r : Result BoundStatement Fault) → IfOk r (IsStatement columns cursors ps) → IfOk r (IsStatement columns (cursors ++ more) ps)
     by (Ok s) h = statement_stands columns cursors more ps s h
     by (Err e) h = tt
 
@@ -130,9 +133,11 @@ pub procedure_added : (P : BoundProcedure → Type 0) (procedures more : List (P
 procedure_added P procedures more name p is all one = rw is (all_inserted same_procedure P procedures name p all one)
 
 -- a cursor that has no fault, and what holds of it
-pub is_bound : (bound : Result BoundCursor BindFault) (part : Option BoundCursor) (c : BoundCursor) → IfSome part (λ x. bound ≡ Ok x) → part ≡ Some c → bound ≡ Ok c
+pub is_bound : (bound : Result BoundCursor Stop) (part : Option BoundCursor) (c : BoundCursor) → IsPart bound part → part ≡ Some c → bound ≡ Ok c
 is_bound bound part c of some = rw some at of
 
-pub of_bound : (P : BoundCursor → Type 0) (bound : Result BoundCursor BindFault) (part : Option BoundCursor) (c : BoundCursor) → IfSome part (λ x. bound ≡ Ok x) → part ≡ Some c
-    → IfOk bound P → P c
+pub none_part : (bound : Result BoundCursor Stop) (part : Option BoundCursor) → IsPart bound part → part ≡ None → (f : Fault) × (bound ≡ Err (stop.Fault f))
+none_part bound part of none = subst (IsPart bound) none of
+
+pub of_bound : (P : BoundCursor → Type 0) (bound : Result BoundCursor Stop) (part : Option BoundCursor) (c : BoundCursor) → IsPart bound part → part ≡ Some c → IfOk bound P → P c
 of_bound P bound part c of some one = rw (is_bound bound part c of some) at one

@@ -1,10 +1,14 @@
 pub mod Apart
+pub mod Computed
 pub mod Fitting
-pub mod Parameters
-pub mod Refused
-pub mod Repeats
+pub mod Listed
+pub mod Named
 pub mod Names
 pub mod Openers
 pub mod Opening
+pub mod Parameters
 pub mod Places
+pub mod Refused
+pub mod Repeats
+pub mod Standing
 pub mod Written

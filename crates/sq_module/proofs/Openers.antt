@@ -13,11 +13,11 @@ use Rattle.sq_module.specs.Program.{same_name}
 use Rattle.sq_module.specs.Refusal.{AreOpeners, is_name, opened_in, opener_count}
 use Rattle.sq_module.proofs.Written.{names_equal}
 
-or_false : (b : Bool) → (b || false) ≡ b
+pub or_false : (b : Bool) → (b || false) ≡ b
 or_false true = refl
 or_false false = refl
 
-or_true : (b : Bool) → (b || true) ≡ true
+pub or_true : (b : Bool) → (b || true) ≡ true
 or_true true = refl
 or_true false = refl
 

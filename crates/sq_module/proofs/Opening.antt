@@ -2,12 +2,11 @@
 use Rattle.std.proofs.Common.{◌≡◌, ℕ, zero, suc, ◌+◌, ◌<◌, ◌≤◌, Bool, true, false, ◌&&◌, if◌then◌else◌, List, [], ◌∷◌, ◌++◌, length, length-append, nat_lt, take, get_or, append_assoc, Option, Some, None, IfSome, slice_get, Result, Ok, Err, IfOk, refl, sym, ap, ap₂, ◌∙◌, subst, arith}
 use Rattle.std.proofs.lemmas.Bool.{and_parts, lt-ltb, ltb-true}
 use Rattle.std.proofs.lemmas.List.{take_more}
+use Rattle.std.proofs.lemmas.Cmp.{nat_list_eq_equiv}
+use Rattle.std.specs.Cmp.Lexicographic.{same_text}
 use Rattle.std.specs.List.{list_all}
-use Rattle.std.specs.Prelude.{⊤}
 use Rattle.std.specs.Map.{lookup}
-use Rattle.std.specs.Option.{option_map}
 use Rattle.indexmap.specs.IndexMap.{insert_entry}
-use Rattle.indexmap.proofs.SetLemmas.{AllZip-push}
 use Rattle.sq_bound.specs.Known.{KnownTables}
 use Rattle.sq_lex.specs.declared.name.Name.{Name}
 use Rattle.sq_value.specs.declared.domain.Kind.{Kind}
@@ -15,14 +14,18 @@ use Rattle.sq_tree.specs.declared.statement.Statement.{Statement}
 use Rattle.sq_tree.specs.declared.statement.Statement.TheVariants as tree
 use Rattle.sq_meaning.specs.Status.{well_formed}
 use Rattle.sq_meaning.specs.WellFormed.{Has}
-use Rattle.sq_bound.specs.declared.fault.BindFault.{BindFault}
+use Rattle.sq_binder.specs.declared.stop.Fault.{Fault}
+use Rattle.sq_binder.specs.declared.stop.Stop.{Stop}
 use Rattle.sq_bound.specs.declared.statement.BoundStatement.{BoundStatement}
 use Rattle.sq_bound.specs.declared.statement.BoundStatement.TheVariants as statement
 use Rattle.sq_bound.specs.WellFormed.{IsCursor, TableKinds, kinds_of_parameters, kinds_of_results}
 use Rattle.sq_bound.specs.declared.names.ParameterDesc.{ParameterDesc}
-use Rattle.sq_bind.specs.Written.{IsStatementOf}
-use Rattle.sq_module.specs.Opened.{AreOpened, AreThere, Grow, IsOpened}
+use Rattle.sq_promises.specs.Written.{IsStatementOf}
+use Rattle.sq_module.specs.Admitted.{opened_of}
+use Rattle.sq_module.specs.Computed.{as_bound}
+use Rattle.sq_module.specs.Opened.{AreOpenable, AreThere, Grow, HaveKinds, IsOpenable}
 use Rattle.sq_module.specs.Program.{OpensWellFormed, ProcedureOpens, ProceduresOpen, kinds_of_cursors, same_name}
+use Rattle.sq_module.specs.Refusal.{is_name, opened_by}
 use Rattle.sq_module.specs.declared.admission.AdmittedProcedure.{AdmittedProcedure}
 use Rattle.sq_module.specs.declared.program.BoundProcedure.{BoundProcedure}
 use Rattle.sq_module.specs.declared.program.DeclaredCursor.{DeclaredCursor}
@@ -63,7 +66,7 @@ procedure_opens_more columns cursors more p h = by p.statement h
     ps : List Kind
     ps = kinds_of_parameters p.parameters
 
-    by : (r : Result BoundStatement BindFault) → IfOk r (OpensWellFormed columns cursors ps) → IfOk r (OpensWellFormed columns (cursors ++ more) ps)
+    by : (r : Result BoundStatement Fault) → IfOk r (OpensWellFormed columns cursors ps) → IfOk r (OpensWellFormed columns (cursors ++ more) ps)
     by (Ok s) h = opens_more columns cursors more ps s h
     by (Err e) h = tt
 
@@ -71,42 +74,8 @@ pub procedures_open_more : (columns : TableKinds) (cursors more : List DeclaredC
 procedures_open_more columns cursors more [] h = tt
 procedures_open_more columns cursors more (e ∷ es) h = (procedure_opens_more columns cursors more e.1 h.0, procedures_open_more columns cursors more es h.1)
 
--- ---- the cursors that procedures open
-
-is_opened_more : (columns : TableKinds) (cursors more : List DeclaredCursor) (p : AdmittedProcedure) (o : Option ℕ) → IsOpened columns cursors p o → IsOpened columns (cursors ++ more) p o
-is_opened_more columns cursors more p None h = tt
-is_opened_more columns cursors more p (Some n) h = opens_more columns cursors more (kinds_of_parameters p.parameters) (statement.Open n) h
-
-are_opened_more : (columns : TableKinds) (cursors more : List DeclaredCursor) (ps : List AdmittedProcedure) (os : List (Option ℕ)) → AreOpened columns cursors ps os → AreOpened columns (cursors ++ more) ps os
-are_opened_more columns cursors more [] [] h = tt
-are_opened_more columns cursors more [] (o ∷ os) h = absurd h
-are_opened_more columns cursors more (p ∷ ps) [] h = absurd h
-are_opened_more columns cursors more (p ∷ ps) (o ∷ os) h = (is_opened_more columns cursors more p o h.0, are_opened_more columns cursors more ps os h.1)
-
--- one procedure more, with cursors behind those that were there
-pub opened_next : (columns : TableKinds) (old new : List DeclaredCursor) (ps : List AdmittedProcedure) (i : ℕ) (p : AdmittedProcedure) (os : List (Option ℕ)) (o : Option ℕ) → i < length ps → p ≡ get_or ps i p
-    → Grow old new → AreOpened columns old (take i ps) os → IsOpened columns new p o → AreOpened columns new (take (i + 1) ps) (os ++ o ∷ [])
-opened_next columns old new ps i p os o lt is grown h one =
-    let wide : AreOpened columns new (take i ps) os = subst (λ cs. AreOpened columns cs (take i ps) os) (sym grown.1) (are_opened_more columns old grown.0 (take i ps) os h) in
-    subst (λ qs. AreOpened columns new qs (os ++ o ∷ [])) (ap (λ q. take i ps ++ q ∷ []) is ∙ sym (take_more ps i p lt)) (AllZip-push (IsOpened columns new) (take i ps) os p o wide one)
-
 pub grow_on : (old new now : List DeclaredCursor) → Grow old new → Grow new now → Grow old now
 grow_on old new now first next = (first.0 ++ next.0, next.1 ∙ ap (λ cs. cs ++ next.0) first.1 ∙ append_assoc old first.0 next.0)
-
--- the number that a procedure has
-pub opened_there : (columns : TableKinds) (cursors : List DeclaredCursor) (ps : List AdmittedProcedure) (os : List (Option ℕ)) (i : ℕ) → AreOpened columns cursors ps os → i < length ps → i < length os
-opened_there columns cursors [] [] i h lt = lt
-opened_there columns cursors [] (o ∷ os) i h lt = absurd h
-opened_there columns cursors (p ∷ ps) [] i h lt = absurd h
-opened_there columns cursors (p ∷ ps) (o ∷ os) zero h lt = omega arith
-opened_there columns cursors (p ∷ ps) (o ∷ os) (suc i) h lt = let less : i < length os = opened_there columns cursors ps os i h.1 (omega (arith, lt)) in omega (arith, less)
-
-pub opened_at : (columns : TableKinds) (cursors : List DeclaredCursor) (ps : List AdmittedProcedure) (os : List (Option ℕ)) (i : ℕ) (p : AdmittedProcedure) (d : Option ℕ) → AreOpened columns cursors ps os
-    → i < length ps → p ≡ get_or ps i p → IsOpened columns cursors p (get_or os i d)
-opened_at columns cursors [] os i p d h lt is = let no : ⊥ = omega (arith, lt) in absurd no
-opened_at columns cursors (q ∷ ps) [] i p d h lt is = absurd h
-opened_at columns cursors (q ∷ ps) (r ∷ os) zero p d h lt is = subst (λ x. IsOpened columns cursors x r) (sym is) h.0
-opened_at columns cursors (q ∷ ps) (r ∷ os) (suc i) p d h lt is = opened_at columns cursors ps os i p d h.1 (omega (arith, lt)) is
 
 -- ---- a cursor that is bound
 
@@ -115,14 +84,6 @@ pub last_opened : (columns : TableKinds) (parameters : List Kind) (cursors new :
 last_opened columns parameters cursors new c is one =
     subst (λ cs. Has (λ (d : DeclaredCursor). IsCursor columns parameters d.cursor) (well_formed (slice_get cs (length cursors)))) (sym is)
     (last_there (λ (d : DeclaredCursor). IsCursor columns parameters d.cursor) cursors c one)
-
--- an OPEN that is well formed is of a cursor that is there
-pub opened_below : (columns : TableKinds) (cursors : List DeclaredCursor) (parameters : List Kind) (n : ℕ) → OpensWellFormed columns cursors parameters (statement.Open n) → n < length cursors
-opened_below columns cursors parameters n h = there_below (λ (c : DeclaredCursor). IsCursor columns parameters c.cursor) cursors n h
-
-pub opened_fits : (columns : TableKinds) (cursors : List DeclaredCursor) (p : AdmittedProcedure) (o : Option ℕ) → IsOpened columns cursors p o → IfSome o (λ n. n < length cursors)
-opened_fits columns cursors p None h = tt
-opened_fits columns cursors p (Some n) h = opened_below columns cursors (kinds_of_parameters p.parameters) n h
 
 -- ---- the numbers that names have
 
@@ -160,40 +121,124 @@ number_there n (e ∷ es) name v h is =
     by true same found one rest = let value : e.1 ≡ v = cc in subst (λ x. x < n) value (ltb-true e.1 n one)
     by false same found one rest = rest found
 
--- ---- statements that open no cursor
+-- ---- the number of a name in a map
 
-pub opens_none : (names : KnownTables) → (R : Name → ℕ → Type 0) (columns : TableKinds) (cursors : List DeclaredCursor) (user : Name) (ps : List ParameterDesc) (kinds : List Kind) (s : Statement) (b : BoundStatement)
-    → ((name : Name) → s ≡ tree.Open name → ⊥) → IsStatementOf names R user ps s b → OpensWellFormed columns cursors kinds b
-opens_none names R columns cursors user ps kinds (tree.Open name) (statement.Open n) other h = absurd (other name refl)
-opens_none names R columns cursors user ps kinds s (statement.Open n) other h = absurd h
-opens_none names R columns cursors user ps kinds s (statement.Fetch f) other h = tt
-opens_none names R columns cursors user ps kinds s (statement.Close n) other h = tt
-opens_none names R columns cursors user ps kinds s (statement.Select t) other h = tt
-opens_none names R columns cursors user ps kinds s (statement.Insert i) other h = tt
-opens_none names R columns cursors user ps kinds s (statement.Update u) other h = tt
-opens_none names R columns cursors user ps kinds s (statement.Delete t) other h = tt
-opens_none names R columns cursors user ps kinds s statement.Commit other h = tt
-opens_none names R columns cursors user ps kinds s statement.Rollback other h = tt
+pub name_itself : (n : List ℕ) → same_name n n ≡ true
+name_itself n = nat_list_eq_equiv.refl n
 
-pub opens_no_other : (names : KnownTables) → (R : Name → ℕ → Type 0) (columns : TableKinds) (cursors : List DeclaredCursor) (user : Name) (ps : List ParameterDesc) (kinds : List Kind) (s : Statement) (r : Result BoundStatement BindFault)
-    → ((name : Name) → s ≡ tree.Open name → ⊥) → IfOk r (IsStatementOf names R user ps s) → IfOk r (OpensWellFormed columns cursors kinds)
-opens_no_other names R columns cursors user ps kinds s (Ok b) other h = opens_none names R columns cursors user ps kinds s b other h
-opens_no_other names R columns cursors user ps kinds s (Err e) other h = tt
+pub lookup_inserted : {V : Type 0} (numbers : List (Name × V)) (name q : Name) (n : V) → same_name q name ≡ true → lookup (same_name q) (insert_entry same_name numbers name n) ≡ Some n
+lookup_inserted [] name q n same = ap (λ b. if b then Some n else None) same
+lookup_inserted {V} (e ∷ es) name q n same = by (same_name name e.0) refl (lookup_inserted es name q n same)
+  where
+    is : q ≡ name
+    is = same_text q name (sym same)
 
--- ---- OPEN of the cursor that was bound for a procedure
+    by : (b : Bool) → same_name name e.0 ≡ b → lookup (same_name q) (insert_entry same_name es name n) ≡ Some n → lookup (same_name q) (insert_entry same_name (e ∷ es) name n) ≡ Some n
+    by true h rest = rw h (ap (λ b. if b then Some n else lookup (same_name q) es) (ap (λ (x : Name). same_name x e.0) is ∙ h))
+    by false h rest = rw h (ap (λ b. if b then Some e.1 else lookup (same_name q) (insert_entry same_name es name n)) (ap (λ (x : Name). same_name x e.0) is ∙ h) ∙ rest)
 
-pub open_is : (P : BoundStatement → Type 0) (r : Result BoundStatement BindFault) (o : Option ℕ) → IfOk r (λ s. option_map statement.Open o ≡ Some s) → IfSome o (λ n. P (statement.Open n)) → IfOk r P
-open_is P (Ok s) (Some n) e h = let same : statement.Open n ≡ s = cc in subst P same h
-open_is P (Ok s) None e h = cc
-open_is P (Err x) o e h = tt
+pub lookup_other : {V : Type 0} (numbers : List (Name × V)) (name q : Name) (n : V) → same_name q name ≡ false → lookup (same_name q) (insert_entry same_name numbers name n) ≡ lookup (same_name q) numbers
+lookup_other [] name q n other = ap (λ b. if b then Some n else None) other
+lookup_other {V} (e ∷ es) name q n other = by (same_name name e.0) refl (lookup_other es name q n other)
+  where
+    by : (b : Bool) → same_name name e.0 ≡ b → lookup (same_name q) (insert_entry same_name es name n) ≡ lookup (same_name q) es → lookup (same_name q) (insert_entry same_name (e ∷ es) name n) ≡ lookup (same_name q) (e ∷ es)
+    by true h rest =
+        let apart : same_name q e.0 ≡ false = ap (same_name q) (sym (same_text name e.0 (sym h))) ∙ other in
+        rw h (ap (λ b. if b then Some n else lookup (same_name q) es) apart ∙ sym (ap (λ b. if b then Some e.1 else lookup (same_name q) es) apart))
+    by false h rest = rw h (ap (λ o. if same_name q e.0 then Some e.1 else o) rest)
 
-pub any_open : (o : Option ℕ) → IfSome o (λ n. ⊤)
-any_open (Some n) = tt
-any_open None = tt
+-- ---- the cursors that procedures open, by their numbers
+
+openable_more : (columns : TableKinds) (cursors new : List DeclaredCursor) (d : DeclaredCursor) (kinds : List Kind) (o : Option ℕ) → new ≡ cursors ++ d ∷ []
+    → IfSome o (λ n. OpensWellFormed columns cursors kinds (statement.Open n)) → IfSome o (λ n. OpensWellFormed columns new kinds (statement.Open n))
+openable_more columns cursors new d kinds None is h = tt
+openable_more columns cursors new d kinds (Some n) is h =
+    subst (λ cs. OpensWellFormed columns cs kinds (statement.Open n)) (sym is) (opens_more columns cursors (d ∷ []) kinds (statement.Open n) h)
+
+-- with that of the last cursor
+pub openable_next : (columns : TableKinds) (kinds : List Kind) (cursors new : List DeclaredCursor) (numbers after : List (Name × ℕ)) (name : Name) (n : ℕ) (d : DeclaredCursor) (ps : List AdmittedProcedure)
+    → new ≡ cursors ++ d ∷ [] → after ≡ insert_entry same_name numbers name n → n ≡ length cursors → IsCursor columns kinds d.cursor → HaveKinds name kinds ps
+    → AreOpenable columns cursors numbers ps → AreOpenable columns new after ps
+openable_next columns kinds cursors new numbers after name n d [] is entered last one have h = tt
+openable_next columns kinds cursors new numbers after name n d (p ∷ ps) is entered last one have h =
+    (by (opened_of p) refl h.0, openable_next columns kinds cursors new numbers after name n d ps is entered last one have.1 h.1)
+  where
+    own : List Kind
+    own = kinds_of_parameters p.parameters
+
+    Opens : Option ℕ → Type 0
+    Opens o = IfSome o (λ k. OpensWellFormed columns new own (statement.Open k))
+
+    this : (q : Name) → opened_of p ≡ Some q → same_name q name ≡ true → Opens (Some n)
+    this q opens same =
+        let turned : same_name name q ≡ true = ap (λ (x : Name). same_name x q) (sym (same_text q name (sym same))) ∙ name_itself q in
+        let kinds_are : own ≡ kinds = have.0 (ap (is_name name) opens ∙ turned) in
+        subst (λ k. OpensWellFormed columns new own (statement.Open k)) (sym last)
+        (subst (λ ks. OpensWellFormed columns new ks (statement.Open (length cursors))) (sym kinds_are) (last_opened columns kinds cursors new d is one))
+
+    by_name : (q : Name) → opened_of p ≡ Some q → (b : Bool) → same_name q name ≡ b → IfSome (lookup (same_name q) numbers) (λ k. OpensWellFormed columns cursors own (statement.Open k))
+        → Opens (lookup (same_name q) after)
+    by_name q opens true same before = subst Opens (sym (ap (lookup (same_name q)) entered ∙ lookup_inserted numbers name q n same)) (this q opens same)
+    by_name q opens false same before =
+        subst Opens (sym (ap (lookup (same_name q)) entered ∙ lookup_other numbers name q n same)) (openable_more columns cursors new d own (lookup (same_name q) numbers) is before)
+
+    by : (o : Option Name) → opened_of p ≡ o → IfSome o (λ q. IfSome (lookup (same_name q) numbers) (λ k. OpensWellFormed columns cursors own (statement.Open k)))
+        → IfSome o (λ q. Opens (lookup (same_name q) after))
+    by None opens before = tt
+    by (Some q) opens before = by_name q opens (same_name q name) refl before
+
+-- where no name has a number
+pub openable_none : (columns : TableKinds) (cursors : List DeclaredCursor) (numbers : List (Name × ℕ)) → numbers ≡ [] → (ps : List AdmittedProcedure) → AreOpenable columns cursors numbers ps
+openable_none columns cursors numbers none [] = tt
+openable_none columns cursors numbers none (p ∷ ps) = (by (opened_of p), openable_none columns cursors numbers none ps)
+  where
+    by : (o : Option Name) → IfSome o (λ q. IfSome (lookup (same_name q) numbers) (λ k. OpensWellFormed columns cursors (kinds_of_parameters p.parameters) (statement.Open k)))
+    by None = tt
+    by (Some q) =
+        subst (λ (es : List (Name × ℕ)). IfSome (lookup (same_name q) es) (λ k. OpensWellFormed columns cursors (kinds_of_parameters p.parameters) (statement.Open k))) (sym none) tt
+
+-- ---- the cursor that a statement opens
+
+opens_number : (names : KnownTables) (columns : TableKinds) (cursors : List DeclaredCursor) (numbers : List (Name × ℕ)) (user : Name) (ps : List ParameterDesc) (kinds : List Kind) (s : Statement) (b : BoundStatement)
+    → IfSome (opened_by s) (λ name. IfSome (lookup (same_name name) numbers) (λ n. OpensWellFormed columns cursors kinds (statement.Open n)))
+    → IsStatementOf names (λ name n. lookup (same_name name) numbers ≡ Some n) user ps s b → OpensWellFormed columns cursors kinds b
+opens_number names columns cursors numbers user ps kinds (tree.Open name) (statement.Open n) can h = subst (λ o. IfSome o (λ n. OpensWellFormed columns cursors kinds (statement.Open n))) h can
+opens_number names columns cursors numbers user ps kinds s (statement.Open n) can h = absurd h
+opens_number names columns cursors numbers user ps kinds s (statement.Fetch f) can h = tt
+opens_number names columns cursors numbers user ps kinds s (statement.Close n) can h = tt
+opens_number names columns cursors numbers user ps kinds s (statement.Select t) can h = tt
+opens_number names columns cursors numbers user ps kinds s (statement.Insert i) can h = tt
+opens_number names columns cursors numbers user ps kinds s (statement.Update u) can h = tt
+opens_number names columns cursors numbers user ps kinds s (statement.Delete t) can h = tt
+opens_number names columns cursors numbers user ps kinds s statement.Commit can h = tt
+opens_number names columns cursors numbers user ps kinds s statement.Rollback can h = tt
+
+pub opens_openable : (names : KnownTables) (columns : TableKinds) (cursors : List DeclaredCursor) (numbers : List (Name × ℕ)) (user : Name) (p : AdmittedProcedure) (bound : Result BoundStatement Stop)
+    → IsOpenable columns cursors numbers p → IfOk bound (IsStatementOf names (λ name n. lookup (same_name name) numbers ≡ Some n) user p.parameters p.procedure.now.statement)
+    → IfOk bound (OpensWellFormed columns cursors (kinds_of_parameters p.parameters))
+opens_openable names columns cursors numbers user p (Ok b) can h = opens_number names columns cursors numbers user p.parameters (kinds_of_parameters p.parameters) p.procedure.now.statement b can h
+opens_openable names columns cursors numbers user p (Err stop) can h = tt
+
+-- a statement that is no OPEN
+pub opens_nothing : (s : Statement) → ((name : Name) → s ≡ tree.Open name → ⊥) → opened_by s ≡ None
+opens_nothing (tree.Open name) other = absurd (other name refl)
+opens_nothing (tree.Fetch f) other = refl
+opens_nothing (tree.Close name) other = refl
+opens_nothing (tree.Select s) other = refl
+opens_nothing (tree.Insert i) other = refl
+opens_nothing (tree.Update u) other = refl
+opens_nothing (tree.Delete d) other = refl
+opens_nothing (tree.Commit w) other = refl
+opens_nothing (tree.Rollback w) other = refl
+
+-- what holds of what is bound holds of what is kept of it
+pub kept_is : {T : Type 0} (P : T → Type 0) (bound : Result T Stop) (kept : Result T Fault) → bound ≡ as_bound kept → IfOk bound P → IfOk kept P
+kept_is P bound (Ok x) is h = subst (λ r. IfOk r P) is h
+kept_is P bound (Err f) is h = tt
 
 -- ---- the cursor with a number
 
-pub kinds_there : (cursors : List DeclaredCursor) (n : ℕ) (d : DeclaredCursor) → n < length cursors → d ≡ get_or cursors n d → slice_get (kinds_of_cursors cursors) n ≡ Some (kinds_of_results d.cursor.columns)
-kinds_there [] n d lt is = let no : ⊥ = omega (arith, lt) in absurd no
-kinds_there (c ∷ cursors) zero d lt is = ap (λ (x : DeclaredCursor). Some (kinds_of_results x.cursor.columns)) (sym is)
-kinds_there (c ∷ cursors) (suc n) d lt is = kinds_there cursors n d (omega (arith, lt)) is
+pub cursor_there : (cursors : List DeclaredCursor) (n : ℕ) (d : DeclaredCursor) → n < length cursors → slice_get cursors n ≡ Some (get_or cursors n d)
+cursor_there [] n d lt = let no : ⊥ = omega (arith, lt) in absurd no
+cursor_there (c ∷ cursors) zero d lt = refl
+cursor_there (c ∷ cursors) (suc n) d lt = cursor_there cursors n d (omega (arith, lt))

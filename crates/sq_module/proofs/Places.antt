@@ -5,7 +5,7 @@ use Rattle.std.proofs.lemmas.Bool.Decides.{nat_tests}
 use Rattle.std.proofs.lemmas.List.{take_more}
 use Rattle.std.proofs.lemmas.List.Folds.{list_any_more}
 use Rattle.std.specs.List.{AllByRecursion, list_any, position, position_or_len}
-use Rattle.std.specs.Prelude.{nat_lt}
+use Rattle.std.specs.Prelude.{OnOk, is_ok, nat_lt}
 use Rattle.sq_module.proofs.Fitting.{all_last}
 use Rattle.sq_module.proofs.Written.{take_whole}
 
@@ -78,3 +78,8 @@ all_next P xs i x lt is all one =
 pub if_ok : {X E A : Type 0} (r : Result X E) → A → IfOk r (λ x. A)
 if_ok (Ok x) a = a
 if_ok (Err e) a = tt
+
+-- what a success says, where it is one
+pub on_ok : {X E : Type 0} (r : Result X E) (A : Type 0) → OnOk r A → is_ok r ≡ true → A
+on_ok (Ok x) A a is = a
+on_ok (Err e) A a is = cc

@@ -6,7 +6,6 @@ use Rattle.std.specs.Borrow.{Bor}
 use Rattle.std.specs.List.{AllByRecursion, IsAmong}
 use Rattle.std.specs.Map.{lookup}
 use Rattle.indexmap.specs.IndexMap.{insert_entry}
-use Rattle.indexmap.proofs.SetLemmas.{AllZip-push}
 use Rattle.sq_bound.specs.Known.{KnownTables}
 use Rattle.sq_lex.specs.declared.name.Name.{Name}
 use Rattle.sq_tree.specs.declared.cond.Cond.{Cond}
@@ -18,13 +17,14 @@ use Rattle.sq_tree.specs.declared.statement.Statement.{Statement}
 use Rattle.sq_tree.specs.declared.statement.Statement.TheVariants as tree
 use Rattle.sq_tree.specs.declared.statement.Where.{Where}
 use Rattle.sq_tree.specs.declared.statement.Where.TheVariants as rows
-use Rattle.sq_bound.specs.declared.fault.BindFault.{BindFault}
+use Rattle.sq_binder.specs.declared.stop.Fault.{Fault}
+use Rattle.sq_binder.specs.declared.stop.Stop.{Stop}
 use Rattle.sq_bound.specs.declared.names.ParameterDesc.{ParameterDesc}
 use Rattle.sq_bound.specs.declared.statement.BoundStatement.{BoundStatement}
 use Rattle.sq_bound.specs.declared.statement.BoundStatement.TheVariants as statement
 use Rattle.sq_bound.specs.declared.statement.ChangeTarget.{ChangeTarget}
 use Rattle.sq_bound.specs.declared.statement.ChangeTarget.TheVariants as target
-use Rattle.sq_bind.specs.Written.{IsCursorOf, IsStatementOf, IsTargetOf}
+use Rattle.sq_promises.specs.Written.{IsCursorOf, IsStatementOf, IsTargetOf}
 use Rattle.sq_tree.specs.declared.module.ModuleItem.TheVariants as item
 use Rattle.sq_meaning.specs.Status.{Outcome, well_formed}
 use Rattle.sq_bound.specs.Condition.{PlacedClause}
@@ -38,14 +38,14 @@ use Rattle.sq_module.specs.declared.program.ProcedureName.{ProcedureName}
 use Rattle.sq_module.specs.Admitted.{OpensEachOnce}
 use Rattle.sq_module.specs.Opened.{Grow}
 use Rattle.sq_module.specs.Program.{same_name, same_procedure}
-use Rattle.sq_module.specs.Written.{AreFromTexts, AreNumbers, AreOfTexts, IsBoundFrom, IsCursorIn, IsCursorNamed, IsDeclaredFrom, IsFromTexts, IsNumberOf, IsOfText, IsOpenedIn, IsStatementIn, OpenNamed, OpensNamed}
+use Rattle.sq_module.specs.Written.{AreFromTexts, AreNumbers, AreOfTexts, IsBoundFrom, IsCursorIn, IsCursorNamed, IsDeclaredFrom, IsFromTexts, IsNumberOf, IsOfText, IsOpenedIn, IsStatementIn}
 use Rattle.sq_module.proofs.Fitting.{all_last}
 use Rattle.sq_module.proofs.Names.{flat_more}
 use Rattle.sq_module.proofs.Opening.{last_there, there_still}
 
 -- ---- names
 
-both_true : (a b : Bool) → (a && b) ≡ true → (a ≡ true) × (b ≡ true)
+pub both_true : (a b : Bool) → (a && b) ≡ true → (a ≡ true) × (b ≡ true)
 both_true true b h = (refl, h)
 both_true false b h = cc
 
@@ -122,7 +122,7 @@ statement_more names m cursors more parameters s b h = statement_where names (Is
 bound_more : (names : KnownTables) → (m : ModuleText) (cursors more : List DeclaredCursor) (p : Procedure) (b : BoundProcedure) → IsBoundFrom names m cursors p b → IsBoundFrom names m (cursors ++ more) p b
 bound_more names m cursors more p b h = record { user = h.user; parameters = h.parameters; statement = by b.statement h.statement }
   where
-    by : (r : Result BoundStatement BindFault) → IfOk r (IsStatementIn names m cursors b.parameters p.statement) → IfOk r (IsStatementIn names m (cursors ++ more) b.parameters p.statement)
+    by : (r : Result BoundStatement Fault) → IfOk r (IsStatementIn names m cursors b.parameters p.statement) → IfOk r (IsStatementIn names m (cursors ++ more) b.parameters p.statement)
     by (Ok s) stands = statement_more names m cursors more b.parameters p.statement s stands
     by (Err e) stands = tt
 
@@ -146,42 +146,18 @@ numbers_more : (names : KnownTables) (m : ModuleText) (cursors more : List Decla
 numbers_more names m cursors more [] h = tt
 numbers_more names m cursors more (e ∷ es) h = (number_more names m cursors more e.0 e.1 h.0, numbers_more names m cursors more es h.1)
 
-opens_named_more : (names : KnownTables) → (m : ModuleText) (cursors more : List DeclaredCursor) (p : AdmittedProcedure) (o : Option ℕ) → OpensNamed names m cursors p o → OpensNamed names m (cursors ++ more) p o
-opens_named_more names m cursors more p None h = tt
-opens_named_more names m cursors more p (Some n) h = statement_more names m cursors more p.parameters p.procedure.now.statement (statement.Open n) h
-
-open_named_more : (names : KnownTables) → (m : ModuleText) (cursors more : List DeclaredCursor) (ps : List AdmittedProcedure) (os : List (Option ℕ)) → OpenNamed names m cursors ps os → OpenNamed names m (cursors ++ more) ps os
-open_named_more names m cursors more [] [] h = tt
-open_named_more names m cursors more [] (o ∷ os) h = absurd h
-open_named_more names m cursors more (p ∷ ps) [] h = absurd h
-open_named_more names m cursors more (p ∷ ps) (o ∷ os) h = (opens_named_more names m cursors more p o h.0, open_named_more names m cursors more ps os h.1)
-
 pub from_texts_grown : (names : KnownTables) → (texts : List ModuleText) (old new : List DeclaredCursor) (procedures : List (ProcedureName × BoundProcedure)) → Grow old new → AreFromTexts names texts old procedures
     → AreFromTexts names texts new procedures
 from_texts_grown names texts old new procedures grown h = subst (λ cs. AreFromTexts names texts cs procedures) (sym grown.1) (from_texts_more names texts old grown.0 procedures h)
 
--- one procedure more, with cursors behind those that were there
-pub named_next : (names : KnownTables) → (m : ModuleText) (old new : List DeclaredCursor) (ps : List AdmittedProcedure) (i : ℕ) (p : AdmittedProcedure) (os : List (Option ℕ)) (o : Option ℕ) → i < length ps → p ≡ get_or ps i p
-    → Grow old new → OpenNamed names m old (take i ps) os → OpensNamed names m new p o → OpenNamed names m new (take (i + 1) ps) (os ++ o ∷ [])
-named_next names m old new ps i p os o lt is grown h one =
-    let wide : OpenNamed names m new (take i ps) os = subst (λ cs. OpenNamed names m cs (take i ps) os) (sym grown.1) (open_named_more names m old grown.0 (take i ps) os h) in
-    subst (λ qs. OpenNamed names m new qs (os ++ o ∷ [])) (ap (λ q. take i ps ++ q ∷ []) is ∙ sym (take_more ps i p lt)) (AllZip-push (OpensNamed names m new) (take i ps) os p o wide one)
-
-pub named_at : (names : KnownTables) → (m : ModuleText) (cursors : List DeclaredCursor) (ps : List AdmittedProcedure) (os : List (Option ℕ)) (i : ℕ) (p : AdmittedProcedure) (d : Option ℕ) → OpenNamed names m cursors ps os
-    → i < length ps → p ≡ get_or ps i p → OpensNamed names m cursors p (get_or os i d)
-named_at names m cursors [] os i p d h lt is = let no : ⊥ = omega (arith, lt) in absurd no
-named_at names m cursors (q ∷ ps) [] i p d h lt is = absurd h
-named_at names m cursors (q ∷ ps) (r ∷ os) zero p d h lt is = subst (λ x. OpensNamed names m cursors x r) (sym is) h.0
-named_at names m cursors (q ∷ ps) (r ∷ os) (suc i) p d h lt is = named_at names m cursors ps os i p d h.1 (omega (arith, lt)) is
-
 -- ---- one cursor more
 
 -- the last cursor, bound from the one of this name
-pub number_last : (names : KnownTables) (m : ModuleText) (a : AdmittedModule) (cursors new : List DeclaredCursor) (name : Name) (bound : Result BoundCursor BindFault) (c : BoundCursor) (d : DeclaredCursor) → bound ≡ Ok c
+pub number_last : (names : KnownTables) (m : ModuleText) (a : AdmittedModule) (cursors new : List DeclaredCursor) (name : Name) (bound : Result BoundCursor Stop) (c : BoundCursor) (d : DeclaredCursor) → bound ≡ Ok c
     → d.«module» ≡ a.name → d.name ≡ name → d.user ≡ a.user → d.cursor ≡ c → new ≡ cursors ++ d ∷ [] → IsOfText m a → IsCursorNamed names m name bound → IsNumberOf names m new name (length cursors)
 number_last names m a cursors new name bound c d is_bound of_module of_name of_user of_cursor is of h =
     let written : IsCursorOf names m.authorization h.parameters h.cursor c
-    = subst (λ (r : Result BoundCursor BindFault). IfOk r (IsCursorOf names m.authorization h.parameters h.cursor)) is_bound h.bound_is in
+    = subst (λ (r : Result BoundCursor Stop). IfOk r (IsCursorOf names m.authorization h.parameters h.cursor)) is_bound h.bound_is in
     let one : IsDeclaredFrom names m h.cursor d = record {
       of_module = of_module ∙ of.name;
       named = of_name ∙ sym h.named;
@@ -233,7 +209,7 @@ cursor_found items (e ∷ es) name c all is = by (same_name name e.0) refl is (�
     by false same found rest = rest found
 
 -- a statement whose cursors have these numbers
-pub statement_found : (names : KnownTables) → (m : ModuleText) (cursors : List DeclaredCursor) (numbers : List (Name × ℕ)) (user : Name) (parameters : List ParameterDesc) (s : Statement) (r : Result BoundStatement BindFault)
+pub statement_found : (names : KnownTables) → (m : ModuleText) (cursors : List DeclaredCursor) (numbers : List (Name × ℕ)) (user : Name) (parameters : List ParameterDesc) (s : Statement) (r : Result BoundStatement Stop)
     → user ≡ m.authorization → AreNumbers names m cursors numbers → IfOk r (IsStatementOf names (λ name n. lookup (same_name name) numbers ≡ Some n) user parameters s)
     → IfOk r (IsStatementIn names m cursors parameters s)
 statement_found names m cursors numbers user parameters s (Ok b) is are h =

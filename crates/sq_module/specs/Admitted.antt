@@ -1,9 +1,12 @@
 -- The procedures of modules that are not refused (ISO/IEC 9075:1992, 12.1), and the cursors that they open.
 use Rattle.std.specs.Prelude.{◌≡◌, ⊤, false, List, [], ◌∷◌, ◌++◌, Option, count_by, flat_map, map}
+use Rattle.std.specs.Borrow.{Bor}
 use Rattle.std.specs.List.{AllByRecursion, list_any}
 use Rattle.sq_lex.specs.declared.name.Name.{Name}
+use Rattle.sq_tree.specs.declared.module.Cursor.{Cursor}
 use Rattle.sq_tree.specs.declared.module.ModuleItem.{ModuleItem}
 use Rattle.sq_tree.specs.declared.module.ModuleItem.TheVariants as item
+use Rattle.sq_tree.specs.declared.module.Procedure.{Procedure}
 use Rattle.sq_module.specs.Program.{same_name}
 use Rattle.sq_module.specs.Refusal.{is_name, opened_by}
 use Rattle.sq_module.specs.declared.admission.AdmittedModule.{AdmittedModule}
@@ -12,6 +15,13 @@ use Rattle.sq_module.specs.declared.program.ProcedureName.{ProcedureName}
 
 abbrev pub procedure_names : List AdmittedProcedure → List Name
 procedure_names procedures = map (λ p. p.procedure.now.name) procedures
+
+-- as they are written
+abbrev pub admitted_written : List AdmittedProcedure → List Procedure
+admitted_written procedures = map (λ p. p.procedure.now) procedures
+
+abbrev pub cursors_written : List (Name × Bor Cursor) → List Cursor
+cursors_written cursors = map (λ e. e.1.now) cursors
 
 abbrev pub name_of : Name → AdmittedProcedure → ProcedureName
 name_of «module» p = record { «module» = «module»; name = p.procedure.now.name }

@@ -1,8 +1,9 @@
 -- The cursors that the procedures of a module open, while the module is bound (ISO/IEC 9075:1992, 13.2).
 use Rattle.std.specs.Prelude.{◌≡◌, ℕ, Bool, true, false, List, ◌++◌, Option, IfSome, nat_lt}
-use Rattle.std.specs.List.{AllByRecursion, AllZip, list_all, list_any}
+use Rattle.std.specs.List.{AllByRecursion, list_all, list_any}
 use Rattle.std.specs.Map.{lookup}
 use Rattle.sq_lex.specs.declared.name.Name.{Name}
+use Rattle.sq_value.specs.declared.domain.Kind.{Kind}
 use Rattle.sq_bound.specs.WellFormed.{TableKinds, kinds_of_parameters}
 use Rattle.sq_bound.specs.declared.statement.BoundStatement.TheVariants as statement
 use Rattle.sq_module.specs.Admitted.{opened_of, openings}
@@ -13,13 +14,22 @@ use Rattle.sq_module.specs.declared.admission.AdmittedModule.{AdmittedModule}
 use Rattle.sq_module.specs.declared.admission.AdmittedProcedure.{AdmittedProcedure}
 use Rattle.sq_module.specs.declared.program.DeclaredCursor.{DeclaredCursor}
 
--- the cursor that a procedure opens, if it opens one without a fault, is well formed there
-abbrev pub IsOpened : TableKinds → List DeclaredCursor → AdmittedProcedure → Option ℕ → Type 0
-IsOpened columns cursors p opened = IfSome opened (λ n. OpensWellFormed columns cursors (kinds_of_parameters p.parameters) (statement.Open n))
+-- the cursor that a procedure opens, if it has a number, is well formed there
+abbrev pub IsOpenable : TableKinds → List DeclaredCursor → List (Name × ℕ) → AdmittedProcedure → Type 0
+IsOpenable columns cursors numbers p = IfSome (opened_of p)
+    (λ name. IfSome (lookup (same_name name) numbers) (λ n. OpensWellFormed columns cursors (kinds_of_parameters p.parameters) (statement.Open n)))
 
--- one for each procedure
-abbrev pub AreOpened : TableKinds → List DeclaredCursor → List AdmittedProcedure → List (Option ℕ) → Type 0
-AreOpened columns cursors = AllZip (IsOpened columns cursors)
+abbrev pub AreOpenable : TableKinds → List DeclaredCursor → List (Name × ℕ) → List AdmittedProcedure → Type 0
+AreOpenable columns cursors numbers = AllByRecursion (IsOpenable columns cursors numbers)
+
+-- the procedures that open the cursor of this name have parameters of these kinds
+abbrev pub HaveKinds : Name → List Kind → List AdmittedProcedure → Type 0
+HaveKinds name kinds = AllByRecursion (λ p. is_name name (opened_of p) ≡ true → kinds_of_parameters p.parameters ≡ kinds)
+
+-- a cursor of the module that a procedure opens is opened with no other parameters
+abbrev pub IsOnlyOpener : AdmittedModule → List AdmittedProcedure → AdmittedProcedure → Type 0
+IsOnlyOpener a procedures p = IfSome (opened_of p)
+    (λ name. IfSome (lookup (same_name name) a.cursors.entries) (λ c. HaveKinds name (kinds_of_parameters p.parameters) procedures))
 
 -- cursors come behind those that were there
 abbrev pub Grow : List DeclaredCursor → List DeclaredCursor → Type 0

@@ -1,7 +1,8 @@
 -- That what is admitted and bound is what the module texts say (ISO/IEC 9075:1992, 12.1, 12.3 and 13.1).
 use Rattle.std.specs.Prelude.{◌≡◌, ⊤, ℕ, Bool, false, ◌&&◌, List, [], ◌∷◌, ◌++◌, Option, Some, Result, IfOk, IfSome, flat_map, map, slice_get}
 use Rattle.std.specs.Borrow.{Bor}
-use Rattle.std.specs.List.{AllByRecursion, AllZip, IsAmong, list_any}
+use Rattle.std.specs.List.{AllByRecursion, IsAmong, list_any}
+use Rattle.std.specs.Map.{lookup}
 use Rattle.sq_bound.specs.Known.{KnownTables}
 use Rattle.sq_lex.specs.declared.name.Name.{Name}
 use Rattle.sq_value.specs.declared.domain.Domain.{Domain}
@@ -18,12 +19,13 @@ use Rattle.sq_meaning.specs.Spelled.{domain_of}
 use Rattle.sq_meaning.specs.Status.{well_formed}
 use Rattle.sq_meaning.specs.WellFormed.{Has}
 use Rattle.sq_bound.specs.declared.names.ParameterDesc.{ParameterDesc}
-use Rattle.sq_bound.specs.declared.fault.BindFault.{BindFault}
+use Rattle.sq_binder.specs.declared.stop.Stop.{Stop}
 use Rattle.sq_bound.specs.declared.query.BoundCursor.{BoundCursor}
 use Rattle.sq_bound.specs.declared.statement.BoundStatement.{BoundStatement}
-use Rattle.sq_bound.specs.declared.statement.BoundStatement.TheVariants as statement
-use Rattle.sq_bind.specs.Written.{IsCursorOf, IsStatementOf}
+use Rattle.sq_promises.specs.Written.{IsCursorOf, IsStatementOf}
+use Rattle.sq_rules.specs.Module as rules
 use Rattle.sq_rules.specs.Module.{declarations_of}
+use Rattle.sq_module.specs.Admitted.{admitted_written, cursors_written}
 use Rattle.sq_module.specs.Program.{same_name}
 use Rattle.sq_module.specs.declared.program.BoundProcedure.{BoundProcedure}
 use Rattle.sq_module.specs.declared.program.DeclaredCursor.{DeclaredCursor}
@@ -57,12 +59,14 @@ IsProcedureOf items p = IsAmong items (item.Procedure p.procedure.now) × Declar
 abbrev pub IsCursorIn : List ModuleItem → Name × Bor Cursor → Type 0
 IsCursorIn items e = IsAmong items (item.Cursor e.1.now) × (e.0 ≡ e.1.now.name)
 
--- a module that is not refused is that of a text: its name, its user, its cursors and its procedures
+-- a module that is not refused is that of a text: its name, its user, its cursors and its procedures, each in the order of the text
 pub record IsOfText (m : ModuleText) (a : AdmittedModule) : Type 0 where
   pub name : a.name ≡ m.name
   pub user : a.user ≡ m.authorization
   pub cursors : AllByRecursion (IsCursorIn m.items) a.cursors.entries
   pub procedures : AllByRecursion (IsProcedureOf m.items) a.procedures.items
+  pub all_cursors : cursors_written a.cursors.entries ≡ rules.cursors m
+  pub all_procedures : admitted_written a.procedures.items ≡ rules.procedures m
 
 -- each of the modules is of one of the texts
 abbrev pub AreOfTexts : List ModuleText → List AdmittedModule → Type 0
@@ -143,17 +147,10 @@ abbrev pub AreNumbers : KnownTables → ModuleText → List DeclaredCursor → L
 AreNumbers names m cursors numbers = AllByRecursion (λ e. IsNumberOf names m cursors e.0 e.1) numbers
 
 -- a cursor, if it has no fault, is bound from the one of this name in the module
-pub record IsCursorNamed (names : KnownTables) (m : ModuleText) (name : Name) (bound : Result BoundCursor BindFault) : Type 0 where
+pub record IsCursorNamed (names : KnownTables) (m : ModuleText) (name : Name) (bound : Result BoundCursor Stop) : Type 0 where
   pub cursor : Cursor
   pub among : IsAmong m.items (item.Cursor cursor)
   pub named : cursor.name ≡ name
   pub parameters : List ParameterDesc
   pub opened : IsOpenedIn m name parameters
   pub bound_is : IfOk bound (IsCursorOf names m.authorization parameters cursor)
-
--- the cursor that a procedure opens, if it opens one without a fault, is that which its OPEN names
-abbrev pub OpensNamed : KnownTables → ModuleText → List DeclaredCursor → AdmittedProcedure → Option ℕ → Type 0
-OpensNamed names m cursors p opened = IfSome opened (λ n. IsStatementIn names m cursors p.parameters p.procedure.now.statement (statement.Open n))
-
-abbrev pub OpenNamed : KnownTables → ModuleText → List DeclaredCursor → List AdmittedProcedure → List (Option ℕ) → Type 0
-OpenNamed names m cursors = AllZip (OpensNamed names m cursors)

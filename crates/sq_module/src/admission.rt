@@ -1,15 +1,15 @@
 //! Which modules are refused (ISO/IEC 9075:1992, 12.1 to 12.3 and 13.1; that exactly one procedure opens each cursor is an
 //! own rule).
 
-ghost use Rattle.std.specs.Prelude.{◌≡◌, [], ◌∷◌, ◌++◌, true, false, IfErr, IfOk, List, None, OnOk, Some, flat_map, length, map, not, option_to_list, position};
+ghost use Rattle.std.specs.Prelude.{◌≡◌, [], ◌∷◌, ◌++◌, true, false, IfErr, IfOk, List, None, OnOk, Some, filter_map, flat_map, length, map, not, option_to_list, position};
 ghost use Rattle.std.specs.List.{AllByRecursion, IsAmong, list_any};
 ghost use Rattle.std.specs.Map.{keys_of};
 ghost use Rattle.sq_tree.specs.declared.module.ModuleItem.TheVariants.{Cursor as CursorItem};
 ghost use Rattle.sq_tree.specs.declared.module.ModuleItem.{ModuleItem as AnyItem};
 ghost use Rattle.sq_module.specs.declared.admission.AdmittedModule.{AdmittedModule as Admitted};
-ghost use Rattle.sq_module.specs.Admitted.{AreAdmitted, OpensEachOnce, admitted_procedures, module_keys, opening_in, openings, procedure_names};
+ghost use Rattle.sq_module.specs.Admitted.{AreAdmitted, OpensEachOnce, admitted_procedures, admitted_written, cursors_written, module_keys, opening_in, openings, procedure_names};
 ghost use Rattle.sq_module.specs.Program.{AreNew, HaveNames, declared_procedures, module_procedures, name_in, names_in, same_name};
-ghost use Rattle.sq_rules.specs.Module.{declarations_of, parameter_declarations};
+ghost use Rattle.sq_rules.specs.Module.{cursor_in, declarations_of, parameter_declarations, procedure_in};
 ghost use Rattle.sq_rules.specs.ModuleRefusal.{at_item, cursor_name, first_module_refusal, first_repeated, has_bad_declared, has_bad_parameter, has_status_fault, module_refusal, procedure_name};
 ghost use Rattle.sq_rules.specs.Schema.{is_among};
 ghost use Rattle.sq_rules.specs.Words.{is_some_and};
@@ -170,6 +170,8 @@ fn admit_procedures<'a>(
 ) -> Result<Vec<AdmittedProcedure<'a>>, SessionFault>
     ensures declared { IfOk result (λ admitted. procedure_names admitted.items ≡ names_in items.now) }
     ensures written { IfOk result (λ admitted. AllByRecursion (IsProcedureOf items.now) admitted.items) }
+    ensures listed { IfOk result
+        (λ admitted. admitted_written admitted.items ≡ filter_map procedure_in items.now) }
     ensures openings { IfOk result (λ admitted. openings admitted.items ≡ flat_map opening_in items.now) }
     ensures admissible { IfOk result (λ _. IsAdmissible items.now) }
     ensures refused { IfErr result (IsOfModule text) }
@@ -247,6 +249,8 @@ fn cursors_of<'a>(
 ) -> Result<IndexMap<Name, &'a Cursor>, SessionFault>
     ensures refused { IfErr result (IsOfModule text) }
     ensures written { IfOk result (λ cursors. AllByRecursion (IsCursorIn items.now) cursors.entries) }
+    ensures listed { IfOk result
+        (λ cursors. cursors_written cursors.entries ≡ filter_map cursor_in items.now) }
     ensures taken { IfOk result (λ _. first_repeated (map cursor_name items.now) ≡ None) }
     ensures first { IfErr result
         (IsFaultFor (at_item text fault.TwoCursors (first_repeated (map cursor_name items.now)))) }
@@ -272,6 +276,8 @@ fn add_item<'a>(
     ensures written { (items : List AnyItem) → IsAmong items item.now
         → AllByRecursion (IsCursorIn items) cursors.old.entries
         → OnOk result (AllByRecursion (IsCursorIn items) cursors.new.entries) }
+    ensures listed { OnOk result (cursors_written cursors.new.entries
+        ≡ cursors_written cursors.old.entries ++ option_to_list (cursor_in item.now)) }
     ensures keys { OnOk result
         (keys_of cursors.new.entries ≡ keys_of cursors.old.entries ++ option_to_list (cursor_name item.now)) }
     ensures new { OnOk result
@@ -295,6 +301,8 @@ fn add_cursor<'a>(
     ensures written { (items : List AnyItem) → IsAmong items (CursorItem cursor.now)
         → AllByRecursion (IsCursorIn items) cursors.old.entries
         → OnOk result (AllByRecursion (IsCursorIn items) cursors.new.entries) }
+    ensures listed { OnOk result
+        (cursors_written cursors.new.entries ≡ cursors_written cursors.old.entries ++ cursor.now ∷ []) }
     ensures keys { OnOk result
         (keys_of cursors.new.entries ≡ keys_of cursors.old.entries ++ cursor.now.name ∷ []) }
     ensures new { OnOk result (is_among (keys_of cursors.old.entries) cursor.now.name ≡ false) }
@@ -352,6 +360,8 @@ fn procedures_of<'a>(
 ) -> Result<Vec<AdmittedProcedure<'a>>, SessionFault>
     ensures declared { IfOk result (λ admitted. procedure_names admitted.items ≡ names_in items.now) }
     ensures written { IfOk result (λ admitted. AllByRecursion (IsProcedureOf items.now) admitted.items) }
+    ensures listed { IfOk result
+        (λ admitted. admitted_written admitted.items ≡ filter_map procedure_in items.now) }
     ensures openings { IfOk result (λ admitted. openings admitted.items ≡ flat_map opening_in items.now) }
     ensures refused { IfErr result (IsOfModule text) }
     ensures taken { IfOk result (λ _. position has_bad_parameter items.now ≡ None) }
@@ -383,6 +393,8 @@ fn add_procedure<'a>(
     ensures written { (items : List AnyItem) → IsAmong items item.now
         → AllByRecursion (IsProcedureOf items) procedures.old.items
         → OnOk result (AllByRecursion (IsProcedureOf items) procedures.new.items) }
+    ensures listed { OnOk result (admitted_written procedures.new.items
+        ≡ admitted_written procedures.old.items ++ option_to_list (procedure_in item.now)) }
     ensures refused { IfErr result (IsOfModule text) }
     ensures good { OnOk result (has_bad_parameter item.now ≡ false) }
     ensures bad { IfErr result (IsFaultAt text place fault.BadParameter (has_bad_parameter item.now ≡ true)) }

@@ -1,15 +1,15 @@
 //! The cursors that a module has, while its procedures are bound.
 
-ghost use Rattle.std.specs.Prelude.{◌≡◌, ◌<◌, Some, length, nat_lt, slice_get, true};
+ghost use Rattle.std.specs.Prelude.{◌≡◌, ◌<◌, Some, length, nat_lt, true};
 ghost use Rattle.std.specs.List.{list_all};
-ghost use Rattle.sq_bound.specs.WellFormed.{kinds_of_results};
-ghost use Rattle.sq_module.specs.Program.{kinds_of_cursors};
+ghost use Rattle.sq_statement_binder.specs.Cursors.{named_cursor_of};
+ghost use Rattle.sq_module.specs.Named.{cursor_at};
 
 use crate::program::DeclaredCursor;
 use indexmap::IndexMap;
-use sq_bind::Cursors;
 use sq_bound::KnownCursor;
 use sq_lex::Name;
+use sq_statement_binder::Cursors;
 
 /// The cursors of one module: for each name its number among all cursors.
 #[derive(Clone, Copy)]
@@ -21,14 +21,9 @@ pub(crate) struct ModuleCursors<'a> {
 }
 
 impl<'a> Cursors for ModuleCursors<'a> {
-    ghost use Rattle.indexmap.specs.IndexMap.{get_by};
-    ghost use Rattle.sq_module.specs.Program.{kinds_of_cursors, same_name};
+    ghost use Rattle.sq_module.specs.Named.{cursors_named};
 
-    ghost cursor_count = { λ c. length c.cursors.now };
-
-    ghost cursor_kinds = { λ c. kinds_of_cursors c.cursors.now };
-
-    ghost number_of = { λ c name. get_by (same_name name) c.numbers.now };
+    ghost named = { λ c. cursors_named c.cursors.now c.numbers.now.entries };
 
     fn cursor(&self, name: Name) -> Option<KnownCursor<'_>> {
         match self.numbers.get(&name) {
@@ -41,9 +36,7 @@ impl<'a> Cursors for ModuleCursors<'a> {
 /// The cursor with this number.
 fn known(cursors: &[DeclaredCursor], number: usize) -> KnownCursor<'_>
     requires { number < length cursors.now }
-    ensures number { result.number ≡ number }
-    ensures columns { slice_get (kinds_of_cursors cursors.now) number
-        ≡ Some (kinds_of_results result.cursor.now.columns) }
+    ensures { cursor_at cursors.now number ≡ Some (named_cursor_of result) }
 {
     KnownCursor {
         number,

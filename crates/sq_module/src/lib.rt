@@ -3,6 +3,7 @@
 #![tactic(auto)]
 
 mod admission;
+mod bound;
 mod cursors;
 mod declared;
 mod opener;
@@ -10,5 +11,6 @@ mod program;
 mod refusal;
 
 pub use admission::{AdmittedModule, AdmittedProcedure, admit};
+pub use bound::bound_cursor;
 pub use program::{BoundProcedure, DeclaredCursor, ProcedureName, Program};
 pub use refusal::{ModuleRefusal, ModuleRefusalName, SessionFault};

@@ -1,32 +1,38 @@
 //! The procedures and cursors of all modules, with their names as places.
 
-ghost use Rattle.std.specs.Prelude.{◌≡◌, ◌<◌, [], ◌∷◌, ◌++◌, IfOk, IfSome, List, Ok, OnOk, Some, false, length, true};
+ghost use Rattle.std.specs.Prelude.{◌≡◌, [], ◌∷◌, ◌++◌, IfOk, List, OnOk, Some, false, length, map, true};
 ghost use Rattle.std.specs.Map.{keys_of};
-ghost use Rattle.std.specs.Option.{option_map};
 ghost use Rattle.indexmap.specs.IndexMap.{insert_entry};
-ghost use Rattle.std.specs.List.{IsAmong, list_any};
+ghost use Rattle.std.specs.List.{AllByRecursion, IsAmong, list_any};
+ghost use Rattle.sq_binding.specs.Changeable.{UserNames};
+ghost use Rattle.sq_binding.specs.Procedure.{module_cursors};
+ghost use Rattle.sq_binding.specs.Statement.{statement_bound};
 ghost use Rattle.sq_bound.specs.Known.{KnownTables};
 ghost use Rattle.sq_lex.specs.declared.name.Name.{Name as AnyName};
 ghost use Rattle.sq_module.specs.Refusal.{is_name};
 ghost use Rattle.sq_module.specs.declared.admission.AdmittedProcedure.{AdmittedProcedure as AnyProcedure};
 ghost use Rattle.sq_tree.specs.declared.module.ModuleText.{ModuleText};
-ghost use Rattle.sq_module.specs.Written.{AreApart, AreFrom, AreNumbers, AreOfTexts, IsBoundFrom, IsCursorNamed, IsNumberOf, IsOfText, IsOfTexts, IsProcedureOf, IsStatementIn, OpenNamed, OpensNamed};
+ghost use Rattle.sq_module.specs.Computed.{AreComputedCursors, AreComputedProcedures, IsComputed, IsPart, IsProgramOf, as_bound};
+ghost use Rattle.sq_module.specs.Named.{AreNamed, AreNamedAs, IsNext, IsOnlyIn, cursors_named, number_in};
+ghost use Rattle.sq_module.specs.Written.{AreApart, AreFrom, AreNumbers, AreOfTexts, IsBoundFrom, IsCursorNamed, IsOfText, IsOfTexts, IsProcedureOf};
 ghost use Rattle.indexmap.specs.IndexSet.{insert_key};
-ghost use Rattle.sq_bound.specs.Fits.{FitsCursor, FitsStatement};
-ghost use Rattle.sq_bound.specs.WellFormed.{IsCursor, IsStatement, TableKinds, kinds_of_parameters};
+ghost use Rattle.sq_bound.specs.Fits.{FitsCursor};
+ghost use Rattle.sq_bound.specs.WellFormed.{IsCursor, TableKinds};
 ghost use Rattle.sq_bound.specs.declared.names.BaseTable.{BaseTable};
 ghost use Rattle.sq_catalog.specs.Catalog.{column_kinds, known};
+ghost use Rattle.sq_catalog.specs.UserTables.{names_in};
 ghost use Rattle.sq_module.specs.Admitted.{AreAdmitted, OpensEachOnce, admitted_procedures, module_keys, name_of, openings};
-ghost use Rattle.sq_module.specs.Opened.{AreOfOthers, AreOpened, AreThere, Grow, IsNew, IsOpened, OpenedBy, OpensNew};
-ghost use Rattle.sq_module.specs.Program.{FitsProcedure, FitsProgram, OpensWellFormed, ProcedureIsWellFormed, ProcedureOpens, ProgramIsWellFormed, kinds_of_cursors, same_name, same_procedure, with_procedures};
-ghost use Rattle.sq_bound.specs.declared.statement.BoundStatement.TheVariants.{Open};
+ghost use Rattle.sq_module.specs.Opened.{AreOfOthers, AreOpenable, AreThere, Grow, HaveKinds, IsNew, IsOnlyOpener, IsOpenable, OpenedBy, OpensNew};
+ghost use Rattle.sq_module.specs.Program.{FitsProcedure, FitsProgram, ProcedureIsWellFormed, ProcedureOpens, ProgramIsWellFormed, kinds_of_cursors, same_name, same_procedure, with_procedures};
+ghost use Rattle.sq_promises.specs.Names.{declared};
 ghost use Rattle.sq_value.specs.declared.domain.Kind.{Kind};
 
 use crate::admission::{AdmittedModule, AdmittedProcedure};
+use crate::bound::{bound_cursor, bound_statement};
 use crate::cursors::ModuleCursors;
 use indexmap::IndexMap;
-use sq_bind::{bind_cursor, bind_statement};
-use sq_bound::{BindFault, BoundCursor, BoundStatement, ParameterDesc};
+use sq_binder::{Fault, Stop};
+use sq_bound::{BoundCursor, BoundStatement, ParameterDesc};
 use sq_catalog::Catalog;
 use sq_items::Items;
 use sq_lex::Name;
@@ -40,7 +46,7 @@ pub struct BoundProcedure {
     pub user: Name,
     pub parameters: Items<ParameterDesc>,
     /// One with a fault answers 42000 at each call.
-    pub statement: Result<BoundStatement, BindFault>,
+    pub statement: Result<BoundStatement, Fault>,
 }
 
 /// A cursor of a module.
@@ -82,6 +88,8 @@ impl Program {
         ensures well_formed { IfOk result (ProgramIsWellFormed (column_kinds catalog.now)) }
         ensures written { (texts : List ModuleText) → AreOfTexts texts modules.now
             → IfOk result (IsOfTexts (known catalog.now) texts) }
+        ensures computed { (texts : List ModuleText) → AreOfTexts texts modules.now
+            → IfOk result (IsProgramOf (names_in catalog.now) texts) }
     {
         let mut program = Program {
             procedures: IndexMap::new(alloc),
@@ -116,6 +124,9 @@ impl Program {
             → AreFrom (known catalog.now) texts self.old
             → OnOk result (AreFrom (known catalog.now) texts self.new) }
         ensures apart { OnOk result (AreApart [] self.new.cursors.items) }
+        ensures computed { (texts : List ModuleText) → AreOfTexts texts modules.now
+            → IsProgramOf (names_in catalog.now) texts self.old
+            → OnOk result (IsProgramOf (names_in catalog.now) texts self.new) }
     {
         for module in modules {
             self.add_module(alloc, catalog, module)?;
@@ -147,6 +158,10 @@ impl Program {
         ensures others { (name : AnyName) → same_name name «module».now.name ≡ false
             → AreOfOthers name self.old.cursors.items
             → OnOk result (AreOfOthers name self.new.cursors.items) }
+        ensures computed { (texts : List ModuleText) (m : ModuleText) → IsAmong texts m
+            → IsOfText m «module».now
+            → IsProgramOf (names_in catalog.now) texts self.old
+            → OnOk result (IsProgramOf (names_in catalog.now) texts self.new) }
     {
         let mut numbers = IndexMap::new(alloc);
         let added = self.add_parts(alloc, catalog, module, &mut numbers);
@@ -162,9 +177,9 @@ impl Program {
         module: &AdmittedModule<'_>,
         numbers: &mut IndexMap<Name, usize>,
     ) -> Result<(), AllocError>
+        requires none { numbers.old.entries ≡ [] }
         requires fits { FitsProgram catalog.now.bases self.old }
         requires well_formed { ProgramIsWellFormed (column_kinds catalog.now) self.old }
-        requires there { AreThere (length self.old.cursors.items) numbers.old.entries }
         requires others { AreOfOthers «module».now.name self.old.cursors.items }
         requires once { OpensEachOnce «module».now }
         requires apart { AreApart [] self.old.cursors.items }
@@ -175,31 +190,32 @@ impl Program {
         ensures well_formed { OnOk result (ProgramIsWellFormed (column_kinds catalog.now) self.new) }
         ensures written { (texts : List ModuleText) (m : ModuleText) → IsAmong texts m
             → IsOfText m «module».now
-            → AreNumbers (known catalog.now) m self.old.cursors.items numbers.old.entries
             → AreFrom (known catalog.now) texts self.old
             → OnOk result (AreFrom (known catalog.now) texts self.new) }
         ensures apart { OnOk result (AreApart [] self.new.cursors.items) }
         ensures others { (name : AnyName) → same_name name «module».now.name ≡ false
             → AreOfOthers name self.old.cursors.items
             → OnOk result (AreOfOthers name self.new.cursors.items) }
+        ensures computed { (texts : List ModuleText) (m : ModuleText) → IsAmong texts m
+            → IsOfText m «module».now
+            → IsProgramOf (names_in catalog.now) texts self.old
+            → OnOk result (IsProgramOf (names_in catalog.now) texts self.new) }
     {
-        let opened = self.add_cursors(alloc, catalog, module, numbers)?;
-        let added = self.add_procedures(alloc, catalog, module, numbers, opened.as_slice());
-        drop(opened);
-        added
+        self.add_cursors(alloc, catalog, module, numbers)?;
+        self.add_procedures(alloc, catalog, module, numbers)
     }
 
-    /// Adds the cursors of a module, each with the procedure that opens it: for each procedure the number of its cursor.
+    /// Adds the cursors of a module, each with the procedure that opens it.
     fn add_cursors(
         &mut self,
         alloc: Global,
         catalog: &Catalog,
         module: &AdmittedModule<'_>,
         numbers: &mut IndexMap<Name, usize>,
-    ) -> Result<Vec<Option<usize>>, AllocError>
+    ) -> Result<(), AllocError>
+        requires none { numbers.old.entries ≡ [] }
         requires fits { FitsProgram catalog.now.bases self.old }
         requires well_formed { ProgramIsWellFormed (column_kinds catalog.now) self.old }
-        requires there { AreThere (length self.old.cursors.items) numbers.old.entries }
         requires others { AreOfOthers «module».now.name self.old.cursors.items }
         requires once { OpensEachOnce «module».now }
         requires apart { AreApart [] self.old.cursors.items }
@@ -209,27 +225,28 @@ impl Program {
         ensures well_formed { OnOk result (ProgramIsWellFormed (column_kinds catalog.now) self.new) }
         ensures grows { OnOk result (Grow self.old.cursors.items self.new.cursors.items) }
         ensures written { (m : ModuleText) → IsOfText m «module».now
-            → AreNumbers (known catalog.now) m self.old.cursors.items numbers.old.entries
-            → IfOk result (λ opened. AreNumbers
-            (known catalog.now) m self.new.cursors.items numbers.new.entries × OpenNamed (known catalog.now) m
-            self.new.cursors.items «module».now.procedures.items opened.items) }
-        ensures opened { IfOk result
-            (λ opened. AreOpened
-            (column_kinds catalog.now) self.new.cursors.items «module».now.procedures.items
-            opened.items) }
+            → OnOk result (AreNumbers (known catalog.now) m self.new.cursors.items numbers.new.entries) }
+        ensures openable { OnOk result (AreOpenable (column_kinds catalog.now) self.new.cursors.items
+            numbers.new.entries «module».now.procedures.items) }
         ensures apart { OnOk result (AreApart [] self.new.cursors.items) }
         ensures others { (name : AnyName) → same_name name «module».now.name ≡ false
             → AreOfOthers name self.old.cursors.items
             → OnOk result (AreOfOthers name self.new.cursors.items) }
+        ensures named { (m : ModuleText) → IsOfText m «module».now
+            → OnOk result (AreNamed (names_in catalog.now m.authorization) m
+            «module».now.procedures.items self.new.cursors.items numbers.new.entries) }
+        ensures computed { (texts : List ModuleText) (m : ModuleText) → IsAmong texts m
+            → IsOfText m «module».now
+            → AreComputedCursors (names_in catalog.now) texts self.old.cursors.items
+            → OnOk result (AreComputedCursors (names_in catalog.now) texts self.new.cursors.items) }
     {
-        let mut opened = Vec::new(alloc);
         for opener in module.procedures.as_slice() {
-            opened.push(self.add_opened(alloc, catalog, module, opener, numbers)?)?;
+            self.add_opened(alloc, catalog, module, opener, numbers)?;
         }
-        Ok(opened)
+        Ok(())
     }
 
-    /// Adds the cursor that a procedure opens, if it is one of the module: its number, if it has no fault. Its parameters
+    /// Adds the cursor that a procedure opens, if it is one of the module, with its number, if it has no fault. Its parameters
     /// are those of that procedure.
     #[tactic(auto, using(crate::proofs::Apart::opened_by_more))]
     fn add_opened(
@@ -239,7 +256,7 @@ impl Program {
         module: &AdmittedModule<'_>,
         opener: &AdmittedProcedure<'_>,
         numbers: &mut IndexMap<Name, usize>,
-    ) -> Result<Option<usize>, AllocError>
+    ) -> Result<(), AllocError>
         requires fits { FitsProgram catalog.now.bases self.old }
         requires well_formed { ProgramIsWellFormed (column_kinds catalog.now) self.old }
         requires there { AreThere (length self.old.cursors.items) numbers.old.entries }
@@ -251,11 +268,13 @@ impl Program {
         ensures well_formed { OnOk result (ProgramIsWellFormed (column_kinds catalog.now) self.new) }
         ensures written { (m : ModuleText) → IsOfText m «module».now → IsProcedureOf m.items opener.now
             → AreNumbers (known catalog.now) m self.old.cursors.items numbers.old.entries
-            → IfOk result (λ opened. AreNumbers
-            (known catalog.now) m self.new.cursors.items numbers.new.entries × OpensNamed (known catalog.now)
-            m self.new.cursors.items opener.now opened) }
+            → OnOk result (AreNumbers (known catalog.now) m self.new.cursors.items numbers.new.entries) }
         ensures grows { OnOk result (Grow self.old.cursors.items self.new.cursors.items) }
-        ensures opened { IfOk result (IsOpened (column_kinds catalog.now) self.new.cursors.items opener.now) }
+        ensures openable { (procedures : List AnyProcedure)
+            → IsOnlyOpener «module».now procedures opener.now
+            → AreOpenable (column_kinds catalog.now) self.old.cursors.items numbers.old.entries procedures
+            → OnOk result (AreOpenable (column_kinds catalog.now) self.new.cursors.items numbers.new.entries
+            procedures) }
         ensures apart { OnOk result (AreApart [] self.new.cursors.items) }
         ensures others { (name : AnyName) → same_name name «module».now.name ≡ false
             → AreOfOthers name self.old.cursors.items
@@ -263,28 +282,38 @@ impl Program {
         ensures opened_by { (before : List AnyProcedure)
             → OpenedBy «module».now.name before self.old.cursors.items
             → OnOk result (OpenedBy «module».now.name (before ++ opener.now ∷ []) self.new.cursors.items) }
+        ensures named { (m : ModuleText) (before : List AnyProcedure) → IsOfText m «module».now
+            → IsOnlyIn m before opener.now
+            → AreNamed (names_in catalog.now m.authorization) m before self.old.cursors.items
+            numbers.old.entries
+            → OnOk result (AreNamed (names_in catalog.now m.authorization) m
+            (before ++ opener.now ∷ []) self.new.cursors.items numbers.new.entries) }
+        ensures computed { (texts : List ModuleText) (m : ModuleText) (before : List AnyProcedure)
+            → IsAmong texts m → IsOfText m «module».now → IsOnlyIn m before opener.now
+            → AreComputedCursors (names_in catalog.now) texts self.old.cursors.items
+            → OnOk result (AreComputedCursors (names_in catalog.now) texts self.new.cursors.items) }
     {
         let Statement::Open(name) = &opener.procedure.statement else {
-            return Ok(None);
+            return Ok(());
         };
         match module.cursors.get(name) {
             Some(cursor) => {
                 let parameters = opener.parameters.as_slice();
-                let bound = bind_cursor(alloc, catalog, module.user, parameters, cursor);
+                let bound = bound_cursor(alloc, catalog, module.user, parameters, cursor);
                 self.add_cursor(numbers, module, *name, bound)
             }
-            None => Ok(None),
+            None => Ok(()),
         }
     }
 
-    /// Adds the cursor of this name of a module, if it has no fault: its number among all cursors.
+    /// Adds the cursor of this name of a module, with its number among all cursors, if it has no fault.
     fn add_cursor(
         &mut self,
         numbers: &mut IndexMap<Name, usize>,
         module: &AdmittedModule<'_>,
         name: Name,
-        bound: Result<BoundCursor, BindFault>,
-    ) -> Result<Option<usize>, AllocError>
+        bound: Result<BoundCursor, Stop>,
+    ) -> Result<(), AllocError>
         requires there { AreThere (length self.old.cursors.items) numbers.old.entries }
         requires new { IsNew «module».now.name self.old.cursors.items name }
         requires apart { AreApart [] self.old.cursors.items }
@@ -298,14 +327,13 @@ impl Program {
         ensures written { (names : KnownTables) (m : ModuleText) → IsOfText m «module».now
             → IsCursorNamed names m name bound
             → AreNumbers names m self.old.cursors.items numbers.old.entries
-            → IfOk result (λ opened. AreNumbers names m self.new.cursors.items numbers.new.entries
-            × IfSome opened
-            (IsNumberOf names m self.new.cursors.items name)) }
+            → OnOk result (AreNumbers names m self.new.cursors.items numbers.new.entries) }
         ensures grows { OnOk result (Grow self.old.cursors.items self.new.cursors.items) }
-        ensures opened { (columns : TableKinds) (parameters : List Kind)
-            → IfOk bound (IsCursor columns parameters)
-            → IfOk result (λ opened. IfSome opened
-            (λ number. OpensWellFormed columns self.new.cursors.items parameters (Open number))) }
+        ensures openable { (columns : TableKinds) (kinds : List Kind) (procedures : List AnyProcedure)
+            → IfOk bound (IsCursor columns kinds)
+            → HaveKinds name kinds procedures
+            → AreOpenable columns self.old.cursors.items numbers.old.entries procedures
+            → OnOk result (AreOpenable columns self.new.cursors.items numbers.new.entries procedures) }
         ensures apart { OnOk result (AreApart [] self.new.cursors.items) }
         ensures others { (name : AnyName) → same_name name «module».now.name ≡ false
             → AreOfOthers name self.old.cursors.items
@@ -314,6 +342,15 @@ impl Program {
             ≡ true
             → OpenedBy «module».now.name procedures self.old.cursors.items
             → OnOk result (OpenedBy «module».now.name procedures self.new.cursors.items) }
+        ensures named { (names : UserNames) (m : ModuleText) (before : List AnyProcedure) (p : AnyProcedure)
+            → IsNext names m before p name bound
+            → AreNamed names m before self.old.cursors.items numbers.old.entries
+            → OnOk result (AreNamed names m (before ++ p ∷ []) self.new.cursors.items numbers.new.entries) }
+        ensures computed { (names : AnyName → UserNames) (texts : List ModuleText) (m : ModuleText)
+            (before : List AnyProcedure) (p : AnyProcedure) → IsAmong texts m → IsOfText m «module».now
+            → IsNext (names m.authorization) m before p name bound
+            → AreComputedCursors names texts self.old.cursors.items
+            → OnOk result (AreComputedCursors names texts self.new.cursors.items) }
     {
         match without_fault(bound)? {
             Some(cursor) => {
@@ -325,23 +362,22 @@ impl Program {
                     cursor,
                 })?;
                 named(numbers.insert(name, number).is_ok())?;
-                Ok(Some(number))
+                Ok(())
             }
-            None => Ok(None),
+            None => Ok(()),
         }
     }
 
-    /// Adds the procedures of a module, each with the number of the cursor that it opens.
+    /// Adds the procedures of a module, whose cursors have these numbers.
     fn add_procedures(
         &mut self,
         alloc: Global,
         catalog: &Catalog,
         module: &AdmittedModule<'_>,
         numbers: &IndexMap<Name, usize>,
-        opened: &[Option<usize>],
     ) -> Result<(), AllocError>
-        requires opened { AreOpened
-            (column_kinds catalog.now) self.old.cursors.items «module».now.procedures.items opened.now }
+        requires openable { AreOpenable (column_kinds catalog.now) self.old.cursors.items numbers.now.entries
+            «module».now.procedures.items }
         requires there { AreThere (length self.old.cursors.items) numbers.now.entries }
         requires fits { FitsProgram catalog.now.bases self.old }
         requires well_formed { ProgramIsWellFormed (column_kinds catalog.now) self.old }
@@ -353,13 +389,17 @@ impl Program {
         ensures written { (texts : List ModuleText) (m : ModuleText) → IsAmong texts m
             → IsOfText m «module».now
             → AreNumbers (known catalog.now) m self.old.cursors.items numbers.now.entries
-            → OpenNamed (known catalog.now) m self.old.cursors.items «module».now.procedures.items opened.now
             → AreFrom (known catalog.now) texts self.old
             → OnOk result (AreFrom (known catalog.now) texts self.new) }
         ensures cursors { OnOk result (self.new.cursors ≡ self.old.cursors) }
+        ensures computed { (texts : List ModuleText) (m : ModuleText) → IsAmong texts m
+            → IsOfText m «module».now
+            → AreNamedAs (names_in catalog.now m.authorization) m self.old.cursors.items numbers.now.entries
+            → AreComputedProcedures (names_in catalog.now) texts self.old.procedures.entries
+            → OnOk result (AreComputedProcedures (names_in catalog.now) texts self.new.procedures.entries) }
     {
-        for (place, admitted) in module.procedures.as_slice().iter().enumerate() {
-            self.add_procedure(alloc, catalog, module, numbers, admitted, opened[place])?;
+        for admitted in module.procedures.as_slice() {
+            self.add_procedure(alloc, catalog, module, numbers, admitted)?;
         }
         Ok(())
     }
@@ -371,9 +411,9 @@ impl Program {
         module: &AdmittedModule<'_>,
         numbers: &IndexMap<Name, usize>,
         admitted: &AdmittedProcedure<'_>,
-        opened: Option<usize>,
     ) -> Result<(), AllocError>
-        requires opened { IsOpened (column_kinds catalog.now) self.old.cursors.items admitted.now opened }
+        requires openable { IsOpenable (column_kinds catalog.now) self.old.cursors.items numbers.now.entries
+            admitted.now }
         requires there { AreThere (length self.old.cursors.items) numbers.now.entries }
         requires fits { FitsProgram catalog.now.bases self.old }
         requires well_formed { ProgramIsWellFormed (column_kinds catalog.now) self.old }
@@ -386,15 +426,20 @@ impl Program {
             → IsOfText m «module».now
             → IsProcedureOf m.items admitted.now
             → AreNumbers (known catalog.now) m self.old.cursors.items numbers.now.entries
-            → OpensNamed (known catalog.now) m self.old.cursors.items admitted.now opened
             → AreFrom (known catalog.now) texts self.old
             → OnOk result (AreFrom (known catalog.now) texts self.new) }
+        ensures computed { (texts : List ModuleText) (m : ModuleText) → IsAmong texts m
+            → IsOfText m «module».now
+            → IsProcedureOf m.items admitted.now
+            → AreNamedAs (names_in catalog.now m.authorization) m self.old.cursors.items numbers.now.entries
+            → AreComputedProcedures (names_in catalog.now) texts self.old.procedures.entries
+            → OnOk result (AreComputedProcedures (names_in catalog.now) texts self.new.procedures.entries) }
     {
         let cursors = ModuleCursors {
             numbers,
             cursors: self.cursors.as_slice(),
         };
-        let bound = bound_procedure(alloc, catalog, module.user, &cursors, admitted, opened)?;
+        let bound = bound_procedure(alloc, catalog, module.user, &cursors, admitted)?;
         let name = ProcedureName {
             module: module.name,
             name: admitted.procedure.name,
@@ -410,21 +455,26 @@ fn bound_procedure(
     user: Name,
     cursors: &ModuleCursors<'_>,
     admitted: &AdmittedProcedure<'_>,
-    opened: Option<usize>,
 ) -> Result<BoundProcedure, AllocError>
-    requires { IsOpened (column_kinds catalog.now) cursors.now.cursors.now admitted.now opened }
+    requires { IsOpenable (column_kinds catalog.now) cursors.now.cursors.now cursors.now.numbers.now.entries
+        admitted.now }
     ensures fits { IfOk result (FitsProcedure catalog.now.bases (length cursors.now.cursors.now)) }
     ensures well_formed { IfOk result
         (ProcedureIsWellFormed (column_kinds catalog.now) (kinds_of_cursors cursors.now.cursors.now)) }
     ensures opens { IfOk result (ProcedureOpens (column_kinds catalog.now) cursors.now.cursors.now) }
     ensures written { (m : ModuleText) → user ≡ m.authorization → IsProcedureOf m.items admitted.now
         → AreNumbers (known catalog.now) m cursors.now.cursors.now cursors.now.numbers.now.entries
-        → OpensNamed (known catalog.now) m cursors.now.cursors.now admitted.now opened
         → IfOk result (IsBoundFrom (known catalog.now) m cursors.now.cursors.now admitted.now.procedure.now) }
+    ensures computed { IfOk result (λ p. IsComputed (statement_bound (names_in catalog.now user)
+        (declared admitted.now.parameters)
+        (cursors_named cursors.now.cursors.now cursors.now.numbers.now.entries)
+        admitted.now.procedure.now.statement) p.statement) }
 {
-    let bound = bound_statement(alloc, catalog, user, cursors, admitted, opened);
+    let parameters = admitted.parameters.as_slice();
+    let written = &admitted.procedure.statement;
+    let bound = bound_statement(alloc, catalog, user, parameters, cursors, written);
     let statement = unless_no_memory(bound)?;
-    match Items::from_slice(alloc, admitted.parameters.as_slice()) {
+    match Items::from_slice(alloc, parameters) {
         Ok(parameters) => Ok(BoundProcedure {
             user,
             parameters,
@@ -434,46 +484,6 @@ fn bound_procedure(
             drop(statement);
             Err(error)
         }
-    }
-}
-
-/// The statement of a procedure. An OPEN is of the cursor that was bound for this procedure.
-fn bound_statement(
-    alloc: Global,
-    catalog: &Catalog,
-    user: Name,
-    cursors: &ModuleCursors<'_>,
-    admitted: &AdmittedProcedure<'_>,
-    opened: Option<usize>,
-) -> Result<BoundStatement, BindFault>
-    requires { IsOpened (column_kinds catalog.now) cursors.now.cursors.now admitted.now opened }
-    ensures fits { IfOk result
-        (FitsStatement catalog.now.bases (length cursors.now.cursors.now) (length admitted.now.parameters)) }
-    ensures well_formed { IfOk result
-        (IsStatement (column_kinds catalog.now) (kinds_of_cursors cursors.now.cursors.now)
-        (kinds_of_parameters admitted.now.parameters)) }
-    ensures opens { IfOk result (OpensWellFormed (column_kinds catalog.now) cursors.now.cursors.now
-        (kinds_of_parameters admitted.now.parameters)) }
-    ensures written { (m : ModuleText) → user ≡ m.authorization
-        → AreNumbers (known catalog.now) m cursors.now.cursors.now cursors.now.numbers.now.entries
-        → OpensNamed (known catalog.now) m cursors.now.cursors.now admitted.now opened
-        → IfOk result (IsStatementIn (known catalog.now) m cursors.now.cursors.now admitted.now.parameters
-        admitted.now.procedure.now.statement) }
-{
-    let parameters = admitted.parameters.as_slice();
-    match &admitted.procedure.statement {
-        Statement::Open(name) => open_of(*name, opened),
-        written => bind_statement(alloc, catalog, user, parameters, cursors, written),
-    }
-}
-
-/// OPEN of a cursor. Without one, the module declares none of the written name, or its query has a fault.
-fn open_of(name: Name, opened: Option<usize>) -> Result<BoundStatement, BindFault>
-    ensures { IfOk result (λ statement. option_map Open opened ≡ Some statement) }
-{
-    match opened {
-        Some(number) => Ok(BoundStatement::Open(number)),
-        None => Err(BindFault::UnknownCursor(name)),
     }
 }
 
@@ -501,14 +511,13 @@ fn inserted<T: Drop>(
 }
 
 /// What is bound, or its fault; running out of memory is none.
-fn unless_no_memory<T: Drop>(
-    bound: Result<T, BindFault>,
-) -> Result<Result<T, BindFault>, AllocError>
-    ensures { IfOk result (λ kept. kept ≡ bound) }
+fn unless_no_memory<T: Drop>(bound: Result<T, Stop>) -> Result<Result<T, Fault>, AllocError>
+    ensures { IfOk result (λ kept. bound ≡ as_bound kept) }
 {
     match bound {
-        Err(BindFault::NoMemory) => Err(AllocError),
-        bound => Ok(bound),
+        Ok(part) => Ok(Ok(part)),
+        Err(Stop::Fault(fault)) => Ok(Err(fault)),
+        Err(Stop::NoMemory) => Err(AllocError),
     }
 }
 
@@ -519,12 +528,12 @@ fn named(is_kept: bool) -> Result<(), AllocError>
 }
 
 /// What is bound, none where it has a fault.
-fn without_fault<T: Drop>(bound: Result<T, BindFault>) -> Result<Option<T>, AllocError>
-    ensures { IfOk result (λ part. IfSome part (λ x. bound ≡ Ok x)) }
+fn without_fault<T: Drop>(bound: Result<T, Stop>) -> Result<Option<T>, AllocError>
+    ensures { IfOk result (IsPart bound) }
 {
     match bound {
         Ok(part) => Ok(Some(part)),
-        Err(BindFault::NoMemory) => Err(AllocError),
-        Err(_) => Ok(None),
+        Err(Stop::Fault(_)) => Ok(None),
+        Err(Stop::NoMemory) => Err(AllocError),
     }
 }

@@ -197,6 +197,24 @@ module _ (own_kinds : List Kind) (columns : List Column) (all : AllByRecursion (
       let part = subst (IfFound (IsPart false counts (λ functions rs. IntoIs t (Some names) rs))) is (into_binds t (Some names) counts) in
       listed_are (listed names) x.part (part.is_so (so_many counts.functions) [] (they_are counts.functions)) objects at
 
+-- what holds of each column of a table holds of those of its columns that get values
+module _ (P : Receiver → Type 0) (t : ChangedTable) (all : AllByRecursion P (receivers_of t)) where
+  named_holds : (name : Name) (r : Receiver) → receiver_named t name ≡ Ok r → P r
+  named_holds name r is =
+      found_holds P (λ (r : Receiver). same_name r.name name) (receivers_of t) r all (or_some fault.UnknownColumn (find (λ (r : Receiver). same_name r.name name) (receivers_of t)) r is)
+
+  listed_hold : (names : List Name) (rs : List Receiver) → Along (λ (name : Name) (r : Receiver). IsMade t name (λ (found : Receiver) (x : Name) (y : Receiver). y ≡ found) name r) names rs → AllByRecursion P rs
+  listed_hold [] [] h = tt
+  listed_hold [] (r ∷ rs) h = absurd h
+  listed_hold (name ∷ names) [] h = absurd h
+  listed_hold (name ∷ names) (r ∷ rs) h = (subst P (sym h.0.is_made) (named_holds name h.0.receiver h.0.is_named), listed_hold names rs h.1)
+
+  pub receivers_hold : (list : Option (CommaList Name)) (counts : Counts) (x : Found (List Receiver)) → receivers_bound t list counts ≡ Ok x → AllByRecursion P x.part
+  receivers_hold None counts x is = subst (AllByRecursion P) (sym (pure_part (receivers_of t) counts x is)) all
+  receivers_hold (Some names) counts x is =
+      let part = subst (IfFound (IsPart false counts (λ functions rs. IntoIs t (Some names) rs))) is (into_binds t (Some names) counts) in
+      listed_hold (listed names) x.part (part.is_so (so_many counts.functions) [] (they_are counts.functions))
+
 pub no_receiver_calls : (t : ChangedTable) (list : Option (CommaList Name)) (counts : Counts) (x : Found (List Receiver)) → receivers_bound t list counts ≡ Ok x → x.calls ≡ []
 no_receiver_calls t list counts x is = (subst (IfFound (IsPart false counts (λ functions rs. IntoIs t list rs))) is (into_binds t list counts)).none_forbidden refl
 

@@ -56,14 +56,14 @@ use Rattle.sq_binding.proofs.SubqueryNumbers.{select_counted}
 use Rattle.sq_binding.proofs.TestsNoted.{IsNotedSelect, IsNotedTest, select_notes}
 use Rattle.sq_binding.proofs.UnionFaults.{lengths_equal}
 use Rattle.sq_promises.specs.Names.{NamesMean}
-use Rattle.sq_promises.specs.Seen.{HaveTheirColumns, query_seen, term_seen, union_seen}
+use Rattle.sq_promises.specs.Seen.{HaveTheirColumns, TermHasColumns, UnionHasColumns, query_seen, term_seen, union_seen}
 use Rattle.sq_promises.specs.Written.{common_names, query_names_placed}
 use Rattle.sq_promises.proofs.Named as named
 use Rattle.sq_promises.proofs.Named.{names_know}
 use Rattle.sq_promises.proofs.NewValues.{passed}
 use Rattle.sq_promises.proofs.Over as over_spec
 use Rattle.sq_promises.proofs.Rows.{outcome_is, part_of, pure_part}
-use Rattle.sq_promises.proofs.SeenQueries.{QueryCases, TermHas, UnionHas, bracketed_has, query_all, query_itself, query_parts, query_seen-out, term_seen-Bracketed, term_seen-Specification, union_has, union_seen-out}
+use Rattle.sq_promises.proofs.SeenQueries.{QueryCases, bracketed_has, query_all, query_itself, query_parts, query_seen-out, term_seen-Bracketed, term_seen-Specification, union_has, union_seen-out}
 
 abbrev pub kinds_in : List ResultColumn → List Kind
 kinds_in columns = map (λ (c : ResultColumn). c.kind) columns
@@ -234,7 +234,7 @@ module _ (bases : List BaseTable) (kinds : TableKinds) (known : KnownTables) (me
     pub numbered : AreNumbered (EachWith SelectWith) m n specifications
 
   abbrev TermIs : BoundTerm → Type 0
-  TermIs t = (m n : ℕ) → Good a (term_seen t) m n → TermHas t → IsOf (term_specifications t) (term_kinds t) (columns_of_query (term_seen t)) m n
+  TermIs t = (m n : ℕ) → Good a (term_seen t) m n → TermHasColumns t → IsOf (term_specifications t) (term_kinds t) (columns_of_query (term_seen t)) m n
 
   abbrev QueryIs : BoundQuery → Type 0
   QueryIs q = (m n : ℕ) → Good a (query_seen q) m n → HaveTheirColumns q → IsOf (specifications_of q) (joined_kinds q) (columns_of_query (query_seen q)) m n
@@ -288,7 +288,7 @@ module _ (bases : List BaseTable) (kinds : TableKinds) (known : KnownTables) (me
       ∙ ap (λ (ks : Kinds). status.and_then ks (brought_kinds u.columns)) (common ∙ ap (λ (ks : List Kind). Ok ks) (kinds_of_seen u.columns))
       ∙ ap (λ b. if b then kept_kinds u.columns (kinds_of_results u.columns) else status.not_well_formed) (bounded_all u.columns) ∙ kept_same u.columns ∙ ap (λ (ks : List Kind). Ok ks) (sym (kinds_of_seen u.columns))
 
-  behind : (rest : List BoundUnion) → AllByRecursion (λ (u : BoundUnion). TermIs u.term) rest → AllByRecursion UnionHas rest → (left : NumberedQuery) (m n : ℕ) → Good a (seen_from left rest) m n → AreBehind left rest m n
+  behind : (rest : List BoundUnion) → AllByRecursion (λ (u : BoundUnion). TermIs u.term) rest → AllByRecursion UnionHasColumns rest → (left : NumberedQuery) (m n : ℕ) → Good a (seen_from left rest) m n → AreBehind left rest m n
   behind [] is has left m n good = record { next = n; good = good; stand = tt; kinds_are = refl; numbered = none_numbered (EachWith SelectWith) [] (λ P. tt) n }
   behind (u ∷ rest) is has left m n good =
       let h = behind rest is.1 has.1 (union_seen u left) m n good in

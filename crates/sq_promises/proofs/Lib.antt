@@ -8,6 +8,7 @@ pub mod Over
 pub mod Views
 pub mod Outputs
 pub mod NewValues
+pub mod NotNull
 pub mod Rows
 pub mod Inserts
 pub mod Updates

@@ -6,13 +6,13 @@ use Rattle.std.specs.Prelude.{⊤, fold}
 use Rattle.sq_bound.proofs.ExpressionLaws.{fold_mapped}
 use Rattle.sq_bound.specs.declared.condition.BoundSpecification.{BoundSpecification}
 use Rattle.sq_bound.specs.declared.query.BoundQuery.{BoundQuery, BoundQuery-F, every_held-BoundQuery, every_here-BoundQuery, every_made-BoundQuery, fold_out-BoundQuery, out-BoundQuery, out-roll-BoundQuery, roll-BoundQuery, roll-out-BoundQuery}
-use Rattle.sq_bound.specs.declared.query.BoundTerm.{BoundTerm, BoundTerm-F, every-BoundTerm, every_held-BoundTerm, every_made-BoundTerm, fold-roll-BoundTerm, ind-BoundTerm, map-BoundTerm, out-BoundTerm, out-roll-BoundTerm, roll-BoundTerm}
+use Rattle.sq_bound.specs.declared.query.BoundTerm.{BoundTerm, BoundTerm-F, every_held-BoundTerm, every_made-BoundTerm, fold-roll-BoundTerm, ind-BoundTerm, map-BoundTerm, out-BoundTerm, out-roll-BoundTerm, roll-BoundTerm}
 use Rattle.sq_bound.specs.declared.query.BoundTerm.TheOpen as layer
 use Rattle.sq_bound.specs.declared.query.BoundTerm.TheVariants as bound
-use Rattle.sq_bound.specs.declared.query.BoundUnion.{BoundUnion, BoundUnion-F, every-BoundUnion, every_held-BoundUnion, every_made-BoundUnion, fold_out-BoundUnion, out-BoundUnion, roll-BoundUnion, roll-out-BoundUnion}
+use Rattle.sq_bound.specs.declared.query.BoundUnion.{BoundUnion, BoundUnion-F, every_held-BoundUnion, every_made-BoundUnion, fold_out-BoundUnion, out-BoundUnion, roll-BoundUnion, roll-out-BoundUnion}
 use Rattle.sq_binding.specs.QueryExpression.{NumberedQuery}
 use Rattle.sq_binding.specs.Seen.{column_of, select_seen}
-use Rattle.sq_promises.specs.Seen.{HasItsColumns, HaveTheirColumns, query_seen, term_seen, union_seen}
+use Rattle.sq_promises.specs.Seen.{HasItsColumns, HaveTheirColumns, TermHasColumns, UnionHasColumns, query_seen, term_seen, union_seen}
 
 pub query_seen-out : (q : BoundQuery) → query_seen q ≡ fold (λ left u. union_seen u left) (term_seen (out-BoundQuery q).first) (out-BoundQuery q).rest
 unfolding query_seen union_seen term_seen
@@ -32,12 +32,6 @@ term_seen-Bracketed q = ap term_seen (sym (bound.rolls-Bracketed q)) ∙ fold-ro
 
 -- ---- columns that are noted
 
-abbrev pub TermHas : BoundTerm → Type 0
-TermHas = every-BoundTerm (λ y. ⊤) (λ y. HasItsColumns (roll-BoundQuery y)) (λ y. ⊤)
-
-abbrev pub UnionHas : BoundUnion → Type 0
-UnionHas = every-BoundUnion (λ y. ⊤) (λ y. HasItsColumns (roll-BoundQuery y)) (λ y. ⊤)
-
 abbrev Proved : {A : Type 0} → (A → Type 0) → Type 0
 Proved {A} P = (x : A) × P x
 
@@ -49,19 +43,19 @@ pub query_itself : (q : BoundQuery) → HaveTheirColumns q → HasItsColumns q
 query_itself q h = subst HasItsColumns (roll-out-BoundQuery q) (every_here-BoundQuery _ _ _ q h)
 
 abbrev PartsHave : BoundQuery-F BoundTerm BoundQuery BoundUnion → Type 0
-PartsHave y = TermHas y.first × AllByRecursion UnionHas y.rest
+PartsHave y = TermHasColumns y.first × AllByRecursion UnionHasColumns y.rest
 
 pub query_parts : (q : BoundQuery) → HaveTheirColumns q → PartsHave (out-BoundQuery q)
 query_parts q h =
     let held = every_held-BoundQuery _ _ _ q h in
-    subst PartsHave held.1 (held.0.first.1, held_list UnionHas held.0.rest)
+    subst PartsHave held.1 (held.0.first.1, held_list UnionHasColumns held.0.rest)
 
 abbrev LayerHas : BoundTerm-F BoundTerm BoundQuery BoundUnion → Type 0
 LayerHas (layer.Specification s) = ⊤
 LayerHas (layer.Bracketed q) = HaveTheirColumns q
 
 abbrev Held : Type 0
-Held = BoundTerm-F (Proved TermHas) (Proved HaveTheirColumns) (Proved UnionHas)
+Held = BoundTerm-F (Proved TermHasColumns) (Proved HaveTheirColumns) (Proved UnionHasColumns)
 
 abbrev bare : Held → BoundTerm-F BoundTerm BoundQuery BoundUnion
 bare = map-BoundTerm _ _ _ _ _ _ (λ e. e.0) (λ e. e.0) (λ e. e.0)
@@ -70,14 +64,14 @@ layer_held : (y : Held) → LayerHas (bare y)
 layer_held (layer.Specification s) = tt
 layer_held (layer.Bracketed q) = q.1
 
-term_held : (t : BoundTerm) → TermHas t → LayerHas (out-BoundTerm t)
+term_held : (t : BoundTerm) → TermHasColumns t → LayerHas (out-BoundTerm t)
 term_held t h = let held = every_held-BoundTerm _ _ _ t h in subst LayerHas held.1 (layer_held held.0)
 
-pub bracketed_has : (q : BoundQuery) → TermHas (bound.Bracketed q) → HaveTheirColumns q
+pub bracketed_has : (q : BoundQuery) → TermHasColumns (bound.Bracketed q) → HaveTheirColumns q
 bracketed_has q h = subst LayerHas (ap out-BoundTerm (sym (bound.rolls-Bracketed q)) ∙ out-roll-BoundTerm (layer.Bracketed q)) (term_held (bound.Bracketed q) h)
 
-pub union_has : (u : BoundUnion) → UnionHas u → TermHas u.term
-union_has u h = let held = every_held-BoundUnion _ _ _ u h in subst (λ (y : BoundUnion-F BoundTerm BoundQuery BoundUnion). TermHas y.term) held.1 held.0.term.1
+pub union_has : (u : BoundUnion) → UnionHasColumns u → TermHasColumns u.term
+union_has u h = let held = every_held-BoundUnion _ _ _ u h in subst (λ (y : BoundUnion-F BoundTerm BoundQuery BoundUnion). TermHasColumns y.term) held.1 held.0.term.1
 
 -- ---- what is made of parts has them
 
@@ -85,20 +79,20 @@ beside : {A : Type 0} (P : A → Type 0) (xs : List A) → AllByRecursion P xs �
 beside P [] h = ([], refl)
 beside P (x ∷ xs) h = let rest = beside P xs h.1 in ((x, h.0) ∷ rest.0, ap (λ zs. x ∷ zs) rest.1)
 
-pub specification_made : (s : BoundSpecification) → TermHas (bound.Specification s)
-specification_made s = subst TermHas (bound.rolls-Specification s) (every_made-BoundTerm _ _ _ (layer.Specification s) (layer.Specification s) refl tt)
+pub specification_made : (s : BoundSpecification) → TermHasColumns (bound.Specification s)
+specification_made s = subst TermHasColumns (bound.rolls-Specification s) (every_made-BoundTerm _ _ _ (layer.Specification s) (layer.Specification s) refl tt)
 
-pub bracketed_made : (q : BoundQuery) → HaveTheirColumns q → TermHas (bound.Bracketed q)
-bracketed_made q h = subst TermHas (bound.rolls-Bracketed q) (every_made-BoundTerm _ _ _ (layer.Bracketed q) (layer.Bracketed (q, h)) refl tt)
+pub bracketed_made : (q : BoundQuery) → HaveTheirColumns q → TermHasColumns (bound.Bracketed q)
+bracketed_made q h = subst TermHasColumns (bound.rolls-Bracketed q) (every_made-BoundTerm _ _ _ (layer.Bracketed q) (layer.Bracketed (q, h)) refl tt)
 
-pub union_made : (u : BoundUnion) → TermHas u.term → UnionHas u
+pub union_made : (u : BoundUnion) → TermHasColumns u.term → UnionHasColumns u
 union_made u h =
-    subst UnionHas (roll-out-BoundUnion u) (every_made-BoundUnion _ _ _ (out-BoundUnion u) (record { all = u.all; term = (u.term, h); columns = u.columns }) refl tt)
+    subst UnionHasColumns (roll-out-BoundUnion u) (every_made-BoundUnion _ _ _ (out-BoundUnion u) (record { all = u.all; term = (u.term, h); columns = u.columns }) refl tt)
 
-pub query_made : (q : BoundQuery) → TermHas (out-BoundQuery q).first → AllByRecursion UnionHas (out-BoundQuery q).rest → HasItsColumns q → HaveTheirColumns q
+pub query_made : (q : BoundQuery) → TermHasColumns (out-BoundQuery q).first → AllByRecursion UnionHasColumns (out-BoundQuery q).rest → HasItsColumns q → HaveTheirColumns q
 query_made q h g own =
     let o = out-BoundQuery q in
-    let rest = beside UnionHas o.rest g in
+    let rest = beside UnionHasColumns o.rest g in
     subst HaveTheirColumns (roll-out-BoundQuery q)
     (every_made-BoundQuery _ _ _ o (record { first = (o.first, h); rest = rest.0; columns = o.columns }) (ap (λ us. record { first = o.first; rest = us; columns = o.columns }) rest.1)
     (subst HasItsColumns (sym (roll-out-BoundQuery q)) own))

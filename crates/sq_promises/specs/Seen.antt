@@ -11,9 +11,9 @@ use Rattle.sq_bound.specs.declared.condition.BoundCond.{BoundCond}
 use Rattle.sq_bound.specs.declared.names.ObjectColumn.{ObjectColumn}
 use Rattle.sq_bound.specs.declared.query.BoundCursor.{BoundCursor}
 use Rattle.sq_bound.specs.declared.query.BoundQuery.{BoundQuery, fold-BoundQuery, BoundQuery-F, every-BoundQuery, out-BoundQuery, roll-BoundQuery}
-use Rattle.sq_bound.specs.declared.query.BoundTerm.{BoundTerm, fold-BoundTerm, BoundTerm-F}
+use Rattle.sq_bound.specs.declared.query.BoundTerm.{BoundTerm, every-BoundTerm, fold-BoundTerm, BoundTerm-F}
 use Rattle.sq_bound.specs.declared.query.BoundTerm.TheOpen as layer
-use Rattle.sq_bound.specs.declared.query.BoundUnion.{BoundUnion, fold-BoundUnion, BoundUnion-F}
+use Rattle.sq_bound.specs.declared.query.BoundUnion.{BoundUnion, every-BoundUnion, fold-BoundUnion, BoundUnion-F}
 use Rattle.sq_bound.specs.declared.query.CursorBody.{CursorBody}
 use Rattle.sq_bound.specs.declared.query.CursorBody.TheVariants as body
 use Rattle.sq_bound.specs.declared.query.SortColumn.{SortColumn as BoundSortColumn}
@@ -76,6 +76,13 @@ HasItsColumns q = map column_of (out-BoundQuery q).columns ≡ columns_of_query 
 -- so are those of each query expression in it, in brackets
 abbrev pub HaveTheirColumns : BoundQuery → Type 0
 HaveTheirColumns = every-BoundQuery (λ y. ⊤) (λ y. HasItsColumns (roll-BoundQuery y)) (λ y. ⊤)
+
+-- and those in a term, and in a further one
+abbrev pub TermHasColumns : BoundTerm → Type 0
+TermHasColumns = every-BoundTerm (λ y. ⊤) (λ y. HasItsColumns (roll-BoundQuery y)) (λ y. ⊤)
+
+abbrev pub UnionHasColumns : BoundUnion → Type 0
+UnionHasColumns = every-BoundUnion (λ y. ⊤) (λ y. HasItsColumns (roll-BoundQuery y)) (λ y. ⊤)
 
 -- ---- tables that may be changed
 

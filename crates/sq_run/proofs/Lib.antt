@@ -1,11 +1,3 @@
-pub mod Actions
-pub mod Noted
-pub mod Moved
-pub mod Opened
-pub mod Prepared
-pub mod Located
-pub mod Refused
-pub mod Spelled
-pub mod Steps
-pub mod Taken
-pub mod Wrote
+pub mod Accepts
+pub mod Refuses
+pub mod Scripts

@@ -1,11 +1,4 @@
-pub mod Opened
-pub mod Action
-pub mod Asked
-pub mod Checked
-pub mod Fault
-pub mod Items
-pub mod Performed
+pub mod Accepted
+pub mod Kept
 pub mod Refused
-pub mod Run
-pub mod Steps
-pub mod Stop
+pub mod Written

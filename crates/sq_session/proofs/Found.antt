@@ -3,7 +3,7 @@ use Rattle.std.proofs.Common.{◌≡◌, ℕ, zero, suc, List, [], ◌∷◌, le
 use Rattle.std.specs.List.{AllByRecursion}
 use Rattle.sq_bound.specs.Fits.{FitsStatement}
 use Rattle.sq_bound.specs.WellFormed.{TableKinds, kinds_of_parameters}
-use Rattle.sq_bound.specs.declared.fault.BindFault.{BindFault}
+use Rattle.sq_binder.specs.declared.stop.Fault.{Fault}
 use Rattle.sq_bound.specs.declared.names.BaseTable.{BaseTable}
 use Rattle.sq_bound.specs.declared.statement.BoundStatement.{BoundStatement}
 use Rattle.sq_module.specs.Program.{FitsProcedure, ProcedureIsWellFormed, ProcedureOpens, ProceduresAreWellFormed, ProceduresFit, ProceduresOpen, kinds_of_cursors}
@@ -38,7 +38,7 @@ fitting_at bases cursors es n e s at is fit =
     rw is at one
 
 -- one with a fault is of no kind
-pub no_kind_is : (cs : List DeclaredCursor) (es : List Entry) (n : ℕ) (e : Entry) (f : BindFault) → slice_get es n ≡ Some e → e.1.statement ≡ Err f → kind_at (procedures_of cs es) n ≡ None
+pub no_kind_is : (cs : List DeclaredCursor) (es : List Entry) (n : ℕ) (e : Entry) (f : Fault) → slice_get es n ≡ Some e → e.1.statement ≡ Err f → kind_at (procedures_of cs es) n ≡ None
 no_kind_is cs [] n e f h k = cc
 no_kind_is cs (x ∷ es) zero e f h k = grind (arith, h, k)
 no_kind_is cs (x ∷ es) (suc n) e f h k = no_kind_is cs es n e f h k

@@ -7,7 +7,7 @@ use Rattle.sq_lex.specs.declared.name.Name.{Name}
 use Rattle.sq_value.specs.declared.value.Value.{Value}
 use Rattle.sq_tree.specs.declared.module.ModuleText.{ModuleText}
 use Rattle.sq_rules.specs.Script.{fit}
-use Rattle.sq_bound.specs.declared.fault.BindFault.{BindFault}
+use Rattle.sq_binder.specs.declared.stop.Fault.{Fault}
 use Rattle.sq_catalog.specs.Catalog.{Catalog, column_kinds, known}
 use Rattle.sq_bound.specs.declared.statement.BoundStatement.{BoundStatement}
 use Rattle.sq_module.specs.declared.program.BoundProcedure.{BoundProcedure}
@@ -15,6 +15,8 @@ use Rattle.sq_module.specs.declared.program.DeclaredCursor.{DeclaredCursor}
 use Rattle.sq_module.specs.declared.program.ProcedureName.{ProcedureName}
 use Rattle.sq_module.specs.declared.program.Program.{Program}
 use Rattle.sq_module.specs.Program.{FitsProgram, ProgramIsWellFormed}
+use Rattle.sq_catalog.specs.UserTables.{names_in}
+use Rattle.sq_module.specs.Computed.{IsProgramOf}
 use Rattle.sq_module.specs.Written.{IsOfTexts}
 use Rattle.sq_session.specs.Cursors.{are_over}
 use Rattle.sq_session.specs.Kind.{fault_at, fits_at, kind_at, kind_of}
@@ -47,7 +49,7 @@ kind_is cs (x ∷ es) zero e s h k = grind (arith, h, k)
 kind_is cs (x ∷ es) (suc n) e s h k = kind_is cs es n e s h k
 
 -- and its fault is that of its entry
-pub fault_is : (cs : List DeclaredCursor) (es : List Entry) (n : ℕ) (e : Entry) (f : BindFault) → slice_get es n ≡ Some e → e.1.statement ≡ Err f → fault_at (procedures_of cs es) n ≡ Some f
+pub fault_is : (cs : List DeclaredCursor) (es : List Entry) (n : ℕ) (e : Entry) (f : Fault) → slice_get es n ≡ Some e → e.1.statement ≡ Err f → fault_at (procedures_of cs es) n ≡ Some f
 fault_is cs [] n e f h k = cc
 fault_is cs (x ∷ es) zero e f h k = grind (arith, h, k)
 fault_is cs (x ∷ es) (suc n) e f h k = fault_is cs es n e f h k
@@ -77,11 +79,13 @@ names_are cs (e ∷ es) = ap (λ names. e.0 ∷ names) (names_are cs es)
 
 -- ---- a session of module texts
 
-pub of_modules : (c : Catalog) (modules : List ModuleText) (p : Program) (s : Session) → IsOfTexts (known c) modules p → FitsProgram c.bases p → ProgramIsWellFormed (column_kinds c) p
-    → s.schemas ≡ schemas_of c → s.procedures ≡ procedures_of p.cursors.items p.procedures.entries → are_over p.cursors.items s.state.cursors ≡ true → IsOfModules (known c) modules s
-of_modules c modules p s is_of fits well_formed schemas are cursors = record {
+pub of_modules : (c : Catalog) (modules : List ModuleText) (p : Program) (s : Session) → IsOfTexts (known c) modules p → IsProgramOf (names_in c) modules p → FitsProgram c.bases p
+    → ProgramIsWellFormed (column_kinds c) p → s.schemas ≡ schemas_of c → s.procedures ≡ procedures_of p.cursors.items p.procedures.entries → are_over p.cursors.items s.state.cursors ≡ true
+    → IsOfModules (known c) (names_in c) modules s
+of_modules c modules p s is_of computed fits well_formed schemas are cursors = record {
   program = p;
   is_of = is_of;
+  computed = computed;
   fits = subst (λ (x : Schemas). FitsProgram x.bases p) (sym schemas) fits;
   well_formed = subst (λ (x : Schemas). ProgramIsWellFormed (columns_of x) p) (sym schemas) well_formed;
   are = are;

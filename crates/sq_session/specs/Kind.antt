@@ -9,7 +9,7 @@ use Rattle.sq_meaning.specs.Tables.{Declared}
 use Rattle.sq_rules.specs.Script.{fit}
 use Rattle.sq_bound.specs.declared.condition.BoundCond.{BoundCond}
 use Rattle.sq_bound.specs.declared.condition.BoundSpecification.{BoundSpecification}
-use Rattle.sq_bound.specs.declared.fault.BindFault.{BindFault}
+use Rattle.sq_binder.specs.declared.stop.Fault.{Fault}
 use Rattle.sq_bound.specs.declared.names.ParameterDesc.{ParameterDesc}
 use Rattle.sq_bound.specs.declared.query.CursorBody.{CursorBody}
 use Rattle.sq_bound.specs.declared.query.CursorBody.TheVariants as body
@@ -212,14 +212,14 @@ pub record Procedure : Type 0 where
   pub «module» : Name
   pub name : Name
   pub parameters : List Declared
-  pub statement : Result Kind BindFault
+  pub statement : Result Kind Fault
 
 -- what the statement of a procedure is, if there is such a procedure and its statement has no fault
 abbrev pub kind_at : List Procedure → ℕ → Option Kind
 kind_at procedures number = option_and_then (λ p. result_ok p.statement) (slice_get procedures number)
 
 -- the fault for which a procedure answers 42000 at each call
-abbrev pub fault_at : List Procedure → ℕ → Option BindFault
+abbrev pub fault_at : List Procedure → ℕ → Option Fault
 fault_at procedures number = option_and_then (λ p. result_err p.statement) (slice_get procedures number)
 
 -- whether a procedure takes these values: as many as it has parameters, each null or one that its parameter can store

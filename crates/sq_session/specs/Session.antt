@@ -8,8 +8,10 @@ use Rattle.sq_store.specs.Content.{table_at}
 use Rattle.sq_store.specs.declared.table.Numbered.{Numbered}
 use Rattle.sq_tree.specs.declared.module.ModuleText.{ModuleText}
 use Rattle.sq_bound.specs.Known.{KnownTables}
+use Rattle.sq_binding.specs.Changeable.{UserNames}
 use Rattle.sq_catalog.specs.Catalog.{table_number}
 use Rattle.sq_catalog.specs.declared.catalog.FullName.{FullName}
+use Rattle.sq_module.specs.Computed.{IsProgramOf}
 use Rattle.sq_module.specs.declared.program.BoundProcedure.{BoundProcedure}
 use Rattle.sq_module.specs.declared.program.DeclaredCursor.{DeclaredCursor}
 use Rattle.sq_module.specs.declared.program.ProcedureName.{ProcedureName}
@@ -63,10 +65,12 @@ abbrev pub names_of : List Procedure → List ProcedureName
 names_of procedures = map name_of procedures
 
 -- The procedures of a session are those of a program that is bound from these modules, where the names of tables and views mean this
--- (12.1 and 12.3). It is well formed over the session's tables and views, and the session has a cursor for each that it declares.
-pub record IsOfModules (known : KnownTables) (modules : List ModuleText) (s : Session) : Type 0 where
+-- (12.1 and 12.3), as the definitions compute it, the faults included. It is well formed over the session's tables and views, and the
+-- session has a cursor for each that it declares.
+pub record IsOfModules (known : KnownTables) (names : Name → UserNames) (modules : List ModuleText) (s : Session) : Type 0 where
   pub program : Program
   pub is_of : IsOfTexts known modules program
+  pub computed : IsProgramOf names modules program
   pub fits : FitsProgram s.schemas.bases program
   pub well_formed : ProgramIsWellFormed (columns_of s.schemas) program
   pub are : s.procedures ≡ procedures_of program.cursors.items program.procedures.entries

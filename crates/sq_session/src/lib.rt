@@ -29,6 +29,6 @@ pub use cursor::{CursorState, NumbersCursor, RowsCursor};
 pub use reply::{Done, Output, Reply};
 pub use rows::TableRows;
 pub use session::Session;
-pub use sq_bound::BindFault;
+pub use sq_binder::Fault;
 pub use sq_module::{ModuleRefusal, ModuleRefusalName, SessionFault};
 pub use walk::WalkingCursor;

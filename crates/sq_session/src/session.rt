@@ -5,6 +5,7 @@ ghost use Rattle.sq_rules.specs.ModuleRefusal.{first_module_refusal};
 ghost use Rattle.sq_module.specs.FirstRefusal.{IsFaultFor};
 ghost use Rattle.sq_module.specs.Refusal.{IsOfSomeModule};
 ghost use Rattle.sq_catalog.specs.Catalog.{known, table_number};
+ghost use Rattle.sq_catalog.specs.UserTables.{names_in};
 ghost use Rattle.sq_session.specs.Cursors.{are_over};
 ghost use Rattle.sq_session.specs.Kind.{fault_at, fits_at, kind_at, needs_memory};
 ghost use Rattle.sq_session.specs.Metered.{CallReads};
@@ -13,6 +14,7 @@ ghost use Rattle.sq_bound.specs.Fits.{AreInDomains, keys_of_bases};
 ghost use Rattle.sq_change.specs.Constraints.{constraints_hold};
 ghost use Rattle.sq_catalog.specs.Catalog.{column_kinds};
 ghost use Rattle.sq_module.specs.Program.{FitsProgram, ProgramIsWellFormed, declared_procedures};
+ghost use Rattle.sq_module.specs.Computed.{IsProgramOf};
 ghost use Rattle.sq_module.specs.Written.{IsOfTexts};
 ghost use Rattle.sq_session.specs.Schemas.{schemas_of};
 ghost use Rattle.sq_session.specs.Session.{IsOfModules, names_of, procedure_number, procedures_of, rows_named};
@@ -24,7 +26,7 @@ use crate::machine::Machine;
 use crate::parameter::all_fit;
 use crate::reply::Reply;
 use crate::rows::TableRows;
-use sq_bound::BindFault;
+use sq_binder::Fault;
 use sq_catalog::Catalog;
 use sq_lex::Name;
 use sq_module::{ProcedureName, Program, SessionFault, admit};
@@ -93,7 +95,7 @@ impl<S: Store> Session<S> {
             s.state.cursors) }
         ensures numbers { IfOk result (λ s. s.state.row_numbers ≡ S.row_numbers store) }
         ensures procedures { IfOk result (λ s. names_of s.procedures ≡ declared_procedures modules.now) }
-        ensures written { IfOk result (IsOfModules (known catalog) modules.now) }
+        ensures written { IfOk result (IsOfModules (known catalog) (names_in catalog) modules.now) }
         ensures tables { IfOk result (λ s. s.tables ≡ catalog.tables) }
         ensures schemas { IfOk result (λ s. s.schemas ≡ schemas_of catalog) }
         ensures refused { IfErr result (IsOfSomeModule (length modules.now)) }
@@ -160,7 +162,7 @@ impl<S: Store> Session<S> {
     }
 
     /// Why each call of a procedure answers 42000, where its statement has a fault.
-    pub fn fault(&self, procedure: usize) -> Option<BindFault>
+    pub fn fault(&self, procedure: usize) -> Option<Fault>
         ensures { result ≡ fault_at self.now.procedures procedure }
     {
         let (_, procedure) = self.program.procedures.get_index(procedure)?;
@@ -249,6 +251,7 @@ fn program_of(
     ensures procedures { IfOk result
         (λ program. keys_of program.procedures.entries ≡ declared_procedures modules.now) }
     ensures written { IfOk result (IsOfTexts (known catalog.now) modules.now) }
+    ensures computed { IfOk result (IsProgramOf (names_in catalog.now) modules.now) }
     ensures fits { IfOk result (λ program. FitsProgram catalog.now.bases program) }
     ensures well_formed { IfOk result (ProgramIsWellFormed (column_kinds catalog.now)) }
     ensures refused { IfErr result (IsOfSomeModule (length modules.now)) }

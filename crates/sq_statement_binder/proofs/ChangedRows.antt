@@ -24,9 +24,10 @@ use Rattle.sq_binder.specs.declared.found.Found.{Found as FoundPart}
 use Rattle.sq_binder.specs.declared.stop.Stop.{Stop}
 use Rattle.sq_binder.proofs.Behind.{Makes, made, made_of, made_twice}
 use Rattle.sq_binder.proofs.Finds.{makes_found, makes_stop}
-use Rattle.sq_cursor_binder.specs.Changeable.{target_bound, target_seen}
-use Rattle.sq_statement_binder.specs.Rows.{change_of, is_over, searched}
+use Rattle.sq_cursor_binder.specs.Changeable.{target_bound}
+use Rattle.sq_statement_binder.specs.Rows.{is_over, searched}
 use Rattle.sq_statement_binder.proofs.Chains.{must_first, outcome_first}
+use Rattle.sq_promises.specs.Seen.{change_seen, target_seen}
 
 -- ---- rows that meet a condition
 
@@ -45,10 +46,10 @@ module _ (names : UserNames) (a : Surroundings) (cursors : NamedCursors) (t : Ch
   all_made = record { is = λ counts. refl }
 
 pub searched_found : (rows : Binding NumberedChange) (b : Binding NumberedTarget) → Makes rows b (λ target. NumberedChange.searched target) → (before : CodeCounts) (r : Result (FoundPart Target) Stop) → Finds target_seen b before r
-    → Finds change_of rows before (searched r)
+    → Finds change_seen rows before (searched r)
 searched_found rows b makes before (Ok x) found =
-    makes_found target_seen change_of rows b (λ target. NumberedChange.searched target) makes before x (record { part = Searched x.part; brought = x.brought }) found refl refl
-searched_found rows b makes before (Err stop) s = makes_stop target_seen change_of rows b (λ target. NumberedChange.searched target) makes before stop s
+    makes_found target_seen change_seen rows b (λ target. NumberedChange.searched target) makes before x (record { part = Searched x.part; brought = x.brought }) found refl refl
+searched_found rows b makes before (Err stop) s = makes_stop target_seen change_seen rows b (λ target. NumberedChange.searched target) makes before stop s
 
 -- ---- the row of a cursor
 

@@ -23,10 +23,10 @@ use Rattle.sq_binder.specs.declared.stop.Stop.{Stop}
 use Rattle.sq_binder.proofs.Finds.{pairs_stop}
 use Rattle.sq_cursor_binder.specs.Changeable.{changed_of, table_name}
 use Rattle.sq_cursor_binder.specs.declared.changeable.ChangedTable.{ChangedTable as FoundTable}
-use Rattle.sq_statement_binder.specs.Insert.{InsertsInto, insert_of, insert_over}
+use Rattle.sq_statement_binder.specs.Insert.{InsertsInto, insert_over}
 use Rattle.sq_statement_binder.specs.Needed.{requiring}
 use Rattle.sq_statement_binder.specs.Receiver.{receiver_seen}
-use Rattle.sq_statement_binder.specs.Source.{source_of}
+use Rattle.sq_promises.specs.Seen.{insert_seen, source_seen}
 use Rattle.sq_statement_binder.specs.declared.receiver.Receiver.{Receiver as CodeReceiver}
 use Rattle.sq_statement_binder.proofs.Turned.{found_needed, turned_found, turned_stop, two_needed}
 
@@ -50,25 +50,25 @@ module _ (names : UserNames) (a : Surroundings) (i : Insert) (table : FoundTable
   turn x = found_too more (put (make x.part) x)
 
   abbrev image : List CodeReceiver × InsertedRows → List Receiver × NumberedSource
-  image = both_of (map receiver_seen) source_of
+  image = both_of (map receiver_seen) source_seen
 
   pub first_stops : (stop : Stop) → Finds (map receiver_seen) (receivers_bound t i.columns) before (Err stop) → Stops (insert_over names a i t (counts_of before)) stop
   first_stops stop s =
-      turned_stop image insert_of (insert_over names a i t) parts turn (two_needed (receivers_bound t i.columns) source_at more (λ rs s. make (rs, s))) before stop
-      (pairs_stop (map receiver_seen) source_of (receivers_bound t i.columns) source_at before stop s)
+      turned_stop image insert_seen (insert_over names a i t) parts turn (two_needed (receivers_bound t i.columns) source_at more (λ rs s. make (rs, s))) before stop
+      (pairs_stop (map receiver_seen) source_seen (receivers_bound t i.columns) source_at before stop s)
 
-  columns_seen : (objects : List ObjectColumn) (rs : List CodeReceiver) → objects ≡ map (λ r. r.object) rs → map (λ c. c.position) objects ≡ map (λ r. r.column) (map receiver_seen rs)
-  columns_seen objects rs are =
-      ap (map (λ (c : ObjectColumn). c.position)) are ∙ map-map (λ (c : ObjectColumn). c.position) (λ (r : CodeReceiver). r.object) rs ∙ sym (map-map (λ (r : Receiver). r.column) receiver_seen rs)
+  columns_seen : (objects : List ObjectColumn) (rs : List CodeReceiver) → map (λ (c : ObjectColumn). c.position) objects ≡ map (λ (r : CodeReceiver). r.column) rs
+      → map (λ (c : ObjectColumn). c.position) objects ≡ map (λ (r : Receiver). r.column) (map receiver_seen rs)
+  columns_seen objects rs are = are ∙ sym (map-map (λ (r : Receiver). r.column) receiver_seen rs)
 
   pub insert_found : (may : Bool) → may ≡ names.holds (table_name table) Privilege.insert → (both : Result (FoundPart (List CodeReceiver × InsertedRows)) Stop) (r : Result (FoundPart BoundInsert) Stop) → Finds image parts before both
-      → InsertsInto table may both r → Finds insert_of (insert_over names a i t) before r
+      → InsertsInto table may both r → Finds insert_seen (insert_over names a i t) before r
   insert_found may held (Ok x) (Ok y) found is =
-      turned_found image insert_of (insert_over names a i t) parts turn (two_needed (receivers_bound t i.columns) source_at more (λ rs s. make (rs, s))) before (λ x. refl) x y found
-      (found_needed image insert_of make more x y (λ j. record { leaf = under_of (is.0 j); columns = columns_seen y.part.columns x.part.0 is.1 j; source = source_of (is.2 j) })
-      (is.3 ∙ ap (λ may. requiring may (brought_of x.brought)) held)) is.4
+      turned_found image insert_seen (insert_over names a i t) parts turn (two_needed (receivers_bound t i.columns) source_at more (λ rs s. make (rs, s))) before (λ x. refl) x y found
+      (found_needed image insert_seen make more x y (λ j. record { leaf = under_of (is.0 j); columns = columns_seen y.part.columns x.part.0 is.1 j; source = source_seen (is.3 j) })
+      (is.4 ∙ ap (λ may. requiring may (brought_of x.brought)) held)) is.5
   insert_found may held (Ok x) (Err stop) found is = subst (λ (s : Stop). Stops (insert_over names a i t (counts_of before)) s) (sym is) tt
   insert_found may held (Err earlier) (Ok y) found is = absurd is
   insert_found may held (Err earlier) (Err stop) found is =
       subst (λ (s : Stop). Stops (insert_over names a i t (counts_of before)) s) (sym is)
-      (turned_stop image insert_of (insert_over names a i t) parts turn (two_needed (receivers_bound t i.columns) source_at more (λ rs s. make (rs, s))) before earlier found)
+      (turned_stop image insert_seen (insert_over names a i t) parts turn (two_needed (receivers_bound t i.columns) source_at more (λ rs s. make (rs, s))) before earlier found)

@@ -3,12 +3,15 @@ pub mod ChangedRows
 pub mod ColumnLoops
 pub mod ColumnsInTurn
 pub mod Deletes
+pub mod EachHolds
 pub mod Inserts
 pub mod NewValues
+pub mod Promised
 pub mod Receivers
 pub mod SelectRows
 pub mod Sources
 pub mod Targets
+pub mod There
 pub mod Turned
 pub mod Twice
 pub mod WholeStatements

@@ -1,5 +1,5 @@
 -- The columns of a table are columns of the base table under it.
-use Rattle.std.proofs.Common.{◌≡◌, ℕ, zero, suc, ◌+◌, ◌<◌, ◌≤◌, Bool, true, false, ◌&&◌, List, [], ◌∷◌, length, drop, map, get_or, None, Some, sym, ap, arith, ◌∙◌}
+use Rattle.std.proofs.Common.{◌≡◌, ℕ, zero, suc, ◌+◌, ◌<◌, ◌≤◌, Bool, true, false, ◌&&◌, List, [], ◌∷◌, length, drop, map, get_or, Option, None, Some, Ok, refl, sym, ap, subst, arith, ◌∙◌}
 use Rattle.std.proofs.lemmas.Bool.Decides.{nat_tests}
 use Rattle.std.proofs.lemmas.List.{drop_all, drop_more}
 use Rattle.std.proofs.lemmas.Simd.{map-map}
@@ -8,17 +8,20 @@ use Rattle.std.specs.Prelude.{cond, find, nat_lt}
 use Rattle.sq_lex.specs.declared.name.Name.{Name}
 use Rattle.sq_meaning.specs.Environment.{same_name}
 use Rattle.sq_meaning.specs.Tables.{ColumnDescriptor}
+use Rattle.sq_rules.specs.declared.fault.BindingFault.TheVariants as fault
 use Rattle.sq_bound.specs.declared.names.Column.{Column}
 use Rattle.sq_binding.specs.Change as change
 use Rattle.sq_binding.specs.Changeable.{item_at_leaf}
 use Rattle.sq_binding.specs.Changeable as changeable
 use Rattle.sq_binding.specs.From.{column_over}
+use Rattle.sq_binding.specs.Outcome.{and_then, or_fault}
 use Rattle.sq_binding.specs.Scope as binding
 use Rattle.sq_binder.specs.Scope.{column_of}
 use Rattle.sq_binder.specs.declared.column.ItemColumn.{ItemColumn}
 use Rattle.sq_cursor_binder.specs.Changeable.{changed_of}
 use Rattle.sq_cursor_binder.specs.declared.changeable.ChangedTable.{ChangedTable}
-use Rattle.sq_statement_binder.specs.Receiver.{receiver_at, receiver_seen}
+use Rattle.sq_promises.proofs.Inserts.{found_holds}
+use Rattle.sq_statement_binder.specs.Receiver.{AreWithin, named_once, once, receiver_at, receiver_seen}
 use Rattle.sq_statement_binder.specs.declared.receiver.Receiver.{Receiver}
 
 and_left : (a b : Bool) → (a && b) ≡ true → a ≡ true
@@ -36,6 +39,9 @@ with_rest false b c f h = h
 is_below : (m n : ℕ) → nat_lt m n ≡ true → m < n
 is_below m n e = grind (arith, nat_tests, e)
 
+abbrev as_receiver : binding.ItemColumn → change.Receiver
+as_receiver c = record { name = c.name; column = c.position; kind = c.kind }
+
 module _ (n : ℕ) where
   abbrev within : binding.ItemColumn → Bool
   within c = nat_lt c.position n
@@ -46,22 +52,36 @@ module _ (n : ℕ) where
   all_within (u ∷ under) (c ∷ columns) h =
       with_rest (nat_lt u.leaf_column n) (list_all (λ c. nat_lt c.leaf_column n) under) (list_all within (map column_over (zip (map (λ c. c.leaf_column) under) columns))) (all_within under columns) h
 
-  one_within : (columns : List ItemColumn) (i : ℕ) (column : ItemColumn) → list_all within (map column_of columns) ≡ true → i < length columns → column ≡ get_or columns i column → nat_lt column.position n ≡ true
-  one_within [] i column h lt at = absurd (omega (arith, lt))
-  one_within (c ∷ columns) zero column h lt at = ap (λ c. nat_lt c.position n) at ∙ and_left (nat_lt c.position n) (list_all within (map column_of columns)) h
-  one_within (c ∷ columns) (suc i) column h lt at = one_within columns i column (and_right (nat_lt c.position n) (list_all within (map column_of columns)) h) (omega (arith, lt)) at
+  receivers_within : (columns : List binding.ItemColumn) → list_all within columns ≡ true → AreWithin n (map as_receiver columns)
+  receivers_within [] h = tt
+  receivers_within (c ∷ columns) h =
+      (is_below c.position n (and_left (within c) (list_all within columns) h), receivers_within columns (and_right (within c) (list_all within columns) h))
 
-pub column_within : (t : ChangedTable) (columns : List ItemColumn) (i : ℕ) (column : ItemColumn) → map column_of columns ≡ (item_at_leaf (changed_of t)).columns → i < length columns → column ≡ get_or columns i column
-    → column.position < length t.under.leaf.now.table.columns
-column_within t columns i column are lt at =
+pub table_within : (t : ChangedTable) → AreWithin (length t.under.leaf.now.table.columns) (change.receivers_of (changed_of t))
+table_within t =
     let n = length t.under.leaf.now.table.columns in
-    is_below column.position n
-    (one_within n columns i column (ap (list_all (within n)) are ∙ all_within n t.under.columns.now (changed_of t).table.columns t.under.placed) lt at)
+    subst (AreWithin n) (map-map as_receiver column_over (zip (changed_of t).under.columns (changed_of t).table.columns))
+    (receivers_within n (item_at_leaf (changed_of t)).columns (all_within n t.under.columns.now (changed_of t).table.columns t.under.placed))
+
+-- one of some columns
+pub one_within : (n : ℕ) (all : List Receiver) (i : ℕ) (receiver : Receiver) → AreWithin n (map receiver_seen all) → i < length all → receiver ≡ get_or all i receiver → receiver.column < n
+one_within n [] i receiver h lt at = absurd (omega (arith, lt))
+one_within n (r ∷ all) zero receiver h lt at = subst (λ (r : Receiver). r.column < n) (sym at) h.0
+one_within n (r ∷ all) (suc i) receiver h lt at = one_within n all i receiver h.1 (omega (arith, lt)) at
+
+-- the column of a name is one of them
+pub named_within : (n : ℕ) (all : List change.Receiver) (name : Name) (again : Bool) (r : change.Receiver) → AreWithin n all → named_once all name again ≡ Ok r → r.column < n
+named_within n all name again r h is = by (find (λ (r : change.Receiver). same_name r.name name) all) refl is
+  where
+    kept : (again : Bool) (s : change.Receiver) → s.column < n → once again s ≡ Ok r → r.column < n
+    kept true s lt e = cc
+    kept false s lt e = let same : s ≡ r = cc in subst (λ (r : change.Receiver). r.column < n) same lt
+
+    by : (o : Option change.Receiver) → find (λ (r : change.Receiver). same_name r.name name) all ≡ o → and_then (or_fault fault.UnknownColumn o) (once again) ≡ Ok r → r.column < n
+    by None found e = cc
+    by (Some s) found e = kept again s (found_holds (λ (r : change.Receiver). r.column < n) (λ (r : change.Receiver). same_name r.name name) all s h found) e
 
 -- ---- all columns
-
-abbrev as_receiver : binding.ItemColumn → change.Receiver
-as_receiver c = record { name = c.name; column = c.position; kind = c.kind }
 
 pub all_seen : (t : changeable.ChangedTable) (columns : List ItemColumn) → map column_of columns ≡ (item_at_leaf t).columns → map receiver_at columns ≡ change.receivers_of t
 all_seen t columns are = sym (map-map as_receiver column_of columns) ∙ ap (map as_receiver) are ∙ map-map as_receiver column_over (zip t.under.columns t.table.columns)

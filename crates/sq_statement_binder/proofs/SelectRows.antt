@@ -23,8 +23,8 @@ use Rattle.sq_binder.specs.declared.found.Found.{Found}
 use Rattle.sq_binder.specs.declared.stop.Stop.{Stop}
 use Rattle.sq_binder.specs.declared.stop.Stop.TheVariants.{Fault, NoMemory}
 use Rattle.sq_binder.proofs.Behind.{with_part}
-use Rattle.sq_statement_binder.specs.Row.{row_in, row_of, with_outputs}
-use Rattle.sq_statement_binder.specs.Target.{placed_of}
+use Rattle.sq_statement_binder.specs.Row.{row_in, with_outputs}
+use Rattle.sq_promises.specs.Seen.{output_seen, row_seen}
 use Rattle.sq_statement_binder.proofs.Turned.{outcome_last}
 
 module _ (own : Name) (a : Surroundings) (s : SelectStatement) (before : Counts) where
@@ -44,7 +44,7 @@ module _ (own : Name) (a : Surroundings) (s : SelectStatement) (before : Counts)
         ∙ ap (λ p. and_then p (λ x. and_then (into x.part) (λ targets. Ok (with_part (row x.part targets) x)))) found.0
         ∙ ap (λ p. and_then p (λ targets. Ok (with_part (row (select_seen query.part) targets) (found_of select_seen query)))) is
 
-    pub row_found : (outputs : Result (List Output) Stop) → Binds (map placed_of) (into (select_seen query.part)) outputs → Finds row_of (row_in own a s) before (with_outputs query outputs)
-    row_found (Ok outputs) is = (row_is (Ok (map placed_of outputs)) is, found.1)
+    pub row_found : (outputs : Result (List Output) Stop) → Binds (map output_seen) (into (select_seen query.part)) outputs → Finds row_seen (row_in own a s) before (with_outputs query outputs)
+    row_found (Ok outputs) is = (row_is (Ok (map output_seen outputs)) is, found.1)
     row_found (Err NoMemory) is = tt
-    row_found (Err (Fault f)) is = row_is (Err f) is
+    row_found (Err (Fault f)) is = row_is (Err f.rule) is

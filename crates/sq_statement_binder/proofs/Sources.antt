@@ -33,9 +33,10 @@ use Rattle.sq_binder.specs.declared.stop.Stop.{Stop}
 use Rattle.sq_binder.specs.declared.stop.Stop.TheVariants.{Fault, NoMemory}
 use Rattle.sq_binder.proofs.Behind.{Makes, alone, made, with_part}
 use Rattle.sq_statement_binder.specs.Receiver.{receiver_seen}
-use Rattle.sq_statement_binder.specs.Source.{Inserts, agrees, columns_beside, source_of, unless}
+use Rattle.sq_statement_binder.specs.Source.{Inserts, agrees, columns_beside, unless}
 use Rattle.sq_statement_binder.specs.declared.receiver.Receiver.{Receiver as CodeReceiver}
 use Rattle.sq_statement_binder.proofs.Chains.{must_first}
+use Rattle.sq_promises.specs.Seen.{source_seen}
 
 -- ---- columns of a query
 
@@ -138,19 +139,19 @@ module _ (names : UserNames) (a : Surroundings) (q : QuerySpecification) (receiv
         ∙ (λ j. if_storable (counts_of before) seen (length-map receivers receiver_seen j == length-map columns column_of j) (agree_same columns receivers j))
 
     of_fault : (as_many agree : Bool) → whole (counts_of before) ≡ if_storable (counts_of before) seen as_many agree
-        → Finds source_of whole before (unless (if as_many then (if agree then None else Some fault.KindMismatch) else Some fault.CountMismatch) (record { part = inserted.Query x.part; brought = x.brought }))
+        → Finds source_seen whole before (unless (if as_many then (if agree then None else Some fault.KindMismatch) else Some fault.CountMismatch) (record { part = inserted.Query x.part; brought = x.brought }))
     of_fault false agree e = e
     of_fault true false e = e
     of_fault true true e = (e, found.1)
 
-    rows_found : Finds source_of whole before (unless (if many then (if list_all agrees (columns_beside columns receivers) then None else Some fault.KindMismatch) else Some fault.CountMismatch) (record { part = inserted.Query x.part; brought = x.brought }))
+    rows_found : Finds source_seen whole before (unless (if many then (if list_all agrees (columns_beside columns receivers) then None else Some fault.KindMismatch) else Some fault.CountMismatch) (record { part = inserted.Query x.part; brought = x.brought }))
     rows_found = of_fault many (list_all agrees (columns_beside columns receivers)) source_is
 
-  pub query_found : (query : Result (FoundPart BoundSpecification) Stop) (r : Result (FoundPart InsertedRows) Stop) → Finds select_seen query_bound before query → Inserts receivers query r → Finds source_of whole before r
-  query_found (Ok x) r found is = subst (Finds source_of whole before) (sym is) (rows_found x found)
-  query_found (Err NoMemory) r s is = subst (Finds source_of whole before) (sym is) tt
+  pub query_found : (query : Result (FoundPart BoundSpecification) Stop) (r : Result (FoundPart InsertedRows) Stop) → Finds select_seen query_bound before query → Inserts receivers query r → Finds source_seen whole before r
+  query_found (Ok x) r found is = subst (Finds source_seen whole before) (sym is) (rows_found x found)
+  query_found (Err NoMemory) r s is = subst (Finds source_seen whole before) (sym is) tt
   query_found (Err (Fault f)) r s is =
-      subst (Finds source_of whole before) (sym is)
+      subst (Finds source_seen whole before) (sym is)
       (ap (λ o. and_then o (λ x. checked (counts_of before) x (length (map receiver_seen receivers) == length (columns_of x.part)) (zip (columns_of x.part) (map receiver_seen receivers)))) s)
 
 -- ---- values beside the columns that get them

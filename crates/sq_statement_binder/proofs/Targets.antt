@@ -24,7 +24,8 @@ use Rattle.sq_binder.specs.declared.stop.Stop.{Stop}
 use Rattle.sq_binder.specs.declared.stop.Stop.TheVariants.{Fault, NoMemory}
 use Rattle.sq_binder.proofs.Steps.{stepped, stepped_fault}
 use Rattle.sq_statement_binder.proofs.Twice.{once_more, twice_more}
-use Rattle.sq_statement_binder.specs.Target.{all_set, indicator_again, is_set_again, is_set_in, kinds_shown, placed_of, set_once, set_unless, target_step}
+use Rattle.sq_statement_binder.specs.Target.{all_set, indicator_again, is_set_again, is_set_in, kinds_shown, set_once, set_unless, target_step}
+use Rattle.sq_promises.specs.Seen.{output_seen}
 
 -- ---- in turn
 
@@ -120,7 +121,7 @@ module _ (parameters : List Declared) (first : Parameter) (rest : List Parameter
   pub begun_stops : (stop : Stop) → Stops (target_step parameters [] (first, column.kind)) stop → Stops whole stop
   begun_stops NoMemory s = tt
   begun_stops (Fault f) s =
-      whole_stepped ∙ ap (λ o. stepped (target_step parameters) o (map beside (zip rest others))) s ∙ stepped_fault (target_step parameters) f (map beside (zip rest others))
+      whole_stepped ∙ ap (λ o. stepped (target_step parameters) o (map beside (zip rest others))) s ∙ stepped_fault (target_step parameters) f.rule (map beside (zip rest others))
 
 -- a target beside its column
 module _ (rest items : List Parameter) (are : items ≡ rest) (others : List ResultColumn) (same : length rest ≡ length others) (i : ℕ) where
@@ -137,19 +138,19 @@ module _ (rest items : List Parameter) (are : items ≡ rest) (others : List Res
 
 -- ---- a target that sets a parameter again
 
-set_among : (p : ℕ) (os : List Output) → list_any (λ set. nat_eq set p) (all_set (map placed_of os)) ≡ is_set_in os p
+set_among : (p : ℕ) (os : List Output) → list_any (λ set. nat_eq set p) (all_set (map output_seen os)) ≡ is_set_in os p
 set_among p [] = refl
 set_among p (o ∷ os) =
-    list_any-append (λ set. nat_eq set p) (set_by (placed_of o)) (all_set (map placed_of os)) ∙ ap (λ b. list_any (λ set. nat_eq set p) (set_by (placed_of o)) || b) (set_among p os)
+    list_any-append (λ set. nat_eq set p) (set_by (output_seen o)) (all_set (map output_seen os)) ∙ ap (λ b. list_any (λ set. nat_eq set p) (set_by (output_seen o)) || b) (set_among p os)
 
 or_none : (a : Bool) → (a || false) ≡ a
 or_none true = refl
 or_none false = refl
 
-again_split : (os : List Output) (p : ℕ) (indicator : Option ℕ) → has_twice nat_eq (all_set (map placed_of os)) ≡ false
-    → has_twice nat_eq (all_set (map placed_of os) ++ p ∷ option_to_list indicator) ≡ (is_set_in os p || indicator_again os p indicator)
-again_split os p None once = once_more nat_eq (all_set (map placed_of os)) p once ∙ set_among p os ∙ sym (or_none (is_set_in os p))
-again_split os p (Some i) once = twice_more nat_eq (all_set (map placed_of os)) p i once ∙ (λ j. set_among p os j || (nat_eq p i || set_among i os j))
+again_split : (os : List Output) (p : ℕ) (indicator : Option ℕ) → has_twice nat_eq (all_set (map output_seen os)) ≡ false
+    → has_twice nat_eq (all_set (map output_seen os) ++ p ∷ option_to_list indicator) ≡ (is_set_in os p || indicator_again os p indicator)
+again_split os p None once = once_more nat_eq (all_set (map output_seen os)) p once ∙ set_among p os ∙ sym (or_none (is_set_in os p))
+again_split os p (Some i) once = twice_more nat_eq (all_set (map output_seen os)) p i once ∙ (λ j. set_among p os j || (nat_eq p i || set_among i os j))
 
-pub again_is : (os : List Output) (o : Output) → has_twice nat_eq (all_set (map placed_of os)) ≡ false → is_set_again os o ≡ has_twice nat_eq (all_set (map placed_of os) ++ set_by (placed_of o))
+pub again_is : (os : List Output) (o : Output) → has_twice nat_eq (all_set (map output_seen os)) ≡ false → is_set_again os o ≡ has_twice nat_eq (all_set (map output_seen os) ++ set_by (output_seen o))
 again_is os o once = sym (again_split os o.parameter o.indicator once)

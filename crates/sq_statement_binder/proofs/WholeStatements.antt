@@ -11,7 +11,7 @@ use Rattle.sq_binding.specs.Found.{Binding}
 use Rattle.sq_binding.specs.Outcome.{and_then}
 use Rattle.sq_binding.specs.Statement.{statement_bound}
 use Rattle.sq_binding.specs.Whole.{permitted, whole}
-use Rattle.sq_binder.specs.Binds.{Binds}
+use Rattle.sq_binder.specs.Binds.{Binds, broken}
 use Rattle.sq_binder.specs.Found.{Finds}
 use Rattle.sq_binder.specs.declared.found.Counts.{Counts}
 use Rattle.sq_binder.specs.declared.found.Found.{Found}
@@ -27,10 +27,10 @@ first = record { functions = 0; subqueries = 0 }
 pub whole_binds : {A X : Type 0} (image : X → A) (b : Binding A) (r : Result (Found X) Stop) (part : Result X Stop) → Finds image b first r → Permits r part → Binds image (whole b) part
 whole_binds {A} {X} image b (Ok x) part found is = subst (Binds image (whole b)) (sym is) (by x.brought.findings.lacks_privilege refl)
   where
-    by : (lacks : Bool) → x.brought.findings.lacks_privilege ≡ lacks → Binds image (whole b) (if x.brought.findings.lacks_privilege then Err (Fault PrivilegeMissing) else Ok x.part)
-    by lacks e = subst (λ t. Binds image (whole b) (if t then Err (Fault PrivilegeMissing) else Ok x.part)) (sym e) (of lacks e)
+    by : (lacks : Bool) → x.brought.findings.lacks_privilege ≡ lacks → Binds image (whole b) (if x.brought.findings.lacks_privilege then Err (broken PrivilegeMissing) else Ok x.part)
+    by lacks e = subst (λ t. Binds image (whole b) (if t then Err (broken PrivilegeMissing) else Ok x.part)) (sym e) (of lacks e)
       where
-        of : (lacks : Bool) → x.brought.findings.lacks_privilege ≡ lacks → Binds image (whole b) (if lacks then Err (Fault PrivilegeMissing) else Ok x.part)
+        of : (lacks : Bool) → x.brought.findings.lacks_privilege ≡ lacks → Binds image (whole b) (if lacks then Err (broken PrivilegeMissing) else Ok x.part)
         of true e = ap (λ o. and_then o permitted) found.0 ∙ ap (λ t. if t then Err PrivilegeMissing else Ok (image x.part)) e
         of false e = ap (λ o. and_then o permitted) found.0 ∙ ap (λ t. if t then Err PrivilegeMissing else Ok (image x.part)) e
 whole_binds image b (Err NoMemory) part found is = subst (Binds image (whole b)) (sym is) tt

@@ -1,15 +1,10 @@
 -- Cursors that statements name, as the definitions see them (ISO/IEC 9075:1992, 13.1).
 use Rattle.std.specs.Prelude.{map}
 use Rattle.std.specs.Option.{option_map}
-use Rattle.sq_lex.specs.declared.name.Name.{Name}
-use Rattle.sq_meaning.specs.Environment.{TableName}
 use Rattle.sq_bound.specs.declared.names.KnownCursor.{KnownCursor}
 use Rattle.sq_binding.specs.Change.{NamedCursor}
 use Rattle.sq_binding.specs.Seen.{column_of}
-
--- a table by its owner and its name
-abbrev pub table_named : Name × Name → TableName
-table_named t = record { user = t.0; name = t.1 }
+use Rattle.sq_promises.specs.Seen.{table_named}
 
 abbrev pub named_cursor_of : KnownCursor → NamedCursor
 named_cursor_of k = record {

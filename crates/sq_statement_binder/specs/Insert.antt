@@ -1,9 +1,11 @@
 -- INSERT, as the definitions see it (ISO/IEC 9075:1992, 13.8).
 use Rattle.std.specs.Prelude.{◌≡◌, Bool, List, map, Result, Ok, Err}
+use Rattle.std.specs.List.{AllByRecursion}
 use Rattle.sq_tree.specs.declared.statement.Insert.{Insert}
 use Rattle.sq_meaning.specs.Spelled.{table_of}
 use Rattle.sq_rules.specs.Privilege.{Privilege}
-use Rattle.sq_bound.specs.Known.{under_of}
+use Rattle.sq_bound.specs.Fits.{IsColumnOf}
+use Rattle.sq_bound.specs.declared.names.Leaf.{Leaf}
 use Rattle.sq_bound.specs.declared.statement.BoundInsert.{BoundInsert}
 use Rattle.sq_bound.specs.declared.statement.InsertedRows.{InsertedRows}
 use Rattle.sq_binding.specs.Change.{NumberedInsert, receivers_bound, source_bound}
@@ -16,12 +18,13 @@ use Rattle.sq_binder.specs.declared.found.Found.{Found}
 use Rattle.sq_binder.specs.declared.stop.Stop.{Stop}
 use Rattle.sq_binder.specs.declared.stop.Stop.TheVariants.{NoMemory}
 use Rattle.sq_cursor_binder.specs.declared.changeable.ChangedTable.{ChangedTable as FoundTable}
+use Rattle.sq_promises.specs.There.{SourceIsPlain}
 use Rattle.sq_statement_binder.specs.Needed.{requiring}
-use Rattle.sq_statement_binder.specs.Source.{source_of}
 use Rattle.sq_statement_binder.specs.declared.receiver.Receiver.{Receiver}
 
-abbrev pub insert_of : BoundInsert → NumberedInsert
-insert_of i = record { leaf = under_of i.leaf; columns = map (λ c. c.position) i.columns; source = source_of i.source }
+-- it inserts into these rows of a base table
+abbrev pub IsInsertOver : Leaf → BoundInsert → Type 0
+IsInsertOver leaf i = (i.leaf ≡ leaf) × AllByRecursion (IsColumnOf leaf.table) i.columns × SourceIsPlain i.source
 
 -- into a table, in these surroundings
 abbrev pub insert_over : UserNames → Surroundings → Insert → ChangedTable → Binding NumberedInsert
@@ -38,7 +41,8 @@ insert_in names a i = outcome (changed_table names (table_of names.user i.table)
 abbrev pub InsertsInto : FoundTable → (may_insert : Bool) → Result (Found (List Receiver × InsertedRows)) Stop → Result (Found BoundInsert) Stop → Type 0
 InsertsInto t may_insert (Ok parts) (Ok i) =
     (i.part.leaf ≡ t.under.leaf.now)
-    × (i.part.columns ≡ map (λ r. r.object) parts.part.0)
+    × (map (λ c. c.position) i.part.columns ≡ map (λ r. r.column) parts.part.0)
+    × AllByRecursion (IsColumnOf t.under.leaf.now.table) i.part.columns
     × (i.part.source ≡ parts.part.1)
     × (brought_of i.brought ≡ requiring may_insert (brought_of parts.brought))
     × (i.brought.next ≡ parts.brought.next)

@@ -1,6 +1,5 @@
 pub mod Cursors
 pub mod Delete
-pub mod Fetch
 pub mod Insert
 pub mod Needed
 pub mod Receiver

@@ -4,9 +4,9 @@ use Rattle.sq_rules.specs.declared.fault.BindingFault.TheVariants.{PrivilegeMiss
 use Rattle.sq_binding.specs.Found as binding
 use Rattle.sq_binding.specs.QueryFindings.{both}
 use Rattle.sq_binding.specs.Whole.{needed}
+use Rattle.sq_binder.specs.Binds.{broken}
 use Rattle.sq_binder.specs.declared.found.Found.{Found}
 use Rattle.sq_binder.specs.declared.stop.Stop.{Stop}
-use Rattle.sq_binder.specs.declared.stop.Stop.TheVariants.{Fault}
 
 -- a privilege is needed
 abbrev pub requiring : {A : Type 0} → (is_held : Bool) → binding.Found A → binding.Found A
@@ -18,5 +18,5 @@ reading may_select x = requiring (not x.findings.values.reads_outermost || may_s
 
 -- the part, if no privilege is missing
 abbrev pub Permits : {A : Type 0} → Result (Found A) Stop → Result A Stop → Type 0
-Permits (Ok x) part = part ≡ (if x.brought.findings.lacks_privilege then Err (Fault PrivilegeMissing) else Ok x.part)
+Permits (Ok x) part = part ≡ (if x.brought.findings.lacks_privilege then Err (broken PrivilegeMissing) else Ok x.part)
 Permits (Err stop) part = part ≡ Err stop

@@ -1,5 +1,6 @@
 -- Columns that get values, in turn (ISO/IEC 9075:1992, 13.8 to 13.10).
-use Rattle.std.specs.Prelude.{Bool, not, List, [], ◌∷◌, ◌++◌, find, Ok}
+use Rattle.std.specs.Prelude.{ℕ, ◌<◌, Bool, not, List, [], ◌∷◌, ◌++◌, find, Ok}
+use Rattle.std.specs.List.{AllByRecursion}
 use Rattle.sq_lex.specs.declared.name.Name.{Name}
 use Rattle.sq_meaning.specs.Environment.{same_name}
 use Rattle.sq_rules.specs.Schema.{has_name_twice}
@@ -12,11 +13,15 @@ use Rattle.sq_binder.specs.declared.column.ItemColumn.{ItemColumn}
 use Rattle.sq_statement_binder.specs.declared.receiver.Receiver.{Receiver}
 
 abbrev pub receiver_seen : Receiver → binding.Receiver
-receiver_seen r = record { name = r.name; column = r.object.position; kind = r.kind }
+receiver_seen r = record { name = r.name; column = r.column; kind = r.kind }
 
 -- a column of an item over the base table, as one that gets values
 abbrev pub receiver_at : ItemColumn → binding.Receiver
 receiver_at c = record { name = c.name; column = c.position; kind = c.kind }
+
+-- they are among this many columns of the base table
+abbrev pub AreWithin : ℕ → List binding.Receiver → Type 0
+AreWithin columns = AllByRecursion (λ r. r.column < columns)
 
 -- a column that is not named again
 abbrev pub once : (again : Bool) → binding.Receiver → Outcome binding.Receiver

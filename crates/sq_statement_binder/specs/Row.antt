@@ -11,15 +11,10 @@ use Rattle.sq_binding.specs.Condition.{select_bound}
 use Rattle.sq_binding.specs.Found.{Binding, ◌>>=◌, outcome, pure}
 use Rattle.sq_binding.specs.NumberedCondition.{columns_of}
 use Rattle.sq_binding.specs.Row.{NumberedRow}
-use Rattle.sq_binding.specs.Seen.{select_seen}
 use Rattle.sq_binding.specs.Select.{Surroundings}
 use Rattle.sq_binding.specs.Targets.{targets_bound}
 use Rattle.sq_binder.specs.declared.found.Found.{Found}
 use Rattle.sq_binder.specs.declared.stop.Stop.{Stop}
-use Rattle.sq_statement_binder.specs.Target.{placed_of}
-
-abbrev pub row_of : BoundSelect → NumberedRow
-row_of s = record { query = select_seen s.query; targets = map placed_of s.outputs }
 
 -- in these surroundings, in the text of a user
 abbrev pub row_in : Name → Surroundings → SelectStatement → Binding NumberedRow

@@ -2,18 +2,12 @@
 use Rattle.std.specs.Prelude.{Bool, Result, Ok, Err}
 use Rattle.sq_meaning.specs.Environment.{TableName, same_table}
 use Rattle.sq_rules.specs.Words.{is_some_and}
-use Rattle.sq_bound.specs.Known.{under_of}
 use Rattle.sq_bound.specs.declared.query.Target.{Target}
 use Rattle.sq_bound.specs.declared.statement.ChangeTarget.{ChangeTarget}
 use Rattle.sq_bound.specs.declared.statement.ChangeTarget.TheVariants as rows
-use Rattle.sq_binding.specs.Change.{NamedCursor, NumberedChange}
+use Rattle.sq_binding.specs.Change.{NamedCursor}
 use Rattle.sq_binder.specs.declared.found.Found.{Found}
 use Rattle.sq_binder.specs.declared.stop.Stop.{Stop}
-use Rattle.sq_cursor_binder.specs.Changeable.{target_seen}
-
-abbrev pub change_of : ChangeTarget → NumberedChange
-change_of (rows.Searched t) = NumberedChange.searched (target_seen t)
-change_of (rows.Positioned p) = NumberedChange.positioned p.cursor (under_of p.leaf)
 
 abbrev pub searched : Result (Found Target) Stop → Result (Found ChangeTarget) Stop
 searched (Ok x) = Ok (record { part = rows.Searched x.part; brought = x.brought })

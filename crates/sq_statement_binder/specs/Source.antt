@@ -1,5 +1,5 @@
 -- Where inserted values come from, as the definitions see it (ISO/IEC 9075:1992, 13.8).
-use Rattle.std.specs.Prelude.{◌≡◌, ◌==◌, Bool, List, length, map, Option, None, Some, Result, Ok, Err, if◌then◌else◌}
+use Rattle.std.specs.Prelude.{◌≡◌, ◌==◌, Bool, List, length, Option, None, Some, Result, Ok, Err, if◌then◌else◌}
 use Rattle.std.specs.List.{list_all, zip}
 use Rattle.sq_meaning.specs.WellFormed.{is_comparable}
 use Rattle.sq_rules.specs.declared.fault.BindingFault.{BindingFault}
@@ -8,16 +8,10 @@ use Rattle.sq_bound.specs.declared.condition.BoundSpecification.{BoundSpecificat
 use Rattle.sq_bound.specs.declared.condition.ResultColumn.{ResultColumn}
 use Rattle.sq_bound.specs.declared.statement.InsertedRows.{InsertedRows}
 use Rattle.sq_bound.specs.declared.statement.InsertedRows.TheVariants as inserted
-use Rattle.sq_binding.specs.Change.{NumberedSource}
-use Rattle.sq_binding.specs.Seen.{numbered_of, select_seen}
+use Rattle.sq_binder.specs.Binds.{broken}
 use Rattle.sq_binder.specs.declared.found.Found.{Found}
 use Rattle.sq_binder.specs.declared.stop.Stop.{Stop}
-use Rattle.sq_binder.specs.declared.stop.Stop.TheVariants.{Fault}
 use Rattle.sq_statement_binder.specs.declared.receiver.Receiver.{Receiver}
-
-abbrev pub source_of : InsertedRows → NumberedSource
-source_of (inserted.Values exprs) = NumberedSource.values (map numbered_of exprs)
-source_of (inserted.Query query) = NumberedSource.query (select_seen query)
 
 -- columns of a query, each beside the column that gets its values
 abbrev pub columns_beside : List ResultColumn → List Receiver → List (ResultColumn × Receiver)
@@ -35,7 +29,7 @@ column_fault columns receivers =
 
 abbrev pub unless : {A : Type 0} → Option BindingFault → A → Result A Stop
 unless None x = Ok x
-unless (Some f) x = Err (Fault f)
+unless (Some f) x = Err (broken f)
 
 -- what a function ensures that inserts the rows of a query
 abbrev pub Inserts : List Receiver → Result (Found BoundSpecification) Stop → Result (Found InsertedRows) Stop → Type 0

@@ -1,9 +1,7 @@
--- Bound statements, as the definitions see them (ISO/IEC 9075:1992, 13.2 to 13.10, 14.3 and 14.4).
+-- Statements in surroundings (ISO/IEC 9075:1992, 13.2 to 13.10, 14.3 and 14.4).
 use Rattle.std.specs.Prelude.{Ok}
 use Rattle.sq_tree.specs.declared.statement.Statement.{Statement}
 use Rattle.sq_tree.specs.declared.statement.Statement.TheVariants as written
-use Rattle.sq_bound.specs.declared.statement.BoundStatement.{BoundStatement}
-use Rattle.sq_bound.specs.declared.statement.BoundStatement.TheVariants as bound
 use Rattle.sq_binding.specs.Change.{NamedCursors, cursor_named}
 use Rattle.sq_binding.specs.Changeable.{UserNames}
 use Rattle.sq_binding.specs.Outcome.{Outcome, ◌>>=◌}
@@ -11,22 +9,9 @@ use Rattle.sq_binding.specs.Select.{Surroundings}
 use Rattle.sq_binding.specs.Statement.{NumberedStatement, fetch_bound}
 use Rattle.sq_binding.specs.Whole.{whole}
 use Rattle.sq_statement_binder.specs.Delete.{delete_in}
-use Rattle.sq_statement_binder.specs.Fetch.{fetch_of}
-use Rattle.sq_statement_binder.specs.Insert.{insert_in, insert_of}
-use Rattle.sq_statement_binder.specs.Row.{row_in, row_of}
-use Rattle.sq_statement_binder.specs.Rows.{change_of}
-use Rattle.sq_statement_binder.specs.Update.{update_in, update_of}
-
-abbrev pub statement_of : BoundStatement → NumberedStatement
-statement_of (bound.Open n) = NumberedStatement.open_cursor n
-statement_of (bound.Fetch f) = NumberedStatement.fetch (fetch_of f)
-statement_of (bound.Close n) = NumberedStatement.close_cursor n
-statement_of (bound.Select s) = NumberedStatement.select_row (row_of s)
-statement_of (bound.Insert i) = NumberedStatement.insert (insert_of i)
-statement_of (bound.Update u) = NumberedStatement.update (update_of u)
-statement_of (bound.Delete d) = NumberedStatement.delete (change_of d)
-statement_of bound.Commit = NumberedStatement.commit
-statement_of bound.Rollback = NumberedStatement.rollback
+use Rattle.sq_statement_binder.specs.Insert.{insert_in}
+use Rattle.sq_statement_binder.specs.Row.{row_in}
+use Rattle.sq_statement_binder.specs.Update.{update_in}
 
 -- a statement in these surroundings
 abbrev pub statement_in : UserNames → Surroundings → NamedCursors → Statement → Outcome NumberedStatement

@@ -13,10 +13,7 @@ use Rattle.sq_binding.specs.Outcome.{Outcome, ◌>>=◌}
 use Rattle.sq_binding.specs.Seen.{column_of}
 use Rattle.sq_binding.specs.Targets.{set_by, target_bound}
 use Rattle.sq_binding.specs.Whole.{must_hold}
-
--- a target, as the definitions see it
-abbrev pub placed_of : Output → PlacedParameter
-placed_of o = record { position = o.parameter; indicator = o.indicator }
+use Rattle.sq_promises.specs.Seen.{output_seen}
 
 abbrev pub kinds_shown : List ResultColumn → List Kind
 kinds_shown columns = map (λ c. c.kind) (map column_of columns)
@@ -40,7 +37,7 @@ target_step parameters targets t = target_bound parameters t >>= set_once target
 
 -- a target sets this one
 abbrev pub sets : ℕ → Output → Bool
-sets p o = list_any (λ set. nat_eq set p) (set_by (placed_of o))
+sets p o = list_any (λ set. nat_eq set p) (set_by (output_seen o))
 
 abbrev pub is_set_in : List Output → ℕ → Bool
 is_set_in outputs p = list_any (sets p) outputs

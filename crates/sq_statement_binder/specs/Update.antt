@@ -1,27 +1,35 @@
 -- UPDATE, as the definitions see it (ISO/IEC 9075:1992, 13.9 and 13.10).
-use Rattle.std.specs.Prelude.{Bool, List, map, Result, Ok, Err}
+use Rattle.std.specs.Prelude.{◌≡◌, Bool, List, Result, Ok, Err}
+use Rattle.std.specs.List.{AllByRecursion}
 use Rattle.sq_tree.specs.declared.statement.Assignment.{Assignment}
 use Rattle.sq_tree.specs.declared.statement.Update.{Update}
 use Rattle.sq_meaning.specs.Spelled.{table_of}
 use Rattle.sq_rules.specs.Privilege.{Privilege}
+use Rattle.sq_bound.specs.Fits.{IsColumnOf, under}
+use Rattle.sq_bound.specs.declared.names.BaseTable.{BaseTable}
+use Rattle.sq_bound.specs.declared.names.Leaf.{Leaf}
 use Rattle.sq_bound.specs.declared.statement.BoundAssignment.{BoundAssignment}
 use Rattle.sq_bound.specs.declared.statement.BoundUpdate.{BoundUpdate}
 use Rattle.sq_bound.specs.declared.statement.ChangeTarget.{ChangeTarget}
 use Rattle.sq_binding.specs.Change.{NamedCursors, NumberedAssignment, NumberedUpdate, Receiver, new_value_bound, reading, update_parts}
 use Rattle.sq_binding.specs.Changeable.{ChangedTable, UserNames, changed_table}
 use Rattle.sq_binding.specs.Found.{Binding, ◌>>=◌, ◌>>◌, has_found, outcome, pure}
-use Rattle.sq_binding.specs.Seen.{numbered_of}
 use Rattle.sq_binding.specs.Select.{Surroundings}
 use Rattle.sq_binding.specs.Whole.{needed}
 use Rattle.sq_binder.specs.declared.found.Found.{Found}
 use Rattle.sq_binder.specs.declared.stop.Stop.{Stop}
-use Rattle.sq_statement_binder.specs.Rows.{change_of}
+use Rattle.sq_promises.specs.There.{IsPlain}
 
-abbrev pub assignment_seen : BoundAssignment → NumberedAssignment
-assignment_seen a = record { column = a.column.position; value = numbered_of a.value }
+-- a set clause of a column of the base table
+abbrev pub IsAssignmentOf : BaseTable → BoundAssignment → Type 0
+IsAssignmentOf base a = IsColumnOf base a.column × IsPlain a.value
 
-abbrev pub update_of : BoundUpdate → NumberedUpdate
-update_of u = record { rows = change_of u.target; assignments = map assignment_seen u.assignments }
+abbrev pub AreAssignmentsOf : BaseTable → List BoundAssignment → Type 0
+AreAssignmentsOf base = AllByRecursion (IsAssignmentOf base)
+
+-- it updates these rows of a base table
+abbrev pub IsUpdateOver : Leaf → BoundUpdate → Type 0
+IsUpdateOver leaf u = (under u.target ≡ leaf) × AreAssignmentsOf leaf.table u.assignments
 
 -- a set clause where columns of the table may stand; the user holds these privileges on it
 abbrev pub assignment_in : (holds : Privilege → Bool) → Surroundings → Assignment → Receiver → Binding NumberedAssignment

@@ -1,6 +1,6 @@
 //! Set clauses (ISO/IEC 9075:1992, 13.9 and 13.10).
 
-ghost use Rattle.std.specs.Prelude.{◌≡◌, ◌≤◌, ◌∷◌, [], length, map, take};
+ghost use Rattle.std.specs.Prelude.{◌≡◌, ◌≤◌, ◌∷◌, [], IfOk, length, map, take};
 ghost use Rattle.std.specs.List.{list_any};
 ghost use Rattle.sq_meaning.specs.Environment.{same_name};
 ghost use Rattle.sq_meaning.specs.Spelled.{listed};
@@ -12,8 +12,9 @@ ghost use Rattle.sq_binder.specs.Scope.{item_of};
 ghost use Rattle.sq_binder.specs.Surroundings.{surroundings};
 ghost use Rattle.sq_cursor_binder.specs.Changeable.{changed_of, table_name};
 ghost use Rattle.sq_cursor_binder.specs.Names.{names_at};
-ghost use Rattle.sq_statement_binder.specs.Receiver.{column_made, columns_made, receiver_seen};
-ghost use Rattle.sq_statement_binder.specs.Update.{assignment_in, assignment_seen};
+ghost use Rattle.sq_promises.specs.Seen.{assignment_seen};
+ghost use Rattle.sq_statement_binder.specs.Receiver.{AreWithin, column_made, columns_made, receiver_seen};
+ghost use Rattle.sq_statement_binder.specs.Update.{AreAssignmentsOf, IsAssignmentOf, assignment_in};
 
 use crate::needed::requiring;
 use crate::new_value::bind_new_value;
@@ -36,9 +37,11 @@ pub fn bind_assignments<T: ChangeableTables>(
     at: &Surroundings<'_, T>,
     before: Counts,
 ) -> AssignmentsResult
-    ensures { let t = changed_of table.now in let a = surroundings T.named at.now in
+    ensures finds { let t = changed_of table.now in let a = surroundings T.named at.now in
         Finds (map assignment_seen) (spec.each_column t (λ s. s.column)
         (spec.assignment_bound (names_at T.named T.changes at.now) a t) [] (listed list.now)) before result }
+    ensures columns { IfOk result
+        (λ found. AreAssignmentsOf table.now.under.leaf.now.table found.part) }
 {
     let receivers = receivers_of(at.environment.alloc, table)?;
     let bound = with_columns(list, table, receivers.as_slice(), &*at, before);
@@ -54,10 +57,13 @@ fn with_columns<T: ChangeableTables>(
     at: &Surroundings<'_, T>,
     before: Counts,
 ) -> AssignmentsResult
-    ensures { Finds (map assignment_seen) (columns_made (map receiver_seen receivers.now) (λ s. s.column)
+    requires { AreWithin (length table.now.under.leaf.now.table.columns) (map receiver_seen receivers.now) }
+    ensures finds { Finds (map assignment_seen) (columns_made (map receiver_seen receivers.now) (λ s. s.column)
         (assignment_in ((T.changes at.now.tables.now).holds (table_name table.now))
         (of_lines (item_at_leaf (changed_of table.now) ∷ []) (surroundings T.named at.now)))
         (listed list.now)) before result }
+    ensures columns { IfOk result
+        (λ found. AreAssignmentsOf table.now.under.leaf.now.table found.part) }
 {
     let item = item_at_leaf(at.environment.alloc, table)?;
     let bound = over_item(list, table, receivers, &item, &*at, before);
@@ -74,9 +80,12 @@ fn over_item<'s, T: ChangeableTables>(
     at: &'s Surroundings<'s, T>,
     before: Counts,
 ) -> AssignmentsResult
-    ensures { Finds (map assignment_seen) (columns_made (map receiver_seen receivers.now) (λ s. s.column)
+    requires { AreWithin (length table.now.under.leaf.now.table.columns) (map receiver_seen receivers.now) }
+    ensures finds { Finds (map assignment_seen) (columns_made (map receiver_seen receivers.now) (λ s. s.column)
         (assignment_in ((T.changes at.now.tables.now).holds (table_name table.now))
         (of_lines (item_of item.now ∷ []) (surroundings T.named at.now))) (listed list.now)) before result }
+    ensures columns { IfOk result
+        (λ found. AreAssignmentsOf table.now.under.leaf.now.table found.part) }
 {
     let environment = at
         .environment
@@ -96,9 +105,12 @@ fn in_turn<T: ChangeableTables>(
     at: &Surroundings<'_, T>,
     before: Counts,
 ) -> AssignmentsResult
-    ensures { Finds (map assignment_seen) (columns_made (map receiver_seen receivers.now) (λ s. s.column)
+    requires { AreWithin (length table.now.under.leaf.now.table.columns) (map receiver_seen receivers.now) }
+    ensures finds { Finds (map assignment_seen) (columns_made (map receiver_seen receivers.now) (λ s. s.column)
         (assignment_in ((T.changes at.now.tables.now).holds (table_name table.now))
         (surroundings T.named at.now)) (listed list.now)) before result }
+    ensures columns { IfOk result
+        (λ found. AreAssignmentsOf table.now.under.leaf.now.table found.part) }
 {
     let first = bind_assignment(&list.first, false, table, receivers, at, before);
     let mut assignments = begun(at.environment.alloc, first)?;
@@ -138,19 +150,23 @@ fn bind_assignment<T: ChangeableTables>(
     at: &Surroundings<'_, T>,
     before: Counts,
 ) -> Result<Found<BoundAssignment>, Stop>
-    ensures { Finds assignment_seen (column_made (map receiver_seen receivers.now) assignment.now.column again
+    requires { AreWithin (length table.now.under.leaf.now.table.columns) (map receiver_seen receivers.now) }
+    ensures finds { Finds assignment_seen (column_made (map receiver_seen receivers.now) assignment.now.column again
         (assignment_in ((T.changes at.now.tables.now).holds (table_name table.now))
         (surroundings T.named at.now) assignment.now)) before result }
+    ensures column { IfOk result
+        (λ found. IsAssignmentOf table.now.under.leaf.now.table found.part) }
 {
     let column = assignment.column;
     let receiver = receiver_named(column, again, receivers)?;
     let Found { part, brought } = bind_new_value(&assignment.value, receiver.kind, at, before)?;
+    let base = table.under.leaf.get().table.get();
     let may_update = at
         .tables
         .holds(table.user, table.name, Privilege::Update(column));
     Ok(Found {
         part: BoundAssignment {
-            column: receiver.object,
+            column: base.object_column(receiver.column),
             value: part,
         },
         brought: requiring(brought, may_update),

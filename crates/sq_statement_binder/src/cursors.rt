@@ -27,6 +27,6 @@ pub fn cursor_named<C: Cursors>(cursors: &C, name: Name) -> Result<KnownCursor<'
 {
     match cursors.cursor(name) {
         Some(known) => Ok(known),
-        None => Err(Stop::Fault(BindingFault::UnknownCursor)),
+        None => Err(Stop::about(BindingFault::UnknownCursor, name)),
     }
 }

@@ -1,11 +1,16 @@
 //! DELETE (ISO/IEC 9075:1992, 13.6 and 13.7).
 
+ghost use Rattle.std.specs.Prelude.{◌≡◌, List, IfOk};
+ghost use Rattle.sq_bound.specs.Fits.{under};
+ghost use Rattle.sq_bound.specs.declared.names.BaseTable.{BaseTable as AnyBase};
+ghost use Rattle.sq_bound.specs.declared.statement.BoundStatement.TheVariants as bound;
 ghost use Rattle.sq_binder.specs.Found.{Finds};
 ghost use Rattle.sq_binder.specs.Surroundings.{surroundings};
 ghost use Rattle.sq_cursor_binder.specs.Changeable.{changed_of};
-ghost use Rattle.sq_cursor_binder.specs.Names.{names_at};
+ghost use Rattle.sq_cursor_binder.specs.Names.{AreOverBases, names_at};
+ghost use Rattle.sq_promises.specs.Seen.{change_seen};
+ghost use Rattle.sq_promises.specs.There.{StatementIsThere};
 ghost use Rattle.sq_statement_binder.specs.Delete.{delete_in, delete_over};
-ghost use Rattle.sq_statement_binder.specs.Rows.{change_of};
 
 use crate::cursors::Cursors;
 use crate::needed::{reading, requiring};
@@ -20,8 +25,10 @@ pub fn bind_delete<T: ChangeableTables, C: Cursors>(
     cursors: &C,
     before: Counts,
 ) -> RowsResult
-    ensures { Finds change_of (delete_in (names_at T.named T.changes at.now)
+    ensures finds { Finds change_seen (delete_in (names_at T.named T.changes at.now)
         (surroundings T.named at.now) (C.named cursors.now) delete.now) before result }
+    ensures there { (bases : List AnyBase) → AreOverBases bases (T.changes at.now.tables.now)
+        → IfOk result (λ found. StatementIsThere bases (bound.Delete found.part)) }
 {
     match changed_table(at.tables, at.environment.user, delete.table) {
         Ok(table) => delete_from(delete, &table, at, cursors, before),
@@ -36,8 +43,9 @@ fn delete_from<T: ChangeableTables, C: Cursors>(
     cursors: &C,
     before: Counts,
 ) -> RowsResult
-    ensures { Finds change_of (delete_over (names_at T.named T.changes at.now) (surroundings T.named at.now)
-        (C.named cursors.now) delete.now (changed_of table.now)) before result }
+    ensures finds { Finds change_seen (delete_over (names_at T.named T.changes at.now)
+        (surroundings T.named at.now) (C.named cursors.now) delete.now (changed_of table.now)) before result }
+    ensures leaf { IfOk result (λ found. under found.part ≡ table.now.under.leaf.now) }
 {
     let Found { part, brought } = bind_rows(&delete.target, table, at, cursors, before)?;
     let may_select = at.tables.holds(table.user, table.name, Privilege::Select);

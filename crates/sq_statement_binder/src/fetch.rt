@@ -4,7 +4,7 @@ ghost use Rattle.std.specs.Prelude.{map};
 ghost use Rattle.sq_binding.specs.Statement.{fetch_bound};
 ghost use Rattle.sq_binder.specs.Binds.{Binds};
 ghost use Rattle.sq_binder.specs.Scope.{declared_of};
-ghost use Rattle.sq_statement_binder.specs.Fetch.{fetch_of};
+ghost use Rattle.sq_promises.specs.Seen.{fetch_seen};
 
 use crate::cursors::{Cursors, cursor_named};
 use crate::orientation::fetched;
@@ -20,7 +20,7 @@ pub fn bind_fetch<C: Cursors>(
     parameters: &[ParameterDesc],
     cursors: &C,
 ) -> Result<BoundFetch, Stop>
-    ensures { Binds fetch_of
+    ensures { Binds fetch_seen
         (fetch_bound (map declared_of parameters.now) (C.named cursors.now) fetch.now) result }
 {
     let known = cursor_named(cursors, fetch.cursor)?;

@@ -1,17 +1,24 @@
 //! INSERT (ISO/IEC 9075:1992, 13.8).
 
-ghost use Rattle.std.specs.Prelude.{◌≡◌, IfOk, map};
+ghost use Rattle.std.specs.Prelude.{◌≡◌, List, IfOk, length, map};
+ghost use Rattle.std.specs.List.{AllByRecursion};
+ghost use Rattle.sq_bound.specs.Fits.{IsColumnOf};
+ghost use Rattle.sq_bound.specs.declared.names.BaseTable.{BaseTable as AnyBase};
+ghost use Rattle.sq_bound.specs.declared.statement.BoundStatement.TheVariants as bound;
 ghost use Rattle.sq_binder.specs.Found.{Finds};
 ghost use Rattle.sq_binder.specs.Surroundings.{surroundings};
 ghost use Rattle.sq_cursor_binder.specs.Changeable.{changed_of};
-ghost use Rattle.sq_cursor_binder.specs.Names.{names_at};
-ghost use Rattle.sq_statement_binder.specs.Insert.{InsertsInto, insert_in, insert_of, insert_over};
+ghost use Rattle.sq_cursor_binder.specs.Names.{AreOverBases, names_at};
+ghost use Rattle.sq_promises.specs.Seen.{insert_seen};
+ghost use Rattle.sq_promises.specs.There.{SourceIsPlain, StatementIsThere};
+ghost use Rattle.sq_statement_binder.specs.Insert.{InsertsInto, IsInsertOver, insert_in, insert_over};
+ghost use Rattle.sq_statement_binder.specs.Receiver.{AreWithin, receiver_seen};
 
 use crate::needed::requiring;
 use crate::receiver::{Receiver, insert_receivers};
 use crate::source::bind_source;
 use sq_binder::{Counts, Found, Stop, Surroundings, paired};
-use sq_bound::{BoundInsert, InsertedRows, ObjectColumn};
+use sq_bound::{BaseTable, BoundInsert, InsertedRows, ObjectColumn};
 use sq_cursor_binder::{ChangeableTables, ChangedTable, Privilege, changed_table};
 use sq_items::Items;
 use sq_tree::Insert;
@@ -28,8 +35,10 @@ pub fn bind_insert<T: ChangeableTables>(
     at: &Surroundings<'_, T>,
     before: Counts,
 ) -> InsertResult
-    ensures { Finds insert_of (insert_in (names_at T.named T.changes at.now)
+    ensures finds { Finds insert_seen (insert_in (names_at T.named T.changes at.now)
         (surroundings T.named at.now) insert.now) before result }
+    ensures there { (bases : List AnyBase) → AreOverBases bases (T.changes at.now.tables.now)
+        → IfOk result (λ found. StatementIsThere bases (bound.Insert found.part)) }
 {
     match changed_table(at.tables, at.environment.user, insert.table) {
         Ok(table) => insert_into(insert, &table, at, before),
@@ -43,8 +52,9 @@ fn insert_into<T: ChangeableTables>(
     at: &Surroundings<'_, T>,
     before: Counts,
 ) -> InsertResult
-    ensures { Finds insert_of (insert_over (names_at T.named T.changes at.now) (surroundings T.named at.now)
-        insert.now (changed_of table.now)) before result }
+    ensures finds { Finds insert_seen (insert_over (names_at T.named T.changes at.now)
+        (surroundings T.named at.now) insert.now (changed_of table.now)) before result }
+    ensures over { IfOk result (λ found. IsInsertOver table.now.under.leaf.now found.part) }
 {
     let alloc = at.environment.alloc;
     let receivers = insert_receivers(alloc, table, &insert.columns, before)?;
@@ -61,11 +71,17 @@ fn inserted(
     parts: Result<Parts, Stop>,
     may_insert: bool,
 ) -> InsertResult
+    requires { IfOk parts (λ found. AreWithin (length table.now.under.leaf.now.table.columns)
+        (map receiver_seen found.part.0)) }
     ensures { InsertsInto table.now may_insert parts result }
 {
     let Found { part, brought } = parts?;
     let (receivers, source) = part;
-    let columns = object_columns(alloc, receivers.as_slice());
+    let columns = object_columns(
+        alloc,
+        table.under.leaf.get().table.get(),
+        receivers.as_slice(),
+    );
     drop(receivers);
     match (columns, table.under.leaf.share()) {
         (Ok(columns), Ok(leaf)) => Ok(Found {
@@ -88,12 +104,19 @@ fn inserted(
 }
 
 /// The columns of the base table that get values.
-fn object_columns(alloc: Global, receivers: &[Receiver]) -> Result<Items<ObjectColumn>, AllocError>
-    ensures { IfOk result (λ columns. columns ≡ map (λ receiver. receiver.object) receivers.now) }
+fn object_columns(
+    alloc: Global,
+    base: &BaseTable,
+    receivers: &[Receiver],
+) -> Result<Items<ObjectColumn>, AllocError>
+    requires { AreWithin (length base.now.columns) (map receiver_seen receivers.now) }
+    ensures positions { IfOk result
+        (λ columns. map (λ c. c.position) columns ≡ map (λ receiver. receiver.column) receivers.now) }
+    ensures columns { IfOk result (AllByRecursion (IsColumnOf base.now)) }
 {
     let mut columns = Items::new(alloc);
     for receiver in receivers {
-        columns.push(receiver.object)?;
+        columns.push(base.object_column(receiver.column))?;
     }
     Ok(columns)
 }

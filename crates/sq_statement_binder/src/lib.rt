@@ -1,8 +1,9 @@
 //! Binding of statements: what they name becomes places, and their targets, orientations and privileges are checked (ISO/IEC
-//! 9075:1992, 13.2 to 13.10, 14.3 and 14.4). The program does not use it yet.
+//! 9075:1992, 13.2 to 13.10, 14.3 and 14.4).
 //!
-//! Each function has one clause, as in `sq_binder`: what is answered is what the definition of `sq_binding` computes, the fault
-//! included, or memory ran out.
+//! Each function has a clause as in `sq_binder`: what is answered is what the definition of `sq_binding` computes, the fault
+//! included, or memory ran out. A second one says what the definitions do not speak of: the base table that is changed is there,
+//! the columns that get values are columns of it, and NULL is bound to itself alone.
 #![tactic(auto)]
 
 mod assignment;

@@ -1,9 +1,11 @@
 //! Values that are stored (ISO/IEC 9075:1992, 9.2 and 13.8 to 13.10).
 
+ghost use Rattle.std.specs.Prelude.{IfOk};
 ghost use Rattle.sq_binding.specs.Change.{new_value_bound};
 ghost use Rattle.sq_binding.specs.Seen.{numbered_of};
 ghost use Rattle.sq_binder.specs.Found.{Finds};
 ghost use Rattle.sq_binder.specs.Surroundings.{surroundings};
+ghost use Rattle.sq_promises.specs.There.{IsPlain};
 
 use sq_binder::{Counts, Surroundings, Tables, TreeResult, agreeing, alone};
 use sq_bound::BoundExpr;
@@ -17,8 +19,9 @@ pub fn bind_new_value<T: Tables>(
     at: &Surroundings<'_, T>,
     before: Counts,
 ) -> TreeResult
-    ensures { Finds numbered_of
+    ensures finds { Finds numbered_of
         (new_value_bound (surroundings T.named at.now) kind value.now) before result }
+    ensures plain { IfOk result (λ found. IsPlain found.part) }
 {
     match value {
         NewValue::Expr(expr) => agreeing(expr, kind, at, before),

@@ -29,7 +29,7 @@ pub fn fetched(
     if scrolls || is_next(orientation) {
         Ok(orientation)
     } else {
-        Err(Stop::Fault(BindingFault::BadOrientation))
+        Err(Stop::broken(BindingFault::BadOrientation))
     }
 }
 
@@ -75,12 +75,14 @@ fn orientation_written(
         Orientation::Prior => Ok(FetchOrientation::Prior),
         Orientation::First => Ok(FetchOrientation::First),
         Orientation::Last => Ok(FetchOrientation::Last),
-        Orientation::Absolute(position) => {
-            Ok(FetchOrientation::Absolute(distance(position, parameters)?))
-        }
-        Orientation::Relative(position) => {
-            Ok(FetchOrientation::Relative(distance(position, parameters)?))
-        }
+        Orientation::Absolute(position) => match distance(position, parameters) {
+            Ok(distance) => Ok(FetchOrientation::Absolute(distance)),
+            Err(stop) => Err(stop),
+        },
+        Orientation::Relative(position) => match distance(position, parameters) {
+            Ok(distance) => Ok(FetchOrientation::Relative(distance)),
+            Err(stop) => Err(stop),
+        },
     }
 }
 
@@ -101,7 +103,7 @@ fn number_distance(number: SignedNumber) -> Result<Distance, Stop>
     if is_whole(number.number) {
         Ok(Distance::Number(signed_value(number).unscaled()))
     } else {
-        Err(Stop::Fault(BindingFault::BadOrientation))
+        Err(Stop::broken(BindingFault::BadOrientation))
     }
 }
 
@@ -113,7 +115,7 @@ fn parameter_distance(name: Name, parameters: &[ParameterDesc]) -> Result<Distan
     if is_whole_domain(parameter.domain) {
         Ok(Distance::Parameter(position))
     } else {
-        Err(Stop::Fault(BindingFault::BadOrientation))
+        Err(Stop::broken(BindingFault::BadOrientation))
     }
 }
 

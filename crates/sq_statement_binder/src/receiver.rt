@@ -1,20 +1,17 @@
 //! The columns that get values (ISO/IEC 9075:1992, 13.8 to 13.10).
 
-ghost use Rattle.std.specs.Prelude.{◌≡◌, ◌<◌, ◌≤◌, ◌∷◌, IfOk, find, length, map, take};
+ghost use Rattle.std.specs.Prelude.{◌≡◌, ◌≤◌, ◌∷◌, IfOk, find, length, map, take};
 ghost use Rattle.std.specs.List.{list_any};
 ghost use Rattle.std.specs.Option.{option_map};
 ghost use Rattle.sq_meaning.specs.Environment.{same_name};
 ghost use Rattle.sq_meaning.specs.Spelled.{listed};
 ghost use Rattle.sq_binding.specs.Change as spec;
-ghost use Rattle.sq_binding.specs.Changeable.{item_at_leaf};
 ghost use Rattle.sq_binder.specs.Binds.{Binds};
 ghost use Rattle.sq_binder.specs.Found.{Finds};
-ghost use Rattle.sq_binder.specs.Scope.{column_of};
 ghost use Rattle.sq_cursor_binder.specs.Changeable.{changed_of};
 ghost use Rattle.sq_statement_binder.specs.Receiver.{column_made, columns_made, named_once, once, receiver_at, receiver_seen};
 
 use sq_binder::{Counts, Found, ItemColumn, Stop, alone, begun, with_next};
-use sq_bound::ObjectColumn;
 use sq_cursor_binder::{ChangedTable, item_at_leaf};
 use sq_items::Items;
 use sq_lex::Name;
@@ -27,7 +24,7 @@ use std::alloc::{AllocError, Global};
 #[derive(Clone, Copy)]
 pub struct Receiver {
     pub name: Name,
-    pub object: ObjectColumn,
+    pub column: usize,
     pub kind: Kind,
 }
 
@@ -37,35 +34,28 @@ pub fn receivers_of(alloc: Global, table: &ChangedTable<'_>) -> Result<Items<Rec
         (λ receivers. map receiver_seen receivers ≡ spec.receivers_of (changed_of table.now)) }
 {
     let item = item_at_leaf(alloc, table)?;
-    let receivers = receivers_over(alloc, table, item.columns.as_slice());
+    let receivers = receivers_over(alloc, item.columns.as_slice());
     drop(item);
     receivers
 }
 
-/// The columns of a table, where these are its columns with their positions in the base table.
-fn receivers_over(
-    alloc: Global,
-    table: &ChangedTable<'_>,
-    columns: &[ItemColumn],
-) -> Result<Items<Receiver>, AllocError>
-    requires { map column_of columns.now ≡ (item_at_leaf (changed_of table.now)).columns }
+/// The columns of an item over the base table.
+fn receivers_over(alloc: Global, columns: &[ItemColumn]) -> Result<Items<Receiver>, AllocError>
     ensures { IfOk result (λ receivers. map receiver_seen receivers ≡ map receiver_at columns.now) }
 {
     let mut receivers = Items::new(alloc);
     for column in columns {
-        receivers.push(receiver_at(table, column))?;
+        receivers.push(receiver_at(column))?;
     }
     Ok(receivers)
 }
 
-fn receiver_at(table: &ChangedTable<'_>, column: &ItemColumn) -> Receiver
-    requires { column.now.position < length table.now.under.leaf.now.table.columns }
+fn receiver_at(column: &ItemColumn) -> Receiver
     ensures { receiver_seen result ≡ receiver_at column.now }
 {
-    let base = table.under.leaf.get().table.get();
     Receiver {
         name: column.name,
-        object: base.object_column(column.position),
+        column: column.position,
         kind: column.kind,
     }
 }
@@ -151,7 +141,7 @@ pub fn receiver_named(name: Name, again: bool, all: &[Receiver]) -> Result<Recei
 {
     match receiver_with(name, all) {
         Some(receiver) => once(receiver, again),
-        None => Err(Stop::Fault(BindingFault::UnknownColumn)),
+        None => Err(Stop::about(BindingFault::UnknownColumn, name)),
     }
 }
 
@@ -173,7 +163,7 @@ fn once(receiver: Receiver, again: bool) -> Result<Receiver, Stop>
     ensures { Binds receiver_seen (once again (receiver_seen receiver)) result }
 {
     if again {
-        Err(Stop::Fault(BindingFault::ColumnTwice))
+        Err(Stop::about(BindingFault::ColumnTwice, receiver.name))
     } else {
         Ok(receiver)
     }

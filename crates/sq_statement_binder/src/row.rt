@@ -3,7 +3,8 @@
 ghost use Rattle.std.specs.Prelude.{◌≡◌};
 ghost use Rattle.sq_binder.specs.Found.{Finds};
 ghost use Rattle.sq_binder.specs.Surroundings.{surroundings};
-ghost use Rattle.sq_statement_binder.specs.Row.{row_in, row_of, with_outputs};
+ghost use Rattle.sq_promises.specs.Seen.{row_seen};
+ghost use Rattle.sq_statement_binder.specs.Row.{row_in, with_outputs};
 
 use crate::target::targets_of;
 use sq_binder::{Counts, Found, Stop, Surroundings, Tables, bind_select};
@@ -15,7 +16,7 @@ use sq_tree::Select;
 pub type RowResult = Result<Found<BoundSelect>, Stop>;
 
 pub fn bind_row<T: Tables>(select: &Select, at: &Surroundings<'_, T>, before: Counts) -> RowResult
-    ensures { Finds row_of (row_in at.now.environment.now.user (surroundings T.named at.now) select.now)
+    ensures { Finds row_seen (row_in at.now.environment.now.user (surroundings T.named at.now) select.now)
         before result }
 {
     let environment = at.environment;

@@ -1,13 +1,15 @@
 //! The rows that UPDATE and DELETE change (ISO/IEC 9075:1992, 13.6, 13.7, 13.9 and 13.10).
 
-ghost use Rattle.std.specs.Prelude.{◌≡◌, Some};
+ghost use Rattle.std.specs.Prelude.{◌≡◌, IfOk, Some};
+ghost use Rattle.sq_bound.specs.Fits.{under};
 ghost use Rattle.sq_binding.specs.Change.{positioned_bound, rows_bound};
 ghost use Rattle.sq_binder.specs.Found.{Finds};
 ghost use Rattle.sq_binder.specs.Surroundings.{surroundings};
 ghost use Rattle.sq_cursor_binder.specs.Changeable.{changed_of, table_name};
 ghost use Rattle.sq_cursor_binder.specs.Names.{names_at};
+ghost use Rattle.sq_promises.specs.Seen.{change_seen};
 ghost use Rattle.sq_statement_binder.specs.Cursors.{named_cursor_of};
-ghost use Rattle.sq_statement_binder.specs.Rows.{change_of, is_over, searched};
+ghost use Rattle.sq_statement_binder.specs.Rows.{is_over, searched};
 
 use crate::cursors::{Cursors, cursor_named};
 use sq_binder::{Counts, Found, Stop, Surroundings, alone};
@@ -28,8 +30,9 @@ pub fn bind_rows<T: ChangeableTables, C: Cursors>(
     cursors: &C,
     before: Counts,
 ) -> RowsResult
-    ensures { Finds change_of (rows_bound (names_at T.named T.changes at.now) (surroundings T.named at.now)
-        (C.named cursors.now) (changed_of table.now) target.now) before result }
+    ensures finds { Finds change_seen (rows_bound (names_at T.named T.changes at.now)
+        (surroundings T.named at.now) (C.named cursors.now) (changed_of table.now) target.now) before result }
+    ensures leaf { IfOk result (λ found. under found.part ≡ table.now.under.leaf.now) }
 {
     match target {
         Some(target) => rows_where(target, table, at, cursors, before),
@@ -44,8 +47,10 @@ fn rows_where<T: ChangeableTables, C: Cursors>(
     cursors: &C,
     before: Counts,
 ) -> RowsResult
-    ensures { Finds change_of (rows_bound (names_at T.named T.changes at.now) (surroundings T.named at.now)
-        (C.named cursors.now) (changed_of table.now) (Some target.now)) before result }
+    ensures finds { Finds change_seen (rows_bound (names_at T.named T.changes at.now)
+        (surroundings T.named at.now) (C.named cursors.now) (changed_of table.now) (Some target.now))
+        before result }
+    ensures leaf { IfOk result (λ found. under found.part ≡ table.now.under.leaf.now) }
 {
     match target {
         Where::CurrentOf(name) => positioned(at.environment.alloc, *name, table, cursors, before),
@@ -71,12 +76,13 @@ fn positioned<C: Cursors>(
     cursors: &C,
     before: Counts,
 ) -> RowsResult
-    ensures { Finds change_of
+    ensures finds { Finds change_seen
         (positioned_bound (C.named cursors.now) (changed_of table.now) name) before result }
+    ensures leaf { IfOk result (λ found. under found.part ≡ table.now.under.leaf.now) }
 {
     let known = cursor_named(cursors, name)?;
     if !is_over(known, table) {
-        return Err(Stop::Fault(BindingFault::NotUpdatable));
+        return Err(Stop::about(BindingFault::NotUpdatable, name));
     }
     let leaf = table.under.leaf.share()?;
     let positioned = PositionedTarget {

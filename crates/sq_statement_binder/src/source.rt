@@ -1,7 +1,7 @@
 //! Where inserted values come from (ISO/IEC 9075:1992, 13.8).
 
-ghost use Rattle.std.specs.Prelude.{◌≡◌, ◌∷◌, length, map};
-ghost use Rattle.std.specs.List.{list_all, zip};
+ghost use Rattle.std.specs.Prelude.{◌≡◌, ◌∷◌, IfOk, length, map};
+ghost use Rattle.std.specs.List.{AllByRecursion, list_all, zip};
 ghost use Rattle.sq_tree.specs.declared.statement.InsertSource.TheVariants.{Values};
 ghost use Rattle.sq_meaning.specs.Spelled.{listed};
 ghost use Rattle.sq_binding.specs.Change.{source_bound, value_for};
@@ -10,8 +10,10 @@ ghost use Rattle.sq_binding.specs.Seen.{numbered_of};
 ghost use Rattle.sq_binder.specs.Found.{Finds};
 ghost use Rattle.sq_binder.specs.Surroundings.{surroundings};
 ghost use Rattle.sq_cursor_binder.specs.Names.{names_at};
+ghost use Rattle.sq_promises.specs.Seen.{source_seen};
+ghost use Rattle.sq_promises.specs.There.{IsPlain, SourceIsPlain};
 ghost use Rattle.sq_statement_binder.specs.Receiver.{receiver_seen};
-ghost use Rattle.sq_statement_binder.specs.Source.{Inserts, agrees, column_fault, columns_beside, source_of};
+ghost use Rattle.sq_statement_binder.specs.Source.{Inserts, agrees, column_fault, columns_beside};
 
 use crate::new_value::bind_new_value;
 use crate::receiver::Receiver;
@@ -34,9 +36,10 @@ pub fn bind_source<T: ChangeableTables>(
     at: &Surroundings<'_, T>,
     before: Counts,
 ) -> SourceResult
-    ensures { Finds source_of
+    ensures finds { Finds source_seen
         (source_bound (names_at T.named T.changes at.now) (surroundings T.named at.now)
         (map receiver_seen receivers.now) source.now) before result }
+    ensures plain { IfOk result (λ found. SourceIsPlain found.part) }
 {
     match source {
         InsertSource::Values(list) => values(list, receivers, at, before),
@@ -53,16 +56,17 @@ fn values<T: ChangeableTables>(
     at: &Surroundings<'_, T>,
     before: Counts,
 ) -> SourceResult
-    ensures { Finds source_of
+    ensures finds { Finds source_seen
         (source_bound (names_at T.named T.changes at.now) (surroundings T.named at.now)
         (map receiver_seen receivers.now) (Values list.now)) before result }
+    ensures plain { IfOk result (λ found. SourceIsPlain found.part) }
 {
     let Some((first, others)) = receivers.split_first() else {
-        return Err(Stop::Fault(BindingFault::CountMismatch));
+        return Err(Stop::broken(BindingFault::CountMismatch));
     };
     let rest = list.rest.as_slice();
     if rest.len() != others.len() {
-        return Err(Stop::Fault(BindingFault::CountMismatch));
+        return Err(Stop::broken(BindingFault::CountMismatch));
     }
     let Found { part, brought } = values_for(list, *first, others, at, before)?;
     Ok(Found {
@@ -80,8 +84,9 @@ fn values_for<T: ChangeableTables>(
     before: Counts,
 ) -> Result<Found<Items<BoundExpr>>, Stop>
     requires { length list.now.rest ≡ length others.now }
-    ensures { Finds (map numbered_of) (each (value_for (surroundings T.named at.now))
+    ensures finds { Finds (map numbered_of) (each (value_for (surroundings T.named at.now))
         (zip (map receiver_seen (receiver ∷ others.now)) (listed list.now))) before result }
+    ensures plain { IfOk result (λ found. AllByRecursion IsPlain found.part) }
 {
     let first = bind_new_value(&list.first, receiver.kind, at, before);
     let mut values = begun(at.environment.alloc, first)?;
@@ -102,7 +107,7 @@ fn inserted_query(query: SelectResult, receivers: &[Receiver]) -> SourceResult
     match column_fault(query.part.columns.as_slice(), receivers) {
         Some(fault) => {
             drop(query);
-            Err(Stop::Fault(fault))
+            Err(Stop::broken(fault))
         }
         None => Ok(Found {
             part: InsertedRows::Query(query.part),

@@ -1,12 +1,15 @@
 //! Statements of procedures (ISO/IEC 9075:1992, 13.2 to 13.10, 14.3 and 14.4).
 
-ghost use Rattle.std.specs.Prelude.{map};
+ghost use Rattle.std.specs.Prelude.{List, IfOk, map};
+ghost use Rattle.sq_bound.specs.declared.names.BaseTable.{BaseTable as AnyBase};
 ghost use Rattle.sq_binding.specs.Statement.{statement_bound};
 ghost use Rattle.sq_binder.specs.Binds.{Binds};
 ghost use Rattle.sq_binder.specs.Scope.{declared_of};
 ghost use Rattle.sq_binder.specs.Surroundings.{surroundings};
-ghost use Rattle.sq_cursor_binder.specs.Names.{names_at, user_names};
-ghost use Rattle.sq_statement_binder.specs.Statement.{statement_in, statement_of};
+ghost use Rattle.sq_cursor_binder.specs.Names.{AreOverBases, names_at, user_names};
+ghost use Rattle.sq_statement_binder.specs.Statement.{statement_in};
+ghost use Rattle.sq_promises.specs.Seen.{statement_seen};
+ghost use Rattle.sq_promises.specs.There.{StatementIsThere};
 
 use crate::cursors::{Cursors, cursor_named};
 use crate::delete::bind_delete;
@@ -34,9 +37,11 @@ pub fn bind_statement<T: ChangeableTables, C: Cursors>(
     cursors: &C,
     statement: &Statement,
 ) -> StatementResult
-    ensures { Binds statement_of
+    ensures binds { Binds statement_seen
         (statement_bound (user_names user (T.named tables.now) (T.changes tables.now))
         (map declared_of parameters.now) (C.named cursors.now) statement.now) result }
+    ensures there { (bases : List AnyBase) → AreOverBases bases (T.changes tables.now)
+        → IfOk result (StatementIsThere bases) }
 {
     let environment = Environment {
         alloc,
@@ -57,8 +62,10 @@ fn statement_at<T: ChangeableTables, C: Cursors>(
     at: &Surroundings<'_, T>,
     cursors: &C,
 ) -> StatementResult
-    ensures { Binds statement_of (statement_in (names_at T.named T.changes at.now)
+    ensures binds { Binds statement_seen (statement_in (names_at T.named T.changes at.now)
         (surroundings T.named at.now) (C.named cursors.now) statement.now) result }
+    ensures there { (bases : List AnyBase) → AreOverBases bases (T.changes at.now.tables.now)
+        → IfOk result (StatementIsThere bases) }
 {
     let environment = at.environment;
     let first = at_first();

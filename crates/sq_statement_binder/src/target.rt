@@ -1,17 +1,19 @@
 //! The targets of INTO: the parameters that get the values of a row, and their indicator parameters (ISO/IEC 9075:1992, 6.2,
 //! 13.3 and 13.5).
 
-ghost use Rattle.std.specs.Prelude.{◌≡◌, false, map, nat_eq};
+ghost use Rattle.std.specs.Prelude.{◌≡◌, false, is_some, map, nat_eq};
 ghost use Rattle.sq_meaning.specs.Spelled.{listed};
 ghost use Rattle.sq_rules.specs.Words.{has_twice};
 ghost use Rattle.sq_binding.specs.Targets.{target_bound, targets_bound};
 ghost use Rattle.sq_binder.specs.Binds.{Binds};
 ghost use Rattle.sq_binder.specs.Scope.{declared_of};
-ghost use Rattle.sq_statement_binder.specs.Target.{all_set, indicator_again, is_set_again, is_set_in, kinds_shown, placed_of, set_unless, sets, target_step};
+ghost use Rattle.sq_statement_binder.specs.Target.{all_set, indicator_again, is_set_again, is_set_in, kinds_shown, set_unless, sets, target_step};
+ghost use Rattle.sq_promises.specs.Seen.{output_seen};
 
 use sq_binder::{Stop, are_comparable, indicator_of, parameter_of, pushed};
 use sq_bound::{Output, ParameterDesc, ResultColumn};
 use sq_items::Items;
+use sq_lex::Name;
 use sq_rules::BindingFault;
 use sq_tree::{CommaList, Parameter};
 use sq_value::Kind;
@@ -24,15 +26,15 @@ pub fn targets_of(
     columns: &[ResultColumn],
     parameters: &[ParameterDesc],
 ) -> Result<Items<Output>, Stop>
-    ensures { Binds (map placed_of) (targets_bound (map declared_of parameters.now) (listed targets.now)
+    ensures { Binds (map output_seen) (targets_bound (map declared_of parameters.now) (listed targets.now)
         (kinds_shown columns.now)) result }
 {
     let Some((first, others)) = columns.split_first() else {
-        return Err(Stop::Fault(BindingFault::CountMismatch));
+        return Err(Stop::broken(BindingFault::CountMismatch));
     };
     let rest = targets.rest.as_slice();
     if rest.len() != others.len() {
-        return Err(Stop::Fault(BindingFault::CountMismatch));
+        return Err(Stop::broken(BindingFault::CountMismatch));
     }
     let mut outputs = with_target(Items::new(alloc), &targets.first, first.kind, parameters)?;
     for (number, target) in rest.iter().enumerate() {
@@ -51,13 +53,13 @@ fn with_target(
     kind: Kind,
     parameters: &[ParameterDesc],
 ) -> Result<Items<Output>, Stop>
-    requires { has_twice nat_eq (all_set (map placed_of outputs)) ≡ false }
-    ensures { Binds (map placed_of) (target_step (map declared_of parameters.now) (map placed_of outputs)
+    requires { has_twice nat_eq (all_set (map output_seen outputs)) ≡ false }
+    ensures { Binds (map output_seen) (target_step (map declared_of parameters.now) (map output_seen outputs)
         (target.now, kind)) result }
 {
     match target_of(target, kind, parameters) {
         Ok(output) => {
-            let again = is_set_again(outputs.as_slice(), output);
+            let again = set_again(outputs.as_slice(), target, output);
             with_output(outputs, output, again)
         }
         Err(stop) => {
@@ -69,7 +71,7 @@ fn with_target(
 
 /// A parameter whose kind agrees with that of its column.
 fn target_of(target: &Parameter, kind: Kind, parameters: &[ParameterDesc]) -> Result<Output, Stop>
-    ensures { Binds placed_of
+    ensures { Binds output_seen
         (target_bound (map declared_of parameters.now) (target.now, kind)) result }
 {
     let (position, parameter) = parameter_of(parameters, target.name)?;
@@ -80,27 +82,45 @@ fn target_of(target: &Parameter, kind: Kind, parameters: &[ParameterDesc]) -> Re
             indicator,
         })
     } else {
-        Err(Stop::Fault(BindingFault::KindMismatch))
+        Err(Stop::broken(BindingFault::KindMismatch))
     }
 }
 
 /// The targets with a further one, where it sets no parameter again.
-fn with_output(outputs: Items<Output>, output: Output, again: bool) -> Result<Items<Output>, Stop>
-    ensures { Binds (map placed_of) (set_unless again (map placed_of outputs) (placed_of output)) result }
+fn with_output(
+    outputs: Items<Output>,
+    output: Output,
+    again: Option<Name>,
+) -> Result<Items<Output>, Stop>
+    ensures { Binds (map output_seen)
+        (set_unless (is_some again) (map output_seen outputs) (output_seen output)) result }
 {
-    if again {
+    if let Some(name) = again {
         drop(outputs);
-        return Err(Stop::Fault(BindingFault::TargetTwice));
+        return Err(Stop::about(BindingFault::TargetTwice, name));
     }
     Ok(pushed(outputs, output)?)
 }
 
-/// Whether a target sets a parameter that one before it sets, or one that is its own indicator.
-fn is_set_again(outputs: &[Output], output: Output) -> bool
-    ensures { result ≡ is_set_again outputs.now output }
+/// The parameter that a target sets though one before it sets it, or though it is its own indicator.
+fn set_again(outputs: &[Output], target: &Parameter, output: Output) -> Option<Name>
+    ensures { is_some result ≡ is_set_again outputs.now output }
 {
-    is_set(outputs, output.parameter)
-        || is_indicator_set(outputs, output.parameter, output.indicator)
+    if is_set(outputs, output.parameter) {
+        return Some(target.name);
+    }
+    if is_indicator_set(outputs, output.parameter, output.indicator) {
+        return Some(indicator_name(target));
+    }
+    None
+}
+
+/// The name of a target's indicator, or of the target where it has none.
+fn indicator_name(target: &Parameter) -> Name {
+    match target.indicator {
+        Some(indicator) => indicator.name,
+        None => target.name,
+    }
 }
 
 fn is_indicator_set(outputs: &[Output], parameter: usize, indicator: Option<usize>) -> bool

@@ -1,12 +1,16 @@
 //! UPDATE (ISO/IEC 9075:1992, 13.9 and 13.10).
 
-ghost use Rattle.std.specs.Prelude.{◌≡◌};
+ghost use Rattle.std.specs.Prelude.{◌≡◌, List, IfOk};
+ghost use Rattle.sq_bound.specs.declared.names.BaseTable.{BaseTable as AnyBase};
+ghost use Rattle.sq_bound.specs.declared.statement.BoundStatement.TheVariants as bound;
 ghost use Rattle.sq_binding.specs.Change.{update_parts};
 ghost use Rattle.sq_binder.specs.Found.{Finds};
 ghost use Rattle.sq_binder.specs.Surroundings.{surroundings};
 ghost use Rattle.sq_cursor_binder.specs.Changeable.{changed_of};
-ghost use Rattle.sq_cursor_binder.specs.Names.{names_at};
-ghost use Rattle.sq_statement_binder.specs.Update.{update_in, update_of, update_over, updated};
+ghost use Rattle.sq_cursor_binder.specs.Names.{AreOverBases, names_at};
+ghost use Rattle.sq_promises.specs.Seen.{update_seen};
+ghost use Rattle.sq_promises.specs.There.{StatementIsThere};
+ghost use Rattle.sq_statement_binder.specs.Update.{IsUpdateOver, update_in, update_over, updated};
 
 use crate::assignment::bind_assignments;
 use crate::cursors::Cursors;
@@ -27,8 +31,10 @@ pub fn bind_update<T: ChangeableTables, C: Cursors>(
     cursors: &C,
     before: Counts,
 ) -> UpdateResult
-    ensures { Finds update_of (update_in (names_at T.named T.changes at.now)
+    ensures finds { Finds update_seen (update_in (names_at T.named T.changes at.now)
         (surroundings T.named at.now) (C.named cursors.now) update.now) before result }
+    ensures there { (bases : List AnyBase) → AreOverBases bases (T.changes at.now.tables.now)
+        → IfOk result (λ found. StatementIsThere bases (bound.Update found.part)) }
 {
     match changed_table(at.tables, at.environment.user, update.table) {
         Ok(table) => update_of_table(update, &table, at, cursors, before),
@@ -43,8 +49,9 @@ fn update_of_table<T: ChangeableTables, C: Cursors>(
     cursors: &C,
     before: Counts,
 ) -> UpdateResult
-    ensures { Finds update_of (update_over (names_at T.named T.changes at.now) (surroundings T.named at.now)
-        (C.named cursors.now) update.now (changed_of table.now)) before result }
+    ensures finds { Finds update_seen (update_over (names_at T.named T.changes at.now)
+        (surroundings T.named at.now) (C.named cursors.now) update.now (changed_of table.now)) before result }
+    ensures over { IfOk result (λ found. IsUpdateOver table.now.under.leaf.now found.part) }
 {
     let Found { part, brought } = parts(update, table, at, cursors, before)?;
     let may_select = at.tables.holds(table.user, table.name, Privilege::Select);
@@ -62,8 +69,9 @@ fn parts<T: ChangeableTables, C: Cursors>(
     cursors: &C,
     before: Counts,
 ) -> UpdateResult
-    ensures { Finds update_of (update_parts (names_at T.named T.changes at.now)
+    ensures finds { Finds update_seen (update_parts (names_at T.named T.changes at.now)
         (surroundings T.named at.now) (C.named cursors.now) (changed_of table.now) update.now) before result }
+    ensures over { IfOk result (λ found. IsUpdateOver table.now.under.leaf.now found.part) }
 {
     let assignments = bind_assignments(&update.assignments, table, &*at, before)?;
     let next = assignments.brought.next;

@@ -1,7 +1,7 @@
 -- What comes of a request.
 use Rattle.std.specs.Prelude.{◌≡◌, ℕ, ⊤, length, Result, Ok, Err}
-use Rattle.sq_run.specs.declared.refusal.RunFault.{RunFault}
-use Rattle.sq_run.specs.declared.refusal.RunFault.TheVariants as run
+use Rattle.sq_perform.specs.declared.refusal.RunFault.{RunFault}
+use Rattle.sq_perform.specs.declared.refusal.RunFault.TheVariants as run
 use Rattle.sqmod.specs.CommandLine.{IsAmong}
 use Rattle.sqmod.specs.declared.command_line.CheckRequest.{CheckRequest}
 use Rattle.sqmod.specs.declared.command_line.Request.{Request}

@@ -9,7 +9,7 @@ use crate::request::fault_of;
 use crate::texts::{Sources, read_sources};
 use sq_items::Items;
 use sq_lex::Name;
-use sq_run::{Checked, Note, Remark, check};
+use sq_perform::{Checked, Note, Remark, check};
 use std::alloc::Global;
 use std::rt::Files;
 use std::{io, str};
@@ -46,6 +46,7 @@ fn checked<R: Files + AllocGlobal>(rt: &R, request: &CheckRequest<'_>) -> Result
     answer
 }
 
+#[tactic(auto, using(crate::proofs::Named::checked_one))]
 fn check_sources(alloc: Global, sources: &Sources) -> Result<Checked, Fault>
     ensures { IfErr result
         (NamesOneOf (length sources.now.schemas.items) (length sources.now.modules.items)) }
@@ -93,13 +94,16 @@ fn print_note<R: Print>(rt: &R, file: &str, note: &Note, remark: Remark) -> io::
     let owner = text_of(&note.owner);
     let name = text_of(&note.name);
     match remark {
-        Remark::Fault(fault) => match fault.about() {
-            Some(about) => {
-                let about = text_of(&about);
-                println!(rt; "{file}:{line}:{column}: {owner}.{name}: {fault} {about}")
+        Remark::Fault(fault) => {
+            let rule = fault.rule;
+            match fault.about {
+                Some(about) => {
+                    let about = text_of(&about);
+                    println!(rt; "{file}:{line}:{column}: {owner}.{name}: {rule:?} {about}")
+                }
+                None => println!(rt; "{file}:{line}:{column}: {owner}.{name}: {rule:?}"),
             }
-            None => println!(rt; "{file}:{line}:{column}: {owner}.{name}: {fault}"),
-        },
+        }
         Remark::Updatable => println!(rt; "{file}:{line}:{column}: {owner}.{name}: updatable"),
         Remark::NotUpdatable(rule) => {
             println!(rt; "{file}:{line}:{column}: {owner}.{name}: not updatable: {rule}")

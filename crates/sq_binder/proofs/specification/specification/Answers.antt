@@ -1,14 +1,16 @@
 use Rattle.std.proofs.Common.{Ok, add-zero, sym, subst, ap, ◌∙◌}
 use Rattle.sq_binding.specs.Found.{after}
 use Rattle.sq_binder.specs.Found.{Finds, counts_of, found_of}
-use Rattle.sq_binder.specs.Specification.{first, parts_seen}
+use Rattle.sq_binder.specs.Specification.{first, parts_seen, specification_of}
 use Rattle.sq_binder.proofs.Specified.{specified_fault, specified_found}
+use Rattle.sq_binder.proofs.Steps.{stops_by}
 use Rattle.sq_binder.proofs.specification.specification.Goals as goal
 
 pub returns-in-Some : goal.returns-in-Some
 returns-in-Some c = λ b found.
     let parts : Finds parts_seen b (first c.args.before) (Ok c.in_ok-parts.parts) = subst (λ r. Finds parts_seen b (first c.args.before) r) c.in_ok-parts.was found in
-    specified_fault c.args.is_star c.args.distinct b (counts_of c.args.before) (found_of parts_seen c.in_ok-parts.parts) parts.0 c.in-Some.fault (sym c.fault_of.ensures ∙ c.in-Some.is)
+    stops_by (specification_of c.args.is_star c.args.distinct b (counts_of c.args.before)) c.broken.result _ c.broken.ensures
+    (specified_fault c.args.is_star c.args.distinct b (counts_of c.args.before) (found_of parts_seen c.in_ok-parts.parts) parts.0 c.in-Some.fault (sym c.fault_of.ensures ∙ c.in-Some.is))
 
 pub returns-in-None : goal.returns-in-None
 returns-in-None c = λ b found.

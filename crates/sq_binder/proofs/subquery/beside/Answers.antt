@@ -7,7 +7,7 @@ use Rattle.sq_binding.specs.Seen.{column_of, select_seen}
 use Rattle.sq_binding.proofs.SeenLevels.{columns_seen}
 use Rattle.sq_binder.specs.Found.{counts_of, found_of}
 use Rattle.sq_binder.proofs.Finds.{stop_found}
-use Rattle.sq_binder.proofs.Steps.{stops_here}
+use Rattle.sq_binder.proofs.Steps.{stops_by, stops_here}
 use Rattle.sq_binder.proofs.Subqueries.{beside_fails, beside_found}
 use Rattle.sq_binder.proofs.subquery.beside.Goals as goal
 
@@ -30,5 +30,6 @@ pub returns-in-Some : goal.returns-in-Some
 returns-in-Some c = λ b before found.
     let q = c.in_ok-query.query in
     let subquery = c.in_ok-query.ensures b before found in
-    beside_fails c.args.kind (counts_of before) (found_of select_seen q) b (map column_of c.as_slice.result.now) c.in-Some.fault (columns_seen q.part ∙ ap (map column_of) (sym c.as_slice.ensures)) subquery.0
-    (sym c.fault_beside.ensures ∙ c.in-Some.is)
+    stops_by (beside c.args.kind b (counts_of before)) c.broken.result _ c.broken.ensures
+    (beside_fails c.args.kind (counts_of before) (found_of select_seen q) b (map column_of c.as_slice.result.now) c.in-Some.fault (columns_seen q.part ∙ ap (map column_of) (sym c.as_slice.ensures)) subquery.0
+    (sym c.fault_beside.ensures ∙ c.in-Some.is))

@@ -18,7 +18,7 @@ use Rattle.sq_cursor_binder.proofs.check.bind_check.Goals as goal
 pub returns : goal.returns
 returns c =
     let user = c.args.user in
-    let t : TableName = record { user = user; name = c.args.name } in
+    let t : TableName = record { user = c.args.table.0; name = c.args.table.1 } in
     let columns = map descriptor_of c.args.columns.now in
     let none : NamedTables = λ t. None in
     let plain : Surroundings = record { names = none; parameters = []; scopes = []; functions_allowed = false } in

@@ -3,9 +3,10 @@ use Rattle.sq_lex.specs.declared.name.Name.{Name}
 use Rattle.sq_binding.specs.Select.{Surroundings}
 use Rattle.sq_binder.specs.Binds.{Binds}
 use Rattle.sq_binder.specs.Scope.{declared_of}
-use Rattle.sq_cursor_binder.specs.Cursor.{cursor_at, cursor_seen}
+use Rattle.sq_cursor_binder.specs.Cursor.{cursor_at}
 use Rattle.sq_cursor_binder.specs.Names.{user_names}
 use Rattle.sq_cursor_binder.proofs.Cursors.{in_none}
+use Rattle.sq_promises.specs.Seen.{cursor_seen}
 use Rattle.sq_cursor_binder.proofs.cursor.bind_cursor.Goals as goal
 
 pub returns-clause-binds : goal.returns-clause-binds

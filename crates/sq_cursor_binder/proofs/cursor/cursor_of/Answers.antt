@@ -8,9 +8,10 @@ use Rattle.sq_bound.specs.declared.query.BoundCursor.{BoundCursor}
 use Rattle.sq_binding.specs.Cursor.{cursor_of}
 use Rattle.sq_binder.specs.Binds.{Binds}
 use Rattle.sq_binder.specs.Surroundings.{surroundings}
-use Rattle.sq_cursor_binder.specs.Cursor.{IsOver, IsOverPart, cursor_seen}
+use Rattle.sq_cursor_binder.specs.Cursor.{IsOver, IsOverPart}
 use Rattle.sq_cursor_binder.specs.Names.{names_at}
 use Rattle.sq_cursor_binder.proofs.Cursors.{over_as}
+use Rattle.sq_promises.specs.Seen.{cursor_seen}
 use Rattle.sq_cursor_binder.proofs.cursor.cursor_of.Goals as goal
 
 pub returns-in-Some-clause-binds : goal.returns-in-Some-clause-binds

@@ -8,8 +8,9 @@ use Rattle.sq_binder.specs.Found.{counts_of}
 use Rattle.sq_binder.specs.Surroundings.{surroundings}
 use Rattle.sq_binder.specs.declared.found.Counts.{Counts}
 use Rattle.sq_binder.proofs.Steps.{handed_on, stops_here}
-use Rattle.sq_cursor_binder.specs.Cursor.{cursor_seen, in_order}
+use Rattle.sq_cursor_binder.specs.Cursor.{in_order}
 use Rattle.sq_cursor_binder.specs.Names.{names_at}
+use Rattle.sq_promises.specs.Seen.{cursor_seen}
 use Rattle.sq_cursor_binder.proofs.cursor.query_cursor.Goals as goal
 
 pub returns-in_err-sorted-clause-binds : goal.returns-in_err-sorted-clause-binds

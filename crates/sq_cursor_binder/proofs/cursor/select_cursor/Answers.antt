@@ -14,9 +14,9 @@ use Rattle.sq_binder.specs.Found.{counts_of, found_of}
 use Rattle.sq_binder.specs.Surroundings.{surroundings}
 use Rattle.sq_binder.specs.declared.found.Counts.{Counts}
 use Rattle.sq_binder.proofs.Steps.{stops_here, then_binds}
-use Rattle.sq_cursor_binder.specs.Cursor.{IsOver, IsOverPart, cursor_seen}
+use Rattle.sq_cursor_binder.specs.Cursor.{IsOver, IsOverPart}
 use Rattle.sq_cursor_binder.specs.Names.{names_at}
-use Rattle.sq_cursor_binder.specs.Updatable.{updatable_seen}
+use Rattle.sq_promises.specs.Seen.{cursor_seen, updatable_seen}
 use Rattle.sq_cursor_binder.proofs.Cursors.{over_as, permitted_is}
 use Rattle.sq_cursor_binder.proofs.cursor.select_cursor.Goals as goal
 

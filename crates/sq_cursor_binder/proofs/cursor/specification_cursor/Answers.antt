@@ -11,7 +11,7 @@ use Rattle.sq_binder.specs.Surroundings.{surroundings}
 use Rattle.sq_binder.specs.declared.found.Counts.{Counts}
 use Rattle.sq_binder.proofs.Conditions.{select_of-out}
 use Rattle.sq_binder.proofs.Steps.{handed_on, stops_here, then_binds}
-use Rattle.sq_cursor_binder.specs.Cursor.{cursor_seen}
+use Rattle.sq_promises.specs.Seen.{cursor_seen}
 use Rattle.sq_cursor_binder.specs.Names.{names_at}
 use Rattle.sq_cursor_binder.proofs.cursor.specification_cursor.Goals as goal
 

@@ -12,7 +12,7 @@ use Rattle.sq_binder.specs.Found.{Finds, counts_of}
 use Rattle.sq_binder.specs.Surroundings.{surroundings}
 use Rattle.sq_binder.proofs.Conditions.{select_of-out}
 use Rattle.sq_binder.proofs.Finds.{stop_found}
-use Rattle.sq_cursor_binder.specs.Query.{query_seen, term_seen}
+use Rattle.sq_promises.specs.Seen.{query_seen, term_seen}
 use Rattle.sq_cursor_binder.proofs.Queries.{query_begun, query_next, query_whole, so_far, stops_later}
 use Rattle.sq_cursor_binder.proofs.query.+queries.Goals as goal
 

@@ -6,8 +6,8 @@ use Rattle.sq_binder.specs.Found.{Finds}
 use Rattle.sq_binder.specs.declared.found.Found.{Found}
 use Rattle.sq_binder.proofs.Behind.{itself}
 use Rattle.sq_binder.proofs.Finds.{makes_found}
-use Rattle.sq_cursor_binder.specs.Query.{HasColumns, query_seen, term_seen}
-use Rattle.sq_cursor_binder.proofs.Queries.{bracketed_columns, term_seen-Bracketed}
+use Rattle.sq_promises.specs.Seen.{HaveTheirColumns, query_seen, term_seen}
+use Rattle.sq_promises.proofs.SeenQueries.{bracketed_made, term_seen-Bracketed}
 use Rattle.sq_cursor_binder.proofs.query.bracketed_term.Goals as goal
 
 pub returns-in-Ok-clause-finds : goal.returns-in-Ok-clause-finds
@@ -18,4 +18,4 @@ returns-in-Ok-clause-finds c = λ b before found.
 
 pub returns-in-Ok-clause-columns : goal.returns-in-Ok-clause-columns
 returns-in-Ok-clause-columns c =
-    bracketed_columns c.in-Ok.query (subst HasColumns (sym c.in-Ok.ensures) (IfOk-at_ok (λ (f : Found BoundQuery). HasColumns f.part) c.in_ok-part.was c.requires))
+    bracketed_made c.in-Ok.query (subst HaveTheirColumns (sym c.in-Ok.ensures) (IfOk-at_ok (λ (f : Found BoundQuery). HaveTheirColumns f.part) c.in_ok-part.was c.requires))

@@ -5,8 +5,9 @@ use Rattle.sq_binding.specs.Seen.{select_seen}
 use Rattle.sq_binder.specs.Found.{Finds}
 use Rattle.sq_binder.proofs.Behind.{made}
 use Rattle.sq_binder.proofs.Finds.{makes_found}
-use Rattle.sq_cursor_binder.specs.Query.{as_query, term_seen}
-use Rattle.sq_cursor_binder.proofs.Queries.{specification_columns, term_seen-Specification}
+use Rattle.sq_cursor_binder.specs.Query.{as_query}
+use Rattle.sq_promises.specs.Seen.{term_seen}
+use Rattle.sq_promises.proofs.SeenQueries.{specification_made, term_seen-Specification}
 use Rattle.sq_cursor_binder.proofs.query.specification_term.Goals as goal
 
 pub returns-clause-finds : goal.returns-clause-finds
@@ -16,4 +17,4 @@ returns-clause-finds c = λ b before found.
     (subst (λ r. Finds select_seen b before r) c.in_ok-part.was found) refl (term_seen-Specification x.part)
 
 pub returns-clause-columns : goal.returns-clause-columns
-returns-clause-columns c = specification_columns c.in_ok-part.field-0.part
+returns-clause-columns c = specification_made c.in_ok-part.field-0.part

@@ -9,7 +9,8 @@ use Rattle.sq_binding.specs.Select.{of_lines}
 use Rattle.sq_binder.specs.Found.{Finds}
 use Rattle.sq_binder.specs.Scope.{item_of}
 use Rattle.sq_binder.specs.Surroundings.{surroundings}
-use Rattle.sq_cursor_binder.specs.Changeable.{changed_of, target_made, target_seen}
+use Rattle.sq_cursor_binder.specs.Changeable.{changed_of, target_made}
+use Rattle.sq_promises.specs.Seen.{target_seen}
 use Rattle.sq_cursor_binder.proofs.target.bind_target.Goals as goal
 
 pub returns-clause-finds : goal.returns-clause-finds

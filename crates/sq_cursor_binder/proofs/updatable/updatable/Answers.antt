@@ -1,8 +1,8 @@
 use Rattle.std.proofs.Common.{subst}
 use Rattle.std.specs.Option.{option_map}
 use Rattle.sq_binder.specs.Found.{Finds}
-use Rattle.sq_cursor_binder.specs.Changeable.{changed_of, target_made, target_seen}
-use Rattle.sq_cursor_binder.specs.Updatable.{updatable_seen}
+use Rattle.sq_cursor_binder.specs.Changeable.{changed_of, target_made}
+use Rattle.sq_promises.specs.Seen.{target_seen, updatable_seen}
 use Rattle.sq_cursor_binder.proofs.Targets.{updatable_found}
 use Rattle.sq_cursor_binder.proofs.updatable.updatable.Goals as goal
 

@@ -11,8 +11,9 @@ use Rattle.sq_binder.specs.Found.{Finds}
 use Rattle.sq_binder.specs.Surroundings.{surroundings}
 use Rattle.sq_cursor_binder.specs.Changeable.{changed_of}
 use Rattle.sq_cursor_binder.specs.Names.{beneath_of, under_table}
-use Rattle.sq_cursor_binder.specs.Updatable.{updatable_made, updatable_seen}
+use Rattle.sq_cursor_binder.specs.Updatable.{updatable_made}
 use Rattle.sq_cursor_binder.proofs.Updatables.{clause_lent, filter_is, list_is, shown_is}
+use Rattle.sq_promises.specs.Seen.{updatable_seen}
 use Rattle.sq_cursor_binder.proofs.updatable.updatable_over.Goals as goal
 
 pub returns-clause-finds : goal.returns-clause-finds

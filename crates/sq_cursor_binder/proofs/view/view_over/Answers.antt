@@ -16,7 +16,7 @@ use Rattle.sq_binder.specs.declared.found.Counts.{Counts}
 use Rattle.sq_binder.proofs.Conditions.{select_of-out}
 use Rattle.sq_binder.proofs.Steps.{handed_on, stops_here}
 use Rattle.sq_cursor_binder.specs.Names.{names_at}
-use Rattle.sq_cursor_binder.specs.Updatable.{updatable_seen}
+use Rattle.sq_promises.specs.Seen.{updatable_seen}
 use Rattle.sq_cursor_binder.specs.View.{view_seen}
 use Rattle.sq_cursor_binder.proofs.view.view_over.Goals as goal
 

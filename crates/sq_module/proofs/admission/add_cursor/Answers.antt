@@ -6,6 +6,7 @@ use Rattle.std.specs.Prelude.{if◌then◌else◌, is_some}
 use Rattle.sq_rules.specs.declared.refusal.ModuleFault.TheVariants as fault
 use Rattle.sq_module.specs.Program.{same_name}
 use Rattle.sq_module.specs.Written.{IsCursorIn}
+use Rattle.sq_module.proofs.Listed.{cursor_listed}
 use Rattle.sq_module.proofs.Names.{keys_insert}
 use Rattle.sq_module.proofs.Refused.{fault_there}
 use Rattle.sq_module.proofs.Written.{all_entries, names_equal}
@@ -16,6 +17,10 @@ returns-in-Ok-None-clause-written c =
     λ items there all.
     subst (AllByRecursion (IsCursorIn items)) (sym c.in-Ok-None.ensures.entries)
     (all_entries same_name (IsCursorIn items) c.args.cursors.now.entries c.args.cursor.now.name c.args.cursor (λ q same. (there, sym (names_equal c.args.cursor.now.name q same))) (there, refl) all)
+
+pub returns-in-Ok-None-clause-listed : goal.returns-in-Ok-None-clause-listed
+returns-in-Ok-None-clause-listed c =
+    cursor_listed c.args.cursors.now.entries _ c.args.cursor.now.name c.args.cursor (sym c.in-Ok-None.ensures.old ∙ c.in-Ok-None.field-0-is) c.in-Ok-None.ensures.entries
 
 pub returns-in-Ok-None-clause-new : goal.returns-in-Ok-None-clause-new
 returns-in-Ok-None-clause-new c = sym (is_some-lookup (same_name c.args.cursor.now.name) c.args.cursors.now.entries) ∙ ap is_some (sym c.in-Ok-None.ensures.old ∙ c.in-Ok-None.field-0-is)

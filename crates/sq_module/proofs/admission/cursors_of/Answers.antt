@@ -4,6 +4,8 @@ use Rattle.sq_rules.specs.ModuleRefusal.{cursor_name, first_repeated}
 use Rattle.sq_rules.specs.Schema.{is_among}
 use Rattle.sq_rules.specs.Words.{is_some_and}
 use Rattle.sq_rules.specs.declared.refusal.ModuleFault.TheVariants as fault
+use Rattle.sq_rules.specs.Module.{cursor_in}
+use Rattle.sq_module.proofs.Listed.{listed_next, listed_whole}
 use Rattle.sq_module.proofs.Refused.{refused_there}
 use Rattle.sq_module.proofs.Repeats.{before_next, none_repeated, not_used_next, repeated}
 use Rattle.sq_module.proofs.Written.{among_at}
@@ -15,10 +17,14 @@ loop-place-preserved c =
     let item = c.index-items-place.result in
     let keys = keys_of c.loop-place.cursors.entries in record {
       written = c.in_default.ensures.written items (among_at items c.loop-place.place item c.loop-place-test.true c.index-items-place.is) c.loop-place.invariant.written;
+      listed = listed_next cursor_in items c.loop-place.place item _ _ c.loop-place-test.true c.index-items-place.is c.loop-place.invariant.listed c.in_default.ensures.listed;
       before = before_next cursor_name items keys c.loop-place.place item c.loop-place-test.true c.index-items-place.is c.loop-place.invariant.before (keys_of c.add_item.new.cursors.entries)
           c.in_default.ensures.keys;
       unused = not_used_next cursor_name items keys c.loop-place.place item c.loop-place-test.true c.index-items-place.is c.loop-place.invariant.before c.loop-place.invariant.unused c.in_default.ensures.new;
     }
+
+pub returns-clause-listed : goal.returns-clause-listed
+returns-clause-listed c = listed_whole cursor_in c.args.items.now c.loop-place.place _ (omega (arith, c.loop-place-test.false)) c.loop-place.invariant.listed
 
 pub returns-clause-taken : goal.returns-clause-taken
 returns-clause-taken c = sym (none_repeated cursor_name c.args.items.now c.loop-place.place (omega (arith, c.loop-place-test.false)) c.loop-place.invariant.unused)

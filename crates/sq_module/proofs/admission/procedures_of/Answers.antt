@@ -2,6 +2,8 @@ use Rattle.std.proofs.Common.{◌≡◌, ◌++◌, ◌∙◌, ap, arith, sym, tr
 use Rattle.std.specs.Prelude.{position}
 use Rattle.sq_rules.specs.ModuleRefusal.{has_bad_parameter}
 use Rattle.sq_module.specs.Admitted.{opening_in}
+use Rattle.sq_rules.specs.Module.{procedure_in}
+use Rattle.sq_module.proofs.Listed.{listed_next, listed_whole}
 use Rattle.sq_module.proofs.Names.{flat_more, procedures_next}
 use Rattle.sq_rules.specs.declared.refusal.ModuleFault.TheVariants as fault
 use Rattle.sq_module.proofs.Places.{none_found, none_next, place_found}
@@ -15,9 +17,13 @@ loop-place-preserved c = record {
       c.loop-place-test.true c.index-items-place.is c.loop-place.invariant.names c.in_default.ensures.names;
   openings = c.in_default.ensures.openings ∙ ap (λ l. l ++ opening_in c.index-items-place.result) c.loop-place.invariant.openings
       ∙ sym (flat_more opening_in c.args.items.now c.loop-place.place c.index-items-place.result c.loop-place-test.true c.index-items-place.is);
+  listed = listed_next procedure_in c.args.items.now c.loop-place.place c.index-items-place.result _ _ c.loop-place-test.true c.index-items-place.is c.loop-place.invariant.listed c.in_default.ensures.listed;
   good = none_next has_bad_parameter c.args.items.now c.loop-place.place c.index-items-place.result c.loop-place-test.true c.index-items-place.is c.loop-place.invariant.good c.in_default.ensures.good;
   written = c.in_default.ensures.written c.args.items.now (among_at c.args.items.now c.loop-place.place c.index-items-place.result c.loop-place-test.true c.index-items-place.is) c.loop-place.invariant.written;
 }
+
+pub returns-clause-listed : goal.returns-clause-listed
+returns-clause-listed c = listed_whole procedure_in c.args.items.now c.loop-place.place _ (omega (arith, c.loop-place-test.false)) c.loop-place.invariant.listed
 
 pub returns-clause-taken : goal.returns-clause-taken
 returns-clause-taken c = sym (none_found has_bad_parameter c.args.items.now c.loop-place.place (omega (arith, c.loop-place-test.false)) c.loop-place.invariant.good)

@@ -7,8 +7,8 @@ use Rattle.sq_binder.specs.Binds.{Binds}
 use Rattle.sq_binder.specs.Found.{Finds}
 use Rattle.sq_binder.specs.Scope.{parameters_in}
 use Rattle.sq_binder.specs.Surroundings.{surroundings}
-use Rattle.sq_statement_binder.specs.Row.{row_in, row_of}
-use Rattle.sq_statement_binder.specs.Target.{placed_of}
+use Rattle.sq_statement_binder.specs.Row.{row_in}
+use Rattle.sq_promises.specs.Seen.{output_seen, row_seen}
 use Rattle.sq_statement_binder.proofs.SelectRows.{row_found}
 use Rattle.sq_statement_binder.proofs.row.bind_row.Goals as goal
 
@@ -19,7 +19,7 @@ returns g c =
     let s = c.args.select.now in
     let query = c.in_ok-query.query in
     let outputs = c.targets_of-outputs.result in
-    subst (λ r. Finds row_of (row_in own a s) c.args.before r) (sym c.with_outputs.ensures)
+    subst (λ r. Finds row_seen (row_in own a s) c.args.before r) (sym c.with_outputs.ensures)
     (row_found own a s c.args.before query c.in_ok-query.ensures outputs
-    (subst (λ ks. Binds (map placed_of) (targets_bound (parameters_in c.args.at.now.environment.now) (listed s.targets) ks) outputs)
+    (subst (λ ks. Binds (map output_seen) (targets_bound (parameters_in c.args.at.now.environment.now) (listed s.targets) ks) outputs)
     (sym (ap (map (λ c. c.kind)) (columns_seen query.part ∙ ap (map column_of) (sym c.as_slice.ensures)))) c.targets_of-outputs.ensures))

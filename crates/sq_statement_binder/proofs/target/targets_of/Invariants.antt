@@ -6,13 +6,14 @@ use Rattle.sq_rules.specs.Words.{has_twice}
 use Rattle.sq_binding.specs.Targets.{targets_bound}
 use Rattle.sq_binder.specs.Scope.{declared_of}
 use Rattle.sq_binder.proofs.Steps.{stepped}
-use Rattle.sq_statement_binder.specs.Target.{all_set, kinds_shown, placed_of, target_step}
+use Rattle.sq_statement_binder.specs.Target.{all_set, kinds_shown, target_step}
 use Rattle.sq_statement_binder.proofs.Targets.{beside}
+use Rattle.sq_promises.specs.Seen.{output_seen}
 use Rattle.sq_statement_binder.proofs.target.targets_of.Given as goal
 
 abbrev pub invariant-loop-number : goal.invariant-loop-number
 invariant-loop-number l = record {
   so_far : targets_bound (map declared_of l.parameters) (listed l.targets) (kinds_shown l.columns)
-      ≡ stepped (target_step (map declared_of l.parameters)) (Ok (map placed_of l.outputs)) (map beside (drop l.number (zip l.targets.rest l.others)));
-  once : has_twice nat_eq (all_set (map placed_of l.outputs)) ≡ false;
+      ≡ stepped (target_step (map declared_of l.parameters)) (Ok (map output_seen l.outputs)) (map beside (drop l.number (zip l.targets.rest l.others)));
+  once : has_twice nat_eq (all_set (map output_seen l.outputs)) ≡ false;
 }

@@ -3,14 +3,15 @@ use Rattle.sq_binding.specs.Targets.{target_bound}
 use Rattle.sq_binder.specs.Binds.{Binds}
 use Rattle.sq_binder.specs.Scope.{declared_of}
 use Rattle.sq_binder.proofs.Steps.{then_binds}
-use Rattle.sq_statement_binder.specs.Target.{is_set_again, placed_of, set_once, set_unless}
+use Rattle.sq_statement_binder.specs.Target.{is_set_again, set_once, set_unless}
 use Rattle.sq_statement_binder.proofs.Targets.{again_is}
+use Rattle.sq_promises.specs.Seen.{output_seen}
 use Rattle.sq_statement_binder.proofs.target.with_target.Goals as goal
 
 pub returns-in-Ok : goal.returns-in-Ok
 returns-in-Ok c =
     let outputs = c.args.outputs in
     let output = c.in-Ok.output in
-    then_binds (map placed_of) (target_bound (map declared_of c.args.parameters.now) (c.args.target.now, c.args.kind)) (set_once (map placed_of outputs)) (placed_of output) c.with_output.result c.in-Ok.ensures
-    (subst (λ again. Binds (map placed_of) (set_unless again (map placed_of outputs) (placed_of output)) c.with_output.result)
-    (c.is_set_again-again.ensures ∙ ap (λ os. is_set_again os output) c.as_slice.ensures ∙ again_is outputs output c.requires) c.with_output.ensures)
+    then_binds (map output_seen) (target_bound (map declared_of c.args.parameters.now) (c.args.target.now, c.args.kind)) (set_once (map output_seen outputs)) (output_seen output) c.with_output.result c.in-Ok.ensures
+    (subst (λ again. Binds (map output_seen) (set_unless again (map output_seen outputs) (output_seen output)) c.with_output.result)
+    (c.set_again-again.ensures ∙ ap (λ os. is_set_again os output) c.as_slice.ensures ∙ again_is outputs output c.requires) c.with_output.ensures)

@@ -1,7 +1,7 @@
 use Rattle.sq_binding.specs.Scope.{column_meant}
 use Rattle.sq_binder.specs.Scope.{found_of, scopes_of}
 use Rattle.sq_binder.proofs.Scopes.{column_around, column_here, column_nowhere, fit_fails, stops_around}
-use Rattle.sq_binder.proofs.Steps.{handed_on}
+use Rattle.sq_binder.proofs.Steps.{handed_on, stops_by}
 use Rattle.sq_binder.proofs.scope.Scope.+column.Goals as goal
 
 pub returns-in-Some-default : goal.returns-in-Some-default
@@ -9,7 +9,9 @@ returns-in-Some-default t c =
     column_here c.args.reference.now c.args.self.now (c.in-Some-default.item, c.in-Some-default.column) c.found.result (rw c.in-Some-default.is-0 at c.in_ok-fit.ensures) c.found.ensures
 
 pub returns-in-None-None : goal.returns-in-None-None
-returns-in-None-None t c = column_nowhere c.args.reference.now c.args.self.now (rw c.in-None-None.is-0 at c.in_ok-fit.ensures) c.in-None-None.is-1
+returns-in-None-None t c =
+    stops_by (column_meant c.args.reference.now (scopes_of c.args.self.now)) c.about.result _ c.about.ensures
+    (column_nowhere c.args.reference.now c.args.self.now (rw c.in-None-None.is-0 at c.in_ok-fit.ensures) c.in-None-None.is-1)
 
 pub returns-in_err-fit : goal.returns-in_err-fit
 returns-in_err-fit t c =

@@ -1,10 +1,21 @@
-use Rattle.std.proofs.Common.{ap}
-use Rattle.std.specs.Map.{keys_of}
-use Rattle.sq_catalog.specs.Stored.{columns_of, queries_of, seen_of}
+use Rattle.std.proofs.Common.{◌≡◌, Ok, subst}
+use Rattle.sq_rules.specs.SchemaRefusal.{schema_parts}
+use Rattle.sq_declaring.specs.Catalog as definition
+use Rattle.sq_declaring.specs.Declaring.{with_parts}
+use Rattle.sq_catalog.specs.Exact.{StopsAt, declared}
 use Rattle.sq_catalog.proofs.Declared.{declared_all}
 use Rattle.sq_catalog.proofs.catalog.Catalog.build.Goals as goal
 
 pub returns-in-Ok-clause-declares : goal.returns-in-Ok-clause-declares
 returns-in-Ok-clause-declares c =
-    declared_all c.args.texts.now _ c.add_texts.new.self (ap keys_of c.new-2.ensures.empty) (ap columns_of c.new-2.ensures.empty) c.new-4.ensures.items
-    (ap keys_of c.new-3.ensures.empty) (ap seen_of c.new-3.ensures.empty) (ap queries_of c.new-3.ensures.empty) c.in-Ok.ensures.tables c.in-Ok.ensures.views
+    let bases = c.empty-catalog.ensures.bases in
+    let views = c.empty-catalog.ensures.views in
+    declared_all c.args.texts.now _ c.add_texts.new.self bases.0 bases.1 bases.2 views.0 views.1 views.2 c.in-Ok.ensures.tables c.in-Ok.ensures.views
+
+pub returns-in-Ok-clause-exact : goal.returns-in-Ok-clause-exact
+returns-in-Ok-clause-exact c =
+    subst (λ (d : definition.Catalog). with_parts (schema_parts c.args.texts.now) d ≡ Ok (declared c.add_texts.new.self)) c.empty-catalog.ensures.exact c.in-Ok.ensures.exact
+
+pub returns-in-Err-clause-exact : goal.returns-in-Err-clause-exact
+returns-in-Err-clause-exact c =
+    subst (λ (d : definition.Catalog). StopsAt (with_parts (schema_parts c.args.texts.now) d) c.in-Err.fault) c.empty-catalog.ensures.exact c.in-Err.ensures.exact

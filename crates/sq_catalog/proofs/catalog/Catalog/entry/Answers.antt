@@ -1,11 +1,13 @@
 use Rattle.std.proofs.Common.{◌≡◌, None, Some, ap, subst, sym, ◌∙◌}
-use Rattle.std.specs.Map.{keys_of}
+use Rattle.std.specs.Map.{keys_of, lookup}
+use Rattle.std.specs.Option.{option_or}
 use Rattle.sq_bound.specs.Known.{known_by}
 use Rattle.sq_catalog.proofs.Known.{base_here, view_here}
 use Rattle.sq_bound.specs.WellFormed.{IsViewAmong}
 use Rattle.sq_bound.specs.declared.condition.TablePlace.TheVariants.{Base, View}
-use Rattle.sq_catalog.specs.Catalog.{Catalog, base_meant, known, known_at, known_first, table_number, view_meant}
+use Rattle.sq_catalog.specs.Catalog.{Catalog, base_meant, is_table, known, known_at, known_first, table_number, view_meant}
 use Rattle.sq_catalog.specs.Stored.{IsNumbered, IsStored, columns_of, seen_of}
+use Rattle.sq_catalog.proofs.Entries.{described_at, entry_at}
 use Rattle.sq_catalog.proofs.Extending.{table_read}
 use Rattle.sq_catalog.proofs.Added.{stands_at}
 use Rattle.sq_catalog.proofs.References.{numbered_here, view_without}
@@ -85,3 +87,33 @@ pub returns-in-Some-get_full-clause-number : goal.returns-in-Some-get_full-claus
 returns-in-Some-get_full-clause-number c =
     view_without c.args.self.now.tables c.args.self.now.columns c.args.full_name.now c.in-Some-get_full.table.now c.in-Some-get_full.place
     (stands_at View c.self.inside.views.entries c.in-Some-get_full.place c.in-Some-get_full.field-0-1.now c.in-Some-get_full.table.now c.self.invariant.6 c.in-Some-get_full.ensures.entry)
+
+pub returns-in-Some-clause-exact : goal.returns-in-Some-clause-exact
+returns-in-Some-clause-exact c =
+    entry_at c.args.self.now c.self.inside.bases.entries c.self.inside.views.entries (ap (λ (s : Catalog). s.base_entries) c.self.view_is) (ap (λ (s : Catalog). s.view_entries) c.self.view_is) c.self.invariant.5 c.self.invariant.6 c.args.full_name.now (Some c.in-Some.table.now)
+    (ap (λ o. option_or o (lookup (is_table c.args.full_name.now.user c.args.full_name.now.name) c.self.inside.views.entries)) c.in-Some.ensures.value)
+
+pub returns-in-Some-clause-described : goal.returns-in-Some-clause-described
+returns-in-Some-clause-described c =
+    described_at c.args.self.now c.self.inside.bases.entries c.self.inside.views.entries (ap (λ (s : Catalog). s.base_entries) c.self.view_is) (ap (λ (s : Catalog). s.view_entries) c.self.view_is) c.args.full_name.now (Some c.in-Some.table.now)
+    (ap (λ o. option_or o (lookup (is_table c.args.full_name.now.user c.args.full_name.now.name) c.self.inside.views.entries)) c.in-Some.ensures.value)
+
+pub returns-in-Some-get_full-clause-exact : goal.returns-in-Some-get_full-clause-exact
+returns-in-Some-get_full-clause-exact c =
+    entry_at c.args.self.now c.self.inside.bases.entries c.self.inside.views.entries (ap (λ (s : Catalog). s.base_entries) c.self.view_is) (ap (λ (s : Catalog). s.view_entries) c.self.view_is) c.self.invariant.5 c.self.invariant.6 c.args.full_name.now (Some c.in-Some-get_full.table.now)
+    (λ i. option_or (c.in-None.ensures.value i) (c.in-Some-get_full.ensures.value i))
+
+pub returns-in-Some-get_full-clause-described : goal.returns-in-Some-get_full-clause-described
+returns-in-Some-get_full-clause-described c =
+    described_at c.args.self.now c.self.inside.bases.entries c.self.inside.views.entries (ap (λ (s : Catalog). s.base_entries) c.self.view_is) (ap (λ (s : Catalog). s.view_entries) c.self.view_is) c.args.full_name.now (Some c.in-Some-get_full.table.now)
+    (λ i. option_or (c.in-None.ensures.value i) (c.in-Some-get_full.ensures.value i))
+
+pub returns-in-None-get_full-clause-exact : goal.returns-in-None-get_full-clause-exact
+returns-in-None-get_full-clause-exact c =
+    entry_at c.args.self.now c.self.inside.bases.entries c.self.inside.views.entries (ap (λ (s : Catalog). s.base_entries) c.self.view_is) (ap (λ (s : Catalog). s.view_entries) c.self.view_is) c.self.invariant.5 c.self.invariant.6 c.args.full_name.now None
+    (λ i. option_or (c.in-None.ensures.value i) (c.in-None-get_full.ensures.value i))
+
+pub returns-in-None-get_full-clause-described : goal.returns-in-None-get_full-clause-described
+returns-in-None-get_full-clause-described c =
+    described_at c.args.self.now c.self.inside.bases.entries c.self.inside.views.entries (ap (λ (s : Catalog). s.base_entries) c.self.view_is) (ap (λ (s : Catalog). s.view_entries) c.self.view_is) c.args.full_name.now None
+    (λ i. option_or (c.in-None.ensures.value i) (c.in-None-get_full.ensures.value i))

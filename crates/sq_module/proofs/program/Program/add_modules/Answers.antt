@@ -20,6 +20,7 @@ loop-module-init c = record {
   apart = c.requires.apart;
   of_some = λ n none. c.requires.others n;
   written = λ texts of before. before;
+  computed = λ texts of before. before;
 }
 
 pub loop-module-preserved : goal.loop-module-preserved
@@ -33,4 +34,7 @@ loop-module-preserved c = record {
   written = λ texts of before.
       let one = all_at _ c.args.modules.now c.loop-module.module-index c.module-item.result c.loop-module-test.true c.module-item.is of in
       c.in_ok-add_module.ensures.written texts one.0 one.1 one.2 (c.loop-module.invariant.written texts of before);
+  computed = λ texts of before.
+      let one = all_at _ c.args.modules.now c.loop-module.module-index c.module-item.result c.loop-module-test.true c.module-item.is of in
+      c.in_ok-add_module.ensures.computed texts one.0 one.1 one.2 (c.loop-module.invariant.computed texts of before);
 }

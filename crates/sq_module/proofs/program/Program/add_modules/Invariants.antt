@@ -1,7 +1,9 @@
 use Rattle.std.proofs.Common.{◌≡◌, [], List, map, take}
 use Rattle.std.specs.Map.{keys_of}
 use Rattle.sq_catalog.specs.Catalog.{column_kinds, known}
+use Rattle.sq_catalog.specs.UserTables.{names_in}
 use Rattle.sq_module.specs.Admitted.{admitted_procedures}
+use Rattle.sq_module.specs.Computed.{IsProgramOf}
 use Rattle.sq_module.specs.Program.{FitsProgram, ProgramIsWellFormed, with_procedures}
 use Rattle.sq_tree.specs.declared.module.ModuleText.{ModuleText}
 use Rattle.sq_module.specs.Written.{AreApart, AreFrom, AreOfTexts}
@@ -16,4 +18,5 @@ invariant-loop-module l = record {
   apart : AreApart [] l.self.cursors.items;
   of_some : AreOfSome (map (λ a. a.name) (take l.module-index l.modules)) l.self.cursors.items;
   written : (texts : List ModuleText) → AreOfTexts texts l.modules → AreFrom (known l.catalog) texts l.fn.self → AreFrom (known l.catalog) texts l.self;
+  computed : (texts : List ModuleText) → AreOfTexts texts l.modules → IsProgramOf (names_in l.catalog) texts l.fn.self → IsProgramOf (names_in l.catalog) texts l.self;
 }

@@ -1,21 +1,26 @@
-use Rattle.std.proofs.Common.{[], ◌∷◌, ◌++◌, IfOk, IfSome, ap, refl, subst, sym}
+use Rattle.std.proofs.Common.{[], ◌∷◌, ◌++◌, ◌∙◌, IfOk, None, ap, refl, subst, sym}
 use Rattle.std.proofs.lemmas.List.{append-nil}
-use Rattle.sq_bind.specs.Written.{IsCursorOf}
+use Rattle.std.specs.Borrow.{Bor}
+use Rattle.std.specs.Option.{option_map}
+use Rattle.sq_promises.specs.Written.{IsCursorOf}
 use Rattle.sq_bound.specs.WellFormed.{kinds_of_parameters}
-use Rattle.sq_bound.specs.declared.statement.BoundStatement.TheVariants as statement
 use Rattle.sq_catalog.specs.Catalog.{column_kinds, known}
-use Rattle.sq_module.specs.Program.{OpensWellFormed}
-use Rattle.sq_module.specs.Written.{AreNumbers, IsCursorNamed, IsOpenedIn, IsStatementIn}
+use Rattle.sq_catalog.specs.UserTables.{names_in}
+use Rattle.sq_tree.specs.declared.module.Cursor.{Cursor}
+use Rattle.sq_module.specs.Written.{IsCursorNamed, IsOpenedIn}
 use Rattle.sq_module.specs.Refusal.{opened_by}
-use Rattle.sq_module.proofs.Apart.{new_found, opened_by_more, opens_last}
+use Rattle.sq_module.proofs.Apart.{kinds_found, new_found, opened_by_more, opens_last}
+use Rattle.sq_module.proofs.Computed.{next_is}
+use Rattle.sq_module.proofs.Named.{named_absent, named_in_text, named_none}
+use Rattle.sq_module.proofs.Opening.{opens_nothing}
 use Rattle.sq_module.proofs.Written.{cursor_found}
 use Rattle.sq_module.proofs.program.Program.add_opened.Goals as goal
 
-pub returns-in-Some-clause-opened : goal.returns-in-Some-clause-opened
-returns-in-Some-clause-opened c =
-    let columns = column_kinds c.args.catalog.now in
-    subst (λ ps. IfOk c.add_cursor.result (λ o. IfSome o (λ n. OpensWellFormed columns c.add_cursor.new.self.cursors.items (kinds_of_parameters ps) (statement.Open n)))) c.as_slice-parameters.ensures
-    (c.add_cursor.ensures.opened columns (kinds_of_parameters c.as_slice-parameters.result.now) c.bind_cursor-bound.ensures.well_formed)
+pub returns-in-Some-clause-openable : goal.returns-in-Some-clause-openable
+returns-in-Some-clause-openable c =
+    λ procedures only before.
+    c.add_cursor.ensures.openable (column_kinds c.args.catalog.now) (kinds_of_parameters c.args.opener.now.parameters) procedures (rw c.as_slice-parameters.ensures at c.bound_cursor-bound.ensures.well_formed)
+    (kinds_found c.args.«module».now procedures c.args.opener.now c.in-Open.name _ c.in-Open.is (sym c.in-Some.ensures.value) only) before
 
 pub returns-in-Some-clause-written : goal.returns-in-Some-clause-written
 returns-in-Some-clause-written c =
@@ -24,18 +29,16 @@ returns-in-Some-clause-written c =
     let opener = c.args.opener.now in
     let found = cursor_found m.items c.args.«module».now.cursors.entries c.in-Open.name _ of.cursors (sym c.in-Some.ensures.value) in
     let opened : IsOpenedIn m c.in-Open.name opener.parameters = record { procedure = opener.procedure.now; is_item = procedure.0; opens = c.in-Open.is; declares = procedure.1 } in
-    let bound = rw c.as_slice-parameters.ensures at c.bind_cursor-bound.ensures.written in
-    let named : IsCursorNamed names m c.in-Open.name c.bind_cursor-bound.result = record {
+    let bound = rw c.as_slice-parameters.ensures at c.bound_cursor-bound.ensures.written in
+    let named : IsCursorNamed names m c.in-Open.name c.bound_cursor-bound.result = record {
       cursor = _;
       among = found.0;
       named = found.1;
       parameters = opener.parameters;
       opened = opened;
-      bound_is = subst (λ u. IfOk c.bind_cursor-bound.result (IsCursorOf names u opener.parameters c.in-Some.cursor.now.now)) of.user bound;
+      bound_is = subst (λ u. IfOk c.bound_cursor-bound.result (IsCursorOf names u opener.parameters c.in-Some.cursor.now.now)) of.user bound;
     } in
-    let new = c.add_cursor.new.self.cursors.items in
-    subst (λ s. IfOk c.add_cursor.result (λ o. AreNumbers (known c.args.catalog.now) m new c.add_cursor.new.numbers.entries × IfSome o (λ n. IsStatementIn (known c.args.catalog.now) m new c.args.opener.now.parameters s (statement.Open n)))) (sym c.in-Open.is)
-    (c.add_cursor.ensures.written names m of named numbers)
+    c.add_cursor.ensures.written names m of named numbers
 
 pub add_cursor-requires-clause-new : goal.add_cursor-requires-clause-new
 add_cursor-requires-clause-new c =
@@ -47,16 +50,39 @@ returns-in-Some-clause-opened_by c =
     c.add_cursor.ensures.opened_by (before ++ c.args.opener.now ∷ []) (opens_last before c.args.opener.now c.in-Open.name (ap opened_by c.in-Open.is))
     (opened_by_more c.args.«module».now.name before c.args.opener.now c.args.self.now.cursors.items all)
 
+pub returns-in-Some-clause-named : goal.returns-in-Some-clause-named
+returns-in-Some-clause-named c =
+    λ m before of only are.
+    c.add_cursor.ensures.named (names_in c.args.catalog.now m.authorization) m before c.args.opener.now
+    (next_is (names_in c.args.catalog.now) m c.args.«module».now before c.args.opener.now c.in-Open.name _ c.bound_cursor-bound.result of only c.in-Open.is (sym c.in-Some.ensures.value)
+    (cursor_found m.items c.args.«module».now.cursors.entries c.in-Open.name _ of.cursors (sym c.in-Some.ensures.value)) (rw c.as_slice-parameters.ensures at c.bound_cursor-bound.ensures.binds)) are
+
+pub returns-in-Some-clause-computed : goal.returns-in-Some-clause-computed
+returns-in-Some-clause-computed c =
+    λ texts m before among of only all.
+    c.add_cursor.ensures.computed (names_in c.args.catalog.now) texts m before c.args.opener.now among of
+    (next_is (names_in c.args.catalog.now) m c.args.«module».now before c.args.opener.now c.in-Open.name _ c.bound_cursor-bound.result of only c.in-Open.is (sym c.in-Some.ensures.value)
+    (cursor_found m.items c.args.«module».now.cursors.entries c.in-Open.name _ of.cursors (sym c.in-Some.ensures.value)) (rw c.as_slice-parameters.ensures at c.bound_cursor-bound.ensures.binds)) all
+
+pub returns-in-None-clause-named : goal.returns-in-None-clause-named
+returns-in-None-clause-named c =
+    λ m before of only are.
+    named_absent (names_in c.args.catalog.now m.authorization) m before c.args.opener.now _ _ c.in-Open.name (ap opened_by c.in-Open.is)
+    (sym (named_in_text m c.args.«module».now of c.in-Open.name) ∙ ap (option_map (λ (b : Bor Cursor). b.now)) (sym c.in-None.ensures.value)) are
+
 pub returns-in_default : goal.returns-in_default
 returns-in_default c = record {
   there = c.requires.there;
   procedures = refl;
   fits = c.requires.fits;
   well_formed = c.requires.well_formed;
-  written = λ m of procedure numbers. (numbers, tt);
+  written = λ m of procedure numbers. numbers;
   grows = ([], sym (append-nil c.args.self.now.cursors.items));
-  opened = tt;
+  openable = λ procedures only before. before;
   apart = c.requires.apart;
   others = λ name other of. of;
   opened_by = λ before all. opened_by_more c.args.«module».now.name before c.args.opener.now c.args.self.now.cursors.items all;
+  named = λ m before of only are.
+      named_none (names_in c.args.catalog.now m.authorization) m before c.args.opener.now _ _ (opens_nothing c.args.opener.now.procedure.now.statement c.in_default.not-Open) are;
+  computed = λ texts m before among of only all. all;
 }

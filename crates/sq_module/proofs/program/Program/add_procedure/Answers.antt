@@ -3,7 +3,13 @@ use Rattle.std.proofs.lemmas.Result.{on_ok_weaker}
 use Rattle.sq_catalog.specs.Catalog.{column_kinds, known}
 use Rattle.sq_module.proofs.Fitting.{procedure_added}
 use Rattle.sq_module.specs.Program.{FitsProcedure, ProcedureIsWellFormed, ProcedureOpens, kinds_of_cursors}
-use Rattle.sq_module.specs.Written.{AreNumbers, IsBoundFrom, OpensNamed}
+use Rattle.sq_binding.specs.Statement.{statement_bound}
+use Rattle.sq_catalog.specs.UserTables.{names_in}
+use Rattle.sq_promises.specs.Names.{declared}
+use Rattle.sq_module.specs.Computed.{IsComputed}
+use Rattle.sq_module.specs.Named.{cursors_named, number_in}
+use Rattle.sq_module.specs.Written.{AreNumbers, IsBoundFrom}
+use Rattle.sq_module.proofs.Computed.{procedure_computed, procedures_computed}
 use Rattle.sq_module.proofs.Written.{procedure_next}
 use Rattle.sq_module.proofs.program.Program.add_procedure.Goals as goal
 
@@ -22,10 +28,21 @@ returns-clause-well_formed c =
 
 pub returns-clause-written : goal.returns-clause-written
 returns-clause-written c =
-    λ texts m among of is_procedure numbers opens before.
+    λ texts m among of is_procedure numbers before.
     let cursors = c.args.self.now.cursors.items in
     let numbers_here : AreNumbers (known c.args.catalog.now) m c.as_slice.result.now c.args.numbers.now.entries = rw c.as_slice.ensures.value numbers in
-    let opens_here : OpensNamed (known c.args.catalog.now) m c.as_slice.result.now c.args.admitted.now c.args.opened = rw c.as_slice.ensures.value opens in
     let one : IsBoundFrom (known c.args.catalog.now) m cursors c.args.admitted.now.procedure.now c.in_ok-bound.bound
-    = rw c.as_slice.ensures.value at (c.in_ok-bound.ensures.written m (of.user) is_procedure numbers_here opens_here) in
+    = rw c.as_slice.ensures.value at (c.in_ok-bound.ensures.written m (of.user) is_procedure numbers_here) in
     on_ok_weaker c.inserted.result (λ is. procedure_next (known c.args.catalog.now) texts m cursors _ _ _ c.args.admitted.now.procedure.now _ is among of.name is_procedure.0 refl one before) c.inserted.ensures.entries
+
+pub returns-clause-computed : goal.returns-clause-computed
+returns-clause-computed c =
+    λ texts m among of is_procedure named before.
+    let names = names_in c.args.catalog.now in
+    let cursors = c.args.self.now.cursors.items in
+    let numbers = c.args.numbers.now.entries in
+    let p = c.args.admitted.now in
+    let here : IsComputed (statement_bound (names c.args.«module».now.user) (declared p.parameters) (cursors_named cursors numbers) p.procedure.now.statement) c.in_ok-bound.bound.statement
+    = rw c.as_slice.ensures.value at c.in_ok-bound.ensures.computed in
+    let one = procedure_computed names m c.args.«module».now p (cursors_named cursors numbers) (number_in numbers) c.in_ok-bound.bound.statement of is_procedure named here in
+    on_ok_weaker c.inserted.result (λ is. procedures_computed names texts m _ _ _ p.procedure.now (number_in numbers) _ is among of.name is_procedure.0 refl one before) c.inserted.ensures.entries

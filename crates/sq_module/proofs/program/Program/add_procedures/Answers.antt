@@ -1,42 +1,42 @@
-use Rattle.std.proofs.Common.{◌∙◌, None, arith, get_or, length, subst, sym}
+use Rattle.std.proofs.Common.{◌∙◌, arith, length, subst, sym}
 use Rattle.std.proofs.lemmas.Grind.{common_steps}
 use Rattle.sq_catalog.specs.Catalog.{column_kinds, known}
-use Rattle.sq_module.specs.Opened.{AreThere, IsOpened}
-use Rattle.sq_module.proofs.Opening.{opened_at, opened_there}
-use Rattle.sq_module.specs.Written.{AreNumbers, OpensNamed}
-use Rattle.sq_module.proofs.Written.{all_at, named_at}
+use Rattle.sq_catalog.specs.UserTables.{names_in}
+use Rattle.sq_module.specs.Named.{AreNamedAs}
+use Rattle.sq_module.specs.Opened.{AreThere, IsOpenable}
+use Rattle.sq_module.specs.Written.{AreNumbers, IsProcedureOf}
+use Rattle.sq_module.proofs.Written.{all_at}
 use Rattle.sq_module.proofs.program.Program.add_procedures.Goals as goal
 
-pub bounds-opened-place : goal.bounds-opened-place
-bounds-opened-place c =
-    opened_there (column_kinds c.args.catalog.now) c.args.self.now.cursors.items c.args.«module».now.procedures.items c.args.opened.now c.loop-place.place c.requires.opened
-    (rw c.as_slice-admitted-items.ensures.value at c.loop-place-test.true)
-
-pub add_procedure-requires-clause-opened : goal.add_procedure-requires-clause-opened
-add_procedure-requires-clause-opened c =
+pub add_procedure-requires-clause-openable : goal.add_procedure-requires-clause-openable
+add_procedure-requires-clause-openable c =
     let columns = column_kinds c.args.catalog.now in
-    subst (λ cs. IsOpened columns cs.items c.admitted-item.result (get_or c.args.opened.now c.loop-place.place None)) (sym c.loop-place.invariant.cursors)
-    (opened_at columns c.args.self.now.cursors.items c.args.«module».now.procedures.items c.args.opened.now c.loop-place.place c.admitted-item.result None c.requires.opened
-    (rw c.as_slice-admitted-items.ensures.value at c.loop-place-test.true) (rw c.as_slice-admitted-items.ensures.value at c.admitted-item.is))
-
-pub loop-place-preserved : goal.loop-place-preserved
-loop-place-preserved c =
-    let place = c.loop-place.place in
-    let procedures = c.args.«module».now.procedures.items in
-    let below = rw c.as_slice-admitted-items.ensures.value at c.loop-place-test.true in
-    let at_place = rw c.as_slice-admitted-items.ensures.value at c.admitted-item.is in
-    record {
-      procedures = grind (arith, common_steps);
-      cursors = c.add_procedure.ensures.cursors ∙ c.loop-place.invariant.cursors;
-      fits = c.in_ok-add_procedure.ensures.fits;
-      well_formed = c.in_ok-add_procedure.ensures.well_formed;
-      written = λ texts m among of numbers opens before.
-          c.in_ok-add_procedure.ensures.written texts m among of (all_at _ procedures place c.admitted-item.result below at_place of.procedures)
-          (subst (λ cs. AreNumbers (known c.args.catalog.now) m cs.items c.args.numbers.now.entries) (sym c.loop-place.invariant.cursors) numbers)
-          (subst (λ cs. OpensNamed (known c.args.catalog.now) m cs.items c.admitted-item.result (get_or c.args.opened.now place None)) (sym c.loop-place.invariant.cursors)
-          (named_at (known c.args.catalog.now) m c.args.self.now.cursors.items procedures c.args.opened.now place c.admitted-item.result None opens below at_place))
-          (c.loop-place.invariant.written texts m among of numbers opens before);
-    }
+    let numbers = c.args.numbers.now.entries in
+    subst (λ cs. IsOpenable columns cs.items numbers c.admitted-item.result) (sym c.loop-admitted.invariant.cursors)
+    (all_at (IsOpenable columns c.args.self.now.cursors.items numbers) c.args.«module».now.procedures.items c.loop-admitted.admitted-index c.admitted-item.result
+    (rw c.as_slice-admitted-items.ensures.value at c.loop-admitted-test.true) (rw c.as_slice-admitted-items.ensures.value at c.admitted-item.is) c.requires.openable)
 
 pub add_procedure-requires-clause-there : goal.add_procedure-requires-clause-there
-add_procedure-requires-clause-there c = subst (λ cs. AreThere (length cs.items) c.args.numbers.now.entries) (sym c.loop-place.invariant.cursors) c.requires.there
+add_procedure-requires-clause-there c = subst (λ cs. AreThere (length cs.items) c.args.numbers.now.entries) (sym c.loop-admitted.invariant.cursors) c.requires.there
+
+pub loop-admitted-preserved : goal.loop-admitted-preserved
+loop-admitted-preserved c =
+    let index = c.loop-admitted.admitted-index in
+    let procedures = c.args.«module».now.procedures.items in
+    let numbers = c.args.numbers.now.entries in
+    let below = rw c.as_slice-admitted-items.ensures.value at c.loop-admitted-test.true in
+    let is = rw c.as_slice-admitted-items.ensures.value at c.admitted-item.is in
+    record {
+      procedures = grind (arith, common_steps);
+      cursors = c.add_procedure.ensures.cursors ∙ c.loop-admitted.invariant.cursors;
+      fits = c.in_ok-add_procedure.ensures.fits;
+      well_formed = c.in_ok-add_procedure.ensures.well_formed;
+      written = λ texts m among of found before.
+          c.in_ok-add_procedure.ensures.written texts m among of (all_at (IsProcedureOf m.items) procedures index c.admitted-item.result below is of.procedures)
+          (subst (λ cs. AreNumbers (known c.args.catalog.now) m cs.items numbers) (sym c.loop-admitted.invariant.cursors) found)
+          (c.loop-admitted.invariant.written texts m among of found before);
+      computed = λ texts m among of named before.
+          c.in_ok-add_procedure.ensures.computed texts m among of (all_at (IsProcedureOf m.items) procedures index c.admitted-item.result below is of.procedures)
+          (subst (λ cs. AreNamedAs (names_in c.args.catalog.now m.authorization) m cs.items numbers) (sym c.loop-admitted.invariant.cursors) named)
+          (c.loop-admitted.invariant.computed texts m among of named before);
+    }

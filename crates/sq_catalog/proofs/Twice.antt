@@ -1,0 +1,107 @@
+-- Lists that have an element twice.
+use Rattle.std.proofs.Common.{◌≡◌, ℕ, ◌+◌, ◌<◌, Bool, true, false, ◌||◌, List, [], ◌∷◌, ◌++◌, get_or, length, drop, map, nat_eq, take, Ok, Err, refl, sym, ap, subst, ◌∙◌}
+use Rattle.std.proofs.Common.{arith}
+use Rattle.std.proofs.lemmas.Grind.{common_steps}
+use Rattle.std.proofs.lemmas.List.Folds.{list_any-append}
+use Rattle.std.proofs.lemmas.List.{map-append}
+use Rattle.std.specs.Borrow.{Bor}
+use Rattle.std.specs.List.{list_any}
+use Rattle.sq_lex.specs.declared.name.Name.{Name}
+use Rattle.sq_tree.specs.declared.schema.ColumnDefinition.{ColumnDefinition}
+use Rattle.sq_meaning.specs.Environment.{same_name}
+use Rattle.sq_rules.specs.Schema.{has_name_twice, is_among}
+use Rattle.sq_rules.specs.Words.{has_twice}
+use Rattle.sq_rules.specs.declared.refusal.SchemaFault.TheVariants.{NameTwice}
+use Rattle.sq_declaring.specs.Outcome.{and_then, refused_if}
+use Rattle.sq_binding.proofs.SameParameters.{name_itself, names_equal}
+use Rattle.sq_catalog.specs.Exact.{name_added}
+use Rattle.sq_catalog.specs.Fault.{Stops}
+use Rattle.sq_catalog.specs.Written.{definitions_lent}
+use Rattle.sq_catalog.specs.declared.fault.ElementFault.{ElementFault}
+use Rattle.sq_catalog.specs.declared.fault.ElementFault.TheVariants.{NoMemory, Refused}
+use Rattle.sq_catalog.proofs.Turns.{parted, taken}
+
+or_some : (a b : Bool) → b ≡ true → (a || b) ≡ true
+or_some true b h = refl
+or_some false b h = h
+
+or_none : (a b : Bool) → a ≡ false → b ≡ false → (a || b) ≡ false
+or_none true b h k = h
+or_none false b h k = k
+
+-- ---- names
+
+same_turned : (a b : Name) → same_name a b ≡ same_name b a
+same_turned a b = by (same_name a b) refl (same_name b a) refl
+  where
+    by : (x : Bool) → same_name a b ≡ x → (y : Bool) → same_name b a ≡ y → x ≡ y
+    by true is true of = refl
+    by false is false of = refl
+    by true is false of = sym (sym of ∙ ap (λ c. same_name b c) (names_equal a b is) ∙ name_itself b)
+    by false is true of = sym is ∙ ap (λ c. same_name a c) (names_equal b a of) ∙ name_itself a
+
+-- a further name, which is not there yet
+pub once_more : (names : List Name) (n : Name) → has_name_twice names ≡ false → is_among names n ≡ false → has_name_twice (names ++ n ∷ []) ≡ false
+once_more [] n once new = refl
+once_more (m ∷ names) n once new =
+    let first = parts (list_any (same_name m) names) (has_name_twice names) once in
+    let later = parts (same_name n m) (list_any (same_name n) names) new in
+    or_none (list_any (same_name m) (names ++ n ∷ [])) (has_name_twice (names ++ n ∷ []))
+    (list_any-append (same_name m) names (n ∷ []) ∙ or_none (list_any (same_name m) names) (same_name m n || false) first.0 (or_none (same_name m n) false (same_turned m n ∙ later.0) refl))
+    (once_more names n first.1 later.1)
+  where
+    parts : (a b : Bool) → (a || b) ≡ false → (a ≡ false) × (b ≡ false)
+    parts true b h = absurd cc
+    parts false b h = (refl, h)
+
+-- one that is there
+pub there_twice : (names more : List Name) (n : Name) → is_among names n ≡ true → has_name_twice (names ++ n ∷ more) ≡ true
+there_twice [] more n h = absurd cc
+there_twice (m ∷ names) more n h = by (λ k. there_twice names more n k) (same_name n m) refl h
+  where
+    by : (list_any (same_name n) names ≡ true → has_name_twice (names ++ n ∷ more) ≡ true) → (b : Bool) → same_name n m ≡ b → (b || list_any (same_name n) names) ≡ true → has_name_twice (m ∷ names ++ n ∷ more) ≡ true
+    by later true is h =
+        ap (λ b. b || has_name_twice (names ++ n ∷ more))
+        (list_any-append (same_name m) names (n ∷ more) ∙ or_some (list_any (same_name m) names) (same_name m n || list_any (same_name m) more) (ap (λ b. b || list_any (same_name m) more) (same_turned m n ∙ is)))
+    by later false is h = or_some (list_any (same_name m) (names ++ n ∷ more)) (has_name_twice (names ++ n ∷ more)) (later h)
+
+-- ---- names that are added one after the other
+
+pub added_new : (names new : List Name) (n : Name) → name_added names n ≡ Ok new → is_among names n ≡ false
+added_new names new n = by (is_among names n)
+  where
+    by : (b : Bool) → and_then (refused_if NameTwice b) (λ u. Ok (names ++ n ∷ [])) ≡ Ok new → b ≡ false
+    by true h = absurd cc
+    by false h = refl
+
+pub added_stops : (names more : List Name) (n : Name) (fault : ElementFault) → Stops (name_added names n) fault → Stops (refused_if NameTwice (has_name_twice (names ++ n ∷ more))) fault
+added_stops names more n NoMemory h = tt
+added_stops names more n (Refused fault) h = by (is_among names n) refl h
+  where
+    by : (b : Bool) → is_among names n ≡ b → and_then (refused_if NameTwice b) (λ u. Ok (names ++ n ∷ [])) ≡ Err fault → Stops (refused_if NameTwice (has_name_twice (names ++ n ∷ more))) (Refused fault)
+    by true is h = let same : NameTwice ≡ fault = cc in ap (refused_if NameTwice) (there_twice names more n is) ∙ ap (λ f. Err f) same
+    by false is h = absurd cc
+
+-- the names of the columns, at one of them
+abbrev names : List (Bor ColumnDefinition) → List Name
+names columns = map (λ w. w.name) (definitions_lent columns)
+
+names_joined : (xs ys : List (Bor ColumnDefinition)) → names (xs ++ ys) ≡ names xs ++ names ys
+names_joined xs ys = ap (map (λ w. w.name)) (map-append (λ (w : Bor ColumnDefinition). w.now) xs ys) ∙ map-append (λ (w : ColumnDefinition). w.name) (definitions_lent xs) (definitions_lent ys)
+
+module _ (columns : List (Bor ColumnDefinition)) (i : ℕ) (c : Bor ColumnDefinition) (within : i < length columns) (at : c ≡ get_or columns i c) where
+  pub names_next : names (take i columns) ++ c.now.name ∷ [] ≡ names (take (i + 1) columns)
+  names_next = sym (ap names (taken columns i c within at) ∙ names_joined (take i columns) (c ∷ []))
+
+  pub names_stop : (old : List Name) (fault : ElementFault) → old ≡ names (take i columns) → Stops (name_added old c.now.name) fault → Stops (refused_if NameTwice (has_name_twice (names columns))) fault
+  names_stop old fault is h =
+      subst (λ all. Stops (refused_if NameTwice (has_name_twice all)) fault) (sym (names_joined (take i columns) (c ∷ drop (i + 1) columns)) ∙ ap names (parted columns i c within at))
+      (added_stops (names (take i columns)) (names (drop (i + 1) columns)) c.now.name fault (subst (λ ns. Stops (name_added ns c.now.name) fault) is h))
+
+-- ---- numbers
+
+eq_turned : (n m : ℕ) → nat_eq n m ≡ nat_eq m n
+eq_turned n m = grind (arith, common_steps)
+
+pub any_turned : (n : ℕ) → (λ m. nat_eq m n) ≡ nat_eq n
+any_turned n = λ i m. eq_turned m n i

@@ -1,0 +1,12 @@
+pub mod Actions
+pub mod Noted
+pub mod Moved
+pub mod Opened
+pub mod Parts
+pub mod Prepared
+pub mod Located
+pub mod Refused
+pub mod Spelled
+pub mod Steps
+pub mod Taken
+pub mod Wrote

@@ -1,0 +1,167 @@
+-- Which items of a script a session takes, and where the first that it doesn't take stands.
+use Rattle.std.proofs.Common.{◌≡◌, ℕ, ◌+◌, ◌<◌, ◌^◌, min, Bool, true, false, if◌then◌else◌, List, [], ◌∷◌, ◌++◌, length, get_or, map, slice_get, take, All, Option, Some, None, Ok, refl, ap, ap₂, subst, sym, ◌∙◌, arith, length-append}
+use Rattle.std.proofs.lemmas.List.{map-append, take_more}
+use Rattle.std.proofs.lemmas.List.Elements.{All-append, All-cons, All-nil}
+use Rattle.std.proofs.lemmas.List.Folds.{length-flat_map-take}
+use Rattle.std.proofs.lemmas.Option.{slice_get_read}
+use Rattle.std.specs.Prelude.{IfSome}
+use Rattle.sq_lex.specs.declared.lexeme.Lexeme.TheVariants as lexeme
+use Rattle.sq_lex.specs.declared.symbol.Symbol.TheVariants as symbol
+use Rattle.sq_lex.specs.declared.token.Token.{Token}
+use Rattle.sq_lex.specs.Reading.{reading}
+use Rattle.sq_value.specs.declared.value.Value.{Value}
+use Rattle.sq_tree.specs.Script.{ended_item_tokens, script_item_tokens, script_tokens}
+use Rattle.sq_tree.specs.Starts.{script_item_start}
+use Rattle.sq_tree.specs.declared.script.ScriptItem.{ScriptItem}
+use Rattle.sq_tree.specs.declared.script.ScriptItem.TheVariants as script
+use Rattle.sq_tree.specs.declared.script.ScriptText.{ScriptText}
+use Rattle.sq_model.specs.Report.{Bytes}
+use Rattle.sq_model.specs.Run.{item_of_script}
+use Rattle.sq_rules.specs.Script.{argument_values}
+use Rattle.sq_catalog.specs.Catalog.{table_number}
+use Rattle.sq_session.specs.Kind.{Procedure, fits_at}
+use Rattle.sq_session.specs.Session.{Session, procedure_number}
+use Rattle.sq_perform.specs.Fault.{IsItemFault, IsItemRefusal, IsOfItem, IsPlacedIfAny, IsPlacedIn, IsRefusalIfAny, IsScriptRefusal, IsUntaken}
+use Rattle.sq_perform.specs.Action.{item_of}
+use Rattle.sq_perform.specs.Asked.{AreActions}
+use Rattle.sq_perform.specs.Steps.{IsPrepared}
+use Rattle.sq_perform.specs.declared.action.Action.{Action}
+use Rattle.sq_perform.specs.Items.{IsTaken, call_fault, item_fault, table_fault}
+use Rattle.sq_perform.specs.Refused.{IsFirstItem, IsRefusedScript}
+use Rattle.sq_perform.specs.Refusal.{Matter, Meaning, StandsAt, matter}
+use Rattle.sq_perform.specs.Texts.{Spells}
+use Rattle.sq_perform.specs.declared.items.ItemFault.{ItemFault}
+use Rattle.sq_perform.specs.declared.items.ItemFault.TheVariants as item
+use Rattle.sq_perform.specs.declared.refusal.Refusal.{Refusal}
+use Rattle.sq_perform.specs.declared.refusal.RefusalName.{RefusalName}
+use Rattle.sq_perform.specs.declared.refusal.RefusalName.TheVariants.{BadArguments, UnknownProcedure, UnknownTable}
+use Rattle.sq_perform.specs.declared.texts.TextFault.{TextFault}
+use Rattle.sq_perform.specs.declared.texts.TextFault.TheVariants.{NoMemory, Refused}
+use Rattle.sq_perform.proofs.Spelled.{as_many, is_there}
+
+-- ---- one call
+
+abbrev if_fits : Bool → Option RefusalName
+if_fits b = if b then None else Some BadArguments
+
+pub call_of_known : (procedures : List Procedure) (values handed : List Value) (found : Option ℕ) (number : ℕ) (answer : Bool) → found ≡ Some number → values ≡ handed
+    → fits_at procedures number values ≡ answer → call_fault procedures handed found ≡ (if answer then None else Some BadArguments)
+call_of_known procedures values handed found number answer e same fits =
+    let here : call_fault procedures handed found ≡ call_fault procedures handed (Some number) = ap (call_fault procedures handed) e in
+    let fit : fits_at procedures number handed ≡ answer = ap (fits_at procedures number) (sym same) ∙ fits in
+    here ∙ ap if_fits fit
+
+-- ---- all items
+
+item_at : (items : List ScriptItem) (i : ℕ) (x : ScriptItem) → i < length items → x ≡ get_or items i x → take (i + 1) items ≡ take i items ++ x ∷ []
+item_at items i x lt e = take_more items i x lt ∙ ap (λ y. take i items ++ y ∷ []) (sym e)
+
+pub taken_more : (s : Session) (items : List ScriptItem) (i : ℕ) (x : ScriptItem) → i < length items → x ≡ get_or items i x → All (IsTaken s) (take i items) → IsTaken s x
+    → All (IsTaken s) (take (i + 1) items)
+taken_more s items i x lt e before here =
+    subst (All (IsTaken s)) (sym (item_at items i x lt e)) (All-append (IsTaken s) (take i items) (x ∷ []) before (All-cons (IsTaken s) x [] here (All-nil (IsTaken s))))
+
+pub actions_more : (items : List ScriptItem) (i : ℕ) (x : ScriptItem) (actions : List Action) (a : Action) → i < length items → x ≡ get_or items i x
+    → AreActions (take i items) actions → item_of a ≡ item_of_script x → AreActions (take (i + 1) items) (actions ++ a ∷ [])
+actions_more items i x actions a lt e are same =
+    map-append item_of actions (a ∷ []) ∙ ap₂ (λ these one. these ++ one ∷ []) are same ∙ sym (map-append item_of_script (take i items) (x ∷ []))
+    ∙ ap (map item_of_script) (sym (item_at items i x lt e))
+
+pub prepared_more : (s : Session) (actions : List Action) (a : Action) → All (IsPrepared s) actions → IsPrepared s a → All (IsPrepared s) (actions ++ a ∷ [])
+prepared_more s actions a before here = All-append (IsPrepared s) actions (a ∷ []) before (All-cons (IsPrepared s) a [] here (All-nil (IsPrepared s)))
+
+-- ---- where an item stands
+
+pub placed_again : (text : Bytes) (tokens : List Token) (number : ℕ) (fault : TextFault) → reading text ≡ Ok tokens → length tokens < 2 ^ 64 → IsPlacedIn text tokens number fault
+    → IsPlacedIfAny text number fault
+placed_again text tokens number NoMemory read few is = tt
+placed_again text tokens number (Refused refusal) read few is = record { tokens = tokens; read = read; few = few; stands = is }
+
+some_tokens : (x : ScriptItem) → 0 < length (ended_item_tokens x)
+some_tokens x =
+    let size = length-append (script_item_tokens x) (lexeme.Symbol symbol.Semicolon ∷ []) in
+    omega (arith, size)
+
+starts_inside : (tree : ScriptText) (number : ℕ) → number < length tree.items → script_item_start tree number < length (script_tokens tree)
+starts_inside tree number lt =
+    let found = is_there tree.items number lt in
+    let inside = length-flat_map-take ended_item_tokens tree.items number found.0 lt in
+    let size = some_tokens (get_or tree.items number found.0) in
+    omega (arith, inside, size)
+
+item_refused : (script : Bytes) (tree : ScriptText) (number start : ℕ) (what : RefusalName) (refusal : Refusal) (tokens : List Token) (token : Token)
+    → IsRefusalIfAny 0 what (Refused refusal) → reading script ≡ Ok tokens → start ≡ script_item_start tree number → slice_get tokens start ≡ Some token
+    → IfSome (slice_get tokens start) (λ t. StandsAt script t refusal) → IsItemRefusal script tree number what refusal
+item_refused script tree number start what refusal tokens token is read at there stands = record {
+  text = is.0;
+  name = is.1;
+  token = token;
+  first = record { tokens = tokens; read = read; there = rw (← at) there };
+  stands = rw there at stands;
+}
+
+pub of_item : (script : Bytes) (tree : ScriptText) (number start : ℕ) (what : RefusalName) (fault : TextFault) → Spells script (script_tokens tree)
+    → number < length tree.items → start ≡ min (script_item_start tree number) 18446744073709551615 → IsRefusalIfAny 0 what fault → IsPlacedIfAny script start fault
+    → IsOfItem script tree number (item.Refused what) fault
+of_item script tree number start what NoMemory spells lt e is placed = tt
+of_item script tree number start what (Refused refusal) spells lt e is placed =
+    let count = as_many script (script_tokens tree) placed.tokens spells placed.read in
+    let inside = starts_inside tree number lt in
+    let few = placed.few in
+    let at : start ≡ script_item_start tree number = omega (arith, e, inside, count, few) in
+    let found = is_there placed.tokens start (omega (arith, at, inside, count)) in
+    item_refused script tree number start what refusal placed.tokens found.0 is placed.read at found.1 placed.stands
+
+-- ---- the first that is not taken
+
+pub first_untaken : (s : Session) (script : Bytes) (tree : ScriptText) (number : ℕ) (x : ScriptItem) (fault : ItemFault) (answer : TextFault) → Spells script (script_tokens tree)
+    → number < length tree.items → x ≡ get_or tree.items number x → All (IsTaken s) (take number tree.items) → IsItemFault (item_fault s x) fault
+    → IsOfItem script tree number fault answer → IsUntaken s script answer
+first_untaken s script tree number x item.NoMemory NoMemory spells lt e before is of = tt
+first_untaken s script tree number x item.NoMemory (Refused refusal) spells lt e before is of = cc
+first_untaken s script tree number x (item.Refused what) NoMemory spells lt e before is of = tt
+first_untaken s script tree number x (item.Refused what) (Refused refusal) spells lt e before is of = (
+  of.text,
+  record {
+    tree = tree;
+    spells = spells;
+    number = number;
+    item = x;
+    there = slice_get_read tree.items (length tree.items) number x refl lt e;
+    fault = is ∙ ap (λ w. Some w) (sym of.name);
+    before = before;
+    token = of.token;
+    first = of.first;
+    stands = of.stands;
+  },
+)
+
+-- ---- a fault of an item is of what the script means
+
+named_by : (w what : RefusalName) → matter w ≡ Meaning → Some w ≡ Some what → matter what ≡ Meaning
+named_by w what m e = let same : w ≡ what = cc in ap matter (sym same) ∙ m
+
+unfit_means : (fits : Bool) (what : RefusalName) → (if fits then None else Some BadArguments) ≡ Some what → matter what ≡ Meaning
+unfit_means true what e = cc
+unfit_means false what e = named_by BadArguments what refl e
+
+call_means : (procedures : List Procedure) (values : List Value) (found : Option ℕ) (what : RefusalName) → call_fault procedures values found ≡ Some what → matter what ≡ Meaning
+call_means procedures values None what e = named_by UnknownProcedure what refl e
+call_means procedures values (Some number) what e = unfit_means (fits_at procedures number values) what e
+
+table_means : (found : Option ℕ) (what : RefusalName) → table_fault found ≡ Some what → matter what ≡ Meaning
+table_means None what e = named_by UnknownTable what refl e
+table_means (Some place) what e = cc
+
+item_means : (s : Session) (x : ScriptItem) (what : RefusalName) → item_fault s x ≡ Some what → matter what ≡ Meaning
+item_means s (script.Call «module» name arguments) what e =
+    call_means s.procedures (argument_values arguments) (procedure_number s.procedures «module» name) what e
+item_means s (script.Table user name) what e = table_means (table_number s.tables user name) what e
+
+by_meaning : (s : Session) (script : Bytes) (refusal : Refusal) (m : Matter) → m ≡ Meaning → IsFirstItem s script refusal → IsRefusedScript s script refusal m
+by_meaning s script refusal m e is = subst (IsRefusedScript s script refusal) (sym e) is
+
+pub untaken_is_refused : (s : Session) (script : Bytes) (fault : TextFault) → IsUntaken s script fault → IsScriptRefusal s script fault
+untaken_is_refused s script NoMemory is = tt
+untaken_is_refused s script (Refused refusal) is =
+    (is.0, by_meaning s script refusal (matter refusal.what) (item_means s is.1.item refusal.what is.1.fault) is.1)

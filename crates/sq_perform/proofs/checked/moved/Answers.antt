@@ -1,0 +1,11 @@
+use Rattle.std.proofs.Common.{◌∙◌, arith, refl}
+use Rattle.sq_perform.proofs.Moved.{fits, moved_is}
+use Rattle.sq_perform.proofs.checked.moved.Goals as goal
+
+pub further-requires : goal.further-requires
+further-requires c =
+    let sums = fits c.args.text.now _ c.args.from c.args.to c.args.place c.of-2.result c.if-from-to.false (omega (arith, c.if-to-text.false)) c.requires c.of-2.ensures in
+    record { byte = sums.0; line = sums.1; column = sums.2 }
+
+pub returns : goal.returns
+returns c = c.further.ensures ∙ moved_is c.args.text.now _ c.args.from c.args.to c.args.place c.of-2.result c.if-from-to.false refl c.requires c.of-2.ensures

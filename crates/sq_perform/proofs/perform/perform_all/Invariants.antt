@@ -1,0 +1,16 @@
+use Rattle.std.proofs.Common.{◌≡◌, ◌≤◌, ◌*◌, ◌^◌, false}
+use Rattle.sq_perform.proofs.Steps.{SoFar}
+use Rattle.sq_perform.proofs.perform.perform_all.Given as goal
+
+abbrev pub invariant-loop-done : goal.invariant-loop-done
+invariant-loop-done g l =
+    let first = l.initial.session in
+    let taken = g.W.Out.taken in
+    record {
+      so_far : SoFar l.actions l.done first l.session l.written (taken l.initial.out) (taken l.out);
+      untouched : l.done ≡ 0 → taken l.out ≡ taken l.initial.out;
+      small : l.written ≤ l.done * 2 ^ 64;
+      open_yet : g.W.Out.failed l.out ≡ false;
+      procedures : l.session.procedures ≡ first.procedures;
+      tables : l.session.tables ≡ first.tables;
+    }

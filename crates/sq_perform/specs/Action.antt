@@ -1,0 +1,21 @@
+-- What a script asks a session for.
+use Rattle.sq_meaning.specs.Environment.{TableName}
+use Rattle.sq_model.specs.Machine.{Call as MachineCall}
+use Rattle.sq_model.specs.Run.{Item}
+use Rattle.sq_perform.specs.declared.action.Action.{Action}
+use Rattle.sq_perform.specs.declared.action.Action.TheVariants.{Call, Show}
+use Rattle.sq_perform.specs.declared.action.CallAction.{CallAction}
+use Rattle.sq_perform.specs.declared.action.ShowAction.{ShowAction}
+
+-- the call as its line names it
+abbrev pub call_of : CallAction → MachineCall
+call_of c = record { in_module = c.«module»; procedure = c.name; values = c.values }
+
+-- the table as its lines name it
+abbrev pub table_of : ShowAction → TableName
+table_of s = record { user = s.user; name = s.name }
+
+-- the item of the script
+abbrev pub item_of : Action → Item
+item_of (Call c) = Item.call (call_of c)
+item_of (Show s) = Item.show (table_of s)

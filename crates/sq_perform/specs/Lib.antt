@@ -1,0 +1,13 @@
+pub mod Action
+pub mod Asked
+pub mod Checked
+pub mod Fault
+pub mod Items
+pub mod Opened
+pub mod Performed
+pub mod Refusal
+pub mod Refused
+pub mod Run
+pub mod Steps
+pub mod Stop
+pub mod Texts

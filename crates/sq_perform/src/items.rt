@@ -1,0 +1,135 @@
+//! From a script's items to calls and tables that are there.
+ghost use Rattle.std.specs.Prelude.{◌≡◌, map, IfErr, IfOk};
+ghost use Rattle.sq_tree.specs.declared.script.ScriptItem.TheVariants as script;
+ghost use Rattle.sq_meaning.specs.Spelled.{listed};
+ghost use Rattle.sq_rules.specs.Script as model;
+ghost use Rattle.sq_model.specs.Run.{item_of_script};
+ghost use Rattle.sq_perform.specs.Action.{item_of};
+ghost use Rattle.sq_perform.specs.Fault.{IsItemFault};
+ghost use Rattle.sq_perform.specs.Items.{IsTaken, item_fault};
+ghost use Rattle.sq_perform.specs.Steps.{IsPrepared};
+
+use crate::action::{Action, CallAction, ShowAction};
+use crate::refusal::RefusalName;
+use sq_items::Items;
+use sq_lex::Name;
+use sq_literal::{signed_value, text_value};
+use sq_session::Session;
+use sq_store::Store;
+use sq_tree::{Argument, Arguments, CommaList, ScriptItem};
+use sq_value::Value;
+use std::alloc::{AllocError, Global};
+
+/// Why an item is not taken.
+#[derive(Clone, Copy, Debug)]
+pub(crate) enum ItemFault {
+    NoMemory,
+    Refused(RefusalName),
+}
+
+impl From<AllocError> for ItemFault {
+    ghost use Rattle.std.specs.Prelude.{◌≡◌};
+    ghost use Rattle.sq_perform.specs.declared.items.ItemFault.TheVariants.{NoMemory};
+
+    ghost from_gives = { λ _ fault. fault ≡ NoMemory };
+
+    fn from(_error: AllocError) -> ItemFault {
+        ItemFault::NoMemory
+    }
+}
+
+/// An item with its names looked up.
+pub(crate) fn action_of<S: Store>(
+    alloc: Global,
+    session: &Session<S>,
+    item: &ScriptItem,
+) -> Result<Action, ItemFault>
+    ensures action { IfOk result (λ action. item_of action ≡ item_of_script item.now) }
+    ensures prepared { IfOk result (IsPrepared session.now) }
+    ensures taken { IfOk result (λ _. IsTaken session.now item.now) }
+    ensures refused { IfErr result (IsItemFault (item_fault session.now item.now)) }
+{
+    match item {
+        ScriptItem::Call {
+            module,
+            procedure,
+            arguments,
+        } => called(alloc, session, *module, *procedure, arguments),
+        ScriptItem::Table { schema, table } => shown(session, *schema, *table),
+    }
+}
+
+#[tactic(auto, using(crate::proofs::Taken::call_of_known))]
+fn called<S: Store>(
+    alloc: Global,
+    session: &Session<S>,
+    module: Name,
+    name: Name,
+    arguments: &Arguments,
+) -> Result<Action, ItemFault>
+    ensures action { IfOk result
+        (λ action. item_of action ≡ item_of_script (script.Call «module» name arguments.now)) }
+    ensures prepared { IfOk result (IsPrepared session.now) }
+    ensures taken { IfOk result (λ _. IsTaken session.now (script.Call «module» name arguments.now)) }
+    ensures refused { IfErr result
+        (IsItemFault (item_fault session.now (script.Call «module» name arguments.now))) }
+{
+    let Some(procedure) = session.procedure(module, name) else {
+        return Err(ItemFault::Refused(RefusalName::UnknownProcedure));
+    };
+    let values = values_of(alloc, arguments)?;
+    if !session.fits(procedure, values.as_slice()) {
+        return Err(ItemFault::Refused(RefusalName::BadArguments));
+    }
+    Ok(Action::Call(CallAction {
+        module,
+        name,
+        procedure,
+        values,
+    }))
+}
+
+fn shown<S: Store>(session: &Session<S>, user: Name, name: Name) -> Result<Action, ItemFault>
+    ensures action { IfOk result (λ action. item_of action ≡ item_of_script (script.Table user name)) }
+    ensures prepared { IfOk result (IsPrepared session.now) }
+    ensures taken { IfOk result (λ _. IsTaken session.now (script.Table user name)) }
+    ensures refused { IfErr result (IsItemFault (item_fault session.now (script.Table user name))) }
+{
+    match session.table(user, name) {
+        Some(table) => Ok(Action::Show(ShowAction { user, name, table })),
+        None => Err(ItemFault::Refused(RefusalName::UnknownTable)),
+    }
+}
+
+/// The values that are handed in.
+fn values_of(alloc: Global, arguments: &Arguments) -> Result<Items<Value>, AllocError>
+    ensures { IfOk result (λ values. values ≡ model.argument_values arguments.now) }
+{
+    match arguments {
+        Arguments::Unwritten | Arguments::Empty => Ok(Items::new(alloc)),
+        Arguments::Listed(arguments) => listed_values(alloc, arguments),
+    }
+}
+
+fn listed_values(alloc: Global, arguments: &CommaList<Argument>) -> Result<Items<Value>, AllocError>
+    ensures { IfOk result (λ values. values ≡ map model.argument_value (listed arguments.now)) }
+{
+    let rest = arguments.rest.as_slice();
+    let count = rest.len().saturating_add(1);
+    let mut values = Items::from_vec(Vec::with_capacity(alloc, count)?);
+    values.push(value_of(alloc, &arguments.first)?)?;
+    for argument in rest {
+        values.push(value_of(alloc, argument)?)?;
+    }
+    Ok(values)
+}
+
+fn value_of(alloc: Global, argument: &Argument) -> Result<Value, AllocError>
+    ensures { IfOk result (λ v. v ≡ model.argument_value argument.now) }
+{
+    match argument {
+        Argument::Null => Ok(Value::Null),
+        Argument::Number(number) => Ok(Value::Num(signed_value(*number))),
+        Argument::Text(characters) => text_value(alloc, characters),
+    }
+}

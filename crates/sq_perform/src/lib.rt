@@ -1,0 +1,23 @@
+//! A run: schema, module and script texts in, the report of a session out.
+#![tactic(auto)]
+
+mod action;
+mod checked;
+mod items;
+mod limits;
+mod perform;
+mod prepare;
+mod refusal;
+mod report;
+mod texts;
+
+pub use checked::{Checked, Note, Notes, check};
+pub use limits::Limits;
+pub use perform::run;
+pub use prepare::open_session;
+pub use refusal::{Refusal, RefusalName, RunFault};
+pub use sq_catalog::RefusalName as SchemaRefusalName;
+pub use sq_check::{Remark, Rule};
+pub use sq_lex::LexFaultKind;
+pub use sq_module::ModuleRefusalName;
+pub use sq_out::{Out, OutFault, OutOf};

@@ -1,5 +1,0 @@
-pub mod Expression
-pub mod Kinds
-pub mod Reach
-pub mod Scope
-pub mod WellFormed

@@ -1,9 +1,0 @@
-pub mod Gathered
-pub mod InOrder
-pub mod Names
-pub mod Noted
-pub mod Numbering
-pub mod Placed
-pub mod Reach
-pub mod WellFormed
-pub mod Written
